@@ -1,0 +1,107 @@
+//! Lists of wanted types, and what is permitted.
+
+ghost use Rattle.std.specs.Prelude.{ℕ, ◌≡◌, ◌<◌, ◌≤◌, ◌↔◌, IsTrue, IfOk, length, Some, None, []};
+ghost use Rattle.adlb_unit.specs.Permit.{HasKind, Permits, has_kind, permitted};
+
+use crate::names::{Rank, Target, WorkType};
+use std::marker::Model;
+use thiserror::Error;
+
+/// Why a list of types is refused.
+#[derive(Clone, Copy, Debug, PartialEq, Eq, Error)]
+pub enum TypesFault {
+    #[error("no type is listed")]
+    Empty,
+    #[error("{count} types are listed")]
+    TooMany { count: u64 },
+}
+
+/// Any type, or a list of 1 to 16 types.
+#[derive(Debug, Drop)]
+pub struct Types {
+    any: bool,
+    kinds: [WorkType; 16],
+    count: usize,
+}
+
+impl Model for Types {
+    ghost use Rattle.std.specs.Prelude.{◌≤◌, ◌<◌, Option, List, take, Some, None, if◌then◌else◌};
+    ghost use Rattle.adlb_unit.specs.declared.names.WorkType.{WorkType};
+
+    ghost Value = { Option (List WorkType) };
+
+    ghost view = { λ t. if t.any then None else Some (take t.count t.kinds) };
+
+    ghost invariant = { λ t. (0 < t.count) × (t.count ≤ 16) };
+}
+
+impl Types {
+    pub fn any() -> Types
+        ensures { result ≡ None }
+    {
+        Types {
+            any: true,
+            kinds: [WorkType(0); 16],
+            count: 1,
+        }
+    }
+
+    pub fn list(kinds: &[WorkType]) -> Result<Types, TypesFault>
+        ensures listed { IfOk result (λ t. t ≡ Some kinds.now) }
+        ensures empty { (result ≡ Err TypesFault.Empty) ↔ (kinds.now ≡ []) }
+        ensures too_many { (n : ℕ) → (result ≡ Err (TypesFault.TooMany n)) ↔ ((16 < length kinds.now) × (n ≡ length kinds.now)) }
+    {
+        if kinds.is_empty() {
+            return Err(TypesFault::Empty);
+        }
+        if kinds.len() > 16 {
+            return Err(TypesFault::TooMany {
+                count: kinds.len() as u64,
+            });
+        }
+        let mut held = [WorkType(0); 16];
+        held[..kinds.len()].copy_from_slice(kinds);
+        Ok(Types {
+            any: false,
+            kinds: held,
+            count: kinds.len(),
+        })
+    }
+
+    /// The same types.
+    pub fn twin(&self) -> Types
+        ensures { result ≡ self.now }
+    {
+        Types {
+            any: self.any,
+            kinds: self.kinds,
+            count: self.count,
+        }
+    }
+
+    /// The type is wanted.
+    pub fn has(&self, kind: WorkType) -> bool
+        ensures wanted { IsTrue result ↔ HasKind self.now kind }
+        ensures test { result ≡ has_kind self.now kind }
+    {
+        self.any || self.kinds[..self.count].contains(&kind)
+    }
+}
+
+/// A unit of this type and target is permitted to the rank.
+pub fn permits(rank: Rank, types: &Types, kind: WorkType, target: Target) -> bool
+    ensures permits { IsTrue result ↔ Permits rank types.now kind target }
+    ensures test { result ≡ permitted rank types.now kind target }
+{
+    let at_rank = match target {
+        Target::Any => true,
+        Target::Only(only) => only == rank,
+    };
+    at_rank && types.has(kind)
+}
+
+fn needs_send<T: Send>(_: &T) {}
+
+fn is_send(types: &Types) {
+    needs_send(types)
+}
