@@ -1,5 +1,5 @@
 -- Which units are permitted to a rank.
-use Rattle.std.specs.Prelude.{◌≡◌, ℕ, List, Option, Some, None, Contains, Bool, true, ◌&&◌, ◌==◌}
+use Rattle.std.specs.Prelude.{◌≡◌, List, Option, Some, None, Contains, Bool, true, ◌&&◌, ◌==◌}
 use Rattle.std.specs.List.{list_any}
 use Rattle.adlb_unit.specs.declared.names.Rank.{Rank}
 use Rattle.adlb_unit.specs.declared.names.WorkType.{WorkType}

@@ -6,6 +6,7 @@
 
 mod names;
 mod payloads;
+mod sending;
 mod units;
 mod wanted;
 

@@ -15,10 +15,3 @@ pub struct Unit {
     pub common: Option<CommonRef>,
     pub body: Payload,
 }
-
-fn needs_send<T: Send>(_: &T) {}
-
-// A unit moves between threads.
-fn is_send(unit: &Unit) {
-    needs_send(unit)
-}

@@ -16,7 +16,7 @@ pub enum TypesFault {
     TooMany { count: u64 },
 }
 
-/// Any type, or a list of 1 to 16 types.
+/// Any type, or a list of 1 to 16 types, held in place. It is seen as nothing for any, else as the list.
 #[derive(Debug, Drop)]
 pub struct Types {
     any: bool,
@@ -36,6 +36,7 @@ impl Model for Types {
 }
 
 impl Types {
+    /// Any type is wanted.
     pub fn any() -> Types
         ensures { result ≡ None }
     {
@@ -46,6 +47,8 @@ impl Types {
         }
     }
 
+    /// The listed types are wanted: from 1 to 16 of them. `Empty` exactly where none is listed, `TooMany` exactly where more
+    /// than 16 are, with their number.
     pub fn list(kinds: &[WorkType]) -> Result<Types, TypesFault>
         ensures listed { IfOk result (λ t. t ≡ Some kinds.now) }
         ensures empty { (result ≡ Err TypesFault.Empty) ↔ (kinds.now ≡ []) }
@@ -79,7 +82,7 @@ impl Types {
         }
     }
 
-    /// The type is wanted.
+    /// The type is wanted: any is, or it stands in the list (`HasKind`; `has_kind` is the same as a test).
     pub fn has(&self, kind: WorkType) -> bool
         ensures wanted { IsTrue result ↔ HasKind self.now kind }
         ensures test { result ≡ has_kind self.now kind }
@@ -88,7 +91,8 @@ impl Types {
     }
 }
 
-/// A unit of this type and target is permitted to the rank.
+/// A unit of this type and target is permitted to a rank that wants these types: the type is wanted, and the target is any or
+/// the rank (`Permits`; `permitted` is the same as a test).
 pub fn permits(rank: Rank, types: &Types, kind: WorkType, target: Target) -> bool
     ensures permits { IsTrue result ↔ Permits rank types.now kind target }
     ensures test { result ≡ permitted rank types.now kind target }
@@ -100,8 +104,35 @@ pub fn permits(rank: Rank, types: &Types, kind: WorkType, target: Target) -> boo
     at_rank && types.has(kind)
 }
 
-fn needs_send<T: Send>(_: &T) {}
+#[cfg(test)]
+mod tests {
+    use super::*;
 
-fn is_send(types: &Types) {
-    needs_send(types)
+    #[test]
+    fn lists_from_one_to_sixteen(rt: HostRuntime) {
+        let kinds = [WorkType(7); 17];
+        assert_eq!(rt; Types::list(&[]).err(), Some(TypesFault::Empty));
+        assert_eq!(rt;
+            Types::list(&kinds).err(),
+            Some(TypesFault::TooMany { count: 17 })
+        );
+        assert!(rt; Types::list(&kinds[..16]).is_ok());
+        assert!(rt; Types::list(&kinds[..1]).is_ok());
+    }
+
+    #[test]
+    fn permits_by_type_and_target(rt: HostRuntime) {
+        let listed = Types::list(&[WorkType(1), WorkType(4)]).expect(&rt, "two types");
+        let rows = [
+            (&listed, 4, Target::Any, true),
+            (&listed, 2, Target::Any, false),
+            (&listed, 1, Target::Only(Rank(3)), true),
+            (&listed, 1, Target::Only(Rank(2)), false),
+        ];
+        for (types, kind, target, wanted) in rows {
+            assert_eq!(rt; permits(Rank(3), types, WorkType(kind), target), wanted);
+        }
+        assert!(rt; permits(Rank(0), &Types::any(), WorkType(99), Target::Any));
+        assert!(rt; !permits(Rank(0), &Types::any(), WorkType(99), Target::Only(Rank(1))));
+    }
 }

@@ -1,0 +1,44 @@
+//! Filling a room from a source, and writing a whole text to a sink.
+
+ghost use Rattle.std.specs.Prelude.{◌≡◌, ◌≤◌, length, IfOk, OnOk, OnErr, IsErrOf, true};
+ghost use Rattle.adlb_io.specs.Outside.{Rises, Takes};
+ghost use Rattle.adlb_io.specs.Whole.{Fills, TakesPrefix};
+
+use crate::sinks::{Sink, SinkFault};
+use crate::sources::{Failed, Source};
+
+/// Reads until the room is full or the source is at its end, and answers how many bytes were read. It takes no more
+/// of the source than the room has place for. `Failed` comes only where the source's count of faults rose (or stands
+/// at its last value).
+pub fn fill<S: Source>(source: &mut S, room: &mut [u8]) -> Result<usize, Failed>
+    ensures bound { IfOk result (λ n. n ≤ length room.old) }
+    ensures filled { IfOk result (λ n. Fills (S.left source.old) (S.left source.new) room.new n) }
+    ensures later { S.faults source.old ≤ S.faults source.new }
+    ensures cause { OnErr result (Rises (S.faults source.old) (S.faults source.new)) }
+{
+    let mut at = 0;
+    while at < room.len() {
+        let n = source.read(&mut room[at..])?;
+        if n == 0 {
+            return Ok(at);
+        }
+        at += n;
+    }
+    Ok(at)
+}
+
+/// Writes the whole text and flushes. After a refusal the sink took a part of the front of the text. `Failed` comes
+/// only where the sink's count of faults rose (or stands at its last value).
+pub fn write_all<K: Sink>(sink: &mut K, text: &[u8]) -> Result<(), SinkFault>
+    ensures taken { OnOk result (Takes (K.taken sink.old) (K.taken sink.new) text.now) }
+    ensures flushed { OnOk result (K.all_flushed sink.new ≡ true) }
+    ensures prefix { OnErr result (TakesPrefix (K.taken sink.old) (K.taken sink.new) text.now) }
+    ensures later { K.faults sink.old ≤ K.faults sink.new }
+    ensures cause { IsErrOf result SinkFault.Failed → Rises (K.faults sink.old) (K.faults sink.new) }
+{
+    let mut at = 0;
+    while at < text.len() {
+        at += sink.write(&text[at..])?;
+    }
+    sink.flush()
+}
