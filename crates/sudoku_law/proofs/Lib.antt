@@ -1,2 +1,4 @@
+pub mod Below
+pub mod Depth
 mod Pairwise
 mod Rows
