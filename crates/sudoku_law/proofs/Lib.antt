@@ -1,4 +1,7 @@
 pub mod Below
 pub mod Depth
+pub mod Digits
+pub mod Elements
 mod Pairwise
 mod Rows
+pub mod Sound
