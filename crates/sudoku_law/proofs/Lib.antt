@@ -1,2 +1,4 @@
 mod Pairwise
+mod Ranges
 mod Rows
+mod TextOrder
