@@ -1,3 +1,4 @@
+mod Groups
 mod Pairwise
 mod Ranges
 mod Rows
