@@ -1,5 +1,8 @@
-mod Groups
-mod Pairwise
-mod Ranges
+pub mod Below
+pub mod Depth
+pub mod Groups
+pub mod Pairwise
+pub mod Ranges
 mod Rows
-mod TextOrder
+pub mod TextOrder
+pub mod Unique
