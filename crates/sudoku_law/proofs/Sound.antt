@@ -5,7 +5,8 @@ use Rattle.std.proofs.lemmas.List.Elements.{Contains-append_cases}
 use Rattle.std.proofs.lemmas.Bool.{cases_eq, eq-eqb, ne_eqb, cond_both}
 use Rattle.sudoku_law.specs.Grid.{Cells, side, IsGrid, IsSolution, IsBlank, conflict, clash, shares, candidates, fewest, any_below}
 use Rattle.sudoku_law.specs.Tree.{Tree, end, branches, at_cell, node, grown, tree, solutions}
-use Rattle.sudoku_law.proofs.Pairwise.{IsPairwise, solution_from_pairwise}
+use Rattle.sudoku_law.specs.Pairs.{IsPairwise}
+use Rattle.sudoku_law.proofs.Pairwise.{solution_from_pairwise}
 use Rattle.sudoku_law.proofs.Below.{none_of, fewest_is_blank, fewest_is_none}
 use Rattle.sudoku_law.proofs.Elements.{only, none_there}
 use Rattle.sudoku_law.proofs.Digits.{AreAtMost, candidates_at_most}
