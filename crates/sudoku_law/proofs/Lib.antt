@@ -1,5 +1,6 @@
 pub mod Below
 pub mod Depth
+pub mod Exact
 pub mod Groups
 pub mod Pairwise
 pub mod Ranges
