@@ -2,6 +2,7 @@ pub mod Below
 pub mod Depth
 pub mod Exact
 pub mod Groups
+pub mod Handed
 pub mod Pairwise
 pub mod Ranges
 mod Rows
