@@ -49,7 +49,7 @@ tree_grown : (m b : ℕ) (g : Cells) → IsGrown m (tree m b g)
 tree_grown m b g = grown_is m (suc b) b g (omega arith)
 
 -- what a child adds to a walk: itself where it is handed out, and else what its own tree's walk meets
-abbrev met_at : ℕ → ℕ → ℕ → ℕ → Cells → Tree → Met
+abbrev pub met_at : ℕ → ℕ → ℕ → ℕ → Cells → Tree → Met
 met_at grain budget k share g below =
     cond (hands_out grain budget k) (record { solutions = []; children = (share, g) ∷ []; over = false }) (walk grain below)
 
