@@ -1,6 +1,6 @@
 -- The tests on a grid say what the definitions say.
-use Rattle.std.proofs.Common.{◌≡◌, ◌≢◌, ◌<◌, ◌≤◌, ℕ, zero, suc, ◌+◌, Bool, true, false, ◌||◌, ◌&&◌, not, cond, length, get_or, Option, Some, None, refl, sym, ap, ◌∙◌, inl, inr, ◌⊎◌, arith, eqb, ltb, ◌↔◌, IsTrue, subst}
-use Rattle.std.proofs.lemmas.Bool.{cases_eq, cases_Bool, cases_order, eqb-true, eqb-false, eq-eqb, ne_eqb, and_parts, and_from, and_cases, cond_both, ltb-true, ltb-false, lt-ltb, le-ltb, not-true, not_from_false}
+use Rattle.std.proofs.Common.{◌≡◌, ◌≢◌, ◌<◌, ◌≤◌, ℕ, zero, suc, true, false, ◌&&◌, not, length, get_or, Option, Some, None, refl, sym, ap, ◌∙◌, inl, inr, arith, eqb, ltb, ◌↔◌, subst}
+use Rattle.std.proofs.lemmas.Bool.{cases_eq, cases_order, eqb-true, eqb-false, eq-eqb, ne_eqb, and_parts, and_from, and_cases, cond_both, ltb-true, ltb-false, not-true, not_from_false}
 use Rattle.sudoku_law.specs.Grid.{Cells, any_below, fewest_below, fewest, fewer, choices, shares, clash, conflict, HasConflict, IsBlank, IsFewest}
 use Rattle.sudoku_law.proofs.Below.{any_from, any_gives, fewest_is_none}
 

@@ -1,5 +1,5 @@
 -- What one unit's walk meets, and what the trees of its children have, are together the whole tree's.
-use Rattle.std.proofs.Common.{◌≡◌, ◌<◌, ◌≤◌, ℕ, zero, suc, ◌+◌, ◌*◌, ◌/◌, Bool, true, false, cond, ◌&&◌, ◌||◌, List, [], ◌∷◌, ◌++◌, length, set, Option, Some, None, refl, sym, ap, ◌∙◌, arith, subst, sum_by, All, IsPermutation, append_assoc, append-nil}
+use Rattle.std.proofs.Common.{◌≡◌, ◌<◌, ◌≤◌, ℕ, zero, suc, ◌+◌, ◌/◌, Bool, true, false, cond, ◌||◌, List, [], ◌∷◌, ◌++◌, length, set, Option, Some, None, refl, sym, ap, ◌∙◌, arith, subst, sum_by, IsPermutation, append_assoc, append-nil}
 use Rattle.std.specs.List.{flat_map, list_any}
 use Rattle.std.proofs.lemmas.Bool.{cond_both}
 use Rattle.std.proofs.lemmas.List.Concat.{flat_map-append}
@@ -7,7 +7,7 @@ use Rattle.std.proofs.lemmas.List.Folds.{list_any-append}
 use Rattle.std.proofs.lemmas.List.Sorted.{IsPermutation-refl, IsPermutation-append, IsPermutation-append_left, IsPermutation-append_right, IsPermutation-append_comm, IsPermutation-trans}
 use Rattle.std.proofs.lemmas.List.Sums.{sum_by-append, sum_by-cons}
 use Rattle.sudoku_law.specs.Grid.{Cells, conflict, candidates, fewest}
-use Rattle.sudoku_law.specs.Tree.{Tree, end, solution, over, child, Met, both, branches, at_cell, grown, tree, solutions, is_over, hands_out, handed, boards, walk}
+use Rattle.sudoku_law.specs.Tree.{Tree, end, solution, over, child, Met, branches, at_cell, grown, tree, solutions, is_over, hands_out, handed, boards, walk}
 use Rattle.sudoku_law.proofs.Depth.{share_falls, depth_same}
 
 -- each child's tree is the tree of its grid with its budget

@@ -1,12 +1,12 @@
 -- Each node of a grid's tree is a grid, and its budget is below the tree's; and how many nodes are handed out at most.
-use Rattle.std.proofs.Common.{◌≡◌, ◌<◌, ◌≤◌, ℕ, zero, suc, ◌+◌, ◌*◌, ◌/◌, ◌%◌, Bool, true, false, cond, ◌&&◌, not, List, [], ◌∷◌, ◌++◌, length, set, Option, Some, None, refl, sym, ap, ◌∙◌, arith, ltb, All, filter}
+use Rattle.std.proofs.Common.{◌≡◌, ◌<◌, ◌≤◌, ℕ, zero, suc, ◌+◌, ◌*◌, ◌/◌, Bool, true, false, cond, not, List, [], ◌∷◌, length, set, Option, Some, None, refl, ap, ◌∙◌, arith, All, filter}
 use Rattle.std.proofs.lemmas.Bool.{cond_both}
 use Rattle.std.proofs.lemmas.List.Elements.{All-nil, All-cons, All-append}
 use Rattle.std.proofs.lemmas.List.Sums.{length-filter, count_by-le-length}
 use Rattle.std.proofs.lemmas.Nat.{div-add-mod', mul-le}
 use Rattle.std.proofs.Math.Nat.{mul-add, mul_comm, mul_assoc}
 use Rattle.sudoku_law.specs.Grid.{Cells, side, IsGrid, conflict, candidates, used, count_up, fewest}
-use Rattle.sudoku_law.specs.Tree.{Tree, end, solution, over, child, Met, both, branches, at_cell, grown, tree, hands_out, handed, walk}
+use Rattle.sudoku_law.specs.Tree.{Tree, end, solution, over, child, branches, at_cell, grown, tree, hands_out, handed, walk}
 use Rattle.sudoku_law.proofs.Depth.{share_falls}
 use Rattle.sudoku_law.proofs.Digits.{AreAtMost, candidates_at_most}
 use Rattle.sudoku_law.proofs.Handed.{met_at}

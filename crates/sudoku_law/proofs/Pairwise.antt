@@ -1,10 +1,10 @@
 -- The literal rule (each digit once in every row, column and box) and the rule by pairs (no two cells that share have
 -- one digit) say the same: as many cells as digits, and no two equal, so each digit stands once.
-use Rattle.std.proofs.Common.{◌≡◌, ◌≢◌, ◌<◌, ◌≤◌, ℕ, zero, suc, ◌+◌, ◌*◌, ◌-◌, ◌/◌, ◌%◌, Bool, true, false, cond, ◌&&◌, ◌||◌, eqb, length, get_or, refl, sym, ap, ◌∙◌, inl, inr, arith}
+use Rattle.std.proofs.Common.{◌≡◌, ◌≢◌, ◌<◌, ◌≤◌, ℕ, zero, suc, ◌+◌, ◌*◌, ◌/◌, ◌%◌, Bool, true, false, ◌&&◌, eqb, length, get_or, refl, sym, ap, ◌∙◌, inl, inr, arith}
 use Rattle.std.proofs.lemmas.Bool.{and_from, and_parts, or_cases, or_left, or_right, eqb-true, eq-eqb, ne_eqb}
 use Rattle.std.proofs.lemmas.Nat.{div_below, mod_below, mul-add-lt}
 use Rattle.sudoku_law.specs.Grid.{Cells, how_many, side, size, row_of, column_of, box_of, shares, HasEachOnce, IsSolution}
-pub use Rattle.sudoku_law.specs.Pairs.{IsPairwise}
+use Rattle.sudoku_law.specs.Pairs.{IsPairwise}
 use Rattle.sudoku_law.proofs.Ranges.{sum_to, one_if, how_many_is, sum_to_same, sum_to_one, sum_to_none, sum_to_turned, each_is_one, two_counted, few_counted}
 use Rattle.sudoku_law.proofs.Groups.{row_size, column_size, box_size}
 

@@ -1,14 +1,12 @@
 -- A grid has one list of solutions.
-use Rattle.std.proofs.Common.{◌≡◌, ◌<◌, ◌≤◌, ℕ, zero, suc, ◌+◌, List, [], ◌∷◌, length, get_or, refl, sym, ap, ◌∙◌, inl, inr, ◌⊎◌, arith, Contains, ◌↔◌, subst}
+use Rattle.std.proofs.Common.{◌≡◌, ◌<◌, ℕ, zero, suc, ◌+◌, List, [], ◌∷◌, length, get_or, refl, sym, ◌∙◌, inl, inr, arith, Contains, subst}
 use Rattle.std.specs.Cmp.Lexicographic.{slice_cmp}
 use Rattle.std.specs.Ordering.{nat_cmp}
-use Rattle.std.specs.declared.cmp.Ordering.{Ordering}
 use Rattle.std.specs.declared.cmp.Ordering.TheVariants.{Less, Equal}
 use Rattle.std.proofs.lemmas.Cmp.{nat_list_cmp_total, tied_itself}
 use Rattle.std.proofs.lemmas.List.{get_or_default}
-use Rattle.sudoku_law.specs.Grid.{Cells, IsSolution}
+use Rattle.sudoku_law.specs.Grid.{Cells}
 use Rattle.sudoku_law.specs.Solutions.{IsSolutionList}
-use Rattle.sudoku_law.specs.Text.{text_of}
 use Rattle.sudoku_law.proofs.Elements.{Contains-head, Contains-later, head_cases, none_there}
 use Rattle.sudoku_law.proofs.TextOrder.{text_order}
 
