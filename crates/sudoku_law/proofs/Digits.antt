@@ -1,5 +1,5 @@
 -- The candidates of a cell: digits, rising, and each that is not used.
-use Rattle.std.proofs.Common.{◌≡◌, ◌<◌, ◌≤◌, ℕ, zero, suc, ◌+◌, Bool, true, false, not, List, [], ◌∷◌, arith, inl, inr, Contains, subst, filter}
+use Rattle.std.proofs.Common.{◌≡◌, ◌<◌, ◌≤◌, ℕ, zero, suc, ◌+◌, Bool, false, not, List, [], ◌∷◌, arith, inl, inr, Contains, subst, filter}
 use Rattle.std.proofs.lemmas.Bool.{cases_eq, cond_both, not_from_false}
 use Rattle.sudoku_law.specs.Grid.{Cells, side, candidates, count_up, used}
 use Rattle.sudoku_law.proofs.Elements.{Contains-head, Contains-later, Contains-filter, head_cases, none_there}
