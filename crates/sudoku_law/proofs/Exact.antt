@@ -1,20 +1,23 @@
 -- The tests on a grid say what the definitions say.
-use Rattle.std.proofs.Common.{◌≡◌, ◌≢◌, ◌<◌, ◌≤◌, ℕ, zero, suc, true, false, ◌&&◌, not, length, get_or, Option, Some, None, refl, sym, ap, ◌∙◌, inl, inr, arith, eqb, ltb, ◌↔◌, subst}
+use Rattle.std.proofs.Common.{◌≡◌, ◌≢◌, ◌<◌, ◌≤◌, ℕ, zero, suc, true, false, ◌&&◌, not, length, get_or, Option, Some, None, refl, sym, ap, ◌∙◌, inl, inr, arith, eqb, ltb, ◌↔◌, IsTrue, subst, Bool}
 use Rattle.std.proofs.lemmas.Bool.{cases_eq, cases_order, eqb-true, eqb-false, eq-eqb, ne_eqb, and_parts, and_from, and_cases, cond_both, ltb-true, ltb-false, not-true, not_from_false}
 use Rattle.sudoku_law.specs.Grid.{Cells, any_below, fewest_below, fewest, fewer, choices, shares, clash, conflict, HasConflict, IsBlank, IsFewest}
 use Rattle.sudoku_law.proofs.Below.{any_from, any_gives, fewest_is_none}
 
--- a clash that the test finds
-clash_gives : (m : ℕ) (g : Cells) (i j : ℕ) → clash m g i j ≡ true → (shares m i j ≡ true) × (get_or g i 0 ≡ get_or g j 0) × (get_or g i 0 ≢ 0)
-clash_gives m g i j test =
-    let two : ((shares m i j && eqb (get_or g i 0) (get_or g j 0)) ≡ true) × (not (eqb (get_or g i 0) 0) ≡ true) =
-    and_parts (shares m i j && eqb (get_or g i 0) (get_or g j 0)) (not (eqb (get_or g i 0) 0)) test
-    in
-    let share : (shares m i j ≡ true) × (eqb (get_or g i 0) (get_or g j 0) ≡ true) = and_parts (shares m i j) (eqb (get_or g i 0) (get_or g j 0)) two.0 in
-    (share.0, eqb-true _ _ share.1, eqb-false _ _ (not-true (eqb (get_or g i 0) 0) two.1))
+-- what a clash of two cells is
+abbrev IsClash : ℕ → Cells → ℕ → ℕ → Type 0
+IsClash m g i j = IsTrue (shares m i j) × (get_or g i 0 ≡ get_or g j 0) × (get_or g i 0 ≢ 0)
 
-clash_from : (m : ℕ) (g : Cells) (i j : ℕ) → shares m i j ≡ true → get_or g i 0 ≡ get_or g j 0 → get_or g i 0 ≢ 0 → clash m g i j ≡ true
-clash_from m g i j share same filled =
+clash_gives : (m : ℕ) (g : Cells) (i j : ℕ) → clash m g i j ≡ true → IsClash m g i j
+clash_gives m g i j test =
+    let same : Bool = eqb (get_or g i 0) (get_or g j 0) in
+    let blank : Bool = eqb (get_or g i 0) 0 in
+    let two : ((shares m i j && same) ≡ true) × (not blank ≡ true) = and_parts (shares m i j && same) (not blank) test in
+    let share : (shares m i j ≡ true) × (same ≡ true) = and_parts (shares m i j) same two.0 in
+    (share.0, eqb-true _ _ share.1, eqb-false _ _ (not-true blank two.1))
+
+clash_from : (m : ℕ) (g : Cells) (i j : ℕ) → IsClash m g i j → clash m g i j ≡ true
+clash_from m g i j (share, same, filled) =
     and_from (shares m i j && eqb (get_or g i 0) (get_or g j 0)) (not (eqb (get_or g i 0) 0))
     (and_from (shares m i j) (eqb (get_or g i 0) (get_or g j 0)) share (eq-eqb _ _ same))
     (not_from_false (eqb (get_or g i 0) 0) (ne_eqb _ _ filled))
@@ -23,13 +26,13 @@ conflict_gives : (m : ℕ) (g : Cells) → conflict m g ≡ true → HasConflict
 conflict_gives m g test =
     let outer = any_gives (length g) (λ i. any_below i (λ j. clash m g i j)) test in
     let inner = any_gives outer.0 (λ j. clash m g outer.0 j) outer.2 in
-    let is : (shares m outer.0 inner.0 ≡ true) × (get_or g outer.0 0 ≡ get_or g inner.0 0) × (get_or g outer.0 0 ≢ 0) = clash_gives m g outer.0 inner.0 inner.2 in
+    let is : IsClash m g outer.0 inner.0 = clash_gives m g outer.0 inner.0 inner.2 in
     (outer.0, inner.0, inner.1, outer.1, is.0, is.1, is.2)
 
 conflict_from : (m : ℕ) (g : Cells) → HasConflict m g → conflict m g ≡ true
 conflict_from m g (i, j, before, within, share, same, filled) =
     any_from (length g) (λ a. any_below a (λ b. clash m g a b)) i within
-    (any_from i (λ b. clash m g i b) j before (clash_from m g i j share same filled))
+    (any_from i (λ b. clash m g i b) j before (clash_from m g i j (share, same, filled)))
 
 pub conflict_exact : (m : ℕ) (g : Cells) → (conflict m g ≡ true) ↔ HasConflict m g
 conflict_exact m g = (conflict_gives m g, conflict_from m g)
@@ -46,6 +49,9 @@ abbrev Chosen : ℕ → Cells → ℕ → Option ℕ → Type 0
 Chosen m g n None = (k : ℕ) → k < n → get_or g k 0 ≢ 0
 Chosen m g n (Some cell) = IsFewestBelow m g n cell
 
+no_more : {a b : ℕ} → a ≡ b → b ≤ a
+no_more e = omega arith
+
 first_chosen : (m : ℕ) (g : Cells) (n : ℕ) → Chosen m g n None → get_or g n 0 ≡ 0 → IsFewestBelow m g (suc n) n
 first_chosen m g n none blank = record {
   within = omega arith;
@@ -56,9 +62,6 @@ first_chosen m g n none blank = record {
   ];
   first = λ other below empty. absurd (none other below empty);
 }
-  where
-    no_more : {a b : ℕ} → a ≡ b → b ≤ a
-    no_more e = omega arith
 
 none_still : (m : ℕ) (g : Cells) (n : ℕ) → Chosen m g n None → get_or g n 0 ≢ 0 → Chosen m g (suc n) None
 none_still m g n none filled k below = elim (cases_eq k n) [
@@ -78,9 +81,6 @@ newly_chosen m g n c is blank less = record {
   first = λ other below empty. joined less (is.least other below empty);
 }
   where
-    no_more : {a b : ℕ} → a ≡ b → b ≤ a
-    no_more e = omega arith
-
     joined : {a b c : ℕ} → a < b → b ≤ c → a < c
     joined p q = omega arith
 

@@ -48,10 +48,17 @@ grown_is m (suc depth) b g under =
 tree_grown : (m b : ℕ) (g : Cells) → IsGrown m (tree m b g)
 tree_grown m b g = grown_is m (suc b) b g (omega arith)
 
+-- a board that is handed out
+abbrev pub handed_out : ℕ → Cells → Met
+handed_out share g = record { solutions = []; children = (share, g) ∷ []; over = false }
+
 -- what a child adds to a walk: itself where it is handed out, and else what its own tree's walk meets
 abbrev pub met_at : ℕ → ℕ → ℕ → ℕ → Cells → Tree → Met
 met_at grain budget k share g below =
-    cond (hands_out grain budget k) (record { solutions = []; children = (share, g) ∷ []; over = false }) (walk grain below)
+    cond (hands_out grain budget k) (handed_out share g) (walk grain below)
+
+pub met_cases : (grain budget k share : ℕ) (g : Cells) (below : Tree) (P : Met → Type 0) → P (handed_out share g) → P (walk grain below) → P (met_at grain budget k share g below)
+met_cases grain budget k share g below P out worked = cond_both (hands_out grain budget k) (handed_out share g) (walk grain below) P (λ yes. out) (λ no. worked)
 
 -- the solution nodes of these boards' trees
 abbrev below_all : ℕ → List (ℕ × Cells) → List Cells
@@ -76,9 +83,9 @@ AddsUp m t met = IsPermutation (solutions t) (met.solutions ++ below_all m met.c
 
 child_adds : (m grain budget k share : ℕ) (g : Cells) (below : Tree) → below ≡ tree m share g → AddsUp m below (walk grain below) → AddsUp m below (met_at grain budget k share g below)
 child_adds m grain budget k share g below same adds =
-    cond_both (hands_out grain budget k) (record { solutions = []; children = (share, g) ∷ []; over = false }) (walk grain below) (λ met. AddsUp m below met)
-    (λ yes. permutation_is (solutions below) (solutions (tree m share g) ++ []) (ap solutions same ∙ sym (append-nil (solutions (tree m share g)))))
-    (λ no. adds)
+    met_cases grain budget k share g below (λ met. AddsUp m below met)
+    (permutation_is (solutions below) (solutions (tree m share g) ++ []) (ap solutions same ∙ sym (append-nil (solutions (tree m share g)))))
+    adds
 
 walk_adds : (m grain : ℕ) (t : Tree) → IsGrown m t → AddsUp m t (walk grain t)
 walk_adds m grain end is = IsPermutation-refl []
@@ -107,7 +114,7 @@ boards_of m grain cs = sum_by (λ c. boards grain (tree m c.0 c.1)) cs
 child_boards : (m grain budget k share : ℕ) (g : Cells) (below : Tree) → below ≡ tree m share g → handed grain below ≡ boards_of m grain (walk grain below).children → cond (hands_out grain budget k) 1 0 + handed grain below ≡ boards_of m grain (met_at grain budget k share g below).children
 child_boards m grain budget k share g below same adds = at (hands_out grain budget k)
   where
-    at : (b : Bool) → cond b 1 0 + handed grain below ≡ boards_of m grain (cond b (record { solutions = []; children = (share, g) ∷ []; over = false }) (walk grain below)).children
+    at : (b : Bool) → cond b 1 0 + handed grain below ≡ boards_of m grain (cond b (handed_out share g) (walk grain below)).children
     at true =
         let e : handed grain below ≡ handed grain (tree m share g) = ap (handed grain) same in
         omega (arith, e, sum_by-cons (λ (c : ℕ × Cells). boards grain (tree m c.0 c.1)) (share, g) [])
@@ -132,6 +139,9 @@ boards_add m grain b g = walk_boards m grain (tree m b g) (tree_grown m b g)
 abbrev over_in : ℕ → List (ℕ × Cells) → Bool
 over_in m cs = list_any (λ c. is_over (tree m c.0 c.1)) cs
 
+abbrev IsOver : ℕ → Tree → Met → Type 0
+IsOver m t met = is_over t ≡ (met.over || over_in m met.children)
+
 either : (a b p q u v : Bool) → a ≡ (p || u) → b ≡ (q || v) → (a || b) ≡ ((p || q) || (u || v))
 either a b p q u v e f = ap (λ x. x || b) e ∙ ap (λ y. (p || u) || y) f ∙ turned p q u v
   where
@@ -145,13 +155,13 @@ or_false : (a : Bool) → a ≡ (a || false)
 or_false true = refl
 or_false false = refl
 
-child_over : (m grain budget k share : ℕ) (g : Cells) (below : Tree) → below ≡ tree m share g → is_over below ≡ ((walk grain below).over || over_in m (walk grain below).children) → is_over below ≡ ((met_at grain budget k share g below).over || over_in m (met_at grain budget k share g below).children)
+child_over : (m grain budget k share : ℕ) (g : Cells) (below : Tree) → below ≡ tree m share g → IsOver m below (walk grain below) → IsOver m below (met_at grain budget k share g below)
 child_over m grain budget k share g below same adds =
-    cond_both (hands_out grain budget k) (record { solutions = []; children = (share, g) ∷ []; over = false }) (walk grain below) (λ met. is_over below ≡ (met.over || over_in m met.children))
-    (λ yes. ap is_over same ∙ or_false (is_over (tree m share g)))
-    (λ no. adds)
+    met_cases grain budget k share g below (λ met. IsOver m below met)
+    (ap is_over same ∙ or_false (is_over (tree m share g)))
+    adds
 
-walk_over : (m grain : ℕ) (t : Tree) → IsGrown m t → is_over t ≡ ((walk grain t).over || over_in m (walk grain t).children)
+walk_over : (m grain : ℕ) (t : Tree) → IsGrown m t → IsOver m t (walk grain t)
 walk_over m grain end is = refl
 walk_over m grain (solution g) is = refl
 walk_over m grain over is = refl

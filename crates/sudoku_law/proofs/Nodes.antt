@@ -9,7 +9,7 @@ use Rattle.sudoku_law.specs.Grid.{Cells, side, IsGrid, conflict, candidates, use
 use Rattle.sudoku_law.specs.Tree.{Tree, end, solution, over, child, branches, at_cell, grown, tree, hands_out, handed, walk}
 use Rattle.sudoku_law.proofs.Depth.{share_falls}
 use Rattle.sudoku_law.proofs.Digits.{AreAtMost, candidates_at_most}
-use Rattle.sudoku_law.proofs.Handed.{met_at}
+use Rattle.sudoku_law.proofs.Handed.{met_at, met_cases}
 use Rattle.sudoku_law.proofs.Sound.{set_grid}
 
 -- each node is a grid, and each below the root has a budget below b
@@ -53,9 +53,9 @@ IsBelow m b c = IsGrid m c.1 × (c.0 < b)
 
 child_children : (m b grain budget k share : ℕ) (g : Cells) (below : Tree) → IsGrid m g → share < b → All (IsBelow m b) (walk grain below).children → All (IsBelow m b) (met_at grain budget k share g below).children
 child_children m b grain budget k share g below grid less is =
-    cond_both (hands_out grain budget k) (record { solutions = []; children = (share, g) ∷ []; over = false }) (walk grain below) (λ met. All (IsBelow m b) met.children)
-    (λ yes. All-cons (IsBelow m b) (share, g) [] (grid, less) (All-nil (IsBelow m b)))
-    (λ no. is)
+    met_cases grain budget k share g below (λ met. All (IsBelow m b) met.children)
+    (All-cons (IsBelow m b) (share, g) [] (grid, less) (All-nil (IsBelow m b)))
+    is
 
 walk_children : (m b grain : ℕ) (t : Tree) → AreGrids m b t → All (IsBelow m b) (walk grain t).children
 walk_children m b grain end is = All-nil (IsBelow m b)
@@ -76,9 +76,7 @@ walk_grids m b grain (solution g) is = All-cons (IsGrid m) g [] is (All-nil (IsG
 walk_grids m b grain over is = All-nil (IsGrid m)
 walk_grids m b grain (child budget k share g below others) is =
     All-append (IsGrid m) (met_at grain budget k share g below).solutions (walk grain others).solutions
-    (cond_both (hands_out grain budget k) (record { solutions = []; children = (share, g) ∷ []; over = false }) (walk grain below) (λ met. All (IsGrid m) met.solutions)
-    (λ yes. All-nil (IsGrid m))
-    (λ no. walk_grids m b grain below is.2))
+    (met_cases grain budget k share g below (λ met. All (IsGrid m) met.solutions) (All-nil (IsGrid m)) (walk_grids m b grain below is.2))
     (walk_grids m b grain others is.3)
 
 -- the solution nodes that a walk meets are grids

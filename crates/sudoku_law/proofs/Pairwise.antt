@@ -8,12 +8,20 @@ use Rattle.sudoku_law.specs.Pairs.{IsPairwise}
 use Rattle.sudoku_law.proofs.Ranges.{sum_to, one_if, how_many_is, sum_to_same, sum_to_one, sum_to_none, sum_to_turned, each_is_one, two_counted, few_counted}
 use Rattle.sudoku_law.proofs.Groups.{row_size, column_size, box_size}
 
+-- each cell below n has a digit up to w
+abbrev HasDigits : ℕ → ℕ → Cells → Type 0
+HasDigits n w s = (i : ℕ) → i < n → (1 ≤ get_or s i 0) × (get_or s i 0 ≤ w)
+
+-- no two cells below n of one group have one digit
+abbrev AreApart : ℕ → (ℕ → ℕ) → Cells → Type 0
+AreApart n group s = (i j : ℕ) → j < i → i < n → group i ≡ group j → get_or s i 0 ≡ get_or s j 0 → ⊥
+
 -- the cell holds the digit and is in the group
 abbrev has : (ℕ → ℕ) → Cells → ℕ → ℕ → ℕ → Bool
 has group s u d cell = eqb (group cell) u && eqb (get_or s cell 0) d
 
 -- two cells of one group do not have one digit, where each digit stands once there
-once_apart : (m : ℕ) (group : ℕ → ℕ) (s : Cells) → length s ≡ size m → ((i : ℕ) → i < length s → (1 ≤ get_or s i 0) × (get_or s i 0 ≤ side m)) → ((i : ℕ) → i < size m → group i < side m) → HasEachOnce m group s → (i j : ℕ) → j < i → i < length s → group i ≡ group j → get_or s i 0 ≡ get_or s j 0 → ⊥
+once_apart : (m : ℕ) (group : ℕ → ℕ) (s : Cells) → length s ≡ size m → HasDigits (length s) (side m) s → ((i : ℕ) → i < size m → group i < side m) → HasEachOnce m group s → AreApart (length s) group s
 once_apart m group s long digits within each i j before below same equal =
     let range : (1 ≤ get_or s i 0) × (get_or s i 0 ≤ side m) = digits i below in
     let place : i < size m = below_size long below in
@@ -31,25 +39,26 @@ once_apart m group s long digits within each i j before below same equal =
     apart : {n : ℕ} → n ≡ 1 → 2 ≤ n → ⊥
     apart e less = omega arith
 
+-- the rows, columns and boxes are as many as digits
 row_below : (m i : ℕ) → i < size m → row_of m i < side m
 row_below m i within = by_row (side m) i within
   where
     by_row : (w i : ℕ) → i < w * w → i / w < w
-    by_row zero i within = absurd (let e : 0 * 0 ≡ 0 = omega arith in let bad : i < 0 = rw e at within in omega arith)
+    by_row zero i within = absurd (omega arith)
     by_row (suc w) i within = div_below i (suc w) (suc w) (omega arith) within
 
 column_below : (m i : ℕ) → i < size m → column_of m i < side m
 column_below m i within = by_column (side m) i within
   where
     by_column : (w i : ℕ) → i < w * w → i % w < w
-    by_column zero i within = absurd (let e : 0 * 0 ≡ 0 = omega arith in let bad : i < 0 = rw e at within in omega arith)
+    by_column zero i within = absurd (omega arith)
     by_column (suc w) i within = mod_below i (suc w) (omega arith)
 
 box_below : (m i : ℕ) → i < size m → box_of m i < side m
 box_below m i within = joined m (row_of m i) (column_of m i) (row_below m i within) (column_below m i within)
   where
     joined : (m r c : ℕ) → r < m * m → c < m * m → r / m * m + c / m < m * m
-    joined zero r c row column = absurd (let e : 0 * 0 ≡ 0 = omega arith in let bad : r < 0 = rw e at row in omega arith)
+    joined zero r c row column = absurd (omega arith)
     joined (suc m) r c row column = mul-add-lt (r / suc m) (suc m) (c / suc m) (suc m) (div_below r (suc m) (suc m) (omega arith) row) (div_below c (suc m) (suc m) (omega arith) column)
 
 -- by the literal rule no two cells that share have one digit
@@ -74,7 +83,7 @@ digit_once w (suc d) true low high =
 digit_once w zero true low high = absurd (omega arith)
 
 -- the counts of all digits in a group are together its number of cells
-all_digits : (n w u : ℕ) (group : ℕ → ℕ) (s : Cells) → ((i : ℕ) → i < n → (1 ≤ get_or s i 0) × (get_or s i 0 ≤ w)) → sum_to w (λ k. how_many n (has group s u (k + 1))) ≡ how_many n (λ cell. eqb (group cell) u)
+all_digits : (n w u : ℕ) (group : ℕ → ℕ) (s : Cells) → HasDigits n w s → sum_to w (λ k. how_many n (has group s u (k + 1))) ≡ how_many n (λ cell. eqb (group cell) u)
 all_digits n w u group s digits =
     sum_to_same w
     (λ k. how_many n (has group s u (k + 1)))
@@ -88,7 +97,7 @@ all_digits n w u group s digits =
     ∙ sym (how_many_is n (λ cell. eqb (group cell) u))
 
 -- in a group of w cells, no two of them equal, each of w digits stands once
-each_stands : (n w u d : ℕ) (group : ℕ → ℕ) (s : Cells) → ((i : ℕ) → i < n → (1 ≤ get_or s i 0) × (get_or s i 0 ≤ w)) → ((i j : ℕ) → j < i → i < n → group i ≡ group j → get_or s i 0 ≡ get_or s j 0 → ⊥) → how_many n (λ cell. eqb (group cell) u) ≡ w → 1 ≤ d → d ≤ w → how_many n (has group s u d) ≡ 1
+each_stands : (n w u d : ℕ) (group : ℕ → ℕ) (s : Cells) → HasDigits n w s → AreApart n group s → how_many n (λ cell. eqb (group cell) u) ≡ w → 1 ≤ d → d ≤ w → how_many n (has group s u d) ≡ 1
 each_stands n w u zero group s digits apart total low high = absurd (omega arith)
 each_stands n w u (suc d) group s digits apart total low high =
     ap (λ k. how_many n (has group s u k)) (let e : suc d ≡ d + 1 = omega arith in e)
