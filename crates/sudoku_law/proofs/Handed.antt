@@ -54,8 +54,7 @@ handed_out share g = record { solutions = []; children = (share, g) ∷ []; over
 
 -- what a child adds to a walk: itself where it is handed out, and else what its own tree's walk meets
 abbrev pub met_at : ℕ → ℕ → ℕ → ℕ → Cells → Tree → Met
-met_at grain budget k share g below =
-    cond (hands_out grain budget k) (handed_out share g) (walk grain below)
+met_at grain budget k share g below = cond (hands_out grain budget k) (handed_out share g) (walk grain below)
 
 pub met_cases : (grain budget k share : ℕ) (g : Cells) (below : Tree) (P : Met → Type 0) → P (handed_out share g) → P (walk grain below) → P (met_at grain budget k share g below)
 met_cases grain budget k share g below P out worked = cond_both (hands_out grain budget k) (handed_out share g) (walk grain below) P (λ yes. out) (λ no. worked)
@@ -94,14 +93,11 @@ walk_adds m grain over is = IsPermutation-refl []
 walk_adds m grain (child budget k share g below others) is =
     let met : Met = met_at grain budget k share g below in
     let rest : Met = walk grain others in
-    let joined : IsPermutation (solutions below ++ solutions others) ((met.solutions ++ rest.solutions) ++ (below_all m met.children ++ below_all m rest.children)) =
-    regroup (solutions below) (solutions others) met.solutions rest.solutions (below_all m met.children) (below_all m rest.children)
-    (child_adds m grain budget k share g below is.0 (walk_adds m grain below is.1))
-    (walk_adds m grain others is.2)
-    in
     subst (λ zs. IsPermutation (solutions below ++ solutions others) ((met.solutions ++ rest.solutions) ++ zs))
     (sym (flat_map-append (λ c. solutions (tree m c.0 c.1)) met.children rest.children))
-    joined
+    (regroup (solutions below) (solutions others) met.solutions rest.solutions (below_all m met.children) (below_all m rest.children)
+    (child_adds m grain budget k share g below is.0 (walk_adds m grain below is.1))
+    (walk_adds m grain others is.2))
 
 -- the solution nodes of a tree are those of the walk and those of the children's trees
 pub solutions_add : (m grain b : ℕ) (g : Cells) → IsPermutation (solutions (tree m b g)) ((walk grain (tree m b g)).solutions ++ flat_map (λ c. solutions (tree m c.0 c.1)) (walk grain (tree m b g)).children)
@@ -168,12 +164,10 @@ walk_over m grain over is = refl
 walk_over m grain (child budget k share g below others) is =
     let met : Met = met_at grain budget k share g below in
     let rest : Met = walk grain others in
-    let joined : (is_over below || is_over others) ≡ ((met.over || rest.over) || (over_in m met.children || over_in m rest.children)) =
     either (is_over below) (is_over others) met.over rest.over (over_in m met.children) (over_in m rest.children)
     (child_over m grain budget k share g below is.0 (walk_over m grain below is.1))
     (walk_over m grain others is.2)
-    in
-    joined ∙ ap (λ z. (met.over || rest.over) || z) (sym (list_any-append (λ (c : ℕ × Cells). is_over (tree m c.0 c.1)) met.children rest.children))
+    ∙ ap (λ z. (met.over || rest.over) || z) (sym (list_any-append (λ (c : ℕ × Cells). is_over (tree m c.0 c.1)) met.children rest.children))
 
 -- a tree has a node that is over where the walk meets one or a child's tree has one
 pub over_adds : (m grain b : ℕ) (g : Cells) → is_over (tree m b g) ≡ ((walk grain (tree m b g)).over || list_any (λ c. is_over (tree m c.0 c.1)) (walk grain (tree m b g)).children)

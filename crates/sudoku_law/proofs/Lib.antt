@@ -1,4 +1,5 @@
 pub mod Below
+pub mod Bound
 pub mod Complete
 pub mod Depth
 pub mod Digits

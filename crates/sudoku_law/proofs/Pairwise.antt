@@ -23,15 +23,13 @@ has group s u d cell = eqb (group cell) u && eqb (get_or s cell 0) d
 -- two cells of one group do not have one digit, where each digit stands once there
 once_apart : (m : ℕ) (group : ℕ → ℕ) (s : Cells) → length s ≡ size m → HasDigits (length s) (side m) s → ((i : ℕ) → i < size m → group i < side m) → HasEachOnce m group s → AreApart (length s) group s
 once_apart m group s long digits within each i j before below same equal =
-    let range : (1 ≤ get_or s i 0) × (get_or s i 0 ≤ side m) = digits i below in
+    let u : ℕ = group i in
+    let d : ℕ = get_or s i 0 in
     let place : i < size m = below_size long below in
-    let one : how_many (size m) (has group s (group i) (get_or s i 0)) ≡ 1 = each (group i) (get_or s i 0) (within i place) range.0 range.1 in
-    let two : 2 ≤ how_many (size m) (has group s (group i) (get_or s i 0)) =
-    two_counted (size m) i j (has group s (group i) (get_or s i 0)) before place
-    (and_from _ _ (eq-eqb (group i) (group i) refl) (eq-eqb (get_or s i 0) (get_or s i 0) refl))
-    (and_from _ _ (eq-eqb (group j) (group i) (sym same)) (eq-eqb (get_or s j 0) (get_or s i 0) (sym equal)))
-    in
-    apart one two
+    let one : how_many (size m) (has group s u d) ≡ 1 = each u d (within i place) (digits i below).0 (digits i below).1 in
+    let at_i : has group s u d i ≡ true = and_from _ _ (eq-eqb (group i) u refl) (eq-eqb (get_or s i 0) d refl) in
+    let at_j : has group s u d j ≡ true = and_from _ _ (eq-eqb (group j) u (sym same)) (eq-eqb (get_or s j 0) d (sym equal)) in
+    apart one (two_counted (size m) i j (has group s u d) before place at_i at_j)
   where
     below_size : {n k x : ℕ} → n ≡ k → x < n → x < k
     below_size e less = omega arith

@@ -69,11 +69,9 @@ one_rising [] (y ∷ ys) up_x up_y to back = absurd (nothing_in y ys back)
 one_rising (x ∷ xs) [] up_x up_y to back = absurd (nothing_in x xs to)
 one_rising (x ∷ xs) (y ∷ ys) up_x up_y to back =
     let first : x ≡ y = heads_same x y xs ys up_x up_y (to x (Contains-head x xs)) (back y (Contains-head y ys)) in
-    let rest : xs ≡ ys =
-    one_rising xs ys (rises_on x xs up_x) (rises_on y ys up_y)
-    (rests_same x y xs ys up_x first to)
-    (rests_same y x ys xs up_y (sym first) back)
-    in
+    let to_rest : AllIn xs ys = rests_same x y xs ys up_x first to in
+    let back_rest : AllIn ys xs = rests_same y x ys xs up_y (sym first) back in
+    let rest : xs ≡ ys = one_rising xs ys (rises_on x xs up_x) (rises_on y ys up_y) to_rest back_rest in
     cc
 
 rises_as_text : (m : ℕ) (g : Cells) (xs : List Cells) → IsSolutionList m g xs → Rises xs

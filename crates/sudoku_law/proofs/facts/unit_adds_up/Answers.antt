@@ -1,5 +1,6 @@
+use Rattle.sudoku_law.proofs.Bound.{handed_within}
 use Rattle.sudoku_law.proofs.Handed.{solutions_add, boards_add, over_adds}
-use Rattle.sudoku_law.proofs.Nodes.{children_below, solutions_grids, handed_within}
+use Rattle.sudoku_law.proofs.Nodes.{children_below, solutions_grids}
 use Rattle.sudoku_law.proofs.facts.unit_adds_up.Goals as goal
 
 pub returns-clause-nodes : goal.returns-clause-nodes
