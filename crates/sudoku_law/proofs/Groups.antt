@@ -1,8 +1,8 @@
 -- Each row, column and box has as many cells as there are digits.
-use Rattle.std.proofs.Common.{◌≡◌, ◌<◌, ◌≤◌, ℕ, ◌+◌, ◌*◌, ◌/◌, ◌%◌, refl, sym, ap, ◌∙◌, arith, eqb}
+use Rattle.std.proofs.Common.{◌≡◌, ◌<◌, ℕ, ◌+◌, ◌*◌, ◌/◌, ◌%◌, sym, ap, ◌∙◌, arith, eqb}
 use Rattle.std.proofs.lemmas.Nat.{div-mul-add, mod-mul-add}
 use Rattle.sudoku_law.specs.Grid.{how_many, side, size, row_of, column_of, box_of}
-use Rattle.sudoku_law.proofs.Ranges.{sum_to, one_if, how_many_is, sum_to_same, sum_to_scaled, sum_to_const, sum_to_rows, sum_to_one, sum_to_is}
+use Rattle.sudoku_law.proofs.Ranges.{sum_to, one_if, how_many_is, sum_to_same, sum_to_scaled, sum_to_const, sum_to_rows, sum_to_is}
 
 times_one : (n : ℕ) → n * 1 ≡ n
 times_one n = omega arith

@@ -1,29 +1,35 @@
 -- The literal rule (each digit once in every row, column and box) and the rule by pairs (no two cells that share have
 -- one digit) say the same: as many cells as digits, and no two equal, so each digit stands once.
-use Rattle.std.proofs.Common.{◌≡◌, ◌≢◌, ◌<◌, ◌≤◌, ℕ, zero, suc, ◌+◌, ◌*◌, ◌-◌, ◌/◌, ◌%◌, Bool, true, false, cond, ◌&&◌, ◌||◌, eqb, length, get_or, refl, sym, ap, ◌∙◌, inl, inr, arith}
+use Rattle.std.proofs.Common.{◌≡◌, ◌≢◌, ◌<◌, ◌≤◌, ℕ, zero, suc, ◌+◌, ◌*◌, ◌/◌, ◌%◌, Bool, true, false, ◌&&◌, eqb, length, get_or, refl, sym, ap, ◌∙◌, inl, inr, arith}
 use Rattle.std.proofs.lemmas.Bool.{and_from, and_parts, or_cases, or_left, or_right, eqb-true, eq-eqb, ne_eqb}
 use Rattle.std.proofs.lemmas.Nat.{div_below, mod_below, mul-add-lt}
 use Rattle.sudoku_law.specs.Grid.{Cells, how_many, side, size, row_of, column_of, box_of, shares, HasEachOnce, IsSolution}
-pub use Rattle.sudoku_law.specs.Pairs.{IsPairwise}
+use Rattle.sudoku_law.specs.Pairs.{IsPairwise}
 use Rattle.sudoku_law.proofs.Ranges.{sum_to, one_if, how_many_is, sum_to_same, sum_to_one, sum_to_none, sum_to_turned, each_is_one, two_counted, few_counted}
 use Rattle.sudoku_law.proofs.Groups.{row_size, column_size, box_size}
+
+-- each cell below n has a digit up to w
+abbrev HasDigits : ℕ → ℕ → Cells → Type 0
+HasDigits n w s = (i : ℕ) → i < n → (1 ≤ get_or s i 0) × (get_or s i 0 ≤ w)
+
+-- no two cells below n of one group have one digit
+abbrev AreApart : ℕ → (ℕ → ℕ) → Cells → Type 0
+AreApart n group s = (i j : ℕ) → j < i → i < n → group i ≡ group j → get_or s i 0 ≡ get_or s j 0 → ⊥
 
 -- the cell holds the digit and is in the group
 abbrev has : (ℕ → ℕ) → Cells → ℕ → ℕ → ℕ → Bool
 has group s u d cell = eqb (group cell) u && eqb (get_or s cell 0) d
 
 -- two cells of one group do not have one digit, where each digit stands once there
-once_apart : (m : ℕ) (group : ℕ → ℕ) (s : Cells) → length s ≡ size m → ((i : ℕ) → i < length s → (1 ≤ get_or s i 0) × (get_or s i 0 ≤ side m)) → ((i : ℕ) → i < size m → group i < side m) → HasEachOnce m group s → (i j : ℕ) → j < i → i < length s → group i ≡ group j → get_or s i 0 ≡ get_or s j 0 → ⊥
+once_apart : (m : ℕ) (group : ℕ → ℕ) (s : Cells) → length s ≡ size m → HasDigits (length s) (side m) s → ((i : ℕ) → i < size m → group i < side m) → HasEachOnce m group s → AreApart (length s) group s
 once_apart m group s long digits within each i j before below same equal =
-    let range : (1 ≤ get_or s i 0) × (get_or s i 0 ≤ side m) = digits i below in
+    let u : ℕ = group i in
+    let d : ℕ = get_or s i 0 in
     let place : i < size m = below_size long below in
-    let one : how_many (size m) (has group s (group i) (get_or s i 0)) ≡ 1 = each (group i) (get_or s i 0) (within i place) range.0 range.1 in
-    let two : 2 ≤ how_many (size m) (has group s (group i) (get_or s i 0)) =
-    two_counted (size m) i j (has group s (group i) (get_or s i 0)) before place
-    (and_from _ _ (eq-eqb (group i) (group i) refl) (eq-eqb (get_or s i 0) (get_or s i 0) refl))
-    (and_from _ _ (eq-eqb (group j) (group i) (sym same)) (eq-eqb (get_or s j 0) (get_or s i 0) (sym equal)))
-    in
-    apart one two
+    let one : how_many (size m) (has group s u d) ≡ 1 = each u d (within i place) (digits i below).0 (digits i below).1 in
+    let at_i : has group s u d i ≡ true = and_from _ _ (eq-eqb (group i) u refl) (eq-eqb (get_or s i 0) d refl) in
+    let at_j : has group s u d j ≡ true = and_from _ _ (eq-eqb (group j) u (sym same)) (eq-eqb (get_or s j 0) d (sym equal)) in
+    apart one (two_counted (size m) i j (has group s u d) before place at_i at_j)
   where
     below_size : {n k x : ℕ} → n ≡ k → x < n → x < k
     below_size e less = omega arith
@@ -31,25 +37,26 @@ once_apart m group s long digits within each i j before below same equal =
     apart : {n : ℕ} → n ≡ 1 → 2 ≤ n → ⊥
     apart e less = omega arith
 
+-- the rows, columns and boxes are as many as digits
 row_below : (m i : ℕ) → i < size m → row_of m i < side m
 row_below m i within = by_row (side m) i within
   where
     by_row : (w i : ℕ) → i < w * w → i / w < w
-    by_row zero i within = absurd (let e : 0 * 0 ≡ 0 = omega arith in let bad : i < 0 = rw e at within in omega arith)
+    by_row zero i within = absurd (omega arith)
     by_row (suc w) i within = div_below i (suc w) (suc w) (omega arith) within
 
 column_below : (m i : ℕ) → i < size m → column_of m i < side m
 column_below m i within = by_column (side m) i within
   where
     by_column : (w i : ℕ) → i < w * w → i % w < w
-    by_column zero i within = absurd (let e : 0 * 0 ≡ 0 = omega arith in let bad : i < 0 = rw e at within in omega arith)
+    by_column zero i within = absurd (omega arith)
     by_column (suc w) i within = mod_below i (suc w) (omega arith)
 
 box_below : (m i : ℕ) → i < size m → box_of m i < side m
 box_below m i within = joined m (row_of m i) (column_of m i) (row_below m i within) (column_below m i within)
   where
     joined : (m r c : ℕ) → r < m * m → c < m * m → r / m * m + c / m < m * m
-    joined zero r c row column = absurd (let e : 0 * 0 ≡ 0 = omega arith in let bad : r < 0 = rw e at row in omega arith)
+    joined zero r c row column = absurd (omega arith)
     joined (suc m) r c row column = mul-add-lt (r / suc m) (suc m) (c / suc m) (suc m) (div_below r (suc m) (suc m) (omega arith) row) (div_below c (suc m) (suc m) (omega arith) column)
 
 -- by the literal rule no two cells that share have one digit
@@ -74,7 +81,7 @@ digit_once w (suc d) true low high =
 digit_once w zero true low high = absurd (omega arith)
 
 -- the counts of all digits in a group are together its number of cells
-all_digits : (n w u : ℕ) (group : ℕ → ℕ) (s : Cells) → ((i : ℕ) → i < n → (1 ≤ get_or s i 0) × (get_or s i 0 ≤ w)) → sum_to w (λ k. how_many n (has group s u (k + 1))) ≡ how_many n (λ cell. eqb (group cell) u)
+all_digits : (n w u : ℕ) (group : ℕ → ℕ) (s : Cells) → HasDigits n w s → sum_to w (λ k. how_many n (has group s u (k + 1))) ≡ how_many n (λ cell. eqb (group cell) u)
 all_digits n w u group s digits =
     sum_to_same w
     (λ k. how_many n (has group s u (k + 1)))
@@ -88,7 +95,7 @@ all_digits n w u group s digits =
     ∙ sym (how_many_is n (λ cell. eqb (group cell) u))
 
 -- in a group of w cells, no two of them equal, each of w digits stands once
-each_stands : (n w u d : ℕ) (group : ℕ → ℕ) (s : Cells) → ((i : ℕ) → i < n → (1 ≤ get_or s i 0) × (get_or s i 0 ≤ w)) → ((i j : ℕ) → j < i → i < n → group i ≡ group j → get_or s i 0 ≡ get_or s j 0 → ⊥) → how_many n (λ cell. eqb (group cell) u) ≡ w → 1 ≤ d → d ≤ w → how_many n (has group s u d) ≡ 1
+each_stands : (n w u d : ℕ) (group : ℕ → ℕ) (s : Cells) → HasDigits n w s → AreApart n group s → how_many n (λ cell. eqb (group cell) u) ≡ w → 1 ≤ d → d ≤ w → how_many n (has group s u d) ≡ 1
 each_stands n w u zero group s digits apart total low high = absurd (omega arith)
 each_stands n w u (suc d) group s digits apart total low high =
     ap (λ k. how_many n (has group s u k)) (let e : suc d ≡ d + 1 = omega arith in e)

@@ -1,7 +1,7 @@
 -- The definitions on small grids, by computation.
-use Rattle.std.proofs.Common.{◌≡◌, ℕ, true, false, List, [], ◌∷◌, refl}
-use Rattle.sudoku_law.specs.Grid.{Cells, how_many, any_below, count_up, fewest_below, conflict}
-use Rattle.sudoku_law.specs.Tree.{branches, at_cell, grown, tree, solutions, is_over, boards, walk}
+use Rattle.std.proofs.Common.{◌≡◌, true, [], ◌∷◌, refl}
+use Rattle.sudoku_law.specs.Grid.{Cells, how_many, any_below, count_up, fewest_below}
+use Rattle.sudoku_law.specs.Tree.{branches, at_cell, grown, tree, solutions, is_over, boards}
 
 full : Cells
 full = 1 ∷ 2 ∷ 3 ∷ 4 ∷ 3 ∷ 4 ∷ 1 ∷ 2 ∷ 2 ∷ 1 ∷ 4 ∷ 3 ∷ 4 ∷ 3 ∷ 2 ∷ 1 ∷ []

@@ -1,14 +1,13 @@
 -- A grid has one list of solutions.
-use Rattle.std.proofs.Common.{◌≡◌, ◌<◌, ◌≤◌, ℕ, zero, suc, ◌+◌, List, [], ◌∷◌, length, get_or, refl, sym, ap, ◌∙◌, inl, inr, ◌⊎◌, arith, Contains, ◌↔◌, subst}
+use Rattle.std.proofs.Common.{◌≡◌, ◌<◌, ℕ, zero, suc, ◌+◌, List, [], ◌∷◌, length, get_or, refl, sym, ◌∙◌, inl, inr, arith, Contains, subst}
 use Rattle.std.specs.Cmp.Lexicographic.{slice_cmp}
 use Rattle.std.specs.Ordering.{nat_cmp}
-use Rattle.std.specs.declared.cmp.Ordering.{Ordering}
 use Rattle.std.specs.declared.cmp.Ordering.TheVariants.{Less, Equal}
 use Rattle.std.proofs.lemmas.Cmp.{nat_list_cmp_total, tied_itself}
 use Rattle.std.proofs.lemmas.List.{get_or_default}
-use Rattle.sudoku_law.specs.Grid.{Cells, IsSolution}
+use Rattle.sudoku_law.specs.Grid.{Cells}
 use Rattle.sudoku_law.specs.Solutions.{IsSolutionList}
-use Rattle.sudoku_law.specs.Text.{text_of}
+use Rattle.sudoku_law.proofs.Elements.{Contains-head, Contains-later, head_cases, none_there}
 use Rattle.sudoku_law.proofs.TextOrder.{text_order}
 
 -- one grid stands before another
@@ -40,21 +39,14 @@ rest_after x s xs rises at =
     let is : get_or xs at.0 [] ≡ s = get_or_default xs at.0 [] s at.1 ∙ at.2 in
     subst (λ z. IsBefore x z) is (first_before x xs rises at.0 at.1)
 
-head_or_rest : (x s : Cells) (xs : List Cells) → Contains (x ∷ xs) s → (x ≡ s) ⊎ Contains xs s
-head_or_rest x s xs (zero, within, is) = inl is
-head_or_rest x s xs (suc k, within, is) = inr (k, omega arith, is)
-
-in_rest : (x s : Cells) (xs : List Cells) → Contains xs s → Contains (x ∷ xs) s
-in_rest x s xs at = (suc at.0, omega (arith, at.1), at.2)
-
 abbrev AllIn : List Cells → List Cells → Type 0
 AllIn xs ys = (s : Cells) → Contains xs s → Contains ys s
 
 -- of two rising lists with the same elements, the first elements are one
 heads_same : (x y : Cells) (xs ys : List Cells) → Rises (x ∷ xs) → Rises (y ∷ ys) → Contains (y ∷ ys) x → Contains (x ∷ xs) y → x ≡ y
-heads_same x y xs ys up_x up_y x_in y_in = elim (head_or_rest y x ys x_in) [
+heads_same x y xs ys up_x up_y x_in y_in = elim (head_cases y x ys x_in) [
   | inl same ↦ sym same
-  | inr later ↦ elim (head_or_rest x y xs y_in) [
+  | inr later ↦ elim (head_cases x y xs y_in) [
     | inl same ↦ same
     | inr also ↦ absurd (not_before_itself x (nat_list_cmp_total.trans x y x (rest_after x y xs up_x also) (rest_after y x ys up_y later)))
   ]
@@ -62,13 +54,13 @@ heads_same x y xs ys up_x up_y x_in y_in = elim (head_or_rest y x ys x_in) [
 
 -- and the others have the same elements
 rests_same : (x y : Cells) (xs ys : List Cells) → Rises (x ∷ xs) → x ≡ y → AllIn (x ∷ xs) (y ∷ ys) → AllIn xs ys
-rests_same x y xs ys rises same all s at = elim (head_or_rest y s ys (all s (in_rest x s xs at))) [
+rests_same x y xs ys rises same all s at = elim (head_cases y s ys (all s (Contains-later x s xs at))) [
   | inl is ↦ absurd (not_before_itself x (subst (λ z. IsBefore x z) (sym (same ∙ is)) (rest_after x s xs rises at)))
   | inr later ↦ later
 ]
 
 nothing_in : (x : Cells) (xs : List Cells) → AllIn (x ∷ xs) [] → ⊥
-nothing_in x xs all = let at : Contains [] x = all x (zero, omega arith, refl) in omega (arith, at.1)
+nothing_in x xs all = none_there x (all x (Contains-head x xs))
 
 -- two rising lists with the same elements are one
 one_rising : (xs ys : List Cells) → Rises xs → Rises ys → AllIn xs ys → AllIn ys xs → xs ≡ ys
@@ -76,12 +68,10 @@ one_rising [] [] up_x up_y to back = refl
 one_rising [] (y ∷ ys) up_x up_y to back = absurd (nothing_in y ys back)
 one_rising (x ∷ xs) [] up_x up_y to back = absurd (nothing_in x xs to)
 one_rising (x ∷ xs) (y ∷ ys) up_x up_y to back =
-    let first : x ≡ y = heads_same x y xs ys up_x up_y (to x (zero, omega arith, refl)) (back y (zero, omega arith, refl)) in
-    let rest : xs ≡ ys =
-    one_rising xs ys (rises_on x xs up_x) (rises_on y ys up_y)
-    (rests_same x y xs ys up_x first to)
-    (rests_same y x ys xs up_y (sym first) back)
-    in
+    let first : x ≡ y = heads_same x y xs ys up_x up_y (to x (Contains-head x xs)) (back y (Contains-head y ys)) in
+    let to_rest : AllIn xs ys = rests_same x y xs ys up_x first to in
+    let back_rest : AllIn ys xs = rests_same y x ys xs up_y (sym first) back in
+    let rest : xs ≡ ys = one_rising xs ys (rises_on x xs up_x) (rises_on y ys up_y) to_rest back_rest in
     cc
 
 rises_as_text : (m : ℕ) (g : Cells) (xs : List Cells) → IsSolutionList m g xs → Rises xs

@@ -1,8 +1,14 @@
--- Sudoku's rule by pairs of cells.
+-- Sudoku's rules by pairs of cells.
 use Rattle.std.specs.Prelude.{◌≡◌, ◌≢◌, ◌<◌, ◌≤◌, ℕ, true, length, slice_index}
-use Rattle.sudoku_law.specs.Grid.{Cells, side, shares}
+use Rattle.sudoku_law.specs.Grid.{Cells, side, size, shares}
 
 -- each cell has a digit, and no two that share a row, column or box have the same
 pub record IsPairwise (m : ℕ) (s : Cells) : Type 0 where
   pub digits : (i : ℕ) → i < length s → (1 ≤ slice_index s i) × (slice_index s i ≤ side m)
   pub once : (i j : ℕ) → j < i → i < length s → shares m i j ≡ true → slice_index s i ≢ slice_index s j
+
+-- s has all its cells, keeps the givens of g, and is right by pairs
+pub record IsSolutionByPairs (m : ℕ) (g s : Cells) : Type 0 where
+  pub long : length s ≡ size m
+  pub keeps : (cell : ℕ) → cell < length g → slice_index g cell ≢ 0 → slice_index s cell ≡ slice_index g cell
+  pub pairs : IsPairwise m s

@@ -5,8 +5,10 @@
 #![tactic(auto)]
 
 mod completeness;
+mod facts;
 
 pub use completeness::{
     conflict_leaves_no_solution, solution_nodes_are_solutions, solutions_extend_one_child,
     tree_is_complete, tree_is_its_node,
 };
+pub use facts::{rule_by_pairs, solution_list_is_unique, tests_are_exact, unit_adds_up};
