@@ -1,0 +1,8 @@
+//! Grids of the puzzle, and how a board of it is expanded.
+//!
+//! It stands on the definitions of `sudoku_law`, at boxes of three rows and three columns.
+#![tactic(auto)]
+
+mod grid;
+
+pub use grid::{Grid, GridFault, parse81};
