@@ -1,4 +1,5 @@
 pub mod Grid
+pub mod Pairs
 pub mod Text
 pub mod Tree
 pub mod Solutions
