@@ -20,10 +20,10 @@ signs_give_grid text g long signs cells =
     record {
       long = same;
       digits = λ k h.
-        let within : k < length text = omega arith in
-        let at : get_or g k 0 ≡ digit_of (get_or text k 0) = ap (λ xs. get_or xs k 0) cells ∙ get_or-map digit_of text k 0 0 within in
-        let small : digit_of (get_or text k 0) ≤ 9 = digit_small (get_or text k 0) (signs k (omega arith)) in
-        rw at small;
+          let within : k < length text = omega arith in
+          let at : get_or g k 0 ≡ digit_of (get_or text k 0) = ap (λ xs. get_or xs k 0) cells ∙ get_or-map digit_of text k 0 0 within in
+          let small : digit_of (get_or text k 0) ≤ 9 = digit_small (get_or text k 0) (signs k (omega arith)) in
+          rw at small;
     }
 
 pub reads_is_grid : (text : List ℕ) (g : Cells) → Reads text g → IsGrid 3 g
@@ -51,5 +51,5 @@ text_reads g is =
       long = same ∙ is.long;
       signs = All-from_get_or P (text_of g) 0 (λ k h. rw (get_or-map sign g k 0 0 (omega arith)) (sign_is_one (get_or g k 0) (is.digits k (omega arith))));
       cells = ext_get_or 0 g (map digit_of (text_of g)) (sym (length-map (text_of g) digit_of ∙ same)) (λ k h.
-        sym (get_or-map digit_of (text_of g) k 0 0 (omega arith) ∙ ap digit_of (get_or-map sign g k 0 0 h) ∙ sign_reads (get_or g k 0) (is.digits k h)));
+          sym (get_or-map digit_of (text_of g) k 0 0 (omega arith) ∙ ap digit_of (get_or-map sign g k 0 0 h) ∙ sign_reads (get_or g k 0) (is.digits k h)));
     }

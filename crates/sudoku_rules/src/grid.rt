@@ -1,9 +1,13 @@
 //! Grids, and their text.
 
-ghost use Rattle.std.specs.Prelude.{◌≡◌, ◌≢◌, ◌↔◌, ◌<◌, ◌==◌, ℕ, List, length, not, count_by, IsTrue, Ok, Err, map};
+ghost use Rattle.std.specs.Prelude.{◌≡◌, ◌≢◌, ◌↔◌, ◌<◌, ◌≤◌, ◌-◌, ◌==◌, ℕ, List, length, not, count_by, slice_set, false, IsTrue, Ok, Err, map};
+ghost use Rattle.std.specs.Int.{IsBitSet};
+ghost use Rattle.sudoku_law.specs.Grid.{HasConflict, IsBlank, conflict, used};
 ghost use Rattle.sudoku_law.specs.Text.{text_of};
+ghost use Rattle.sudoku_rules.specs.Look.{Finds};
 ghost use Rattle.sudoku_rules.specs.Reading.{IsCellSign, Reads, IsFirstBad, digit_of};
 
+use crate::look::{Look, Masks, look_at};
 use std::marker::Model;
 use thiserror::Error;
 
@@ -76,6 +80,42 @@ fn value_of(byte: u8) -> u8
 }
 
 impl Grid {
+    /// Some row, column or box has a digit twice.
+    pub fn conflict(&self) -> bool
+        ensures meaning { IsTrue result ↔ HasConflict 3 self.now }
+        ensures test { result ≡ conflict 3 self.now }
+    {
+        Masks::of(&self.cells).clash
+    }
+
+    /// The candidates of a blank cell, cells counted by rows from 0: bit `d - 1` is set exactly where the digit `d`, from
+    /// 1 to 9, stands nowhere in its row, column or box. No other bit is set.
+    pub fn candidates(&self, cell: u32) -> u16
+        requires blank { IsBlank self.now cell }
+        ensures bits { (d : ℕ) → 1 ≤ d → d ≤ 9 → IsBitSet result (d - 1) ↔ (used 3 self.now cell d ≡ false) }
+        ensures few { result < 512 }
+    {
+        Masks::of(&self.cells).options(cell as usize)
+    }
+
+    // What the grid is as a node of the tree.
+    pub(crate) fn look(&self) -> Look
+        ensures { Finds self.now result }
+    {
+        look_at(&self.cells)
+    }
+
+    // The grid with a digit at a cell.
+    pub(crate) fn with(&self, cell: usize, digit: u8) -> Grid
+        requires cell { cell < length self.now }
+        requires digit { digit ≤ 9 }
+        ensures { result ≡ slice_set self.now cell digit }
+    {
+        let mut cells = self.cells;
+        cells[cell] = digit;
+        Grid { cells }
+    }
+
     /// The text of the grid: its 81 cells by rows, each as its digit, where a blank cell is `0`.
     pub fn text(&self) -> [u8; 81]
         ensures { result ≡ text_of self.now }

@@ -3,6 +3,9 @@
 //! It stands on the definitions of `sudoku_law`, at boxes of three rows and three columns.
 #![tactic(auto)]
 
+mod expansion;
 mod grid;
+mod look;
 
+pub use expansion::{Expansion, expand};
 pub use grid::{Grid, GridFault, parse81};
