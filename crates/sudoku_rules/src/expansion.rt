@@ -1,0 +1,124 @@
+//! The expansion of a board: the walk of one unit.
+
+ghost use Rattle.std.specs.Prelude.{◌≡◌, ◌<◌, ◌≤◌, ◌-◌, ◌==◌, ◌∷◌, [], length, true, false, OnOk, IfOk, slice_set};
+ghost use Rattle.std.specs.Int.{bit_at};
+ghost use Rattle.sudoku_law.specs.Tree.{tree, walk, both, hands_out};
+ghost use Rattle.sudoku_rules.specs.Look.{AreOptions};
+ghost use Rattle.sudoku_rules.specs.Expansion.{met_of, at_digit};
+
+use crate::grid::Grid;
+use crate::look::{Choice, Look};
+use adlb_unit::NoMemory;
+use std::alloc::Global;
+
+/// What the expansion of a board met.
+#[derive(Drop)]
+pub struct Expansion {
+    /// The solution nodes, in the order of the tree.
+    pub solutions: Vec<Grid>,
+    /// The boards that are handed out, each with its budget, in the order of the tree.
+    pub children: Vec<(u64, Grid)>,
+    /// Some node has a blank cell and no budget.
+    pub over: bool,
+}
+
+/// Works the tree of a grid with this budget. The children of a node with two or more candidates and a budget above
+/// the grain are handed out with their share of the budget; all other nodes are worked here. It fails for want of
+/// memory alone.
+pub fn expand(alloc: Global, budget: u64, grid: &Grid, grain: u64) -> Result<Expansion, NoMemory>
+    ensures { IfOk result (λ e. met_of e ≡ walk grain (tree 3 budget grid.now)) }
+{
+    let mut found = Expansion {
+        solutions: Vec::new(alloc),
+        children: Vec::new(alloc),
+        over: false,
+    };
+    work(budget, grid, grain, &mut found)?;
+    Ok(found)
+}
+
+// Works one node, and what stands below it.
+#[cycle(work)]
+fn work(budget: u64, grid: &Grid, grain: u64, found: &mut Expansion) -> Result<(), NoMemory>
+    ensures { OnOk result (met_of found.new ≡ both (met_of found.old) (walk grain (tree 3 budget grid.now))) }
+{
+    let choice = match grid.look() {
+        Look::Dead => return Ok(()),
+        Look::Full => return keep_solution(*grid, found),
+        Look::Open(choice) => choice,
+    };
+    if budget == 0 {
+        found.over = true;
+        return Ok(());
+    }
+    if choice.count == 0 {
+        return Ok(());
+    }
+    let share = (budget - 1) / choice.count as u64;
+    let hands = is_handing_out(budget, grain, choice.count);
+    for d in 1..10 {
+        work_digit(share, grid, grain, hands, choice, d, found)?;
+    }
+    Ok(())
+}
+
+// Works the child with this digit, or hands it out; a digit that is no candidate has none.
+#[cycle(work)]
+fn work_digit(
+    share: u64,
+    grid: &Grid,
+    grain: u64,
+    hands: bool,
+    choice: Choice,
+    d: u8,
+    found: &mut Expansion,
+) -> Result<(), NoMemory>
+    requires cell { choice.cell < length grid.now }
+    requires options { AreOptions grid.now choice.cell choice.options }
+    requires least { 1 ≤ d }
+    requires most { d ≤ 9 }
+    ensures { OnOk result (met_of found.new ≡ both (met_of found.old) (at_digit hands grain share grid.now choice.cell d)) }
+{
+    if !has_digit(choice.options, d) {
+        return Ok(());
+    }
+    let child = grid.with(choice.cell, d);
+    if hands {
+        return keep_child(share, child, found);
+    }
+    work(share, &child, grain, found)
+}
+
+// The digit is among these candidates.
+fn has_digit(options: u16, d: u8) -> bool
+    requires least { 1 ≤ d }
+    requires most { d ≤ 9 }
+    ensures { result ≡ (bit_at options (d - 1) == 1) }
+{
+    options >> (d - 1) & 1 == 1
+}
+
+fn keep_solution(grid: Grid, found: &mut Expansion) -> Result<(), NoMemory>
+    ensures { OnOk result (met_of found.new ≡ both (met_of found.old) (record { solutions = grid ∷ []; children = []; over = false })) }
+{
+    match found.solutions.push(grid) {
+        Ok(()) => Ok(()),
+        Err(_) => Err(NoMemory),
+    }
+}
+
+fn keep_child(share: u64, child: Grid, found: &mut Expansion) -> Result<(), NoMemory>
+    ensures { OnOk result (met_of found.new ≡ both (met_of found.old) (record { solutions = []; children = (share, child) ∷ []; over = false })) }
+{
+    match found.children.push((share, child)) {
+        Ok(()) => Ok(()),
+        Err(_) => Err(NoMemory),
+    }
+}
+
+// A node with this budget and so many candidates hands its children out.
+fn is_handing_out(budget: u64, grain: u64, count: u32) -> bool
+    ensures { result ≡ hands_out grain budget count }
+{
+    budget > grain && count > 1
+}
