@@ -1,0 +1,5 @@
+pub mod Boards
+pub mod Ends
+pub mod Input
+pub mod Report
+pub mod Words
