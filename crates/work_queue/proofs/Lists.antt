@@ -1,6 +1,6 @@
 -- The lists of units that the calls leave, for a caller that keeps sums or counts over them.
-use Rattle.std.proofs.Common.{◌≡◌, ◌≢◌, ◌<◌, ℕ, zero, suc, ◌+◌, Bool, true, false, not, cond, List, [], ◌∷◌, ◌++◌, length, get_or, take, drop, map, Option, Some, None, refl, sym, ap, ◌∙◌, All, Any, Contains, arith, eqb, sum_by}
-use Rattle.std.specs.List.{filter, slice_get}
+use Rattle.std.proofs.Common.{◌≡◌, ◌≢◌, ℕ, ◌+◌, Bool, true, false, cond, List, [], ◌∷◌, ◌++◌, get_or, take, drop, map, Option, Some, None, refl, sym, ap, ◌∙◌, All, Contains, arith, sum_by}
+use Rattle.std.specs.List.{filter}
 use Rattle.std.specs.List.Sorted.{IsPermutation}
 use Rattle.std.proofs.lemmas.Bool.{not-true, both_ways}
 use Rattle.std.proofs.lemmas.List.{drop_more, get_or-map, length-map, take-append-drop}
@@ -13,8 +13,7 @@ use Rattle.std.proofs.lemmas.Option.{get_or_from_slice_get, slice_get_within}
 use Rattle.adlb_unit.specs.declared.names.Rank.{Rank}
 use Rattle.adlb_unit.specs.declared.names.UnitId.{UnitId}
 use Rattle.adlb_unit.specs.declared.names.WorkType.{WorkType}
-use Rattle.adlb_unit.specs.declared.units.Unit.{Unit}
-use Rattle.work_queue.proofs.Ids.{differs_is, filter_at, map_at, same_is, this_pinned, unit_pinned}
+use Rattle.work_queue.proofs.Ids.{filter_at, map_at, same_is, this_pinned, unit_pinned}
 use Rattle.work_queue.specs.Best.{IsBest}
 use Rattle.work_queue.specs.Queue.{HasDistinctIds, HasFree, HasPinned, has_other_id, id_of, pinned_by, same_id}
 use Rattle.work_queue.specs.declared.placing.Placed.{Placed}

@@ -126,7 +126,10 @@ fn shows_units_in_arrival_order(rt: HostRuntime) -> Result<(), Fail> {
     let mut queue = filled(alloc, &[(5, 1, Target::Any), (5, 9, Target::Any)])?;
     let best = queue.best(Rank(3), &any).expect(&rt, "a unit is offered");
     queue.pin(best, Rank(3));
-    let first = UnitId { rank: Rank(0), number: 0 };
+    let first = UnitId {
+        rank: Rank(0),
+        number: 0,
+    };
     assert_eq!(rt; queue.unit_at(0), Some((first, None)));
     assert_eq!(rt; queue.unit_at(1), Some((best, Some(Rank(3)))));
     assert_eq!(rt; queue.unit_at(2), None);
