@@ -1,14 +1,12 @@
 -- The best of a list comes first among the units that are offered.
-use Rattle.std.proofs.Common.{◌≡◌, ◌≢◌, ◌<◌, ◌≤◌, ◌⊎◌, ◌↔◌, ℕ, zero, suc, ◌+◌, Bool, true, false, cond, List, [], ◌∷◌, ◌++◌, length, get_or, Option, Some, None, IfSome, IsSome, Any, refl, sym, ap, ◌∙◌, subst, arith, inl, inr, append_assoc, append-nil}
+use Rattle.std.proofs.Common.{◌≡◌, ◌≢◌, ◌<◌, ◌⊎◌, ℕ, zero, suc, Bool, true, false, cond, List, [], ◌∷◌, ◌++◌, length, Option, Some, None, Any, refl, sym, ap, ◌∙◌, subst, arith, inl, inr, append_assoc, append-nil}
 use Rattle.std.specs.List.{slice_get}
-use Rattle.std.proofs.lemmas.Bool.{both_ways, cases_eq, false≢true, true≢false}
+use Rattle.std.proofs.lemmas.Bool.{both_ways, cases_eq}
 use Rattle.std.proofs.lemmas.Option.{none-some, same_Some, slice_get_within, slice_get-get_or, get_or_from_slice_get}
 use Rattle.adlb_unit.specs.declared.names.Rank.{Rank}
-use Rattle.adlb_unit.specs.declared.names.UnitId.{UnitId}
 use Rattle.adlb_unit.specs.declared.names.WorkType.{WorkType}
 use Rattle.work_queue.proofs.Offers.{is_offered, offered_is, passes, passes_all, passes_is, passes_one, stays_first}
-use Rattle.work_queue.specs.Best.{IsBest, IsOffered, Precedes, beats, best_from, best_of, better, offered, pick, rated_id, rating}
-use Rattle.work_queue.specs.Queue.{id_of}
+use Rattle.work_queue.specs.Best.{IsBest, IsOffered, Precedes, beats, best_from, offered, pick, rating}
 use Rattle.work_queue.specs.declared.placing.Placed.{Placed}
 use Rattle.work_queue.specs.declared.rating.Rated.{Rated}
 

@@ -1,14 +1,13 @@
 -- The unit that a search found.
-use Rattle.std.proofs.Common.{◌≡◌, ◌<◌, ◌≤◌, ◌^◌, ℕ, suc, List, ◌++◌, ◌∷◌, length, get_or, take, drop, Some, refl, sym, ap, ◌∙◌, All, arith, IfSome, sum_by, Contains}
+use Rattle.std.proofs.Common.{◌≡◌, ◌<◌, ◌≤◌, ◌^◌, ℕ, List, length, get_or, Some, sym, ◌∙◌, Contains}
 use Rattle.std.proofs.lemmas.List.{get_or_default}
 use Rattle.std.proofs.lemmas.List.Elements.{All-contains, Contains-get_or}
-use Rattle.std.proofs.lemmas.List.Sums.{sum_by-append, sum_by-cons}
 use Rattle.adlb_unit.specs.declared.names.UnitId.{UnitId}
 use Rattle.slab.specs.Slab.{get}
 use Rattle.work_queue.proofs.Ids.{only_one}
 use Rattle.work_queue.proofs.Units.{has_gives, unit_listed}
 use Rattle.work_queue.specs.Inside.{IsSound}
-use Rattle.work_queue.specs.Queue.{IsSmall, id_of, size_of}
+use Rattle.work_queue.specs.Queue.{IsSmall, id_of}
 use Rattle.work_queue.specs.Units.{HasId, units_at}
 use Rattle.work_queue.specs.declared.placing.Placed.{Placed}
 use Rattle.work_queue.specs.declared.queues.WorkQueue.TheInside.{Inside}

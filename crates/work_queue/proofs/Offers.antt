@@ -1,5 +1,5 @@
 -- The tests of the best unit, and what they say.
-use Rattle.std.proofs.Common.{◌≡◌, ◌≢◌, ◌<◌, ◌<ℤ◌, ◌⊎◌, ◌==◌, ℤ, ℕ, List, [], ◌∷◌, Bool, true, false, ◌&&◌, ◌||◌, not, Option, Some, None, is_none, int_lt, refl, sym, ap, ◌∙◌, arith, inl, inr, eqb, Contains, IsTrue}
+use Rattle.std.proofs.Common.{◌≡◌, ◌<ℤ◌, ◌⊎◌, ◌==◌, ℤ, ℕ, List, [], ◌∷◌, Bool, true, false, ◌&&◌, ◌||◌, not, Option, Some, None, is_none, int_lt, refl, ap, arith, inl, inr, eqb, Contains}
 use Rattle.std.specs.List.{list_any}
 use Rattle.std.proofs.lemmas.Bool.{and_parts, and_from, eqb-true, eq-eqb, or_cases, or_left, or_right, false≢true, true≢false}
 use Rattle.std.proofs.lemmas.Int.{ints}

@@ -119,6 +119,7 @@ impl WorkQueue {
     pub fn best(&self, rank: Rank, types: &Types) -> Option<UnitId>
         ensures best { IfSome result (IsBest rank types.now self.now.units) }
         ensures some { IsSome result ↔ Any (IsOffered rank types.now) self.now.units }
+        ensures free { IfSome result (λ id. HasFree id self.now.units) }
         ensures fold { result ≡ best_of rank types.now self.now.units }
     {
         let mut best: Option<Rated> = None;
@@ -135,6 +136,7 @@ impl WorkQueue {
     pub fn pin(&mut self, id: UnitId, rank: Rank) -> UnitFacts
         requires { HasFree id self.old.units }
         ensures pinned { self.new ≡ with_pin self.old id rank }
+        ensures held { HasPinned id rank self.new.units }
         ensures facts { All (λ p. id_of p ≡ id → result ≡ facts_of p) self.old.units }
     {
         let place = place_of(&self.slots, &self.order, id);

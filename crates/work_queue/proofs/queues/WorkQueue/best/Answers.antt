@@ -1,7 +1,8 @@
-use Rattle.std.proofs.Common.{◌≡◌, None, Some, ap, refl, sym, ◌∙◌}
+use Rattle.std.proofs.Common.{None, ap, refl, sym, ◌∙◌}
 use Rattle.std.proofs.lemmas.Bool.{false≢true}
 use Rattle.work_queue.proofs.Firsts.{best_is, none_offered, some_offered}
 use Rattle.work_queue.proofs.Folds.{best_next, best_whole}
+use Rattle.work_queue.proofs.Lists.{free_from_best}
 use Rattle.work_queue.specs.Best.{best_from}
 use Rattle.work_queue.proofs.queues.WorkQueue.best.Goals as goal
 
@@ -28,3 +29,6 @@ returns-in-Some-clause-some c =
     best_whole _ _ c.self.inside.slots _ _ _ _ c.deref-key-items.ensures.value c.loop-key-test.false c.loop-key.invariant
     ∙ ap (λ q. best_from c.args.rank c.args.types.now None q.units) c.self.view_is in
     (λ _. some_offered c.args.rank c.args.types.now c.args.self.now.units c.in-Some.rated (sym c.in-Some.is ∙ whole), λ _. refl)
+
+pub returns-in-Some-clause-free : goal.returns-in-Some-clause-free
+returns-in-Some-clause-free c = free_from_best c.args.rank c.args.types.now c.args.self.now.units c.in-Some.rated.id (returns-in-Some-clause-best c)

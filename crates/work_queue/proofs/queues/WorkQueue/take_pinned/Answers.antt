@@ -1,4 +1,4 @@
-use Rattle.std.proofs.Common.{◌≡◌, ◌-◌, All, ap, ◌∙◌, arith, length, refl, subst}
+use Rattle.std.proofs.Common.{◌≡◌, ◌-◌, All, ap, ◌∙◌, length, refl, subst}
 use Rattle.work_queue.proofs.Found.{found_at, only_found}
 use Rattle.work_queue.proofs.Taken.{size_within, sound_taken, view_taken}
 use Rattle.work_queue.specs.Queue.{Queue, id_of, without}
