@@ -1,8 +1,13 @@
 //! The expansion of a board: the walk of one unit.
 
 ghost use Rattle.std.specs.Prelude.{◌≡◌, ◌<◌, ◌≤◌, ◌-◌, ◌==◌, ◌∷◌, [], length, true, false, OnOk, IfOk, slice_set};
+ghost use Rattle.std.specs.Prelude.{ℕ, List, OnErr, IsPermutation, IsSorted};
+ghost use Rattle.std.specs.Cmp.Lexicographic.{slice_cmp};
 ghost use Rattle.std.specs.Int.{bit_at};
-ghost use Rattle.sudoku_law.specs.Tree.{tree, walk, both, hands_out};
+ghost use Rattle.std.specs.Ordering.{nat_cmp};
+ghost use Rattle.sudoku_law.specs.Grid.{IsGrid};
+ghost use Rattle.sudoku_law.specs.Solutions.{IsSolutionList};
+ghost use Rattle.sudoku_law.specs.Tree.{tree, walk, both, hands_out, is_over, solutions as solutions_of};
 ghost use Rattle.sudoku_rules.specs.Look.{AreOptions};
 ghost use Rattle.sudoku_rules.specs.Expansion.{met_of, at_digit};
 
@@ -35,6 +40,21 @@ pub fn expand(alloc: Global, budget: u64, grid: &Grid, grain: u64) -> Result<Exp
     };
     work(budget, grid, grain, &mut found)?;
     Ok(found)
+}
+
+/// Puts solutions in the order of their texts. Where they are those of a grid's whole tree, and none of its nodes is
+/// over, they are then the list of all solutions of the grid. It fails for want of memory alone, and then leaves them as
+/// they were.
+pub fn in_text_order(solutions: &mut Vec<Grid>) -> Result<(), NoMemory>
+    ensures permutation { IsPermutation solutions.old.items solutions.new.items }
+    ensures sorted { OnOk result (IsSorted (slice_cmp nat_cmp) solutions.new.items) }
+    ensures law { (b : ℕ) (g : List ℕ) → IsGrid 3 g → is_over (tree 3 b g) ≡ false → IsPermutation (solutions_of (tree 3 b g)) solutions.old.items → OnOk result (IsSolutionList 3 g solutions.new.items) }
+    ensures err { OnErr result (solutions.new.items ≡ solutions.old.items) }
+{
+    match solutions.sort() {
+        Ok(()) => Ok(()),
+        Err(_) => Err(NoMemory),
+    }
 }
 
 // Works one node, and what stands below it.
