@@ -142,3 +142,61 @@ fn is_handing_out(budget: u64, grain: u64, count: u32) -> bool
 {
     budget > grain && count > 1
 }
+
+#[cfg(test)]
+mod tests {
+    use super::*;
+    use crate::grid::parse81;
+    use std::test::Fail;
+
+    // A puzzle with one solution, and one with two, which it shares and which differ in four cells.
+    const ONE: &str =
+        "530070000600195000098000060800060003400803001700020006060000280000419005000080079";
+
+    const TWO: &str =
+        "534678912672195348198342567859760420426850790713924856961537284287419635345286179";
+
+    const FIRST: &str =
+        "534678912672195348198342567859761423426853791713924856961537284287419635345286179";
+
+    const SECOND: &str =
+        "534678912672195348198342567859763421426851793713924856961537284287419635345286179";
+
+    const EMPTY: &str =
+        ".................................................................................";
+
+    #[test]
+    fn expands(rt: HostRuntime) -> Result<(), Fail> {
+        let none: [&str; 0] = [];
+        let no_child: [u64; 0] = [];
+        let table: [(u64, &str, &[&str], &[u64], bool); 8] = [
+            (16777216, TWO, &none, &[8388607, 8388607], false),
+            (65536, TWO, &[FIRST, SECOND], &no_child, false),
+            (1, TWO, &none, &no_child, true),
+            (16777216, ONE, &[FIRST], &no_child, false),
+            (1, EMPTY, &none, &no_child, true),
+            (2, EMPTY, &none, &no_child, true),
+            (9, EMPTY, &none, &no_child, true),
+            (100, EMPTY, &none, &no_child, true),
+        ];
+        for (budget, text, solutions, children, over) in table {
+            let grid = parse81(text.as_bytes())?;
+            let mut met = expand(rt.alloc(), budget, &grid, 65536)?;
+            in_text_order(&mut met.solutions)?;
+            assert_eq!(rt; met.solutions.len(), solutions.len(), "{text} by {budget}");
+            for (found, want) in met.solutions.iter().zip(solutions) {
+                assert_eq!(rt;
+                    found.text().as_slice(),
+                    want.as_bytes(),
+                    "{text} by {budget}"
+                );
+            }
+            assert_eq!(rt; met.children.len(), children.len(), "{text} by {budget}");
+            for (found, want) in met.children.iter().zip(children) {
+                assert_eq!(rt; found.0, *want, "{text} by {budget}");
+            }
+            assert_eq!(rt; met.over, over, "{text} by {budget}");
+        }
+        Ok(())
+    }
+}
