@@ -1,12 +1,12 @@
 -- The best choice, one more cell at a time.
-use Rattle.std.proofs.Common.{◌≡◌, ◌<◌, ◌≤◌, ℕ, ◌+◌, cond, ◌&&◌, eqb, ltb, length, get_or, Option, Some, None, refl, sym, ap, ◌∙◌, arith}
+use Rattle.std.proofs.Common.{◌≡◌, ◌<◌, ◌≤◌, ℕ, ◌+◌, cond, ◌&&◌, eqb, ltb, length, get_or, Option, Some, None, ap, ◌∙◌, arith}
 use Rattle.std.specs.Int.Count.{ones}
 use Rattle.std.proofs.lemmas.Bool.{eq-eqb, ne_eqb, le-ltb, lt-ltb, and_right, and_from, cond-true, cond-false}
-use Rattle.sudoku_law.specs.Grid.{Cells, choices, fewer, fewest_below}
+use Rattle.sudoku_law.specs.Grid.{Cells, choices, fewer}
 use Rattle.sudoku_law.proofs.Below.{fewest_more}
 use Rattle.sudoku_rules.specs.declared.look.Choice.{Choice}
 use Rattle.sudoku_rules.proofs.Counted.{options_count}
-use Rattle.sudoku_rules.specs.Look.{IsBest, IsChoice, AreOptions}
+use Rattle.sudoku_rules.specs.Look.{IsBest, AreOptions}
 
 -- a cell that is not blank changes nothing
 pub best_kept : (g : Cells) (n : ℕ) (best : Option Choice) → (get_or g n 0 ≡ 0 → ⊥) → IsBest g n best → IsBest g (n + 1) best

@@ -1,8 +1,13 @@
 //! The expansion of a board: the walk of one unit.
 
 ghost use Rattle.std.specs.Prelude.{◌≡◌, ◌<◌, ◌≤◌, ◌-◌, ◌==◌, ◌∷◌, [], length, true, false, OnOk, IfOk, slice_set};
+ghost use Rattle.std.specs.Prelude.{ℕ, List, OnErr, IsPermutation, IsSorted};
+ghost use Rattle.std.specs.Cmp.Lexicographic.{slice_cmp};
 ghost use Rattle.std.specs.Int.{bit_at};
-ghost use Rattle.sudoku_law.specs.Tree.{tree, walk, both, hands_out};
+ghost use Rattle.std.specs.Ordering.{nat_cmp};
+ghost use Rattle.sudoku_law.specs.Grid.{IsGrid};
+ghost use Rattle.sudoku_law.specs.Solutions.{IsSolutionList};
+ghost use Rattle.sudoku_law.specs.Tree.{tree, walk, both, hands_out, is_over, solutions as solutions_of};
 ghost use Rattle.sudoku_rules.specs.Look.{AreOptions};
 ghost use Rattle.sudoku_rules.specs.Expansion.{met_of, at_digit};
 
@@ -35,6 +40,21 @@ pub fn expand(alloc: Global, budget: u64, grid: &Grid, grain: u64) -> Result<Exp
     };
     work(budget, grid, grain, &mut found)?;
     Ok(found)
+}
+
+/// Puts solutions in the order of their texts. Where they are those of a grid's whole tree, and none of its nodes is
+/// over, they are then the list of all solutions of the grid. It fails for want of memory alone, and then leaves them as
+/// they were.
+pub fn in_text_order(solutions: &mut Vec<Grid>) -> Result<(), NoMemory>
+    ensures permutation { IsPermutation solutions.old.items solutions.new.items }
+    ensures sorted { OnOk result (IsSorted (slice_cmp nat_cmp) solutions.new.items) }
+    ensures law { (b : ℕ) (g : List ℕ) → IsGrid 3 g → is_over (tree 3 b g) ≡ false → IsPermutation (solutions_of (tree 3 b g)) solutions.old.items → OnOk result (IsSolutionList 3 g solutions.new.items) }
+    ensures err { OnErr result (solutions.new.items ≡ solutions.old.items) }
+{
+    match solutions.sort() {
+        Ok(()) => Ok(()),
+        Err(_) => Err(NoMemory),
+    }
 }
 
 // Works one node, and what stands below it.
@@ -121,4 +141,62 @@ fn is_handing_out(budget: u64, grain: u64, count: u32) -> bool
     ensures { result ≡ hands_out grain budget count }
 {
     budget > grain && count > 1
+}
+
+#[cfg(test)]
+mod tests {
+    use super::*;
+    use crate::grid::parse81;
+    use std::test::Fail;
+
+    // A puzzle with one solution, and one with two, which it shares and which differ in four cells.
+    const ONE: &str =
+        "530070000600195000098000060800060003400803001700020006060000280000419005000080079";
+
+    const TWO: &str =
+        "534678912672195348198342567859760420426850790713924856961537284287419635345286179";
+
+    const FIRST: &str =
+        "534678912672195348198342567859761423426853791713924856961537284287419635345286179";
+
+    const SECOND: &str =
+        "534678912672195348198342567859763421426851793713924856961537284287419635345286179";
+
+    const EMPTY: &str =
+        ".................................................................................";
+
+    #[test]
+    fn expands(rt: HostRuntime) -> Result<(), Fail> {
+        let none: [&str; 0] = [];
+        let no_child: [u64; 0] = [];
+        let table: [(u64, &str, &[&str], &[u64], bool); 8] = [
+            (16777216, TWO, &none, &[8388607, 8388607], false),
+            (65536, TWO, &[FIRST, SECOND], &no_child, false),
+            (1, TWO, &none, &no_child, true),
+            (16777216, ONE, &[FIRST], &no_child, false),
+            (1, EMPTY, &none, &no_child, true),
+            (2, EMPTY, &none, &no_child, true),
+            (9, EMPTY, &none, &no_child, true),
+            (100, EMPTY, &none, &no_child, true),
+        ];
+        for (budget, text, solutions, children, over) in table {
+            let grid = parse81(text.as_bytes())?;
+            let mut met = expand(rt.alloc(), budget, &grid, 65536)?;
+            in_text_order(&mut met.solutions)?;
+            assert_eq!(rt; met.solutions.len(), solutions.len(), "{text} by {budget}");
+            for (found, want) in met.solutions.iter().zip(solutions) {
+                assert_eq!(rt;
+                    found.text().as_slice(),
+                    want.as_bytes(),
+                    "{text} by {budget}"
+                );
+            }
+            assert_eq!(rt; met.children.len(), children.len(), "{text} by {budget}");
+            for (found, want) in met.children.iter().zip(children) {
+                assert_eq!(rt; found.0, *want, "{text} by {budget}");
+            }
+            assert_eq!(rt; met.over, over, "{text} by {budget}");
+        }
+        Ok(())
+    }
 }

@@ -134,3 +134,59 @@ impl Grid {
         self.cells.iter().filter(|&&digit| digit != 0).count() as u32
     }
 }
+
+#[cfg(test)]
+mod tests {
+    use super::*;
+    use std::test::Fail;
+
+    const FULL: &str =
+        "534678912672195348198342567859761423426853791713924856961537284287419635345286179";
+
+    #[test]
+    fn refuses_texts(rt: HostRuntime) -> Result<(), Fail> {
+        let dots = [b'.'; 82];
+        let mut letter = [b'0'; 81];
+        letter[7] = b'x';
+        let mut slash = dots;
+        slash[80] = b'/';
+        let table: [(&[u8], GridFault); 4] = [
+            (&dots[..80], GridFault::Length { got: 80 }),
+            (&dots, GridFault::Length { got: 82 }),
+            (&letter, GridFault::Character { place: 7 }),
+            (&slash[..81], GridFault::Character { place: 80 }),
+        ];
+        for (text, fault) in table {
+            assert_eq!(rt; parse81(text), Err(fault));
+        }
+        let length = to_text(&rt, GridFault::Length { got: 80 })?;
+        assert_eq!(rt; length.as_str(), "80 bytes in place of 81");
+        let character = to_text(&rt, GridFault::Character { place: 7 })?;
+        assert_eq!(rt; character.as_str(), "byte 7 is neither a digit nor a dot");
+        Ok(())
+    }
+
+    fn to_text(rt: &HostRuntime, fault: GridFault) -> Result<String, Fail> {
+        Ok(format!(in rt.alloc(); "{fault}")?)
+    }
+
+    #[test]
+    fn reads_cells(rt: HostRuntime) -> Result<(), Fail> {
+        assert_eq!(rt; parse81(&[b'.'; 81])?, parse81(&[b'0'; 81])?);
+        let full = parse81(FULL.as_bytes())?;
+        assert_eq!(rt; full.text().as_slice(), FULL.as_bytes());
+        assert_eq!(rt; full.filled(), 81);
+        assert_eq!(rt; full.conflict(), false);
+        let clash = parse81(
+            b"634678912672195348198342567859761423426853791713924856961537284287419635345286179",
+        )?;
+        assert_eq!(rt; clash.conflict(), true);
+        let open = parse81(
+            b"530070000600195000098000060800060003400803001700020006060000280000419005000080079",
+        )?;
+        assert_eq!(rt; open.filled(), 30);
+        assert_eq!(rt; open.cells[2], 0);
+        assert_eq!(rt; open.candidates(2), 0b1011, "1, 2 and 4");
+        Ok(())
+    }
+}

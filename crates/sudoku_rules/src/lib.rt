@@ -7,5 +7,5 @@ mod expansion;
 mod grid;
 mod look;
 
-pub use expansion::{Expansion, expand};
+pub use expansion::{Expansion, expand, in_text_order};
 pub use grid::{Grid, GridFault, parse81};

@@ -1,5 +1,5 @@
-use Rattle.std.proofs.Common.{◌≡◌, ◌<◌, ◌+◌, ◌-◌, ◌/◌, ◌∙◌, ℕ, sym, ap, arith}
-use Rattle.sudoku_law.specs.Tree.{Met, both, walk, tree, hands_out}
+use Rattle.std.proofs.Common.{◌<◌, ◌+◌, ◌-◌, ◌/◌, ◌∙◌, ℕ, sym, ap, arith}
+use Rattle.sudoku_law.specs.Tree.{Met, both, hands_out}
 use Rattle.sudoku_rules.specs.Expansion.{met_of, at_digit}
 use Rattle.sudoku_rules.proofs.Walking.{both_nothing, both_assoc, both_spent, node_dead, node_full, node_over, node_open, no_candidates, rest_of, from_digit, digit_next, digits_end}
 use Rattle.sudoku_rules.proofs.expansion.+work.Goals as goal

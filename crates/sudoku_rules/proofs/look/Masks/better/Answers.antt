@@ -1,4 +1,4 @@
-use Rattle.std.proofs.Common.{◌≡◌, ◌+◌, ◌∙◌, ℕ, ap, sym, subst, arith, Option}
+use Rattle.std.proofs.Common.{◌∙◌, sym, subst, Option}
 use Rattle.sudoku_rules.specs.declared.look.Choice.{Choice}
 use Rattle.sudoku_rules.specs.Look.{IsBest}
 use Rattle.sudoku_rules.proofs.Counted.{options_count}
