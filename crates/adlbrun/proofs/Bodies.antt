@@ -95,17 +95,16 @@ body_read body found long bytes puzzle budget text exact b small_puzzle small_bu
     let middle : List ℕ = take 8 rest in
     let rest_long : length rest ≡ length body - 4 = length-drop 4 body in
     let of_front : to_be_bytes w32 found.puzzle ≡ front = be_bytes_4 front found.puzzle (length-take-le 4 body (omega arith)) (bytes_take 4 body bytes) puzzle in
-    let of_middle : to_be_bytes w64 found.budget ≡ middle = be_bytes_8 middle found.budget (length-take-le 8 rest (omega arith)) (bytes_take 8 rest (bytes_drop 4 body bytes)) budget in
-    (
+    let of_middle : to_be_bytes w64 found.budget ≡ middle = be_bytes_8 middle found.budget (length-take-le 8 rest (omega arith)) (bytes_take 8 rest (bytes_drop 4 body bytes)) budget in (
       λ e.
-        let is : found ≡ b = cc in
-        body_whole body found.puzzle found.budget found.grid of_front of_middle text ∙ ap (λ x. board_body x.puzzle x.budget x.grid) is,
+          let is : found ≡ b = cc in
+          body_whole body found.puzzle found.budget found.grid of_front of_middle text ∙ ap (λ x. board_body x.puzzle x.budget x.grid) is,
       λ e.
-        let p : found.puzzle ≡ b.puzzle = puzzle ∙ ap (λ x. from_be_bytes w32 (take 4 x)) e ∙ ap (λ x. from_be_bytes w32 x) (body_front b.puzzle b.budget b.grid) ∙ from_be_bytes-to_be_bytes_4 b.puzzle small_puzzle in
-        let n : found.budget ≡ b.budget = budget ∙ ap (λ x. from_be_bytes w64 (take 8 (drop 4 x))) e ∙ ap (λ x. from_be_bytes w64 x) (body_middle b.puzzle b.budget b.grid) ∙ from_be_bytes-to_be_bytes_8 b.budget small_budget in
-        let some : Some found.grid ≡ Some b.grid = (exact b.grid grid).1 (ap (λ x. drop 8 (drop 4 x)) e ∙ body_end b.puzzle b.budget b.grid) in
-        let g : found.grid ≡ b.grid = cc in
-        ap Some (same_board found b p n g),
+          let p : found.puzzle ≡ b.puzzle = puzzle ∙ ap (λ x. from_be_bytes w32 (take 4 x)) e ∙ ap (λ x. from_be_bytes w32 x) (body_front b.puzzle b.budget b.grid) ∙ from_be_bytes-to_be_bytes_4 b.puzzle small_puzzle in
+          let n : found.budget ≡ b.budget = budget ∙ ap (λ x. from_be_bytes w64 (take 8 (drop 4 x))) e ∙ ap (λ x. from_be_bytes w64 x) (body_middle b.puzzle b.budget b.grid) ∙ from_be_bytes-to_be_bytes_8 b.budget small_budget in
+          let some : Some found.grid ≡ Some b.grid = (exact b.grid grid).1 (ap (λ x. drop 8 (drop 4 x)) e ∙ body_end b.puzzle b.budget b.grid) in
+          let g : found.grid ≡ b.grid = cc in
+          ap Some (same_board found b p n g),
     )
 
 -- no board has this body

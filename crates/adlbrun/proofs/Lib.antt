@@ -1,2 +1,5 @@
 pub mod Bodies
+pub mod Counting
 pub mod Forms
+pub mod Waiting
+pub mod Working

@@ -2,8 +2,10 @@
 #![tactic(auto)]
 
 mod boards;
+mod desk;
 mod ends;
 mod reading;
+mod solving;
 mod words;
 
 fn main() {}

@@ -129,7 +129,8 @@ impl Grid {
 
     /// How many cells are not blank, 81 at most.
     pub fn filled(&self) -> u32
-        ensures { result ≡ count_by (λ digit. not (digit == 0)) self.now }
+        ensures exact { result ≡ count_by (λ digit. not (digit == 0)) self.now }
+        ensures few { result ≤ 81 }
     {
         self.cells.iter().filter(|&&digit| digit != 0).count() as u32
     }
