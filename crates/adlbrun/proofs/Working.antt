@@ -130,7 +130,7 @@ ends grain t found over made adds = (
 pub one_more_waits : (start now after cs : Trees) (i : ℕ) (x : ℕ × Cells) → i < length cs → x ≡ get_or cs i x → IsPermutation (start ++ take i cs) now → IsPermutation (x ∷ now) after → IsPermutation (start ++ take (i + 1) cs) after
 one_more_waits start now after cs i x within is so_far placed =
     let all : start ++ take (i + 1) cs ≡ (start ++ take i cs) ++ x ∷ [] =
-        ap (λ l. start ++ l) (take_more cs i x within ∙ ap (λ y. take i cs ++ y ∷ []) (sym is)) ∙ sym (append_assoc start (take i cs) (x ∷ [])) in
+    ap (λ l. start ++ l) (take_more cs i x within ∙ ap (λ y. take i cs ++ y ∷ []) (sym is)) ∙ sym (append_assoc start (take i cs) (x ∷ [])) in
     rw all (IsPermutation-trans _ _ _ (IsPermutation-to_front (start ++ take i cs) x) (IsPermutation-trans _ _ _ (IsPermutation-cons x (start ++ take i cs) now so_far) placed))
 
 -- a turn of the work: a board is taken, worked, and its children wait

@@ -4,4 +4,5 @@ pub mod Ends
 pub mod Input
 pub mod Report
 pub mod Solved
+pub mod Top
 pub mod Words

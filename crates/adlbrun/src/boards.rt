@@ -1,11 +1,12 @@
 //! Boards, and the bodies of their units.
 
-ghost use Rattle.std.specs.Prelude.{◌≡◌, ◌↔◌, ◌<◌, ◌^◌, ◌++◌, ℕ, List, length, Some, IfSome, IfOk, OnOk};
+ghost use Rattle.std.specs.Prelude.{◌≡◌, ◌↔◌, ◌<◌, ◌^◌, ℕ, List, length, Some, IfSome, IfOk};
 ghost use Rattle.sudoku_law.specs.Grid.{IsGrid};
 ghost use Rattle.sudoku_law.specs.Text.{text_of};
 ghost use Rattle.adlbrun.specs.Boards.{board_body};
 ghost use Rattle.adlbrun.specs.declared.boards.Board.{Board};
 
+use crate::texts::append;
 use adlb_unit::{NoMemory, Payload};
 use std::alloc::Global;
 use sudoku_rules::{Grid, parse81};
@@ -75,14 +76,4 @@ fn array_of<const N: usize>(bytes: &[u8]) -> [u8; N]
     let mut array = [0u8; N];
     array.copy_from_slice(bytes);
     array
-}
-
-// Appends the piece.
-fn append(bytes: &mut Vec<u8>, piece: &[u8]) -> Result<(), NoMemory>
-    ensures { OnOk result (bytes.new.items ≡ bytes.old.items ++ piece.now) }
-{
-    match bytes.extend_from_slice(piece) {
-        Ok(()) => Ok(()),
-        Err(_) => Err(NoMemory),
-    }
 }

@@ -1,7 +1,8 @@
 //! The reading of an input.
 
-ghost use Rattle.std.specs.Prelude.{◌≡◌, ◌≤◌, ◌⊎◌, ◌↔◌, ℕ, List, Some, None, IfOk, OnOk, IfErr, IsErrOf, IsNone};
+ghost use Rattle.std.specs.Prelude.{◌≡◌, ◌≤◌, ◌⊎◌, ◌↔◌, ℕ, List, Some, None, IfOk, OnOk, IfErr, IfSome, IsErrOf, IsNone};
 ghost use Rattle.adlb_io.specs.Outside.{Rises};
+ghost use Rattle.sudoku_law.specs.Grid.{IsGrid};
 ghost use Rattle.adlbrun.specs.Input.{HasForm, IsAccepted, IsAtEnd, IsLine};
 
 use crate::ends::{LineWhy, RunFault};
@@ -15,6 +16,7 @@ const ROOM: usize = 83;
 /// this form and no read failed before, `Read` only where the source's count of faults rose (or stands at its last
 /// value).
 pub fn read_puzzle<S: Source>(input: &mut S) -> Result<Grid, RunFault>
+    ensures grid { IfOk result (IsGrid 3) }
     ensures form { IfOk result (λ g. (bytes : List ℕ) → S.left input.old ≡ Some bytes → HasForm bytes g) }
     ensures end { OnOk result (IsAtEnd (S.left input.new)) }
     ensures faults { IfErr result (λ e. (e ≡ RunFault.Input 1 LineWhy.Later) ⊎ (e ≡ RunFault.Read)) }
@@ -38,6 +40,7 @@ pub fn read_puzzle<S: Source>(input: &mut S) -> Result<Grid, RunFault>
 // The grid of an input of this form.
 fn grid_of(bytes: &[u8]) -> Option<Grid>
     ensures some { (g : List ℕ) → (result ≡ Some g) ↔ HasForm bytes.now g }
+    ensures grid { IfSome result (IsGrid 3) }
     ensures none { IsNone result → IsAccepted bytes.now → ⊥ }
 {
     parse81(without_line_feed(bytes)).ok()

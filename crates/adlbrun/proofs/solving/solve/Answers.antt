@@ -15,7 +15,7 @@ loop-board-init c = record {
 }
 
 pub work-requires-clause-count : goal.work-requires-clause-count
-work-requires-clause-count c = 
+work-requires-clause-count c =
     let adds = reordered _ _ _ _ _ _ _ c.in-Some.ensures.taken c.loop-board.invariant.adds in
     room_for_children c.args.settings.grain c.args.settings.budget c.args.grid.now c.loop-board.found.solutions.items c.loop-board.found.over c.loop-board.found.boards (tree_at c.in-Some.board) (waiting c.next.new.self) c.requires.budget adds
 
@@ -29,6 +29,6 @@ loop-board-preserved c = record {
 }
 
 pub returns : goal.returns
-returns c = 
+returns c =
     let none : waiting c.loop-board.desk ≡ [] = c.in_default.ensures.none refl in
     solved c.args.settings.budget c.args.settings.grain c.args.grid.now c.loop-board.found.solutions.items c.loop-board.found.boards _ (rw none at c.loop-board.invariant.adds) c.in_ok-in_text_order.ensures.permutation refl c.in_ok-in_text_order.ensures.law c.requires.grid

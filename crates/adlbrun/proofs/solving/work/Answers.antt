@@ -6,7 +6,7 @@ use Rattle.sudoku_law.proofs.Nodes.{children_below}
 use Rattle.adlbrun.proofs.solving.work.Goals as goal
 
 pub place_all-requires-clause-boards : goal.place_all-requires-clause-boards
-place_all-requires-clause-boards c = 
+place_all-requires-clause-boards c =
     let b : ℕ = c.args.board.now.budget in
     let g : Cells = c.args.board.now.grid in
     let P : ℕ × Cells → Type 0 = λ d. IsGrid 3 d.1 × (d.0 < b) in
