@@ -106,13 +106,19 @@ pinned_unit id rank units has = (has.1, (has.0, has.2, has.3), has.4.0, has.4.1)
 pub free_from_best : (rank : Rank) (types : Option (List WorkType)) (units : List Placed) (id : UnitId) → IsBest rank types units id → HasFree id units
 free_from_best rank types units id best = (best.place, best.unit, slice_get_within units best.place best.unit best.here, get_or_from_slice_get units best.place best.unit best.unit best.here, (best.has_id, best.is_offered.0))
 
--- a unit of the id is pinned by the pin
+-- the unit stands with its pin among the units after the pin
+pub contains_pinned : (units : List Placed) (p : Placed) (id : UnitId) (rank : Rank) → Contains units p → id_of p ≡ id → Contains (map (pinned_by id rank) units) (record p { pin = Some rank })
+contains_pinned units p id rank there is =
+    let now : Placed = record p { pin = Some rank } in
+    let long = length-map units (pinned_by id rank) in
+    let read : get_or (map (pinned_by id rank) units) there.0 now ≡ now = get_or-map (pinned_by id rank) units there.0 p now there.1 ∙ ap (λ q. pinned_by id rank q) there.2 ∙ this_pinned id rank p is in
+    (there.0, omega (arith, long, there.1), read)
+
+-- so a free unit of the id is a pinned one after the pin
 pub pinned_from_free : (id : UnitId) (rank : Rank) (units : List Placed) → HasFree id units → HasPinned id rank (map (pinned_by id rank) units)
 pinned_from_free id rank units has =
-    let now : Placed = record has.1 { pin = Some rank } in
-    let long = length-map units (pinned_by id rank) in
-    let read : get_or (map (pinned_by id rank) units) has.0 now ≡ now = get_or-map (pinned_by id rank) units has.0 has.1 now has.2 ∙ ap (λ q. pinned_by id rank q) has.3 ∙ this_pinned id rank has.1 has.4.0 in
-    (has.0, now, omega (arith, long, has.2), read, (has.4.0, refl))
+    let there = contains_pinned units has.1 id rank (has.0, has.2, has.3) has.4.0 in
+    (there.0, record has.1 { pin = Some rank }, there.1, there.2, (has.4.0, refl))
 
 -- what was added is free
 pub free_added : (units : List Placed) (unit : Unit) → HasFree unit.id (units ++ record { unit = unit; pin = None } ∷ [])
