@@ -1,10 +1,10 @@
 -- Where no node is over, a tree meets every solution.
-use Rattle.std.proofs.Common.{◌≡◌, ◌≢◌, ◌<◌, ◌≤◌, ℕ, zero, suc, ◌/◌, Bool, true, false, cond, ◌&&◌, not, List, [], ◌∷◌, length, set, get_or, Option, Some, None, refl, sym, ap, ◌∙◌, arith, eqb, inl, inr, Contains, subst}
+use Rattle.std.proofs.Common.{◌≡◌, ◌≢◌, ◌<◌, ◌≤◌, ℕ, zero, suc, ◌/◌, true, false, cond, ◌&&◌, not, List, [], ◌∷◌, length, set, get_or, Option, Some, None, refl, sym, ap, ◌∙◌, arith, eqb, inl, inr, Contains, subst}
 use Rattle.std.proofs.lemmas.List.{get_or-set_same, get_or-set_other, length-set, ext_get_or}
 use Rattle.std.proofs.lemmas.List.Elements.{Contains-append_left, Contains-append_right}
 use Rattle.std.proofs.lemmas.Bool.{cases_eq, eqb-true, eq-eqb, and_parts, cond-false, or_parts, false_from_ne_true, not_from_true, ne_eqb, cases_order}
 use Rattle.sudoku_law.specs.Grid.{Cells, side, row_of, column_of, box_of, IsGrid, IsSolution, IsBlank, conflict, clash, shares, candidates, fewest, used, any_below}
-use Rattle.sudoku_law.specs.Tree.{Tree, end, branches, at_cell, node, grown, tree, solutions, is_over}
+use Rattle.sudoku_law.specs.Tree.{Tree, end, branches, at_cell, grown, tree, solutions, is_over}
 use Rattle.sudoku_law.specs.Pairs.{IsPairwise}
 use Rattle.sudoku_law.proofs.Pairwise.{pairwise_from_solution}
 use Rattle.sudoku_law.proofs.Below.{any_gives, fewest_is_blank, fewest_is_none}

@@ -1,5 +1,5 @@
 -- The candidates of a cell: digits, rising, and each that is not used.
-use Rattle.std.proofs.Common.{◌≡◌, ◌<◌, ◌≤◌, ℕ, zero, suc, ◌+◌, Bool, true, false, not, List, [], ◌∷◌, arith, inl, inr, Contains, subst, filter}
+use Rattle.std.proofs.Common.{◌≡◌, ◌<◌, ◌≤◌, ℕ, zero, suc, ◌+◌, Bool, false, not, List, [], ◌∷◌, arith, inl, inr, Contains, subst, filter}
 use Rattle.std.proofs.lemmas.Bool.{cases_eq, cond_both, not_from_false}
 use Rattle.sudoku_law.specs.Grid.{Cells, side, candidates, count_up, used}
 use Rattle.sudoku_law.proofs.Elements.{Contains-head, Contains-later, Contains-filter, head_cases, none_there}
@@ -55,6 +55,10 @@ rising_filter p low (d ∷ ds) up = cond_both (p d) (d ∷ filter p ds) (filter 
 
 pub candidates_rising : (m : ℕ) (g : Cells) (cell : ℕ) → IsRising 0 (candidates m g cell)
 candidates_rising m g cell = rising_filter (λ d. not (used m g cell d)) 0 (count_up 1 (side m)) (rising_up 0 1 (side m) (omega arith))
+
+-- a candidate is not 0
+pub candidate_some : (m : ℕ) (g : Cells) (cell d : ℕ) → Contains (candidates m g cell) d → 0 < d
+candidate_some m g cell d there = rising_above 0 d (candidates m g cell) (candidates_rising m g cell) there
 
 Contains-up : (from n d : ℕ) → from ≤ d → d < from + n → Contains (count_up from n) d
 unfolding count_up

@@ -1,10 +1,10 @@
 -- A tree meets no solution twice: distinct children share none.
-use Rattle.std.proofs.Common.{◌≡◌, ◌≢◌, ◌<◌, ◌≤◌, ℕ, zero, suc, ◌/◌, Bool, true, false, List, [], ◌∷◌, length, set, get_or, Option, Some, None, refl, sym, ◌∙◌, arith, inl, inr, Contains, subst}
+use Rattle.std.proofs.Common.{◌≡◌, ◌<◌, ℕ, zero, suc, ◌/◌, List, [], ◌∷◌, length, set, get_or, Option, Some, None, refl, sym, ◌∙◌, arith, inl, inr, Contains, subst}
 use Rattle.std.proofs.lemmas.List.{get_or-set_same, length-set}
 use Rattle.std.proofs.lemmas.List.Elements.{Contains-append_cases}
 use Rattle.std.proofs.lemmas.Bool.{cond_both}
 use Rattle.sudoku_law.specs.Grid.{Cells, side, IsGrid, IsSolution, IsBlank, conflict, candidates, fewest}
-use Rattle.sudoku_law.specs.Tree.{Tree, end, branches, at_cell, node, grown, tree, solutions}
+use Rattle.sudoku_law.specs.Tree.{Tree, end, branches, at_cell, grown, tree, solutions}
 use Rattle.sudoku_law.proofs.Below.{fewest_is_blank}
 use Rattle.sudoku_law.proofs.Digits.{AreAtMost, IsRising, rising_above, candidates_at_most, candidates_rising}
 use Rattle.sudoku_law.proofs.Elements.{IsDistinct, distinct_append, Contains-head, Contains-later, none_there}

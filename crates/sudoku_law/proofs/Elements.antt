@@ -1,6 +1,8 @@
 -- What a list contains, and lists without repeats.
-use Rattle.std.proofs.Common.{◌≡◌, ◌<◌, ℕ, zero, suc, Bool, true, false, cond, List, [], ◌∷◌, ◌++◌, length, get_or, refl, sym, ap, ◌∙◌, arith, inl, inr, ◌⊎◌, Contains, subst, filter}
-use Rattle.std.proofs.lemmas.List.Elements.{Contains-append_cases}
+use Rattle.std.specs.List.{AllPairs}
+use Rattle.std.proofs.Common.{◌≡◌, ◌≢◌, ◌<◌, ℕ, zero, suc, Bool, true, List, [], ◌∷◌, ◌++◌, length, get_or, refl, sym, ap, ◌∙◌, arith, inl, inr, ◌⊎◌, Contains, subst, filter}
+use Rattle.std.proofs.lemmas.List.Elements.{Contains-append_cases, Contains-get_or}
+use Rattle.std.proofs.lemmas.List.Kept.{AllPairs-cons}
 use Rattle.std.proofs.lemmas.Bool.{cond_both}
 
 pub Contains-head : {X : Type 0} (x : X) (xs : List X) → Contains (x ∷ xs) x
@@ -49,3 +51,10 @@ distinct_append (x ∷ xs) ys dx dy apart = (
   ],
   distinct_append xs ys dx.1 dy (λ s in_xs in_ys. apart s (Contains-later x s xs in_xs) in_ys),
 )
+
+pub pairs_from_distinct : {X : Type 0} (xs : List X) → IsDistinct xs → AllPairs (λ x y. x ≢ y) xs
+pairs_from_distinct [] once = λ i j d less within. absurd (omega arith)
+pairs_from_distinct (x ∷ xs) once =
+    AllPairs-cons (λ a b. a ≢ b) x xs
+    (λ k d within same. once.0 (subst (λ z. Contains xs z) (sym same) (Contains-get_or xs k d within)))
+    (pairs_from_distinct xs once.1)

@@ -1,5 +1,5 @@
 -- The tree's solution nodes, sorted, are all solutions in text order.
-use Rattle.std.proofs.Common.{◌≡◌, ◌<◌, ◌≤◌, ℕ, zero, suc, ◌+◌, Bool, true, false, cond, List, [], ◌∷◌, length, get_or, refl, sym, ap, ◌∙◌, arith, zero-add, inl, inr, Contains, subst, IsPermutation, IsSorted, count_by, ◌↔◌}
+use Rattle.std.proofs.Common.{◌≡◌, ◌<◌, ◌≤◌, ℕ, zero, suc, ◌+◌, Bool, true, false, cond, List, [], ◌∷◌, length, get_or, refl, sym, ap, ◌∙◌, arith, zero-add, inl, inr, Contains, subst, IsPermutation, IsSorted, count_by}
 use Rattle.std.specs.Cmp.Lexicographic.{slice_cmp}
 use Rattle.std.specs.Ordering.{nat_cmp, is_lt, ordering_reverse}
 use Rattle.std.specs.declared.cmp.Ordering.{Ordering}
@@ -11,7 +11,7 @@ use Rattle.std.proofs.lemmas.Map.Lookups.{exact_bytes}
 use Rattle.std.proofs.lemmas.Bool.{cases_Bool, false_from_ne_true}
 use Rattle.std.proofs.lemmas.List.Sums.{sum_by-cons}
 use Rattle.std.proofs.lemmas.List.Sorted.{sum_by-IsPermutation, Contains-permutation, IsPermutation-sym}
-use Rattle.sudoku_law.specs.Grid.{Cells, IsGrid, IsSolution}
+use Rattle.sudoku_law.specs.Grid.{Cells, IsGrid}
 use Rattle.sudoku_law.specs.Tree.{tree, solutions, is_over}
 use Rattle.sudoku_law.specs.Solutions.{IsSolutionList}
 use Rattle.sudoku_law.proofs.Elements.{IsDistinct, Contains-head, Contains-later}

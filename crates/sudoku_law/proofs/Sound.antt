@@ -1,10 +1,10 @@
 -- Each solution node of a tree is a solution.
-use Rattle.std.proofs.Common.{◌≡◌, ◌≢◌, ◌<◌, ◌≤◌, ℕ, zero, suc, ◌/◌, Bool, true, false, ◌&&◌, not, List, [], ◌∷◌, length, set, get_or, Option, Some, None, refl, sym, ap, ◌∙◌, arith, eqb, inl, inr, Contains, subst}
+use Rattle.std.proofs.Common.{◌≡◌, ◌≢◌, ◌<◌, ◌≤◌, ℕ, zero, suc, ◌/◌, true, false, List, [], ◌∷◌, length, set, get_or, Option, Some, None, refl, sym, ap, ◌∙◌, arith, eqb, inl, inr, Contains, subst}
 use Rattle.std.proofs.lemmas.List.{get_or-set_same, get_or-set_other, length-set}
 use Rattle.std.proofs.lemmas.List.Elements.{Contains-append_cases}
 use Rattle.std.proofs.lemmas.Bool.{cases_eq, eq-eqb, ne_eqb, cond_both}
 use Rattle.sudoku_law.specs.Grid.{Cells, side, IsGrid, IsSolution, IsBlank, conflict, clash, shares, candidates, fewest, any_below}
-use Rattle.sudoku_law.specs.Tree.{Tree, end, branches, at_cell, node, grown, tree, solutions}
+use Rattle.sudoku_law.specs.Tree.{Tree, end, branches, at_cell, grown, tree, solutions}
 use Rattle.sudoku_law.specs.Pairs.{IsPairwise}
 use Rattle.sudoku_law.proofs.Pairwise.{solution_from_pairwise}
 use Rattle.sudoku_law.proofs.Below.{none_of, fewest_is_blank, fewest_is_none}

@@ -1,15 +1,12 @@
 //! What a solution of a Sudoku grid is, the search tree of a grid, and the law that joins them.
+//!
+//! The definitions stand in specs/: the plain rules in Grid, the tree in Tree, the list in Solutions.
+//! Nothing here runs: each function has an empty body, and its `ensures` clauses are theorems about them.
 #![tactic(auto)]
 
-ghost use Rattle.std.specs.Prelude.{◌≡◌, ℕ, List, false, IsPermutation, IsSorted};
-ghost use Rattle.std.specs.Cmp.Lexicographic.{slice_cmp};
-ghost use Rattle.std.specs.Ordering.{nat_cmp};
-ghost use Rattle.sudoku_law.specs.Grid.{IsGrid};
-ghost use Rattle.sudoku_law.specs.Tree.{tree, is_over, solutions};
-ghost use Rattle.sudoku_law.specs.Solutions.{IsSolutionList};
+mod completeness;
 
-pub fn zero() -> u8
-    ensures { result ≡ 0 }
-{
-    0
-}
+pub use completeness::{
+    conflict_leaves_no_solution, solution_nodes_are_solutions, solutions_extend_one_child,
+    tree_is_complete, tree_is_its_node,
+};
