@@ -4,7 +4,7 @@ use Rattle.std.proofs.Math.Bool.{or-false}
 use Rattle.sudoku_law.specs.Grid.{Cells, conflict, candidates, choices, fewest, used, count_up}
 use Rattle.sudoku_law.specs.Tree.{Tree, end, branches, at_cell, tree, hands_out, Met, nothing, both, walk}
 use Rattle.sudoku_law.proofs.Depth.{tree_is_node, share_falls}
-use Rattle.sudoku_rules.specs.Expansion.{at_digit}
+use Rattle.sudoku_rules.specs.Expansion.{at_digit, handed_out, solved}
 
 or_assoc : (a b c : Bool) → ((a || b) || c) ≡ (a || (b || c))
 or_assoc true b c = refl
@@ -26,9 +26,6 @@ node_dead grain b g clash = ap (λ t. walk grain t) (tree_is_node 3 b g ∙ ap (
 node_cell : (grain b : ℕ) (g : Cells) (o : Option ℕ) → conflict 3 g ≡ false → fewest 3 g ≡ o → walk grain (tree 3 b g) ≡ walk grain (at_cell 3 below b g o)
 node_cell grain b g o fine chosen =
     ap (λ t. walk grain t) (tree_is_node 3 b g ∙ ap (λ c. cond c end (at_cell 3 below b g (fewest 3 g))) fine ∙ ap (λ x. at_cell 3 below b g x) chosen)
-
-abbrev pub solved : Cells → Met
-solved g = record { solutions = g ∷ []; children = []; over = false }
 
 abbrev pub spent : Met
 spent = record { solutions = []; children = []; over = true }
@@ -61,7 +58,7 @@ rest_more : (grain budget k share : ℕ) (g : Cells) (cell d : ℕ) (ds : List �
 unfolding branches
 rest_more grain budget k share g cell d ds = by_use (used 3 g cell d) (hands_out grain budget k) refl
   where
-    by_use : (u h : Bool) → hands_out grain budget k ≡ h → rest_of grain budget k share g cell (cond (not u) (d ∷ ds) ds) ≡ both (cond u nothing (cond h (record { solutions = []; children = (share, set g cell d) ∷ []; over = false }) (walk grain (tree 3 share (set g cell d))))) (rest_of grain budget k share g cell ds)
+    by_use : (u h : Bool) → hands_out grain budget k ≡ h → rest_of grain budget k share g cell (cond (not u) (d ∷ ds) ds) ≡ both (cond u nothing (cond h (handed_out share (set g cell d)) (walk grain (tree 3 share (set g cell d))))) (rest_of grain budget k share g cell ds)
     by_use true h is = refl
     by_use false true is = rw is refl
     by_use false false is = rw is refl

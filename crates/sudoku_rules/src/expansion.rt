@@ -1,15 +1,15 @@
 //! The expansion of a board: the walk of one unit.
 
-ghost use Rattle.std.specs.Prelude.{◌≡◌, ◌<◌, ◌≤◌, ◌-◌, ◌==◌, ◌∷◌, [], length, true, false, OnOk, IfOk, slice_set};
-ghost use Rattle.std.specs.Prelude.{ℕ, List, OnErr, IsPermutation, IsSorted};
+ghost use Rattle.std.specs.Prelude.{◌≡◌, ◌<◌, ◌≤◌, ◌-◌, ◌==◌, ℕ, List, length, false};
+ghost use Rattle.std.specs.Prelude.{OnOk, OnErr, IfOk, IsPermutation, IsSorted};
 ghost use Rattle.std.specs.Cmp.Lexicographic.{slice_cmp};
 ghost use Rattle.std.specs.Int.{bit_at};
 ghost use Rattle.std.specs.Ordering.{nat_cmp};
 ghost use Rattle.sudoku_law.specs.Grid.{IsGrid};
 ghost use Rattle.sudoku_law.specs.Solutions.{IsSolutionList};
-ghost use Rattle.sudoku_law.specs.Tree.{tree, walk, both, hands_out, is_over, solutions as solutions_of};
+ghost use Rattle.sudoku_law.specs.Tree.{both, hands_out, is_over, solutions as solutions_of, tree, walk};
 ghost use Rattle.sudoku_rules.specs.Look.{AreOptions};
-ghost use Rattle.sudoku_rules.specs.Expansion.{met_of, at_digit};
+ghost use Rattle.sudoku_rules.specs.Expansion.{at_digit, handed_out, met_of, solved};
 
 use crate::grid::Grid;
 use crate::look::{Choice, Look};
@@ -27,9 +27,9 @@ pub struct Expansion {
     pub over: bool,
 }
 
-/// Works the tree of a grid with this budget. The children of a node with two or more candidates and a budget above
-/// the grain are handed out with their share of the budget; all other nodes are worked here. It fails for want of
-/// memory alone.
+/// Works the tree of a grid with this budget. The children of a node with two or more candidates and a
+/// budget above the grain are handed out with their share of the budget; all other nodes are worked here. It
+/// fails for want of memory alone.
 pub fn expand(alloc: Global, budget: u64, grid: &Grid, grain: u64) -> Result<Expansion, NoMemory>
     ensures { IfOk result (λ e. met_of e ≡ walk grain (tree 3 budget grid.now)) }
 {
@@ -42,13 +42,15 @@ pub fn expand(alloc: Global, budget: u64, grid: &Grid, grain: u64) -> Result<Exp
     Ok(found)
 }
 
-/// Puts solutions in the order of their texts. Where they are those of a grid's whole tree, and none of its nodes is
-/// over, they are then the list of all solutions of the grid. It fails for want of memory alone, and then leaves them as
-/// they were.
+/// Puts solutions in the order of their texts (`sorted`). Where they are those of a grid's whole tree, and
+/// none of its nodes is over, they are then the list of all solutions of the grid (`law`). It fails for want
+/// of memory alone, and then leaves them as they were (`err`).
 pub fn in_text_order(solutions: &mut Vec<Grid>) -> Result<(), NoMemory>
     ensures permutation { IsPermutation solutions.old.items solutions.new.items }
     ensures sorted { OnOk result (IsSorted (slice_cmp nat_cmp) solutions.new.items) }
-    ensures law { (b : ℕ) (g : List ℕ) → IsGrid 3 g → is_over (tree 3 b g) ≡ false → IsPermutation (solutions_of (tree 3 b g)) solutions.old.items → OnOk result (IsSolutionList 3 g solutions.new.items) }
+    ensures law { (b : ℕ) (g : List ℕ) → IsGrid 3 g → is_over (tree 3 b g) ≡ false →
+        IsPermutation (solutions_of (tree 3 b g)) solutions.old.items →
+        OnOk result (IsSolutionList 3 g solutions.new.items) }
     ensures err { OnErr result (solutions.new.items ≡ solutions.old.items) }
 {
     match solutions.sort() {
@@ -60,7 +62,8 @@ pub fn in_text_order(solutions: &mut Vec<Grid>) -> Result<(), NoMemory>
 // Works one node, and what stands below it.
 #[cycle(work)]
 fn work(budget: u64, grid: &Grid, grain: u64, found: &mut Expansion) -> Result<(), NoMemory>
-    ensures { OnOk result (met_of found.new ≡ both (met_of found.old) (walk grain (tree 3 budget grid.now))) }
+    ensures { OnOk result
+        (met_of found.new ≡ both (met_of found.old) (walk grain (tree 3 budget grid.now))) }
 {
     let choice = match grid.look() {
         Look::Dead => return Ok(()),
@@ -97,7 +100,8 @@ fn work_digit(
     requires options { AreOptions grid.now choice.cell choice.options }
     requires least { 1 ≤ d }
     requires most { d ≤ 9 }
-    ensures { OnOk result (met_of found.new ≡ both (met_of found.old) (at_digit hands grain share grid.now choice.cell d)) }
+    ensures { OnOk result
+        (met_of found.new ≡ both (met_of found.old) (at_digit hands grain share grid.now choice.cell d)) }
 {
     if !has_digit(choice.options, d) {
         return Ok(());
@@ -119,7 +123,7 @@ fn has_digit(options: u16, d: u8) -> bool
 }
 
 fn keep_solution(grid: Grid, found: &mut Expansion) -> Result<(), NoMemory>
-    ensures { OnOk result (met_of found.new ≡ both (met_of found.old) (record { solutions = grid ∷ []; children = []; over = false })) }
+    ensures { OnOk result (met_of found.new ≡ both (met_of found.old) (solved grid)) }
 {
     match found.solutions.push(grid) {
         Ok(()) => Ok(()),
@@ -128,7 +132,7 @@ fn keep_solution(grid: Grid, found: &mut Expansion) -> Result<(), NoMemory>
 }
 
 fn keep_child(share: u64, child: Grid, found: &mut Expansion) -> Result<(), NoMemory>
-    ensures { OnOk result (met_of found.new ≡ both (met_of found.old) (record { solutions = []; children = (share, child) ∷ []; over = false })) }
+    ensures { OnOk result (met_of found.new ≡ both (met_of found.old) (handed_out share child)) }
 {
     match found.children.push((share, child)) {
         Ok(()) => Ok(()),

@@ -1,6 +1,7 @@
 //! Grids, and their text.
 
-ghost use Rattle.std.specs.Prelude.{◌≡◌, ◌≢◌, ◌↔◌, ◌<◌, ◌≤◌, ◌-◌, ◌==◌, ℕ, List, length, not, count_by, slice_set, false, IsTrue, Ok, Err, map};
+ghost use Rattle.std.specs.Prelude.{◌≡◌, ◌≢◌, ◌↔◌, ◌<◌, ◌≤◌, ◌-◌, ◌==◌, ℕ, List, length, false, not};
+ghost use Rattle.std.specs.Prelude.{IsTrue, Ok, Err, count_by, slice_set};
 ghost use Rattle.std.specs.Int.{IsBitSet};
 ghost use Rattle.sudoku_law.specs.Grid.{HasConflict, IsBlank, conflict, used};
 ghost use Rattle.sudoku_law.specs.Text.{text_of};
@@ -40,11 +41,13 @@ impl Model for Grid {
     ghost inverse = { λ g. record { cells = g } };
 }
 
-/// Reads a grid from its text: 81 bytes by rows, each a digit or a dot, where `0` and a dot are blank. A text of
-/// another length is refused by its length, and else one with another byte by the first such byte, counted from 0.
+/// Reads a grid from its text: 81 bytes by rows, each a digit or a dot, where `0` and a dot are blank. A text
+/// of another length is refused by its length, and else one with another byte by the first such byte,
+/// counted from 0.
 pub fn parse81(text: &[u8]) -> Result<Grid, GridFault>
     ensures read { (g : List ℕ) → (result ≡ Ok g) ↔ Reads text.now g }
-    ensures length { (n : ℕ) → (result ≡ Err (GridFault.Length n)) ↔ ((length text.now ≢ 81) × (n ≡ length text.now)) }
+    ensures length { (n : ℕ) →
+        (result ≡ Err (GridFault.Length n)) ↔ ((length text.now ≢ 81) × (n ≡ length text.now)) }
     ensures character { (k : ℕ) → (result ≡ Err (GridFault.Character k)) ↔ IsFirstBad text.now k }
 {
     if text.len() != 81 {
@@ -88,11 +91,12 @@ impl Grid {
         Masks::of(&self.cells).clash
     }
 
-    /// The candidates of a blank cell, cells counted by rows from 0: bit `d - 1` is set exactly where the digit `d`, from
-    /// 1 to 9, stands nowhere in its row, column or box. No other bit is set.
+    /// The candidates of a blank cell, cells counted by rows from 0: bit `d - 1` is set exactly where the
+    /// digit `d`, from 1 to 9, stands nowhere in its row, column or box. No other bit is set.
     pub fn candidates(&self, cell: u32) -> u16
         requires blank { IsBlank self.now cell }
-        ensures bits { (d : ℕ) → 1 ≤ d → d ≤ 9 → IsBitSet result (d - 1) ↔ (used 3 self.now cell d ≡ false) }
+        ensures bits { (d : ℕ) → 1 ≤ d → d ≤ 9 →
+            IsBitSet result (d - 1) ↔ (used 3 self.now cell d ≡ false) }
         ensures few { result < 512 }
     {
         Masks::of(&self.cells).options(cell as usize)

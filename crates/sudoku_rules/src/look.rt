@@ -1,12 +1,12 @@
-//! A look at a grid: the digits of its rows, columns and boxes as masks, made once in one pass, and what follows from
-//! them.
+//! A look at a grid: the digits of its rows, columns and boxes as masks, made once in one pass, and what
+//! follows from them.
 
 ghost use Rattle.std.specs.Prelude.{◌≡◌, ◌<◌, ◌≤◌, ◌+◌, ◌-◌, ◌^◌, ℕ, List, length, slice_index};
 ghost use Rattle.sudoku_law.specs.Grid.{IsGrid, box_of};
 ghost use Rattle.sudoku_rules.specs.Look.{AreMasks, AreOptions, Finds, IsBest, around_of};
 
-/// The digits of each row, column and box: bit `d - 1` of a mask is set where the digit `d` stands there. `clash` tells
-/// that a digit stands twice in one of them.
+/// The digits of each row, column and box: bit `d - 1` of a mask is set where the digit `d` stands there.
+/// `clash` tells that a digit stands twice in one of them.
 #[derive(Clone, Copy)]
 pub struct Masks {
     pub rows: [u16; 9],
@@ -89,14 +89,15 @@ impl Masks {
     fn add(&mut self, cell: usize, digit: u8)
         requires cell { cell < 81 }
         requires digit { digit ≤ 9 }
-        ensures { (g : List ℕ) → slice_index g cell ≡ digit → AreMasks g cell self.old → AreMasks g (cell + 1) self.new }
+        ensures { (g : List ℕ) → slice_index g cell ≡ digit →
+            AreMasks g cell self.old → AreMasks g (cell + 1) self.new }
     {
         if digit == 0 {
             return;
         }
         let bit = bit_of(digit);
         let clash = self.around(cell) & bit != 0;
-        self.clash = self.clash | clash;
+        self.clash |= clash;
         self.rows[cell / 9] |= bit;
         self.columns[cell % 9] |= bit;
         self.boxes[box_at(cell)] |= bit;
@@ -130,10 +131,12 @@ impl Masks {
         best
     }
 
-    // This cell, where it is blank and has fewer candidates than the best of those before it, and else that one.
+    // This cell, where it is blank and has fewer candidates than the best of those before it, and else that
+    // one.
     fn better(&self, cell: usize, digit: u8, best: Option<Choice>) -> Option<Choice>
         requires { cell < 81 }
-        ensures { (g : List ℕ) → cell < length g → slice_index g cell ≡ digit → AreMasks g (length g) self.now → IsBest g cell best → IsBest g (cell + 1) result }
+        ensures { (g : List ℕ) → cell < length g → slice_index g cell ≡ digit →
+            AreMasks g (length g) self.now → IsBest g cell best → IsBest g (cell + 1) result }
     {
         if digit != 0 {
             return best;
