@@ -1,14 +1,12 @@
 -- The body of a board unit, written and read.
-use Rattle.std.proofs.Common.{◌≡◌, ◌↔◌, ℕ, zero, suc, ◌+◌, ◌-◌, ◌^◌, ◌<◌, ◌≤◌, Bool, true, false, List, [], ◌∷◌, ◌++◌, length, map, take, drop, get_or, Option, Some, None, refl, sym, ap, ◌∙◌, subst, arith, length-append, length-drop, lit<}
+use Rattle.std.proofs.Common.{◌≡◌, ◌↔◌, ℕ, zero, suc, ◌+◌, ◌-◌, ◌^◌, ◌<◌, List, [], ◌∷◌, ◌++◌, length, take, drop, get_or, Option, Some, None, refl, sym, ap, ◌∙◌, subst, arith, length-append, length-drop, lit<}
 use Rattle.std.specs.Int.{to_be_bytes, from_be_bytes, w32, w64}
-use Rattle.std.specs.Str.{bytes_eq}
-use Rattle.std.proofs.lemmas.Slice.Eq.{bytes_eq-Decides}
-use Rattle.std.proofs.lemmas.List.{take-append-drop, take-append-le, drop-append-le, take_all, drop_all, length-map, length-take-le, get_or-drop}
+use Rattle.std.proofs.lemmas.List.{take-append-drop, length-map, length-take-le, get_or-drop}
 use Rattle.std.proofs.lemmas.Nat.{be_bytes_4, be_bytes_8, from_be_bytes-to_be_bytes_4, from_be_bytes-to_be_bytes_8}
 use Rattle.sudoku_law.specs.Grid.{Cells, IsGrid}
 use Rattle.sudoku_law.specs.Text.{text_of, sign}
 use Rattle.sudoku_rules.specs.Reading.{Reads}
-use Rattle.sudoku_rules.proofs.Reading.{reads_is_grid, text_reads}
+use Rattle.sudoku_rules.proofs.Reading.{text_reads}
 use Rattle.adlbrun.specs.Boards.{board_body}
 use Rattle.adlbrun.specs.declared.boards.Board.{Board}
 

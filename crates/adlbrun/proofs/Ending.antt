@@ -1,5 +1,5 @@
 -- How a run ends once its report is made.
-use Rattle.std.proofs.Common.{◌≡◌, ◌⊎◌, ◌≤◌, ℕ, Bool, true, false, cond, List, ◌++◌, length, Option, Some, None, Result, Ok, Err, refl, sym, ap, ◌∙◌, subst, inl, inr, IsPermutation, IfErr, OnOk, OnErr, IsErrOf, MatchBool}
+use Rattle.std.proofs.Common.{◌≡◌, ◌⊎◌, ◌≤◌, ℕ, Bool, true, false, cond, List, ◌++◌, length, Option, Some, None, Result, Ok, Err, refl, sym, ap, ◌∙◌, subst, inl, inr, IfErr, OnOk, OnErr, IsErrOf, MatchBool}
 use Rattle.std.specs.Result.{result_err}
 use Rattle.std.proofs.lemmas.List.Sorted.{length_permutation}
 use Rattle.adlb_io.specs.Outside.{Rises, Takes}

@@ -1,11 +1,11 @@
 -- The form of an input: with and without its line feed, and in a room that was filled from a source.
-use Rattle.std.proofs.Common.{◌≡◌, ◌≢◌, ◌↔◌, Bool, IsTrue, ℕ, ◌+◌, ◌<◌, ◌≤◌, zero, suc, List, [], ◌∷◌, ◌++◌, length, take, drop, get_or, Option, Some, None, Result, Ok, Err, refl, sym, ap, ◌∙◌, subst, arith, inl, inr, ◌⊎◌, All, length-append, lit≤, Contains}
+use Rattle.std.proofs.Common.{◌≡◌, ◌↔◌, Bool, IsTrue, ℕ, ◌+◌, ◌<◌, ◌≤◌, suc, List, [], ◌∷◌, ◌++◌, length, take, get_or, Option, Some, None, Result, Ok, Err, refl, sym, ap, ◌∙◌, subst, arith, inl, inr, ◌⊎◌, length-append, Contains}
 use Rattle.std.specs.Result.{result_ok}
 use Rattle.std.specs.Str.{bytes_eq}
 use Rattle.std.proofs.lemmas.Slice.Eq.{bytes_eq-Decides}
 use Rattle.std.proofs.lemmas.List.{take_all, drop_all, length-take-le}
 use Rattle.std.proofs.lemmas.List.Elements.{All-contains, Contains-push}
-use Rattle.adlb_io.specs.Whole.{Fills, FillsOf}
+use Rattle.adlb_io.specs.Whole.{Fills}
 use Rattle.sudoku_law.specs.Grid.{Cells}
 use Rattle.sudoku_rules.specs.Reading.{Reads, IsCellSign}
 use Rattle.adlbrun.specs.Input.{HasForm, IsAccepted, IsAtEnd, IsLine, open_end, ended}

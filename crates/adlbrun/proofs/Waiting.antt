@@ -1,10 +1,10 @@
 -- The boards that wait: one more, and one less.
-use Rattle.std.proofs.Common.{◌≡◌, ◌≢◌, ◌↔◌, ℕ, zero, suc, ◌+◌, ◌^◌, ◌<◌, ◌≤◌, List, [], ◌∷◌, ◌++◌, length, map, take, drop, Option, Some, None, refl, sym, ap, ◌∙◌, subst, arith, append_assoc, All, Any, Contains, IsPermutation, IfSome, option_to_list, IsSome, is_some, true, false}
+use Rattle.std.proofs.Common.{◌≡◌, ◌≢◌, ℕ, ◌+◌, ◌^◌, ◌<◌, ◌≤◌, List, [], ◌∷◌, ◌++◌, length, map, drop, Option, Some, None, refl, sym, ap, ◌∙◌, arith, append_assoc, All, Any, Contains, IsPermutation, IfSome, option_to_list, IsSome, is_some, true, false}
 use Rattle.std.specs.Int.{from_be_bytes, w64}
 use Rattle.std.specs.List.{filter}
 use Rattle.std.proofs.lemmas.List.{map-append, length-map, get_or-map}
 use Rattle.std.proofs.lemmas.List.Elements.{All-push, All-contains, All-weaker, All-head, All-filter}
-use Rattle.std.proofs.lemmas.List.Sorted.{IsPermutation-sym, IsPermutation-to_front, IsPermutation-append, IsPermutation-refl, IsPermutation-map, IsPermutation-trans}
+use Rattle.std.proofs.lemmas.List.Sorted.{IsPermutation-sym, IsPermutation-to_front, IsPermutation-append, IsPermutation-refl, IsPermutation-map}
 use Rattle.std.proofs.lemmas.Nat.{from_be_bytes-to_be_bytes_8}
 use Rattle.adlb_unit.specs.declared.names.Rank.{Rank}
 use Rattle.adlb_unit.specs.declared.names.UnitId.{UnitId}
@@ -15,8 +15,7 @@ use Rattle.work_queue.specs.Queue.{Queue, HasDistinctIds, has_other_id, id_of, p
 use Rattle.work_queue.proofs.Lists.{others_first, filter-map_pinned, body_pinned, distinct_left, distinct_added}
 use Rattle.work_queue.proofs.Ids.{unit_pinned}
 use Rattle.adlb_unit.specs.declared.units.Unit.{Unit}
-use Rattle.sudoku_law.specs.Grid.{Cells, IsGrid}
-use Rattle.sudoku_law.specs.Text.{text_of}
+use Rattle.sudoku_law.specs.Grid.{Cells}
 use Rattle.sudoku_rules.specs.Reading.{digit_of}
 use Rattle.sudoku_rules.proofs.Reading.{text_reads}
 use Rattle.adlbrun.specs.Boards.{board_body}

@@ -1,17 +1,15 @@
 -- The work on one puzzle: what was found and what waits are together the whole tree's.
-use Rattle.std.proofs.Common.{◌≡◌, ℕ, zero, suc, ◌+◌, ◌*◌, ◌^◌, ◌<◌, ◌≤◌, Bool, true, false, ◌||◌, List, [], ◌∷◌, ◌++◌, length, take, get_or, refl, sym, ap, ◌∙◌, subst, arith, append_assoc, append-nil, All, IsPermutation, sum_by, count_by, add-zero, lit<, lit≤}
+use Rattle.std.proofs.Common.{◌≡◌, ℕ, suc, ◌+◌, ◌*◌, ◌^◌, ◌<◌, ◌≤◌, Bool, true, false, ◌||◌, List, [], ◌∷◌, ◌++◌, length, take, get_or, refl, sym, ap, ◌∙◌, arith, append_assoc, IsPermutation, sum_by, count_by, add-zero}
 use Rattle.std.specs.List.{flat_map, list_any}
 use Rattle.std.proofs.lemmas.List.{take_more}
-use Rattle.std.proofs.lemmas.List.Sorted.{IsPermutation-sym, IsPermutation-to_front, IsPermutation-cons, IsPermutation-append, IsPermutation-refl, IsPermutation-trans, IsPermutation-append_comm, IsPermutation-append_right, sum_by-IsPermutation, list_any-IsPermutation}
+use Rattle.std.proofs.lemmas.List.Sorted.{IsPermutation-to_front, IsPermutation-cons, IsPermutation-trans, sum_by-IsPermutation, list_any-IsPermutation}
 use Rattle.std.proofs.lemmas.List.Sums.{sum_by-append, sum_by-cons}
-use Rattle.sudoku_law.specs.Grid.{Cells, IsGrid, side}
+use Rattle.sudoku_law.specs.Grid.{Cells, IsGrid}
 use Rattle.sudoku_law.specs.Tree.{Tree, Met, tree, walk, solutions, is_over, handed, boards}
 use Rattle.sudoku_law.specs.Solutions.{IsSolutionList}
 use Rattle.sudoku_law.proofs.Handed.{solutions_add, boards_add, over_adds}
 use Rattle.sudoku_law.proofs.Bound.{handed_within}
-use Rattle.adlbrun.specs.Desk.{IsDesk, waiting}
 use Rattle.adlbrun.specs.Solved.{IsSolved}
-use Rattle.adlbrun.specs.declared.desk.Desk.{Desk}
 use Rattle.adlbrun.specs.declared.solving.Solved.{Solved}
 use Rattle.adlbrun.proofs.Counting.{weight, count-flat_map, permuted_by_counts}
 

@@ -1,7 +1,6 @@
 -- The boards that wait for their work.
 use Rattle.std.specs.Prelude.{◌≡◌, ◌<◌, ◌^◌, ℕ, List, ◌++◌, map, take, drop, All, [], None}
 use Rattle.std.specs.Int.{from_be_bytes, w64}
-use Rattle.adlb_unit.specs.declared.names.Rank.{Rank}
 use Rattle.adlb_unit.specs.declared.names.Target.TheVariants.{Any}
 use Rattle.work_queue.specs.Queue.{HasDistinctIds}
 use Rattle.work_queue.specs.declared.placing.Placed.{Placed}

@@ -1,7 +1,7 @@
 -- What the work on one puzzle gives.
 use Rattle.std.specs.Prelude.{◌≡◌, ℕ, List, length, ◌++◌, false, IsPermutation, if◌then◌else◌}
 use Rattle.sudoku_law.specs.Grid.{Cells}
-use Rattle.sudoku_law.specs.Tree.{Tree, tree, solutions, is_over, boards}
+use Rattle.sudoku_law.specs.Tree.{tree, solutions, is_over, boards}
 use Rattle.sudoku_law.specs.Solutions.{IsSolutionList}
 use Rattle.adlbrun.specs.Report.{over_part, solutions_part, totals}
 use Rattle.adlbrun.specs.declared.solving.Solved.{Solved}

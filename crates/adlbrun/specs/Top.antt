@@ -1,5 +1,5 @@
 -- What a run of `solve` wrote, and why it ended.
-use Rattle.std.specs.Prelude.{◌≡◌, ◌⊎◌, ◌≤◌, ◌^◌, ℕ, Bool, true, List, [], Option, Some, None, length}
+use Rattle.std.specs.Prelude.{◌≡◌, ◌⊎◌, ◌≤◌, ◌^◌, ℕ, Bool, true, List, Option, Some, None}
 use Rattle.adlb_io.specs.Outside.{Rises, Takes}
 use Rattle.adlb_io.specs.Whole.{TakesPrefix}
 use Rattle.sudoku_law.specs.Grid.{Cells}

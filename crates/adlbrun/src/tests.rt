@@ -104,32 +104,41 @@ fn lists_what_another_solver_lists(rt: HostRuntime) -> Result<(), Fail> {
 
 #[test]
 fn refuses_each_bad_input_and_writes_nothing(rt: HostRuntime) -> Result<(), Fail> {
-    let short = &FORCED.as_bytes()[..80];
-    let long = format!(in rt.alloc(); "{FORCED}0")?;
-    let letter = format!(in rt.alloc(); "{}x\n", &FORCED[..80])?;
-    let lines = format!(in rt.alloc(); "{FORCED}\n{FORCED}\n")?;
-    let bare = format!(in rt.alloc(); "{FORCED}\r")?;
-    let both = format!(in rt.alloc(); "{FORCED}\r\n")?;
-    let twice = format!(in rt.alloc(); "{FORCED}\n\n")?;
-    let large = vec![in rt.alloc(); b'1'; 0x10_0000]?;
-    let rows: [&[u8]; 9] = [
-        b"",
-        short,
-        long.as_bytes(),
-        letter.as_bytes(),
-        lines.as_bytes(),
-        bare.as_bytes(),
-        both.as_bytes(),
-        twice.as_bytes(),
-        large.as_slice(),
+    // 80 digits, 82, a letter at the end, a bare CR, CR and LF, two line feeds, two lines.
+    let ends = [
+        "", "9\n", "x\n", "9\r", "9\r\n", "9\n\n", "99\n", "9\n9\n", "99",
     ];
-    for (row, bytes) in rows.iter().enumerate() {
-        let (end, written) = run_on(rt.alloc(), bytes)?;
-        assert_eq!(rt; end.status, 1, "row {row}");
-        assert!(rt; written.is_empty(), "row {row}");
-        assert!(rt; says(rt.alloc(), end, "line 1: later")?, "row {row}");
+    for end in ends {
+        let front = &FORCED[..80];
+        let input = format!(in rt.alloc(); "{front}{end}")?;
+        let is_line = end == "9\n";
+        let (run, written) = run_on(rt.alloc(), input.as_bytes())?;
+        assert_eq!(rt; run.status, u8::from(!is_line), "{end:?}");
+        assert_eq!(rt; written.is_empty(), !is_line, "{end:?}");
+        assert_eq!(rt;
+            says(rt.alloc(), run, "line 1: later")?,
+            !is_line,
+            "{end:?}"
+        );
     }
     Ok(())
+}
+
+#[test]
+fn refuses_an_empty_input_and_a_large_one(rt: HostRuntime) -> Result<(), Fail> {
+    for length in [0, 83, 0x10_0000] {
+        let input = ones(rt.alloc(), length)?;
+        let (run, written) = run_on(rt.alloc(), input.as_slice())?;
+        assert_eq!(rt; run.status, 1, "{length} digits");
+        assert!(rt; written.is_empty(), "{length} digits");
+        assert!(rt; says(rt.alloc(), run, "line 1: later")?, "{length} digits");
+    }
+    Ok(())
+}
+
+// So many digits.
+fn ones(alloc: Global, length: usize) -> Result<Vec<u8>, Fail> {
+    Ok(vec![in alloc; b'1'; length]?)
 }
 
 // The fault has this text.

@@ -1,5 +1,5 @@
 use Rattle.std.proofs.Common.{refl}
-use Rattle.adlbrun.proofs.Forms.{filled_form, filled_end, filled_refused}
+use Rattle.adlbrun.proofs.Forms.{filled_form, filled_end}
 use Rattle.adlbrun.proofs.reading.read_puzzle.Goals as goal
 
 pub returns-in-Some-clause-form : goal.returns-in-Some-clause-form
