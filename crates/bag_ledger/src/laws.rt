@@ -1,0 +1,3 @@
+//! What holds of the bag.
+
+pub fn bag_laws() {}
