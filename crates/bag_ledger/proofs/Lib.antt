@@ -1,3 +1,11 @@
+mod Batches
+mod Bridge
+mod Ends
 mod Examples
+mod Fetches
 mod Mutants
+mod Pushes
+mod Puts
+mod Reserves
+mod Tests
 mod Worked

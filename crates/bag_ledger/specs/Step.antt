@@ -1,5 +1,6 @@
 -- One step of the bag as a function, which computes: `legal` is `Legal` as a test, row for row.
-use Rattle.std.specs.Prelude.{ℕ, ◌+◌, ◌%◌, ◌==◌, nat_le, nat_lt, int_le, ℤ, Bool, true, false, ◌&&◌, not, List, length, Option, Some, None, is_none, if◌then◌else◌}
+use Rattle.std.specs.Prelude.{ℕ, ◌+◌, ◌%◌, ◌==◌, nat_le, nat_lt, ℤ, Bool, true, false, ◌&&◌, not, List, length, Option, Some, None, is_none, if◌then◌else◌}
+use Rattle.std.specs.Ordering.{int_eq}
 use Rattle.adlb_unit.specs.declared.names.Rank.{Rank}
 use Rattle.adlb_unit.specs.declared.names.Server.{Server}
 use Rattle.adlb_unit.specs.declared.names.WorkType.{WorkType}
@@ -60,7 +61,7 @@ is_travelling_to server _ = false
 
 abbrev pub same_top : Option ℤ → Option ℤ → Bool
 same_top None None = true
-same_top (Some a) (Some b) = int_le a b && int_le b a
+same_top (Some a) (Some b) = int_eq a b
 same_top _ _ = false
 
 abbrev pub same_info : Info → Info → Bool
