@@ -3,6 +3,9 @@ mod Bridge
 mod Ends
 mod Examples
 mod Fetches
+mod Legal
+mod Lookups
+mod Moves
 mod Mutants
 mod Pushes
 mod Puts
