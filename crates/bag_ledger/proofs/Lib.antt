@@ -1,5 +1,6 @@
 mod Batches
 mod Bridge
+mod Charge
 mod Ends
 mod Examples
 mod Fetches
