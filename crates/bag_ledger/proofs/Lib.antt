@@ -8,6 +8,7 @@ mod Legal
 mod Lookups
 mod Moves
 mod Mutants
+mod Once
 mod Pushes
 mod Puts
 mod Reserves
