@@ -106,11 +106,12 @@ step_within b _ l tracked is = is
 
 tracked_moved : (b : Bag) (id : UnitId) (place : UnitPlace) (u : Placed) → unit_of b id ≡ Some u → ((to : Server) → place ≡ Travelling to → (p : Promise) × (promise_of b id ≡ Some p) × (p.server ≡ to)) → IsTracked b → IsTracked (moved id place b)
 tracked_moved b id place u there ready is = record {
-    measured = λ x p e.
+  measured = λ x p e.
       let m = is.measured x p e in
       let v = moved_keeps b id x place m.0 m.1 in
       (v.0, v.1, ap (λ (w : Unit). length w.body) v.2 ∙ m.2);
-    promised = λ x v to s. by_case x v to s (moved_is b id x place u v there s.0) }
+  promised = λ x v to s. by_case x v to s (moved_is b id x place u v there s.0);
+}
   where
     by_case : (x : UnitId) (v : Placed) (to : Server) → Stands (moved id place b) x v (Travelling to) → ((x ≡ id) × (v ≡ record u { place = place })) ⊎ ((same_unit id x ≡ false) × (unit_of b x ≡ Some v)) → (p : Promise) × (promise_of b x ≡ Some p) × (p.server ≡ to)
     by_case x v to s (inl c) = let goes : place ≡ Travelling to = sym (ap (λ (w : Placed). w.place) c.1) ∙ s.1 in rw c.0 (ready to goes)
@@ -118,8 +119,9 @@ tracked_moved b id place u there ready is = record {
 
 tracked_unpromised : (b : Bag) (id : UnitId) (u : Placed) → unit_of b id ≡ Some u → is_travelling u.place ≡ false → IsTracked b → IsTracked (unpromised id b)
 tracked_unpromised b id u there stays is = record {
-    measured = λ x p e. is.measured x p (unpromised_is b id x p e);
-    promised = λ x v to s. by_test x v to s (same_unit id x) refl }
+  measured = λ x p e. is.measured x p (unpromised_is b id x p e);
+  promised = λ x v to s. by_test x v to s (same_unit id x) refl;
+}
   where
     by_test : (x : UnitId) (v : Placed) (to : Server) → Stands b x v (Travelling to) → (t : Bool) → same_unit id x ≡ t → (p : Promise) × (promise_of (unpromised id b) x ≡ Some p) × (p.server ≡ to)
     by_test x v to s true e =
@@ -139,7 +141,8 @@ tracked_taken : (b : Bag) (server : Server) (u : Unit) → IsTracked b → IsTra
 tracked_taken b server u is =
     tracked_shared (record b { units = b.units ++ record { unit = u; place = Free server } ∷ [] }) u.common (record {
       measured = λ x p e. let m = is.measured x p e in (m.0, find_before (λ u. same_unit u.unit.id x) b.units (record { unit = u; place = Free server } ∷ []) m.0 m.1, m.2);
-      promised = λ x v to s. by_case x v to s.1 (find_appended (λ u. same_unit u.unit.id x) b.units (record { unit = u; place = Free server }) v s.0) })
+      promised = λ x v to s. by_case x v to s.1 (find_appended (λ u. same_unit u.unit.id x) b.units (record { unit = u; place = Free server }) v s.0);
+    })
   where
     by_case : (x : UnitId) (v : Placed) (to : Server) → v.place ≡ Travelling to → (unit_of b x ≡ Some v) ⊎ ((same_unit u.id x ≡ true) × (record { unit = u; place = Free server } ≡ v)) → (p : Promise) × (promise_of b x ≡ Some p) × (p.server ≡ to)
     by_case x v to goes (inl there) = is.promised x v to (there, goes)
@@ -147,8 +150,9 @@ tracked_taken b server u is =
 
 tracked_promised : (b : Bag) (server : Server) (id : UnitId) (n : ℕ) (u : Placed) → unit_of b id ≡ Some u → length u.unit.body ≡ n → IsTracked b → IsTracked (record b { promises = b.promises ++ record { server = server; id = id; length = n } ∷ [] })
 tracked_promised b server id n u there long is = record {
-    measured = λ x p e. by_case x p (find_appended (λ p. same_unit p.id x) b.promises (record { server = server; id = id; length = n }) p e);
-    promised = λ x v to s. let p = is.promised x v to s in (p.0, find_before (λ p. same_unit p.id x) b.promises (record { server = server; id = id; length = n } ∷ []) p.0 p.1, p.2) }
+  measured = λ x p e. by_case x p (find_appended (λ p. same_unit p.id x) b.promises (record { server = server; id = id; length = n }) p e);
+  promised = λ x v to s. let p = is.promised x v to s in (p.0, find_before (λ p. same_unit p.id x) b.promises (record { server = server; id = id; length = n } ∷ []) p.0 p.1, p.2);
+}
   where
     by_case : (x : UnitId) (p : Promise) → (promise_of b x ≡ Some p) ⊎ ((same_unit id x ≡ true) × (record { server = server; id = id; length = n } ≡ p)) → (u : Placed) × (unit_of b x ≡ Some u) × (length u.unit.body ≡ p.length)
     by_case x p (inl e) = is.measured x p e

@@ -26,9 +26,15 @@ pub enum Entry {
         used: u64,
     },
     /// The server takes the unit.
-    Accepted { server: Server, id: UnitId },
+    Accepted {
+        server: Server,
+        id: UnitId,
+    },
     /// Each server has refused what the rank brings.
-    Rejected { rank: Rank, call: u64 },
+    Rejected {
+        rank: Rank,
+        call: u64,
+    },
     /// The rank begins a batch with this common part.
     Keeping {
         rank: Rank,
@@ -36,13 +42,25 @@ pub enum Entry {
         common: Payload,
     },
     /// The server keeps the common part.
-    Kept { server: Server, batch: BatchId },
+    Kept {
+        server: Server,
+        batch: BatchId,
+    },
     /// The rank ends its batch.
-    Closing { rank: Rank, call: u64 },
+    Closing {
+        rank: Rank,
+        call: u64,
+    },
     /// The server closes the common part.
-    Closed { server: Server, batch: BatchId },
+    Closed {
+        server: Server,
+        batch: BatchId,
+    },
     /// The server frees the common part.
-    Freed { server: Server, batch: BatchId },
+    Freed {
+        server: Server,
+        batch: BatchId,
+    },
     /// The rank reserves, and waits for a unit of these types.
     Asked {
         rank: Rank,
@@ -69,9 +87,16 @@ pub enum Entry {
         call: u64,
     },
     /// Each server has looked for the rank that tries.
-    NoCurrent { rank: Rank, call: u64 },
+    NoCurrent {
+        rank: Rank,
+        call: u64,
+    },
     /// The rank fetches a unit that was granted to it.
-    Fetching { rank: Rank, call: u64, id: UnitId },
+    Fetching {
+        rank: Rank,
+        call: u64,
+        id: UnitId,
+    },
     /// The server gives the rank the unit's own bytes.
     Fetched {
         server: Server,
@@ -97,9 +122,15 @@ pub enum Entry {
         id: UnitId,
     },
     /// The unit arrives at the server.
-    Arrived { server: Server, id: UnitId },
+    Arrived {
+        server: Server,
+        id: UnitId,
+    },
     /// The server takes its promise back.
-    Withdrawn { server: Server, id: UnitId },
+    Withdrawn {
+        server: Server,
+        id: UnitId,
+    },
     /// The rank asks how many units of a type are free at its home.
     Counting {
         rank: Rank,
@@ -114,13 +145,23 @@ pub enum Entry {
         info: Info,
     },
     /// The rank calls the problem done.
-    Done { rank: Rank, call: u64 },
+    Done {
+        rank: Rank,
+        call: u64,
+    },
     /// It is found that nothing is left to do.
     Exhausted,
     /// The rank's call is answered by an end.
-    Over { rank: Rank, call: u64, end: End },
+    Over {
+        rank: Rank,
+        call: u64,
+        end: End,
+    },
     /// The rank leaves.
-    Finished { rank: Rank, call: u64 },
+    Finished {
+        rank: Rank,
+        call: u64,
+    },
 }
 
 /// A call of a rank.

@@ -1,8 +1,6 @@
 //! The parts of the bag's state.
 
-use adlb_unit::{
-    BatchId, CommonRef, End, Payload, Rank, Server, Types, Unit, UnitId, WorkType,
-};
+use adlb_unit::{BatchId, CommonRef, End, Payload, Rank, Server, Types, Unit, UnitId, WorkType};
 use std::marker::Model;
 
 /// What a rank does: it runs, has a call pending (with that call's number), or has finished.
@@ -10,39 +8,19 @@ use std::marker::Model;
 pub enum Status {
     Running,
     /// It puts the unit; the unit's id has the number of the call.
-    Putting {
-        unit: Unit,
-    },
+    Putting { unit: Unit },
     /// It begins a batch with this common part.
-    Keeping {
-        call: u64,
-        common: Payload,
-    },
+    Keeping { call: u64, common: Payload },
     /// It ends its batch.
-    Closing {
-        call: u64,
-    },
+    Closing { call: u64 },
     /// It reserves, and waits.
-    Asking {
-        call: u64,
-        types: Types,
-    },
+    Asking { call: u64, types: Types },
     /// It tries to reserve.
-    Trying {
-        call: u64,
-        types: Types,
-    },
+    Trying { call: u64, types: Types },
     /// It fetches the unit; `own` says that the unit's own bytes have come.
-    Fetching {
-        call: u64,
-        id: UnitId,
-        own: bool,
-    },
+    Fetching { call: u64, id: UnitId, own: bool },
     /// It counts the free units of a type.
-    Counting {
-        call: u64,
-        kind: WorkType,
-    },
+    Counting { call: u64, kind: WorkType },
     Finished,
 }
 

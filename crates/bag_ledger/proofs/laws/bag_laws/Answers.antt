@@ -15,11 +15,12 @@ returns-clause-legal_run c = λ config ledger.
     (λ run. none_found (start config) run.0 0 ledger run.1, run_from (start config) 0 ledger)
 
 pub returns-clause-first_place : goal.returns-clause-first_place
-returns-clause-first_place c = λ config ledger place.
-    (λ first. is_found (start config) 0 place ledger first ∙ ap Some (omega arith),
-    λ found. let is = found_is (start config) 0 place ledger found in
+returns-clause-first_place c = λ config ledger place. (
+  λ first. is_found (start config) 0 place ledger first ∙ ap Some (omega arith),
+  λ found. let is = found_is (start config) 0 place ledger found in
       let same : place ≡ is.0 = omega (arith, is.1) in
-      rw same is.2)
+      rw same is.2,
+)
 
 pub returns-clause-within_limit : goal.returns-clause-within_limit
 returns-clause-within_limit c = λ config ledger last run server.
