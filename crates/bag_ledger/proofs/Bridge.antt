@@ -1,11 +1,11 @@
 -- The function and the relation are the same step.
-use Rattle.std.proofs.Common.{◌≡◌, ◌↔◌, Bool, true, false, ◌&&◌, Option, Some, None, refl, sym}
+use Rattle.std.proofs.Common.{◌≡◌, Bool, true, false, ◌&&◌, Some, None, refl}
 use Rattle.std.specs.Prelude.{if◌then◌else◌}
 use Rattle.std.proofs.lemmas.Bool.{and_parts, and_from}
 use Rattle.bag_ledger.specs.declared.entries.Entry.{Entry}
 use Rattle.bag_ledger.specs.declared.entries.Entry.TheVariants.{Putting, Refused, Accepted, Rejected, Keeping, Kept, Closing, Closed, Freed, Asked, Tried, Granted, Looked, NoCurrent, Fetching, Fetched, CommonFetched, Promised, Left, Arrived, Withdrawn, Counting, Counted, Done, Exhausted, Over, Finished}
 use Rattle.bag_ledger.specs.Bag.{Bag}
-use Rattle.bag_ledger.specs.Steps.{Legal, Steps, in_turn, after}
+use Rattle.bag_ledger.specs.Steps.{Steps, in_turn, after}
 use Rattle.bag_ledger.specs.Step.{legal, step}
 use Rattle.bag_ledger.proofs.Tests.{IsTest}
 use Rattle.bag_ledger.proofs.Puts.{putting_test, refused_test, accepted_test, rejected_test}

@@ -1,9 +1,8 @@
 -- The charge of each server stays within the limit.
-use Rattle.std.proofs.Common.{◌≡◌, ℕ, ◌+◌, ◌≤◌, ◌⊎◌, inl, inr, Bool, true, false, ◌&&◌, not, ◌==◌, List, ◌∷◌, [], ◌++◌, length, sum_by, Option, Some, None, refl, sym, ap, ◌∙◌, subst, arith}
+use Rattle.std.proofs.Common.{◌≡◌, ℕ, ◌+◌, ◌≤◌, ◌⊎◌, inl, inr, Bool, true, false, ◌&&◌, ◌==◌, List, ◌∷◌, [], ◌++◌, length, Option, Some, None, refl, sym, ap, ◌∙◌, subst, arith}
 use Rattle.std.specs.Prelude.{if◌then◌else◌, option_and_then}
 use Rattle.std.proofs.lemmas.List.Sums.{sum_by_push}
 use Rattle.std.proofs.lemmas.Bool.{and_parts}
-use Rattle.adlb_unit.specs.declared.names.Rank.{Rank}
 use Rattle.adlb_unit.specs.declared.names.Server.{Server}
 use Rattle.adlb_unit.specs.declared.names.UnitId.{UnitId}
 use Rattle.adlb_unit.specs.declared.names.BatchId.{BatchId}
@@ -17,9 +16,8 @@ use Rattle.bag_ledger.specs.declared.states.Part.{Part}
 use Rattle.bag_ledger.specs.declared.states.Promise.{Promise}
 use Rattle.bag_ledger.specs.declared.states.UnitPlace.{UnitPlace}
 use Rattle.bag_ledger.specs.declared.states.UnitPlace.TheVariants.{Free, Travelling, Pinned, Spent}
-use Rattle.bag_ledger.specs.declared.states.Status.{Status}
 use Rattle.bag_ledger.specs.Bag.{Bag, empty, rank_at, same_unit, same_batch, unit_of, promise_of, is_travelling, unit_charge, part_charge, promise_charge, charge, putting, keeping}
-use Rattle.bag_ledger.specs.Steps.{Fits, Stands, Legal, Steps, after, with_part, moved, unpromised, shared, taken, kept}
+use Rattle.bag_ledger.specs.Steps.{Fits, Stands, Legal, after, with_part, moved, unpromised, shared, taken, kept}
 use Rattle.bag_ledger.specs.Runs.{IsRun}
 use Rattle.bag_ledger.proofs.Tests.{some_is, same_server_is, same_unit_is}
 use Rattle.bag_ledger.proofs.Lookups.{find_before, find_appended, sum_changed, sum_lowered, sum_filtered}

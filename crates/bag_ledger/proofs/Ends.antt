@@ -1,5 +1,5 @@
 -- Counts and ends: where their entries are legal, as tests.
-use Rattle.std.proofs.Common.{◌≡◌, ℕ, ◌%◌, Bool, true, ◌&&◌, not, ◌==◌, Option, Some, None, refl, ap, ◌∙◌}
+use Rattle.std.proofs.Common.{ℕ, ◌%◌, not, Some, refl, ap, ◌∙◌}
 use Rattle.std.specs.Prelude.{is_none}
 use Rattle.std.proofs.lemmas.Bool.{and_parts, and_from, eqb-true, eq-eqb, not-true, not_from_false}
 use Rattle.adlb_unit.specs.declared.names.Rank.{Rank}
@@ -10,7 +10,7 @@ use Rattle.adlb_unit.specs.declared.notes.End.{End}
 use Rattle.bag_ledger.specs.declared.entries.Entry.TheVariants.{Counting, Counted, Done, Exhausted, Over, Finished}
 use Rattle.bag_ledger.specs.declared.states.Status.TheVariants as does
 use Rattle.bag_ledger.specs.Bag.{Bag, info_of, settled}
-use Rattle.bag_ledger.specs.Step.{anything, is_server, same_info}
+use Rattle.bag_ledger.specs.Step.{anything}
 use Rattle.bag_ledger.proofs.Tests.{IsTest, has_is, four, same_number, none_is, counting_is, same_info_is, same_info_from, begins_is, begins_from, server_is, server_from}
 
 pub counting_test : (b : Bag) (rank : Rank) (call : ℕ) (kind : WorkType) → IsTest b (Counting rank call kind)

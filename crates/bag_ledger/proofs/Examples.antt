@@ -1,5 +1,5 @@
 -- Small ledgers, written out.
-use Rattle.std.proofs.Common.{ℕ, pos, List, ◌∷◌, [], Option, Some, None, replicate}
+use Rattle.std.proofs.Common.{ℕ, pos, List, ◌∷◌, [], Some, None, replicate}
 use Rattle.adlb_unit.specs.declared.names.Rank.{Rank}
 use Rattle.adlb_unit.specs.declared.names.Server.{Server}
 use Rattle.adlb_unit.specs.declared.names.WorkType.{WorkType}

@@ -1,12 +1,10 @@
 -- Pushes: where their entries are legal, as tests.
-use Rattle.std.proofs.Common.{◌≡◌, ℕ, ◌+◌, ◌≤◌, Bool, true, ◌&&◌, not, ◌==◌, List, length, Option, Some, None, refl}
-use Rattle.std.specs.Prelude.{is_none}
-use Rattle.std.proofs.lemmas.Bool.{and_parts, and_from, eqb-true, eq-eqb, leb-true, le-leb, not-true, not_from_false}
+use Rattle.std.proofs.Common.{ℕ, ◌+◌, length}
+use Rattle.std.proofs.lemmas.Bool.{and_parts, eqb-true, eq-eqb, leb-true, le-leb, not-true}
 use Rattle.adlb_unit.specs.declared.names.Server.{Server}
 use Rattle.adlb_unit.specs.declared.names.UnitId.{UnitId}
 use Rattle.bag_ledger.specs.declared.entries.Entry.TheVariants.{Promised, Left, Arrived, Withdrawn}
-use Rattle.bag_ledger.specs.Bag.{Bag, charge, promise_of, is_travelling, is_placed_at}
-use Rattle.bag_ledger.specs.Step.{is_server, fits}
+use Rattle.bag_ledger.specs.Bag.{Bag, charge, promise_of}
 use Rattle.bag_ledger.proofs.Tests.{IsTest, has_is, three, four, same_number, same_server_is, same_server_from, none_is, free_is, travelling_is, server_is, server_from}
 
 pub promised_test : (b : Bag) (server : Server) (id : UnitId) (n : ℕ) → IsTest b (Promised server id n)

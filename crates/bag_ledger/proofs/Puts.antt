@@ -1,16 +1,15 @@
 -- Puts: where their entries are legal, as tests.
-use Rattle.std.proofs.Common.{◌≡◌, ℕ, ◌+◌, ◌<◌, ◌≤◌, ℤ, Bool, true, ◌&&◌, not, ◌==◌, List, length, Option, Some, refl, ap, ◌∙◌}
-use Rattle.std.specs.Prelude.{nat_lt, nat_le}
-use Rattle.std.proofs.lemmas.Bool.{and_parts, and_from, eqb-true, eq-eqb, ltb-true, lt-ltb, leb-true, le-leb, not-true, not_from_false}
+use Rattle.std.proofs.Common.{ℕ, ◌+◌, ℤ, List, length, Option, Some, refl, ap, ◌∙◌}
+use Rattle.std.proofs.lemmas.Bool.{and_parts, eqb-true, eq-eqb, ltb-true, lt-ltb, leb-true, le-leb, not-true}
 use Rattle.adlb_unit.specs.declared.names.Rank.{Rank}
 use Rattle.adlb_unit.specs.declared.names.Server.{Server}
 use Rattle.adlb_unit.specs.declared.names.WorkType.{WorkType}
 use Rattle.adlb_unit.specs.declared.names.Target.{Target}
 use Rattle.adlb_unit.specs.declared.names.UnitId.{UnitId}
 use Rattle.bag_ledger.specs.declared.entries.Entry.TheVariants.{Putting, Refused, Accepted, Rejected}
-use Rattle.bag_ledger.specs.Bag.{Bag, same_unit, charge, has_declined, all_declined}
-use Rattle.bag_ledger.specs.Step.{anything, is_server, fits}
-use Rattle.bag_ledger.proofs.Tests.{IsTest, has_is, has_from, three, four, same_unit_is, same_unit_from, same_number, putting_is, begins_is, begins_from, server_is, server_from}
+use Rattle.bag_ledger.specs.Bag.{Bag, charge}
+use Rattle.bag_ledger.specs.Step.{anything}
+use Rattle.bag_ledger.proofs.Tests.{IsTest, has_is, four, same_unit_is, same_unit_from, same_number, putting_is, begins_is, begins_from, server_is, server_from}
 
 pub putting_test : (b : Bag) (rank : Rank) (call : ℕ) (kind : WorkType) (prio : ℤ) (target : Target) (answer : Option Rank) (body : List ℕ) → IsTest b (Putting rank call kind prio target answer body)
 putting_test b rank call kind prio target answer body =

@@ -1,10 +1,8 @@
 -- The small ledgers, computed: which are legal, and what the ranks say in them.
-use Rattle.std.proofs.Common.{◌≡◌, ℕ, pos, List, ◌∷◌, [], Option, Some, None, refl, ◌++◌}
+use Rattle.std.proofs.Common.{◌≡◌, ℕ, pos, List, ◌∷◌, [], Some, None, refl, ◌++◌}
 use Rattle.std.specs.Prelude.{insert, remove}
-use Rattle.adlb_unit.specs.declared.names.CommonRef.{CommonRef}
 use Rattle.adlb_unit.specs.declared.names.Target.TheVariants.{Any}
 use Rattle.adlb_unit.specs.declared.notes.End.TheVariants as ends_by
-use Rattle.bag_ledger.specs.declared.entries.Entry.{Entry}
 use Rattle.bag_ledger.specs.declared.entries.Entry.TheVariants.{Granted, Exhausted}
 use Rattle.bag_ledger.specs.declared.entries.Call.{Call}
 use Rattle.bag_ledger.specs.declared.entries.Call.TheVariants as calls_to

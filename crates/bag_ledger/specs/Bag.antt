@@ -1,5 +1,5 @@
 -- The bag: what it keeps, and what is read off it.
-use Rattle.std.specs.Prelude.{ℕ, ◌+◌, ◌==◌, ℤ, int_le, Bool, true, false, ◌&&◌, not, List, [], ◌∷◌, length, map, filter, find, fold, replicate, sum_by, count_by, Option, Some, None, option_and_then, option_map, if◌then◌else◌, slice_get}
+use Rattle.std.specs.Prelude.{ℕ, ◌+◌, ◌==◌, ℤ, int_le, Bool, true, false, ◌&&◌, not, List, [], ◌∷◌, length, map, filter, find, fold, replicate, sum_by, count_by, Option, Some, None, if◌then◌else◌, slice_get}
 use Rattle.std.specs.List.{list_any, list_all, range_with_len}
 use Rattle.std.specs.Int.{int_max}
 use Rattle.adlb_unit.specs.declared.configs.Config.{Config}
@@ -16,7 +16,7 @@ use Rattle.bag_ledger.specs.declared.states.Placed.{Placed}
 use Rattle.bag_ledger.specs.declared.states.Part.{Part}
 use Rattle.bag_ledger.specs.declared.states.Promise.{Promise}
 use Rattle.bag_ledger.specs.declared.states.UnitPlace.{UnitPlace}
-use Rattle.bag_ledger.specs.declared.states.UnitPlace.TheVariants.{Free, Travelling, Pinned, Spent}
+use Rattle.bag_ledger.specs.declared.states.UnitPlace.TheVariants.{Free, Travelling, Pinned}
 use Rattle.bag_ledger.specs.declared.states.Status.{Status}
 use Rattle.bag_ledger.specs.declared.states.Status.TheVariants as does
 

@@ -1,6 +1,5 @@
-use Rattle.std.proofs.Common.{◌≡◌, ◌≤◌, ◌∙◌, ap, arith, refl, Some}
+use Rattle.std.proofs.Common.{◌≡◌, ◌∙◌, ap, arith, Some}
 use Rattle.bag_ledger.specs.Bag.{start}
-use Rattle.bag_ledger.specs.Runs.{IsFirstIllegal}
 use Rattle.bag_ledger.proofs.Bridge.{row_is, is_row}
 use Rattle.bag_ledger.proofs.Charge.{run_within, run_limit, start_within, start_tracked}
 use Rattle.bag_ledger.proofs.Legal.{run_from, none_found, found_is, is_found}
