@@ -12,5 +12,7 @@ mod Once
 mod Pushes
 mod Puts
 mod Reserves
+mod Taken
 mod Tests
+mod Turns
 mod Worked

@@ -38,7 +38,16 @@ fresh = record { status = does.Running; declined = []; next = 0; batch = None; e
 
 -- the bag at the start, of so many ranks and servers with this limit
 abbrev pub empty : ℕ → ℕ → ℕ → Bag
-empty ranks servers limit = record { ranks = replicate ranks fresh; units = []; parts = []; promises = []; done = false; exhausted = false; servers = servers; limit = limit }
+empty ranks servers limit = record {
+  ranks = replicate ranks fresh;
+  units = [];
+  parts = [];
+  promises = [];
+  done = false;
+  exhausted = false;
+  servers = servers;
+  limit = limit;
+}
 
 abbrev pub start : Config → Bag
 start config = empty config.ranks config.servers config.limit
@@ -97,7 +106,8 @@ promise_charge server p = if p.server.0 == server.0 then p.length else 0
 -- the own bytes of the units free or pinned at the server, the bytes of the parts there that are not freed, and the bytes
 -- promised there
 abbrev pub charge : Bag → Server → ℕ
-charge b server = sum_by (unit_charge server) b.units + sum_by (part_charge server) b.parts + sum_by (promise_charge server) b.promises
+charge b server =
+    sum_by (unit_charge server) b.units + sum_by (part_charge server) b.parts + sum_by (promise_charge server) b.promises
 
 -- Pending calls.
 
@@ -148,7 +158,8 @@ has_due b = list_any is_due b.parts
 
 -- a unit free at the server is permitted to the rank with these types
 abbrev pub has_fit_at : Bag → Server → Rank → Option (List WorkType) → Bool
-has_fit_at b server rank types = list_any (λ u. is_free_at server u.place && permitted rank types u.unit.kind u.unit.target) b.units
+has_fit_at b server rank types =
+    list_any (λ u. is_free_at server u.place && permitted rank types u.unit.kind u.unit.target) b.units
 
 abbrev pub is_asking : Status → Bool
 is_asking (does.Asking call types) = true
@@ -161,27 +172,33 @@ is_asking_or_finished _ = false
 
 -- the rank asks, and a unit free at any server is permitted to it
 abbrev pub has_fit : List Placed → Rank → Status → Bool
-has_fit units rank (does.Asking call types) = list_any (λ u. is_free u.place && permitted rank types u.unit.kind u.unit.target) units
+has_fit units rank (does.Asking call types) =
+    list_any (λ u. is_free u.place && permitted rank types u.unit.kind u.unit.target) units
 has_fit units rank _ = false
 
 -- none of these ranks, of which the first has this number, has a fit
 abbrev pub none_fits : List Placed → ℕ → List RankState → Bool
 none_fits units number [] = true
-none_fits units number (r ∷ rs) = not (has_fit units (record { 0 = number }) r.status) && none_fits units (number + 1) rs
+none_fits units number (r ∷ rs) =
+    not (has_fit units (record { 0 = number }) r.status) && none_fits units (number + 1) rs
 
 -- each rank asks or has finished, some rank asks, no promise stands, no unit travels, and no free unit is permitted to a rank
 -- that asks
 abbrev pub settled : Bag → Bool
 settled b =
-    list_all (λ r. is_asking_or_finished r.status) b.ranks && list_any (λ r. is_asking r.status) b.ranks && (length b.promises == 0)
-    && not (list_any (λ u. is_travelling u.place) b.units) && none_fits b.units 0 b.ranks
+    list_all (λ r. is_asking_or_finished r.status) b.ranks && list_any (λ r. is_asking r.status) b.ranks
+    && (length b.promises == 0) && not (list_any (λ u. is_travelling u.place) b.units) && none_fits b.units 0 b.ranks
 
 -- What is counted.
 
 -- of units with these priorities: how many, the highest priority, and how many have it
 abbrev pub info_of_prios : List ℤ → Info
 info_of_prios [] = record { free = 0; top = None; at_top = 0 }
-info_of_prios (p ∷ ps) = record { free = length (p ∷ ps); top = Some (fold int_max p ps); at_top = count_by (int_le (fold int_max p ps)) (p ∷ ps) }
+info_of_prios (p ∷ ps) = record {
+  free = length (p ∷ ps);
+  top = Some (fold int_max p ps);
+  at_top = count_by (int_le (fold int_max p ps)) (p ∷ ps);
+}
 
 -- the units of the type that are free at the server
 abbrev pub free_of_kind : Bag → Server → WorkType → List Placed

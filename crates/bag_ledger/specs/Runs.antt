@@ -9,7 +9,7 @@ use Rattle.adlb_unit.specs.declared.names.CommonRef.{CommonRef}
 use Rattle.adlb_unit.specs.declared.notes.UnitNote.{UnitNote}
 use Rattle.adlb_unit.specs.declared.units.Unit.{Unit}
 use Rattle.bag_ledger.specs.declared.entries.Entry.{Entry}
-use Rattle.bag_ledger.specs.declared.entries.Entry.TheVariants.{Accepted, Rejected, Kept, Closed, Granted, NoCurrent, Fetched, CommonFetched, Counted, Done, Over, Finished}
+use Rattle.bag_ledger.specs.declared.entries.Entry.TheVariants.{Putting, Accepted, Rejected, Kept, Closed, Granted, NoCurrent, Fetched, CommonFetched, Counted, Done, Over, Finished}
 use Rattle.bag_ledger.specs.declared.entries.Call.{Call}
 use Rattle.bag_ledger.specs.declared.entries.Call.TheVariants as calls_to
 use Rattle.bag_ledger.specs.declared.entries.Answer.{Answer}
@@ -33,7 +33,8 @@ IsLegal config ledger = (last : Bag) × IsRun (start config) ledger last
 -- the entries before this place are steps from b, and the one at this place is none
 abbrev pub IsFirstIllegal : Bag → List Entry → ℕ → Type 0
 IsFirstIllegal b ledger place =
-    (before : Bag) × (e : Entry) × IsRun b (take place ledger) before × (slice_get ledger place ≡ Some e) × ((next : Bag) → ¬ Steps before e next)
+    (before : Bag) × (e : Entry) × IsRun b (take place ledger) before × (slice_get ledger place ≡ Some e)
+    × ((next : Bag) → ¬ Steps before e next)
 
 -- the place of the first entry that is no step, counted from this number, as a function
 abbrev pub first_after : (Bag → Option ℕ) → ℕ → Option Bag → Option ℕ
@@ -44,7 +45,15 @@ abbrev pub first_illegal : Bag → ℕ → List Entry → Option ℕ
 first_illegal b place [] = None
 first_illegal b place (e ∷ es) = first_after (λ next. first_illegal next (place + 1) es) place (step b e)
 
--- the entry grants the unit, or gives its own bytes
+-- the entry puts the unit, accepts it, grants it, or gives its own bytes
+abbrev pub puts : UnitId → Entry → Bool
+puts id (Putting rank call kind prio target answer body) = same_unit (record { rank = rank; number = call }) id
+puts id _ = false
+
+abbrev pub accepts : UnitId → Entry → Bool
+accepts id (Accepted server accepted) = same_unit accepted id
+accepts id _ = false
+
 abbrev pub grants : UnitId → Entry → Bool
 grants id (Granted server rank call granted) = same_unit granted id
 grants id _ = false
@@ -66,10 +75,19 @@ call_of _ = None
 
 -- the rank's pending call with this answer
 abbrev pub answered : Bag → Rank → Answer → Option (Rank × Said)
-answered b rank answer = option_and_then (λ r. option_map (λ call. (rank, record { call = call; answer = answer })) (call_of r.status)) (rank_at b rank)
+answered b rank answer =
+    option_and_then (λ r. option_map (λ call. (rank, record { call = call; answer = answer })) (call_of r.status)) (rank_at b rank)
 
 abbrev pub note_of : Server → Unit → UnitNote
-note_of server u = record { id = u.id; kind = u.kind; prio = u.prio; answer = u.answer; server = server; common = u.common; length = length u.body }
+note_of server u = record {
+  id = u.id;
+  kind = u.kind;
+  prio = u.prio;
+  answer = u.answer;
+  server = server;
+  common = u.common;
+  length = length u.body;
+}
 
 -- own bytes end a fetch where there is no common part
 abbrev pub own_answer : Option CommonRef → List ℕ → Option Answer
@@ -78,7 +96,8 @@ own_answer (Some common) body = None
 
 -- else the common bytes do: a body is the common bytes and then the own ones
 abbrev pub common_answer : Bag → BatchId → Status → Option Answer
-common_answer b batch (does.Fetching call id own) = option_and_then (λ p. option_map (λ u. answers.Body (p.common ++ u.unit.body)) (unit_of b id)) (part_of b batch)
+common_answer b batch (does.Fetching call id own) =
+    option_and_then (λ p. option_map (λ u. answers.Body (p.common ++ u.unit.body)) (unit_of b id)) (part_of b batch)
 common_answer b batch _ = None
 
 -- the call that the entry ends, with its rank and its answer
@@ -87,10 +106,13 @@ says b (Accepted server id) = answered b id.rank answers.Fine
 says b (Rejected rank call) = answered b rank answers.Rejected
 says b (Kept server batch) = answered b batch.rank answers.Fine
 says b (Closed server batch) = answered b batch.rank answers.Fine
-says b (Granted server rank call id) = option_and_then (λ u. answered b rank (answers.Granted (note_of server u.unit))) (unit_of b id)
+says b (Granted server rank call id) =
+    option_and_then (λ u. answered b rank (answers.Granted (note_of server u.unit))) (unit_of b id)
 says b (NoCurrent rank call) = answered b rank answers.NoCurrent
-says b (Fetched server rank id) = option_and_then (λ u. option_and_then (answered b rank) (own_answer u.unit.common u.unit.body)) (unit_of b id)
-says b (CommonFetched server rank batch) = option_and_then (λ r. option_and_then (answered b rank) (common_answer b batch r.status)) (rank_at b rank)
+says b (Fetched server rank id) =
+    option_and_then (λ u. option_and_then (answered b rank) (own_answer u.unit.common u.unit.body)) (unit_of b id)
+says b (CommonFetched server rank batch) =
+    option_and_then (λ r. option_and_then (answered b rank) (common_answer b batch r.status)) (rank_at b rank)
 says b (Counted server rank call info) = answered b rank (answers.Info info)
 says b (Done rank call) = Some (rank, record { call = calls_to.SetDone; answer = answers.Fine })
 says b (Over rank call end) = answered b rank (answers.Ended end)

@@ -86,28 +86,52 @@ anything r = true
 
 abbrev pub legal : Bag → Entry → Bool
 legal b (Putting rank call kind prio target answer body) = begins b rank call anything
-legal b (Refused server id used) = has (rank_at b id.rank) (λ r. has (offer r.status) (λ o. (o.0 == id.number) && is_server b server && not (has_declined r server) && (used == charge b server) && nat_lt b.limit (used + o.1)))
-legal b (Accepted server id) = has (rank_at b id.rank) (λ r. has (putting r.status) (λ u. same_unit u.id id && is_server b server && not (has_declined r server) && fits b server (length u.body)))
+legal b (Refused server id used) =
+    has (rank_at b id.rank) (λ r. has (offer r.status) (λ o. (o.0 == id.number) && is_server b server
+    && not (has_declined r server) && (used == charge b server) && nat_lt b.limit (used + o.1)))
+legal b (Accepted server id) =
+    has (rank_at b id.rank) (λ r. has (putting r.status) (λ u. same_unit u.id id && is_server b server
+    && not (has_declined r server) && fits b server (length u.body)))
 legal b (Rejected rank call) = has (rank_at b rank) (λ r. has (offer r.status) (λ o. (o.0 == call) && all_declined b r))
 legal b (Keeping rank call common) = begins b rank call (λ r. is_none r.batch)
-legal b (Kept server batch) = has (rank_at b batch.rank) (λ r. has (keeping r.status) (λ k. (k.0 == batch.number) && is_server b server && not (has_declined r server) && fits b server (length k.1)))
+legal b (Kept server batch) =
+    has (rank_at b batch.rank) (λ r. has (keeping r.status) (λ k. (k.0 == batch.number) && is_server b server
+    && not (has_declined r server) && fits b server (length k.1)))
 legal b (Closing rank call) = begins b rank call (λ r. not (is_none r.batch))
-legal b (Closed server batch) = has (rank_at b batch.rank) (λ r. is_closing r.status && is_of batch r.batch) && keeps b server batch (λ p. true)
+legal b (Closed server batch) =
+    has (rank_at b batch.rank) (λ r. is_closing r.status && is_of batch r.batch) && keeps b server batch (λ p. true)
 legal b (Freed server batch) = keeps b server batch is_due
 legal b (Asked rank call types) = begins b rank call anything
 legal b (Tried rank call types) = begins b rank call anything
-legal b (Granted server rank call id) = has (rank_at b rank) (λ r. has (wish r.status) (λ w. (w.0 == call) && is_server b server && has (unit_of b id) (λ u. is_free_at server u.place && permitted rank w.1 u.unit.kind u.unit.target)))
-legal b (Looked server rank call) = has (rank_at b rank) (λ r. has (trying r.status) (λ w. (w.0 == call) && is_server b server && not (has_fit_at b server rank w.1)))
-legal b (NoCurrent rank call) = has (rank_at b rank) (λ r. has (trying r.status) (λ w. (w.0 == call) && all_declined b r))
+legal b (Granted server rank call id) =
+    has (rank_at b rank) (λ r. has (wish r.status) (λ w. (w.0 == call) && is_server b server
+    && has (unit_of b id) (λ u. is_free_at server u.place && permitted rank w.1 u.unit.kind u.unit.target)))
+legal b (Looked server rank call) =
+    has (rank_at b rank) (λ r. has (trying r.status) (λ w. (w.0 == call) && is_server b server
+    && not (has_fit_at b server rank w.1)))
+legal b (NoCurrent rank call) =
+    has (rank_at b rank) (λ r. has (trying r.status) (λ w. (w.0 == call) && all_declined b r))
 legal b (Fetching rank call id) = begins b rank call anything && has (unit_of b id) (λ u. is_pinned_to rank u.place)
-legal b (Fetched server rank id) = has (rank_at b rank) (λ r. has (fetching r.status) (λ f. same_unit f.0 id && not f.1)) && is_server b server && has (unit_of b id) (λ u. is_pinned server rank u.place)
-legal b (CommonFetched server rank batch) = has (rank_at b rank) (λ r. has (fetching r.status) (λ f. f.1 && has (unit_of b f.0) (λ u. is_of batch u.unit.common))) && keeps b server batch (λ p. true)
-legal b (Promised server id n) = has (unit_of b id) (λ u. (length u.unit.body == n) && is_server b server && not (is_travelling u.place) && not (is_placed_at server u.place) && is_none (promise_of b id) && fits b server n)
-legal b (Left server to id) = has (unit_of b id) (λ u. is_free_at server u.place) && is_server b server && is_server b to && has (promise_of b id) (λ p. p.server.0 == to.0)
+legal b (Fetched server rank id) =
+    has (rank_at b rank) (λ r. has (fetching r.status) (λ f. same_unit f.0 id && not f.1)) && is_server b server
+    && has (unit_of b id) (λ u. is_pinned server rank u.place)
+legal b (CommonFetched server rank batch) =
+    has (rank_at b rank) (λ r. has (fetching r.status) (λ f. f.1 && has (unit_of b f.0) (λ u. is_of batch u.unit.common)))
+    && keeps b server batch (λ p. true)
+legal b (Promised server id n) =
+    has (unit_of b id) (λ u. (length u.unit.body == n) && is_server b server && not (is_travelling u.place)
+    && not (is_placed_at server u.place) && is_none (promise_of b id) && fits b server n)
+legal b (Left server to id) =
+    has (unit_of b id) (λ u. is_free_at server u.place) && is_server b server && is_server b to
+    && has (promise_of b id) (λ p. p.server.0 == to.0)
 legal b (Arrived server id) = has (unit_of b id) (λ u. is_travelling_to server u.place) && is_server b server
-legal b (Withdrawn server id) = has (unit_of b id) (λ u. not (is_travelling u.place)) && is_server b server && has (promise_of b id) (λ p. p.server.0 == server.0)
+legal b (Withdrawn server id) =
+    has (unit_of b id) (λ u. not (is_travelling u.place)) && is_server b server
+    && has (promise_of b id) (λ p. p.server.0 == server.0)
 legal b (Counting rank call kind) = begins b rank call anything
-legal b (Counted server rank call info) = has (rank_at b rank) (λ r. has (counting r.status) (λ c. (c.0 == call) && is_server b server && (server.0 == (rank.0 % b.servers)) && same_info info (info_of b server c.1)))
+legal b (Counted server rank call info) =
+    has (rank_at b rank) (λ r. has (counting r.status) (λ c. (c.0 == call) && is_server b server
+    && (server.0 == (rank.0 % b.servers)) && same_info info (info_of b server c.1)))
 legal b (Done rank call) = begins b rank call anything
 legal b Exhausted = settled b && not b.exhausted
 legal b (Over rank call end) = has (rank_at b rank) (λ r. has (open_call r.status) (λ c. c == call)) && has_cause b end

@@ -194,7 +194,17 @@ abbrev pub kept : Server → BatchId → Option (ℕ × List ℕ) → Bag → Ba
 kept server batch None b = b
 kept server batch (Some (call, common)) b =
     with_rank batch.rank (λ r. ended (record r { batch = Some (record { batch = batch; server = server; length = length common }) }))
-    (record b { parts = b.parts ++ record { batch = batch; server = server; common = common; accepted = 0; fetched = 0; closed = false; freed = false } ∷ [] })
+    (record b {
+      parts = b.parts ++ record {
+        batch = batch;
+        server = server;
+        common = common;
+        accepted = 0;
+        fetched = 0;
+        closed = false;
+        freed = false;
+      } ∷ [];
+    })
 
 abbrev pub own_came : Status → Status
 own_came (does.Fetching call id own) = does.Fetching call id true
@@ -208,14 +218,25 @@ own_fetched (Some common) r = record r { status = own_came r.status }
 -- the bag after each entry
 abbrev pub after : Bag → Entry → Bag
 after b (Putting rank call kind prio target answer body) =
-    with_rank rank (λ r. begun (does.Putting (record { id = record { rank = rank; number = call }; kind = kind; prio = prio; target = target; answer = answer; common = r.batch; body = body })) r) b
+    with_rank rank (λ r. begun (does.Putting (record {
+      id = record { rank = rank; number = call };
+      kind = kind;
+      prio = prio;
+      target = target;
+      answer = answer;
+      common = r.batch;
+      body = body;
+    })) r) b
 after b (Refused server id used) = with_rank id.rank (declined_by server) b
-after b (Accepted server id) = with_rank id.rank ended (taken server (option_and_then (λ r. putting r.status) (rank_at b id.rank)) b)
+after b (Accepted server id) =
+    with_rank id.rank ended (taken server (option_and_then (λ r. putting r.status) (rank_at b id.rank)) b)
 after b (Rejected rank call) = with_rank rank ended b
 after b (Keeping rank call common) = with_rank rank (begun (does.Keeping call common)) b
-after b (Kept server batch) = kept server batch (option_and_then (λ r. keeping r.status) (rank_at b batch.rank)) b
+after b (Kept server batch) =
+    kept server batch (option_and_then (λ r. keeping r.status) (rank_at b batch.rank)) b
 after b (Closing rank call) = with_rank rank (begun (does.Closing call)) b
-after b (Closed server batch) = with_rank batch.rank (λ r. ended (record r { batch = None })) (with_part batch (λ p. record p { closed = true }) b)
+after b (Closed server batch) =
+    with_rank batch.rank (λ r. ended (record r { batch = None })) (with_part batch (λ p. record p { closed = true }) b)
 after b (Freed server batch) = with_part batch (λ p. record p { freed = true }) b
 after b (Asked rank call types) = with_rank rank (begun (does.Asking call types)) b
 after b (Tried rank call types) = with_rank rank (begun (does.Trying call types)) b
@@ -223,9 +244,12 @@ after b (Granted server rank call id) = with_rank rank ended (moved id (Pinned s
 after b (Looked server rank call) = with_rank rank (declined_by server) b
 after b (NoCurrent rank call) = with_rank rank ended b
 after b (Fetching rank call id) = with_rank rank (begun (does.Fetching call id false)) b
-after b (Fetched server rank id) = with_rank rank (own_fetched (option_and_then (λ u. u.unit.common) (unit_of b id))) (moved id Spent b)
-after b (CommonFetched server rank batch) = with_rank rank ended (with_part batch (λ p. record p { fetched = p.fetched + 1 }) b)
-after b (Promised server id n) = record b { promises = b.promises ++ record { server = server; id = id; length = n } ∷ [] }
+after b (Fetched server rank id) =
+    with_rank rank (own_fetched (option_and_then (λ u. u.unit.common) (unit_of b id))) (moved id Spent b)
+after b (CommonFetched server rank batch) =
+    with_rank rank ended (with_part batch (λ p. record p { fetched = p.fetched + 1 }) b)
+after b (Promised server id n) =
+    record b { promises = b.promises ++ record { server = server; id = id; length = n } ∷ [] }
 after b (Left server to id) = moved id (Travelling to) b
 after b (Arrived server id) = unpromised id (moved id (Free server) b)
 after b (Withdrawn server id) = unpromised id b

@@ -3,7 +3,7 @@ use Rattle.bag_ledger.specs.Bag.{start}
 use Rattle.bag_ledger.proofs.Bridge.{row_is, is_row}
 use Rattle.bag_ledger.proofs.Charge.{run_within, run_limit, start_within, start_tracked}
 use Rattle.bag_ledger.proofs.Legal.{run_from, none_found, found_is, is_found}
-use Rattle.bag_ledger.proofs.Once as once
+use Rattle.bag_ledger.proofs.Taken as once
 use Rattle.bag_ledger.proofs.laws.bag_laws.Goals as goal
 
 pub returns-clause-same_step : goal.returns-clause-same_step
