@@ -1,3 +1,4 @@
+mod Accepted
 mod Batches
 mod Bridge
 mod Charge

@@ -99,7 +99,7 @@ shared_ranks : (common : Option CommonRef) (b : Bag) → (shared common b).ranks
 shared_ranks None b = refl
 shared_ranks (Some common) b = refl
 
-taken_ranks : (server : Server) (o : Option Unit) (b : Bag) → (taken server o b).ranks ≡ b.ranks
+pub taken_ranks : (server : Server) (o : Option Unit) (b : Bag) → (taken server o b).ranks ≡ b.ranks
 taken_ranks server None b = refl
 taken_ranks server (Some u) b = shared_ranks u.common (record b { units = _ })
 

@@ -2,8 +2,9 @@ use Rattle.std.proofs.Common.{◌≡◌, ◌∙◌, ap, arith, Some}
 use Rattle.bag_ledger.specs.Bag.{start}
 use Rattle.bag_ledger.proofs.Bridge.{row_is, is_row}
 use Rattle.bag_ledger.proofs.Charge.{run_within, run_limit, start_within, start_tracked}
-use Rattle.bag_ledger.proofs.Legal.{run_from, none_found, found_is, is_found}
-use Rattle.bag_ledger.proofs.Taken as once
+use Rattle.bag_ledger.proofs.Legal.{run_from, none_found, found_is, is_found, run_split}
+use Rattle.bag_ledger.proofs.Taken.{granted_once, fetched_once}
+use Rattle.bag_ledger.proofs.Accepted.{put_once, accepted_once}
 use Rattle.bag_ledger.proofs.laws.bag_laws.Goals as goal
 
 pub returns-clause-same_step : goal.returns-clause-same_step
@@ -26,8 +27,19 @@ returns-clause-within_limit c = λ config ledger last run server.
     let is = run_within (start config) last ledger run (start_tracked config.ranks config.servers config.limit) (start_within config.ranks config.servers config.limit) server in
     omega (arith, is, run_limit (start config) last ledger run)
 
+pub returns-clause-beginnings : goal.returns-clause-beginnings
+returns-clause-beginnings c = λ config ledger rest run.
+    let s = run_split (start config) run.0 ledger rest run.1 in
+    (s.0, s.1)
+
+pub returns-clause-put_once : goal.returns-clause-put_once
+returns-clause-put_once c = λ config ledger id run. put_once config.ranks config.servers config.limit run.0 ledger run.1 id
+
+pub returns-clause-accepted_once : goal.returns-clause-accepted_once
+returns-clause-accepted_once c = λ config ledger id run. accepted_once config.ranks config.servers config.limit run.0 ledger run.1 id
+
 pub returns-clause-granted_once : goal.returns-clause-granted_once
-returns-clause-granted_once c = λ config ledger id run. once.granted_once (start config) run.0 ledger run.1 id
+returns-clause-granted_once c = λ config ledger id run. granted_once (start config) run.0 ledger run.1 id
 
 pub returns-clause-fetched_once : goal.returns-clause-fetched_once
-returns-clause-fetched_once c = λ config ledger id run. once.fetched_once (start config) run.0 ledger run.1 id
+returns-clause-fetched_once c = λ config ledger id run. fetched_once (start config) run.0 ledger run.1 id
