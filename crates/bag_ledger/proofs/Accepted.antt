@@ -10,7 +10,8 @@ use Rattle.bag_ledger.specs.declared.states.RankState.{RankState}
 use Rattle.bag_ledger.specs.declared.states.Status.TheVariants as does
 use Rattle.bag_ledger.specs.Bag.{Bag, empty, fresh, same_unit, rank_at, putting}
 use Rattle.bag_ledger.specs.Steps.{Legal, after, change_at, begun, ended}
-use Rattle.bag_ledger.specs.Runs.{IsRun, puts, accepts}
+use Rattle.bag_ledger.specs.Runs.{IsRun}
+use Rattle.bag_ledger.specs.Words.{puts, accepts}
 use Rattle.bag_ledger.proofs.Tests.{some_is, same_unit_is}
 use Rattle.bag_ledger.proofs.Turns.{IsTurn, turn, taken_ranks, changed_here, changed_is, changed_keeps}
 use Rattle.bag_ledger.proofs.Once.{at_most_once}

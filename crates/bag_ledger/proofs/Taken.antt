@@ -13,7 +13,8 @@ use Rattle.bag_ledger.specs.declared.states.UnitPlace.{UnitPlace}
 use Rattle.bag_ledger.specs.declared.states.UnitPlace.TheVariants.{Free, Travelling, Pinned, Spent}
 use Rattle.bag_ledger.specs.Bag.{Bag, rank_at, same_unit, unit_of, putting, keeping}
 use Rattle.bag_ledger.specs.Steps.{Legal, after, moved, shared, taken}
-use Rattle.bag_ledger.specs.Runs.{IsRun, grants, fetches}
+use Rattle.bag_ledger.specs.Runs.{IsRun}
+use Rattle.bag_ledger.specs.Words.{grants, fetches}
 use Rattle.bag_ledger.proofs.Tests.{some_is, same_unit_is}
 use Rattle.bag_ledger.proofs.Lookups.{find_before}
 use Rattle.bag_ledger.proofs.Moves.{moved_here, moved_other}

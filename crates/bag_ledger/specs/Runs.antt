@@ -1,15 +1,14 @@
 -- Legal runs, and the calls of a rank in them.
-use Rattle.std.specs.Prelude.{ℕ, Bool, false, ◌+◌, ◌≡◌, ◌==◌, List, [], ◌∷◌, ◌++◌, length, take, Option, Some, None, if◌then◌else◌, slice_get, option_and_then, option_map}
+use Rattle.std.specs.Prelude.{ℕ, ◌+◌, ◌≡◌, ◌==◌, List, [], ◌∷◌, ◌++◌, length, take, Option, Some, None, if◌then◌else◌, slice_get, option_and_then, option_map}
 use Rattle.adlb_unit.specs.declared.configs.Config.{Config}
 use Rattle.adlb_unit.specs.declared.names.Rank.{Rank}
 use Rattle.adlb_unit.specs.declared.names.Server.{Server}
-use Rattle.adlb_unit.specs.declared.names.UnitId.{UnitId}
 use Rattle.adlb_unit.specs.declared.names.BatchId.{BatchId}
 use Rattle.adlb_unit.specs.declared.names.CommonRef.{CommonRef}
 use Rattle.adlb_unit.specs.declared.notes.UnitNote.{UnitNote}
 use Rattle.adlb_unit.specs.declared.units.Unit.{Unit}
 use Rattle.bag_ledger.specs.declared.entries.Entry.{Entry}
-use Rattle.bag_ledger.specs.declared.entries.Entry.TheVariants.{Putting, Accepted, Rejected, Kept, Closed, Granted, NoCurrent, Fetched, CommonFetched, Counted, Done, Over, Finished}
+use Rattle.bag_ledger.specs.declared.entries.Entry.TheVariants.{Accepted, Rejected, Kept, Closed, Granted, NoCurrent, Fetched, CommonFetched, Counted, Done, Over, Finished}
 use Rattle.bag_ledger.specs.declared.entries.Call.{Call}
 use Rattle.bag_ledger.specs.declared.entries.Call.TheVariants as calls_to
 use Rattle.bag_ledger.specs.declared.entries.Answer.{Answer}
@@ -17,7 +16,7 @@ use Rattle.bag_ledger.specs.declared.entries.Answer.TheVariants as answers
 use Rattle.bag_ledger.specs.declared.entries.Said.{Said}
 use Rattle.bag_ledger.specs.declared.states.Status.{Status}
 use Rattle.bag_ledger.specs.declared.states.Status.TheVariants as does
-use Rattle.bag_ledger.specs.Bag.{Bag, start, same_unit, rank_at, unit_of, part_of}
+use Rattle.bag_ledger.specs.Bag.{Bag, start, rank_at, unit_of, part_of}
 use Rattle.bag_ledger.specs.Steps.{Steps}
 use Rattle.bag_ledger.specs.Step.{step}
 
@@ -44,23 +43,6 @@ first_after later place (Some next) = later next
 abbrev pub first_illegal : Bag → ℕ → List Entry → Option ℕ
 first_illegal b place [] = None
 first_illegal b place (e ∷ es) = first_after (λ next. first_illegal next (place + 1) es) place (step b e)
-
--- the entry puts the unit, accepts it, grants it, or gives its own bytes
-abbrev pub puts : UnitId → Entry → Bool
-puts id (Putting rank call kind prio target answer body) = same_unit (record { rank = rank; number = call }) id
-puts id _ = false
-
-abbrev pub accepts : UnitId → Entry → Bool
-accepts id (Accepted server accepted) = same_unit accepted id
-accepts id _ = false
-
-abbrev pub grants : UnitId → Entry → Bool
-grants id (Granted server rank call granted) = same_unit granted id
-grants id _ = false
-
-abbrev pub fetches : UnitId → Entry → Bool
-fetches id (Fetched server rank fetched) = same_unit fetched id
-fetches id _ = false
 
 -- the call that is pending
 abbrev pub call_of : Status → Option Call

@@ -8,7 +8,8 @@ ghost use Rattle.bag_ledger.specs.declared.entries.Entry.{Entry};
 ghost use Rattle.bag_ledger.specs.Bag.{Bag, start, charge};
 ghost use Rattle.bag_ledger.specs.Steps.{Steps};
 ghost use Rattle.bag_ledger.specs.Step.{step};
-ghost use Rattle.bag_ledger.specs.Runs.{IsRun, IsLegal, IsFirstIllegal, first_illegal, puts, accepts, grants, fetches};
+ghost use Rattle.bag_ledger.specs.Runs.{IsRun, IsLegal, IsFirstIllegal, first_illegal};
+ghost use Rattle.bag_ledger.specs.Words.{puts, accepts, grants, fetches};
 
 /// A step as a relation is the one that the function `step` makes (`same_step`). A ledger is legal exactly where
 /// `first_illegal` finds nothing (`legal_run`), and what it finds is the place of the first entry that is no step
