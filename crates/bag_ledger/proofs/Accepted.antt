@@ -20,9 +20,9 @@ use Rattle.bag_ledger.proofs.Once.{at_most_once}
 IsNumbered : List RankState → Type 0
 IsNumbered ranks = (n : ℕ) (r : RankState) (u : Unit) → slice_get ranks n ≡ Some r → r.status ≡ does.Putting u → (u.id.rank.0 ≡ n) × (u.id.number < r.next)
 
-numbered_turn : (before now : List RankState) → IsTurn before now → IsNumbered before → IsNumbered now
+numbered_turn : (before : List RankState) (e : Entry) (now : List RankState) → IsTurn before e now → IsNumbered before → IsNumbered now
 unfolding IsNumbered
-numbered_turn before now t is = λ n v u e puts. by_case n v u puts (changed_is t.f t.place n before v (rw t.changed at e))
+numbered_turn before entry now t is = λ n v u e puts. by_case n v u puts (changed_is t.f t.place n before v (rw t.changed at e))
   where
     by_case : (n : ℕ) (v : RankState) (u : Unit) → v.status ≡ does.Putting u → ((t.place ≡ n) × ((x : RankState) × (slice_get before t.place ≡ Some x) × (v ≡ t.f x))) ⊎ (slice_get before n ≡ Some v) → (u.id.rank.0 ≡ n) × (u.id.number < v.next)
     by_case n v u puts (inl c) =
@@ -50,9 +50,9 @@ named_kept : (b : Bag) (e : Entry) → Legal b e → IsNamed b → IsNamed (afte
 unfolding IsNamed
 named_kept b e l is = by_case (turn b e l)
   where
-    by_case : ((after b e).ranks ≡ b.ranks) ⊎ IsTurn b.ranks (after b e).ranks → IsNumbered (after b e).ranks
+    by_case : ((after b e).ranks ≡ b.ranks) ⊎ IsTurn b.ranks e (after b e).ranks → IsNumbered (after b e).ranks
     by_case (inl same) = rw same is
-    by_case (inr t) = numbered_turn b.ranks (after b e).ranks t is
+    by_case (inr t) = numbered_turn b.ranks e (after b e).ranks t is
 
 -- the rank of the id has used its number
 record IsPast (id : UnitId) (b : Bag) : Type 0 where
@@ -63,7 +63,7 @@ record IsPast (id : UnitId) (b : Bag) : Type 0 where
 past_kept : (id : UnitId) (b : Bag) (e : Entry) → Legal b e → IsPast id b → IsPast id (after b e)
 past_kept id b e l is = by_case (turn b e l)
   where
-    by_case : ((after b e).ranks ≡ b.ranks) ⊎ IsTurn b.ranks (after b e).ranks → IsPast id (after b e)
+    by_case : ((after b e).ranks ≡ b.ranks) ⊎ IsTurn b.ranks e (after b e).ranks → IsPast id (after b e)
     by_case (inl same) = record { state = is.state; there = ap (λ (ranks : List RankState). slice_get ranks id.rank.0) same ∙ is.there; past = is.past }
     by_case (inr t) =
         let s = changed_keeps t.f t.place id.rank.0 b.ranks is.state is.there in
@@ -89,7 +89,7 @@ record IsDone (id : UnitId) (b : Bag) : Type 0 where
 done_kept : (id : UnitId) (b : Bag) (e : Entry) → Legal b e → IsDone id b → IsDone id (after b e)
 done_kept id b e l is = by_case (turn b e l)
   where
-    by_case : ((after b e).ranks ≡ b.ranks) ⊎ IsTurn b.ranks (after b e).ranks → IsDone id (after b e)
+    by_case : ((after b e).ranks ≡ b.ranks) ⊎ IsTurn b.ranks e (after b e).ranks → IsDone id (after b e)
     by_case (inl same) = record { state = is.state; there = ap (λ (ranks : List RankState). slice_get ranks id.rank.0) same ∙ is.there; past = is.past; not_put = is.not_put }
     by_case (inr t) =
         let s = changed_keeps t.f t.place id.rank.0 b.ranks is.state is.there in
@@ -158,7 +158,7 @@ accept_bars id b (Accepted server x) l is =
     is.not_put l.1 (ap (λ (r : RankState). r.status) one ∙ l.3) (l.4 ∙ same))
 accept_bars id b _ l is = refl
 
-fresh_at : (n k : ℕ) (r : RankState) → slice_get (replicate n fresh) k ≡ Some r → r ≡ fresh
+pub fresh_at : (n k : ℕ) (r : RankState) → slice_get (replicate n fresh) k ≡ Some r → r ≡ fresh
 fresh_at zero k r e = absurd (cc)
 fresh_at (suc n) zero r e = sym (some_is e)
 fresh_at (suc n) (suc k) r e = fresh_at n k r e

@@ -5,6 +5,7 @@ mod Charge
 mod Ends
 mod Examples
 mod Fetches
+mod Heard
 mod Legal
 mod Lookups
 mod Moves
