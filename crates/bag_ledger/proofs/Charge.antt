@@ -213,3 +213,26 @@ start_within ranks servers limit s = omega arith
 
 pub start_tracked : (ranks servers limit : ℕ) → IsTracked (empty ranks servers limit)
 start_tracked ranks servers limit = record { measured = λ x p e. absurd (cc); promised = λ x u to s. let none = s.0 in absurd (cc) }
+
+-- The number of servers stays.
+
+shared_servers : (common : Option CommonRef) (b : Bag) → (shared common b).servers ≡ b.servers
+shared_servers None b = refl
+shared_servers (Some common) b = refl
+
+taken_servers : (server : Server) (o : Option Unit) (b : Bag) → (taken server o b).servers ≡ b.servers
+taken_servers server None b = refl
+taken_servers server (Some u) b = shared_servers u.common (record b { units = b.units ++ record { unit = u; place = Free server } ∷ [] })
+
+kept_servers : (server : Server) (batch : BatchId) (o : Option (ℕ × List ℕ)) (b : Bag) → (kept server batch o b).servers ≡ b.servers
+kept_servers server batch None b = refl
+kept_servers server batch (Some (call, common)) b = refl
+
+step_servers : (b : Bag) (e : Entry) → (after b e).servers ≡ b.servers
+step_servers b (Accepted server id) = taken_servers server (option_and_then (λ r. putting r.status) (rank_at b id.rank)) b
+step_servers b (Kept server batch) = kept_servers server batch (option_and_then (λ r. keeping r.status) (rank_at b batch.rank)) b
+step_servers b _ = refl
+
+pub run_servers : (b last : Bag) (es : List Entry) → IsRun b es last → last.servers ≡ b.servers
+run_servers b last [] run = ap (λ (x : Bag). x.servers) (sym run)
+run_servers b last (e ∷ es) run = run_servers run.0 last es run.2 ∙ ap (λ (x : Bag). x.servers) run.1.2 ∙ step_servers b e

@@ -84,16 +84,32 @@ pub record IsTurn (before : List RankState) (e : Entry) (now : List RankState) :
 -- a rank that puts nothing then
 idle : (before : List RankState) (e : Entry) (now : List RankState) (place : ℕ) (f : RankState → RankState) (r : RankState) → slice_get before place ≡ Some r → now ≡ change_at f place before → r.next ≤ (f r).next → ((u : Unit) → (f r).status ≡ does.Putting u → ⊥) → ((s : Server) → has_declined (f r) s ≡ true → (has_declined r s ≡ true) × (is_quiet r.status ≡ true)) → IsTurn before e now
 idle before e now place f r there changed rises never heard = record {
-    place = place; was = r; is = f r; f = f; there = there; changed = changed; made = refl; rises = rises;
-    puts = λ u is. absurd (never u is);
-    heard = λ s is. let h = heard s is in inl (h.0, inr h.1) }
+  place = place;
+  was = r;
+  is = f r;
+  f = f;
+  there = there;
+  changed = changed;
+  made = refl;
+  rises = rises;
+  puts = λ u is. absurd (never u is);
+  heard = λ s is. let h = heard s is in inl (h.0, inr h.1);
+}
 
 -- a rank whose pending call was declined
 waits : (before : List RankState) (e : Entry) (now : List RankState) (place : ℕ) (server : Server) (r : RankState) → slice_get before place ≡ Some r → now ≡ change_at (declined_by server) place before → ((s : Server) → (server.0 == s.0) ≡ true → declines s place r.status e ≡ true) → IsTurn before e now
 waits before e now place server r there changed says = record {
-    place = place; was = r; is = declined_by server r; f = declined_by server; there = there; changed = changed; made = refl;
-    rises = omega arith; puts = λ u is. inl is;
-    heard = λ s is. by_case s (or_cases (has_declined r s) (list_any (λ (x : Server). x.0 == s.0) (server ∷ [])) (sym (list_any-append (λ (x : Server). x.0 == s.0) r.declined (server ∷ [])) ∙ is)) }
+  place = place;
+  was = r;
+  is = declined_by server r;
+  f = declined_by server;
+  there = there;
+  changed = changed;
+  made = refl;
+  rises = omega arith;
+  puts = λ u is. inl is;
+  heard = λ s is. by_case s (or_cases (has_declined r s) (list_any (λ (x : Server). x.0 == s.0) (server ∷ [])) (sym (list_any-append (λ (x : Server). x.0 == s.0) r.declined (server ∷ [])) ∙ is));
+}
   where
     by_case : (s : Server) → (has_declined r s ≡ true) ⊎ (list_any (λ (x : Server). x.0 == s.0) (server ∷ []) ≡ true) → ((has_declined r s ≡ true) × ((r.status ≡ r.status) ⊎ (is_quiet r.status ≡ true))) ⊎ (declines s place r.status e ≡ true)
     by_case s (inl old) = inl (old, inl refl)
