@@ -1,8 +1,8 @@
 -- What a run has to have before a rejection, before the answer that nothing is there, and before an end.
-use Rattle.std.proofs.Common.{◌≡◌, ℕ, zero, suc, ◌+◌, ◌<◌, ◌⊎◌, inl, inr, Bool, true, false, ◌&&◌, ◌||◌, ◌==◌, List, [], ◌∷◌, ◌++◌, length, replicate, Option, Some, None, refl, sym, ap, ◌∙◌, arith, slice_get, add-zero, append-nil, append_assoc}
+use Rattle.std.proofs.Common.{◌≡◌, ℕ, zero, suc, ◌+◌, ◌<◌, ◌⊎◌, inl, inr, Bool, true, false, ◌==◌, List, [], ◌∷◌, ◌++◌, length, Option, Some, None, refl, sym, ap, ◌∙◌, arith, slice_get, add-zero, append-nil, append_assoc}
 use Rattle.std.specs.Prelude.{option_and_then}
 use Rattle.std.specs.List.{list_any, list_all, range_with_len}
-use Rattle.std.proofs.lemmas.Bool.{or_left, or_right, or_cases, and_parts}
+use Rattle.std.proofs.lemmas.Bool.{or_left, or_right, and_parts}
 use Rattle.std.proofs.lemmas.List.Folds.{list_any-append}
 use Rattle.adlb_unit.specs.declared.names.Rank.{Rank}
 use Rattle.adlb_unit.specs.declared.names.Server.{Server}
@@ -16,8 +16,8 @@ use Rattle.bag_ledger.specs.declared.entries.Entry.TheVariants.{Rejected, NoCurr
 use Rattle.bag_ledger.specs.declared.states.RankState.{RankState}
 use Rattle.bag_ledger.specs.declared.states.Status.{Status}
 use Rattle.bag_ledger.specs.declared.states.Status.TheVariants as does
-use Rattle.bag_ledger.specs.Bag.{Bag, empty, fresh, rank_at, putting, keeping, offer, has_declined, all_declined}
-use Rattle.bag_ledger.specs.Steps.{Legal, after, change_at, has_cause, shared, taken, kept}
+use Rattle.bag_ledger.specs.Bag.{Bag, empty, rank_at, putting, keeping, offer, has_declined, all_declined}
+use Rattle.bag_ledger.specs.Steps.{Legal, after, has_cause, shared, taken, kept}
 use Rattle.bag_ledger.specs.Runs.{IsRun}
 use Rattle.bag_ledger.specs.Words.{refuses, looks, causes}
 use Rattle.bag_ledger.proofs.Tests.{some_is}

@@ -49,20 +49,24 @@ empty ranks servers limit = record {
   limit = limit;
 }
 
+-- the bag at the start of a run
 abbrev pub start : Config → Bag
 start config = empty config.ranks config.servers config.limit
 
 -- Look-ups.
 
+-- the ids are the same
 abbrev pub same_unit : UnitId → UnitId → Bool
 same_unit a b = (a.rank.0 == b.rank.0) && (a.number == b.number)
 
 abbrev pub same_batch : BatchId → BatchId → Bool
 same_batch a b = (a.rank.0 == b.rank.0) && (a.number == b.number)
 
+-- the state of the rank, if there is such a rank
 abbrev pub rank_at : Bag → Rank → Option RankState
 rank_at b rank = slice_get b.ranks rank.0
 
+-- the accepted unit, the common part and the promise of this id, if there is one
 abbrev pub unit_of : Bag → UnitId → Option Placed
 unit_of b id = find (λ u. same_unit u.unit.id id) b.units
 
@@ -74,10 +78,12 @@ promise_of b id = find (λ p. same_unit p.id id) b.promises
 
 -- Places.
 
+-- free, at whatever server
 abbrev pub is_free : UnitPlace → Bool
 is_free (Free at) = true
 is_free _ = false
 
+-- free at the server
 abbrev pub is_free_at : Server → UnitPlace → Bool
 is_free_at server (Free at) = at.0 == server.0
 is_free_at server _ = false
@@ -88,12 +94,14 @@ is_placed_at server (Free at) = at.0 == server.0
 is_placed_at server (Pinned at rank) = at.0 == server.0
 is_placed_at server _ = false
 
+-- on the way to a server
 abbrev pub is_travelling : UnitPlace → Bool
 is_travelling (Travelling to) = true
 is_travelling _ = false
 
 -- Charge.
 
+-- what one unit, one part and one promise add to the charge of the server
 abbrev pub unit_charge : Server → Placed → ℕ
 unit_charge server u = if is_placed_at server u.place then length u.unit.body else 0
 
@@ -153,6 +161,7 @@ all_declined b r = list_all (λ k. list_any (λ s. s.0 == k) r.declined) (range_
 abbrev pub is_due : Part → Bool
 is_due p = p.closed && not p.freed && (p.fetched == p.accepted)
 
+-- some part is due
 abbrev pub has_due : Bag → Bool
 has_due b = list_any is_due b.parts
 
@@ -161,6 +170,7 @@ abbrev pub has_fit_at : Bag → Server → Rank → Option (List WorkType) → B
 has_fit_at b server rank types =
     list_any (λ u. is_free_at server u.place && permitted rank types u.unit.kind u.unit.target) b.units
 
+-- the rank asks; it asks or has finished
 abbrev pub is_asking : Status → Bool
 is_asking (does.Asking call types) = true
 is_asking _ = false
@@ -204,5 +214,6 @@ info_of_prios (p ∷ ps) = record {
 abbrev pub free_of_kind : Bag → Server → WorkType → List Placed
 free_of_kind b server kind = filter (λ u. is_free_at server u.place && (u.unit.kind.0 == kind.0)) b.units
 
+-- what a count of the type at the server tells
 abbrev pub info_of : Bag → Server → WorkType → Info
 info_of b server kind = info_of_prios (map (λ u. u.unit.prio) (free_of_kind b server kind))

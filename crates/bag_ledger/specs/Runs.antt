@@ -60,6 +60,7 @@ abbrev pub answered : Bag → Rank → Answer → Option (Rank × Said)
 answered b rank answer =
     option_and_then (λ r. option_map (λ call. (rank, record { call = call; answer = answer })) (call_of r.status)) (rank_at b rank)
 
+-- what the rank that gets the unit learns of it
 abbrev pub note_of : Server → Unit → UnitNote
 note_of server u = record {
   id = u.id;
@@ -115,5 +116,6 @@ abbrev pub calls_from : Bag → List Entry → Rank → List Said
 calls_from b [] rank = []
 calls_from b (e ∷ es) rank = said_by rank (says b e) ++ calls_after (λ next. calls_from next es rank) (step b e)
 
+-- the calls of a rank in a ledger
 abbrev pub calls : Config → List Entry → Rank → List Said
 calls config ledger rank = calls_from (start config) ledger rank

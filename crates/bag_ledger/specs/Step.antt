@@ -25,6 +25,7 @@ abbrev pub has : {X : Type 0} → Option X → (X → Bool) → Bool
 has None test = false
 has (Some x) test = test x
 
+-- what the rank does
 abbrev pub is_running : Status → Bool
 is_running does.Running = true
 is_running _ = false
@@ -33,19 +34,21 @@ abbrev pub is_closing : Status → Bool
 is_closing (does.Closing call) = true
 is_closing _ = false
 
+-- of a try, and of a count: the number of the call, and the types or the type
 abbrev pub trying : Status → Option (ℕ × Option (List WorkType))
 trying (does.Trying call types) = Some (call, types)
 trying _ = None
+
+abbrev pub counting : Status → Option (ℕ × WorkType)
+counting (does.Counting call kind) = Some (call, kind)
+counting _ = None
 
 -- the unit that the rank fetches, and whether its own bytes came
 abbrev pub fetching : Status → Option (UnitId × Bool)
 fetching (does.Fetching call id own) = Some (id, own)
 fetching _ = None
 
-abbrev pub counting : Status → Option (ℕ × WorkType)
-counting (does.Counting call kind) = Some (call, kind)
-counting _ = None
-
+-- pinned to the rank; at the server
 abbrev pub is_pinned_to : Rank → UnitPlace → Bool
 is_pinned_to rank (Pinned server to) = to.0 == rank.0
 is_pinned_to rank _ = false
@@ -54,10 +57,12 @@ abbrev pub is_pinned : Server → Rank → UnitPlace → Bool
 is_pinned server rank (Pinned at to) = (at.0 == server.0) && (to.0 == rank.0)
 is_pinned server rank _ = false
 
+-- on the way to the server
 abbrev pub is_travelling_to : Server → UnitPlace → Bool
 is_travelling_to server (Travelling to) = to.0 == server.0
 is_travelling_to server _ = false
 
+-- the infos are the same
 abbrev pub same_top : Option ℤ → Option ℤ → Bool
 same_top None None = true
 same_top (Some a) (Some b) = int_eq a b
@@ -66,6 +71,7 @@ same_top _ _ = false
 abbrev pub same_info : Info → Info → Bool
 same_info a b = (a.free == b.free) && same_top a.top b.top && (a.at_top == b.at_top)
 
+-- `Begins`, `IsServer`, `Fits` and `Keeps` as tests; the first and the last with a test more
 abbrev pub begins : Bag → Rank → ℕ → (RankState → Bool) → Bool
 begins b rank call test = has (rank_at b rank) (λ r. is_running r.status && (r.next == call) && test r)
 
@@ -78,12 +84,15 @@ fits b server n = nat_le (charge b server + n) b.limit
 abbrev pub keeps : Bag → Server → BatchId → (Part → Bool) → Bool
 keeps b server batch test = is_server b server && has (part_of b batch) (λ p. (p.server.0 == server.0) && not p.freed && test p)
 
+-- the common part is that of the batch
 abbrev pub is_of : BatchId → Option CommonRef → Bool
 is_of batch common = has common (λ c. same_batch c.batch batch)
 
+-- no test more
 abbrev pub anything : RankState → Bool
 anything r = true
 
+-- the entry is legal, but for parts that are due
 abbrev pub legal : Bag → Entry → Bool
 legal b (Putting rank call kind prio target answer body) = begins b rank call anything
 legal b (Refused server id used) =

@@ -1,8 +1,9 @@
 use Rattle.std.proofs.Common.{◌≡◌, ◌<◌, ◌∷◌, ◌∙◌, ap, arith, Some}
 use Rattle.bag_ledger.specs.Bag.{start}
 use Rattle.bag_ledger.proofs.Bridge.{row_is, is_row}
-use Rattle.bag_ledger.proofs.Charge.{run_within, run_limit, run_servers, start_within, start_tracked}
+use Rattle.bag_ledger.proofs.Charge.{run_within, start_within, start_tracked}
 use Rattle.bag_ledger.specs.declared.entries.Entry.TheVariants.{Rejected, NoCurrent, Over}
+use Rattle.bag_ledger.proofs.Fixed.{run_limit, run_servers}
 use Rattle.bag_ledger.proofs.Heard.{rejected_by_all, looked_by_all, over_by_cause}
 use Rattle.bag_ledger.proofs.Legal.{run_from, none_found, found_is, is_found, run_split}
 use Rattle.bag_ledger.proofs.Taken.{granted_once, fetched_once}
