@@ -15,6 +15,7 @@ pub mod Once
 pub mod Pushes
 pub mod Puts
 pub mod Reserves
+pub mod Settled
 pub mod Taken
 pub mod Tests
 pub mod Turns

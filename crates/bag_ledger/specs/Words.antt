@@ -1,5 +1,6 @@
--- Words of the laws: what an entry does to a unit or to a call.
-use Rattle.std.specs.Prelude.{ℕ, Bool, true, false, ◌&&◌, ◌==◌}
+-- Words of the laws: what an entry does to a unit or to a call, and what `settled` says.
+use Rattle.std.specs.Prelude.{ℕ, ◌≡◌, Bool, true, false, ◌&&◌, ◌==◌, [], IsTrue, IsFalse}
+use Rattle.std.specs.List.{list_any}
 use Rattle.adlb_unit.specs.declared.names.Rank.{Rank}
 use Rattle.adlb_unit.specs.declared.names.Server.{Server}
 use Rattle.adlb_unit.specs.declared.names.UnitId.{UnitId}
@@ -7,7 +8,9 @@ use Rattle.adlb_unit.specs.declared.notes.End.{End}
 use Rattle.adlb_unit.specs.declared.notes.End.TheVariants as ends_by
 use Rattle.bag_ledger.specs.declared.entries.Entry.{Entry}
 use Rattle.bag_ledger.specs.declared.entries.Entry.TheVariants.{Putting, Refused, Accepted, Granted, Looked, Fetched, Done, Exhausted}
-use Rattle.bag_ledger.specs.Bag.{same_unit}
+use Rattle.bag_ledger.specs.declared.states.RankState.{RankState}
+use Rattle.bag_ledger.specs.Bag.{Bag, same_unit, is_travelling, is_asking, is_asking_or_finished, has_fit}
+use Rattle.bag_ledger.specs.Steps.{Is}
 
 -- the entry puts the unit, accepts it, grants it, or gives its own bytes
 abbrev pub puts : UnitId → Entry → Bool
@@ -40,3 +43,11 @@ abbrev pub causes : End → Entry → Bool
 causes ends_by.NoMoreWork (Done rank call) = true
 causes ends_by.Exhausted Exhausted = true
 causes end _ = false
+
+-- each rank asks or has finished, some rank asks, no promise stands, no unit travels, and no rank that asks has a fit
+abbrev pub IsSettled : Bag → Type 0
+IsSettled b =
+    ((rank : Rank) (r : RankState) → Is b rank r → IsTrue (is_asking_or_finished r.status))
+    × ((rank : Rank) × (r : RankState) × Is b rank r × IsTrue (is_asking r.status))
+    × (b.promises ≡ []) × IsFalse (list_any (λ u. is_travelling u.place) b.units)
+    × ((rank : Rank) (r : RankState) → Is b rank r → IsFalse (has_fit b.units rank r.status))
