@@ -1,0 +1,23 @@
+pub mod Accepted
+pub mod Batches
+pub mod Bridge
+pub mod Calls
+pub mod Charge
+pub mod Ends
+mod Examples
+pub mod Fetches
+pub mod Fixed
+pub mod Heard
+pub mod Legal
+pub mod Lookups
+pub mod Moves
+mod Mutants
+pub mod Once
+pub mod Pushes
+pub mod Puts
+pub mod Reserves
+pub mod Settled
+pub mod Taken
+pub mod Tests
+pub mod Turns
+mod Worked
