@@ -1,0 +1,112 @@
+//! How many ranks and servers there are, and how many bytes a server takes.
+
+ghost use Rattle.std.specs.Prelude.{ℕ, ◌≡◌, ◌<◌, ◌+◌, ◌%◌, ◌↔◌, IfOk};
+ghost use Rattle.adlb_unit.specs.Limits.{InRanks, InServers, InLimit, Refuses};
+
+use crate::names::{Rank, Server};
+use thiserror::Error;
+
+/// Which number of a configuration is outside its limits.
+#[derive(Clone, Copy, Debug, PartialEq, Eq, Error)]
+pub enum ConfigFault {
+    #[error("{given} ranks, but there are 1 to 32")]
+    Ranks { given: u32 },
+    #[error("{given} servers, but there are 1 to 8")]
+    Servers { given: u32 },
+    #[error("a limit of {given} bytes, but it is 64 to 1073741824")]
+    Limit { given: u64 },
+}
+
+/// A run's numbers: 1 to 32 ranks, 1 to 8 servers, and from 64 to `2^30` bytes that a server takes at most.
+#[derive(Clone, Copy, Debug, PartialEq, Eq)]
+pub struct Config {
+    pub ranks: u32,
+    pub servers: u32,
+    pub limit: u64,
+    pub ghost ranks_within: { InRanks ranks },
+    pub ghost servers_within: { InServers servers },
+    pub ghost limit_within: { InLimit limit },
+}
+
+impl Config {
+    /// A configuration of these numbers. It refuses the first of them that is outside its limits (`Refuses`).
+    pub fn new(ranks: u32, servers: u32, limit: u64) -> Result<Config, ConfigFault>
+        ensures ranks { IfOk result (λ c. c.ranks ≡ ranks) }
+        ensures servers { IfOk result (λ c. c.servers ≡ servers) }
+        ensures limit { IfOk result (λ c. c.limit ≡ limit) }
+        ensures refused { (fault : ConfigFault) → (result ≡ Err fault) ↔ Refuses ranks servers limit fault }
+    {
+        if ranks < 1 || ranks > 32 {
+            return Err(ConfigFault::Ranks { given: ranks });
+        }
+        if servers < 1 || servers > 8 {
+            return Err(ConfigFault::Servers { given: servers });
+        }
+        if limit < 64 || limit > 1 << 30 {
+            return Err(ConfigFault::Limit { given: limit });
+        }
+        Ok(Config {
+            ranks,
+            servers,
+            limit,
+        })
+    }
+
+    /// The home of a rank: the server of the rank's number modulo the number of servers.
+    pub fn home(&self, rank: Rank) -> Server
+        ensures home { result.0 ≡ rank.0 % self.now.servers }
+        ensures there { result.0 < self.now.servers }
+    {
+        Server(rank.0 % self.servers)
+    }
+
+    /// The server after this one in ring order: the next number, and 0 after the last. The server is one of this run's.
+    pub fn next(&self, server: Server) -> Server
+        requires { server.0 < self.now.servers }
+        ensures ring { result.0 ≡ (server.0 + 1) % self.now.servers }
+        ensures there { result.0 < self.now.servers }
+    {
+        if server.0 + 1 == self.servers {
+            Server(0)
+        } else {
+            Server(server.0 + 1)
+        }
+    }
+}
+
+#[cfg(test)]
+mod tests {
+    use super::*;
+
+    #[test]
+    fn refuses_the_first_number_outside(rt: HostRuntime) {
+        let rows = [
+            (0, 0, 0, Some(ConfigFault::Ranks { given: 0 })),
+            (33, 1, 64, Some(ConfigFault::Ranks { given: 33 })),
+            (1, 0, 0, Some(ConfigFault::Servers { given: 0 })),
+            (32, 9, 63, Some(ConfigFault::Servers { given: 9 })),
+            (1, 1, 63, Some(ConfigFault::Limit { given: 63 })),
+            (
+                1,
+                1,
+                1073741825,
+                Some(ConfigFault::Limit { given: 1073741825 }),
+            ),
+            (1, 1, 64, None),
+            (32, 8, 1073741824, None),
+        ];
+        for (ranks, servers, limit, fault) in rows {
+            assert_eq!(rt; Config::new(ranks, servers, limit).err(), fault);
+        }
+    }
+
+    #[test]
+    fn homes_and_the_ring(rt: HostRuntime) {
+        let config = Config::new(8, 3, 64).expect(&rt, "within the limits");
+        let rows = [(0, 0, 1), (1, 1, 2), (5, 2, 0), (6, 0, 1)];
+        for (rank, home, next) in rows {
+            assert_eq!(rt; config.home(Rank(rank)), Server(home));
+            assert_eq!(rt; config.next(Server(home)), Server(next));
+        }
+    }
+}
