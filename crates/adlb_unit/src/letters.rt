@@ -1,0 +1,152 @@
+//! Letters, each with a place on its link.
+
+ghost use Rattle.std.specs.Prelude.{◌≡◌, IfOk};
+
+use crate::actors::Actor;
+use crate::messages::Message;
+use crate::names::NoMemory;
+use std::alloc::Global;
+
+/// A letter: the stamp of the event that sent it, its place among the letters from its sender to its receiver, from 0, and
+/// what it says.
+#[derive(Debug, Drop)]
+pub struct Letter {
+    pub stamp: u64,
+    pub place: u64,
+    pub message: Message,
+}
+
+/// A letter that goes to an actor.
+#[derive(Debug, Drop)]
+pub struct Sending {
+    pub to: Actor,
+    pub letter: Letter,
+}
+
+impl Letter {
+    /// An equal letter. It fails for want of memory alone.
+    pub fn twin(&self, alloc: Global) -> Result<Letter, NoMemory>
+        ensures { IfOk result (λ l. l ≡ self.now) }
+    {
+        Ok(Letter {
+            stamp: self.stamp,
+            place: self.place,
+            message: self.message.twin(alloc)?,
+        })
+    }
+}
+
+#[cfg(test)]
+mod tests {
+    use super::*;
+    use crate::messages::Why;
+    use crate::names::{Rank, Target, UnitId, WorkType};
+    use crate::payloads::Payload;
+    use crate::tokens::{AskedList, Token};
+    use crate::units::Unit;
+    use crate::wanted::Types;
+    use std::test::Fail;
+
+    fn unit(alloc: Global) -> Result<Unit, NoMemory> {
+        Ok(Unit {
+            id: UnitId {
+                rank: Rank(1),
+                number: 7,
+            },
+            kind: WorkType(2),
+            prio: -5,
+            target: Target::Only(Rank(3)),
+            answer: None,
+            common: None,
+            body: Payload::copy(alloc, b"ab")?,
+        })
+    }
+
+    fn token(alloc: Global) -> Result<Token, NoMemory> {
+        let mut asked = AskedList::new(alloc)?;
+        asked.push(Rank(1), Types::any());
+        Ok(Token {
+            check: 4,
+            wave: 2,
+            asked,
+        })
+    }
+
+    // One letter of each kind that carries bytes or a token, and one that does not.
+    #[test]
+    fn twins_equal_their_letters(rt: HostRuntime) -> Result<(), Fail> {
+        let alloc = rt.alloc();
+        let messages = [
+            Message::Put { unit: unit(alloc)? },
+            Message::KeepCommon {
+                request: 9,
+                common: Payload::copy(alloc, b"common")?,
+            },
+            Message::Bytes {
+                request: 9,
+                body: Payload::from_vec(b"body".to_vec(alloc)?),
+            },
+            Message::PushUnit { unit: unit(alloc)? },
+            Message::Token {
+                token: token(alloc)?,
+            },
+            Message::Failed {
+                token: token(alloc)?,
+                why: Why::Changed { was: 3, now: 4 },
+            },
+            Message::Finish,
+        ];
+        for message in messages {
+            let letter = Letter {
+                stamp: 5,
+                place: 6,
+                message,
+            };
+            let twin = letter.twin(alloc)?;
+            assert_eq!(rt; (twin.stamp, twin.place), (5, 6));
+            assert!(rt; same(&twin.message, &letter.message));
+        }
+        Ok(())
+    }
+
+    fn same(a: &Message, b: &Message) -> bool {
+        match (a, b) {
+            (Message::Put { unit: a }, Message::Put { unit: b }) => same_unit(a, b),
+            (Message::PushUnit { unit: a }, Message::PushUnit { unit: b }) => same_unit(a, b),
+            (Message::KeepCommon { common: a, .. }, Message::KeepCommon { common: b, .. }) => {
+                a.bytes() == b.bytes()
+            }
+            (Message::Bytes { body: a, .. }, Message::Bytes { body: b, .. }) => a.bytes()
+                == b.bytes(),
+            (Message::Token { token: a }, Message::Token { token: b }) => same_token(a, b),
+            (Message::Failed { token: a, why: x }, Message::Failed { token: b, why: y }) => {
+                same_token(a, b) && x == y
+            }
+            (Message::Finish, Message::Finish) => true,
+            _ => false,
+        }
+    }
+
+    fn same_unit(a: &Unit, b: &Unit) -> bool {
+        a.id == b.id
+            && a.kind == b.kind
+            && a.prio == b.prio
+            && a.target == b.target
+            && a.answer == b.answer
+            && a.common == b.common
+            && a.body.bytes() == b.body.bytes()
+    }
+
+    fn same_token(a: &Token, b: &Token) -> bool {
+        let ranks = a
+            .asked
+            .pairs()
+            .iter()
+            .zip(b.asked.pairs())
+            .all(|(x, y)| x.0 == y.0);
+        a.check == b.check
+            && a.wave == b.wave
+            && ranks
+            && a.asked.pairs().len() == b.asked.pairs().len()
+    }
+}
