@@ -1,0 +1,113 @@
+-- The lists of units that the calls leave, for a caller that keeps sums or counts over them.
+use Rattle.std.proofs.Common.{◌≡◌, ◌≢◌, ℕ, ◌+◌, Bool, true, false, cond, List, [], ◌∷◌, ◌++◌, get_or, take, drop, map, Option, Some, None, refl, sym, ap, ◌∙◌, All, Contains, arith, sum_by}
+use Rattle.std.specs.List.{filter}
+use Rattle.std.specs.List.Sorted.{IsPermutation}
+use Rattle.std.proofs.lemmas.Bool.{not-true, both_ways}
+use Rattle.std.proofs.lemmas.List.{drop_more, get_or-map, length-map, take-append-drop}
+use Rattle.std.proofs.lemmas.List.Elements.{All-map, All-weaker, filter_passes}
+use Rattle.std.proofs.lemmas.List.Kept.{AllPairs-filter}
+use Rattle.std.proofs.lemmas.List.Quantifiers.{all_pairs_push}
+use Rattle.std.proofs.lemmas.List.Sorted.{IsPermutation-middle, IsPermutation-to_front, sum_by-IsPermutation}
+use Rattle.std.proofs.lemmas.List.Sums.{sum_by-cons}
+use Rattle.std.proofs.lemmas.Option.{get_or_from_slice_get, slice_get_within}
+use Rattle.adlb_unit.specs.declared.names.Rank.{Rank}
+use Rattle.adlb_unit.specs.declared.names.UnitId.{UnitId}
+use Rattle.adlb_unit.specs.declared.names.WorkType.{WorkType}
+use Rattle.work_queue.proofs.Ids.{filter_at, map_at, same_is, this_pinned, unit_pinned}
+use Rattle.work_queue.specs.Best.{IsBest}
+use Rattle.work_queue.specs.Queue.{HasDistinctIds, HasFree, HasPinned, has_other_id, id_of, pinned_by, same_id}
+use Rattle.work_queue.specs.declared.placing.Placed.{Placed}
+
+pub split_at : (units : List Placed) (p : Placed) → Contains units p → (front : List Placed) × (back : List Placed) × (units ≡ front ++ p ∷ back)
+split_at units p there =
+    let front = take there.0 units in
+    let back = drop (there.0 + 1) units in
+    (front, back, sym (take-append-drop there.0 units) ∙ ap (λ l. front ++ l) (drop_more units there.0 p there.1) ∙ ap (λ q. front ++ q ∷ back) there.2)
+
+moved : (xs ys front back : List Placed) (p : Placed) → xs ≡ front ++ p ∷ back → ys ≡ front ++ back → IsPermutation xs (p ∷ ys)
+moved xs ys front back p whole others = rw (whole, others) (IsPermutation-middle front p back)
+
+-- a unit p of the list, of this id
+module _ (units : List Placed) (p : Placed) (id : UnitId) (distinct : HasDistinctIds units) (there : Contains units p) (is : id_of p ≡ id) where
+  -- the unit and those of other ids
+  pub others_first : IsPermutation units (p ∷ filter (has_other_id id) units)
+  others_first =
+      let parts = split_at units p there in
+      let parted : HasDistinctIds (parts.0 ++ p ∷ parts.1) = rw parts.2 at distinct in
+      let others : filter (has_other_id id) units ≡ parts.0 ++ parts.1 = ap (λ l. filter (has_other_id id) l) parts.2 ∙ filter_at parts.0 parts.1 p id parted is in
+      moved units (filter (has_other_id id) units) parts.0 parts.1 p parts.2 others
+
+  pub sum_by-others : (f : Placed → ℕ) → sum_by f units ≡ f p + sum_by f (filter (has_other_id id) units)
+  sum_by-others f = sym (sum_by-IsPermutation f units (p ∷ filter (has_other_id id) units) others_first) ∙ sum_by-cons f p (filter (has_other_id id) units)
+
+  -- after the pin, the unit with the pin and those of other ids
+  pub pinned_first : (rank : Rank) → IsPermutation (map (pinned_by id rank) units) (record p { pin = Some rank } ∷ filter (has_other_id id) units)
+  pinned_first rank =
+      let now : Placed = record p { pin = Some rank } in
+      let parts = split_at units p there in
+      let parted : HasDistinctIds (parts.0 ++ p ∷ parts.1) = rw parts.2 at distinct in
+      let others : filter (has_other_id id) units ≡ parts.0 ++ parts.1 = ap (λ l. filter (has_other_id id) l) parts.2 ∙ filter_at parts.0 parts.1 p id parted is in
+      let pinned : map (pinned_by id rank) units ≡ parts.0 ++ now ∷ parts.1 = ap (λ l. map (pinned_by id rank) l) parts.2 ∙ map_at parts.0 parts.1 p id rank parted is in
+      moved (map (pinned_by id rank) units) (filter (has_other_id id) units) parts.0 parts.1 now pinned others
+
+  pub sum_by-pinned : (rank : Rank) (f : Placed → ℕ) → sum_by f (map (pinned_by id rank) units) ≡ f (record p { pin = Some rank }) + sum_by f (filter (has_other_id id) units)
+  sum_by-pinned rank f =
+      let now : Placed = record p { pin = Some rank } in
+      sym (sum_by-IsPermutation f (map (pinned_by id rank) units) (now ∷ filter (has_other_id id) units) (pinned_first rank)) ∙ sum_by-cons f now (filter (has_other_id id) units)
+
+-- a pin keeps each unit's body
+pub body_pinned : (id : UnitId) (rank : Rank) (q : Placed) → (pinned_by id rank q).unit.body ≡ q.unit.body
+body_pinned id rank q = ap (λ u. u.body) (unit_pinned id rank q)
+
+-- what stays of the list when the unit is taken does not tell whether it was pinned before
+pub filter-map_pinned : (id : UnitId) (rank : Rank) (units : List Placed) → filter (has_other_id id) (map (pinned_by id rank) units) ≡ filter (has_other_id id) units
+filter-map_pinned id rank [] = refl
+filter-map_pinned id rank (q ∷ units) = by_test (same_id (id_of q) id) refl (filter-map_pinned id rank units)
+  where
+    by_test : (t : Bool) → same_id (id_of q) id ≡ t → filter (has_other_id id) (map (pinned_by id rank) units) ≡ filter (has_other_id id) units → filter (has_other_id id) (cond t (record q { pin = Some rank }) q ∷ map (pinned_by id rank) units) ≡ filter (has_other_id id) (q ∷ units)
+    by_test true test rest = rw (test, rest) refl
+    by_test false test rest = rw (test, rest) refl
+
+-- what holds of each unit's id holds after a pin
+pub ids_pinned : (P : UnitId → Type 0) (id : UnitId) (rank : Rank) (units : List Placed) → All (λ q. P (id_of q)) units → All (λ q. P (id_of q)) (map (pinned_by id rank) units)
+ids_pinned P id rank units all =
+    let Q : Placed → Type 0 = λ q. P (id_of q) in
+    let R : Placed → Type 0 = λ q. P (id_of (pinned_by id rank q)) in
+    All-map Q (pinned_by id rank) units (All-weaker Q R (λ q h. rw (ap (λ u. u.id) (unit_pinned id rank q)) h) units all)
+
+-- no unit that stays has the id of the one that was taken
+pub id_gone : (id : UnitId) (units : List Placed) → All (λ q. id_of q ≢ id) (filter (has_other_id id) units)
+id_gone id units =
+    let T : Placed → Type 0 = λ q. has_other_id id q ≡ true in
+    let D : Placed → Type 0 = λ q. id_of q ≢ id in
+    All-weaker T D (λ q test same. both_ways (same_id (id_of q) id) (not-true (same_id (id_of q) id) test) (same_is (id_of q) id same)) (filter (has_other_id id) units) (filter_passes (has_other_id id) units)
+
+-- ids stay distinct where a unit is taken, and where one of a new id is added
+pub distinct_left : (id : UnitId) (units : List Placed) → HasDistinctIds units → HasDistinctIds (filter (has_other_id id) units)
+distinct_left id units distinct = AllPairs-filter (λ a b. id_of a ≢ id_of b) (has_other_id id) units distinct
+
+pub distinct_added : (units : List Placed) (p : Placed) → HasDistinctIds units → All (λ q. id_of q ≢ id_of p) units → HasDistinctIds (units ++ p ∷ [])
+distinct_added units p distinct fresh = all_pairs_push (λ a b. id_of a ≢ id_of b) units p distinct fresh
+
+-- the unit that is added last may as well stand first
+pub added_first : (units : List Placed) (p : Placed) → IsPermutation (units ++ p ∷ []) (p ∷ units)
+added_first units p = IsPermutation-to_front units p
+
+-- the unit that `pin` and `take_pinned` ask for
+pub free_unit : (id : UnitId) (units : List Placed) → HasFree id units → (p : Placed) × Contains units p × (id_of p ≡ id) × (p.pin ≡ None)
+free_unit id units has = (has.1, (has.0, has.2, has.3), has.4.0, has.4.1)
+
+pub pinned_unit : (id : UnitId) (rank : Rank) (units : List Placed) → HasPinned id rank units → (p : Placed) × Contains units p × (id_of p ≡ id) × (p.pin ≡ Some rank)
+pinned_unit id rank units has = (has.1, (has.0, has.2, has.3), has.4.0, has.4.1)
+
+-- the best unit is free
+pub free_from_best : (rank : Rank) (types : Option (List WorkType)) (units : List Placed) (id : UnitId) → IsBest rank types units id → HasFree id units
+free_from_best rank types units id best = (best.place, best.unit, slice_get_within units best.place best.unit best.here, get_or_from_slice_get units best.place best.unit best.unit best.here, (best.has_id, best.is_offered.0))
+
+-- a unit of the id is pinned by the pin
+pub pinned_from_free : (id : UnitId) (rank : Rank) (units : List Placed) → HasFree id units → HasPinned id rank (map (pinned_by id rank) units)
+pinned_from_free id rank units has =
+    let now : Placed = record has.1 { pin = Some rank } in
+    let long = length-map units (pinned_by id rank) in
+    let read : get_or (map (pinned_by id rank) units) has.0 now ≡ now = get_or-map (pinned_by id rank) units has.0 has.1 now has.2 ∙ ap (λ q. pinned_by id rank q) has.3 ∙ this_pinned id rank has.1 has.4.0 in
+    (has.0, now, omega (arith, long, has.2), read, (has.4.0, refl))

@@ -1,0 +1,79 @@
+-- A queue with one unit less.
+use Rattle.std.proofs.Common.{◌≡◌, ◌≢◌, ◌≤◌, ◌+◌, ◌-◌, ℕ, suc, List, ◌∷◌, ◌++◌, get_or, take, drop, None, refl, sym, ap, ◌∙◌, All, arith, IsSome, sum_by}
+use Rattle.std.specs.List.{filter, remove}
+use Rattle.std.proofs.lemmas.List.Elements.{All-append, All-take, All-drop, All-filter, filter_map-append}
+use Rattle.std.proofs.lemmas.List.Kept.{AllPairs-filter}
+use Rattle.std.proofs.lemmas.List.Sums.{sum_by-append, sum_by-cons}
+use Rattle.adlb_unit.specs.declared.names.UnitId.{UnitId}
+use Rattle.slab.specs.Slab.{Slab, get, Updates}
+use Rattle.work_queue.proofs.Found.{IsFound}
+use Rattle.work_queue.proofs.Ids.{filter_at}
+use Rattle.work_queue.proofs.Units.{Parts, parts_at, units_besides, units_parted}
+use Rattle.work_queue.specs.Inside.{IsSound, queue_of}
+use Rattle.work_queue.specs.Queue.{IsSmall, has_other_id, id_of, size_of, without}
+use Rattle.work_queue.specs.Units.{units_at}
+use Rattle.work_queue.specs.declared.placing.Placed.{Placed}
+use Rattle.work_queue.specs.declared.queues.WorkQueue.TheInside.{Inside}
+
+module _ (old new : Slab Placed) (order front back : List ℕ) (key : ℕ) (p : Placed) (parts : Parts old order key p front back) (updates : Updates old new key None) where
+  units_left : units_at new (front ++ back) ≡ units_at old front ++ units_at old back
+  units_left =
+      filter_map-append (λ k. get new k) front back
+      ∙ ap (λ f. f ++ units_at new back) (units_besides old new key None front updates parts.before)
+      ∙ ap (λ b. units_at old front ++ b) (units_besides old new key None back updates parts.after)
+
+  -- without the unit under the key, the units are those of other ids
+  units_taken : (id : UnitId) → id_of p ≡ id → units_at new (front ++ back) ≡ filter (has_other_id id) (units_at old order)
+  units_taken id is =
+      units_left
+      ∙ sym (filter_at (units_at old front) (units_at old back) p id parts.distinct is)
+      ∙ sym (ap (λ l. filter (has_other_id id) l) (units_parted old order key p front back parts))
+
+  sizes_taken : sum_by size_of (units_at old order) ≡ size_of p + sum_by size_of (units_at new (front ++ back))
+  sizes_taken =
+      let a : sum_by size_of (units_at old order) ≡ sum_by size_of (units_at old front) + sum_by size_of (p ∷ units_at old back) = ap (λ l. sum_by size_of l) (units_parted old order key p front back parts) ∙ sum_by-append size_of (units_at old front) (p ∷ units_at old back) in
+      let b : sum_by size_of (units_at new (front ++ back)) ≡ sum_by size_of (units_at old front) + sum_by size_of (units_at old back) = ap (λ l. sum_by size_of l) units_left ∙ sum_by-append size_of (units_at old front) (units_at old back) in
+      let e : sum_by size_of (p ∷ units_at old back) ≡ size_of p + sum_by size_of (units_at old back) = sum_by-cons size_of p (units_at old back) in
+      omega arith
+
+  others_there : (keys : List ℕ) → All (λ k. IsSome (get old k)) keys → All (λ k. k ≢ key) keys → All (λ k. IsSome (get new k)) keys
+  others_there keys there others k d within = rw (updates.others (get_or keys k d) (others k d within)) (there k d within)
+
+module _ (w : Inside) (new : Slab Placed) (place key : ℕ) (p : Placed) (id : UnitId) (sound : IsSound w) (at : IsFound w place key p id) (updates : Updates w.slots new key None) where
+  front : List ℕ
+  front = take place w.order.items
+
+  back : List ℕ
+  back = drop (suc place) w.order.items
+
+  parts : Parts w.slots w.order.items key p (take place w.order.items) (drop (suc place) w.order.items)
+  parts = parts_at w.slots w.order.items place key p sound.distinct at.within at.key_is at.found
+
+  sizes : sum_by size_of (units_at w.slots w.order.items) ≡ size_of p + sum_by size_of (units_at new (remove w.order.items place))
+  sizes = sizes_taken w.slots new w.order.items (take place w.order.items) (drop (suc place) w.order.items) key p parts updates
+
+  units : units_at new (remove w.order.items place) ≡ filter (has_other_id id) (units_at w.slots w.order.items)
+  units = units_taken w.slots new w.order.items (take place w.order.items) (drop (suc place) w.order.items) key p parts updates id at.has_id
+
+  pub size_within : size_of p ≤ w.charge
+  size_within = omega (arith, sizes, sound.charge)
+
+  pub sound_taken : (v : Inside) → v.slots ≡ new → v.order.items ≡ remove w.order.items place → v.charge ≡ w.charge - size_of p → v.limit ≡ w.limit → IsSound v
+  sound_taken v slots order charge limit =
+      let O : ℕ → Type 0 = λ k. IsSome (get w.slots k) in
+      let P : ℕ → Type 0 = λ k. IsSome (get new k) in
+      let S : Placed → Type 0 = λ q. IsSmall q in
+      let front = take place w.order.items in
+      let back = drop (suc place) w.order.items in
+      let before : All P front = others_there w.slots new w.order.items front back key p parts updates front (All-take O place w.order.items sound.there) parts.before in
+      let after : All P back = others_there w.slots new w.order.items front back key p parts updates back (All-drop O (suc place) w.order.items sound.there) parts.after in
+      record {
+        there = rw (slots, order) (All-append P front back before after);
+        distinct = rw (slots, order, units) (AllPairs-filter (λ a b. id_of a ≢ id_of b) (has_other_id id) (units_at w.slots w.order.items) sound.distinct);
+        small = rw (slots, order, units) (All-filter (has_other_id id) S (units_at w.slots w.order.items) sound.small);
+        charge = rw (charge, slots, order) (omega (arith, sizes, sound.charge));
+        within = omega (arith, charge, limit, sound.within);
+      }
+
+  pub view_taken : (v : Inside) → v.slots ≡ new → v.order.items ≡ remove w.order.items place → v.arrivals ≡ w.arrivals → v.limit ≡ w.limit → queue_of v ≡ without (queue_of w) id
+  view_taken v slots order arrivals limit = rw (slots, order, units, arrivals, limit) refl

@@ -1,0 +1,33 @@
+use Rattle.std.proofs.Common.{◌≡◌, All, ap, ◌∙◌, subst, sym}
+use Rattle.work_queue.proofs.Found.{found_at, only_found, small_found}
+use Rattle.work_queue.proofs.Lists.{pinned_from_free}
+use Rattle.work_queue.proofs.Pinned.{sound_pinned, view_pinned}
+use Rattle.work_queue.specs.Facts.{facts_of}
+use Rattle.work_queue.specs.Queue.{HasPinned, Queue, id_of, with_pin}
+use Rattle.work_queue.proofs.queues.WorkQueue.pin.Goals as goal
+
+pub pin_at-requires-clause-small : goal.pin_at-requires-clause-small
+pin_at-requires-clause-small c =
+    let h = found_at c.self.inside _ c.place_of-place.result c.index-key.result.now c.args.id c.deref.ensures.value c.place_of-place.ensures.within c.place_of-place.ensures.found c.index-key.ensures in
+    rw h.1.found (small_found c.self.inside _ _ h.0 c.args.id c.self.invariant h.1)
+
+pub invariant_of-self : goal.invariant_of-self
+invariant_of-self c =
+    let h = found_at c.self.inside _ c.place_of-place.result c.index-key.result.now c.args.id c.deref.ensures.value c.place_of-place.ensures.within c.place_of-place.ensures.found c.index-key.ensures in
+    rw (c.pin_at.ensures.pinned h.0 h.1.found) (sound_pinned c.self.inside _ _ h.0 c.args.id c.args.rank c.self.invariant h.1)
+
+pub returns-clause-pinned : goal.returns-clause-pinned
+returns-clause-pinned c =
+    let h = found_at c.self.inside _ c.place_of-place.result c.index-key.result.now c.args.id c.deref.ensures.value c.place_of-place.ensures.within c.place_of-place.ensures.found c.index-key.ensures in
+    rw (c.pin_at.ensures.pinned h.0 h.1.found) (view_pinned c.self.inside _ _ h.0 c.args.id c.args.rank c.self.invariant h.1 ∙ ap (λ q. with_pin q c.args.id c.args.rank) c.self.view_is)
+
+pub returns-clause-facts : goal.returns-clause-facts
+returns-clause-facts c =
+    let h = found_at c.self.inside _ c.place_of-place.result c.index-key.result.now c.args.id c.deref.ensures.value c.place_of-place.ensures.within c.place_of-place.ensures.found c.index-key.ensures in
+    let Told : Queue → Type 0 = λ q. All (λ p. id_of p ≡ c.args.id → c.pin_at.result ≡ facts_of p) q.units in
+    subst Told c.self.view_is (λ k d within same. rw (only_found c.self.inside _ _ h.0 c.args.id c.self.invariant h.1 k d within same) (c.pin_at.ensures.facts h.0 h.1.found))
+
+pub returns-clause-held : goal.returns-clause-held
+returns-clause-held c =
+    let Held : Queue → Type 0 = λ q. HasPinned c.args.id c.args.rank q.units in
+    subst Held (sym (returns-clause-pinned c)) (pinned_from_free c.args.id c.args.rank c.args.self.now.units c.requires)

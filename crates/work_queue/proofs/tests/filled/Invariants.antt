@@ -1,0 +1,10 @@
+use Rattle.std.proofs.Common.{◌≡◌, ◌≤◌, ◌<◌, [], All}
+use Rattle.work_queue.specs.Queue.{id_of}
+use Rattle.work_queue.proofs.tests.filled.Given as goal
+
+abbrev pub invariant-loop-place : goal.invariant-loop-place
+invariant-loop-place l = record {
+  lower : All (λ p. (id_of p).number < l.place) l.queue.units;
+  promises : l.queue.promises ≡ [];
+  arrivals : l.queue.arrivals ≤ l.place;
+}

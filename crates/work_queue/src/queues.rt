@@ -1,0 +1,170 @@
+//! The queue.
+
+ghost use Rattle.std.specs.Prelude.{◌≡◌, ◌≢◌, ◌<◌, ◌≤◌, ◌+◌, ◌^◌, ◌↔◌, ◌++◌, ◌∷◌, [], ℕ, All, Any, List, length, IsTrue, IfOk, IfErr, OnOk, OnErr, IfSome, IfNone, IsSome, IsNone, Some, None, Ok, Err, Option};
+ghost use Rattle.std.specs.List.{slice_get};
+ghost use Rattle.std.specs.Option.{option_map};
+ghost use Rattle.work_queue.specs.Best.{IsBest, IsOffered, best_of};
+ghost use Rattle.work_queue.specs.Facts.{facts_of};
+ghost use Rattle.work_queue.specs.Queue.{Queue, Promise, HasDistinctIds, HasFree, HasPinned, IsSmall, charge_of, id_of, seen, with_pin, with_unit, without};
+
+use crate::placing::{Placed, UnitFacts};
+use crate::rating::Rated;
+use crate::searching::{consider, pin_at, place_of, seen_at, take_at};
+use adlb_unit::{Payload, Rank, Types, Unit, UnitId};
+use slab::Slab;
+use std::alloc::Global;
+use std::marker::Model;
+use thiserror::Error;
+
+/// Why a unit is refused.
+#[derive(Clone, Copy, Debug, PartialEq, Eq, Error)]
+pub enum AddFault {
+    /// The queue holds `charge` bytes, and the unit's would go beyond its limit.
+    #[error("the queue is full at {charge} bytes")]
+    Full { charge: u64 },
+    #[error("out of memory")]
+    Memory,
+}
+
+/// The units of one server in arrival order, each with its pin, within a limit of bytes.
+#[derive(Drop)]
+pub struct WorkQueue {
+    // The units, each under a key that it keeps as long as it stays.
+    slots: Slab<Placed>,
+    // The keys in arrival order.
+    order: Vec<usize>,
+    charge: u64,
+    arrivals: u64,
+    limit: u64,
+}
+
+impl Model for WorkQueue {
+    ghost use Rattle.work_queue.specs.Queue.{Queue};
+
+    ghost Value = { Queue };
+
+    ghost use Rattle.work_queue.specs.Inside.{queue_of, IsSound};
+
+    ghost view = { queue_of };
+
+    ghost invariant = { IsSound };
+}
+
+impl WorkQueue {
+    /// An empty queue that takes at most `limit` bytes. It takes no memory yet.
+    pub fn new(alloc: Global, limit: u64) -> WorkQueue
+        ensures { result ≡ record { units = []; promises = []; common = 0; arrivals = 0; limit = limit } }
+    {
+        WorkQueue {
+            slots: Slab::new(alloc),
+            order: Vec::new(alloc),
+            charge: 0,
+            arrivals: 0,
+            limit,
+        }
+    }
+
+    /// The bytes that the queue's units, promises and common parts take together.
+    pub fn charge(&self) -> u64
+        ensures exact { result ≡ charge_of self.now }
+
+        // What is so of each queue.
+        ensures within { result ≤ self.now.limit }
+        ensures distinct { HasDistinctIds self.now.units }
+        ensures small { All IsSmall self.now.units }
+    {
+        self.charge
+    }
+
+    /// How many units have ever come.
+    pub fn arrivals(&self) -> u64
+        ensures { result ≡ self.now.arrivals }
+    {
+        self.arrivals
+    }
+
+    /// Puts a free unit last. At a refusal the queue is as it was, and the unit comes back: with `AddFault::Full` where
+    /// it would go beyond the limit, whether there is memory or not, and else with `AddFault::Memory`.
+    pub fn add(&mut self, unit: Unit) -> Result<(), (Unit, AddFault)>
+        requires new { All (λ p. id_of p ≢ unit.id) self.old.units }
+        requires unpromised { All (λ (p : Promise). p.id ≢ unit.id) self.old.promises }
+        requires size { length unit.body ≤ 2 ^ 20 }
+        requires room { self.old.arrivals < 2 ^ 48 }
+
+        ensures added { OnOk result (self.new ≡ with_unit self.old unit) }
+        ensures full { (n : ℕ) → (result ≡ Err (unit, AddFault.Full n)) ↔ ((self.old.limit < charge_of self.old + length unit.body) × (n ≡ charge_of self.old)) }
+        ensures back { IfErr result (λ e. e.0 ≡ unit) }
+        ensures err { OnErr result (self.new ≡ self.old) }
+    {
+        let length = unit.body.len() as u64;
+        if length > self.limit - self.charge {
+            let charge = self.charge;
+            return Err((unit, AddFault::Full { charge }));
+        }
+        if self.slots.reserve(1).is_err() {
+            return Err((unit, AddFault::Memory));
+        }
+        if self.order.reserve(1).is_err() {
+            return Err((unit, AddFault::Memory));
+        }
+        let key = self.slots.insert_reserved(Placed { unit, pin: None });
+        self.order.push_reserved(key);
+        self.charge += length;
+        self.arrivals += 1;
+        Ok(())
+    }
+
+    /// The best free unit that is permitted to the rank: one for that rank alone before one for any, then the higher
+    /// priority, then the earlier arrival. There is none exactly where no free unit is permitted.
+    pub fn best(&self, rank: Rank, types: &Types) -> Option<UnitId>
+        ensures best { IfSome result (IsBest rank types.now self.now.units) }
+        ensures some { IsSome result ↔ Any (IsOffered rank types.now) self.now.units }
+        ensures free { IfSome result (λ id. HasFree id self.now.units) }
+        ensures fold { result ≡ best_of rank types.now self.now.units }
+    {
+        let mut best: Option<Rated> = None;
+        for key in &self.order {
+            best = consider(&self.slots, *key, rank, types, best);
+        }
+        match best {
+            None => None,
+            Some(rated) => Some(rated.id),
+        }
+    }
+
+    /// Pins the free unit of this id to a rank, and tells what that rank is told of it.
+    pub fn pin(&mut self, id: UnitId, rank: Rank) -> UnitFacts
+        requires { HasFree id self.old.units }
+        ensures pinned { self.new ≡ with_pin self.old id rank }
+        ensures held { HasPinned id rank self.new.units }
+        ensures facts { All (λ p. id_of p ≡ id → result ≡ facts_of p) self.old.units }
+    {
+        let place = place_of(&self.slots, &self.order, id);
+        let key = self.order[place];
+        pin_at(&mut self.slots, key, rank)
+    }
+
+    /// Takes the unit of this id, pinned to this rank, away, and gives its body.
+    pub fn take_pinned(&mut self, id: UnitId, rank: Rank) -> Payload
+        requires { HasPinned id rank self.old.units }
+        ensures taken { self.new ≡ without self.old id }
+        ensures body { All (λ p. id_of p ≡ id → result ≡ p.unit.body) self.old.units }
+    {
+        let place = place_of(&self.slots, &self.order, id);
+        let key = self.order.remove(place);
+        let body = take_at(&mut self.slots, key);
+        self.charge -= body.len() as u64;
+        body
+    }
+
+    /// The unit at this place of the arrival order, counted from 0, with its pin, if there is such a place.
+    pub fn unit_at(&self, place: u64) -> Option<(UnitId, Option<Rank>)>
+        ensures at { result ≡ option_map seen (slice_get self.now.units place) }
+        ensures none { IsNone result ↔ (length self.now.units ≤ place) }
+    {
+        match self.order.get(place as usize) {
+            Some(key) => seen_at(&self.slots, *key),
+            None => None,
+        }
+    }
+}

@@ -1,0 +1,97 @@
+//! Units in their slots, by the list of keys in arrival order.
+
+ghost use Rattle.std.specs.Prelude.{◌≡◌, ◌<◌, ◌^◌, ◌≤◌, ◌↔◌, IfSome, IsSome, IsTrue, None, Some, length, slice_index};
+ghost use Rattle.std.specs.Option.{option_map, option_to_list};
+ghost use Rattle.slab.specs.Slab.{get, with_value, Updates};
+ghost use Rattle.work_queue.specs.Best.{best_from};
+ghost use Rattle.work_queue.specs.Facts.{facts_of};
+ghost use Rattle.work_queue.specs.Queue.{HasUnit, IsSmall, seen};
+ghost use Rattle.work_queue.specs.Units.{units_at, HasId};
+ghost use Rattle.work_queue.specs.declared.placing.Placed.{Placed};
+
+use crate::placing::{Placed, UnitFacts};
+use crate::rating::{Rated, better_of, is_offered, rate};
+use adlb_unit::{Payload, Rank, Types, UnitId};
+use slab::Slab;
+
+// The better of what was found before and the unit under the key, where that is offered.
+pub(crate) fn consider(
+    slots: &Slab<Placed>,
+    key: usize,
+    rank: Rank,
+    types: &Types,
+    best: Option<Rated>,
+) -> Option<Rated>
+    ensures { result ≡ best_from rank types.now best (option_to_list (get slots.now key)) }
+{
+    let Some(placed) = slots.get(key) else {
+        return best;
+    };
+    if !is_offered(placed, rank, types) {
+        return best;
+    }
+    let rated = rate(placed);
+    match best {
+        None => Some(rated),
+        Some(first) => Some(better_of(first, rated)),
+    }
+}
+
+// The place of the unit's key.
+pub(crate) fn place_of(slots: &Slab<Placed>, order: &[usize], id: UnitId) -> usize
+    requires { HasUnit id (units_at slots.now order.now) }
+    ensures within { result < length order.now }
+    ensures found { HasId id (get slots.now (slice_index order.now result)) }
+{
+    for place in 0..order.len() {
+        if has_id(slots, order[place], id) {
+            return place;
+        }
+    }
+    unreachable!()
+}
+
+fn has_id(slots: &Slab<Placed>, key: usize, id: UnitId) -> bool
+    ensures { IsTrue result ↔ HasId id (get slots.now key) }
+{
+    match slots.get(key) {
+        Some(placed) => placed.unit.id == id,
+        None => false,
+    }
+}
+
+// The unit under the key, with its pin.
+pub(crate) fn seen_at(slots: &Slab<Placed>, key: usize) -> Option<(UnitId, Option<Rank>)>
+    ensures { result ≡ option_map seen (get slots.now key) }
+{
+    match slots.get(key) {
+        Some(placed) => Some((placed.unit.id, placed.pin)),
+        None => None,
+    }
+}
+
+// Pins the unit under the key, and tells of it.
+pub(crate) fn pin_at(slots: &mut Slab<Placed>, key: usize, rank: Rank) -> UnitFacts
+    requires there { IsSome (get slots.old key) }
+    requires small { IfSome (get slots.old key) IsSmall }
+    ensures pinned { (p : Placed) → get slots.old key ≡ Some p → slots.new ≡ with_value slots.old key (record p { pin = Some rank }) }
+    ensures facts { (p : Placed) → get slots.old key ≡ Some p → result ≡ facts_of p }
+{
+    let Some(placed) = slots.get_mut(key) else {
+        unreachable!()
+    };
+    placed.pin = Some(rank);
+    placed.facts()
+}
+
+// Takes the unit under the key away, and gives its body.
+pub(crate) fn take_at(slots: &mut Slab<Placed>, key: usize) -> Payload
+    requires { IsSome (get slots.old key) }
+    ensures body { (p : Placed) → get slots.old key ≡ Some p → result ≡ p.unit.body }
+    ensures taken { Updates slots.old slots.new key None }
+{
+    let Some(placed) = slots.try_remove(key) else {
+        unreachable!()
+    };
+    placed.unit.body
+}
