@@ -84,7 +84,7 @@ mod tests {
             },
             Message::Bytes {
                 request: 9,
-                body: Payload::from_vec(b"body".to_vec(alloc)?),
+                body: Payload::copy(alloc, b"body")?,
             },
             Message::PushUnit { unit: unit(alloc)? },
             Message::Token {
@@ -104,49 +104,9 @@ mod tests {
             };
             let twin = letter.twin(alloc)?;
             assert_eq!(rt; (twin.stamp, twin.place), (5, 6));
-            assert!(rt; same(&twin.message, &letter.message));
+            let shown = format!(in alloc; "{twin:?}")?;
+            assert_eq!(rt; shown, format!(in alloc; "{letter:?}")?);
         }
         Ok(())
-    }
-
-    fn same(a: &Message, b: &Message) -> bool {
-        match (a, b) {
-            (Message::Put { unit: a }, Message::Put { unit: b }) => same_unit(a, b),
-            (Message::PushUnit { unit: a }, Message::PushUnit { unit: b }) => same_unit(a, b),
-            (Message::KeepCommon { common: a, .. }, Message::KeepCommon { common: b, .. }) => {
-                a.bytes() == b.bytes()
-            }
-            (Message::Bytes { body: a, .. }, Message::Bytes { body: b, .. }) => a.bytes()
-                == b.bytes(),
-            (Message::Token { token: a }, Message::Token { token: b }) => same_token(a, b),
-            (Message::Failed { token: a, why: x }, Message::Failed { token: b, why: y }) => {
-                same_token(a, b) && x == y
-            }
-            (Message::Finish, Message::Finish) => true,
-            _ => false,
-        }
-    }
-
-    fn same_unit(a: &Unit, b: &Unit) -> bool {
-        a.id == b.id
-            && a.kind == b.kind
-            && a.prio == b.prio
-            && a.target == b.target
-            && a.answer == b.answer
-            && a.common == b.common
-            && a.body.bytes() == b.body.bytes()
-    }
-
-    fn same_token(a: &Token, b: &Token) -> bool {
-        let ranks = a
-            .asked
-            .pairs()
-            .iter()
-            .zip(b.asked.pairs())
-            .all(|(x, y)| x.0 == y.0);
-        a.check == b.check
-            && a.wave == b.wave
-            && ranks
-            && a.asked.pairs().len() == b.asked.pairs().len()
     }
 }
