@@ -1,0 +1,16 @@
+mod Batches
+mod Bridge
+mod Charge
+mod Ends
+mod Examples
+mod Fetches
+mod Legal
+mod Lookups
+mod Moves
+mod Mutants
+mod Once
+mod Pushes
+mod Puts
+mod Reserves
+mod Tests
+mod Worked

@@ -1,0 +1,87 @@
+-- The small ledgers, computed: which are legal, and what the ranks say in them.
+use Rattle.std.proofs.Common.{◌≡◌, ℕ, pos, List, ◌∷◌, [], Some, None, refl, ◌++◌}
+use Rattle.std.specs.Prelude.{insert, remove}
+use Rattle.adlb_unit.specs.declared.names.Target.TheVariants.{Any}
+use Rattle.adlb_unit.specs.declared.notes.End.TheVariants as ends_by
+use Rattle.bag_ledger.specs.declared.entries.Entry.TheVariants.{Granted, Exhausted}
+use Rattle.bag_ledger.specs.declared.entries.Call.{Call}
+use Rattle.bag_ledger.specs.declared.entries.Call.TheVariants as calls_to
+use Rattle.bag_ledger.specs.declared.entries.Answer.{Answer}
+use Rattle.bag_ledger.specs.declared.entries.Answer.TheVariants as answers
+use Rattle.bag_ledger.specs.declared.entries.Said.{Said}
+use Rattle.bag_ledger.specs.Bag.{Bag, empty}
+use Rattle.bag_ledger.specs.Runs.{first_illegal, calls_from}
+use Rattle.bag_ledger.proofs.Examples.{rank, server, kind, unit, batch, two_free, full_servers, got_elsewhere, pushed, tries, granted_once, batch_of_two, done_called, cancelled_push}
+
+-- ranks and servers with so much room that the limit does not matter
+abbrev pub roomy : ℕ → ℕ → Bag
+roomy ranks servers = empty ranks servers 67108864
+
+full_servers_legal : first_illegal (empty 1 3 64) 0 full_servers ≡ None
+full_servers_legal = refl
+
+got_elsewhere_legal : first_illegal (roomy 2 2) 0 got_elsewhere ≡ None
+got_elsewhere_legal = refl
+
+pushed_legal : first_illegal (empty 2 2 64) 0 pushed ≡ None
+pushed_legal = refl
+
+tries_legal : first_illegal (roomy 1 3) 0 tries ≡ None
+tries_legal = refl
+
+granted_once_legal : first_illegal (empty 2 1 64) 0 granted_once ≡ None
+granted_once_legal = refl
+
+granted_twice_illegal : first_illegal (empty 2 1 64) 0 (granted_once ++ Granted (server 0) (rank 1) 0 (unit 0 0) ∷ []) ≡ Some 5
+granted_twice_illegal = refl
+
+batch_of_two_legal : first_illegal (roomy 1 1) 0 batch_of_two ≡ None
+batch_of_two_legal = refl
+
+done_called_legal : first_illegal (roomy 2 2) 0 done_called ≡ None
+done_called_legal = refl
+
+cancelled_push_legal : first_illegal (empty 2 2 64) 0 cancelled_push ≡ None
+cancelled_push_legal = refl
+
+-- Exhausted one entry earlier: a unit travels
+exhausted_while_travelling : first_illegal (empty 2 2 64) 0 (insert (remove pushed 7) 6 Exhausted) ≡ Some 6
+exhausted_while_travelling = refl
+
+-- two entries earlier: a promise stands
+exhausted_while_promised : first_illegal (empty 2 2 64) 0 (insert (remove pushed 7) 5 Exhausted) ≡ Some 5
+exhausted_while_promised = refl
+
+-- right behind the second Asked nothing is left to do; so the later one is not the first
+exhausted_before_the_push : first_illegal (empty 2 2 64) 0 (insert pushed 4 Exhausted) ≡ Some 8
+exhausted_before_the_push = refl
+
+abbrev says : Call → Answer → Said
+says call answer = record { call = call; answer = answer }
+
+-- a reserve of any type that was granted the unit, of one byte, of the batch
+abbrev got : ℕ → ℕ → Said
+got r call = says (calls_to.Reserve None) (answers.Granted (record { id = unit r call; kind = kind 1; prio = pos 0; answer = None; server = server 0; common = Some (record { batch = batch 0 0; server = server 0; length = 2 }); length = 1 }))
+
+abbrev puts : List ℕ → Answer → Said
+puts body answer = says (calls_to.Put (kind 1) (pos 0) Any None body) answer
+
+calls_of_a_batch : calls_from (roomy 1 1) batch_of_two (rank 0) ≡
+    says (calls_to.BeginBatch (120 ∷ 121 ∷ [])) answers.Fine ∷ puts (97 ∷ []) answers.Fine ∷ puts (98 ∷ []) answers.Fine
+    ∷ says (calls_to.Count (kind 1)) (answers.Info two_free) ∷ says calls_to.EndBatch answers.Fine ∷ got 0 1
+    ∷ says (calls_to.Fetch (unit 0 1)) (answers.Body (120 ∷ 121 ∷ 97 ∷ [])) ∷ got 0 2
+    ∷ says (calls_to.Fetch (unit 0 2)) (answers.Body (120 ∷ 121 ∷ 98 ∷ [])) ∷ []
+calls_of_a_batch = refl
+
+calls_of_a_put_and_a_try : calls_from (roomy 2 2) got_elsewhere (rank 0) ≡
+    puts (104 ∷ 101 ∷ 108 ∷ 108 ∷ 111 ∷ []) answers.Fine ∷ says (calls_to.Try None) answers.NoCurrent ∷ []
+calls_of_a_put_and_a_try = refl
+
+calls_of_a_grant_elsewhere : calls_from (roomy 2 2) got_elsewhere (rank 1) ≡
+    says (calls_to.Reserve None) (answers.Granted (record { id = unit 0 0; kind = kind 1; prio = pos 0; answer = None; server = server 0; common = None; length = 5 })) ∷ []
+calls_of_a_grant_elsewhere = refl
+
+calls_after_done : calls_from (roomy 1 3) tries (rank 0) ≡
+    says (calls_to.Try None) answers.NoCurrent ∷ says calls_to.SetDone answers.Fine
+    ∷ says (calls_to.Try None) (answers.Ended ends_by.NoMoreWork) ∷ puts [] (answers.Ended ends_by.NoMoreWork) ∷ []
+calls_after_done = refl

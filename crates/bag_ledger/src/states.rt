@@ -1,0 +1,89 @@
+//! The parts of the bag's state.
+
+use adlb_unit::{BatchId, CommonRef, End, Payload, Rank, Server, Types, Unit, UnitId, WorkType};
+use std::marker::Model;
+
+/// What a rank does: it runs, has a call pending (with that call's number), or has finished.
+#[derive(Debug, Drop)]
+pub enum Status {
+    Running,
+    /// It puts the unit; the unit's id has the number of the call.
+    Putting { unit: Unit },
+    /// It begins a batch with this common part.
+    Keeping { call: u64, common: Payload },
+    /// It ends its batch.
+    Closing { call: u64 },
+    /// It reserves, and waits.
+    Asking { call: u64, types: Types },
+    /// It tries to reserve.
+    Trying { call: u64, types: Types },
+    /// It fetches the unit; `own` says that the unit's own bytes have come.
+    Fetching { call: u64, id: UnitId, own: bool },
+    /// It counts the free units of a type.
+    Counting { call: u64, kind: WorkType },
+    Finished,
+}
+
+/// A list of servers.
+#[derive(Debug, Drop)]
+pub struct Servers {
+    held: Vec<Server>,
+}
+
+impl Model for Servers {
+    ghost use Rattle.std.specs.Prelude.{List};
+    ghost use Rattle.adlb_unit.specs.declared.names.Server.{Server};
+
+    ghost Value = { List Server };
+
+    ghost view = { λ s. s.held.items };
+}
+
+/// A rank: what it does, the servers that declined its pending call (refused what it brings, or looked in vain), the
+/// number of its next call, the batch that is going on, and the end that it was told last.
+#[derive(Debug, Drop)]
+pub struct RankState {
+    pub status: Status,
+    pub declined: Servers,
+    pub next: u64,
+    pub batch: Option<CommonRef>,
+    pub end: Option<End>,
+}
+
+/// Where a unit is: free at a server, on the way to one, pinned at a server to the rank that it was granted to, or
+/// fetched.
+#[derive(Clone, Copy, Debug, PartialEq, Eq)]
+pub enum UnitPlace {
+    Free(Server),
+    Travelling(Server),
+    Pinned(Server, Rank),
+    Spent,
+}
+
+/// An accepted unit and its place.
+#[derive(Debug, Drop)]
+pub struct Placed {
+    pub unit: Unit,
+    pub place: UnitPlace,
+}
+
+/// The common part of a batch, kept at a server: how many units of the batch were accepted, how often it was fetched,
+/// and whether it was closed and freed.
+#[derive(Debug, Drop)]
+pub struct Part {
+    pub batch: BatchId,
+    pub server: Server,
+    pub common: Payload,
+    pub accepted: u64,
+    pub fetched: u64,
+    pub closed: bool,
+    pub freed: bool,
+}
+
+/// Room that a server promised for a unit of this length.
+#[derive(Clone, Copy, Debug, PartialEq, Eq)]
+pub struct Promise {
+    pub server: Server,
+    pub id: UnitId,
+    pub length: u32,
+}
