@@ -24,7 +24,7 @@ pub differs_is : (a b : UnitId) → a ≢ b → same_id a b ≡ false
 differs_is a b differs = false_from_ne_true (same_id a b) (λ t. differs (is_same a b t))
 
 -- a unit of another id stays as it is
-other_stays : (id : UnitId) (rank : Rank) (q : Placed) → id_of q ≢ id → pinned_by id rank q ≡ q
+pub other_stays : (id : UnitId) (rank : Rank) (q : Placed) → id_of q ≢ id → pinned_by id rank q ≡ q
 other_stays id rank q differs = ap (λ t. cond t (record q { pin = Some rank }) q) (differs_is (id_of q) id differs)
 
 pub this_pinned : (id : UnitId) (rank : Rank) (p : Placed) → id_of p ≡ id → pinned_by id rank p ≡ record p { pin = Some rank }

@@ -1,19 +1,21 @@
 -- The lists of units that the calls leave, for a caller that keeps sums or counts over them.
-use Rattle.std.proofs.Common.{◌≡◌, ◌≢◌, ℕ, ◌+◌, Bool, true, false, cond, List, [], ◌∷◌, ◌++◌, get_or, take, drop, map, Option, Some, None, refl, sym, ap, ◌∙◌, All, Contains, arith, sum_by}
+use Rattle.std.proofs.Common.{◌≡◌, ◌≢◌, ℕ, ◌+◌, Bool, true, false, cond, List, [], ◌∷◌, ◌++◌, get_or, take, drop, map, Option, Some, None, refl, sym, ap, ◌∙◌, All, Any, Contains, inl, inr, arith, sum_by}
 use Rattle.std.specs.List.{filter}
 use Rattle.std.specs.List.Sorted.{IsPermutation}
-use Rattle.std.proofs.lemmas.Bool.{not-true, both_ways}
+use Rattle.std.proofs.lemmas.Bool.{both_ways, not-true, not_from_false}
 use Rattle.std.proofs.lemmas.List.{drop_more, get_or-map, length-map, take-append-drop}
 use Rattle.std.proofs.lemmas.List.Elements.{All-map, All-weaker, filter_passes}
 use Rattle.std.proofs.lemmas.List.Kept.{AllPairs-filter}
-use Rattle.std.proofs.lemmas.List.Quantifiers.{all_pairs_push}
+use Rattle.std.proofs.lemmas.List.Quantifiers.{Any-push, all_pairs_push}
 use Rattle.std.proofs.lemmas.List.Sorted.{IsPermutation-middle, IsPermutation-to_front, sum_by-IsPermutation}
 use Rattle.std.proofs.lemmas.List.Sums.{sum_by-cons}
 use Rattle.std.proofs.lemmas.Option.{get_or_from_slice_get, slice_get_within}
 use Rattle.adlb_unit.specs.declared.names.Rank.{Rank}
 use Rattle.adlb_unit.specs.declared.names.UnitId.{UnitId}
 use Rattle.adlb_unit.specs.declared.names.WorkType.{WorkType}
-use Rattle.work_queue.proofs.Ids.{filter_at, map_at, same_is, this_pinned, unit_pinned}
+use Rattle.adlb_unit.specs.declared.units.Unit.{Unit}
+use Rattle.slab.proofs.SlabLemmas.{Contains-cons, Contains-cons_cases}
+use Rattle.work_queue.proofs.Ids.{differs_is, filter_at, map_at, other_stays, same_is, this_pinned, unit_pinned}
 use Rattle.work_queue.specs.Best.{IsBest}
 use Rattle.work_queue.specs.Queue.{HasDistinctIds, HasFree, HasPinned, has_other_id, id_of, pinned_by, same_id}
 use Rattle.work_queue.specs.declared.placing.Placed.{Placed}
@@ -104,10 +106,56 @@ pinned_unit id rank units has = (has.1, (has.0, has.2, has.3), has.4.0, has.4.1)
 pub free_from_best : (rank : Rank) (types : Option (List WorkType)) (units : List Placed) (id : UnitId) → IsBest rank types units id → HasFree id units
 free_from_best rank types units id best = (best.place, best.unit, slice_get_within units best.place best.unit best.here, get_or_from_slice_get units best.place best.unit best.unit best.here, (best.has_id, best.is_offered.0))
 
--- a unit of the id is pinned by the pin
+-- the unit stands with its pin among the units after the pin
+pub contains_pinned : (units : List Placed) (p : Placed) (id : UnitId) (rank : Rank) → Contains units p → id_of p ≡ id → Contains (map (pinned_by id rank) units) (record p { pin = Some rank })
+contains_pinned units p id rank there is =
+    let now : Placed = record p { pin = Some rank } in
+    let long = length-map units (pinned_by id rank) in
+    let read : get_or (map (pinned_by id rank) units) there.0 now ≡ now = get_or-map (pinned_by id rank) units there.0 p now there.1 ∙ ap (λ q. pinned_by id rank q) there.2 ∙ this_pinned id rank p is in
+    (there.0, omega (arith, long, there.1), read)
+
+-- so a free unit of the id is a pinned one after the pin
 pub pinned_from_free : (id : UnitId) (rank : Rank) (units : List Placed) → HasFree id units → HasPinned id rank (map (pinned_by id rank) units)
 pinned_from_free id rank units has =
-    let now : Placed = record has.1 { pin = Some rank } in
+    let there = contains_pinned units has.1 id rank (has.0, has.2, has.3) has.4.0 in
+    (there.0, record has.1 { pin = Some rank }, there.1, there.2, (has.4.0, refl))
+
+-- what was added is free
+pub free_added : (units : List Placed) (unit : Unit) → HasFree unit.id (units ++ record { unit = unit; pin = None } ∷ [])
+free_added units unit =
+    let P : Placed → Type 0 = λ p. (id_of p ≡ unit.id) × (p.pin ≡ None) in
+    Any-push P units (record { unit = unit; pin = None }) (refl, refl)
+
+listed_later : (t : Bool) (q p : Placed) (rest : List Placed) → Contains rest p → Contains (cond t (q ∷ rest) rest) p
+listed_later true q p rest there = Contains-cons q p rest there
+listed_later false q p rest there = there
+
+contains_left : (id : UnitId) (units : List Placed) (p : Placed) → Contains units p → has_other_id id p ≡ true → Contains (filter (has_other_id id) units) p
+contains_left id [] p there passes = absurd (omega (arith, there.1))
+contains_left id (q ∷ units) p there passes = elim (Contains-cons_cases q p units there) [
+  | inl same ↦ rw (ap (λ u. same_id (id_of u) id) same ∙ not-true (same_id (id_of p) id) passes) (0, omega arith, same)
+  | inr later ↦ listed_later (has_other_id id q) q p (filter (has_other_id id) units) (contains_left id units p later passes)
+]
+
+-- a unit of another id stays where one is taken, and as it is where one is pinned
+pub any_left : (P : Placed → Type 0) (id : UnitId) (units : List Placed) → Any (λ p. P p × (id_of p ≢ id)) units → Any P (filter (has_other_id id) units)
+any_left P id units has =
+    let there = contains_left id units has.1 (has.0, has.2, has.3) (not_from_false (same_id (id_of has.1) id) (differs_is (id_of has.1) id has.4.1)) in
+    (there.0, has.1, there.1, there.2, has.4.0)
+
+pub any_pinned : (P : Placed → Type 0) (id : UnitId) (rank : Rank) (units : List Placed) → Any (λ p. P p × (id_of p ≢ id)) units → Any P (map (pinned_by id rank) units)
+any_pinned P id rank units has =
     let long = length-map units (pinned_by id rank) in
-    let read : get_or (map (pinned_by id rank) units) has.0 now ≡ now = get_or-map (pinned_by id rank) units has.0 has.1 now has.2 ∙ ap (λ q. pinned_by id rank q) has.3 ∙ this_pinned id rank has.1 has.4.0 in
-    (has.0, now, omega (arith, long, has.2), read, (has.4.0, refl))
+    let read : get_or (map (pinned_by id rank) units) has.0 has.1 ≡ has.1 = get_or-map (pinned_by id rank) units has.0 has.1 has.1 has.2 ∙ ap (λ q. pinned_by id rank q) has.3 ∙ other_stays id rank has.1 has.4.1 in
+    (has.0, has.1, omega (arith, long, has.2), read, has.4.0)
+
+-- so a pinned unit stays pinned
+pub pinned_left : (id other : UnitId) (holder : Rank) (units : List Placed) → other ≢ id → HasPinned other holder units → HasPinned other holder (filter (has_other_id id) units)
+pinned_left id other holder units differs has =
+    let P : Placed → Type 0 = λ p. (id_of p ≡ other) × (p.pin ≡ Some holder) in
+    any_left P id units (has.0, has.1, has.2, has.3, (has.4, λ same. differs (sym has.4.0 ∙ same)))
+
+pub pinned_stays : (id other : UnitId) (rank holder : Rank) (units : List Placed) → other ≢ id → HasPinned other holder units → HasPinned other holder (map (pinned_by id rank) units)
+pinned_stays id other rank holder units differs has =
+    let P : Placed → Type 0 = λ p. (id_of p ≡ other) × (p.pin ≡ Some holder) in
+    any_pinned P id rank units (has.0, has.1, has.2, has.3, (has.4, λ same. differs (sym has.4.0 ∙ same)))

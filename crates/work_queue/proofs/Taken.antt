@@ -40,12 +40,6 @@ module _ (old new : Slab Placed) (order front back : List ℕ) (key : ℕ) (p : 
   others_there keys there others k d within = rw (updates.others (get_or keys k d) (others k d within)) (there k d within)
 
 module _ (w : Inside) (new : Slab Placed) (place key : ℕ) (p : Placed) (id : UnitId) (sound : IsSound w) (at : IsFound w place key p id) (updates : Updates w.slots new key None) where
-  front : List ℕ
-  front = take place w.order.items
-
-  back : List ℕ
-  back = drop (suc place) w.order.items
-
   parts : Parts w.slots w.order.items key p (take place w.order.items) (drop (suc place) w.order.items)
   parts = parts_at w.slots w.order.items place key p sound.distinct at.within at.key_is at.found
 

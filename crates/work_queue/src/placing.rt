@@ -1,4 +1,4 @@
-//! A unit in its place.
+//! A unit in its place, and what is told of it.
 
 ghost use Rattle.std.specs.Prelude.{◌≡◌, ◌^◌, ◌≤◌, length};
 ghost use Rattle.work_queue.specs.Facts.{facts_of};
@@ -8,11 +8,14 @@ use adlb_unit::{CommonRef, Rank, Unit, UnitId, WorkType};
 /// A unit with the rank to which it is pinned, if any.
 #[derive(Drop)]
 pub struct Placed {
+    /// The unit as it was put.
     pub unit: Unit,
+    /// The rank that will fetch it; none while it is free.
     pub pin: Option<Rank>,
 }
 
-/// All that a rank is told of a unit before it fetches the body, of which it learns the length in bytes.
+/// What a rank is told of a unit before it fetches the body: all but the target, and of the body the length
+/// in bytes, at most 2^20.
 #[derive(Clone, Copy, Debug, PartialEq, Eq)]
 pub struct UnitFacts {
     pub id: UnitId,

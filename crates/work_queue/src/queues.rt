@@ -1,11 +1,11 @@
-//! The queue.
+//! The queue of one server's units.
 
 ghost use Rattle.std.specs.Prelude.{◌≡◌, ◌≢◌, ◌<◌, ◌≤◌, ◌+◌, ◌^◌, ◌↔◌, ◌++◌, ◌∷◌, [], ℕ, All, Any, List, length, IsTrue, IfOk, IfErr, OnOk, OnErr, IfSome, IfNone, IsSome, IsNone, Some, None, Ok, Err, Option};
 ghost use Rattle.std.specs.List.{slice_get};
 ghost use Rattle.std.specs.Option.{option_map};
 ghost use Rattle.work_queue.specs.Best.{IsBest, IsOffered, best_of};
 ghost use Rattle.work_queue.specs.Facts.{facts_of};
-ghost use Rattle.work_queue.specs.Queue.{Queue, Promise, HasDistinctIds, HasFree, HasPinned, IsSmall, charge_of, id_of, seen, with_pin, with_unit, without};
+ghost use Rattle.work_queue.specs.Queue.{Queue, Promise, HasDistinctIds, HasFree, HasPinned, IsSmall, Overfills, charge_of, id_of, seen, with_pin, with_unit, without};
 
 use crate::placing::{Placed, UnitFacts};
 use crate::rating::Rated;
@@ -19,14 +19,16 @@ use thiserror::Error;
 /// Why a unit is refused.
 #[derive(Clone, Copy, Debug, PartialEq, Eq, Error)]
 pub enum AddFault {
-    /// The queue holds `charge` bytes, and the unit's would go beyond its limit.
+    /// The queue's charge is `charge` bytes, and the unit's body would go beyond its limit (`Overfills`).
     #[error("the queue is full at {charge} bytes")]
     Full { charge: u64 },
+    /// Want of memory, which no clause ties to a cause.
     #[error("out of memory")]
     Memory,
 }
 
-/// The units of one server in arrival order, each with its pin, within a limit of bytes.
+/// The units of one server in arrival order, each with its pin, within a limit of bytes. Contracts see it as
+/// a `Queue` of `specs/Queue.antt`.
 #[derive(Drop)]
 pub struct WorkQueue {
     // The units, each under a key that it keeps as long as it stays.
@@ -64,11 +66,11 @@ impl WorkQueue {
         }
     }
 
-    /// The bytes that the queue's units, promises and common parts take together.
+    /// The bytes that the bodies of the queue's units, its promises and its common parts take together
+    /// (`charge_of`). They are never more than the limit. Besides, it tells what is so of each queue: no two
+    /// units have the same id, and no body has more than 2^20 bytes.
     pub fn charge(&self) -> u64
         ensures exact { result ≡ charge_of self.now }
-
-        // What is so of each queue.
         ensures within { result ≤ self.now.limit }
         ensures distinct { HasDistinctIds self.now.units }
         ensures small { All IsSmall self.now.units }
@@ -76,15 +78,17 @@ impl WorkQueue {
         self.charge
     }
 
-    /// How many units have ever come.
+    /// How many units have ever come: pinned and taken ones count, refused ones do not.
     pub fn arrivals(&self) -> u64
         ensures { result ≡ self.now.arrivals }
     {
         self.arrivals
     }
 
-    /// Puts a free unit last. At a refusal the queue is as it was, and the unit comes back: with `AddFault::Full` where
-    /// it would go beyond the limit, whether there is memory or not, and else with `AddFault::Memory`.
+    /// Puts a free unit last (`with_unit`). Its id is new to the queue's units and promises, and its body has
+    /// at most 2^20 bytes. At a refusal the queue is as it was, and the unit comes back: with
+    /// `AddFault::Full` exactly where the body would go beyond the limit (`Overfills`), whether there is
+    /// memory or not, and else with `AddFault::Memory`.
     pub fn add(&mut self, unit: Unit) -> Result<(), (Unit, AddFault)>
         requires new { All (λ p. id_of p ≢ unit.id) self.old.units }
         requires unpromised { All (λ (p : Promise). p.id ≢ unit.id) self.old.promises }
@@ -92,7 +96,7 @@ impl WorkQueue {
         requires room { self.old.arrivals < 2 ^ 48 }
 
         ensures added { OnOk result (self.new ≡ with_unit self.old unit) }
-        ensures full { (n : ℕ) → (result ≡ Err (unit, AddFault.Full n)) ↔ ((self.old.limit < charge_of self.old + length unit.body) × (n ≡ charge_of self.old)) }
+        ensures full { (n : ℕ) → (result ≡ Err (unit, AddFault.Full n)) ↔ (Overfills self.old unit × (n ≡ charge_of self.old)) }
         ensures back { IfErr result (λ e. e.0 ≡ unit) }
         ensures err { OnErr result (self.new ≡ self.old) }
     {
@@ -114,8 +118,9 @@ impl WorkQueue {
         Ok(())
     }
 
-    /// The best free unit that is permitted to the rank: one for that rank alone before one for any, then the higher
-    /// priority, then the earlier arrival. There is none exactly where no free unit is permitted.
+    /// The best free unit that is permitted to the rank (`IsBest`): one for that rank alone before one for
+    /// any, then the higher priority, then the earlier arrival. There is none exactly where no free unit is
+    /// permitted (`IsOffered`).
     pub fn best(&self, rank: Rank, types: &Types) -> Option<UnitId>
         ensures best { IfSome result (IsBest rank types.now self.now.units) }
         ensures some { IsSome result ↔ Any (IsOffered rank types.now) self.now.units }
@@ -132,7 +137,8 @@ impl WorkQueue {
         }
     }
 
-    /// Pins the free unit of this id to a rank, and tells what that rank is told of it.
+    /// Pins the free unit of this id to a rank, and changes nothing else (`with_pin`). It gives what that
+    /// rank is told of the unit.
     pub fn pin(&mut self, id: UnitId, rank: Rank) -> UnitFacts
         requires { HasFree id self.old.units }
         ensures pinned { self.new ≡ with_pin self.old id rank }
@@ -144,7 +150,8 @@ impl WorkQueue {
         pin_at(&mut self.slots, key, rank)
     }
 
-    /// Takes the unit of this id, pinned to this rank, away, and gives its body.
+    /// Takes the unit of this id, which is pinned to this rank, away and gives its body. The charge falls by
+    /// the body's length, and nothing else changes (`without`).
     pub fn take_pinned(&mut self, id: UnitId, rank: Rank) -> Payload
         requires { HasPinned id rank self.old.units }
         ensures taken { self.new ≡ without self.old id }
@@ -157,7 +164,8 @@ impl WorkQueue {
         body
     }
 
-    /// The unit at this place of the arrival order, counted from 0, with its pin, if there is such a place.
+    /// The unit at this place of the arrival order, counted from 0, with its pin. There is none exactly where
+    /// there is no such place.
     pub fn unit_at(&self, place: u64) -> Option<(UnitId, Option<Rank>)>
         ensures at { result ≡ option_map seen (slice_get self.now.units place) }
         ensures none { IsNone result ↔ (length self.now.units ≤ place) }
