@@ -1,0 +1,4 @@
+mod Calm
+mod Expected
+mod Finds
+mod Tests

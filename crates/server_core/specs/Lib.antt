@@ -1,0 +1,5 @@
+pub mod Inside
+pub mod Out
+pub mod Rules
+pub mod State
+pub mod Step
