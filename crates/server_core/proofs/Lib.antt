@@ -1,4 +1,5 @@
 mod Calm
 mod Expected
 mod Finds
+mod LeftUnits
 mod Tests

@@ -1,4 +1,5 @@
 pub mod Inside
+pub mod Left
 pub mod Out
 pub mod Rules
 pub mod State

@@ -5,6 +5,7 @@ ghost use Rattle.std.specs.Vec.{vec_len};
 ghost use Rattle.server_core.specs.Inside.{IsFresh, IsSettled};
 ghost use Rattle.server_core.specs.Out.{Out};
 ghost use Rattle.server_core.specs.Rules.{Saying};
+ghost use Rattle.server_core.specs.Left.{left_of};
 ghost use Rattle.server_core.specs.State.{State, start};
 ghost use Rattle.server_core.specs.Step.{counted, posted, ticked};
 
@@ -101,6 +102,26 @@ impl ServerState {
         ensures { IsTrue result ↔ (IsTrue self.now.shut × All IsTrue self.now.finished) }
     {
         self.shut && self.finished[0]
+    }
+
+    /// The units that are here, in arrival order. It fails for want of memory alone.
+    pub fn left(&self) -> Result<Vec<LeftUnit>, NoMemory>
+        ensures { IfOk result (λ left. left.items ≡ left_of self.now) }
+    {
+        let mut left = Vec::new(self.alloc);
+        let mut place = 0;
+        while let Some((id, pinned)) = self.queue.unit_at(place) {
+            let unit = LeftUnit {
+                id,
+                server: self.me,
+                pinned,
+            };
+            if left.push(unit).is_err() {
+                return Err(NoMemory);
+            }
+            place += 1;
+        }
+        Ok(left)
     }
 
     // The event has this stamp.
