@@ -17,7 +17,7 @@ use Rattle.bag_ledger.specs.declared.states.Promise.{Promise}
 use Rattle.bag_ledger.specs.declared.states.UnitPlace.{UnitPlace}
 use Rattle.bag_ledger.specs.declared.states.UnitPlace.TheVariants.{Free, Travelling, Pinned, Spent}
 use Rattle.bag_ledger.specs.Bag.{Bag, empty, rank_at, same_unit, same_batch, unit_of, promise_of, is_travelling, unit_charge, part_charge, promise_charge, charge, putting, keeping}
-use Rattle.bag_ledger.specs.Steps.{Fits, Stands, Legal, after, with_part, moved, unpromised, shared, taken, kept}
+use Rattle.bag_ledger.specs.Steps.{Fits, Stands, Legal, after, with_part, moved, unpromised, shared, taken}
 use Rattle.bag_ledger.specs.Runs.{IsRun}
 use Rattle.bag_ledger.proofs.Tests.{some_is, same_server_is, same_unit_is}
 use Rattle.bag_ledger.proofs.Lookups.{find_before, find_appended, sum_changed, sum_lowered, sum_filtered}
@@ -184,29 +184,6 @@ run_within b last [] run tracked is = rw (← run) is
 run_within b last (e ∷ es) run tracked is =
     let next : run.0 ≡ after b e = run.1.2 in
     run_within run.0 last es run.2 (rw next (step_tracked b e run.1.1 tracked)) (rw next (step_within b e run.1.1 tracked is))
-
--- The limit stays.
-
-shared_limit : (common : Option CommonRef) (b : Bag) → (shared common b).limit ≡ b.limit
-shared_limit None b = refl
-shared_limit (Some common) b = refl
-
-taken_limit : (server : Server) (o : Option Unit) (b : Bag) → (taken server o b).limit ≡ b.limit
-taken_limit server None b = refl
-taken_limit server (Some u) b = shared_limit u.common (record b { units = b.units ++ record { unit = u; place = Free server } ∷ [] })
-
-kept_limit : (server : Server) (batch : BatchId) (o : Option (ℕ × List ℕ)) (b : Bag) → (kept server batch o b).limit ≡ b.limit
-kept_limit server batch None b = refl
-kept_limit server batch (Some (call, common)) b = refl
-
-step_limit : (b : Bag) (e : Entry) → (after b e).limit ≡ b.limit
-step_limit b (Accepted server id) = taken_limit server (option_and_then (λ r. putting r.status) (rank_at b id.rank)) b
-step_limit b (Kept server batch) = kept_limit server batch (option_and_then (λ r. keeping r.status) (rank_at b batch.rank)) b
-step_limit b _ = refl
-
-pub run_limit : (b last : Bag) (es : List Entry) → IsRun b es last → last.limit ≡ b.limit
-run_limit b last [] run = ap (λ (x : Bag). x.limit) (sym run)
-run_limit b last (e ∷ es) run = run_limit run.0 last es run.2 ∙ ap (λ (x : Bag). x.limit) run.1.2 ∙ step_limit b e
 
 pub start_within : (ranks servers limit : ℕ) → IsWithin (empty ranks servers limit)
 start_within ranks servers limit s = omega arith

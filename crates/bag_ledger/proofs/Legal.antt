@@ -1,5 +1,5 @@
 -- Legal runs: the function finds the first entry that is no step.
-use Rattle.std.proofs.Common.{◌≡◌, ℕ, zero, suc, ◌+◌, List, [], ◌∷◌, Option, Some, None, refl, ap, ◌∙◌, arith}
+use Rattle.std.proofs.Common.{◌≡◌, ℕ, zero, suc, ◌+◌, List, [], ◌∷◌, ◌++◌, Option, Some, None, refl, ap, ◌∙◌, arith}
 use Rattle.bag_ledger.specs.declared.entries.Entry.{Entry}
 use Rattle.bag_ledger.specs.Bag.{Bag}
 use Rattle.bag_ledger.specs.Steps.{Steps}
@@ -56,3 +56,14 @@ is_found b from (suc k) (x ∷ es) s =
     let later = is_found s.2.0 (from + 1) k es (s.0, s.1, s.2.2, s.3, s.4) in
     let place : (from + 1) + k ≡ from + suc k = omega arith in
     rw (row_is b s.2.0 x s.2.1) (later ∙ ap Some place)
+
+-- a run of a list in two parts is a run of each
+pub run_split : (b last : Bag) (xs ys : List Entry) → IsRun b (xs ++ ys) last → (middle : Bag) × IsRun b xs middle × IsRun middle ys last
+run_split b last [] ys run = (b, refl, run)
+run_split b last (x ∷ xs) ys run =
+    let s = run_split run.0 last xs ys run.2 in
+    (s.0, (run.0, run.1, s.1), s.2)
+
+pub run_joined : (b middle last : Bag) (xs ys : List Entry) → IsRun b xs middle → IsRun middle ys last → IsRun b (xs ++ ys) last
+run_joined b middle last [] ys first then = rw first then
+run_joined b middle last (x ∷ xs) ys first then = (first.0, first.1, run_joined first.0 middle last xs ys first.2 then)

@@ -1,16 +1,22 @@
-mod Batches
-mod Bridge
-mod Charge
-mod Ends
+pub mod Accepted
+pub mod Batches
+pub mod Bridge
+pub mod Charge
+pub mod Ends
 mod Examples
-mod Fetches
-mod Legal
-mod Lookups
-mod Moves
+pub mod Fetches
+pub mod Fixed
+pub mod Heard
+pub mod Legal
+pub mod Lookups
+pub mod Moves
 mod Mutants
-mod Once
-mod Pushes
-mod Puts
-mod Reserves
-mod Tests
+pub mod Once
+pub mod Pushes
+pub mod Puts
+pub mod Reserves
+pub mod Settled
+pub mod Taken
+pub mod Tests
+pub mod Turns
 mod Worked

@@ -39,7 +39,7 @@ accepted_over_the_limit = refl
 no_current_with_a_look_missing : first_illegal (roomy 2 2) 0 (remove got_elsewhere 5) ≡ Some 6
 no_current_with_a_look_missing = refl
 
-looked_past_a_fit : first_illegal (roomy 2 2) 0 (set got_elsewhere 3 (Asked (rank 0) 1 None)) ≡ Some 4
+looked_past_a_fit : first_illegal (roomy 2 2) 0 (remove got_elsewhere 3) ≡ Some 4
 looked_past_a_fit = refl
 
 no_such_server : first_illegal (roomy 2 2) 0 (set got_elsewhere 5 (Looked (server 2) (rank 0) 1)) ≡ Some 5

@@ -38,22 +38,35 @@ fresh = record { status = does.Running; declined = []; next = 0; batch = None; e
 
 -- the bag at the start, of so many ranks and servers with this limit
 abbrev pub empty : ℕ → ℕ → ℕ → Bag
-empty ranks servers limit = record { ranks = replicate ranks fresh; units = []; parts = []; promises = []; done = false; exhausted = false; servers = servers; limit = limit }
+empty ranks servers limit = record {
+  ranks = replicate ranks fresh;
+  units = [];
+  parts = [];
+  promises = [];
+  done = false;
+  exhausted = false;
+  servers = servers;
+  limit = limit;
+}
 
+-- the bag at the start of a run
 abbrev pub start : Config → Bag
 start config = empty config.ranks config.servers config.limit
 
 -- Look-ups.
 
+-- the ids are the same
 abbrev pub same_unit : UnitId → UnitId → Bool
 same_unit a b = (a.rank.0 == b.rank.0) && (a.number == b.number)
 
 abbrev pub same_batch : BatchId → BatchId → Bool
 same_batch a b = (a.rank.0 == b.rank.0) && (a.number == b.number)
 
+-- the state of the rank, if there is such a rank
 abbrev pub rank_at : Bag → Rank → Option RankState
 rank_at b rank = slice_get b.ranks rank.0
 
+-- the accepted unit, the common part and the promise of this id, if there is one
 abbrev pub unit_of : Bag → UnitId → Option Placed
 unit_of b id = find (λ u. same_unit u.unit.id id) b.units
 
@@ -65,10 +78,12 @@ promise_of b id = find (λ p. same_unit p.id id) b.promises
 
 -- Places.
 
+-- free, at whatever server
 abbrev pub is_free : UnitPlace → Bool
 is_free (Free at) = true
 is_free _ = false
 
+-- free at the server
 abbrev pub is_free_at : Server → UnitPlace → Bool
 is_free_at server (Free at) = at.0 == server.0
 is_free_at server _ = false
@@ -79,12 +94,14 @@ is_placed_at server (Free at) = at.0 == server.0
 is_placed_at server (Pinned at rank) = at.0 == server.0
 is_placed_at server _ = false
 
+-- on the way to a server
 abbrev pub is_travelling : UnitPlace → Bool
 is_travelling (Travelling to) = true
 is_travelling _ = false
 
 -- Charge.
 
+-- what one unit, one part and one promise add to the charge of the server
 abbrev pub unit_charge : Server → Placed → ℕ
 unit_charge server u = if is_placed_at server u.place then length u.unit.body else 0
 
@@ -97,7 +114,8 @@ promise_charge server p = if p.server.0 == server.0 then p.length else 0
 -- the own bytes of the units free or pinned at the server, the bytes of the parts there that are not freed, and the bytes
 -- promised there
 abbrev pub charge : Bag → Server → ℕ
-charge b server = sum_by (unit_charge server) b.units + sum_by (part_charge server) b.parts + sum_by (promise_charge server) b.promises
+charge b server =
+    sum_by (unit_charge server) b.units + sum_by (part_charge server) b.parts + sum_by (promise_charge server) b.promises
 
 -- Pending calls.
 
@@ -143,13 +161,16 @@ all_declined b r = list_all (λ k. list_any (λ s. s.0 == k) r.declined) (range_
 abbrev pub is_due : Part → Bool
 is_due p = p.closed && not p.freed && (p.fetched == p.accepted)
 
+-- some part is due
 abbrev pub has_due : Bag → Bool
 has_due b = list_any is_due b.parts
 
 -- a unit free at the server is permitted to the rank with these types
 abbrev pub has_fit_at : Bag → Server → Rank → Option (List WorkType) → Bool
-has_fit_at b server rank types = list_any (λ u. is_free_at server u.place && permitted rank types u.unit.kind u.unit.target) b.units
+has_fit_at b server rank types =
+    list_any (λ u. is_free_at server u.place && permitted rank types u.unit.kind u.unit.target) b.units
 
+-- the rank asks; it asks or has finished
 abbrev pub is_asking : Status → Bool
 is_asking (does.Asking call types) = true
 is_asking _ = false
@@ -161,31 +182,38 @@ is_asking_or_finished _ = false
 
 -- the rank asks, and a unit free at any server is permitted to it
 abbrev pub has_fit : List Placed → Rank → Status → Bool
-has_fit units rank (does.Asking call types) = list_any (λ u. is_free u.place && permitted rank types u.unit.kind u.unit.target) units
+has_fit units rank (does.Asking call types) =
+    list_any (λ u. is_free u.place && permitted rank types u.unit.kind u.unit.target) units
 has_fit units rank _ = false
 
 -- none of these ranks, of which the first has this number, has a fit
 abbrev pub none_fits : List Placed → ℕ → List RankState → Bool
 none_fits units number [] = true
-none_fits units number (r ∷ rs) = not (has_fit units (record { 0 = number }) r.status) && none_fits units (number + 1) rs
+none_fits units number (r ∷ rs) =
+    not (has_fit units (record { 0 = number }) r.status) && none_fits units (number + 1) rs
 
 -- each rank asks or has finished, some rank asks, no promise stands, no unit travels, and no free unit is permitted to a rank
 -- that asks
 abbrev pub settled : Bag → Bool
 settled b =
-    list_all (λ r. is_asking_or_finished r.status) b.ranks && list_any (λ r. is_asking r.status) b.ranks && (length b.promises == 0)
-    && not (list_any (λ u. is_travelling u.place) b.units) && none_fits b.units 0 b.ranks
+    list_all (λ r. is_asking_or_finished r.status) b.ranks && list_any (λ r. is_asking r.status) b.ranks
+    && (length b.promises == 0) && not (list_any (λ u. is_travelling u.place) b.units) && none_fits b.units 0 b.ranks
 
 -- What is counted.
 
 -- of units with these priorities: how many, the highest priority, and how many have it
 abbrev pub info_of_prios : List ℤ → Info
 info_of_prios [] = record { free = 0; top = None; at_top = 0 }
-info_of_prios (p ∷ ps) = record { free = length (p ∷ ps); top = Some (fold int_max p ps); at_top = count_by (int_le (fold int_max p ps)) (p ∷ ps) }
+info_of_prios (p ∷ ps) = record {
+  free = length (p ∷ ps);
+  top = Some (fold int_max p ps);
+  at_top = count_by (int_le (fold int_max p ps)) (p ∷ ps);
+}
 
 -- the units of the type that are free at the server
 abbrev pub free_of_kind : Bag → Server → WorkType → List Placed
 free_of_kind b server kind = filter (λ u. is_free_at server u.place && (u.unit.kind.0 == kind.0)) b.units
 
+-- what a count of the type at the server tells
 abbrev pub info_of : Bag → Server → WorkType → Info
 info_of b server kind = info_of_prios (map (λ u. u.unit.prio) (free_of_kind b server kind))

@@ -32,6 +32,7 @@ Is b rank r = rank_at b rank ≡ Some r
 abbrev pub Begins : Bag → Rank → ℕ → RankState → Type 0
 Begins b rank call r = Is b rank r × (r.status ≡ does.Running) × (r.next ≡ call)
 
+-- the server is one of the run's
 abbrev pub IsServer : Bag → Server → Type 0
 IsServer b server = server.0 < b.servers
 
@@ -155,15 +156,18 @@ abbrev pub change_first : {X : Type 0} → (X → X) → (X → Bool) → List X
 change_first f test [] = []
 change_first f test (x ∷ xs) = if test x then f x ∷ xs else x ∷ change_first f test xs
 
+-- the state of the rank is changed; so is the common part of the batch
 abbrev pub with_rank : Rank → (RankState → RankState) → Bag → Bag
 with_rank rank f b = record b { ranks = change_at f rank.0 b.ranks }
 
 abbrev pub with_part : BatchId → (Part → Part) → Bag → Bag
 with_part batch f b = record b { parts = change_first f (λ p. same_batch p.batch batch) b.parts }
 
+-- the unit stands at another place
 abbrev pub moved : UnitId → UnitPlace → Bag → Bag
 moved id place b = record b { units = change_first (λ u. record u { place = place }) (λ u. same_unit u.unit.id id) b.units }
 
+-- the promise of the unit is gone
 abbrev pub unpromised : UnitId → Bag → Bag
 unpromised id b = record b { promises = filter (λ p. not (same_unit p.id id)) b.promises }
 
@@ -189,12 +193,17 @@ abbrev pub taken : Server → Option Unit → Bag → Bag
 taken server None b = b
 taken server (Some u) b = shared u.common (record b { units = b.units ++ record { unit = u; place = Free server } ∷ [] })
 
+-- the common part of a batch that begins
+abbrev pub new_part : Server → BatchId → List ℕ → Part
+new_part server batch common =
+    record { batch = batch; server = server; common = common; accepted = 0; fetched = 0; closed = false; freed = false }
+
 -- the common part is at the server, and the batch is going on
 abbrev pub kept : Server → BatchId → Option (ℕ × List ℕ) → Bag → Bag
 kept server batch None b = b
 kept server batch (Some (call, common)) b =
     with_rank batch.rank (λ r. ended (record r { batch = Some (record { batch = batch; server = server; length = length common }) }))
-    (record b { parts = b.parts ++ record { batch = batch; server = server; common = common; accepted = 0; fetched = 0; closed = false; freed = false } ∷ [] })
+    (record b { parts = b.parts ++ new_part server batch common ∷ [] })
 
 abbrev pub own_came : Status → Status
 own_came (does.Fetching call id own) = does.Fetching call id true
@@ -208,14 +217,18 @@ own_fetched (Some common) r = record r { status = own_came r.status }
 -- the bag after each entry
 abbrev pub after : Bag → Entry → Bag
 after b (Putting rank call kind prio target answer body) =
-    with_rank rank (λ r. begun (does.Putting (record { id = record { rank = rank; number = call }; kind = kind; prio = prio; target = target; answer = answer; common = r.batch; body = body })) r) b
+    let unit : Option CommonRef → Unit =
+    λ common. record { id = record { rank = rank; number = call }; kind = kind; prio = prio; target = target; answer = answer; common = common; body = body } in
+    with_rank rank (λ r. begun (does.Putting (unit r.batch)) r) b
 after b (Refused server id used) = with_rank id.rank (declined_by server) b
-after b (Accepted server id) = with_rank id.rank ended (taken server (option_and_then (λ r. putting r.status) (rank_at b id.rank)) b)
+after b (Accepted server id) =
+    with_rank id.rank ended (taken server (option_and_then (λ r. putting r.status) (rank_at b id.rank)) b)
 after b (Rejected rank call) = with_rank rank ended b
 after b (Keeping rank call common) = with_rank rank (begun (does.Keeping call common)) b
 after b (Kept server batch) = kept server batch (option_and_then (λ r. keeping r.status) (rank_at b batch.rank)) b
 after b (Closing rank call) = with_rank rank (begun (does.Closing call)) b
-after b (Closed server batch) = with_rank batch.rank (λ r. ended (record r { batch = None })) (with_part batch (λ p. record p { closed = true }) b)
+after b (Closed server batch) =
+    with_rank batch.rank (λ r. ended (record r { batch = None })) (with_part batch (λ p. record p { closed = true }) b)
 after b (Freed server batch) = with_part batch (λ p. record p { freed = true }) b
 after b (Asked rank call types) = with_rank rank (begun (does.Asking call types)) b
 after b (Tried rank call types) = with_rank rank (begun (does.Trying call types)) b
@@ -223,8 +236,10 @@ after b (Granted server rank call id) = with_rank rank ended (moved id (Pinned s
 after b (Looked server rank call) = with_rank rank (declined_by server) b
 after b (NoCurrent rank call) = with_rank rank ended b
 after b (Fetching rank call id) = with_rank rank (begun (does.Fetching call id false)) b
-after b (Fetched server rank id) = with_rank rank (own_fetched (option_and_then (λ u. u.unit.common) (unit_of b id))) (moved id Spent b)
-after b (CommonFetched server rank batch) = with_rank rank ended (with_part batch (λ p. record p { fetched = p.fetched + 1 }) b)
+after b (Fetched server rank id) =
+    with_rank rank (own_fetched (option_and_then (λ u. u.unit.common) (unit_of b id))) (moved id Spent b)
+after b (CommonFetched server rank batch) =
+    with_rank rank ended (with_part batch (λ p. record p { fetched = p.fetched + 1 }) b)
 after b (Promised server id n) = record b { promises = b.promises ++ record { server = server; id = id; length = n } ∷ [] }
 after b (Left server to id) = moved id (Travelling to) b
 after b (Arrived server id) = unpromised id (moved id (Free server) b)
@@ -236,6 +251,7 @@ after b Exhausted = record b { exhausted = true }
 after b (Over rank call end) = with_rank rank (λ r. ended (record r { end = Some end })) b
 after b (Finished rank call) = with_rank rank (begun does.Finished) b
 
+-- the entry frees a part
 abbrev pub is_freeing : Entry → Bool
 is_freeing (Freed server batch) = true
 is_freeing _ = false

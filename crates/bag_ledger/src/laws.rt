@@ -1,29 +1,55 @@
 //! What holds of the bag and of every legal run.
 
-ghost use Rattle.std.specs.Prelude.{◌≡◌, ◌↔◌, ◌≤◌, ℕ, List, Some, None, count_by};
+ghost use Rattle.std.specs.Prelude.{◌≡◌, ◌↔◌, ◌<◌, ◌≤◌, ◌++◌, ◌∷◌, ℕ, List, Some, None, IsTrue, count_by};
+ghost use Rattle.std.specs.List.{list_any};
 ghost use Rattle.adlb_unit.specs.declared.configs.Config.{Config};
+ghost use Rattle.adlb_unit.specs.declared.names.Rank.{Rank};
 ghost use Rattle.adlb_unit.specs.declared.names.Server.{Server};
 ghost use Rattle.adlb_unit.specs.declared.names.UnitId.{UnitId};
+ghost use Rattle.adlb_unit.specs.declared.notes.End.{End};
 ghost use Rattle.bag_ledger.specs.declared.entries.Entry.{Entry};
-ghost use Rattle.bag_ledger.specs.Bag.{Bag, start, charge};
+ghost use Rattle.bag_ledger.specs.Bag.{Bag, start, charge, settled};
 ghost use Rattle.bag_ledger.specs.Steps.{Steps};
 ghost use Rattle.bag_ledger.specs.Step.{step};
-ghost use Rattle.bag_ledger.specs.Runs.{IsRun, IsLegal, IsFirstIllegal, first_illegal, grants, fetches};
+ghost use Rattle.bag_ledger.specs.Runs.{IsRun, IsLegal, IsFirstIllegal, first_illegal};
+ghost use Rattle.bag_ledger.specs.Words.{puts, accepts, grants, fetches, refuses, looks, causes, IsSettled};
 
-/// A step as a relation is the one that the function `step` makes (`same_step`). A ledger is legal exactly where
+/// The definitions of the bag fit together. A step as a relation is the one that the function `step` makes
+/// (`same_step`), and the test `settled` says what it is read to say (`settled_means`). A ledger is legal exactly where
 /// `first_illegal` finds nothing (`legal_run`), and what it finds is the place of the first entry that is no step
-/// (`first_place`). After every legal run each server is charged within its limit (`within_limit`), and no unit was
-/// granted or fetched twice (`granted_once`, `fetched_once`).
+/// (`first_place`). The beginning of a legal run is one (`beginnings`).
 pub fn bag_laws()
     ensures same_step { (b next : Bag) (e : Entry) → Steps b e next ↔ (step b e ≡ Some next) }
+    ensures settled_means { (b : Bag) → IsTrue (settled b) ↔ IsSettled b }
     ensures legal_run { (config : Config) (ledger : List Entry) →
         IsLegal config ledger ↔ (first_illegal (start config) 0 ledger ≡ None) }
     ensures first_place { (config : Config) (ledger : List Entry) (place : ℕ) →
         IsFirstIllegal (start config) ledger place ↔ (first_illegal (start config) 0 ledger ≡ Some place) }
+    ensures beginnings { (config : Config) (ledger rest : List Entry) →
+        IsLegal config (ledger ++ rest) → IsLegal config ledger }
+{}
+
+/// After every legal run each server is charged within its limit (`within_limit`), and no unit was put, accepted,
+/// granted or fetched twice (`put_once`, `accepted_once`, `granted_once`, `fetched_once`). Before a put or a batch
+/// beginning is rejected each server refused it (`rejected_by_all`), before a try is answered that nothing is there each
+/// server looked (`looked_by_all`), and before an end is told it was brought about (`over_by_cause`).
+pub fn run_laws()
     ensures within_limit { (config : Config) (ledger : List Entry) (last : Bag) →
         IsRun (start config) ledger last → (server : Server) → charge last server ≤ config.limit }
+    ensures put_once { (config : Config) (ledger : List Entry) (id : UnitId) →
+        IsLegal config ledger → count_by (puts id) ledger ≤ 1 }
+    ensures accepted_once { (config : Config) (ledger : List Entry) (id : UnitId) →
+        IsLegal config ledger → count_by (accepts id) ledger ≤ 1 }
     ensures granted_once { (config : Config) (ledger : List Entry) (id : UnitId) →
         IsLegal config ledger → count_by (grants id) ledger ≤ 1 }
     ensures fetched_once { (config : Config) (ledger : List Entry) (id : UnitId) →
         IsLegal config ledger → count_by (fetches id) ledger ≤ 1 }
+    ensures rejected_by_all { (config : Config) (ledger rest : List Entry) (rank : Rank) (call : ℕ) →
+        IsLegal config (ledger ++ Entry.Rejected rank call ∷ rest) →
+        (server : Server) → server.0 < config.servers → IsTrue (list_any (refuses server rank call) ledger) }
+    ensures looked_by_all { (config : Config) (ledger rest : List Entry) (rank : Rank) (call : ℕ) →
+        IsLegal config (ledger ++ Entry.NoCurrent rank call ∷ rest) →
+        (server : Server) → server.0 < config.servers → IsTrue (list_any (looks server rank call) ledger) }
+    ensures over_by_cause { (config : Config) (ledger rest : List Entry) (rank : Rank) (call : ℕ) (end : End) →
+        IsLegal config (ledger ++ Entry.Over rank call end ∷ rest) → IsTrue (list_any (causes end) ledger) }
 {}
