@@ -2,4 +2,6 @@ mod Calm
 mod Expected
 mod Finds
 mod LeftUnits
+mod Once
+mod Slots
 mod Tests

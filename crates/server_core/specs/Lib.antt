@@ -1,3 +1,4 @@
+pub mod Agreement
 pub mod Inside
 pub mod Left
 pub mod Out

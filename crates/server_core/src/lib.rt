@@ -8,6 +8,7 @@
 
 mod fetches;
 mod finishing;
+mod laws;
 mod outgoing;
 mod puts;
 mod reserves;
@@ -15,6 +16,7 @@ mod standings;
 mod states;
 mod steps;
 
+pub use laws::laws as server_laws;
 pub use standings::Standing;
 pub use states::{LeftUnit, ServerState};
 pub use steps::Step;
