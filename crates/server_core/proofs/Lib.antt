@@ -1,7 +1,9 @@
 mod Calm
+mod Entries
 mod Expected
 mod Finds
 mod LeftUnits
 mod Once
+mod Ranks
 mod Slots
 mod Tests

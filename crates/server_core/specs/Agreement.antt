@@ -1,5 +1,6 @@
 -- Which part of the bag a server stands for.
-use Rattle.std.specs.Prelude.{◌≡◌, ◌<◌, ℕ, ◌%◌, ◌==◌, Bool, true, false, ◌||◌, List, [], ◌∷◌, length, find, Option, None, Some, sum_by, slice_index_or, option_and_then, if◌then◌else◌, All}
+use Rattle.std.specs.Prelude.{◌≡◌, ◌<◌, ℕ, ◌%◌, ◌==◌, Bool, true, false, ◌||◌, List, [], ◌∷◌, length, find, Option, None, Some, sum_by, slice_index_or, option_and_then, if◌then◌else◌}
+use Rattle.std.specs.List.{list_all}
 use Rattle.std.specs.Option.{option_map}
 use Rattle.adlb_unit.specs.declared.actors.Actor.{Actor}
 use Rattle.adlb_unit.specs.declared.actors.Actor.TheVariants as by
@@ -102,7 +103,7 @@ pub record IsOnly (b : Bag) (config : Config) (me : Server) (standings : List St
   pub one_server : config.servers ≡ 1
   pub one_rank : length b.ranks ≡ 1
   pub one_standing : length standings ≡ 1
-  pub here : All (λ u. stays me u ≡ true) b.units
+  pub here : list_all (stays me) b.units ≡ true
   pub no_room : b.promises ≡ []
 
 abbrev pub IsAlone : Bag → State → Type 0
