@@ -2,6 +2,8 @@ mod Calm
 mod Entries
 mod Expected
 mod Finds
+mod Following
+mod Grants
 mod LeftUnits
 mod Once
 mod Ranks
