@@ -9,3 +9,4 @@ mod Once
 mod Ranks
 mod Slots
 mod Tests
+mod Whole
