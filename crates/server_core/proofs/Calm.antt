@@ -1,16 +1,15 @@
 -- Where nothing follows an event.
-use Rattle.std.proofs.Common.{◌≡◌, ◌⊎◌, inl, inr, ℕ, zero, suc, ◌<◌, Bool, true, false, ◌&&◌, cond, not, List, [], ◌∷◌, get_or, refl, sym, ap, ◌∙◌, arith, eqb}
+use Rattle.std.proofs.Common.{◌≡◌, inl, inr, ℕ, ◌<◌, Bool, true, false, ◌&&◌, cond, not, [], ◌∷◌, get_or, refl, sym, ap, ◌∙◌, arith, eqb}
 use Rattle.std.specs.List.{list_any}
 use Rattle.adlb_unit.specs.declared.names.Rank.{Rank}
 use Rattle.adlb_unit.specs.declared.names.UnitId.{UnitId}
 use Rattle.adlb_unit.specs.declared.units.Unit.{Unit}
 use Rattle.work_queue.specs.declared.placing.Placed.{Placed}
-use Rattle.server_core.specs.declared.standings.Standing.{Standing}
 use Rattle.server_core.specs.declared.standings.Standing.TheVariants.{Running, Finished}
 use Rattle.server_core.specs.Inside.{IsSettled}
 use Rattle.server_core.specs.Rules.{fetched, grant, is_running, put}
 use Rattle.server_core.specs.State.{State, standing}
-use Rattle.server_core.specs.Step.{Served, after_event, is_quiet, served, verdict, waiting_from}
+use Rattle.server_core.specs.Step.{Served, after_event, served, verdict, waiting_from}
 
 -- the only rank, which runs
 pub one_runs : (s : State) (from : Rank) → IsSettled s → from.0 < 1 → is_running (standing s from) ≡ true → s.ranks ≡ Running ∷ []

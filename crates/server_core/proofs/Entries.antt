@@ -1,32 +1,27 @@
 -- The entries of a server are steps of the bag that agrees with it, and the bag agrees afterwards.
-use Rattle.std.proofs.Common.{◌≡◌, ◌⊎◌, inl, inr, ℕ, ◌+◌, ◌%◌, ◌<◌, ◌≤◌, Bool, true, false, cond, ◌&&◌, ◌||◌, not, List, [], ◌∷◌, ◌++◌, length, map, filter, Option, Some, None, refl, sym, ap, ◌∙◌, subst, find, sum_by, arith, slice_get, get_or}
+use Rattle.std.proofs.Common.{◌≡◌, ℕ, ◌+◌, ◌<◌, ◌≤◌, Bool, true, false, ◌||◌, List, [], ◌∷◌, ◌++◌, length, Option, Some, None, refl, sym, ap, ◌∙◌, find, sum_by, arith}
 use Rattle.std.specs.Prelude.{option_and_then}
-use Rattle.std.specs.List.{list_any, list_all}
+use Rattle.std.specs.List.{list_any}
 use Rattle.std.proofs.lemmas.Bool.{ltb-false, ltb-true}
 use Rattle.std.proofs.lemmas.List.Sums.{sum_by-cons}
-use Rattle.adlb_unit.specs.declared.configs.Config.{Config}
 use Rattle.adlb_unit.specs.declared.names.CommonRef.{CommonRef}
 use Rattle.adlb_unit.specs.declared.names.Rank.{Rank}
-use Rattle.adlb_unit.specs.declared.names.Server.{Server}
-use Rattle.adlb_unit.specs.declared.names.UnitId.{UnitId}
 use Rattle.adlb_unit.specs.declared.notes.End.{End}
 use Rattle.adlb_unit.specs.declared.units.Unit.{Unit as Work}
-use Rattle.bag_ledger.specs.Bag.{Bag, charge, has_declined, has_due, offer, is_due, open_call, part_charge, part_of, putting, rank_at, same_batch, unit_of}
-use Rattle.bag_ledger.specs.Steps.{Legal, Steps, after, change_at, change_first, declined_by, ended, has_cause, moved, own_fetched, shared, taken, with_rank}
-use Rattle.bag_ledger.specs.declared.entries.Entry.{Entry}
+use Rattle.bag_ledger.specs.Bag.{Bag, charge, has_declined, offer, is_due, open_call, part_charge, putting, rank_at, same_batch, unit_of}
+use Rattle.bag_ledger.specs.Steps.{Steps, after, change_first, ended, has_cause, shared, taken, with_rank}
 use Rattle.bag_ledger.specs.declared.entries.Entry.TheVariants as enters
 use Rattle.bag_ledger.specs.declared.states.Part.{Part}
-use Rattle.bag_ledger.specs.declared.states.Placed.{Placed as Lodged}
 use Rattle.bag_ledger.specs.declared.states.RankState.{RankState}
 use Rattle.bag_ledger.specs.declared.states.Status.TheVariants as does
-use Rattle.bag_ledger.specs.declared.states.UnitPlace.TheVariants.{Free, Pinned, Spent}
-use Rattle.work_queue.specs.Queue.{Queue, charge_of, with_unit}
-use Rattle.server_core.specs.Agreement.{Agrees, IsOpen, Matches, of_id}
+use Rattle.bag_ledger.specs.declared.states.UnitPlace.TheVariants.{Free}
+use Rattle.work_queue.specs.Queue.{charge_of, with_unit}
+use Rattle.server_core.specs.Agreement.{Agrees, IsOpen}
 use Rattle.server_core.specs.Rules.{is_over}
 use Rattle.server_core.specs.State.{State}
 use Rattle.server_core.specs.declared.standings.Standing.{Standing}
 use Rattle.server_core.proofs.Ranks.{IsKnown, IsRunner, known_changed}
-use Rattle.server_core.proofs.Slots.{holds_added, holds_pinned, holds_taken}
+use Rattle.server_core.proofs.Slots.{holds_added}
 
 -- Agreement, as the bag changes.
 
@@ -101,6 +96,7 @@ due_kept test (p ∷ parts) none unclosed = by_test (or_false (is_due p) (list_a
     or_false : (a b : Bool) → (a || b) ≡ false → (a ≡ false) × (b ≡ false)
     or_false true b e = absurd (cc)
     or_false false b e = (refl, e)
+
     by_test : (is_due p ≡ false) × (list_any is_due parts ≡ false) → (list_any is_due parts ≡ false → ((q : Part) → find test parts ≡ Some q → q.closed ≡ false) → list_any is_due (change_first more test parts) ≡ false) → (t : Bool) → test p ≡ t → ((q : Part) → find test (p ∷ parts) ≡ Some q → q.closed ≡ false) → list_any is_due (change_first more test (p ∷ parts)) ≡ false
     by_test none rest true is unclosed = let closed : p.closed ≡ false = unclosed p (rw is refl) in rw (is, closed) none.1
     by_test none rest false is unclosed = rw (is, none.0) (rest none.1 (λ q found. unclosed q (rw is found)))
@@ -143,8 +139,7 @@ refused_steps b s unit r m at puts fresh over =
 pub accepted_steps : (b : Bag) (s : State) (unit : Work) (r : RankState) → Agrees b s → rank_at b unit.id.rank ≡ Some r → r.status ≡ does.Putting unit → has_declined r s.me ≡ false → is_over s.queue unit ≡ false → Steps b (enters.Accepted s.me unit.id) (with_rank unit.id.rank ended (taken s.me (Some unit) b))
 accepted_steps b s unit r m at puts fresh over =
     let below : charge_of s.queue + length unit.body ≤ s.queue.limit = ltb-false s.queue.limit (charge_of s.queue + length unit.body) over in
-    let brought : option_and_then (λ (x : RankState). putting x.status) (rank_at b unit.id.rank) ≡ Some unit = rw at (ap putting puts) in
-    (
+    let brought : option_and_then (λ (x : RankState). putting x.status) (rank_at b unit.id.rank) ≡ Some unit = rw at (ap putting puts) in (
       rw m.settled refl,
       (r, unit, at, puts, refl, rw m.servers m.within, fresh, rw (charge_same b s m, m.limit) below),
       sym (ap (λ o. with_rank unit.id.rank ended (taken s.me o b)) brought),

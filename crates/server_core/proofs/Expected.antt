@@ -1,12 +1,11 @@
 -- What is known of a letter that is expected.
 use Rattle.std.proofs.Common.{◌≡◌, ℕ, Bool, true, false, cond, Option, Some, None, IsSome, refl, find}
-use Rattle.adlb_unit.specs.declared.messages.Message.{Message}
 use Rattle.adlb_unit.specs.declared.messages.Message.TheVariants as tells
 use Rattle.adlb_unit.specs.declared.names.Rank.{Rank}
 use Rattle.adlb_unit.specs.declared.names.UnitId.{UnitId}
 use Rattle.adlb_unit.specs.declared.units.Unit.{Unit}
 use Rattle.work_queue.specs.declared.placing.Placed.{Placed}
-use Rattle.server_core.specs.Rules.{Response, expects_put, fetch, is_pinned_as, respond}
+use Rattle.server_core.specs.Rules.{expects_put, fetch, is_pinned_as, respond}
 use Rattle.server_core.specs.State.{State}
 
 pub if_some : {X : Type 0} (b : Bool) (x : X) → IsSome (cond b (Some x) None) → b ≡ true

@@ -1,16 +1,14 @@
 -- What is found in a list.
-use Rattle.std.proofs.Common.{◌≡◌, ◌⊎◌, inl, inr, ℕ, zero, suc, ◌+◌, ◌<◌, Bool, true, false, List, [], ◌∷◌, length, get_or, Option, Some, None, refl, sym, ap, ◌∙◌, Contains, find, arith}
+use Rattle.std.proofs.Common.{◌≡◌, ◌⊎◌, inl, inr, ℕ, zero, suc, ◌<◌, Bool, true, false, List, [], ◌∷◌, length, get_or, Option, Some, None, refl, sym, ap, ◌∙◌, Contains, find, arith}
 use Rattle.std.proofs.lemmas.Bool.{and_parts, eqb-true}
 use Rattle.adlb_unit.specs.declared.names.Rank.{Rank}
 use Rattle.adlb_unit.specs.declared.names.UnitId.{UnitId}
 use Rattle.adlb_unit.specs.declared.names.WorkType.{WorkType}
-use Rattle.work_queue.proofs.Firsts.{best_is, none_offered}
 use Rattle.work_queue.proofs.Ids.{is_same, same_is}
-use Rattle.work_queue.proofs.Lists.{free_from_best, free_unit}
-use Rattle.work_queue.specs.Best.{IsBest, best_from, best_of, rated_id}
+use Rattle.work_queue.proofs.Lists.{free_unit}
+use Rattle.work_queue.specs.Best.{best_of}
 use Rattle.work_queue.specs.Queue.{HasFree, HasPinned, id_of, same_id}
 use Rattle.work_queue.specs.declared.placing.Placed.{Placed}
-use Rattle.work_queue.specs.declared.rating.Rated.{Rated}
 use Rattle.server_core.specs.Rules.{best_unit, is_pin, is_pinned_as, unit_with}
 
 pub some_is : {X : Type 0} {x y : X} → Some x ≡ Some y → x ≡ y

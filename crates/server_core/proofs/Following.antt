@@ -1,43 +1,39 @@
 -- What follows an event, with one rank and one server, is steps of the bag.
-use Rattle.std.proofs.Common.{◌≡◌, ◌⊎◌, inl, inr, ℕ, zero, suc, ◌+◌, ◌%◌, ◌<◌, Bool, true, false, cond, ◌==◌, ◌&&◌, ◌||◌, not, List, [], ◌∷◌, ◌++◌, length, map, get_or, slice_get, Option, Some, None, is_some, refl, sym, ap, ◌∙◌, subst, find, Contains, append-nil, arith, eqb}
-use Rattle.std.specs.Prelude.{option_and_then, is_none}
+use Rattle.std.proofs.Common.{◌≡◌, ℕ, zero, suc, ◌%◌, Bool, true, false, cond, ◌==◌, ◌&&◌, ◌||◌, not, List, [], ◌∷◌, ◌++◌, length, map, get_or, slice_get, Option, Some, None, is_some, refl, sym, ap, ◌∙◌, subst, find, append-nil, arith}
+use Rattle.std.specs.Prelude.{option_and_then}
 use Rattle.std.specs.List.{list_any, list_all}
 use Rattle.std.proofs.lemmas.Bool.{and_parts, false_from_ne_true}
-use Rattle.adlb_unit.specs.declared.configs.Config.{Config}
 use Rattle.adlb_unit.specs.declared.names.Rank.{Rank}
 use Rattle.adlb_unit.specs.declared.names.Server.{Server}
 use Rattle.adlb_unit.specs.declared.names.WorkType.{WorkType}
 use Rattle.adlb_unit.specs.declared.notes.End.TheVariants as ends_by
 use Rattle.adlb_unit.specs.Permit.{permitted}
-use Rattle.bag_ledger.specs.Bag.{Bag, has_fit, is_asking, is_asking_or_finished, is_free, is_placed_at, is_travelling, rank_at, open_call, settled, unit_of}
+use Rattle.bag_ledger.specs.Bag.{Bag, is_free, is_travelling, rank_at, open_call, settled}
 use Rattle.bag_ledger.specs.Runs.{IsRun}
-use Rattle.bag_ledger.specs.Steps.{Legal, Steps, after, change_at, change_first, ended, with_rank}
-use Rattle.bag_ledger.specs.Words.{IsSettled}
+use Rattle.bag_ledger.specs.Steps.{Steps, after, change_first, ended}
 use Rattle.bag_ledger.specs.declared.entries.Entry.{Entry}
 use Rattle.bag_ledger.specs.declared.entries.Entry.TheVariants as enters
 use Rattle.bag_ledger.specs.declared.states.Placed.{Placed as Lodged}
 use Rattle.bag_ledger.specs.declared.states.RankState.{RankState}
-use Rattle.bag_ledger.specs.declared.states.Status.{Status}
 use Rattle.bag_ledger.specs.declared.states.Status.TheVariants as does
 use Rattle.bag_ledger.specs.declared.states.UnitPlace.{UnitPlace}
 use Rattle.bag_ledger.specs.declared.states.UnitPlace.TheVariants.{Free, Travelling, Pinned, Spent}
 use Rattle.bag_ledger.proofs.Settled.{is_settled}
-use Rattle.bag_ledger.proofs.Tests.{same_number, same_server_is}
 use Rattle.work_queue.specs.Best.{IsOffered}
 use Rattle.work_queue.specs.declared.placing.Placed.{Placed}
 use Rattle.work_queue.proofs.Offers.{offered_is}
-use Rattle.server_core.specs.Agreement.{Agrees, IsAlone, IsAs, IsOnce, Matches, of_id, pin_at, slot_of, stays}
+use Rattle.server_core.specs.Agreement.{Agrees, IsAlone, IsAs, of_id, slot_of, stays}
 use Rattle.server_core.specs.Rules.{best_unit, is_running, unit_with}
 use Rattle.server_core.specs.State.{State}
-use Rattle.server_core.specs.Step.{Served, Waiting, after_event, exhaust, fits, is_quiet, resumed, verdict, waiting_from}
+use Rattle.server_core.specs.Step.{Served, Waiting, after_event, exhaust, fits, resumed, verdict, waiting_from}
 use Rattle.server_core.specs.declared.standings.Standing.{Standing}
 use Rattle.server_core.specs.declared.standings.Standing.TheVariants.{Running, Parked, Finished}
 use Rattle.server_core.proofs.Calm.{calm_running}
 use Rattle.server_core.proofs.Entries.{over_steps, rank_agrees}
-use Rattle.server_core.proofs.Finds.{find_is, unit_is}
+use Rattle.server_core.proofs.Finds.{unit_is}
 use Rattle.server_core.proofs.Grants.{some_best}
 use Rattle.server_core.proofs.Once.{once_any}
-use Rattle.server_core.proofs.Ranks.{IsRunner, length-change_at}
+use Rattle.server_core.proofs.Ranks.{length-change_at}
 
 -- Each unit is here or spent.
 
@@ -75,6 +71,7 @@ free_here me u here free = by_place u.place refl here free
     at_me : (at : Server) (t : Bool) → (at.0 == me.0) ≡ t → (t || false) ≡ true → t ≡ true
     at_me at true is e = refl
     at_me at false is e = absurd (cc)
+
     by_place : (place : UnitPlace) → u.place ≡ place → stays me (record u { place = place }) ≡ true → is_free place ≡ true → slot_of me (record u { place = place }) ≡ Some (record { unit = u.unit; pin = None })
     by_place (Free at) is here free = rw (at_me at (at.0 == me.0) refl here) refl
     by_place (Pinned at rank) is here free = absurd (cc)
@@ -130,6 +127,7 @@ settled_alone b s r request types m alone only asks none = is_settled b (
   where
     is : (rank : Rank) (x : RankState) → rank_at b rank ≡ Some x → (rank.0 ≡ 0) × (r ≡ x)
     is rank x at = only_at r x rank.0 (ap (λ ranks. slice_get ranks rank.0) (sym only) ∙ at)
+
     first : (rank : Rank) → rank.0 ≡ 0 → rank ≡ record { 0 = 0 }
     first rank e = let made : ℕ → Rank = λ n. record { 0 = n } in ap made e
 
@@ -162,14 +160,18 @@ exhausts b s request types m alone waits fresh none =
     } in
     let over = enters.Over (record { 0 = 0 }) request ends_by.Exhausted in
     let told : Steps c over (after c over) = over_steps c t (record { 0 = 0 }) r.0 request ends_by.Exhausted here at (ap open_call asks) refl in
-    let left : Agrees (after c over) t = rank_agrees c t (record { 0 = 0 }) (λ (x : RankState). ended (record x { end = Some ends_by.Exhausted })) here (λ at_home. refl) in
-    (after c over, (c, (rw m.settled refl, (settled, new), refl), (after c over, told, refl)), left, record {
-      one_server = alone.one_server;
-      one_rank = length-change_at (λ (x : RankState). ended (record x { end = Some ends_by.Exhausted })) 0 b.ranks ∙ alone.one_rank;
-      one_standing = refl;
-      here = alone.here;
-      no_room = alone.no_room;
-    })
+    let left : Agrees (after c over) t = rank_agrees c t (record { 0 = 0 }) (λ (x : RankState). ended (record x { end = Some ends_by.Exhausted })) here (λ at_home. refl) in (
+      after c over,
+      (c, (rw m.settled refl, (settled, new), refl), (after c over, told, refl)),
+      left,
+      record {
+        one_server = alone.one_server;
+        one_rank = length-change_at (λ (x : RankState). ended (record x { end = Some ends_by.Exhausted })) 0 b.ranks ∙ alone.one_rank;
+        one_standing = refl;
+        here = alone.here;
+        no_room = alone.no_room;
+      },
+    )
   where
     home : (servers me : ℕ) → servers ≡ 1 → me ≡ 0 → (0 % servers) ≡ me
     home servers me one zeroth = rw (one, zeroth) refl
@@ -198,6 +200,7 @@ follows b x m alone = let s = only_of x.state.ranks alone.one_standing in by_sta
   where
     one : (x.state.config.servers == 1) ≡ true
     one = ap (λ n. n == 1) alone.one_server
+
     by_standing : (st : Standing) → x.state.ranks ≡ st ∷ [] → Follows b x (after_event x)
     by_standing Running is = subst (λ y. Follows b x y) (sym (calm_running x is)) (nothing_follows b x m alone)
     by_standing Finished is =

@@ -1,19 +1,16 @@
 -- A grant and a fetch are steps of the bag that agrees with the server.
-use Rattle.std.proofs.Common.{◌≡◌, ◌≢◌, ◌⊎◌, inl, inr, ℕ, ◌%◌, ◌==◌, ◌<◌, Bool, true, false, cond, ◌&&◌, List, [], ◌∷◌, length, map, filter, get_or, Option, Some, None, is_some, refl, sym, ap, ◌∙◌, subst, find, Any, Contains, arith}
+use Rattle.std.proofs.Common.{◌≡◌, ℕ, ◌==◌, Bool, true, false, cond, List, get_or, Option, Some, None, is_some, refl, sym, ap, ◌∙◌, subst, find, Contains}
 use Rattle.std.specs.Prelude.{option_and_then, is_none}
-use Rattle.std.specs.List.{slice_get}
 use Rattle.std.specs.Option.{option_map}
 use Rattle.std.proofs.lemmas.Bool.{and_parts}
 use Rattle.std.proofs.lemmas.Option.{slice_get_within, get_or_from_slice_get}
-use Rattle.adlb_unit.specs.declared.names.CommonRef.{CommonRef}
 use Rattle.adlb_unit.specs.declared.names.Rank.{Rank}
 use Rattle.adlb_unit.specs.declared.names.Server.{Server}
 use Rattle.adlb_unit.specs.declared.names.UnitId.{UnitId}
 use Rattle.adlb_unit.specs.declared.names.WorkType.{WorkType}
 use Rattle.adlb_unit.specs.Permit.{permitted}
-use Rattle.bag_ledger.specs.Bag.{Bag, rank_at, same_unit, unit_of, wish}
-use Rattle.bag_ledger.specs.Steps.{Legal, Steps, after, ended, moved, own_fetched, with_rank}
-use Rattle.bag_ledger.specs.declared.entries.Entry.{Entry}
+use Rattle.bag_ledger.specs.Bag.{Bag, rank_at, unit_of, wish}
+use Rattle.bag_ledger.specs.Steps.{Steps, after, ended, moved, own_fetched}
 use Rattle.bag_ledger.specs.declared.entries.Entry.TheVariants as enters
 use Rattle.bag_ledger.specs.declared.states.Placed.{Placed as Lodged}
 use Rattle.bag_ledger.specs.declared.states.RankState.{RankState}
@@ -22,17 +19,17 @@ use Rattle.bag_ledger.specs.declared.states.UnitPlace.{UnitPlace}
 use Rattle.bag_ledger.specs.declared.states.UnitPlace.TheVariants.{Free, Travelling, Pinned, Spent}
 use Rattle.bag_ledger.proofs.Tests.{same_server_is}
 use Rattle.work_queue.proofs.Firsts.{best_is, none_offered}
-use Rattle.work_queue.proofs.Ids.{is_same, only_one, same_is}
+use Rattle.work_queue.proofs.Ids.{only_one}
 use Rattle.work_queue.proofs.Offers.{is_offered}
 use Rattle.work_queue.specs.Best.{IsBest, IsOffered, best_from, best_of, offered, rated_id}
-use Rattle.work_queue.specs.Queue.{HasDistinctIds, Queue, id_of, same_id, with_pin, without}
+use Rattle.work_queue.specs.Queue.{HasDistinctIds, id_of, with_pin, without}
 use Rattle.work_queue.specs.declared.placing.Placed.{Placed}
 use Rattle.work_queue.specs.declared.rating.Rated.{Rated}
 use Rattle.server_core.specs.Agreement.{Agrees, of_id, pin_at, slot_of}
 use Rattle.server_core.specs.Rules.{best_unit, is_pinned_as, unit_with}
 use Rattle.server_core.specs.State.{State}
 use Rattle.server_core.proofs.Entries.{rank_agrees}
-use Rattle.server_core.proofs.Finds.{IsUnit, find_is, pinned_is, some_is, there_find, unit_found, unit_is}
+use Rattle.server_core.proofs.Finds.{pinned_is, some_is, unit_found, unit_is}
 use Rattle.server_core.proofs.Ranks.{IsRunner}
 use Rattle.server_core.proofs.Slots.{holds_pinned, holds_taken}
 

@@ -1,5 +1,5 @@
 -- Lists in which no two units have the same id.
-use Rattle.std.proofs.Common.{◌≡◌, ◌⊎◌, inl, inr, ℕ, zero, suc, ◌<◌, ◌≢◌, Bool, true, false, cond, List, [], ◌∷◌, ◌++◌, length, get_or, Option, Some, None, refl, sym, ap, ◌∙◌, find, All, Contains, arith}
+use Rattle.std.proofs.Common.{◌≡◌, ◌⊎◌, inl, inr, ◌≢◌, Bool, true, false, List, [], ◌∷◌, ◌++◌, get_or, Some, None, refl, sym, ap, ◌∙◌, find, All}
 use Rattle.std.specs.List.{list_any}
 use Rattle.std.proofs.lemmas.Bool.{false_from_ne_true, or_cases}
 use Rattle.std.proofs.lemmas.List.{get_or_default}
@@ -14,7 +14,7 @@ use Rattle.work_queue.specs.Queue.{id_of, same_id}
 use Rattle.work_queue.specs.declared.placing.Placed.{Placed}
 use Rattle.server_core.specs.Agreement.{IsOnce, of_id}
 use Rattle.server_core.specs.Rules.{unit_with}
-use Rattle.server_core.proofs.Finds.{find_is, there_find}
+use Rattle.server_core.proofs.Finds.{there_find}
 
 pub differs : (a b : UnitId) → (a ≡ b → ⊥) → same_unit a b ≡ false
 differs a b apart = false_from_ne_true (same_unit a b) (λ same. apart (same_unit_is a b same))
@@ -59,6 +59,7 @@ once_changed f test keeps (x ∷ all) once = by_test (once_changed f test keeps 
   where
     same : (id : UnitId) (u : Lodged) → of_id id (f u) ≡ of_id id u
     same id u = ap (λ v. same_unit v.id id) (keeps u)
+
     by_test : IsOnce (change_first f test all) → (t : Bool) → test x ≡ t → IsOnce (change_first f test (x ∷ all))
     by_test rest true is = rw (is, keeps x) (once.0, once.1)
     by_test rest false is = rw is (none_changed f test (of_id x.unit.id) (same x.unit.id) all once.0, rest)
@@ -70,6 +71,7 @@ once_any test (x ∷ all) once any = by_case (once_any test all once.1) (or_case
   where
     apart : (u : Lodged) → find (of_id u.unit.id) all ≡ Some u → same_unit x.unit.id u.unit.id ≡ false
     apart u found = differs x.unit.id u.unit.id (λ same. let none : find (of_id u.unit.id) all ≡ None = ap (λ id. find (of_id id) all) (sym same) ∙ once.0 in cc)
+
     by_case : (list_any test all ≡ true → (u : Lodged) × (find (of_id u.unit.id) all ≡ Some u) × (test u ≡ true)) → (test x ≡ true) ⊎ (list_any test all ≡ true) → (u : Lodged) × (find (of_id u.unit.id) (x ∷ all) ≡ Some u) × (test u ≡ true)
     by_case rest (inl here) = (x, rw (same_unit_from x.unit.id x.unit.id refl) refl, here)
     by_case rest (inr later) = let s = rest later in (s.0, rw (apart s.0 s.1) s.1, s.2)

@@ -1,5 +1,5 @@
 -- The units that a server holds, as one comes, is pinned, or goes.
-use Rattle.std.proofs.Common.{◌≡◌, ℕ, ◌+◌, Bool, true, false, cond, not, List, [], ◌∷◌, ◌++◌, length, map, filter, Option, Some, None, refl, sym, ap, ◌∙◌, subst, find, sum_by, arith, eqb}
+use Rattle.std.proofs.Common.{◌≡◌, ◌+◌, Bool, true, false, cond, List, [], ◌∷◌, ◌++◌, length, map, filter, Option, Some, None, refl, sym, ap, ◌∙◌, subst, find, sum_by, arith}
 use Rattle.std.specs.Prelude.{option_and_then}
 use Rattle.std.specs.Option.{option_map, option_or}
 use Rattle.std.proofs.lemmas.List.Folds.{find-append}
@@ -12,15 +12,15 @@ use Rattle.bag_ledger.specs.Bag.{same_unit, unit_charge}
 use Rattle.bag_ledger.specs.Steps.{change_first}
 use Rattle.bag_ledger.specs.declared.states.Placed.{Placed as Lodged}
 use Rattle.bag_ledger.specs.declared.states.UnitPlace.{UnitPlace}
-use Rattle.bag_ledger.specs.declared.states.UnitPlace.TheVariants.{Free, Travelling, Pinned, Spent}
+use Rattle.bag_ledger.specs.declared.states.UnitPlace.TheVariants.{Free, Pinned, Spent}
 use Rattle.bag_ledger.proofs.Lookups.{find_changed, find_filtered, find_other, find_unfiltered, sum_changed}
 use Rattle.bag_ledger.proofs.Moves.{apart}
-use Rattle.bag_ledger.proofs.Tests.{same_number, same_unit_from, same_unit_is}
+use Rattle.bag_ledger.proofs.Tests.{same_number, same_unit_is}
 use Rattle.work_queue.proofs.Ids.{distinct_pinned, sizes_pinned}
 use Rattle.work_queue.proofs.Lists.{distinct_added, distinct_left, sum_by-others}
 use Rattle.work_queue.specs.Queue.{has_other_id, id_of, pinned_by, same_id, size_of}
 use Rattle.work_queue.specs.declared.placing.Placed.{Placed}
-use Rattle.server_core.specs.Agreement.{HoldsUnits, IsOnce, of_id, pin_at, slot_of}
+use Rattle.server_core.specs.Agreement.{HoldsUnits, of_id, slot_of}
 use Rattle.server_core.specs.Rules.{unit_with}
 use Rattle.server_core.proofs.Finds.{IsUnit, find_is, unit_is}
 use Rattle.server_core.proofs.Once.{none_of_id, once_added, once_changed}
@@ -49,6 +49,7 @@ added_each all me units unit each new id =
     by_slot v found None is true same =
         let other : find (of_id id) all ≡ None = ap (λ k. find (of_id k) all) (sym (same_unit_is unit.id id same)) ∙ new in
         absurd (cc)
+
     by_found : (o : Option Lodged) → find (of_id id) all ≡ o → option_or (option_and_then (slot_of me) o) (cond (same_unit unit.id id) (Some (record { unit = unit; pin = None })) None) ≡ option_and_then (slot_of me) (option_or o (cond (same_unit unit.id id) (Some (record { unit = unit; place = Free me })) None))
     by_found None found = last_found me unit id (same_unit unit.id id) refl
     by_found (Some v) found = by_slot v found (slot_of me v) refl (same_unit unit.id id) refl
@@ -113,21 +114,27 @@ holds_pinned all me units id rank u holds found free =
   where
     slot : slot_of me u ≡ Some (record { unit = u.unit; pin = None })
     slot = ap (λ place. slot_of me (record { unit = u.unit; place = place })) free ∙ free_slot me u.unit
+
     pinned : slot_of me (record { unit = u.unit; place = Pinned me rank }) ≡ Some (record { unit = u.unit; pin = Some rank })
     pinned = ap (λ t. option_map (λ (pin : Option Rank). record { unit = u.unit; pin = pin }) (cond t (Some (Some rank)) None)) (same_number me.0)
+
     is_id : same_id u.unit.id id ≡ true
     is_id = (find_is (of_id id) all u found).0
+
     at_id : IsSame me (change_first (to_place (Pinned me rank)) (of_id id) all) (map (pinned_by id rank) units) id
     at_id =
         let before : unit_with id units ≡ Some (record { unit = u.unit; pin = None }) = holds.each id ∙ ap (λ o. option_and_then (slot_of me) o) found ∙ slot in
         let now : option_map (pinned_by id rank) (Some (record { unit = u.unit; pin = None })) ≡ Some (record { unit = u.unit; pin = Some rank }) = rw is_id refl in
         rw (find_pinned id rank id units, before, now, moved_same all id (Pinned me rank) u found) (sym pinned)
+
     by_id : (other : UnitId) (t : Bool) → same_unit id other ≡ t → IsSame me (change_first (to_place (Pinned me rank)) (of_id id) all) (map (pinned_by id rank) units) other
     by_id other true same = let P : UnitId → Type 0 = IsSame me (change_first (to_place (Pinned me rank)) (of_id id) all) (map (pinned_by id rank) units) in subst P (same_unit_is id other same) at_id
     by_id other false differs =
         rw (find_pinned id rank other units, other_pinned id rank other units differs (unit_with other units) refl, moved_apart all id other (Pinned me rank) differs) (holds.each other)
+
     charged : unit_charge me u ≡ unit_charge me (record u { place = Pinned me rank })
     charged = ap (λ place. unit_charge me (record u { place = place })) free
+
     bytes : sum_by (unit_charge me) (change_first (to_place (Pinned me rank)) (of_id id) all) ≡ sum_by size_of (map (pinned_by id rank) units)
     bytes = omega (arith, sum_changed (unit_charge me) (to_place (Pinned me rank)) (of_id id) all u found, charged, holds.bytes, sizes_pinned id rank units)
 
@@ -145,15 +152,20 @@ holds_taken all me units id rank u p holds found pinned there same =
   where
     test : UnitId → Placed → Bool
     test other q = same_id (id_of q) other
+
     at_id : IsSame me (change_first (to_place Spent) (of_id id) all) (filter (has_other_id id) units) id
     at_id = rw (find_filtered (λ q. same_id (id_of q) id) units, moved_same all id Spent u found) refl
+
     by_id : (other : UnitId) (t : Bool) → same_unit id other ≡ t → IsSame me (change_first (to_place Spent) (of_id id) all) (filter (has_other_id id) units) other
     by_id other true is = let P : UnitId → Type 0 = IsSame me (change_first (to_place Spent) (of_id id) all) (filter (has_other_id id) units) in subst P (same_unit_is id other is) at_id
     by_id other false differs =
         rw (find_unfiltered (λ q. same_id (id_of q) id) (λ q. same_id (id_of q) other) (λ q is. apart id other differs (id_of q) is) units, moved_apart all id other Spent differs) (holds.each other)
+
     here : IsUnit id units p
     here = unit_is id units p there
+
     charged : unit_charge me u ≡ length p.unit.body
     charged = ap (λ place. unit_charge me (record u { place = place })) pinned ∙ ap (λ t. cond t (length u.unit.body) 0) (same_number me.0) ∙ ap (λ w. length w.body) (sym same)
+
     bytes : sum_by (unit_charge me) (change_first (to_place Spent) (of_id id) all) ≡ sum_by size_of (filter (has_other_id id) units)
     bytes = omega (arith, sum_changed (unit_charge me) (to_place Spent) (of_id id) all u found, charged, holds.bytes, sum_by-others units p id holds.distinct here.there here.is size_of)

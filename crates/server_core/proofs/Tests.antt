@@ -1,5 +1,5 @@
 -- What tests say.
-use Rattle.std.proofs.Common.{◌≡◌, ℕ, ◌+◌, ◌<◌, Bool, true, false, length, ltb, arith}
+use Rattle.std.proofs.Common.{◌≡◌, ◌+◌, ◌<◌, true, false, length}
 use Rattle.std.proofs.lemmas.Bool.{false_from_ne_true, ltb-true, lt-ltb}
 use Rattle.adlb_unit.specs.declared.units.Unit.{Unit}
 use Rattle.work_queue.specs.Queue.{Queue, charge_of}

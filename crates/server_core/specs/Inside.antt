@@ -1,8 +1,5 @@
 -- The fields of a server.
-use Rattle.std.specs.Prelude.{◌≡◌, ◌⊎◌, ℕ, ◌+◌, ◌<◌, ◌≤◌, ◌^◌, List, [], ◌∷◌, length, true, All}
-use Rattle.adlb_unit.specs.declared.letters.Sending.{Sending}
-use Rattle.bag_ledger.specs.declared.entries.Entry.{Entry}
-use Rattle.server_core.specs.declared.standings.Standing.{Standing}
+use Rattle.std.specs.Prelude.{◌≡◌, ◌⊎◌, ◌<◌, ◌≤◌, ◌^◌, [], ◌∷◌, length, true, All}
 use Rattle.server_core.specs.declared.standings.Standing.TheVariants.{Running, Finished}
 use Rattle.server_core.specs.declared.states.ServerState.TheInside.{Inside}
 use Rattle.server_core.specs.State.{State}

@@ -22,7 +22,11 @@ impl ServerState {
         ensures { All (λ p. id_of p ≡ id → made self.new out.new ≡ served (fetched self.old from request id p)) self.old.queue.units }
     {
         let body = self.queue.take_pinned(id, from);
-        out.enter(Entry::Fetched { server: self.me, rank: from, id });
+        out.enter(Entry::Fetched {
+            server: self.me,
+            rank: from,
+            id,
+        });
         self.say(from, Message::Bytes { request, body }, out);
     }
 }

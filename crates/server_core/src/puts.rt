@@ -29,12 +29,26 @@ impl ServerState {
         }
         match self.queue.add(unit) {
             Ok(()) => {
-                out.enter(Entry::Accepted { server: self.me, id });
+                out.enter(Entry::Accepted {
+                    server: self.me,
+                    id,
+                });
                 self.say(from, Message::Accepted { request: id.number }, out);
             }
             Err((_, AddFault::Full { charge })) => {
-                out.enter(Entry::Refused { server: self.me, id, used: charge });
-                self.say(from, Message::Full { request: id.number, charge }, out);
+                out.enter(Entry::Refused {
+                    server: self.me,
+                    id,
+                    used: charge,
+                });
+                self.say(
+                    from,
+                    Message::Full {
+                        request: id.number,
+                        charge,
+                    },
+                    out,
+                );
             }
             Err((_, AddFault::Memory)) => return Err(NoMemory),
         }

@@ -53,7 +53,12 @@ impl ServerState {
             common: facts.common,
             length: facts.length,
         };
-        out.enter(Entry::Granted { server: self.me, rank: from, call: request, id });
+        out.enter(Entry::Granted {
+            server: self.me,
+            rank: from,
+            call: request,
+            id,
+        });
         self.say(from, Message::Grant { request, note }, out);
     }
 
@@ -81,7 +86,11 @@ impl ServerState {
         ensures counted { self.new ≡ counted self.old (Actor.Rank from) }
         ensures told { out.new ≡ record { sends = posted self.old (to_rank from (Message.Ended request end)) ∷ []; entries = out.old.entries ++ Entry.Over from request end ∷ [] } }
     {
-        out.enter(Entry::Over { rank: from, call: request, end });
+        out.enter(Entry::Over {
+            rank: from,
+            call: request,
+            end,
+        });
         self.say(from, Message::Ended { request, end }, out);
     }
 }

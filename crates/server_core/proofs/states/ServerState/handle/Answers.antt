@@ -1,12 +1,10 @@
-use Rattle.std.proofs.Common.{◌≡◌, true, false, Bool, cond, Option, Some, None, IsSome, refl, sym, ap, ◌∙◌}
-use Rattle.std.specs.Option.{option_map}
+use Rattle.std.proofs.Common.{◌≡◌, true, IsSome, refl}
 use Rattle.std.proofs.lemmas.Result.{on_ok_weaker}
 use Rattle.std.proofs.lemmas.List.Elements.{All-contains}
 use Rattle.adlb_unit.specs.declared.messages.Message.{Message}
-use Rattle.adlb_unit.specs.declared.messages.Message.TheVariants as tells
 use Rattle.server_core.specs.Out.{made}
-use Rattle.server_core.specs.Rules.{Response, expects_put, fetch, fetched, is_over, is_pinned_as, put, respond}
-use Rattle.server_core.specs.Step.{Served, after_event, served}
+use Rattle.server_core.specs.Rules.{expects_put, fetched, is_over, put, respond}
+use Rattle.server_core.specs.Step.{served}
 use Rattle.server_core.proofs.Calm.{calm_fetched, calm_put}
 use Rattle.server_core.proofs.Expected.{pinned_there, put_expected}
 use Rattle.server_core.proofs.Finds.{has_pinned, pinned_is}

@@ -1,4 +1,4 @@
-use Rattle.std.proofs.Common.{◌≡◌, ◌+◌, sym, ap, ◌∙◌, ◌++◌, ◌∷◌, [], true, refl, arith}
+use Rattle.std.proofs.Common.{◌≡◌, sym, ◌∙◌, true, refl, arith}
 use Rattle.std.specs.Result.{is_ok}
 use Rattle.server_core.proofs.LeftUnits.{left_more}
 use Rattle.server_core.proofs.states.ServerState.left.Goals as goal
@@ -11,5 +11,5 @@ loop-id-preserved c =
     record {
       items = rw (c.push.ensures.items, okay, more.1, c.loop-id.invariant.items) refl;
       within = omega (arith, more.0);
-      count = rw (c.push.ensures.len, okay, c.loop-id.invariant.count) refl
+      count = rw (c.push.ensures.len, okay, c.loop-id.invariant.count) refl;
     }

@@ -7,7 +7,7 @@ abbrev pub invariant-loop-id : goal.invariant-loop-id
 invariant-loop-id l = record {
   items : l.left.items ≡ map (left_unit l.self-inside.me) (take l.place l.self-inside.queue.units);
   within : l.place ≤ length l.self-inside.queue.units;
-  count : vec_len l.left ≡ l.place
+  count : vec_len l.left ≡ l.place;
 }
 
 abbrev pub decreases-loop-id : goal.decreases-loop-id

@@ -1,4 +1,4 @@
-use Rattle.std.proofs.Common.{◌≡◌, ◌<◌, ◌+◌, length, false, true, refl, subst, arith}
+use Rattle.std.proofs.Common.{◌≡◌, ◌<◌, ◌+◌, length, false, true, refl, subst}
 use Rattle.server_core.specs.Out.{made}
 use Rattle.server_core.specs.Rules.{is_over, put}
 use Rattle.server_core.specs.State.{State}
