@@ -7,6 +7,7 @@ mod Grants
 mod LeftUnits
 mod Once
 mod Ranks
+mod Room
+mod Serving
 mod Slots
-mod Tests
 mod Whole

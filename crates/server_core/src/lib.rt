@@ -15,6 +15,8 @@ mod reserves;
 mod standings;
 mod states;
 mod steps;
+#[cfg(test)]
+mod tests;
 
 pub use laws::server_laws;
 pub use standings::Standing;

@@ -3,7 +3,7 @@ use Rattle.server_core.specs.Out.{made}
 use Rattle.server_core.specs.Rules.{is_over, put}
 use Rattle.server_core.specs.State.{State}
 use Rattle.server_core.specs.Step.{served}
-use Rattle.server_core.proofs.Tests.{is_over_from, not_over}
+use Rattle.server_core.proofs.Room.{is_over_from, not_over}
 use Rattle.work_queue.specs.Queue.{charge_of}
 use Rattle.server_core.proofs.states.ServerState.put.Goals as goal
 use Rattle.server_core.proofs.states.ServerState.put.Goals.{in-Ok, in-Err-default-Full}

@@ -1,4 +1,4 @@
--- What tests say.
+-- Whether there is room for a unit.
 use Rattle.std.proofs.Common.{◌≡◌, ◌+◌, ◌<◌, true, false, length}
 use Rattle.std.proofs.lemmas.Bool.{false_from_ne_true, ltb-true, lt-ltb}
 use Rattle.adlb_unit.specs.declared.units.Unit.{Unit}
