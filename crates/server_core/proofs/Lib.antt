@@ -10,4 +10,5 @@ mod Ranks
 mod Room
 mod Serving
 mod Slots
+mod Starting
 mod Whole

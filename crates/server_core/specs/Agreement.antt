@@ -12,7 +12,7 @@ use Rattle.adlb_unit.specs.declared.names.CommonRef.{CommonRef}
 use Rattle.adlb_unit.specs.declared.names.Rank.{Rank}
 use Rattle.adlb_unit.specs.declared.names.Server.{Server}
 use Rattle.adlb_unit.specs.declared.names.UnitId.{UnitId}
-use Rattle.bag_ledger.specs.Bag.{Bag, has_declined, has_due, is_placed_at, part_charge, part_of, promise_charge, promise_of, rank_at, same_unit, unit_charge, unit_of}
+use Rattle.bag_ledger.specs.Bag.{Bag, has_declined, has_due, is_placed_at, part_charge, part_of, promise_charge, promise_of, rank_at, same_unit, start as empty_bag, unit_charge, unit_of}
 use Rattle.bag_ledger.specs.Runs.{IsRun}
 use Rattle.bag_ledger.specs.declared.states.Part.{Part}
 use Rattle.bag_ledger.specs.declared.states.Placed.{Placed as Lodged}
@@ -25,7 +25,7 @@ use Rattle.bag_ledger.specs.declared.states.UnitPlace.TheVariants.{Free, Travell
 use Rattle.work_queue.specs.Queue.{HasDistinctIds, Promise, Queue, promised, same_id, size_of}
 use Rattle.work_queue.specs.declared.placing.Placed.{Placed}
 use Rattle.server_core.specs.Rules.{unit_with}
-use Rattle.server_core.specs.State.{State}
+use Rattle.server_core.specs.State.{State, start}
 use Rattle.server_core.specs.Step.{Served, serve}
 use Rattle.server_core.specs.declared.standings.Standing.{Standing}
 use Rattle.server_core.specs.declared.standings.Standing.TheVariants.{Running, Parked, Finished}
@@ -135,3 +135,9 @@ abbrev pub StepsAreLegal : Type 0
 StepsAreLegal =
     (b : Bag) (s : State) (from : Actor) (letter : Letter) (x : Served) → Agrees b s → IsAlone b s → IsPending b s from letter.message → serve s from letter ≡ Some x
     → (next : Bag) × IsRun b x.entries next × Agrees next x.state × IsAlone next x.state
+
+-- at the start of a run the bag agrees with each server, and with one rank and one server nothing else is there
+abbrev pub StartAgrees : Type 0
+StartAgrees =
+    (config : Config) (me : Server) → me.0 < config.servers
+    → Agrees (empty_bag config) (start config me) × (config.ranks ≡ 1 → config.servers ≡ 1 → IsAlone (empty_bag config) (start config me))
