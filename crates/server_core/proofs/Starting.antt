@@ -1,13 +1,12 @@
 -- At the start of a run the bag agrees with each server.
-use Rattle.std.proofs.Common.{◌≡◌, ◌<◌, ℕ, zero, suc, List, [], ◌∷◌, get_or, refl, ap, ◌∙◌, arith}
+use Rattle.std.proofs.Common.{◌≡◌, ◌<◌, ℕ, zero, suc, get_or, refl, ◌∙◌, arith}
 use Rattle.std.specs.Prelude.{replicate}
 use Rattle.std.proofs.lemmas.List.{length-replicate}
 use Rattle.adlb_unit.specs.declared.configs.Config.{Config}
 use Rattle.adlb_unit.specs.declared.names.Server.{Server}
 use Rattle.bag_ledger.specs.Bag.{start as empty_bag}
 use Rattle.server_core.specs.Agreement.{Agrees, IsAlone, StartAgrees}
-use Rattle.server_core.specs.State.{State, start}
-use Rattle.server_core.specs.declared.standings.Standing.{Standing}
+use Rattle.server_core.specs.State.{start}
 use Rattle.server_core.specs.declared.standings.Standing.TheVariants.{Running}
 
 all_run : (n k : ℕ) → get_or (replicate n Running) k Running ≡ Running

@@ -1,5 +1,5 @@
 -- A server whose only rank runs.
-use Rattle.std.specs.Prelude.{◌≡◌, ◌<◌, ℕ, List, [], ◌∷◌, false, None, All}
+use Rattle.std.specs.Prelude.{◌≡◌, ◌<◌, ℕ, [], ◌∷◌, false, None, All}
 use Rattle.work_queue.specs.Queue.{id_of}
 use Rattle.server_core.specs.declared.standings.Standing.TheVariants.{Running}
 use Rattle.server_core.specs.State.{State}

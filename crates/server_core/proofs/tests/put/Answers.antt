@@ -1,7 +1,5 @@
 use Rattle.std.proofs.Common.{◌≡◌, ◌+◌, Some, ap, ◌∙◌, refl}
-use Rattle.server_core.specs.Serving.{IsServing}
-use Rattle.server_core.specs.Step.{Served, serve}
-use Rattle.server_core.specs.declared.steps.Step.{Step}
+use Rattle.server_core.specs.Step.{serve}
 use Rattle.adlb_unit.specs.declared.actors.Actor.TheVariants as by
 use Rattle.server_core.proofs.Serving.{on_ok, put_serves, serving_after}
 use Rattle.server_core.proofs.tests.put.Goals as goal
