@@ -1,7 +1,10 @@
 //! A unit of work.
 
-use crate::names::{CommonRef, Rank, Target, UnitId, WorkType};
+ghost use Rattle.std.specs.Prelude.{◌≡◌, IfOk};
+
+use crate::names::{CommonRef, NoMemory, Rank, Target, UnitId, WorkType};
 use crate::payloads::Payload;
+use std::alloc::Global;
 
 /// A unit of work, as it was put: higher priorities are given out first, `answer` is the rank that wants the answer,
 /// and `common` tells the common part of its batch.
@@ -14,4 +17,21 @@ pub struct Unit {
     pub answer: Option<Rank>,
     pub common: Option<CommonRef>,
     pub body: Payload,
+}
+
+impl Unit {
+    /// An equal unit. It fails for want of memory alone.
+    pub fn twin(&self, alloc: Global) -> Result<Unit, NoMemory>
+        ensures { IfOk result (λ u. u ≡ self.now) }
+    {
+        Ok(Unit {
+            id: self.id,
+            kind: self.kind,
+            prio: self.prio,
+            target: self.target,
+            answer: self.answer,
+            common: self.common,
+            body: self.body.twin(alloc)?,
+        })
+    }
 }

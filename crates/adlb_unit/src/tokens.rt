@@ -1,0 +1,117 @@
+//! The token that goes round the ring of servers to find out whether all work is used up.
+
+ghost use Rattle.std.specs.Prelude.{◌≡◌, ◌<◌, ◌≤◌, ◌++◌, ◌∷◌, [], IfOk, length};
+
+use crate::names::{NoMemory, Rank};
+use crate::wanted::Types;
+use std::alloc::Global;
+use std::marker::Model;
+
+/// The waiting ranks with the types that each wants, seen as the list of these pairs: at most 32, and there is room for
+/// 32 from its making.
+#[derive(Debug, Drop)]
+pub struct AskedList {
+    pairs: Vec<(Rank, Types)>,
+}
+
+impl Model for AskedList {
+    ghost use Rattle.std.specs.Prelude.{◌≤◌, List, Option, length};
+    ghost use Rattle.std.specs.Vec.{vec_capacity};
+    ghost use Rattle.adlb_unit.specs.declared.names.Rank.{Rank};
+    ghost use Rattle.adlb_unit.specs.declared.names.WorkType.{WorkType};
+
+    ghost Value = { List (Rank × Option (List WorkType)) };
+
+    ghost view = { λ a. a.pairs.items };
+
+    ghost invariant = { λ a. (length a.pairs.items ≤ 32) × (32 ≤ vec_capacity a.pairs) };
+}
+
+impl AskedList {
+    /// An empty list. It fails for want of memory alone.
+    pub fn new(alloc: Global) -> Result<AskedList, NoMemory>
+        ensures { IfOk result (λ a. a ≡ []) }
+    {
+        match Vec::with_capacity(alloc, 32) {
+            Ok(pairs) => Ok(AskedList { pairs }),
+            Err(_) => Err(NoMemory),
+        }
+    }
+
+    /// Puts a pair last. The list has fewer than 32.
+    pub fn push(&mut self, rank: Rank, types: Types)
+        requires { length self.old < 32 }
+        ensures { self.new ≡ self.old ++ (rank, types) ∷ [] }
+    {
+        self.pairs.push_reserved((rank, types));
+    }
+
+    /// Takes all pairs away.
+    pub fn clear(&mut self)
+        ensures { self.new ≡ [] }
+    {
+        self.pairs.clear();
+    }
+
+    /// The pairs, in the order in which they came: at most 32.
+    pub fn pairs(&self) -> &[(Rank, Types)]
+        ensures pairs { result.now ≡ self.now }
+        ensures few { length self.now ≤ 32 }
+    {
+        self.pairs.as_slice()
+    }
+
+    /// An equal list. It fails for want of memory alone.
+    pub fn twin(&self, alloc: Global) -> Result<AskedList, NoMemory>
+        ensures { IfOk result (λ a. a ≡ self.now) }
+    {
+        let mut twin = AskedList::new(alloc)?;
+        for (rank, types) in self.pairs() {
+            twin.push(*rank, types.twin());
+        }
+        Ok(twin)
+    }
+}
+
+/// The token of one check: its number from 1, the wave, which is 1 or 2, and the ranks that wait.
+#[derive(Debug, Drop)]
+pub struct Token {
+    pub check: u64,
+    pub wave: u8,
+    pub asked: AskedList,
+}
+
+impl Token {
+    /// An equal token. It fails for want of memory alone.
+    pub fn twin(&self, alloc: Global) -> Result<Token, NoMemory>
+        ensures { IfOk result (λ t. t ≡ self.now) }
+    {
+        Ok(Token {
+            check: self.check,
+            wave: self.wave,
+            asked: self.asked.twin(alloc)?,
+        })
+    }
+}
+
+#[cfg(test)]
+mod tests {
+    use super::*;
+    use crate::names::WorkType;
+    use std::test::Fail;
+
+    #[test]
+    fn asked_ranks_stand_in_order(rt: HostRuntime) -> Result<(), Fail> {
+        let mut asked = AskedList::new(rt.alloc())?;
+        asked.push(Rank(4), Types::list(&[WorkType(2)])?);
+        asked.push(Rank(1), Types::any());
+        let twin = asked.twin(rt.alloc())?;
+        assert_eq!(rt; twin.pairs().len(), 2);
+        assert_eq!(rt; twin.pairs()[0].0, Rank(4));
+        assert!(rt; !twin.pairs()[0].1.has(WorkType(1)));
+        assert!(rt; twin.pairs()[1].1.has(WorkType(1)));
+        asked.clear();
+        assert_eq!(rt; asked.pairs().len(), 0);
+        Ok(())
+    }
+}

@@ -1,0 +1,14 @@
+mod Calm
+mod Entries
+mod Expected
+mod Finds
+mod Following
+mod Grants
+mod LeftUnits
+mod Once
+mod Ranks
+mod Room
+mod Serving
+mod Slots
+mod Starting
+mod Whole

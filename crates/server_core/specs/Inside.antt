@@ -1,0 +1,46 @@
+-- The fields of a server.
+use Rattle.std.specs.Prelude.{◌≡◌, ◌⊎◌, ◌<◌, ◌≤◌, ◌^◌, [], ◌∷◌, length, true, All}
+use Rattle.server_core.specs.declared.standings.Standing.TheVariants.{Running, Finished}
+use Rattle.server_core.specs.declared.states.ServerState.TheInside.{Inside}
+use Rattle.server_core.specs.State.{State}
+
+abbrev pub state_of : Inside → State
+state_of i = record {
+  config = i.config;
+  me = i.me;
+  queue = i.queue;
+  ranks = i.ranks.items;
+  finished = i.finished.items;
+  done = i.done;
+  exhausted = i.exhausted;
+  shut = i.shut;
+  activity = i.activity;
+  clock = i.clock;
+  sent = i.sent.items;
+  trouble = i.trouble;
+}
+
+-- with one rank: it runs, or it has finished and the server is shut
+abbrev pub IsSettled : State → Type 0
+IsSettled s = (s.ranks ≡ Running ∷ []) ⊎ ((s.ranks ≡ Finished ∷ []) × (s.shut ≡ true))
+
+pub record IsSound (s : State) : Type 0 where
+  pub one_rank : s.config.ranks ≡ 1
+  pub one_server : s.config.servers ≡ 1
+  pub first : s.me.0 ≡ 0
+  pub settled : IsSettled s
+  pub finished : length s.finished ≡ 1
+  pub actors : length s.sent ≡ 2
+  -- an event brings at most one unit, and sends each actor at most one letter
+  pub arrivals : s.queue.arrivals ≤ s.clock
+  pub activity : s.activity ≤ s.clock
+  pub sent : All (λ n. n ≤ s.clock) s.sent
+  pub clock : s.clock < 2 ^ 48
+
+abbrev pub IsInside : Inside → Type 0
+IsInside i = IsSound (state_of i)
+
+-- in an event that has not brought a unit and has not sent a letter
+pub record IsFresh (s : State) : Type 0 where
+  pub arrivals : s.queue.arrivals < s.clock
+  pub sent : All (λ n. n < s.clock) s.sent

@@ -1,0 +1,168 @@
+-- What a server does with a letter, one rule a letter.
+use Rattle.std.specs.Prelude.{ℕ, ◌+◌, ◌^◌, ◌==◌, nat_le, nat_lt, Bool, true, false, ◌&&◌, not, List, [], ◌∷◌, length, find, slice_set, slice_index_or, Option, None, Some, if◌then◌else◌, option_and_then}
+use Rattle.std.specs.List.{list_any}
+use Rattle.adlb_unit.specs.declared.actors.Actor.{Actor}
+use Rattle.adlb_unit.specs.declared.actors.Actor.TheVariants as by
+use Rattle.adlb_unit.specs.declared.configs.Config.{Config}
+use Rattle.adlb_unit.specs.declared.messages.Message.{Message}
+use Rattle.adlb_unit.specs.declared.messages.Message.TheVariants as tells
+use Rattle.adlb_unit.specs.declared.names.Rank.{Rank}
+use Rattle.adlb_unit.specs.declared.names.Target.{Target}
+use Rattle.adlb_unit.specs.declared.names.Target.TheVariants.{Any, Only}
+use Rattle.adlb_unit.specs.declared.names.UnitId.{UnitId}
+use Rattle.adlb_unit.specs.declared.names.WorkType.{WorkType}
+use Rattle.adlb_unit.specs.declared.notes.End.{End}
+use Rattle.adlb_unit.specs.declared.notes.End.TheVariants as ends_by
+use Rattle.adlb_unit.specs.declared.units.Unit.{Unit}
+use Rattle.bag_ledger.specs.declared.entries.Entry.{Entry}
+use Rattle.bag_ledger.specs.declared.entries.Entry.TheVariants as enters
+use Rattle.bag_ledger.specs.Runs.{note_of}
+use Rattle.work_queue.specs.Best.{best_of}
+use Rattle.work_queue.specs.Queue.{Queue, Promise, charge_of, id_of, same_id, with_pin, with_unit, without}
+use Rattle.work_queue.specs.declared.placing.Placed.{Placed}
+use Rattle.server_core.specs.declared.standings.Standing.{Standing}
+use Rattle.server_core.specs.declared.standings.Standing.TheVariants as does
+use Rattle.server_core.specs.State.{State, is_home, standing}
+
+-- a message to an actor
+pub record Saying : Type 0 where
+  pub to : Actor
+  pub message : Message
+
+-- what the server becomes, what it says, and what it enters in the ledger
+pub record Response : Type 0 where
+  pub state : State
+  pub says : List Saying
+  pub entries : List Entry
+
+abbrev pub to_rank : Rank → Message → Saying
+to_rank rank message = record { to = by.Rank rank; message = message }
+
+-- the rank's call is answered by an end
+abbrev pub end_call : State → Rank → ℕ → End → Response
+end_call s from request end = record {
+  state = s;
+  says = to_rank from (tells.Ended request end) ∷ [];
+  entries = enters.Over from request end ∷ [];
+}
+
+-- Put.
+
+abbrev pub in_ranks : Config → Target → Bool
+in_ranks config Any = true
+in_ranks config (Only rank) = nat_lt rank.0 config.ranks
+
+abbrev pub has_unit : UnitId → List Placed → Bool
+has_unit id units = list_any (λ p. same_id (id_of p) id) units
+
+abbrev pub has_promise : UnitId → List Promise → Bool
+has_promise id promises = list_any (λ p. same_id p.id id) promises
+
+-- the unit is the sender's; no unit and no promise of its id is here; its body has at most 2^20 bytes; its target is one of the
+-- ranks
+abbrev pub expects_put : State → Rank → Unit → Bool
+expects_put s from unit =
+    (unit.id.rank.0 == from.0) && not (has_unit unit.id s.queue.units) && not (has_promise unit.id s.queue.promises)
+    && nat_le (length unit.body) (2 ^ 20) && in_ranks s.config unit.target
+
+-- there is no room for the unit
+abbrev pub is_over : Queue → Unit → Bool
+is_over queue unit = nat_lt queue.limit (charge_of queue + length unit.body)
+
+-- where the problem is done; where there is no room; else
+abbrev pub put : State → Rank → Unit → Bool → Bool → Response
+put s from unit true over = end_call s from unit.id.number ends_by.NoMoreWork
+put s from unit false true = record {
+  state = s;
+  says = to_rank from (tells.Full unit.id.number (charge_of s.queue)) ∷ [];
+  entries = enters.Refused s.me unit.id (charge_of s.queue) ∷ [];
+}
+put s from unit false false = record {
+  state = record s { queue = with_unit s.queue unit };
+  says = to_rank from (tells.Accepted unit.id.number) ∷ [];
+  entries = enters.Accepted s.me unit.id ∷ [];
+}
+
+-- Reserve.
+
+abbrev pub is_running : Standing → Bool
+is_running does.Running = true
+is_running _ = false
+
+-- the sender's home is here, and it runs
+abbrev pub expects_reserve : State → Rank → Bool
+expects_reserve s from = is_home s from && is_running (standing s from)
+
+abbrev pub unit_with : UnitId → List Placed → Option Placed
+unit_with id units = find (λ p. same_id (id_of p) id) units
+
+-- the best free unit that is permitted to the rank
+abbrev pub best_unit : Rank → Option (List WorkType) → List Placed → Option Placed
+best_unit rank types units = option_and_then (λ id. unit_with id units) (best_of rank types units)
+
+-- the unit is pinned to the rank
+abbrev pub grant : State → Rank → ℕ → Placed → Response
+grant s from request p = record {
+  state = record s { queue = with_pin s.queue p.unit.id from };
+  says = to_rank from (tells.Grant request (note_of s.me p.unit)) ∷ [];
+  entries = enters.Granted s.me from request p.unit.id ∷ [];
+}
+
+-- the rank waits
+abbrev pub park : State → Rank → ℕ → Option (List WorkType) → Response
+park s from request types = record { state = record s { ranks = slice_set s.ranks from.0 (does.Parked request types) }; says = []; entries = [] }
+
+-- where the problem is done; where all work is used up; where there is a unit; else
+abbrev pub reserve : State → Rank → ℕ → Option (List WorkType) → Bool → Bool → Option Placed → Response
+reserve s from request types true exhausted best = end_call s from request ends_by.NoMoreWork
+reserve s from request types false true best = end_call s from request ends_by.Exhausted
+reserve s from request types false false (Some p) = grant s from request p
+reserve s from request types false false None = park s from request types
+
+-- Fetch.
+
+abbrev pub is_pin : Option Rank → Rank → Bool
+is_pin None rank = false
+is_pin (Some to) rank = to.0 == rank.0
+
+abbrev pub is_pinned_as : UnitId → Rank → Placed → Bool
+is_pinned_as id rank p = same_id (id_of p) id && is_pin p.pin rank
+
+-- the unit is gone, and its bytes are sent
+abbrev pub fetched : State → Rank → ℕ → UnitId → Placed → Response
+fetched s from request id p = record {
+  state = record s { queue = without s.queue id };
+  says = to_rank from (tells.Bytes request p.unit.body) ∷ [];
+  entries = enters.Fetched s.me from id ∷ [];
+}
+
+-- the unit is pinned here to the sender
+abbrev pub fetch : State → Rank → ℕ → UnitId → Option Placed → Option Response
+fetch s from request id None = None
+fetch s from request id (Some p) = Some (fetched s from request id p)
+
+-- Finish.
+
+abbrev pub is_finished : State → Rank → Bool
+is_finished s rank = slice_index_or s.finished rank.0 false
+
+-- the sender's Finish was not handled; where its home is here, it runs
+abbrev pub expects_finish : State → Rank → Bool
+expects_finish s from = not (is_finished s from) && (if is_home s from then is_running (standing s from) else true)
+
+-- where the sender's home is here, it has finished
+abbrev pub leave : State → Rank → List Standing
+leave s from = if is_home s from then slice_set s.ranks from.0 does.Finished else s.ranks
+
+abbrev pub finish : State → Rank → Response
+finish s from = record { state = record s { finished = slice_set s.finished from.0 true; ranks = leave s from }; says = []; entries = [] }
+
+-- a letter of a rank; nothing where it is not expected
+abbrev pub respond : State → Rank → Message → Option Response
+respond s from (tells.Put unit) =
+    if expects_put s from unit then Some (put s from unit s.done (is_over s.queue unit)) else None
+respond s from (tells.Reserve request types) =
+    if expects_reserve s from then Some (reserve s from request types s.done s.exhausted (best_unit from types s.queue.units)) else None
+respond s from (tells.Fetch request id) = fetch s from request id (find (is_pinned_as id from) s.queue.units)
+respond s from tells.Finish = if expects_finish s from then Some (finish s from) else None
+respond s from _ = None

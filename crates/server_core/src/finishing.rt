@@ -1,0 +1,24 @@
+//! The letter Finish.
+
+ghost use Rattle.std.specs.Prelude.{◌≡◌, ◌<◌, true};
+ghost use Rattle.server_core.specs.Out.{made, nothing};
+ghost use Rattle.server_core.specs.Rules.{expects_finish, finish};
+ghost use Rattle.server_core.specs.Step.{after_event, served};
+
+use crate::standings::Standing;
+use crate::states::ServerState;
+use adlb_unit::Rank;
+
+impl ServerState {
+    // The only rank has finished, so the server is shut.
+    pub(crate) fn finish(&mut self, from: Rank)
+        requires rank { from.0 < self.old.config.ranks }
+        requires expected { expects_finish self.old from ≡ true }
+        ensures { made self.new nothing ≡ after_event (served (finish self.old from)) }
+    {
+        let at = from.0 as usize;
+        self.finished[at] = true;
+        self.ranks[at] = Standing::Finished;
+        self.shut = true;
+    }
+}

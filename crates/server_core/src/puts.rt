@@ -1,0 +1,57 @@
+//! The letter Put.
+
+ghost use Rattle.std.specs.Prelude.{◌≡◌, ◌<◌, true, OnOk, OnErr};
+ghost use Rattle.server_core.specs.Inside.{IsFresh};
+ghost use Rattle.server_core.specs.Out.{made, nothing};
+ghost use Rattle.server_core.specs.Rules.{expects_put, is_over, put};
+ghost use Rattle.server_core.specs.Step.{served};
+
+use crate::outgoing::Outgoing;
+use crate::states::ServerState;
+use adlb_unit::{End, Message, NoMemory, Rank, Unit};
+use bag_ledger::Entry;
+use work_queue::AddFault;
+
+impl ServerState {
+    pub(crate) fn put(&mut self, from: Rank, unit: Unit, out: &mut Outgoing) -> Result<(), NoMemory>
+        requires rank { from.0 < self.old.config.ranks }
+        requires expected { expects_put self.old from unit ≡ true }
+        requires fresh { IsFresh self.old }
+        requires nothing { out.old ≡ nothing }
+
+        ensures ok { OnOk result (made self.new out.new ≡ served (put self.old from unit self.old.done (is_over self.old.queue unit))) }
+        ensures err { OnErr result (self.new ≡ self.old) }
+    {
+        let id = unit.id;
+        if self.done {
+            self.end_call(from, id.number, End::NoMoreWork, out);
+            return Ok(());
+        }
+        match self.queue.add(unit) {
+            Ok(()) => {
+                out.enter(Entry::Accepted {
+                    server: self.me,
+                    id,
+                });
+                self.say(from, Message::Accepted { request: id.number }, out);
+            }
+            Err((_, AddFault::Full { charge })) => {
+                out.enter(Entry::Refused {
+                    server: self.me,
+                    id,
+                    used: charge,
+                });
+                self.say(
+                    from,
+                    Message::Full {
+                        request: id.number,
+                        charge,
+                    },
+                    out,
+                );
+            }
+            Err((_, AddFault::Memory)) => return Err(NoMemory),
+        }
+        Ok(())
+    }
+}

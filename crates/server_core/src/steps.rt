@@ -1,0 +1,95 @@
+//! One step of a server.
+
+ghost use Rattle.std.specs.Prelude.{◌≡◌, ◌≤◌, ◌<◌, ◌^◌, ℕ, ◌↔◌, None, Some, Err, IsSome, IfOk, IfErr, OnOk, OnErr, slice_set, true, if◌then◌else◌};
+ghost use Rattle.server_core.specs.Inside.{IsFresh, IsSettled};
+ghost use Rattle.server_core.specs.Out.{made, nothing};
+ghost use Rattle.server_core.specs.Rules.{respond};
+ghost use Rattle.server_core.specs.Step.{after_event, heard_finish, next_stamp, serve, served};
+ghost use Rattle.std.specs.Option.{option_map};
+
+use crate::outgoing::Outgoing;
+use crate::states::ServerState;
+use adlb_unit::{Actor, Letter, Message, NoMemory, Rank, Sending, Trouble};
+use bag_ledger::Entry;
+
+/// What a step gave: its stamp, the letters that go out, and the entries for the ledger, each in order.
+#[derive(Debug, Drop)]
+pub struct Step {
+    pub stamp: u64,
+    pub sends: Vec<Sending>,
+    pub entries: Vec<Entry>,
+}
+
+impl ServerState {
+    /// Handles a letter, as `serve` says. The server is not broken, and the letter is expected. It fails with `TooLong`
+    /// exactly where the event's stamp would reach `2^48`, which is tested first, and else for want of memory alone; then
+    /// the server is broken, and a Finish letter counts as handled.
+    pub fn step(&mut self, from: Actor, letter: Letter) -> Result<Step, Trouble>
+        requires whole { self.old.trouble ≡ None }
+        requires expected { IsSome (serve self.old from letter) }
+
+        ensures served { IfOk result (λ step. serve self.old from letter ≡ Some (record { state = self.new; sends = step.sends.items; entries = step.entries.items })) }
+        ensures stamp { IfOk result (λ step. step.stamp ≡ next_stamp self.old letter) }
+        ensures too_long { (n : ℕ) → (result ≡ Err (Trouble.TooLong n)) ↔ ((2 ^ 48 ≤ next_stamp self.old letter) × (n ≡ next_stamp self.old letter)) }
+
+        // What stands after a failure.
+        ensures broken { IfErr result (λ trouble. self.new.trouble ≡ Some trouble) }
+        ensures heard { IfErr result (λ trouble. self.new.finished ≡ heard_finish self.old.finished from letter.message) }
+    {
+        let Actor::Rank(from) = from else {
+            unreachable!()
+        };
+        let finishes = matches!(letter.message, Message::Finish);
+        let stamp = self.clock.max(letter.stamp) + 1;
+        if stamp >= 1 << 48 {
+            return Err(self.fail(from, finishes, Trouble::TooLong { stamp }));
+        }
+        let Ok(mut out) = Outgoing::new(self.alloc) else {
+            return Err(self.fail(from, finishes, Trouble::Memory));
+        };
+        self.tick(stamp);
+        if self.handle(from, letter.message, &mut out).is_err() {
+            return Err(self.fail(from, finishes, Trouble::Memory));
+        }
+        let (sends, entries) = out.parts();
+        Ok(Step {
+            stamp,
+            sends,
+            entries,
+        })
+    }
+
+    // Handles what a letter says.
+    fn handle(&mut self, from: Rank, message: Message, out: &mut Outgoing) -> Result<(), NoMemory>
+        requires rank { from.0 < self.old.config.ranks }
+        requires expected { IsSome (respond self.old from message) }
+        requires fresh { IsFresh self.old }
+        requires settled { IsSettled self.old }
+        requires nothing { out.old ≡ nothing }
+
+        ensures ok { OnOk result (option_map (λ x. after_event (served x)) (respond self.old from message) ≡ Some (made self.new out.new)) }
+        ensures err { OnErr result (self.new ≡ self.old) }
+    {
+        match message {
+            Message::Put { unit } => self.put(from, unit, out),
+            Message::Reserve { request, types } => Ok(self.reserve(from, request, types, out)),
+            Message::Fetch { request, id } => Ok(self.fetch(from, request, id, out)),
+            Message::Finish => Ok(self.finish(from)),
+            _ => unreachable!(),
+        }
+    }
+
+    // The server is broken. A Finish letter counts as handled.
+    fn fail(&mut self, from: Rank, finishes: bool, trouble: Trouble) -> Trouble
+        requires { from.0 < self.old.config.ranks }
+        ensures trouble { self.new.trouble ≡ Some trouble }
+        ensures heard { self.new.finished ≡ (if finishes then slice_set self.old.finished from.0 true else self.old.finished) }
+        ensures result { result ≡ trouble }
+    {
+        if finishes {
+            self.finished[from.0 as usize] = true;
+        }
+        self.trouble = Some(trouble);
+        trouble
+    }
+}
