@@ -2,7 +2,7 @@
 //!
 //! A run keeps a ledger of entries. `specs/Bag.antt` has the state that the entries change, `specs/Steps.antt` where
 //! each entry is legal and what it changes, and `specs/Runs.antt` legal runs and the calls of a rank in them; `laws`
-//! states what holds of them. `docs/BAG.md` tells the same in plain words. It stands on `adlb_unit`.
+//! states what holds of them. `docs/MODEL.md` tells the same in plain words. It stands on `adlb_unit`.
 #![tactic(auto)]
 
 mod entries;
