@@ -1,6 +1,7 @@
 pub mod Accepted
 pub mod Batches
 pub mod Bridge
+pub mod Calls
 pub mod Charge
 pub mod Ends
 mod Examples

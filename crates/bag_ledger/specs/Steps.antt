@@ -135,7 +135,7 @@ Legal b (Counted server rank call info) =
     × (info ≡ info_of b server kind)
 -- the rank runs, and the call has its next number
 Legal b (Done rank call) = (r : RankState) × Begins b rank call r
--- nothing is left to do, and this was not found before
+-- the bag is settled, which was not found before
 Legal b Exhausted = IsTrue (settled b) × IsFalse b.exhausted
 -- the rank brings or wants something in this call, and the end has its cause
 Legal b (Over rank call end) =
