@@ -7,8 +7,8 @@ use crate::messages::Message;
 use crate::names::NoMemory;
 use std::alloc::Global;
 
-/// A letter: the stamp of the event that sent it, its place among the letters from its sender to its receiver, from 0, and
-/// what it says.
+/// A letter: the stamp of the event that sent it, its place among the letters from its sender to its receiver, from 0,
+/// and what it says.
 #[derive(Debug, Drop)]
 pub struct Letter {
     pub stamp: u64,

@@ -1,8 +1,9 @@
-//! Units of work, who puts them and which of them a rank may get, and the letters in which ranks and servers speak of them.
+//! Units of work, who puts them and which of them a rank may get, and the letters in which ranks and servers speak of
+//! them.
 //!
 //! It stands on nothing else of the workspace. `specs/Permit.antt` says which units are permitted to a rank,
-//! `specs/Held.antt` what a payload's bytes are, `specs/Limits.antt` what a configuration allows, `specs/Kinds.antt` who
-//! sends which message, and `specs/Totals.antt` how many bytes a fetch gives.
+//! `specs/Held.antt` what a payload's bytes are, `specs/Limits.antt` what a configuration allows, `specs/Kinds.antt`
+//! who sends which message, and `specs/Totals.antt` how many bytes a fetch gives.
 #![tactic(auto)]
 
 mod actors;

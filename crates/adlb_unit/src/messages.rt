@@ -11,8 +11,8 @@ use crate::units::Unit;
 use crate::wanted::Types;
 use std::alloc::Global;
 
-/// Why a server ends a check of the ring: it is busy, its activity changed since the first wave, or a free unit there fits
-/// a waiting rank.
+/// Why a server ends a check of the ring: it is busy, its activity changed since the first wave, or a free unit there
+/// fits a waiting rank.
 #[derive(Clone, Copy, Debug, PartialEq, Eq)]
 pub enum Why {
     Busy,
@@ -20,8 +20,8 @@ pub enum Why {
     Fits { id: UnitId },
 }
 
-/// What a letter says. The first eleven go from a rank to a server, the next ten from a server to a rank, the others from
-/// a server to a server. A request is the number of the rank's call, from 0.
+/// What a letter says. The first eleven go from a rank to a server, the next ten from a server to a rank, the others
+/// from a server to a server. A request is the number of the rank's call, from 0.
 #[derive(Debug, Drop)]
 pub enum Message {
     /// Take this unit; its number is the request.

@@ -83,6 +83,10 @@ put s from unit false false = record {
   entries = enters.Accepted s.me unit.id ∷ [];
 }
 
+-- as the server is
+abbrev pub put_now : State → Rank → Unit → Response
+put_now s from unit = put s from unit s.done (is_over s.queue unit)
+
 -- Reserve.
 
 abbrev pub is_running : Standing → Bool
@@ -118,6 +122,10 @@ reserve s from request types true exhausted best = end_call s from request ends_
 reserve s from request types false true best = end_call s from request ends_by.Exhausted
 reserve s from request types false false (Some p) = grant s from request p
 reserve s from request types false false None = park s from request types
+
+-- as the server is
+abbrev pub reserve_now : State → Rank → ℕ → Option (List WorkType) → Response
+reserve_now s from request types = reserve s from request types s.done s.exhausted (best_unit from types s.queue.units)
 
 -- Fetch.
 
@@ -159,10 +167,8 @@ finish s from = record { state = record s { finished = slice_set s.finished from
 
 -- a letter of a rank; nothing where it is not expected
 abbrev pub respond : State → Rank → Message → Option Response
-respond s from (tells.Put unit) =
-    if expects_put s from unit then Some (put s from unit s.done (is_over s.queue unit)) else None
-respond s from (tells.Reserve request types) =
-    if expects_reserve s from then Some (reserve s from request types s.done s.exhausted (best_unit from types s.queue.units)) else None
+respond s from (tells.Put unit) = if expects_put s from unit then Some (put_now s from unit) else None
+respond s from (tells.Reserve request types) = if expects_reserve s from then Some (reserve_now s from request types) else None
 respond s from (tells.Fetch request id) = fetch s from request id (find (is_pinned_as id from) s.queue.units)
 respond s from tells.Finish = if expects_finish s from then Some (finish s from) else None
 respond s from _ = None

@@ -1,9 +1,10 @@
 //! One server: what it keeps, and what it does with each letter.
 //!
 //! It stands on the letters of `adlb_unit`, the queue of `work_queue` and the ledger's entries of `bag_ledger`.
-//! `specs/State.antt` is what contracts see of a server, `specs/Rules.antt` has the rule of each letter, `specs/Step.antt`
-//! the step that follows it, and `specs/Agreement.antt` which part of the bag of units a server stands for; `server_laws`
-//! states that the entries of a step are steps of the bag. So far there is one rank and one server.
+//! `specs/State.antt` is what contracts see of a server, `specs/Rules.antt` has the rule of each letter,
+//! `specs/Step.antt` the step with what follows each event, and `specs/Agreement.antt` which part of the bag of units
+//! a server stands for; `server_laws` states that the entries of a step are steps of the bag. So far there is one rank
+//! and one server.
 #![tactic(auto)]
 
 mod fetches;

@@ -3,7 +3,7 @@
 ghost use Rattle.std.specs.Prelude.{◌≡◌, ◌<◌, true, OnOk, OnErr};
 ghost use Rattle.server_core.specs.Inside.{IsFresh};
 ghost use Rattle.server_core.specs.Out.{made, nothing};
-ghost use Rattle.server_core.specs.Rules.{expects_put, is_over, put};
+ghost use Rattle.server_core.specs.Rules.{expects_put, put_now};
 ghost use Rattle.server_core.specs.Step.{served};
 
 use crate::outgoing::Outgoing;
@@ -19,7 +19,7 @@ impl ServerState {
         requires fresh { IsFresh self.old }
         requires nothing { out.old ≡ nothing }
 
-        ensures ok { OnOk result (made self.new out.new ≡ served (put self.old from unit self.old.done (is_over self.old.queue unit))) }
+        ensures ok { OnOk result (made self.new out.new ≡ served (put_now self.old from unit)) }
         ensures err { OnErr result (self.new ≡ self.old) }
     {
         let id = unit.id;

@@ -3,7 +3,7 @@
 ghost use Rattle.std.specs.Prelude.{◌≡◌, ◌<◌, ◌++◌, ◌∷◌, [], true, false, length, All};
 ghost use Rattle.server_core.specs.Inside.{IsFresh};
 ghost use Rattle.server_core.specs.Out.{Out, made, nothing};
-ghost use Rattle.server_core.specs.Rules.{best_unit, expects_reserve, grant, reserve, to_rank};
+ghost use Rattle.server_core.specs.Rules.{expects_reserve, grant, reserve_now, to_rank};
 ghost use Rattle.server_core.specs.State.{State};
 ghost use Rattle.server_core.specs.Step.{after_event, counted, posted, served};
 ghost use Rattle.work_queue.specs.Queue.{HasFree, id_of};
@@ -20,7 +20,7 @@ impl ServerState {
         requires fresh { IsFresh self.old }
         requires nothing { out.old ≡ nothing }
 
-        ensures { made self.new out.new ≡ after_event (served (reserve self.old from request types self.old.done self.old.exhausted (best_unit from types self.old.queue.units))) }
+        ensures { made self.new out.new ≡ after_event (served (reserve_now self.old from request types)) }
     {
         if self.done {
             self.end_call(from, request, End::NoMoreWork, out);
