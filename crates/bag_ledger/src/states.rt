@@ -1,6 +1,12 @@
 //! The parts of the bag's state.
 
-use adlb_unit::{BatchId, CommonRef, End, Payload, Rank, Server, Types, Unit, UnitId, WorkType};
+ghost use Rattle.std.specs.Prelude.{◌≡◌, ◌==◌, ◌++◌, ◌∷◌, [], OnOk, OnErr};
+ghost use Rattle.std.specs.List.{list_any, list_all, range_with_len};
+
+use adlb_unit::{
+    BatchId, CommonRef, End, NoMemory, Payload, Rank, Server, Types, Unit, UnitId, WorkType,
+};
+use std::alloc::Global;
 use std::marker::Model;
 
 /// What a rank does: it runs, has a call pending (with that call's number), or has finished.
@@ -37,6 +43,49 @@ impl Model for Servers {
     ghost Value = { List Server };
 
     ghost view = { λ s. s.held.items };
+}
+
+impl Servers {
+    /// No server. It takes no memory.
+    pub fn new(alloc: Global) -> Servers
+        ensures { result ≡ [] }
+    {
+        Servers {
+            held: Vec::new(alloc),
+        }
+    }
+
+    /// Appends a server. It fails for want of memory alone, and then the list is unchanged.
+    pub fn push(&mut self, server: Server) -> Result<(), NoMemory>
+        ensures pushed { OnOk result (self.new ≡ self.old ++ server ∷ []) }
+        ensures kept { OnErr result (self.new ≡ self.old) }
+    {
+        match self.held.push(server) {
+            Ok(()) => Ok(()),
+            Err(_) => Err(NoMemory),
+        }
+    }
+
+    /// Leaves no server.
+    pub fn clear(&mut self)
+        ensures { self.new ≡ [] }
+    {
+        self.held.clear()
+    }
+
+    /// The server is in the list.
+    pub fn has(&self, server: Server) -> bool
+        ensures { result ≡ list_any (λ s. s.0 == server.0) self.now }
+    {
+        self.held.iter().any(|s| s.0 == server.0)
+    }
+
+    /// Each server below this number is in the list.
+    pub fn has_all(&self, servers: u32) -> bool
+        ensures { result ≡ list_all (λ k. list_any (λ s. s.0 == k) self.now) (range_with_len 0 servers) }
+    {
+        (0..servers).all(|k| self.has(Server(k)))
+    }
 }
 
 /// A rank: what it does, the servers that declined its pending call (refused what it brings, or looked in vain), the

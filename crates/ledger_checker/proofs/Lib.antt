@@ -1,0 +1,5 @@
+pub mod Changing
+pub mod Finding
+pub mod Kept
+pub mod Growing
+pub mod Places

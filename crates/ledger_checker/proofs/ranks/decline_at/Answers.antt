@@ -1,0 +1,12 @@
+use Rattle.std.proofs.Common.{◌≡◌, ◌<◌, ◌≤◌, ◌+◌, None, Some, arith}
+use Rattle.bag_ledger.specs.declared.states.RankState.{RankState}
+use Rattle.bag_ledger.specs.declared.states.Status.TheVariants as does
+use Rattle.bag_ledger.specs.Steps.{begun, ended, declined_by, own_fetched}
+use Rattle.ledger_checker.proofs.Changing.{set_changes, past_changes}
+use Rattle.ledger_checker.proofs.ranks.decline_at.Goals as goal
+
+pub returns-in_ok-push : goal.returns-in_ok-push
+returns-in_ok-push c = rw c.in_ok-push.ensures.pushed (set_changes c.args.ranks.now c.args.rank.0 (declined_by c.args.server) c.index-ranks-place.result c.if-place-ranks.true)
+
+pub returns-else-place-ranks : goal.returns-else-place-ranks
+returns-else-place-ranks c = past_changes c.args.ranks.now c.args.rank.0 (declined_by c.args.server) c.if-place-ranks.false

@@ -1,0 +1,41 @@
+//! The checker.
+
+ghost use Rattle.std.specs.Prelude.{◌≡◌, ◌↔◌, ℕ, IfOk, None, Some, Ok};
+ghost use Rattle.bag_ledger.specs.Bag.{start};
+ghost use Rattle.bag_ledger.specs.Runs.{IsFirstIllegal, IsLegal, first_illegal};
+ghost use Rattle.ledger_checker.specs.Room.{HasRoom};
+
+use crate::machines::Machine;
+use adlb_unit::{Config, NoMemory};
+use bag_ledger::{Entry, Ledger};
+use std::alloc::Global;
+
+/// The place of the first entry of the ledger that is no step of the bag from the state which the entries before it
+/// leave, counted from 0; nothing exactly where the ledger is a legal run. So it is the least such place. It fails for want of
+/// memory alone.
+pub fn first_illegal(
+    alloc: Global,
+    ledger: &Ledger,
+    config: &Config,
+) -> Result<Option<u64>, NoMemory>
+    ensures same { IfOk result (λ found. found ≡ first_illegal (start config.now) 0 ledger.now) }
+    ensures legal { IfOk result (λ found. (found ≡ None) ↔ IsLegal config.now ledger.now) }
+    ensures least { (place : ℕ) → IfOk result (λ found. (found ≡ Some place) ↔ IsFirstIllegal (start config.now) ledger.now place) }
+{
+    let mut machine = Machine::new(alloc, config)?;
+    let entries = ledger.entries();
+    first_after(&mut machine, entries)
+}
+
+// The place of the first entry that is no step, from the machine's state on.
+fn first_after(machine: &mut Machine, entries: &[Entry]) -> Result<Option<u64>, NoMemory>
+    requires { HasRoom 0 machine.old }
+    ensures { IfOk result (λ found. found ≡ first_illegal machine.old 0 entries.now) }
+{
+    for place in 0..entries.len() {
+        if !machine.apply(&entries[place])? {
+            return Ok(Some(place as u64));
+        }
+    }
+    Ok(None)
+}

@@ -1,0 +1,420 @@
+//! What an entry changes.
+
+ghost use Rattle.std.specs.Prelude.{◌≡◌, ◌≤◌, ◌^◌, ◌-◌, ◌+◌, ◌<◌, ◌++◌, ◌∷◌, [], IfOk, IsTrue, MatchBool, MatchOption, All, None, Some, length, true, false, option_and_then};
+ghost use Rattle.bag_ledger.specs.declared.entries.Entry.TheVariants.{Putting, Refused, Accepted, Rejected, Keeping, Kept, Closing, Closed, Freed, Asked, Tried, Granted, Looked, NoCurrent, Fetching, Fetched, CommonFetched, Promised, Left, Arrived, Withdrawn, Counting, Counted, Done, Exhausted, Over, Finished};
+ghost use Rattle.bag_ledger.specs.declared.states.Status.TheVariants as does;
+ghost use Rattle.bag_ledger.specs.declared.states.UnitPlace.TheVariants.{Free, Pinned, Spent};
+ghost use Rattle.bag_ledger.specs.Bag.{rank_at, unit_of, putting, keeping};
+ghost use Rattle.bag_ledger.specs.Step.{legal, step};
+ghost use Rattle.bag_ledger.specs.Steps.{after, begun, ended, declined_by, kept, moved, new_part, own_fetched, shared, taken, unpromised, with_part, with_rank};
+ghost use Rattle.ledger_checker.specs.Room.{HasRoom};
+
+use crate::machines::Machine;
+use crate::ranks::{begin_at, decline_at, end_at, end_with, end_with_batch, fetch_own_at, put_at};
+use adlb_unit::{
+    BatchId, CommonRef, End, NoMemory, Payload, Rank, Server, Target, Types, Unit, UnitId, WorkType,
+};
+use bag_ledger::{Entry, Part, Promise, Status, UnitPlace};
+use std::alloc::Global;
+
+// A rank's call begins or ends.
+impl Machine {
+    fn begin(&mut self, rank: Rank, status: Status)
+        requires { All (λ r. r.next + 1 < 2 ^ 64) self.old.ranks }
+        ensures { self.new ≡ with_rank rank (begun status) self.old }
+    {
+        begin_at(&mut self.ranks, rank, status);
+    }
+
+    fn end(&mut self, rank: Rank)
+        ensures { self.new ≡ with_rank rank ended self.old }
+    {
+        end_at(&mut self.ranks, rank);
+    }
+
+    fn decline(&mut self, rank: Rank, server: Server) -> Result<(), NoMemory>
+        ensures { IfOk result (λ _. self.new ≡ with_rank rank (declined_by server) self.old) }
+    {
+        decline_at(&mut self.ranks, rank, server)
+    }
+
+    fn put(&mut self, rank: Rank, unit: Unit)
+        requires { All (λ r. r.next + 1 < 2 ^ 64) self.old.ranks }
+        ensures { self.new ≡ with_rank rank (λ r. begun (does.Putting (record unit { common = r.batch })) r) self.old }
+    {
+        put_at(&mut self.ranks, rank, unit);
+    }
+
+    fn keep(&mut self, rank: Rank, call: u64, common: &Payload) -> Result<(), NoMemory>
+        requires { All (λ r. r.next + 1 < 2 ^ 64) self.old.ranks }
+        ensures { IfOk result (λ _. self.new ≡ after self.old (Keeping rank call common.now)) }
+    {
+        let common = common.twin(self.alloc)?;
+        self.begin(rank, Status::Keeping { call, common });
+        Ok(())
+    }
+
+    fn ask(&mut self, rank: Rank, call: u64, types: &Types)
+        requires { All (λ r. r.next + 1 < 2 ^ 64) self.old.ranks }
+        ensures { self.new ≡ with_rank rank (begun (does.Asking call types.now)) self.old }
+    {
+        let types = types.twin();
+        self.begin(rank, Status::Asking { call, types });
+    }
+
+    fn try_for(&mut self, rank: Rank, call: u64, types: &Types)
+        requires { All (λ r. r.next + 1 < 2 ^ 64) self.old.ranks }
+        ensures { self.new ≡ with_rank rank (begun (does.Trying call types.now)) self.old }
+    {
+        let types = types.twin();
+        self.begin(rank, Status::Trying { call, types });
+    }
+
+    fn fetch(&mut self, rank: Rank, call: u64, id: UnitId)
+        requires { All (λ r. r.next + 1 < 2 ^ 64) self.old.ranks }
+        ensures { self.new ≡ with_rank rank (begun (does.Fetching call id false)) self.old }
+    {
+        let own = false;
+        self.begin(rank, Status::Fetching { call, id, own });
+    }
+
+    fn count(&mut self, rank: Rank, call: u64, kind: WorkType)
+        requires { All (λ r. r.next + 1 < 2 ^ 64) self.old.ranks }
+        ensures { self.new ≡ with_rank rank (begun (does.Counting call kind)) self.old }
+    {
+        self.begin(rank, Status::Counting { call, kind });
+    }
+
+    fn call_done(&mut self, rank: Rank)
+        requires { All (λ r. r.next + 1 < 2 ^ 64) self.old.ranks }
+        ensures { self.new ≡ with_rank rank (begun does.Running) (record self.old { done = true }) }
+    {
+        self.done = true;
+        begin_at(&mut self.ranks, rank, Status::Running);
+    }
+
+    fn exhaust(&mut self)
+        ensures { self.new ≡ record self.old { exhausted = true } }
+    {
+        self.exhausted = true;
+    }
+
+    fn tell_end(&mut self, rank: Rank, end: End)
+        ensures { self.new ≡ with_rank rank (λ r. ended (record r { end = Some end })) self.old }
+    {
+        end_with(&mut self.ranks, rank, end);
+    }
+}
+
+// What a rank brings.
+impl Machine {
+    // The unit that the rank puts.
+    fn unit_put(&self, rank: Rank) -> Result<Option<Unit>, NoMemory>
+        ensures { IfOk result (λ unit. unit ≡ option_and_then (λ r. putting r.status) (rank_at self.now rank)) }
+    {
+        let Some(r) = self.rank(rank) else {
+            return Ok(None);
+        };
+        match &r.status {
+            Status::Putting { unit } => Ok(Some(twin_of(self.alloc, unit)?)),
+            _ => Ok(None),
+        }
+    }
+
+    // One unit more of this common part was accepted.
+    fn share(&mut self, common: Option<CommonRef>)
+        requires { All (λ p. p.accepted + 1 < 2 ^ 64) self.old.parts }
+        ensures { self.new ≡ shared common self.old }
+    {
+        if let Some(common) = common {
+            self.parts.count_accepted(common.batch);
+        }
+    }
+
+    // One unit more, free at the server.
+    fn add_unit(&mut self, server: Server, unit: Unit) -> Result<(), NoMemory>
+        ensures { IfOk result (λ _. self.new ≡ record self.old { units = self.old.units ++ record { unit = unit; place = Free server } ∷ [] }) }
+    {
+        self.units.add(unit, server)
+    }
+
+    fn take(&mut self, server: Server, unit: Option<Unit>) -> Result<(), NoMemory>
+        requires { All (λ p. p.accepted + 1 < 2 ^ 64) self.old.parts }
+        ensures { IfOk result (λ _. self.new ≡ taken server unit self.old) }
+    {
+        let Some(unit) = unit else {
+            return Ok(());
+        };
+        let common = unit.common;
+        self.add_unit(server, unit)?;
+        self.share(common);
+        Ok(())
+    }
+
+    fn accept(&mut self, server: Server, id: UnitId) -> Result<(), NoMemory>
+        requires { All (λ p. p.accepted + 1 < 2 ^ 64) self.old.parts }
+        ensures { IfOk result (λ _. self.new ≡ after self.old (Accepted server id)) }
+    {
+        let unit = self.unit_put(id.rank)?;
+        self.take(server, unit)?;
+        self.end(id.rank);
+        Ok(())
+    }
+
+    // The common part that the rank brings.
+    fn common_kept(&self, rank: Rank) -> Result<Option<(u64, Payload)>, NoMemory>
+        ensures { IfOk result (λ kept. kept ≡ option_and_then (λ r. keeping r.status) (rank_at self.now rank)) }
+    {
+        let Some(r) = self.rank(rank) else {
+            return Ok(None);
+        };
+        match &r.status {
+            Status::Keeping { call, common } => Ok(Some((*call, common.twin(self.alloc)?))),
+            _ => Ok(None),
+        }
+    }
+}
+
+fn twin_of(alloc: Global, unit: &Unit) -> Result<Unit, NoMemory>
+    ensures { IfOk result (λ twin. twin ≡ unit.now) }
+{
+    Ok(Unit {
+        id: unit.id,
+        kind: unit.kind,
+        prio: unit.prio,
+        target: unit.target,
+        answer: unit.answer,
+        common: unit.common,
+        body: unit.body.twin(alloc)?,
+    })
+}
+
+// Batches.
+impl Machine {
+    fn add_part(&mut self, server: Server, batch: BatchId, common: Payload) -> Result<(), NoMemory>
+        ensures { IfOk result (λ _. self.new ≡ record self.old { parts = self.old.parts ++ new_part server batch common ∷ [] }) }
+    {
+        self.parts.add(Part {
+            batch,
+            server,
+            common,
+            accepted: 0,
+            fetched: 0,
+            closed: false,
+            freed: false,
+        })
+    }
+
+    fn go_on(&mut self, rank: Rank, batch: Option<CommonRef>)
+        ensures { self.new ≡ with_rank rank (λ r. ended (record r { batch = batch })) self.old }
+    {
+        end_with_batch(&mut self.ranks, rank, batch);
+    }
+
+    fn hold_common(
+        &mut self,
+        server: Server,
+        batch: BatchId,
+        call: u64,
+        common: Payload,
+    ) -> Result<(), NoMemory>
+        requires { length common < 2 ^ 32 }
+        ensures { IfOk result (λ _. self.new ≡ kept server batch (Some (call, common)) self.old) }
+    {
+        let length = common.len() as u32;
+        self.add_part(server, batch, common)?;
+        self.go_on(
+            batch.rank,
+            Some(CommonRef {
+                batch,
+                server,
+                length,
+            }),
+        );
+        Ok(())
+    }
+
+    fn hold(&mut self, server: Server, batch: BatchId) -> Result<(), NoMemory>
+        requires limit { self.old.limit ≤ 2 ^ 30 }
+        requires legal { IsTrue (legal self.old (Kept server batch)) }
+        ensures { IfOk result (λ _. self.new ≡ after self.old (Kept server batch)) }
+    {
+        let Some((call, common)) = self.common_kept(batch.rank)? else {
+            return Ok(());
+        };
+        self.hold_common(server, batch, call, common)
+    }
+
+    fn close(&mut self, batch: BatchId)
+        ensures { self.new ≡ with_rank batch.rank (λ r. ended (record r { batch = None })) (with_part batch (λ p. record p { closed = true }) self.old) }
+    {
+        self.parts.close(batch);
+        self.go_on(batch.rank, None);
+    }
+
+    fn free(&mut self, batch: BatchId)
+        ensures { self.new ≡ with_part batch (λ p. record p { freed = true }) self.old }
+    {
+        self.parts.free(batch);
+    }
+
+    fn give_common(&mut self, rank: Rank, batch: BatchId)
+        requires { All (λ p. p.fetched + 1 < 2 ^ 64) self.old.parts }
+        ensures { self.new ≡ with_rank rank ended (with_part batch (λ p. record p { fetched = p.fetched + 1 }) self.old) }
+    {
+        self.parts.count_fetched(batch);
+        self.end(rank);
+    }
+}
+
+// Units.
+impl Machine {
+    fn place(&mut self, id: UnitId, place: UnitPlace)
+        ensures { self.new ≡ moved id place self.old }
+    {
+        self.units.move_to(id, place);
+    }
+
+    fn grant(&mut self, server: Server, rank: Rank, id: UnitId)
+        ensures { self.new ≡ with_rank rank ended (moved id (Pinned server rank) self.old) }
+    {
+        self.place(id, UnitPlace::Pinned(server, rank));
+        self.end(rank);
+    }
+
+    // The common part of the unit.
+    fn common_of(&self, id: UnitId) -> Option<CommonRef>
+        ensures { result ≡ option_and_then (λ u. u.unit.common) (unit_of self.now id) }
+    {
+        match self.unit(id) {
+            None => None,
+            Some(unit) => unit.unit.common,
+        }
+    }
+
+    fn give(&mut self, rank: Rank, id: UnitId)
+        ensures { self.new ≡ with_rank rank (own_fetched (option_and_then (λ u. u.unit.common) (unit_of self.old id))) (moved id Spent self.old) }
+    {
+        let common = self.common_of(id);
+        self.place(id, UnitPlace::Spent);
+        fetch_own_at(&mut self.ranks, rank, common);
+    }
+
+    fn promise_room(&mut self, server: Server, id: UnitId, length: u32) -> Result<(), NoMemory>
+        ensures { IfOk result (λ _. self.new ≡ record self.old { promises = self.old.promises ++ record { server = server; id = id; length = length } ∷ [] }) }
+    {
+        self.promises.add(Promise { server, id, length })
+    }
+
+    fn withdraw(&mut self, id: UnitId)
+        ensures { self.new ≡ unpromised id self.old }
+    {
+        self.promises.remove(id);
+    }
+
+    fn arrive(&mut self, server: Server, id: UnitId)
+        ensures { self.new ≡ unpromised id (moved id (Free server) self.old) }
+    {
+        self.place(id, UnitPlace::Free(server));
+        self.withdraw(id);
+    }
+}
+
+// Any entry.
+impl Machine {
+    fn put_copy(
+        &mut self,
+        rank: Rank,
+        call: u64,
+        kind: WorkType,
+        prio: i32,
+        target: Target,
+        answer: Option<Rank>,
+        body: &Payload,
+    ) -> Result<(), NoMemory>
+        requires { All (λ r. r.next + 1 < 2 ^ 64) self.old.ranks }
+        ensures { IfOk result (λ _. self.new ≡ after self.old (Putting rank call kind prio target answer body.now)) }
+    {
+        let body = body.twin(self.alloc)?;
+        let unit = Unit {
+            id: UnitId { rank, number: call },
+            kind,
+            prio,
+            target,
+            answer,
+            common: None,
+            body,
+        };
+        self.put(rank, unit);
+        Ok(())
+    }
+
+    // Takes the step of this entry, which is legal.
+    fn follow(&mut self, entry: &Entry) -> Result<(), NoMemory>
+        requires limit { self.old.limit ≤ 2 ^ 30 }
+        requires calls { All (λ r. r.next + 1 < 2 ^ 64) self.old.ranks }
+        requires accepted { All (λ p. p.accepted + 1 < 2 ^ 64) self.old.parts }
+        requires fetched { All (λ p. p.fetched + 1 < 2 ^ 64) self.old.parts }
+        requires legal { IsTrue (legal self.old entry.now) }
+        ensures { IfOk result (λ _. self.new ≡ after self.old entry.now) }
+    {
+        match entry {
+            Entry::Putting {
+                rank,
+                call,
+                kind,
+                prio,
+                target,
+                answer,
+                body,
+            } => { self.put_copy(*rank, *call, *kind, *prio, *target, *answer, body)? }
+            Entry::Refused { server, id, .. } => self.decline(id.rank, *server)?,
+            Entry::Accepted { server, id } => self.accept(*server, *id)?,
+            Entry::Rejected { rank, .. } => self.end(*rank),
+            Entry::Keeping { rank, call, common } => self.keep(*rank, *call, common)?,
+            Entry::Kept { server, batch } => self.hold(*server, *batch)?,
+            Entry::Closing { rank, call } => self.begin(*rank, Status::Closing { call: *call }),
+            Entry::Closed { batch, .. } => self.close(*batch),
+            Entry::Freed { batch, .. } => self.free(*batch),
+            Entry::Asked { rank, call, types } => self.ask(*rank, *call, types),
+            Entry::Tried { rank, call, types } => self.try_for(*rank, *call, types),
+            Entry::Granted {
+                server,
+                rank,
+                id,
+                ..
+            } => self.grant(*server, *rank, *id),
+            Entry::Looked { server, rank, .. } => self.decline(*rank, *server)?,
+            Entry::NoCurrent { rank, .. } => self.end(*rank),
+            Entry::Fetching { rank, call, id } => self.fetch(*rank, *call, *id),
+            Entry::Fetched { rank, id, .. } => self.give(*rank, *id),
+            Entry::CommonFetched { rank, batch, .. } => self.give_common(*rank, *batch),
+            Entry::Promised { server, id, length } => self.promise_room(*server, *id, *length)?,
+            Entry::Left { to, id, .. } => self.place(*id, UnitPlace::Travelling(*to)),
+            Entry::Arrived { server, id } => self.arrive(*server, *id),
+            Entry::Withdrawn { id, .. } => self.withdraw(*id),
+            Entry::Counting { rank, call, kind } => self.count(*rank, *call, *kind),
+            Entry::Counted { rank, .. } => self.end(*rank),
+            Entry::Done { rank, .. } => self.call_done(*rank),
+            Entry::Exhausted => self.exhaust(),
+            Entry::Over { rank, end, .. } => self.tell_end(*rank, *end),
+            Entry::Finished { rank, .. } => self.begin(*rank, Status::Finished),
+        }
+        Ok(())
+    }
+
+    // Takes the step of this entry, where it is one.
+    pub(crate) fn apply(&mut self, entry: &Entry) -> Result<bool, NoMemory>
+        requires { HasRoom (2 ^ 64 - 2) self.old }
+        ensures { IfOk result (λ it. MatchBool it (step self.old entry.now ≡ Some self.new) ((step self.old entry.now ≡ None) × (self.new ≡ self.old))) }
+    {
+        if !self.in_turn(entry) {
+            return Ok(false);
+        }
+        if !self.is_legal(entry)? {
+            return Ok(false);
+        }
+        self.follow(entry)?;
+        Ok(true)
+    }
+}

@@ -1,0 +1,211 @@
+//! The machine: the state of the bag that the entries so far leave.
+
+ghost use Rattle.std.specs.Prelude.{◌≡◌, ◌==◌, ◌&&◌, ◌+◌, ◌≤◌, ◌<◌, ◌^◌, IfOk, OnOk, MatchOption, None, Some, All, length, find, not};
+ghost use Rattle.std.specs.List.{list_all, list_any};
+ghost use Rattle.adlb_unit.specs.Permit.{permitted};
+ghost use Rattle.adlb_unit.specs.declared.names.BatchId.{BatchId};
+ghost use Rattle.bag_ledger.specs.Bag.{Bag, start, rank_at, unit_of, part_of, promise_of, charge, has_due, has_fit_at, has_fit, none_fits, settled, info_of, is_asking, is_asking_or_finished, is_travelling};
+ghost use Rattle.bag_ledger.specs.Step.{is_server, fits};
+
+use crate::parts::Parts;
+use crate::promises::Promises;
+use crate::ranks::fresh_ranks;
+use crate::reading::{is_asking, is_asking_or_finished};
+use crate::units::Units;
+use adlb_unit::{BatchId, Config, Info, NoMemory, Rank, Server, Types, UnitId, WorkType};
+use bag_ledger::{Part, Placed, Promise, RankState, Status};
+use std::alloc::Global;
+use std::marker::Model;
+
+// The state of the bag. It is seen as a `Bag`.
+#[derive(Drop)]
+pub(crate) struct Machine {
+    pub(crate) alloc: Global,
+    pub(crate) ranks: Vec<RankState>,
+    pub(crate) units: Units,
+    pub(crate) parts: Parts,
+    pub(crate) promises: Promises,
+    pub(crate) done: bool,
+    pub(crate) exhausted: bool,
+    servers: u32,
+    limit: u64,
+}
+
+impl Model for Machine {
+    ghost use Rattle.bag_ledger.specs.Bag.{Bag};
+
+    ghost Value = { Bag };
+
+    ghost view = { λ m. record { ranks = m.ranks.items; units = m.units; parts = m.parts; promises = m.promises; done = m.done; exhausted = m.exhausted; servers = m.servers; limit = m.limit } };
+}
+
+impl Machine {
+    // The bag at the start of a run.
+    pub(crate) fn new(alloc: Global, config: &Config) -> Result<Machine, NoMemory>
+        ensures { IfOk result (λ m. m ≡ start config.now) }
+    {
+        let ranks = fresh_ranks(alloc, config.ranks)?;
+        Ok(Machine {
+            alloc,
+            ranks,
+            units: Units::new(alloc),
+            parts: Parts::new(alloc),
+            promises: Promises::new(alloc),
+            done: false,
+            exhausted: false,
+            servers: config.servers,
+            limit: config.limit,
+        })
+    }
+
+    pub(crate) fn servers(&self) -> u32
+        ensures { result ≡ self.now.servers }
+    {
+        self.servers
+    }
+
+    pub(crate) fn limit(&self) -> u64
+        ensures { result ≡ self.now.limit }
+    {
+        self.limit
+    }
+
+    pub(crate) fn done(&self) -> bool
+        ensures { result ≡ self.now.done }
+    {
+        self.done
+    }
+
+    pub(crate) fn exhausted(&self) -> bool
+        ensures { result ≡ self.now.exhausted }
+    {
+        self.exhausted
+    }
+
+    pub(crate) fn rank(&self, rank: Rank) -> Option<&RankState>
+        ensures { MatchOption result (rank_at self.now rank ≡ None) (λ r. rank_at self.now rank ≡ Some r.now) }
+    {
+        self.ranks.get(rank.0 as usize)
+    }
+
+    pub(crate) fn unit(&self, id: UnitId) -> Option<&Placed>
+        ensures { MatchOption result (unit_of self.now id ≡ None) (λ u. unit_of self.now id ≡ Some u.now) }
+    {
+        self.units.get(id)
+    }
+
+    pub(crate) fn part(&self, batch: BatchId) -> Option<&Part>
+        ensures { MatchOption result (part_of self.now batch ≡ None) (λ p. part_of self.now batch ≡ Some p.now) }
+    {
+        self.parts.get(batch)
+    }
+
+    pub(crate) fn promise(&self, id: UnitId) -> Option<Promise>
+        ensures { result ≡ promise_of self.now id }
+    {
+        self.promises.get(id)
+    }
+
+    pub(crate) fn is_server(&self, server: Server) -> bool
+        ensures { result ≡ is_server self.now server }
+    {
+        server.0 < self.servers
+    }
+
+    // What the server's charge leaves of the room.
+    fn left_of(&self, server: Server, room: u64) -> Option<u64>
+        ensures { MatchOption result (room < charge self.now server) (λ left. left + charge self.now server ≡ room) }
+    {
+        let left = self.units.left_of(server, room)?;
+        let left = self.parts.left_of(server, left)?;
+        self.promises.left_of(server, left)
+    }
+
+    // So many bytes fit at the server.
+    pub(crate) fn fits(&self, server: Server, n: u64) -> bool
+        ensures { result ≡ fits self.now server n }
+    {
+        match self.left_of(server, self.limit) {
+            Some(left) => n <= left,
+            None => false,
+        }
+    }
+
+    // This is the server's charge.
+    pub(crate) fn is_charge(&self, server: Server, used: u64) -> bool
+        ensures { result ≡ (used == charge self.now server) }
+    {
+        self.left_of(server, used) == Some(0)
+    }
+
+    pub(crate) fn has_due(&self) -> bool
+        ensures { result ≡ has_due self.now }
+    {
+        self.parts.has_due()
+    }
+
+    pub(crate) fn has_fit_at(&self, server: Server, rank: Rank, types: &Types) -> bool
+        ensures { result ≡ has_fit_at self.now server rank types.now }
+    {
+        self.units.has_fit_at(server, rank, types)
+    }
+
+    // What a count of the type at the server tells.
+    pub(crate) fn info(&self, server: Server, kind: WorkType) -> Result<Info, NoMemory>
+        ensures { IfOk result (λ info. info ≡ info_of self.now server kind) }
+    {
+        self.units.info(server, kind)
+    }
+
+    // The rank asks, and a free unit is permitted to it.
+    fn has_fit(&self, rank: Rank, r: &RankState) -> bool
+        ensures { result ≡ has_fit self.now.units rank r.now.status }
+    {
+        match &r.status {
+            Status::Asking { types, .. } => self.units.has_fit(rank, types),
+            _ => false,
+        }
+    }
+
+    // No rank has a fit.
+    fn none_fits(&self) -> bool
+        requires { length self.now.ranks ≤ 32 }
+        ensures { result ≡ none_fits self.now.units 0 self.now.ranks }
+    {
+        for place in 0..self.ranks.len() {
+            if self.has_fit(Rank(place as u32), &self.ranks[place]) {
+                return false;
+            }
+        }
+        true
+    }
+
+    fn each_asks_or_finished(&self) -> bool
+        ensures { result ≡ list_all (λ r. is_asking_or_finished r.status) self.now.ranks }
+    {
+        self.ranks.iter().all(|r| is_asking_or_finished(r))
+    }
+
+    fn some_asks(&self) -> bool
+        ensures { result ≡ list_any (λ r. is_asking r.status) self.now.ranks }
+    {
+        self.ranks.iter().any(|r| is_asking(r))
+    }
+
+    // Each rank asks or has finished, some rank asks, no promise stands, and no unit travels.
+    fn is_still(&self) -> bool
+        ensures { result ≡ (list_all (λ r. is_asking_or_finished r.status) self.now.ranks && list_any (λ r. is_asking r.status) self.now.ranks && (length self.now.promises == 0) && not (list_any (λ u. is_travelling u.place) self.now.units)) }
+    {
+        self.each_asks_or_finished()
+            && self.some_asks()
+            && self.promises.is_empty()
+            && !self.units.has_travelling()
+    }
+
+    pub(crate) fn is_settled(&self) -> bool
+        requires { length self.now.ranks ≤ 32 }
+        ensures { result ≡ settled self.now }
+    {
+        self.is_still() && self.none_fits()
+    }
+}
