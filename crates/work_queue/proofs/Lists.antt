@@ -1,10 +1,10 @@
 -- The lists of units that the calls leave, for a caller that keeps sums or counts over them.
-use Rattle.std.proofs.Common.{◌≡◌, ◌≢◌, ℕ, ◌+◌, Bool, true, false, cond, List, [], ◌∷◌, ◌++◌, get_or, take, drop, map, Option, Some, None, refl, sym, ap, ◌∙◌, All, Any, Contains, inl, inr, arith, sum_by}
+use Rattle.std.proofs.Common.{◌≡◌, ◌≢◌, ℕ, ◌+◌, Bool, true, false, cond, List, [], ◌∷◌, ◌++◌, get_or, take, drop, map, Option, Some, None, refl, sym, ap, ◌∙◌, All, Any, Contains, inl, inr, arith, subst, sum_by}
 use Rattle.std.specs.List.{filter}
 use Rattle.std.specs.List.Sorted.{IsPermutation}
 use Rattle.std.proofs.lemmas.Bool.{both_ways, not-true, not_from_false}
 use Rattle.std.proofs.lemmas.List.{drop_more, get_or-map, length-map, take-append-drop}
-use Rattle.std.proofs.lemmas.List.Elements.{All-map, All-weaker, filter_passes}
+use Rattle.std.proofs.lemmas.List.Elements.{All-contains, All-map, All-weaker, filter_passes}
 use Rattle.std.proofs.lemmas.List.Kept.{AllPairs-filter}
 use Rattle.std.proofs.lemmas.List.Quantifiers.{Any-push, all_pairs_push}
 use Rattle.std.proofs.lemmas.List.Sorted.{IsPermutation-middle, IsPermutation-to_front, sum_by-IsPermutation}
@@ -15,9 +15,9 @@ use Rattle.adlb_unit.specs.declared.names.UnitId.{UnitId}
 use Rattle.adlb_unit.specs.declared.names.WorkType.{WorkType}
 use Rattle.adlb_unit.specs.declared.units.Unit.{Unit}
 use Rattle.slab.proofs.SlabLemmas.{Contains-cons, Contains-cons_cases}
-use Rattle.work_queue.proofs.Ids.{differs_is, filter_at, map_at, other_stays, same_is, this_pinned, unit_pinned}
+use Rattle.work_queue.proofs.Ids.{differs_is, distinct_pinned, filter_at, map_at, other_stays, same_is, this_pinned, unit_pinned}
 use Rattle.work_queue.specs.Best.{IsBest}
-use Rattle.work_queue.specs.Queue.{HasDistinctIds, HasFree, HasPinned, has_other_id, id_of, pinned_by, same_id}
+use Rattle.work_queue.specs.Queue.{HasDistinctIds, HasFree, HasPinned, Queue, has_other_id, id_of, pinned_by, same_id, with_pin, without}
 use Rattle.work_queue.specs.declared.placing.Placed.{Placed}
 
 pub split_at : (units : List Placed) (p : Placed) → Contains units p → (front : List Placed) × (back : List Placed) × (units ≡ front ++ p ∷ back)
@@ -159,3 +159,38 @@ pub pinned_stays : (id other : UnitId) (rank holder : Rank) (units : List Placed
 pinned_stays id other rank holder units differs has =
     let P : Placed → Type 0 = λ p. (id_of p ≡ other) × (p.pin ≡ Some holder) in
     any_pinned P id rank units (has.0, has.1, has.2, has.3, (has.4, λ same. differs (sym has.4.0 ∙ same)))
+
+-- a free unit was pinned and taken: it is the one of this id, this is its body, and the others, of other ids, stay
+pub record IsTaken (before after : List Placed) (id : UnitId) (body : List ℕ) : Type 0 where
+  pub unit : Placed
+  pub there : Contains before unit
+  pub has_id : id_of unit ≡ id
+  pub free : unit.pin ≡ None
+  pub body_is : body ≡ unit.unit.body
+  pub rest : IsPermutation before (unit ∷ after)
+  pub distinct : HasDistinctIds after
+  pub gone : All (λ q. id_of q ≢ id) after
+
+pub pinned_then_taken : (units : List Placed) (id : UnitId) (rank : Rank) (body : List ℕ) → HasDistinctIds units → HasFree id units → All (λ p. id_of p ≡ id → body ≡ p.unit.body) (map (pinned_by id rank) units) → IsTaken units (filter (has_other_id id) (map (pinned_by id rank) units)) id body
+pinned_then_taken units id rank body distinct has bodies =
+    let p = has.1 in
+    let there : Contains units p = (has.0, has.2, has.3) in
+    let B : Placed → Type 0 = λ q. id_of q ≡ id → body ≡ q.unit.body in
+    record {
+      unit = p;
+      there = there;
+      has_id = has.4.0;
+      free = has.4.1;
+      body_is = All-contains B (map (pinned_by id rank) units) (record p { pin = Some rank }) bodies (contains_pinned units p id rank there has.4.0) has.4.0;
+      rest = rw filter-map_pinned (others_first units p id distinct there has.4.0);
+      distinct = distinct_left id (map (pinned_by id rank) units) (distinct_pinned id rank units distinct);
+      gone = id_gone id (map (pinned_by id rank) units);
+    }
+
+-- the same of the queue before, between and after, by what `pin` and `take_pinned` ensure
+pub taken_after_pin : (old mid new : Queue) (id : UnitId) (rank : Rank) (body : List ℕ) → HasDistinctIds old.units → HasFree id old.units → mid ≡ with_pin old id rank → new ≡ without mid id → All (λ p. id_of p ≡ id → body ≡ p.unit.body) mid.units → IsTaken old.units new.units id body
+taken_after_pin old mid new id rank body distinct has pinned taken bodies =
+    let B : Queue → Type 0 = λ q. All (λ p. id_of p ≡ id → body ≡ p.unit.body) q.units in
+    let T : Queue → Type 0 = λ q. IsTaken old.units q.units id body in
+    let after : new ≡ without (with_pin old id rank) id = taken ∙ ap (λ q. without q id) pinned in
+    subst T (sym after) (pinned_then_taken old.units id rank body distinct has (subst B pinned bodies))

@@ -1,0 +1,6 @@
+pub mod Bodies
+pub mod Counting
+pub mod Forms
+pub mod Pieces
+pub mod Waiting
+pub mod Working

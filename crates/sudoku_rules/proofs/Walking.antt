@@ -1,0 +1,108 @@
+-- One node of the walk, as the code takes it.
+use Rattle.std.proofs.Common.{◌≡◌, ◌<◌, ◌≤◌, ℕ, zero, suc, ◌+◌, ◌-◌, ◌/◌, Bool, true, false, cond, ◌||◌, not, List, [], ◌∷◌, ◌++◌, length, set, filter, Option, Some, None, refl, sym, ap, ◌∙◌, arith, append-nil, append_assoc}
+use Rattle.std.proofs.Math.Bool.{or-false}
+use Rattle.sudoku_law.specs.Grid.{Cells, conflict, candidates, choices, fewest, used, count_up}
+use Rattle.sudoku_law.specs.Tree.{Tree, end, branches, at_cell, tree, hands_out, Met, nothing, both, walk}
+use Rattle.sudoku_law.proofs.Depth.{tree_is_node, share_falls}
+use Rattle.sudoku_rules.specs.Expansion.{at_digit, handed_out, solved}
+
+or_assoc : (a b c : Bool) → ((a || b) || c) ≡ (a || (b || c))
+or_assoc true b c = refl
+or_assoc false b c = refl
+
+pub both_nothing : (m : Met) → both m nothing ≡ m
+both_nothing m = rw (append-nil m.solutions, append-nil m.children, or-false m.over) refl
+
+pub both_assoc : (a b c : Met) → both (both a b) c ≡ both a (both b c)
+both_assoc a b c = rw (append_assoc a.solutions b.solutions c.solutions, append_assoc a.children b.children c.children, or_assoc a.over b.over c.over) refl
+
+-- the trees of the children
+abbrev pub below : ℕ → Cells → Tree
+below b h = tree 3 b h
+
+pub node_dead : (grain b : ℕ) (g : Cells) → conflict 3 g ≡ true → walk grain (tree 3 b g) ≡ nothing
+node_dead grain b g clash = ap (λ t. walk grain t) (tree_is_node 3 b g ∙ ap (λ c. cond c end (at_cell 3 below b g (fewest 3 g))) clash)
+
+node_cell : (grain b : ℕ) (g : Cells) (o : Option ℕ) → conflict 3 g ≡ false → fewest 3 g ≡ o → walk grain (tree 3 b g) ≡ walk grain (at_cell 3 below b g o)
+node_cell grain b g o fine chosen =
+    ap (λ t. walk grain t) (tree_is_node 3 b g ∙ ap (λ c. cond c end (at_cell 3 below b g (fewest 3 g))) fine ∙ ap (λ x. at_cell 3 below b g x) chosen)
+
+abbrev pub spent : Met
+spent = record { solutions = []; children = []; over = true }
+
+pub node_full : (grain b : ℕ) (g : Cells) → conflict 3 g ≡ false → fewest 3 g ≡ None → walk grain (tree 3 b g) ≡ solved g
+unfolding at_cell
+node_full grain b g fine full = node_cell grain b g None fine full
+
+pub node_over : (grain b : ℕ) (g : Cells) (cell : ℕ) → conflict 3 g ≡ false → fewest 3 g ≡ Some cell → b ≡ 0 → walk grain (tree 3 b g) ≡ spent
+unfolding at_cell
+node_over grain b g cell fine chosen none = node_cell grain b g (Some cell) fine chosen ∙ ap (λ k. walk grain (at_cell 3 below k g (Some cell))) none
+
+-- what is left of an open node from these digits on
+abbrev pub rest_of : ℕ → ℕ → ℕ → ℕ → Cells → ℕ → List ℕ → Met
+rest_of grain budget k share g cell ds = walk grain (branches below budget k share g cell ds)
+
+-- the candidates from this digit on
+unfoldable pub from_digit : Cells → ℕ → ℕ → List ℕ
+from_digit g cell d = filter (λ x. not (used 3 g cell x)) (count_up d (10 - d))
+
+digits_from_one : (g : Cells) (cell : ℕ) → from_digit g cell 1 ≡ candidates 3 g cell
+unfolding from_digit
+digits_from_one g cell = refl
+
+up_more : (d : ℕ) → d < 10 → count_up d (10 - d) ≡ d ∷ count_up (d + 1) (10 - (d + 1))
+unfolding count_up
+up_more d less = let e : 10 - d ≡ suc (10 - (d + 1)) = omega arith in rw e refl
+
+rest_more : (grain budget k share : ℕ) (g : Cells) (cell d : ℕ) (ds : List ℕ) → rest_of grain budget k share g cell (cond (not (used 3 g cell d)) (d ∷ ds) ds) ≡ both (at_digit (hands_out grain budget k) grain share g cell d) (rest_of grain budget k share g cell ds)
+unfolding branches
+rest_more grain budget k share g cell d ds = by_use (used 3 g cell d) (hands_out grain budget k) refl
+  where
+    by_use : (u h : Bool) → hands_out grain budget k ≡ h → rest_of grain budget k share g cell (cond (not u) (d ∷ ds) ds) ≡ both (cond u nothing (cond h (handed_out share (set g cell d)) (walk grain (tree 3 share (set g cell d))))) (rest_of grain budget k share g cell ds)
+    by_use true h is = refl
+    by_use false true is = rw is refl
+    by_use false false is = rw is refl
+
+pub digit_next : (grain budget k share : ℕ) (g : Cells) (cell d : ℕ) → d < 10 → rest_of grain budget k share g cell (from_digit g cell d) ≡ both (at_digit (hands_out grain budget k) grain share g cell d) (rest_of grain budget k share g cell (from_digit g cell (d + 1)))
+unfolding from_digit
+digit_next grain budget k share g cell d less =
+    ap (λ ds. rest_of grain budget k share g cell (filter (λ x. not (used 3 g cell x)) ds)) (up_more d less)
+    ∙ rest_more grain budget k share g cell d (from_digit g cell (d + 1))
+
+pub digits_end : (grain budget k share : ℕ) (g : Cells) (cell d : ℕ) → 10 ≤ d → rest_of grain budget k share g cell (from_digit g cell d) ≡ nothing
+unfolding from_digit branches count_up
+digits_end grain budget k share g cell d past = let e : 10 - d ≡ 0 = omega arith in rw e refl
+
+pub node_open : (grain b : ℕ) (g : Cells) (cell count : ℕ) → conflict 3 g ≡ false → fewest 3 g ≡ Some cell → 0 < b → count ≡ choices 3 g cell → rest_of grain b count ((b - 1) / count) g cell (from_digit g cell 1) ≡ walk grain (tree 3 b g)
+unfolding at_cell
+node_open grain zero g cell count fine chosen some is = absurd (omega arith)
+node_open grain (suc b) g cell count fine chosen some is =
+    let e : suc b - 1 ≡ b = omega arith in
+    rw (e, is, digits_from_one g cell) (sym (node_cell grain (suc b) g (Some cell) fine chosen))
+
+pub share_less : (b k : ℕ) → 0 < b → (b - 1) / k < b
+share_less b k some = let le : (b - 1) / k ≤ b - 1 = share_falls (b - 1) k in omega arith
+
+-- an open node with no candidate is dead
+pub no_candidates : (grain b : ℕ) (g : Cells) (cell count : ℕ) → conflict 3 g ≡ false → fewest 3 g ≡ Some cell → 0 < b → count ≡ choices 3 g cell → count ≡ 0 → walk grain (tree 3 b g) ≡ nothing
+unfolding branches
+no_candidates grain b g cell count fine chosen some is none =
+    sym (node_open grain b g cell count fine chosen some is)
+    ∙ ap (λ ds. rest_of grain b count ((b - 1) / count) g cell ds) (digits_from_one g cell ∙ empty (candidates 3 g cell) (sym is ∙ none))
+  where
+    empty : (ds : List ℕ) → length ds ≡ 0 → ds ≡ []
+    empty [] e = refl
+    empty (d ∷ ds) e = absurd (omega arith)
+
+or_true : (a : Bool) → (a || true) ≡ true
+or_true true = refl
+or_true false = refl
+
+pub both_solved : (m : Met) (g : Cells) (s : List Cells) → s ≡ m.solutions ++ g ∷ [] → record { solutions = s; children = m.children; over = m.over } ≡ both m (solved g)
+both_solved m g s is = rw (is, append-nil m.children, or-false m.over) refl
+
+pub both_handed : (m : Met) (share : ℕ) (g : Cells) (cs : List (ℕ × Cells)) → cs ≡ m.children ++ (share, g) ∷ [] → record { solutions = m.solutions; children = cs; over = m.over } ≡ both m (record { solutions = []; children = (share, g) ∷ []; over = false })
+both_handed m share g cs is = rw (is, append-nil m.solutions, or-false m.over) refl
+
+pub both_spent : (m : Met) → record { solutions = m.solutions; children = m.children; over = true } ≡ both m spent
+both_spent m = rw (append-nil m.solutions, append-nil m.children, or_true m.over) refl
