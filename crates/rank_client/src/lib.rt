@@ -8,8 +8,10 @@
 
 mod faults;
 mod links;
+mod pendings;
 mod programs;
 
 pub use faults::{EndFault, PutFault};
 pub use links::Adlb;
+pub use pendings::Pending;
 pub use programs::RankProgram;
