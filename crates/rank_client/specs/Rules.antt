@@ -91,14 +91,18 @@ reserve s types None = record {
 abbrev pub held : State → UnitId → Option UnitNote
 held s id = find (λ n. same_unit n.id id) s.handles
 
-abbrev pub fetch : State → UnitId → Option UnitNote → Option Response
-fetch s id None = None
-fetch s id (Some note) = Some (record {
+-- its server is asked for the bytes
+abbrev pub fetched : State → UnitId → UnitNote → Response
+fetched s id note = record {
   state = waiting (record s { handles = filter (λ n. not (same_unit n.id id)) s.handles }) (waits_for.Fetch s.next note);
   says = record { to = note.server; message = tells.Fetch s.next id } ∷ [];
   entries = enters.Fetching s.me s.next id ∷ [];
   answer = None;
-})
+}
+
+abbrev pub fetch : State → UnitId → Option UnitNote → Option Response
+fetch s id None = None
+fetch s id (Some note) = Some (fetched s id note)
 
 -- Finish.
 

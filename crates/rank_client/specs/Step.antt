@@ -1,5 +1,5 @@
 -- One step of a rank: the rule of its call or letter, and the stamps and places of what it sends.
-use Rattle.std.specs.Prelude.{ℕ, ◌+◌, ◌^◌, max, nat_lt, nat_le, Bool, true, false, List, [], ◌∷◌, ◌++◌, slice_index_or, slice_set, Option, None, Some, if◌then◌else◌}
+use Rattle.std.specs.Prelude.{ℕ, ◌+◌, ◌^◌, max, nat_lt, nat_le, Bool, true, false, ◌&&◌, not, List, [], ◌∷◌, ◌++◌, slice_index_or, slice_set, Option, None, Some, if◌then◌else◌}
 use Rattle.std.specs.Option.{option_map}
 use Rattle.adlb_unit.specs.declared.actors.Actor.TheVariants as by
 use Rattle.adlb_unit.specs.declared.letters.Letter.{Letter}
@@ -57,10 +57,11 @@ made x = post (record { state = x.state; sends = []; entries = x.entries; answer
 abbrev pub begin : State → Call → Option Made
 begin s call = if is_free s then option_map made (open_call (ticked s (call_stamp s)) call) else None
 
--- the rank hears a letter; nothing where the letter is not expected
+-- the rank hears a letter; nothing where the letter is not expected: by a rank that has not finished, with a stamp that was given,
+-- as the pending call awaits it
 abbrev pub hear : State → Server → Letter → Option Made
 hear s from letter =
-    if nat_lt letter.stamp (2 ^ 48)
+    if not s.finished && nat_lt letter.stamp (2 ^ 48)
     then option_map made (answer_call (ticked s (letter_stamp s letter)) s.pending from letter.message)
     else None
 

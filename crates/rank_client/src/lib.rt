@@ -7,11 +7,13 @@
 #![tactic(auto)]
 
 mod faults;
+mod laws;
 mod links;
 mod pendings;
 mod programs;
 
 pub use faults::{EndFault, PutFault};
+pub use laws::client_laws;
 pub use links::Adlb;
 pub use pendings::Pending;
 pub use programs::RankProgram;

@@ -1,0 +1,4 @@
+mod Begins
+mod Entries
+mod Hears
+mod Ring
