@@ -6,14 +6,19 @@
 //! steps of the bag, and that its answers are those that the bag's ledger gives.
 #![tactic(auto)]
 
+mod clients;
 mod faults;
 mod laws;
 mod links;
 mod pendings;
 mod programs;
+mod rooms;
+mod steps;
 
+pub use clients::ClientCore;
 pub use faults::{EndFault, PutFault};
 pub use laws::client_laws;
 pub use links::Adlb;
 pub use pendings::Pending;
 pub use programs::RankProgram;
+pub use steps::ClientStep;
