@@ -31,7 +31,7 @@ use Rattle.bag_ledger.specs.Steps.{Legal, Stands, Steps, after, begun, ended, wi
 use Rattle.rank_client.specs.declared.pendings.Pending.{Pending}
 use Rattle.rank_client.specs.declared.pendings.Pending.TheVariants as waits_for
 use Rattle.rank_client.specs.Agreement.{Agrees, Follows, IsCaused, IsHeld, running}
-use Rattle.rank_client.specs.Rules.{Response, Saying, fetch, fetched, finish, held, in_ranks, is_free, is_idle, open_call, over, put, reserve}
+use Rattle.rank_client.specs.Rules.{Response, Saying, entry_of, fetch, fetched, finish, held, in_ranks, is_free, is_idle, open_call, over, put, reserve, unit_put}
 use Rattle.rank_client.specs.State.{State}
 use Rattle.rank_client.specs.Step.{Made, begin, call_stamp, made, post, ticked}
 use Rattle.rank_client.proofs.Entries.{IsSame, rank_changed, saying, same_unit_is, silent, some_is, step_of, then_saying}
@@ -142,32 +142,26 @@ waits_follows : IsSame → (s : State) (b : Bag) (entry : Entry) (f : RankState 
 waits_follows same s b entry f x free step quiet entries transcript agrees =
     (with_rank s.me f b, rw entries (with_rank s.me f b, step, refl), agrees, transcript ∙ sym (ap (λ said. s.transcript ++ said) (ap (λ es. calls_from b es s.me) entries ∙ silent same b (with_rank s.me f b) entry s.me step quiet) ∙ append-nil s.transcript))
 
-abbrev entry_of : State → WorkType → ℤ → Target → Option Rank → List ℕ → Entry
-entry_of s kind prio target answer body = enters.Putting s.me s.next kind prio target answer body
-
-abbrev unit_of : State → WorkType → ℤ → Target → Option Rank → List ℕ → Unit
-unit_of s kind prio target answer body = record { id = record { rank = s.me; number = s.next }; kind = kind; prio = prio; target = target; answer = answer; common = s.batch; body = body }
-
 -- what Putting makes of the rank
 abbrev puts : State → WorkType → ℤ → Target → Option Rank → List ℕ → RankState → RankState
 puts s kind prio target answer body r =
     begun (does.Putting (record { id = record { rank = s.me; number = s.next }; kind = kind; prio = prio; target = target; answer = answer; common = r.batch; body = body })) r
 
 putting_steps : (s : State) (b : Bag) (kind : WorkType) (prio : ℤ) (target : Target) (answer : Option Rank) (body : List ℕ) → IsFree s b
-    → Steps b (entry_of s kind prio target answer body) (with_rank s.me (puts s kind prio target answer body) b)
+    → Steps b (entry_of (unit_put s kind prio target answer body)) (with_rank s.me (puts s kind prio target answer body) b)
 putting_steps s b kind prio target answer body free =
-    let legal : Legal b (entry_of s kind prio target answer body) = (running s, (free.rank, refl, refl)) in
-    step_of b (entry_of s kind prio target answer body) free.none legal
+    let legal : Legal b (entry_of (unit_put s kind prio target answer body)) = (running s, (free.rank, refl, refl)) in
+    step_of b (entry_of (unit_put s kind prio target answer body)) free.none legal
 
 put_follows : IsSame → (s : State) (b : Bag) (kind : WorkType) (prio : ℤ) (target : Target) (answer : Option Rank) (body : List ℕ) (end : Option End) → IsFree s b → s.end ≡ end
-    → Follows s None b (bare (put s (unit_of s kind prio target answer body) (entry_of s kind prio target answer body) (calls_to.Put kind prio target answer body) end))
+    → Follows s None b (bare (put s (unit_put s kind prio target answer body) end))
 put_follows same s b kind prio target answer body (Some end) free told =
-    over_follows same (record s { puts = s.puts + 1 }) b (entry_of s kind prio target answer body) (calls_to.Put kind prio target answer body) end (puts s kind prio target answer body) (does.Putting (unit_of s kind prio target answer body))
+    over_follows same (record s { puts = s.puts + 1 }) b (entry_of (unit_put s kind prio target answer body)) (calls_to.Put kind prio target answer body) end (puts s kind prio target answer body) (does.Putting (unit_put s kind prio target answer body))
     (record { rank = free.rank; servers = free.servers; caused = free.caused; held = free.held; none = free.none; going = free.going })
     told (putting_steps s b kind prio target answer body free) refl refl refl refl
 put_follows same s b kind prio target answer body None free told =
-    waits_follows same s b (entry_of s kind prio target answer body) (puts s kind prio target answer body)
-    (bare (put s (unit_of s kind prio target answer body) (entry_of s kind prio target answer body) (calls_to.Put kind prio target answer body) None)) free
+    waits_follows same s b (entry_of (unit_put s kind prio target answer body)) (puts s kind prio target answer body)
+    (bare (put s (unit_put s kind prio target answer body) None)) free
     (putting_steps s b kind prio target answer body free) refl refl refl
     (record {
       rank = rw free.going (rank_changed b s.me (puts s kind prio target answer body) (running s) free.rank);
@@ -196,7 +190,7 @@ reserve_follows same s b types None free told =
     })
 
 -- the note that is found is that of the unit, and stands among the notes
-found_is : (P : UnitNote → Type 0) (id : UnitId) (notes : List UnitNote) (note : UnitNote) → find (λ n. same_unit n.id id) notes ≡ Some note → All P notes → (note.id ≡ id) × P note
+pub found_is : (P : UnitNote → Type 0) (id : UnitId) (notes : List UnitNote) (note : UnitNote) → find (λ n. same_unit n.id id) notes ≡ Some note → All P notes → (note.id ≡ id) × P note
 found_is P id [] note e all = absurd (cc)
 found_is P id (n ∷ notes) note e all = by_test (found_is P id notes note) (same_unit n.id id) refl e
   where
@@ -244,7 +238,7 @@ none_is (Some x) e = absurd (cc)
 opens : IsSame → (s : State) (b : Bag) (call : Call) → IsFree s b → LawOf s.transcript s.me b (open_call s call)
 opens same s b (calls_to.Put kind prio target answer body) free = by_test (nat_le (length body) (2 ^ 20) && in_ranks s.config target)
   where
-    by_test : (t : Bool) → LawOf s.transcript s.me b (if t then Some (put s (unit_of s kind prio target answer body) (entry_of s kind prio target answer body) (calls_to.Put kind prio target answer body) s.end) else None)
+    by_test : (t : Bool) → LawOf s.transcript s.me b (if t then Some (put s (unit_put s kind prio target answer body) s.end) else None)
     by_test true = put_follows same s b kind prio target answer body s.end free refl
     by_test false = tt
 opens same s b (calls_to.Reserve types) free = reserve_follows same s b types s.end free refl

@@ -1,4 +1,6 @@
 mod Begins
 mod Entries
+mod Farewells
 mod Hears
+mod Insides
 mod Ring

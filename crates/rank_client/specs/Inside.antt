@@ -72,3 +72,10 @@ pub record IsInside (i : Inside) : Type 0 where
   pub sound : IsSound (state_of i)
   pub room : HasRoom i.config (vec_len i.handles) (vec_capacity i.handles) i.room i.pending
   pub finish : i.finished ≡ false → CanFinish i
+
+-- in an event in which no call has begun or ended, and no letter was sent
+pub record IsFresh (s : State) : Type 0 where
+  pub sent : All (λ n. n < s.clock) s.sent
+  pub next : s.next < s.clock
+  pub puts : s.puts < s.clock
+  pub said : length s.transcript < s.clock

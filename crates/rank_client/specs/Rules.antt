@@ -41,6 +41,15 @@ pub record Response : Type 0 where
 abbrev pub waiting : State → Pending → State
 waiting s pending = record s { pending = pending; next = s.next + 1 }
 
+-- a call that goes to a server, and waits for its answer
+abbrev pub asks : State → Entry → Server → Message → Pending → Response
+asks s entry to message pending = record {
+  state = waiting s pending;
+  says = record { to = to; message = message } ∷ [];
+  entries = entry ∷ [];
+  answer = None;
+}
+
 -- the call has its answer
 abbrev pub answered : State → Call → Answer → State
 answered s call answer = record s { pending = waits_for.Nothing; transcript = plus s.transcript call (Some answer) }
@@ -64,26 +73,37 @@ abbrev pub in_ranks : Config → Target → Bool
 in_ranks config Any = true
 in_ranks config (Only rank) = nat_lt rank.0 config.ranks
 
+-- the call that puts the unit, and the entry that begins it
+abbrev pub call_of : Unit → Call
+call_of unit = calls_to.Put unit.kind unit.prio unit.target unit.answer unit.body
+
+abbrev pub entry_of : Unit → Entry
+entry_of unit = enters.Putting unit.id.rank unit.id.number unit.kind unit.prio unit.target unit.answer unit.body
+
 -- the unit is offered to the first server
-abbrev pub put : State → Unit → Entry → Call → Option End → Response
-put s unit entry call (Some end) = over (record s { puts = s.puts + 1 }) entry call end
-put s unit entry call None = record {
-  state = waiting (record s { puts = s.puts + 1 }) (waits_for.Put unit (first_server s unit.target) 0);
-  says = record { to = first_server s unit.target; message = tells.Put unit } ∷ [];
-  entries = entry ∷ [];
-  answer = None;
+abbrev pub put : State → Unit → Option End → Response
+put s unit (Some end) = over (record s { puts = s.puts + 1 }) (entry_of unit) (call_of unit) end
+put s unit None =
+    asks (record s { puts = s.puts + 1 }) (entry_of unit) (first_server s unit.target) (tells.Put unit) (waits_for.Put unit (first_server s unit.target) 0)
+
+-- the unit that this call puts, in the batch that is going on, if any
+abbrev pub unit_put : State → WorkType → ℤ → Target → Option Rank → List ℕ → Unit
+unit_put s kind prio target answer body = record {
+  id = record { rank = s.me; number = s.next };
+  kind = kind;
+  prio = prio;
+  target = target;
+  answer = answer;
+  common = s.batch;
+  body = body;
 }
 
 -- Reserve.
 
 abbrev pub reserve : State → Option (List WorkType) → Option End → Response
 reserve s types (Some end) = over s (enters.Asked s.me s.next types) (calls_to.Reserve types) end
-reserve s types None = record {
-  state = waiting s (waits_for.Reserve s.next types);
-  says = record { to = home s.config s.me; message = tells.Reserve s.next types } ∷ [];
-  entries = enters.Asked s.me s.next types ∷ [];
-  answer = None;
-}
+reserve s types None =
+    asks s (enters.Asked s.me s.next types) (home s.config s.me) (tells.Reserve s.next types) (waits_for.Reserve s.next types)
 
 -- Fetch.
 
@@ -93,12 +113,9 @@ held s id = find (λ n. same_unit n.id id) s.handles
 
 -- its server is asked for the bytes
 abbrev pub fetched : State → UnitId → UnitNote → Response
-fetched s id note = record {
-  state = waiting (record s { handles = filter (λ n. not (same_unit n.id id)) s.handles }) (waits_for.Fetch s.next note);
-  says = record { to = note.server; message = tells.Fetch s.next id } ∷ [];
-  entries = enters.Fetching s.me s.next id ∷ [];
-  answer = None;
-}
+fetched s id note =
+    asks (record s { handles = filter (λ n. not (same_unit n.id id)) s.handles }) (enters.Fetching s.me s.next id) note.server (tells.Fetch s.next id)
+    (waits_for.Fetch s.next note)
 
 abbrev pub fetch : State → UnitId → Option UnitNote → Option Response
 fetch s id None = None
@@ -132,9 +149,7 @@ is_free s = is_idle s.pending && not s.finished
 abbrev pub open_call : State → Call → Option Response
 open_call s (calls_to.Put kind prio target answer body) =
     if nat_le (length body) (2 ^ 20) && in_ranks s.config target
-    then Some (put s (record { id = record { rank = s.me; number = s.next }; kind = kind; prio = prio; target = target; answer = answer; common = s.batch; body = body })
-      (enters.Putting s.me s.next kind prio target answer body) (calls_to.Put kind prio target answer body) s.end)
-    else None
+    then Some (put s (unit_put s kind prio target answer body) s.end) else None
 open_call s (calls_to.Reserve types) = Some (reserve s types s.end)
 open_call s (calls_to.Fetch id) = fetch s id (held s id)
 open_call s calls_to.Finish = if is_none s.batch then Some (finish s) else None
@@ -145,9 +160,6 @@ open_call s _ = None
 -- the letter answers this request, and comes from the server that was asked
 abbrev pub is_for : ℕ → Server → Server → ℕ → Bool
 is_for request at from to = (to == request) && (from.0 == at.0)
-
-abbrev pub call_of : Unit → Call
-call_of unit = calls_to.Put unit.kind unit.prio unit.target unit.answer unit.body
 
 -- the server that is asked after so many have refused
 abbrev pub asked : State → Server → ℕ → Server

@@ -41,8 +41,11 @@ sent_to s to = slice_index_or s.sent to.0 0
 abbrev pub counted : State → Server → State
 counted s to = record s { sent = slice_set s.sent to.0 (sent_to s to + 1) }
 
+abbrev pub sending : ℕ → ℕ → Saying → Sending
+sending stamp place x = record { to = by.Server x.to; letter = record { stamp = stamp; place = place; message = x.message } }
+
 abbrev pub posted : State → Saying → Sending
-posted s x = record { to = by.Server x.to; letter = record { stamp = s.clock; place = sent_to s x.to; message = x.message } }
+posted s x = sending s.clock (sent_to s x.to) x
 
 abbrev pub post : Made → List Saying → Made
 post x [] = x

@@ -1,10 +1,10 @@
 //! What a client keeps of its rank.
 
-ghost use Rattle.std.specs.Prelude.{◌≡◌, ◌<◌, ◌≤◌, ◌+◌, ◌^◌, ◌∷◌, ◌++◌, [], false, length, map, IfOk, slice_index_or, replicate};
+ghost use Rattle.std.specs.Prelude.{◌≡◌, ◌<◌, ◌≤◌, ◌+◌, ◌^◌, ◌∷◌, ◌++◌, [], false, length, map, IfOk, slice_index_or, slice_set};
 ghost use Rattle.std.specs.Vec.{vec_len, vec_capacity};
 ghost use Rattle.rank_client.specs.Calls.{plus};
 ghost use Rattle.rank_client.specs.State.{State, start};
-ghost use Rattle.rank_client.specs.Step.{counted, posted, sent_to, ticked};
+ghost use Rattle.rank_client.specs.Step.{sending};
 
 use crate::pendings::Pending;
 use crate::rooms::{Farewell, Room};
@@ -105,24 +105,24 @@ impl ClientCore {
         self.trouble = Some(trouble);
         trouble
     }
+}
 
-    // Writes a letter to the server.
-    pub(crate) fn post(&mut self, to: Server, message: Message) -> Sending
-        requires server { to.0 < self.old.config.servers }
-        requires first { sent_to self.old to < self.old.clock }
-        ensures counted { self.new ≡ counted self.old to }
-        ensures posted { result ≡ posted self.old (record { to = to; message = message }) }
-    {
-        let at = to.0 as usize;
-        let place = self.sent[at];
-        self.sent[at] = place + 1;
-        Sending {
-            to: Actor::Server(to),
-            letter: Letter {
-                stamp: self.clock,
-                place,
-                message,
-            },
-        }
+// Writes a letter to the server, in the event of this stamp. `sent` counts the letters to each server.
+pub(crate) fn write(sent: &mut Vec<u64>, stamp: u64, to: Server, message: Message) -> Sending
+    requires server { to.0 < length sent.old.items }
+    requires first { slice_index_or sent.old.items to.0 0 < stamp }
+    ensures counted { sent.new.items ≡ slice_set sent.old.items to.0 (slice_index_or sent.old.items to.0 0 + 1) }
+    ensures letter { result ≡ sending stamp (slice_index_or sent.old.items to.0 0) (record { to = to; message = message }) }
+{
+    let at = to.0 as usize;
+    let place = sent[at];
+    sent[at] = place + 1;
+    Sending {
+        to: Actor::Server(to),
+        letter: Letter {
+            stamp,
+            place,
+            message,
+        },
     }
 }

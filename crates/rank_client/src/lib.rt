@@ -6,6 +6,7 @@
 //! steps of the bag, and that its answers are those that the bag's ledger gives.
 #![tactic(auto)]
 
+mod calls;
 mod clients;
 mod faults;
 mod laws;
