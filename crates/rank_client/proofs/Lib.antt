@@ -1,4 +1,5 @@
 mod Begins
+mod Calling
 mod Entries
 mod Farewells
 mod Hears

@@ -1,5 +1,5 @@
 -- The fields of a client.
-use Rattle.std.specs.Prelude.{◌≡◌, ℕ, ◌+◌, ◌<◌, ◌≤◌, ◌^◌, List, [], length, false, All}
+use Rattle.std.specs.Prelude.{◌≡◌, ℕ, ◌+◌, ◌<◌, ◌≤◌, ◌^◌, List, [], length, Bool, true, false, All}
 use Rattle.std.specs.Vec.{vec_len, vec_capacity}
 use Rattle.adlb_unit.specs.declared.configs.Config.{Config}
 use Rattle.bag_ledger.specs.declared.entries.Entry.{Entry}
@@ -79,3 +79,16 @@ pub record IsFresh (s : State) : Type 0 where
   pub next : s.next < s.clock
   pub puts : s.puts < s.clock
   pub said : length s.transcript < s.clock
+
+-- which call is pending
+abbrev pub is_put : Pending → Bool
+is_put (waits_for.Put unit first tried) = true
+is_put _ = false
+
+abbrev pub is_reserve : Pending → Bool
+is_reserve (waits_for.Reserve request types) = true
+is_reserve _ = false
+
+abbrev pub is_fetch : Pending → Bool
+is_fetch (waits_for.Fetch request note) = true
+is_fetch _ = false

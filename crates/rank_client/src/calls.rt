@@ -9,10 +9,10 @@ ghost use Rattle.bag_ledger.specs.Bag.{same_unit};
 ghost use Rattle.rank_client.specs.Calls.{is_finish};
 ghost use Rattle.rank_client.specs.Inside.{HasRoom, IsFresh, gives};
 ghost use Rattle.rank_client.specs.Rules.{asks, call_of, entry_of, farewell, fetched, finish, first_server, held, in_ranks, is_free, open_call, over, put, reserve, waiting};
-ghost use Rattle.rank_client.specs.State.{State, behind, home};
+ghost use Rattle.rank_client.specs.State.{State, home};
 ghost use Rattle.rank_client.specs.Step.{Made, begin, call_stamp, call_trouble, made, post, ticked};
 
-use crate::clients::{ClientCore, write};
+use crate::clients::{ClientCore, behind, write};
 use crate::pendings::Pending;
 use crate::rooms::{Farewell, Offer, Room};
 use crate::steps::ClientStep;
@@ -178,24 +178,13 @@ impl ClientCore {
         })
     }
 
-    // The server that is so many places behind this one in ring order.
-    pub(crate) fn behind(&self, server: Server, places: u64) -> Server
-        requires server { server.0 < self.now.config.servers }
-        requires places { places < 2 ^ 48 }
-        ensures behind { result ≡ behind self.now.config server places }
-        ensures there { result.0 < self.now.config.servers }
-    {
-        let servers = self.config.servers as u64;
-        Server(((server.0 as u64 + places) % servers) as u32)
-    }
-
     // The server to which a put goes first.
     fn first_server(&self, target: Target) -> Server
         ensures first { result ≡ first_server self.now target }
         ensures there { result.0 < self.now.config.servers }
     {
         match target {
-            Target::Any => self.behind(self.config.home(self.me), self.puts),
+            Target::Any => behind(&self.config, self.config.home(self.me), self.puts),
             Target::Only(rank) => self.config.home(rank),
         }
     }

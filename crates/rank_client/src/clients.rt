@@ -3,7 +3,7 @@
 ghost use Rattle.std.specs.Prelude.{◌≡◌, ◌<◌, ◌≤◌, ◌+◌, ◌^◌, ◌∷◌, ◌++◌, [], false, length, map, IfOk, slice_index_or, slice_set};
 ghost use Rattle.std.specs.Vec.{vec_len, vec_capacity};
 ghost use Rattle.rank_client.specs.Calls.{plus};
-ghost use Rattle.rank_client.specs.State.{State, start};
+ghost use Rattle.rank_client.specs.State.{State, behind, start};
 ghost use Rattle.rank_client.specs.Step.{sending};
 
 use crate::pendings::Pending;
@@ -125,4 +125,15 @@ pub(crate) fn write(sent: &mut Vec<u64>, stamp: u64, to: Server, message: Messag
             message,
         },
     }
+}
+
+// The server that is so many places behind this one in ring order.
+pub(crate) fn behind(config: &Config, server: Server, places: u64) -> Server
+    requires server { server.0 < config.now.servers }
+    requires places { places < 2 ^ 48 }
+    ensures behind { result ≡ behind config.now server places }
+    ensures there { result.0 < config.now.servers }
+{
+    let servers = config.servers as u64;
+    Server(((server.0 as u64 + places) % servers) as u32)
 }

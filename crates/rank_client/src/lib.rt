@@ -9,6 +9,7 @@
 mod calls;
 mod clients;
 mod faults;
+mod hearing;
 mod laws;
 mod links;
 mod pendings;

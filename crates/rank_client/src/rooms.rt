@@ -10,8 +10,8 @@ use std::marker::Model;
 // What it takes to offer a unit to one more server: the bytes, and room for the letter. It is seen as the bytes.
 #[derive(Drop)]
 pub(crate) struct Offer {
-    body: Payload,
-    sends: Vec<Sending>,
+    pub(crate) body: Payload,
+    pub(crate) sends: Vec<Sending>,
 }
 
 impl Model for Offer {
