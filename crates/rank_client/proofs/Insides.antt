@@ -3,7 +3,7 @@ use Rattle.std.proofs.Common.{◌≡◌, ◌≤◌, ◌<◌, ◌+◌, ◌∷◌,
 use Rattle.std.proofs.Math.ListN.{length-set}
 use Rattle.std.specs.Prelude.{OnOk, is_err}
 use Rattle.std.specs.Vec.{vec_len, vec_capacity}
-use Rattle.std.proofs.lemmas.List.Elements.{All-filter, All-get_or, All-same, All-set}
+use Rattle.std.proofs.lemmas.List.Elements.{All-filter, All-get_or, All-same, All-set, All-weaker}
 use Rattle.adlb_unit.specs.declared.configs.Config.{Config}
 use Rattle.adlb_unit.specs.declared.messages.Message.TheVariants as tells
 use Rattle.adlb_unit.specs.declared.names.UnitId.{UnitId}
@@ -18,7 +18,7 @@ use Rattle.bag_ledger.specs.Bag.{same_unit}
 use Rattle.rank_client.specs.Inside.{HasRoom, IsFresh, IsSound, awaited, gives}
 use Rattle.rank_client.specs.Rules.{asks, fetched, held}
 use Rattle.rank_client.specs.State.{State}
-use Rattle.rank_client.specs.Step.{Made, made}
+use Rattle.rank_client.specs.Step.{Made, made, ticked}
 use Rattle.rank_client.proofs.Begins.{found_is}
 
 pub on_ok : {T E : Type 0} {P : Type 0} (r : Result T E) → is_err r ≡ false → OnOk r P → P
@@ -99,3 +99,15 @@ fetched_gives s at now id note x notes at_is gave is =
     let without : List UnitNote → List UnitNote = λ all. filter (λ n. not (same_unit n.id id)) all in
     ap (λ (m : Made). record m { state = record m.state { handles = without s.handles } }) e
     ∙ ap (λ all. gives (record now { handles = all }) x) (ap without same ∙ sym is)
+
+-- an event has its stamp
+pub ticks : (s : State) (stamp : ℕ) → IsSound s → s.clock < stamp → IsFresh (ticked s stamp)
+ticks s stamp sound later =
+    let P : ℕ → Type 0 = λ n. n ≤ s.clock in
+    let Q : ℕ → Type 0 = λ n. n < stamp in
+    record {
+      sent = All-weaker P Q (λ n low. omega (arith, low, later)) s.sent sound.sent;
+      next = omega (arith, sound.next);
+      puts = omega (arith, sound.puts);
+      said = omega (arith, sound.said);
+    }

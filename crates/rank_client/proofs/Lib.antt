@@ -1,3 +1,4 @@
+mod Awaited
 mod Begins
 mod Calling
 mod Entries

@@ -98,6 +98,10 @@ unit_put s kind prio target answer body = record {
   body = body;
 }
 
+abbrev pub unit_of : State → Call → Option Unit
+unit_of s (calls_to.Put kind prio target answer body) = Some (unit_put s kind prio target answer body)
+unit_of s _ = None
+
 -- Reserve.
 
 abbrev pub reserve : State → Option (List WorkType) → Option End → Response

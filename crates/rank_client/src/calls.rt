@@ -8,7 +8,7 @@ ghost use Rattle.adlb_unit.specs.declared.notes.Trouble.{Trouble};
 ghost use Rattle.bag_ledger.specs.Bag.{same_unit};
 ghost use Rattle.rank_client.specs.Calls.{is_finish};
 ghost use Rattle.rank_client.specs.Inside.{HasRoom, IsFresh, gives};
-ghost use Rattle.rank_client.specs.Rules.{asks, call_of, entry_of, farewell, fetched, finish, first_server, held, in_ranks, is_free, open_call, over, put, reserve, waiting};
+ghost use Rattle.rank_client.specs.Rules.{asks, call_of, entry_of, farewell, fetched, finish, first_server, held, in_ranks, is_free, open_call, over, put, reserve, unit_of};
 ghost use Rattle.rank_client.specs.State.{State, home};
 ghost use Rattle.rank_client.specs.Step.{Made, begin, call_stamp, call_trouble, made, post, ticked};
 
@@ -191,6 +191,36 @@ impl ClientCore {
 }
 
 impl ClientCore {
+    // The unit that this call puts, whose twins will share its bytes.
+    fn unit(&self, call: Call) -> Result<Unit, NoMemory>
+        requires { IsSome (unit_of self.now call) }
+        ensures { IfOk result (λ unit. unit_of self.now call ≡ Some unit) }
+    {
+        let Call::Put {
+            kind,
+            prio,
+            target,
+            answer,
+            body,
+        } = call
+        else {
+            unreachable!()
+        };
+        let id = UnitId {
+            rank: self.me,
+            number: self.next,
+        };
+        Ok(Unit {
+            id,
+            kind,
+            prio,
+            target,
+            answer,
+            common: self.batch,
+            body: body.share(self.alloc)?,
+        })
+    }
+
     // Room to offer the unit to the servers behind the first one, and to reject it.
     fn put_room(&self, unit: &Unit) -> Result<Room, NoMemory>
         ensures tries { IfOk result (λ r. vec_len r.tries + 1 ≡ self.now.config.servers) }
@@ -391,27 +421,9 @@ impl ClientCore {
         ensures finish { OnErr result (is_finish call ≡ false) }
     {
         match call {
-            Call::Put {
-                kind,
-                prio,
-                target,
-                answer,
-                body,
-            } => {
-                let body = body.share(self.alloc)?;
-                let id = UnitId {
-                    rank: self.me,
-                    number: self.next,
-                };
-                self.put(Unit {
-                    id,
-                    kind,
-                    prio,
-                    target,
-                    answer,
-                    common: self.batch,
-                    body,
-                })
+            Call::Put { .. } => {
+                let unit = self.unit(call)?;
+                self.put(unit)
             }
             Call::Reserve { types } => self.reserve(types),
             Call::Fetch { id } => match self.held(id) {

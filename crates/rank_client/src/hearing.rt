@@ -34,7 +34,7 @@ impl ClientCore {
         if let Some(trouble) = self.trouble {
             return Err(trouble);
         }
-        if let Message::Broken { trouble } = letter.message {
+        if let Some(trouble) = told(&letter.message) {
             return Err(self.fail(trouble));
         }
         let stamp = self.clock.max(letter.stamp) + 1;
@@ -106,9 +106,10 @@ impl ClientCore {
                 self.ended(entries, Answer::Ended(end))
             }
             Message::Full { .. } if tried + 1 < self.config.servers => {
-                let Some(Offer { body, mut sends }) = self.room.tries.pop() else {
+                let Some(offer) = self.room.tries.pop() else {
                     unreachable!()
                 };
+                let Offer { body, mut sends } = offer;
                 let next = unit_with(&unit, body);
                 let to = behind(&self.config, first, tried as u64 + 1);
                 sends.push_reserved(write(
@@ -197,6 +198,16 @@ impl ClientCore {
         let answer = Answer::Body(body);
         self.said.push_reserved(Said { call, answer });
         self.ended(Vec::new(self.alloc), Answer::Body(Payload::from_vec(bytes)))
+    }
+}
+
+// The trouble of a server that has failed and says so.
+fn told(message: &Message) -> Option<Trouble>
+    ensures { result ≡ told_trouble message.now }
+{
+    match message {
+        Message::Broken { trouble } => Some(*trouble),
+        _ => None,
     }
 }
 
