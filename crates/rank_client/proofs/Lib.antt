@@ -6,3 +6,4 @@ mod Farewells
 mod Hears
 mod Insides
 mod Ring
+pub mod Transcripts
