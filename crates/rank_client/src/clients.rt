@@ -137,16 +137,3 @@ pub(crate) fn behind(config: &Config, server: Server, places: u64) -> Server
     let servers = config.servers as u64;
     Server(((server.0 as u64 + places) % servers) as u32)
 }
-
-#[cfg(test)]
-mod tests {
-    use super::*;
-    use adlb_unit::{Payload, Target, Types, UnitId, WorkType};
-    use bag_ledger::{Answer, Call, Entry};
-    use std::test::Fail;
-
-    fn client(rt: &HostRuntime, servers: u32) -> Result<ClientCore, Fail> {
-        let config = Config::new(2, servers, 64).expect(rt, "within the limits");
-        Ok(ClientCore::new(rt.alloc(), config, Rank(0))?)
-    }
-}

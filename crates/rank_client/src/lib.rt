@@ -8,6 +8,8 @@
 
 mod calls;
 mod clients;
+#[cfg(test)]
+mod driven;
 mod faults;
 mod hearing;
 mod laws;
