@@ -1,0 +1,136 @@
+-- The rule of a letter that the pending call awaits.
+use Rattle.std.proofs.Common.{◌≡◌, ◌≤◌, ◌<◌, ◌+◌, ◌∷◌, ◌++◌, [], ◌^◌, ◌⊎◌, inl, inr, ℕ, List, Option, Some, None, All, length, get_or, set, Bool, true, false, ◌&&◌, not, refl, arith, ap, sym, subst, ◌∙◌, ltb}
+use Rattle.std.proofs.Math.ListN.{length-set}
+use Rattle.std.proofs.lemmas.List.{length_push}
+use Rattle.std.specs.Prelude.{if◌then◌else◌, IsSome, nat_le, nat_lt, slice_index_or, slice_set}
+use Rattle.std.specs.Option.{option_map}
+use Rattle.std.proofs.lemmas.Bool.{and_parts, leb-true, lt-ltb, ltb-true, not-true}
+use Rattle.std.proofs.lemmas.List.Elements.{All-push, All-same, All-set}
+use Rattle.adlb_unit.specs.declared.letters.Letter.{Letter}
+use Rattle.adlb_unit.specs.declared.letters.Sending.{Sending}
+use Rattle.adlb_unit.specs.declared.messages.Message.{Message}
+use Rattle.adlb_unit.specs.declared.messages.Message.TheVariants as tells
+use Rattle.adlb_unit.specs.declared.names.Server.{Server}
+use Rattle.adlb_unit.specs.declared.names.WorkType.{WorkType}
+use Rattle.adlb_unit.specs.declared.notes.Trouble.TheVariants as troubles
+use Rattle.adlb_unit.specs.declared.notes.UnitNote.{UnitNote}
+use Rattle.adlb_unit.specs.declared.units.Unit.{Unit}
+use Rattle.bag_ledger.specs.declared.entries.Answer.TheVariants as answers
+use Rattle.bag_ledger.specs.declared.entries.Call.TheVariants as calls_to
+use Rattle.bag_ledger.specs.declared.entries.Entry.{Entry}
+use Rattle.bag_ledger.specs.declared.entries.Said.{Said}
+use Rattle.rank_client.specs.declared.pendings.Pending.{Pending}
+use Rattle.rank_client.specs.declared.pendings.Pending.TheVariants as waits_for
+use Rattle.rank_client.specs.Inside.{IsFresh, IsSound}
+use Rattle.rank_client.specs.Rules.{Response, answer_call, asked, ends, expects_note, is_for, refused}
+use Rattle.rank_client.specs.State.{State, behind, home}
+use Rattle.rank_client.specs.Step.{Made, hear, letter_stamp, letter_trouble, made, sending, ticked, told_trouble}
+use Rattle.rank_client.proofs.Insides.{first_letter}
+
+-- the note of a grant that is awaited names a server
+pub granted_server : (s : State) (p : Pending) (request : ℕ) (types : Option (List WorkType)) (from : Server) (m : Message) (to : ℕ) (note : UnitNote) → p ≡ waits_for.Reserve request types → m ≡ tells.Grant to note
+    → IsSome (answer_call s p from m) → note.server.0 < s.config.servers
+granted_server s p request types from m to note p_is m_is some =
+    let here : IsSome (answer_call s (waits_for.Reserve request types) from (tells.Grant to note)) = subst (λ (q : Pending). IsSome (answer_call s q from (tells.Grant to note))) p_is (subst (λ (x : Message). IsSome (answer_call s p from x)) m_is some) in
+    by_test (is_for request (home s.config s.me) from to && expects_note s note) refl here
+  where
+    by_test : (t : Bool) → (is_for request (home s.config s.me) from to && expects_note s note) ≡ t
+        → IsSome (if t then Some (ends (record s { handles = s.handles ++ note ∷ [] }) [] (calls_to.Reserve types) (answers.Granted note)) else None) → note.server.0 < s.config.servers
+    by_test true is some =
+        let expected = (and_parts (is_for request (home s.config s.me) from to) (expects_note s note) is).1 in
+        let one = (and_parts _ _ expected).0 in
+        let two = (and_parts _ _ one).0 in
+        ltb-true note.server.0 s.config.servers (and_parts _ _ two).0
+    by_test false is some = absurd (cc)
+
+-- a refusal before the last server
+pub refused_next : (s : State) (p : Pending) (unit : Unit) (first : Server) (tried : ℕ) (from : Server) (m : Message) (to charge : ℕ) → p ≡ waits_for.Put unit first tried → m ≡ tells.Full to charge
+    → tried + 1 < s.config.servers → IsSome (answer_call s p from m) → answer_call s p from m ≡ Some (refused s unit first tried true)
+refused_next s p unit first tried from m to charge p_is m_is more some =
+    let test : nat_lt (tried + 1) s.config.servers ≡ true = lt-ltb (tried + 1) s.config.servers more in
+    let here : IsSome (answer_call s (waits_for.Put unit first tried) from (tells.Full to charge)) = subst (λ (q : Pending). IsSome (answer_call s q from (tells.Full to charge))) p_is (subst (λ (x : Message). IsSome (answer_call s p from x)) m_is some) in
+    ap (λ (x : Message). answer_call s p from x) m_is ∙ ap (λ (q : Pending). answer_call s q from (tells.Full to charge)) p_is
+    ∙ by_test (is_for unit.id.number (asked s first tried) from to) here ∙ ap (λ t. Some (refused s unit first tried t)) test
+  where
+    by_test : (t : Bool) → IsSome (if t then Some (refused s unit first tried (nat_lt (tried + 1) s.config.servers)) else None)
+        → (if t then Some (refused s unit first tried (nat_lt (tried + 1) s.config.servers)) else None) ≡ Some (refused s unit first tried (nat_lt (tried + 1) s.config.servers))
+    by_test true some = refl
+    by_test false some = absurd (cc)
+
+-- the unit goes to the next server
+pub retry_gives : (s : State) (unit next : Unit) (first to : Server) (tried : ℕ) (letter : Sending) (sends before : List Sending) (entries : List Entry) (sent : List ℕ)
+    → to ≡ behind s.config first (tried + 1) → next ≡ unit → sent ≡ slice_set s.sent to.0 (slice_index_or s.sent to.0 0 + 1)
+    → letter ≡ sending s.clock (slice_index_or s.sent to.0 0) (record { to = to; message = tells.Put next }) → before ≡ [] → sends ≡ before ++ letter ∷ [] → entries ≡ []
+    → made (refused s unit first tried true) ≡ record { state = record s { pending = waits_for.Put unit first (tried + 1); sent = sent }; sends = sends; entries = entries; answer = None }
+retry_gives s unit next first to tried letter sends before entries sent to_is next_is sent_is letter_is before_is sends_is entries_is =
+    rw (sends_is, entries_is, before_is, letter_is, sent_is, next_is, to_is) refl
+
+-- The fields stay sound.
+
+pub retried_sound : (s : State) (pending : Pending) (sent : List ℕ) (to : ℕ) → IsSound s → IsFresh s → to < s.config.servers → sent ≡ set s.sent to (get_or s.sent to 0 + 1) → IsSound (record s { pending = pending; sent = sent })
+retried_sound s pending sent to sound fresh there is =
+    let P : ℕ → Type 0 = λ n. n ≤ s.clock in
+    let here = first_letter s to sound fresh there in
+    record {
+      me = sound.me;
+      servers = ap length is ∙ length-set _ _ _ ∙ sound.servers;
+      sent = All-same P _ _ is (All-set P _ _ _ (omega (arith, here)) sound.sent);
+      next = sound.next;
+      puts = sound.puts;
+      said = sound.said;
+      clock = sound.clock;
+      notes = sound.notes;
+    }
+
+pub granted_sound : (s : State) (pending : Pending) (handles : List UnitNote) (transcript : List Said) (note : UnitNote) (said : Said) → IsSound s → IsFresh s → note.server.0 < s.config.servers
+    → handles ≡ s.handles ++ note ∷ [] → transcript ≡ s.transcript ++ said ∷ [] → IsSound (record s { pending = pending; handles = handles; transcript = transcript })
+granted_sound s pending handles transcript note said sound fresh there notes_is said_is =
+    let N : UnitNote → Type 0 = λ n. n.server.0 < s.config.servers in
+    record {
+      me = sound.me;
+      servers = sound.servers;
+      sent = sound.sent;
+      next = sound.next;
+      puts = sound.puts;
+      said = omega (arith, ap length said_is, length_push s.transcript said, fresh.said);
+      clock = sound.clock;
+      notes = All-same N _ _ notes_is (All-push N s.handles note sound.notes there);
+    }
+
+-- A letter that is expected.
+
+pub record IsHeard (s : State) (from : Server) (letter : Letter) : Type 0 where
+  pub going : s.finished ≡ false
+  pub stamp : letter.stamp < 2 ^ 48
+  pub awaited : IsSome (answer_call (ticked s (letter_stamp s letter)) s.pending from letter.message)
+
+some_mapped : (o : Option Response) → IsSome (option_map made o) → IsSome o
+some_mapped None e = absurd (cc)
+some_mapped (Some z) e = refl
+
+pub heard_is : (s : State) (from : Server) (letter : Letter) → told_trouble letter.message ≡ None → (IsSome (told_trouble letter.message) ⊎ IsSome (hear s from letter)) → IsHeard s from letter
+heard_is s from letter none (inl told) = absurd (cc)
+heard_is s from letter none (inr some) = by_test (not s.finished && nat_lt letter.stamp (2 ^ 48)) refl some
+  where
+    by_test : (t : Bool) → (not s.finished && nat_lt letter.stamp (2 ^ 48)) ≡ t → IsSome (if t then option_map made (answer_call (ticked s (letter_stamp s letter)) s.pending from letter.message) else None) → IsHeard s from letter
+    by_test true is some =
+        let parts = and_parts (not s.finished) (nat_lt letter.stamp (2 ^ 48)) is in
+        record { going = not-true s.finished parts.0; stamp = ltb-true letter.stamp (2 ^ 48) parts.1; awaited = some_mapped _ some }
+    by_test false is some = absurd (cc)
+
+pub hear_is : (s : State) (from : Server) (letter : Letter) → IsHeard s from letter → hear s from letter ≡ option_map made (answer_call (ticked s (letter_stamp s letter)) s.pending from letter.message)
+hear_is s from letter h =
+    let small : nat_lt letter.stamp (2 ^ 48) ≡ true = lt-ltb letter.stamp (2 ^ 48) h.stamp in
+    rw (h.going, small) refl
+
+pub none_left : {X : Type 0} (o : Option X) → ((x : X) → o ≡ Some x → ⊥) → o ≡ None
+none_left None other = refl
+none_left (Some x) other = absurd (other x refl)
+
+-- a step that meets no trouble
+pub no_trouble : (s : State) (letter : Letter) → s.trouble ≡ None → told_trouble letter.message ≡ None → letter_stamp s letter < 2 ^ 48 → letter_trouble s letter ≡ None
+no_trouble s letter whole untold small = rw (whole, untold) (by_test (nat_le (2 ^ 48) (letter_stamp s letter)) refl)
+  where
+    by_test : (t : Bool) → nat_le (2 ^ 48) (letter_stamp s letter) ≡ t → (if t then Some (troubles.TooLong (letter_stamp s letter)) else None) ≡ None
+    by_test true is = let past : 2 ^ 48 ≤ letter_stamp s letter = leb-true (2 ^ 48) (letter_stamp s letter) is in absurd (omega (arith, past, small))
+    by_test false is = refl

@@ -1,0 +1,266 @@
+-- What a step does with a call.
+use Rattle.std.proofs.Common.{◌≡◌, ℕ, ◌+◌, ◌^◌, List, [], ◌∷◌, ◌++◌, length, Option, Some, None, Bool, true, false, ◌&&◌, not, refl, ap, sym, ◌∙◌, append-nil, subst, map, find, filter, ℤ}
+use Rattle.std.specs.Prelude.{if◌then◌else◌, IsFalse, IfSome, All, is_none, nat_le}
+use Rattle.std.specs.Option.{option_map}
+use Rattle.std.proofs.lemmas.Bool.{and_parts, not-true}
+use Rattle.std.proofs.lemmas.List.Elements.{All-push, All-filter, All-same, All-head, All-tail}
+use Rattle.adlb_unit.specs.declared.messages.Message.{Message}
+use Rattle.adlb_unit.specs.declared.names.Rank.{Rank}
+use Rattle.adlb_unit.specs.declared.names.Server.{Server}
+use Rattle.adlb_unit.specs.declared.names.Target.{Target}
+use Rattle.adlb_unit.specs.declared.names.UnitId.{UnitId}
+use Rattle.adlb_unit.specs.declared.names.WorkType.{WorkType}
+use Rattle.adlb_unit.specs.declared.notes.End.{End}
+use Rattle.adlb_unit.specs.declared.notes.UnitNote.{UnitNote}
+use Rattle.adlb_unit.specs.declared.units.Unit.{Unit}
+use Rattle.bag_ledger.specs.declared.entries.Answer.TheVariants as answers
+use Rattle.bag_ledger.specs.declared.entries.Call.{Call}
+use Rattle.bag_ledger.specs.declared.entries.Call.TheVariants as calls_to
+use Rattle.bag_ledger.specs.declared.entries.Entry.{Entry}
+use Rattle.bag_ledger.specs.declared.entries.Entry.TheVariants as enters
+use Rattle.bag_ledger.specs.declared.entries.Said.{Said}
+use Rattle.bag_ledger.specs.declared.states.RankState.{RankState}
+use Rattle.bag_ledger.specs.declared.states.Status.{Status}
+use Rattle.bag_ledger.specs.declared.states.Status.TheVariants as does
+use Rattle.bag_ledger.specs.declared.states.UnitPlace.TheVariants.{Pinned}
+use Rattle.bag_ledger.specs.Bag.{Bag, has_due, rank_at, same_unit}
+use Rattle.bag_ledger.specs.Bag as bag
+use Rattle.bag_ledger.specs.Runs.{IsRun, calls_from, says}
+use Rattle.bag_ledger.specs.Runs as runs
+use Rattle.bag_ledger.specs.Steps.{Legal, Stands, Steps, after, begun, ended, with_rank}
+use Rattle.rank_client.specs.declared.pendings.Pending.{Pending}
+use Rattle.rank_client.specs.declared.pendings.Pending.TheVariants as waits_for
+use Rattle.rank_client.specs.Agreement.{Agrees, Follows, IsCaused, IsHeld, running}
+use Rattle.rank_client.specs.Rules.{Response, Saying, entry_of, fetch, fetched, finish, held, in_ranks, is_free, is_idle, open_call, over, put, reserve, unit_put}
+use Rattle.rank_client.specs.State.{State}
+use Rattle.rank_client.specs.Step.{Made, begin, call_stamp, made, post, ticked}
+use Rattle.rank_client.proofs.Entries.{IsSame, rank_changed, saying, same_unit_is, silent, some_is, step_of, then_saying}
+
+-- What is sent does not matter here.
+
+abbrev pub bare : Response → Made
+bare z = record { state = z.state; sends = []; entries = z.entries; answer = z.answer }
+
+post_agrees : (says : List Saying) (x : Made) (b : Bag) → Agrees x.state None b → Agrees (post x says).state None b
+post_agrees [] x b a = a
+post_agrees (y ∷ says) x b a = post_agrees says _ b (record { rank = a.rank; servers = a.servers; caused = a.caused; held = a.held })
+
+post_entries : (says : List Saying) (x : Made) → (post x says).entries ≡ x.entries
+post_entries [] x = refl
+post_entries (y ∷ says) x = post_entries says _
+
+post_transcript : (says : List Saying) (x : Made) → (post x says).state.transcript ≡ x.state.transcript
+post_transcript [] x = refl
+post_transcript (y ∷ says) x = post_transcript says _
+
+-- What the law says of a step before which the ledger has this of the rank.
+abbrev pub Holds : List Said → Rank → Bag → Made → Type 0
+Holds said me b x = (next : Bag) × IsRun b x.entries next × Agrees x.state None next × (x.state.transcript ≡ said ++ calls_from b x.entries me)
+
+-- of a rule's response; nothing of a call that is not ready, or of a letter that is not expected
+abbrev pub LawOf : List Said → Rank → Bag → Option Response → Type 0
+LawOf said me b None = Prim.Unit {0}
+LawOf said me b (Some z) = Holds said me b (bare z)
+
+pub law_of_made : (said : List Said) (me : Rank) (b : Bag) (o : Option Response) (x : Made) → LawOf said me b o → option_map made o ≡ Some x → Holds said me b x
+law_of_made said me b None x law is = absurd (cc)
+law_of_made said me b (Some z) x law is =
+    let sent : Holds said me b (made z) = (
+      law.0,
+      rw (post_entries z.says (bare z)) law.1,
+      post_agrees z.says (bare z) law.0 law.2,
+      rw (post_transcript z.says (bare z), post_entries z.says (bare z)) law.3,
+    ) in
+    subst (λ y. Holds said me b y) (some_is is) sent
+
+-- A rank that runs.
+
+pub record IsFree (s : State) (b : Bag) : Type 0 where
+  pub rank : rank_at b s.me ≡ Some (running s)
+  pub servers : b.servers ≡ s.config.servers
+  pub caused : IsCaused b s.end
+  pub held : All (IsHeld b s.me) s.handles
+  pub none : IsFalse (has_due b)
+  pub going : s.finished ≡ false
+
+idle_is : (p : Pending) → is_idle p ≡ true → p ≡ waits_for.Nothing
+idle_is waits_for.Nothing e = refl
+idle_is (waits_for.Put unit first tried) e = absurd (cc)
+idle_is (waits_for.Reserve request types) e = absurd (cc)
+idle_is (waits_for.Fetch request note) e = absurd (cc)
+
+-- a rank that is free runs in the bag
+pub free_of : (s : State) (b : Bag) → is_free s ≡ true → Agrees s None b → IsFalse (has_due b) → IsFree s b
+free_of s b free a none =
+    let tests = and_parts (is_idle s.pending) (not s.finished) free in
+    let nothing : s.pending ≡ waits_for.Nothing = idle_is s.pending tests.0 in
+    let going : s.finished ≡ false = not-true s.finished tests.1 in
+    record {
+      rank = rw (going, nothing) at a.rank;
+      servers = a.servers;
+      caused = rw (going, nothing) at a.caused;
+      held = All-same (IsHeld b s.me) s.handles _ (sym (append-nil s.handles)) (rw nothing at a.held);
+      none = none;
+      going = going;
+    }
+
+-- after a call that has ended
+pub free_agrees : (s : State) (b : Bag) → s.pending ≡ waits_for.Nothing → s.finished ≡ false → rank_at b s.me ≡ Some (running s) → b.servers ≡ s.config.servers → IsCaused b s.end → All (IsHeld b s.me) s.handles → Agrees s None b
+free_agrees s b nothing going rank servers caused held = record {
+  rank = rw (going, nothing) rank;
+  servers = servers;
+  caused = rw (going, nothing) caused;
+  held = rw nothing (All-same (IsHeld b s.me) _ s.handles (append-nil s.handles) held);
+}
+
+-- A call to which an end was told before.
+over_follows : IsSame → (s : State) (b : Bag) (entry : Entry) (call : Call) (end : End) (f : RankState → RankState) (status : Status) →
+    IsFree s b → s.end ≡ Some end → Steps b entry (with_rank s.me f b) → says b entry ≡ None
+    → f (running s) ≡ record (running s) { status = status; next = s.next + 1 } → bag.open_call status ≡ Some s.next → runs.call_of status ≡ Some call
+    → Follows s None b (bare (over s entry call end))
+over_follows same s b entry call end f status free told step silent begun opens calls =
+    let middle : Bag = with_rank s.me f b in
+    let now : rank_at middle s.me ≡ Some (record (running s) { status = status; next = s.next + 1 }) = rank_changed b s.me f (running s) free.rank ∙ ap Some begun in
+    let over : Entry = enters.Over s.me s.next end in
+    let cause : IsCaused b (Some end) = rw told at free.caused in
+    let last : Bag = after middle over in
+    let stops : Steps middle over last = step_of middle over free.none (record (running s) { status = status; next = s.next + 1 }, now, opens, cause) in
+    let told_so : says middle over ≡ Some (s.me, record { call = call; answer = answers.Ended end }) = rw (now, calls) refl in
+    let runs : rank_at last s.me ≡ Some (record (running s) { next = s.next + 1; end = Some end }) =
+        rank_changed middle s.me (λ r. ended (record r { end = Some end })) (record (running s) { status = status; next = s.next + 1 }) now in
+    (
+      last,
+      (middle, step, (last, stops, refl)),
+      free_agrees _ last refl free.going (rw told runs) free.servers free.caused free.held,
+      ap (λ said. s.transcript ++ said) (sym (then_saying same b middle last entry over s.me (record { call = call; answer = answers.Ended end }) step stops silent told_so)),
+    )
+
+-- A call that goes to a server.
+waits_follows : IsSame → (s : State) (b : Bag) (entry : Entry) (f : RankState → RankState) (x : Made) →
+    IsFree s b → Steps b entry (with_rank s.me f b) → says b entry ≡ None → x.entries ≡ entry ∷ [] → x.state.transcript ≡ s.transcript
+    → Agrees x.state None (with_rank s.me f b) → Follows s None b x
+waits_follows same s b entry f x free step quiet entries transcript agrees =
+    (with_rank s.me f b, rw entries (with_rank s.me f b, step, refl), agrees, transcript ∙ sym (ap (λ said. s.transcript ++ said) (ap (λ es. calls_from b es s.me) entries ∙ silent same b (with_rank s.me f b) entry s.me step quiet) ∙ append-nil s.transcript))
+
+-- what Putting makes of the rank
+abbrev puts : State → WorkType → ℤ → Target → Option Rank → List ℕ → RankState → RankState
+puts s kind prio target answer body r =
+    begun (does.Putting (record { id = record { rank = s.me; number = s.next }; kind = kind; prio = prio; target = target; answer = answer; common = r.batch; body = body })) r
+
+putting_steps : (s : State) (b : Bag) (kind : WorkType) (prio : ℤ) (target : Target) (answer : Option Rank) (body : List ℕ) → IsFree s b
+    → Steps b (entry_of (unit_put s kind prio target answer body)) (with_rank s.me (puts s kind prio target answer body) b)
+putting_steps s b kind prio target answer body free =
+    let legal : Legal b (entry_of (unit_put s kind prio target answer body)) = (running s, (free.rank, refl, refl)) in
+    step_of b (entry_of (unit_put s kind prio target answer body)) free.none legal
+
+put_follows : IsSame → (s : State) (b : Bag) (kind : WorkType) (prio : ℤ) (target : Target) (answer : Option Rank) (body : List ℕ) (end : Option End) → IsFree s b → s.end ≡ end
+    → Follows s None b (bare (put s (unit_put s kind prio target answer body) end))
+put_follows same s b kind prio target answer body (Some end) free told =
+    over_follows same (record s { puts = s.puts + 1 }) b (entry_of (unit_put s kind prio target answer body)) (calls_to.Put kind prio target answer body) end (puts s kind prio target answer body) (does.Putting (unit_put s kind prio target answer body))
+    (record { rank = free.rank; servers = free.servers; caused = free.caused; held = free.held; none = free.none; going = free.going })
+    told (putting_steps s b kind prio target answer body free) refl refl refl refl
+put_follows same s b kind prio target answer body None free told =
+    waits_follows same s b (entry_of (unit_put s kind prio target answer body)) (puts s kind prio target answer body)
+    (bare (put s (unit_put s kind prio target answer body) None)) free
+    (putting_steps s b kind prio target answer body free) refl refl refl
+    (record {
+      rank = rw free.going (rank_changed b s.me (puts s kind prio target answer body) (running s) free.rank);
+      servers = free.servers;
+      caused = rw free.going free.caused;
+      held = All-same (IsHeld b s.me) _ s.handles (append-nil s.handles) free.held;
+    })
+
+asking_steps : (s : State) (b : Bag) (types : Option (List WorkType)) → IsFree s b → Steps b (enters.Asked s.me s.next types) (with_rank s.me (begun (does.Asking s.next types)) b)
+asking_steps s b types free =
+    let legal : Legal b (enters.Asked s.me s.next types) = (running s, (free.rank, refl, refl)) in
+    step_of b (enters.Asked s.me s.next types) free.none legal
+
+reserve_follows : IsSame → (s : State) (b : Bag) (types : Option (List WorkType)) (end : Option End) → IsFree s b → s.end ≡ end → Follows s None b (bare (reserve s types end))
+reserve_follows same s b types (Some end) free told =
+    over_follows same s b (enters.Asked s.me s.next types) (calls_to.Reserve types) end (begun (does.Asking s.next types)) (does.Asking s.next types) free
+    told (asking_steps s b types free) refl refl refl refl
+reserve_follows same s b types None free told =
+    waits_follows same s b (enters.Asked s.me s.next types) (begun (does.Asking s.next types)) (bare (reserve s types None)) free
+    (asking_steps s b types free) refl refl refl
+    (record {
+      rank = rw free.going (rank_changed b s.me (begun (does.Asking s.next types)) (running s) free.rank);
+      servers = free.servers;
+      caused = rw free.going free.caused;
+      held = All-same (IsHeld b s.me) _ s.handles (append-nil s.handles) free.held;
+    })
+
+-- the note that is found is that of the unit, and stands among the notes
+pub found_is : (P : UnitNote → Type 0) (id : UnitId) (notes : List UnitNote) (note : UnitNote) → find (λ n. same_unit n.id id) notes ≡ Some note → All P notes → (note.id ≡ id) × P note
+found_is P id [] note e all = absurd (cc)
+found_is P id (n ∷ notes) note e all = by_test (found_is P id notes note) (same_unit n.id id) refl e
+  where
+    by_test : (find (λ n. same_unit n.id id) notes ≡ Some note → All P notes → (note.id ≡ id) × P note) → (t : Bool) → same_unit n.id id ≡ t → find (λ n. same_unit n.id id) (n ∷ notes) ≡ Some note → (note.id ≡ id) × P note
+    by_test rest true is found =
+        let here : n ≡ note = some_is (rw is at found) in
+        rw (← here) (same_unit_is n.id id is, All-head P n notes all)
+    by_test rest false is found = rest (rw is at found) (All-tail P n notes all)
+
+fetch_follows : IsSame → (s : State) (b : Bag) (id : UnitId) (note : Option UnitNote) → IsFree s b → held s id ≡ note → LawOf s.transcript s.me b (fetch s id note)
+fetch_follows same s b id None free is = tt
+fetch_follows same s b id (Some note) free is =
+    let it = found_is (IsHeld b s.me) id s.handles note is free.held in
+    let there : Stands b id it.1.0 (Pinned note.server s.me) = subst (λ (i : UnitId). Stands b i it.1.0 (Pinned note.server s.me)) it.0 it.1.1 in
+    let legal : Legal b (enters.Fetching s.me s.next id) = (running s, it.1.0, note.server, (free.rank, refl, refl), there) in
+    waits_follows same s b (enters.Fetching s.me s.next id) (begun (does.Fetching s.next id false)) (bare (fetched s id note)) free
+    (step_of b (enters.Fetching s.me s.next id) free.none legal) refl refl refl
+    (record {
+      rank = rw (free.going, it.0) (rank_changed b s.me (begun (does.Fetching s.next id false)) (running s) free.rank);
+      servers = free.servers;
+      caused = rw free.going free.caused;
+      held = All-push (IsHeld b s.me) (filter (λ n. not (same_unit n.id id)) s.handles) note (All-filter (λ n. not (same_unit n.id id)) (IsHeld b s.me) s.handles free.held) it.1;
+    })
+
+finish_follows : IsSame → (s : State) (b : Bag) → IsFree s b → s.batch ≡ None → Follows s None b (bare (finish s))
+finish_follows same s b free alone =
+    let legal : Legal b (enters.Finished s.me s.next) = (running s, (free.rank, refl, refl), alone) in
+    let step : Steps b (enters.Finished s.me s.next) (with_rank s.me (begun does.Finished) b) = step_of b (enters.Finished s.me s.next) free.none legal in
+    (
+      with_rank s.me (begun does.Finished) b,
+      (with_rank s.me (begun does.Finished) b, step, refl),
+      record {
+        rank = rank_changed b s.me (begun does.Finished) (running s) free.rank;
+        servers = free.servers;
+        caused = free.caused;
+        held = All-same (IsHeld b s.me) _ s.handles (append-nil s.handles) free.held;
+      },
+      ap (λ said. s.transcript ++ said) (sym (saying same b _ (enters.Finished s.me s.next) s.me (record { call = calls_to.Finish; answer = answers.Fine }) step refl)),
+    )
+
+none_is : {X : Type 0} (o : Option X) → is_none o ≡ true → o ≡ None
+none_is None e = refl
+none_is (Some x) e = absurd (cc)
+
+opens : IsSame → (s : State) (b : Bag) (call : Call) → IsFree s b → LawOf s.transcript s.me b (open_call s call)
+opens same s b (calls_to.Put kind prio target answer body) free = by_test (nat_le (length body) (2 ^ 20) && in_ranks s.config target)
+  where
+    by_test : (t : Bool) → LawOf s.transcript s.me b (if t then Some (put s (unit_put s kind prio target answer body) s.end) else None)
+    by_test true = put_follows same s b kind prio target answer body s.end free refl
+    by_test false = tt
+opens same s b (calls_to.Reserve types) free = reserve_follows same s b types s.end free refl
+opens same s b (calls_to.Try types) free = tt
+opens same s b (calls_to.Fetch id) free = fetch_follows same s b id (held s id) free refl
+opens same s b (calls_to.BeginBatch common) free = tt
+opens same s b calls_to.EndBatch free = tt
+opens same s b calls_to.SetDone free = tt
+opens same s b (calls_to.Count kind) free = tt
+opens same s b calls_to.Finish free = by_test (is_none s.batch) refl
+  where
+    by_test : (t : Bool) → is_none s.batch ≡ t → LawOf s.transcript s.me b (if t then Some (finish s) else None)
+    by_test true alone = finish_follows same s b free (none_is s.batch alone)
+    by_test false alone = tt
+
+-- the law of a call
+pub begins : IsSame → (s : State) (call : Call) (x : Made) (b : Bag) → begin s call ≡ Some x → Agrees s None b → IsFalse (has_due b) → Follows s None b x
+begins same s call x b is a none = by_test (is_free s) refl is
+  where
+    by_test : (t : Bool) → is_free s ≡ t → (if t then option_map made (open_call (ticked s (call_stamp s)) call) else None) ≡ Some x → Follows s None b x
+    by_test true free made_is =
+        let now = free_of s b free a none in
+        law_of_made s.transcript s.me b (open_call (ticked s (call_stamp s)) call) x
+        (opens same (ticked s (call_stamp s)) b call (record { rank = now.rank; servers = now.servers; caused = now.caused; held = now.held; none = now.none; going = now.going })) made_is
+    by_test false free made_is = absurd (cc)

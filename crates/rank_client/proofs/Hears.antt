@@ -1,0 +1,159 @@
+-- What a step does with a letter.
+use Rattle.std.proofs.Common.{◌≡◌, ◌<◌, ◌≤◌, ℕ, ◌+◌, ◌^◌, ◌==◌, List, [], ◌∷◌, ◌++◌, length, Option, Some, None, Bool, true, false, ◌&&◌, not, refl, ap, sym, ◌∙◌, append-nil, arith}
+use Rattle.std.specs.Prelude.{if◌then◌else◌, IsFalse, All, nat_lt}
+use Rattle.std.specs.Option.{option_map}
+use Rattle.std.proofs.lemmas.Bool.{and_parts, not-true, ltb-false}
+use Rattle.std.proofs.lemmas.List.Elements.{All-same}
+use Rattle.adlb_unit.specs.declared.letters.Letter.{Letter}
+use Rattle.adlb_unit.specs.declared.messages.Message.{Message}
+use Rattle.adlb_unit.specs.declared.messages.Message.TheVariants as tells
+use Rattle.adlb_unit.specs.declared.names.Server.{Server}
+use Rattle.adlb_unit.specs.declared.names.WorkType.{WorkType}
+use Rattle.adlb_unit.specs.declared.notes.UnitNote.{UnitNote}
+use Rattle.adlb_unit.specs.declared.units.Unit.{Unit}
+use Rattle.bag_ledger.specs.declared.entries.Answer.{Answer}
+use Rattle.bag_ledger.specs.declared.entries.Answer.TheVariants as answers
+use Rattle.bag_ledger.specs.declared.entries.Call.{Call}
+use Rattle.bag_ledger.specs.declared.entries.Call.TheVariants as calls_to
+use Rattle.bag_ledger.specs.declared.entries.Entry.{Entry}
+use Rattle.bag_ledger.specs.declared.entries.Entry.TheVariants as enters
+use Rattle.bag_ledger.specs.Bag.{Bag, has_due, rank_at}
+use Rattle.bag_ledger.specs.Runs.{says}
+use Rattle.bag_ledger.specs.Steps.{Legal, Steps, ended, with_rank}
+use Rattle.rank_client.specs.declared.pendings.Pending.{Pending}
+use Rattle.rank_client.specs.declared.pendings.Pending.TheVariants as waits_for
+use Rattle.rank_client.specs.Agreement.{Agrees, Follows, IsCaused, IsHeld, in_call, note_coming, putting, running, said}
+use Rattle.rank_client.specs.Rules.{Response, answer_call, asked, call_of, ends, expects_note, is_for, refused}
+use Rattle.rank_client.specs.State.{State, home}
+use Rattle.rank_client.specs.Step.{Made, hear, letter_stamp, made, ticked}
+use Rattle.rank_client.proofs.Begins.{Holds, LawOf, bare, free_agrees, law_of_made}
+use Rattle.rank_client.proofs.Entries.{IsSame, rank_changed, saying, step_of}
+use Rattle.rank_client.proofs.Ring.{all_asked}
+
+-- this call is pending, and this answer to it comes back
+pub record Awaits (s : State) (b : Bag) (p : Pending) (m : Message) : Type 0 where
+  pub rank : rank_at b s.me ≡ Some (in_call s p (Some m))
+  pub servers : b.servers ≡ s.config.servers
+  pub caused : IsCaused b (in_call s p (Some m)).end
+  pub held : All (IsHeld b s.me) (s.handles ++ note_coming p (Some m))
+  pub none : IsFalse (has_due b)
+  pub going : s.finished ≡ false
+
+-- the answer is heard, with no entry
+heard : (s t : State) (b : Bag) (call : Call) (answer : Answer) → rank_at b s.me ≡ Some (running t) → b.servers ≡ s.config.servers → IsCaused b t.end
+    → All (IsHeld b s.me) t.handles → t.finished ≡ false → t.me ≡ s.me → t.config ≡ s.config → t.transcript ≡ s.transcript
+    → Holds (s.transcript ++ record { call = call; answer = answer } ∷ []) s.me b (bare (ends t [] call answer))
+heard s t b call answer rank servers caused held going me config transcript = (
+  b,
+  refl,
+  free_agrees _ b refl going (rw me rank) (rw config servers) caused (rw me held),
+  ap (λ said. said ++ record { call = call; answer = answer } ∷ []) transcript ∙ sym (append-nil (s.transcript ++ record { call = call; answer = answer } ∷ [])),
+)
+
+-- with no note on its way
+alone : (s : State) (b : Bag) → All (IsHeld b s.me) (s.handles ++ []) → All (IsHeld b s.me) s.handles
+alone s b held = All-same (IsHeld b s.me) s.handles _ (sym (append-nil s.handles)) held
+
+-- Put.
+
+refusal : IsSame → (s : State) (b : Bag) (unit : Unit) (first : Server) (tried to charge : ℕ) (t : Bool) → nat_lt (tried + 1) s.config.servers ≡ t
+    → Awaits s b (waits_for.Put unit first tried) (tells.Full to charge) → Holds s.transcript s.me b (bare (refused s unit first tried t))
+refusal same s b unit first tried to charge true more a = (
+  b,
+  refl,
+  record { rank = rw a.going a.rank; servers = a.servers; caused = rw a.going a.caused; held = a.held },
+  sym (append-nil s.transcript),
+)
+refusal same s b unit first tried to charge false more a =
+    let entry : Entry = enters.Rejected s.me unit.id.number in
+    let enough : s.config.servers ≤ tried + 1 = ltb-false (tried + 1) s.config.servers more in
+    let all = all_asked s.config first (tried + 1) b (putting s unit first (tried + 1)) a.servers enough refl in
+    let legal : Legal b entry = (putting s unit first (tried + 1), length unit.body, a.rank, refl, all) in
+    let step : Steps b entry (with_rank s.me ended b) = step_of b entry a.none legal in
+    let told : says b entry ≡ Some (s.me, record { call = call_of unit; answer = answers.Rejected }) = rw a.rank refl in
+    (
+      with_rank s.me ended b,
+      (with_rank s.me ended b, step, refl),
+      free_agrees _ (with_rank s.me ended b) refl a.going (rank_changed b s.me ended (putting s unit first (tried + 1)) a.rank) a.servers a.caused (alone s b a.held),
+      ap (λ said. s.transcript ++ said) (sym (saying same b (with_rank s.me ended b) entry s.me (record { call = call_of unit; answer = answers.Rejected }) step told)),
+    )
+
+put_heard : IsSame → (s : State) (b : Bag) (unit : Unit) (first : Server) (tried : ℕ) (from : Server) (m : Message) → Awaits s b (waits_for.Put unit first tried) m
+    → LawOf (said s (waits_for.Put unit first tried) (Some m)) s.me b (answer_call s (waits_for.Put unit first tried) from m)
+put_heard same s b unit first tried from (tells.Accepted to) a = by_test (is_for unit.id.number (asked s first tried) from to)
+  where
+    by_test : (t : Bool) → LawOf (said s (waits_for.Put unit first tried) (Some (tells.Accepted to))) s.me b (if t then Some (ends s [] (call_of unit) answers.Fine) else None)
+    by_test true = heard s s b (call_of unit) answers.Fine a.rank a.servers a.caused (alone s b a.held) a.going refl refl refl
+    by_test false = tt
+put_heard same s b unit first tried from (tells.Full to charge) a = by_test (is_for unit.id.number (asked s first tried) from to)
+  where
+    by_test : (t : Bool) → LawOf s.transcript s.me b (if t then Some (refused s unit first tried (nat_lt (tried + 1) s.config.servers)) else None)
+    by_test true = refusal same s b unit first tried to charge (nat_lt (tried + 1) s.config.servers) refl a
+    by_test false = tt
+put_heard same s b unit first tried from (tells.Ended to end) a = by_test (is_for unit.id.number (asked s first tried) from to)
+  where
+    by_test : (t : Bool) → LawOf (said s (waits_for.Put unit first tried) (Some (tells.Ended to end))) s.me b (if t then Some (ends (record s { end = Some end }) [] (call_of unit) (answers.Ended end)) else None)
+    by_test true = heard s (record s { end = Some end }) b (call_of unit) (answers.Ended end) a.rank a.servers a.caused (alone s b a.held) a.going refl refl refl
+    by_test false = tt
+put_heard same s b unit first tried from _ a = tt
+
+-- Reserve.
+
+reserve_heard : (s : State) (b : Bag) (request : ℕ) (types : Option (List WorkType)) (from : Server) (m : Message) → Awaits s b (waits_for.Reserve request types) m
+    → LawOf (said s (waits_for.Reserve request types) (Some m)) s.me b (answer_call s (waits_for.Reserve request types) from m)
+reserve_heard s b request types from (tells.Grant to note) a = by_test (is_for request (home s.config s.me) from to && expects_note s note)
+  where
+    by_test : (t : Bool) → LawOf (said s (waits_for.Reserve request types) (Some (tells.Grant to note))) s.me b (if t then Some (ends (record s { handles = s.handles ++ note ∷ [] }) [] (calls_to.Reserve types) (answers.Granted note)) else None)
+    by_test true = heard s (record s { handles = s.handles ++ note ∷ [] }) b (calls_to.Reserve types) (answers.Granted note) a.rank a.servers a.caused a.held a.going refl refl refl
+    by_test false = tt
+reserve_heard s b request types from (tells.Ended to end) a = by_test (is_for request (home s.config s.me) from to)
+  where
+    by_test : (t : Bool) → LawOf (said s (waits_for.Reserve request types) (Some (tells.Ended to end))) s.me b (if t then Some (ends (record s { end = Some end }) [] (calls_to.Reserve types) (answers.Ended end)) else None)
+    by_test true = heard s (record s { end = Some end }) b (calls_to.Reserve types) (answers.Ended end) a.rank a.servers a.caused (alone s b a.held) a.going refl refl refl
+    by_test false = tt
+reserve_heard s b request types from _ a = tt
+
+-- Fetch.
+
+fetch_heard : (s : State) (b : Bag) (request : ℕ) (note : UnitNote) (from : Server) (m : Message) → Awaits s b (waits_for.Fetch request note) m
+    → LawOf (said s (waits_for.Fetch request note) (Some m)) s.me b (answer_call s (waits_for.Fetch request note) from m)
+fetch_heard s b request note from (tells.Bytes to body) a = by_test (is_for request note.server from to && (length body == note.length))
+  where
+    by_test : (t : Bool) → LawOf (said s (waits_for.Fetch request note) (Some (tells.Bytes to body))) s.me b (if t then Some (ends s [] (calls_to.Fetch note.id) (answers.Body body)) else None)
+    by_test true = heard s s b (calls_to.Fetch note.id) (answers.Body body) a.rank a.servers a.caused (alone s b a.held) a.going refl refl refl
+    by_test false = tt
+fetch_heard s b request note from _ a = tt
+
+call_heard : IsSame → (s : State) (b : Bag) (p : Pending) (from : Server) (m : Message) → Awaits s b p m → LawOf (said s p (Some m)) s.me b (answer_call s p from m)
+call_heard same s b waits_for.Nothing from m a = tt
+call_heard same s b (waits_for.Put unit first tried) from m a = put_heard same s b unit first tried from m a
+call_heard same s b (waits_for.Reserve request types) from m a = reserve_heard s b request types from m a
+call_heard same s b (waits_for.Fetch request note) from m a = fetch_heard s b request note from m a
+
+-- the same where the event has its stamp
+later_heard : IsSame → (s : State) (stamp : ℕ) (b : Bag) (p : Pending) (from : Server) (m : Message) → Awaits s b p m → LawOf (said s p (Some m)) s.me b (answer_call (ticked s stamp) p from m)
+later_heard same s stamp b p from m a = rw (said_ticked s stamp p m) (call_heard same (ticked s stamp) b p from m (record { rank = a.rank; servers = a.servers; caused = a.caused; held = a.held; none = a.none; going = a.going }))
+  where
+    said_ticked : (s : State) (stamp : ℕ) (p : Pending) (m : Message) → said s p (Some m) ≡ said (ticked s stamp) p (Some m)
+    said_ticked s stamp waits_for.Nothing m = refl
+    said_ticked s stamp (waits_for.Put unit first tried) m = refl
+    said_ticked s stamp (waits_for.Reserve request types) m = refl
+    said_ticked s stamp (waits_for.Fetch request note) m = refl
+
+-- the law of a letter
+pub hears : IsSame → (s : State) (from : Server) (letter : Letter) (x : Made) (b : Bag) → hear s from letter ≡ Some x → Agrees s (Some letter.message) b → IsFalse (has_due b) → Follows s (Some letter.message) b x
+hears same s from letter x b is a none = by_test (not s.finished && nat_lt letter.stamp (2 ^ 48)) refl is
+  where
+    by_test : (t : Bool) → (not s.finished && nat_lt letter.stamp (2 ^ 48)) ≡ t → (if t then option_map made (answer_call (ticked s (letter_stamp s letter)) s.pending from letter.message) else None) ≡ Some x → Follows s (Some letter.message) b x
+    by_test true may made_is =
+        let going : s.finished ≡ false = not-true s.finished (and_parts (not s.finished) (nat_lt letter.stamp (2 ^ 48)) may).0 in
+        let awaits : Awaits s b s.pending letter.message = record {
+          rank = rw going at a.rank;
+          servers = a.servers;
+          caused = rw going at a.caused;
+          held = a.held;
+          none = none;
+          going = going;
+        } in
+        law_of_made (said s s.pending (Some letter.message)) s.me b (answer_call (ticked s (letter_stamp s letter)) s.pending from letter.message) x (later_heard same s (letter_stamp s letter) b s.pending from letter.message awaits) made_is
+    by_test false may made_is = absurd (cc)

@@ -1,0 +1,124 @@
+-- What a call answers, and what it adds to a transcript.
+use Rattle.std.specs.Prelude.{ℕ, ◌≡◌, ◌<◌, ◌⊎◌, List, [], ◌∷◌, ◌++◌, Option, Some, None, Bool, true, false, Result, Ok, Err, MatchOption, Contains}
+use Rattle.std.specs.List.{list_any}
+use Rattle.adlb_unit.specs.declared.names.Rank.{Rank}
+use Rattle.adlb_unit.specs.declared.names.Target.{Target}
+use Rattle.adlb_unit.specs.declared.names.Target.TheVariants.{Any, Only}
+use Rattle.adlb_unit.specs.declared.names.UnitId.{UnitId}
+use Rattle.adlb_unit.specs.declared.notes.End.{End}
+use Rattle.adlb_unit.specs.declared.notes.End.TheVariants as ends_by
+use Rattle.adlb_unit.specs.declared.notes.Trouble.{Trouble}
+use Rattle.adlb_unit.specs.declared.notes.Trouble.TheVariants as troubles
+use Rattle.adlb_unit.specs.declared.notes.UnitNote.{UnitNote}
+use Rattle.bag_ledger.specs.declared.entries.Call.{Call}
+use Rattle.bag_ledger.specs.declared.entries.Call.TheVariants as calls_to
+use Rattle.bag_ledger.specs.declared.entries.Answer.{Answer}
+use Rattle.bag_ledger.specs.declared.entries.Answer.TheVariants as answers
+use Rattle.bag_ledger.specs.declared.entries.Said.{Said}
+use Rattle.bag_ledger.specs.Bag.{same_unit}
+use Rattle.rank_client.specs.declared.faults.PutFault.{PutFault}
+use Rattle.rank_client.specs.declared.faults.PutFault.TheVariants as put_faults
+use Rattle.rank_client.specs.declared.faults.EndFault.{EndFault}
+use Rattle.rank_client.specs.declared.faults.EndFault.TheVariants as end_faults
+
+-- a call that has an answer is added with it; one that has none is not
+abbrev pub plus : List Said → Call → Option Answer → List Said
+plus said call None = said
+plus said call (Some answer) = said ++ record { call = call; answer = answer } ∷ []
+
+-- The answer of a call, and the trouble with which it failed.
+
+abbrev pub put_answer : Result (Unit {0}) PutFault → Option Answer
+put_answer (Ok done) = Some answers.Fine
+put_answer (Err put_faults.Rejected) = Some answers.Rejected
+put_answer (Err put_faults.NoMoreWork) = Some (answers.Ended ends_by.NoMoreWork)
+put_answer (Err put_faults.Exhausted) = Some (answers.Ended ends_by.Exhausted)
+put_answer (Err put_faults.Memory) = None
+put_answer (Err (put_faults.TooLong stamp)) = None
+
+abbrev pub put_trouble : Result (Unit {0}) PutFault → Option Trouble
+put_trouble (Err put_faults.Memory) = Some troubles.Memory
+put_trouble (Err (put_faults.TooLong stamp)) = Some (troubles.TooLong stamp)
+put_trouble _ = None
+
+abbrev pub end_answer : Result UnitNote EndFault → Option Answer
+end_answer (Ok note) = Some (answers.Granted note)
+end_answer (Err end_faults.NoMoreWork) = Some (answers.Ended ends_by.NoMoreWork)
+end_answer (Err end_faults.Exhausted) = Some (answers.Ended ends_by.Exhausted)
+end_answer (Err end_faults.Memory) = None
+end_answer (Err (end_faults.TooLong stamp)) = None
+
+abbrev pub end_trouble : Result UnitNote EndFault → Option Trouble
+end_trouble (Err end_faults.Memory) = Some troubles.Memory
+end_trouble (Err (end_faults.TooLong stamp)) = Some (troubles.TooLong stamp)
+end_trouble _ = None
+
+abbrev pub fetch_answer : Result (List ℕ) (UnitNote × Trouble) → Option Answer
+fetch_answer (Ok body) = Some (answers.Body body)
+fetch_answer (Err e) = None
+
+abbrev pub fetch_trouble : Result (List ℕ) (UnitNote × Trouble) → Option Trouble
+fetch_trouble (Ok body) = None
+fetch_trouble (Err e) = Some e.1
+
+-- What a transcript has.
+
+abbrev pub is_finish : Call → Bool
+is_finish calls_to.Finish = true
+is_finish _ = false
+
+unfoldable pub has_finished : List Said → Bool
+has_finished said = list_any (λ s. is_finish s.call) said
+
+abbrev pub grants : UnitId → Answer → Bool
+grants id (answers.Granted note) = same_unit note.id id
+grants id _ = false
+
+-- a unit of this id was granted
+unfoldable pub is_granted : UnitId → List Said → Bool
+is_granted id said = list_any (λ s. grants id s.answer) said
+
+abbrev pub fetches : UnitId → Call → Bool
+fetches id (calls_to.Fetch fetched) = same_unit fetched id
+fetches id _ = false
+
+-- a unit of this id was fetched
+unfoldable pub is_fetched : UnitId → List Said → Bool
+is_fetched id said = list_any (λ s. fetches id s.call) said
+
+-- an answer grants the unit of this note
+unfoldable pub granted : UnitNote → List Said → Type 0
+granted note said = (call : Call) × Contains said (record { call = call; answer = answers.Granted note })
+
+-- the first end that was told
+abbrev pub end_of : Answer → Option End → Option End
+end_of (answers.Ended end) later = Some end
+end_of _ later = later
+
+unfoldable pub end_told : List Said → Option End
+end_told [] = None
+end_told (s ∷ said) = end_of s.answer (end_told said)
+
+-- Words of the conditions and of what a call leaves.
+
+-- the target is any or a rank of so many
+abbrev pub Aims : Target → ℕ → Type 0
+Aims Any ranks = Unit {0}
+Aims (Only rank) ranks = rank.0 < ranks
+
+-- after an end was told, a call that is answered tells it again
+abbrev pub TellsAgain : Option End → Option Answer → Type 0
+TellsAgain None answer = Unit {0}
+TellsAgain (Some end) answer = MatchOption answer (Unit {0}) (λ a. a ≡ answers.Ended end)
+
+-- a link that has failed fails the same way again
+abbrev pub Repeats : Option Trouble → Option Trouble → Type 0
+Repeats None now = Unit {0}
+Repeats (Some trouble) now = now ≡ Some trouble
+
+-- what is begun and not answered after a call: nothing while the link has not failed; where it fails in this call, perhaps this
+-- call; where it had failed, what it was
+abbrev pub Began : Option Trouble → Option Call → Call → Option Trouble → Option Call → Type 0
+Began (Some trouble) before call now begun = begun ≡ before
+Began None before call None begun = begun ≡ None
+Began None before call (Some trouble) begun = (begun ≡ None) ⊎ (begun ≡ Some call)

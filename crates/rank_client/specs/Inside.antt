@@ -1,0 +1,94 @@
+-- The fields of a client.
+use Rattle.std.specs.Prelude.{◌≡◌, ℕ, ◌+◌, ◌<◌, ◌≤◌, ◌^◌, List, [], length, Bool, true, false, All}
+use Rattle.std.specs.Vec.{vec_len, vec_capacity}
+use Rattle.adlb_unit.specs.declared.configs.Config.{Config}
+use Rattle.bag_ledger.specs.declared.entries.Entry.{Entry}
+use Rattle.adlb_unit.specs.declared.letters.Sending.{Sending}
+use Rattle.rank_client.specs.declared.clients.ClientCore.TheInside.{Inside}
+use Rattle.rank_client.specs.declared.pendings.Pending.{Pending}
+use Rattle.rank_client.specs.declared.pendings.Pending.TheVariants as waits_for
+use Rattle.rank_client.specs.declared.rooms.Room.{Room}
+use Rattle.rank_client.specs.declared.rooms.Farewell.{Farewell}
+use Rattle.rank_client.specs.declared.steps.ClientStep.{ClientStep}
+use Rattle.rank_client.specs.State.{State}
+use Rattle.rank_client.specs.Step.{Made}
+
+abbrev pub state_of : Inside → State
+state_of i = record {
+  config = i.config;
+  me = i.me;
+  pending = i.pending;
+  next = i.next;
+  puts = i.puts;
+  batch = i.batch;
+  end = i.end;
+  handles = i.handles.items;
+  clock = i.clock;
+  sent = i.sent.items;
+  finished = i.finished;
+  transcript = i.said.items;
+  trouble = i.trouble;
+}
+
+-- the client with what the step sends, enters and answers
+abbrev pub gives : State → ClientStep → Made
+gives s x = record { state = s; sends = x.sends.items; entries = x.entries.items; answer = x.answer }
+
+-- each call, each put and each letter to a server took an event
+pub record IsSound (s : State) : Type 0 where
+  pub me : s.me.0 < s.config.ranks
+  pub servers : length s.sent ≡ s.config.servers
+  pub sent : All (λ n. n ≤ s.clock) s.sent
+  pub next : s.next ≤ s.clock
+  pub puts : s.puts ≤ s.clock
+  pub said : length s.transcript ≤ s.clock
+  pub clock : s.clock < 2 ^ 48
+  pub notes : All (λ n. n.server.0 < s.config.servers) s.handles
+
+-- how many more calls the transcript has room for: Finish, and the pending one
+abbrev pub awaited : Pending → ℕ
+awaited waits_for.Nothing = 1
+awaited _ = 2
+
+-- room for what the rest of the pending call may send, enter and keep
+abbrev pub HasRoom : Config → ℕ → ℕ → Room → Pending → Type 0
+HasRoom config notes space room waits_for.Nothing = Prim.Unit {0}
+HasRoom config notes space room (waits_for.Put unit first tried) =
+    (vec_len room.tries + tried + 1 ≡ config.servers) × All (λ body. body ≡ unit.body) room.tries.items × (first.0 < config.servers)
+    × (1 ≤ vec_capacity room.entries) × (room.entries.items ≡ [])
+HasRoom config notes space room (waits_for.Reserve request types) = notes < space
+HasRoom config notes space room (waits_for.Fetch request note) =
+    (note.length ≤ vec_capacity room.bytes) × (room.bytes.items ≡ []) × (note.server.0 < config.servers)
+
+-- room for the letters and the entry of Finish
+pub record CanFinish (i : Inside) : Type 0 where
+  pub said : vec_len i.said + awaited i.pending ≤ vec_capacity i.said
+  pub letters : i.config.servers ≤ vec_capacity i.farewell.sends
+  pub entry : 1 ≤ vec_capacity i.farewell.entries
+  pub unsent : i.farewell.sends.items ≡ []
+  pub unmade : i.farewell.entries.items ≡ []
+
+pub record IsInside (i : Inside) : Type 0 where
+  pub sound : IsSound (state_of i)
+  pub room : HasRoom i.config (vec_len i.handles) (vec_capacity i.handles) i.room i.pending
+  pub finish : i.finished ≡ false → CanFinish i
+
+-- in an event in which no call has begun or ended, and no letter was sent
+pub record IsFresh (s : State) : Type 0 where
+  pub sent : All (λ n. n < s.clock) s.sent
+  pub next : s.next < s.clock
+  pub puts : s.puts < s.clock
+  pub said : length s.transcript < s.clock
+
+-- which call is pending
+abbrev pub is_put : Pending → Bool
+is_put (waits_for.Put unit first tried) = true
+is_put _ = false
+
+abbrev pub is_reserve : Pending → Bool
+is_reserve (waits_for.Reserve request types) = true
+is_reserve _ = false
+
+abbrev pub is_fetch : Pending → Bool
+is_fetch (waits_for.Fetch request note) = true
+is_fetch _ = false

@@ -1,0 +1,437 @@
+//! What a client does with a call.
+
+ghost use Rattle.std.specs.Prelude.{◌≡◌, ◌⊎◌, ◌<◌, ◌≤◌, ◌+◌, ◌^◌, ◌↔◌, ◌∷◌, ◌++◌, [], ℕ, true, false, length, map, filter, not, find, All, Some, None, Err, IsSome, IsTrue, IfOk, IfErr, OnOk, OnErr, is_none, nat_le, slice_index_or};
+ghost use Rattle.std.specs.Option.{option_map};
+ghost use Rattle.std.specs.List.{range_with_len};
+ghost use Rattle.std.specs.Vec.{vec_len, vec_capacity};
+ghost use Rattle.adlb_unit.specs.declared.notes.Trouble.{Trouble};
+ghost use Rattle.bag_ledger.specs.Bag.{same_unit};
+ghost use Rattle.rank_client.specs.Calls.{is_finish};
+ghost use Rattle.rank_client.specs.Inside.{HasRoom, IsFresh, gives};
+ghost use Rattle.rank_client.specs.Rules.{asks, call_of, entry_of, farewell, fetched, finish, first_server, held, in_ranks, is_free, open_call, over, put, reserve, unit_of};
+ghost use Rattle.rank_client.specs.State.{State, home};
+ghost use Rattle.rank_client.specs.Step.{Made, begin, call_stamp, call_trouble, made, post, ticked};
+
+use crate::clients::{ClientCore, behind, write};
+use crate::pendings::Pending;
+use crate::rooms::{Farewell, Offer, Room};
+use crate::steps::ClientStep;
+use adlb_unit::{
+    End, Message, NoMemory, Payload, Sending, Server, Target, Trouble, Types, Unit, UnitId, UnitNote,
+};
+use bag_ledger::{Answer, Call, Entry, Said};
+use std::alloc::Global;
+use std::mem;
+
+// The entry that begins the put of this unit.
+fn putting(alloc: Global, unit: &Unit) -> Result<Entry, NoMemory>
+    ensures { IfOk result (λ e. e ≡ entry_of unit.now) }
+{
+    Ok(Entry::Putting {
+        rank: unit.id.rank,
+        call: unit.id.number,
+        kind: unit.kind,
+        prio: unit.prio,
+        target: unit.target,
+        answer: unit.answer,
+        body: unit.body.twin(alloc)?,
+    })
+}
+
+// The call that puts this unit.
+pub(crate) fn put_call(unit: Unit) -> Call
+    ensures { result ≡ call_of unit }
+{
+    Call::Put {
+        kind: unit.kind,
+        prio: unit.prio,
+        target: unit.target,
+        answer: unit.answer,
+        body: unit.body,
+    }
+}
+
+// A list with room for so many elements.
+fn with_room<T>(alloc: Global, room: usize) -> Result<Vec<T>, NoMemory>
+    ensures items { IfOk result (λ v. v.items ≡ []) }
+    ensures room { IfOk result (λ v. vec_capacity v ≡ room) }
+{
+    match Vec::with_capacity(alloc, room) {
+        Ok(list) => Ok(list),
+        Err(_) => Err(NoMemory),
+    }
+}
+
+// What it takes to offer a unit with these bytes to so many servers.
+fn offers(alloc: Global, body: &Payload, servers: usize) -> Result<Vec<Offer>, NoMemory>
+    ensures all { IfOk result (λ v. All (λ b. b ≡ body.now) v.items) }
+    ensures len { IfOk result (λ v. vec_len v ≡ servers) }
+{
+    let mut tries = with_room(alloc, servers)?;
+    for _ in 0..servers {
+        tries.push_reserved(Offer::new(alloc, body)?);
+    }
+    Ok(tries)
+}
+
+// Takes the note of this unit out of the list.
+fn drop_note(handles: &mut Vec<UnitNote>, id: UnitId)
+    ensures items { handles.new.items ≡ filter (λ n. not (same_unit n.id id)) handles.old.items }
+    ensures fewer { vec_len handles.new ≤ vec_len handles.old }
+    ensures room { vec_capacity handles.new ≡ vec_capacity handles.old }
+{
+    let mut kept = 0;
+    for at in 0..handles.len() {
+        let note = handles[at];
+        if note.id == id {
+            continue;
+        }
+        handles[kept] = note;
+        kept += 1;
+    }
+    handles.truncate(kept);
+}
+
+// Writes a Finish letter to each server, from 0 on.
+fn farewells(sent: &mut Vec<u64>, stamp: u64, servers: u32, sends: Vec<Sending>) -> Vec<Sending>
+    requires room { servers ≤ vec_capacity sends }
+    requires none { sends.items ≡ [] }
+    requires servers { length sent.old.items ≡ servers }
+    requires first { All (λ n. n < stamp) sent.old.items }
+    ensures told { (x : Made) → x.state.sent ≡ sent.old.items → x.state.clock ≡ stamp → x.sends ≡ [] →
+        post x (map farewell (range_with_len 0 servers)) ≡ record x { state = record x.state { sent = sent.new.items }; sends = result.items } }
+    ensures counts { All (λ n. n ≤ stamp) sent.new.items }
+    ensures len { length sent.new.items ≡ servers }
+{
+    let mut sends = sends;
+    for server in 0..servers {
+        sends.push_reserved(write(sent, stamp, Server(server), Message::Finish));
+    }
+    sends
+}
+
+impl ClientCore {
+    /// The rank is ready for this call: no call is pending, it has not finished, and the call's own conditions hold. The body of
+    /// a put has at most `2^20` bytes and its target is a rank; a unit that is fetched is held; no batch is going on at Finish.
+    pub fn ready(&self, call: &Call) -> bool
+        ensures { IsTrue result ↔ IsSome (begin self.now call.now) }
+    {
+        if !matches!(self.pending, Pending::Nothing) || self.finished {
+            return false;
+        }
+        match call {
+            Call::Put { target, body, .. } => body.len() <= 1 << 20 && self.has_target(*target),
+            Call::Reserve { .. } => true,
+            Call::Fetch { id } => self.held(*id).is_some(),
+            Call::Finish => self.batch.is_none(),
+            _ => false,
+        }
+    }
+
+    // The target is any or a rank of this run.
+    fn has_target(&self, target: Target) -> bool
+        ensures { result ≡ in_ranks self.now.config target }
+    {
+        match target {
+            Target::Any => true,
+            Target::Only(rank) => rank.0 < self.config.ranks,
+        }
+    }
+
+    // The note of this unit, where the rank holds it.
+    fn held(&self, id: UnitId) -> Option<UnitNote>
+        ensures { result ≡ held self.now id }
+    {
+        self.handles.iter().copied().find(|note| note.id == id)
+    }
+}
+
+impl ClientCore {
+    // The call begins, and is answered at once by the end that was told before.
+    fn over(&mut self, entry: Entry, call: Call, end: End) -> Result<ClientStep, NoMemory>
+        requires free { is_free self.old ≡ true }
+        requires fresh { IsFresh self.old }
+        ensures ok { IfOk result (λ x. made (over self.old entry call end) ≡ gives self.new x) }
+        ensures stamp { IfOk result (λ x. x.stamp ≡ self.new.clock) }
+        ensures err { OnErr result (self.new ≡ self.old) }
+    {
+        let mut entries = with_room(self.alloc, 2)?;
+        if self.said.reserve(2).is_err() {
+            return Err(NoMemory);
+        }
+        entries.push_reserved(entry);
+        entries.push_reserved(Entry::Over {
+            rank: self.me,
+            call: self.next,
+            end,
+        });
+        self.next += 1;
+        self.said.push_reserved(Said {
+            call,
+            answer: Answer::Ended(end),
+        });
+        Ok(ClientStep {
+            stamp: self.clock,
+            sends: Vec::new(self.alloc),
+            entries,
+            answer: Some(Answer::Ended(end)),
+        })
+    }
+
+    // The server to which a put goes first.
+    fn first_server(&self, target: Target) -> Server
+        ensures first { result ≡ first_server self.now target }
+        ensures there { result.0 < self.now.config.servers }
+    {
+        match target {
+            Target::Any => behind(&self.config, self.config.home(self.me), self.puts),
+            Target::Only(rank) => self.config.home(rank),
+        }
+    }
+}
+
+impl ClientCore {
+    // The unit that this call puts, whose twins will share its bytes.
+    fn unit(&self, call: Call) -> Result<Unit, NoMemory>
+        requires { IsSome (unit_of self.now call) }
+        ensures { IfOk result (λ unit. unit_of self.now call ≡ Some unit) }
+    {
+        let Call::Put {
+            kind,
+            prio,
+            target,
+            answer,
+            body,
+        } = call
+        else {
+            unreachable!()
+        };
+        let id = UnitId {
+            rank: self.me,
+            number: self.next,
+        };
+        Ok(Unit {
+            id,
+            kind,
+            prio,
+            target,
+            answer,
+            common: self.batch,
+            body: body.share(self.alloc)?,
+        })
+    }
+
+    // Room to offer the unit to the servers behind the first one, and to reject it.
+    fn put_room(&self, unit: &Unit) -> Result<Room, NoMemory>
+        ensures tries { IfOk result (λ r. vec_len r.tries + 1 ≡ self.now.config.servers) }
+        ensures bodies { IfOk result (λ r. All (λ body. body ≡ unit.now.body) r.tries.items) }
+        ensures room { IfOk result (λ r. vec_capacity r.entries ≡ 1) }
+        ensures none { IfOk result (λ r. r.entries.items ≡ []) }
+    {
+        Ok(Room {
+            tries: offers(self.alloc, &unit.body, self.config.servers as usize - 1)?,
+            entries: with_room(self.alloc, 1)?,
+            bytes: Vec::new(self.alloc),
+        })
+    }
+
+    // The call begins: it goes to a server, and waits for its answer.
+    fn ask(&mut self, entry: Entry, to: Server, message: Message, pending: Pending, room: Room) -> Result<ClientStep, NoMemory>
+        requires free { is_free self.old ≡ true }
+        requires fresh { IsFresh self.old }
+        requires server { to.0 < self.old.config.servers }
+        requires room { HasRoom self.old.config 0 1 room pending }
+        ensures ok { IfOk result (λ x. made (asks self.old entry to message pending) ≡ gives self.new x) }
+        ensures stamp { IfOk result (λ x. x.stamp ≡ self.new.clock) }
+        ensures err { OnErr result (self.new ≡ self.old) }
+    {
+        let mut sends = with_room(self.alloc, 1)?;
+        let mut entries = with_room(self.alloc, 1)?;
+        if self.said.reserve(2).is_err() || self.handles.reserve(1).is_err() {
+            return Err(NoMemory);
+        }
+        sends.push_reserved(write(&mut self.sent, self.clock, to, message));
+        entries.push_reserved(entry);
+        self.next += 1;
+        self.pending = pending;
+        self.room = room;
+        Ok(ClientStep {
+            stamp: self.clock,
+            sends,
+            entries,
+            answer: None,
+        })
+    }
+
+    // Puts the unit: it is offered to the first server.
+    fn put(&mut self, unit: Unit) -> Result<ClientStep, NoMemory>
+        requires free { is_free self.old ≡ true }
+        requires fresh { IsFresh self.old }
+        ensures ok { IfOk result (λ x. made (put self.old unit self.old.end) ≡ gives self.new x) }
+        ensures stamp { IfOk result (λ x. x.stamp ≡ self.new.clock) }
+        ensures err { OnErr result (self.new ≡ self.old) }
+    {
+        let entry = putting(self.alloc, &unit)?;
+        let step = match self.end {
+            Some(end) => self.over(entry, put_call(unit), end)?,
+            None => {
+                let first = self.first_server(unit.target);
+                let message = Message::Put {
+                    unit: unit.twin(self.alloc)?,
+                };
+                let room = self.put_room(&unit)?;
+                let pending = Pending::Put {
+                    unit,
+                    first,
+                    tried: 0,
+                };
+                self.ask(entry, first, message, pending, room)?
+            }
+        };
+        self.puts += 1;
+        Ok(step)
+    }
+
+    // Asks the home for a unit.
+    fn reserve(&mut self, types: Types) -> Result<ClientStep, NoMemory>
+        requires free { is_free self.old ≡ true }
+        requires fresh { IsFresh self.old }
+        ensures ok { IfOk result (λ x. made (reserve self.old types self.old.end) ≡ gives self.new x) }
+        ensures stamp { IfOk result (λ x. x.stamp ≡ self.new.clock) }
+        ensures err { OnErr result (self.new ≡ self.old) }
+    {
+        let request = self.next;
+        let entry = Entry::Asked {
+            rank: self.me,
+            call: request,
+            types: types.twin(),
+        };
+        if let Some(end) = self.end {
+            return self.over(entry, Call::Reserve { types }, end);
+        }
+        let home = self.config.home(self.me);
+        let message = Message::Reserve {
+            request,
+            types: types.twin(),
+        };
+        let room = Room::none(self.alloc);
+        self.ask(entry, home, message, Pending::Reserve { request, types }, room)
+    }
+
+    // Asks the unit's server for its bytes.
+    fn fetch(&mut self, id: UnitId, note: UnitNote) -> Result<ClientStep, NoMemory>
+        requires free { is_free self.old ≡ true }
+        requires fresh { IsFresh self.old }
+        requires held { held self.old id ≡ Some note }
+        ensures ok { IfOk result (λ x. made (fetched self.old id note) ≡ gives self.new x) }
+        ensures stamp { IfOk result (λ x. x.stamp ≡ self.new.clock) }
+        ensures err { OnErr result (self.new ≡ self.old) }
+    {
+        let request = self.next;
+        let entry = Entry::Fetching {
+            rank: self.me,
+            call: request,
+            id,
+        };
+        let room = Room {
+            bytes: with_room(self.alloc, note.length as usize)?,
+            tries: Vec::new(self.alloc),
+            entries: Vec::new(self.alloc),
+        };
+        let message = Message::Fetch { request, id };
+        let step = self.ask(entry, note.server, message, Pending::Fetch { request, note }, room)?;
+        drop_note(&mut self.handles, id);
+        Ok(step)
+    }
+
+    // Tells each server that the rank has finished. It takes no memory.
+    fn finish(&mut self) -> ClientStep
+        requires free { is_free self.old ≡ true }
+        requires fresh { IsFresh self.old }
+        ensures ok { made (finish self.old) ≡ gives self.new result }
+        ensures stamp { result.stamp ≡ self.new.clock }
+    {
+        let none = Farewell {
+            sends: Vec::new(self.alloc),
+            entries: Vec::new(self.alloc),
+        };
+        let Farewell { sends, mut entries } = mem::replace(&mut self.farewell, none);
+        entries.push_reserved(Entry::Finished {
+            rank: self.me,
+            call: self.next,
+        });
+        self.next += 1;
+        self.finished = true;
+        self.said.push_reserved(Said {
+            call: Call::Finish,
+            answer: Answer::Fine,
+        });
+        let sends = farewells(&mut self.sent, self.clock, self.config.servers, sends);
+        ClientStep {
+            stamp: self.clock,
+            sends,
+            entries,
+            answer: Some(Answer::Fine),
+        }
+    }
+}
+
+impl ClientCore {
+    /// Begins a call for which the rank is ready, as `begin` says. All growth of the whole call is made here. A client that has
+    /// failed answers the same again; else `TooLong` comes exactly where the event's stamp would reach `2^48`; and else it fails
+    /// for want of memory alone, and not at Finish, which takes none. After a failure nothing else has changed.
+    pub fn begin(&mut self, call: Call) -> Result<ClientStep, Trouble>
+        requires ready { IsSome (begin self.old call) }
+
+        ensures begun { IfOk result (λ x. begin self.old call ≡ Some (gives self.new x)) }
+        ensures stamp { IfOk result (λ x. x.stamp ≡ self.new.clock) }
+
+        // When it fails, and what stands then.
+        ensures whole { OnOk result (call_trouble self.old ≡ None) }
+        ensures troubled { (t : Trouble) → call_trouble self.old ≡ Some t → result ≡ Err t }
+        ensures memory { call_trouble self.old ≡ None → IfErr result (λ t. (t ≡ Trouble.Memory) × (is_finish call ≡ false)) }
+        ensures failed { IfErr result (λ t. self.new ≡ record self.old { trouble = Some t }) }
+    {
+        if let Some(trouble) = self.trouble {
+            return Err(trouble);
+        }
+        let before = self.clock;
+        let stamp = before + 1;
+        if stamp >= 1 << 48 {
+            return Err(self.fail(Trouble::TooLong { stamp }));
+        }
+        self.clock = stamp;
+        match self.carry_out(call) {
+            Ok(step) => Ok(step),
+            Err(NoMemory) => {
+                self.clock = before;
+                Err(self.fail(Trouble::Memory))
+            }
+        }
+    }
+
+    // Begins the call in an event that has its stamp.
+    fn carry_out(&mut self, call: Call) -> Result<ClientStep, NoMemory>
+        requires free { is_free self.old ≡ true }
+        requires fresh { IsFresh self.old }
+        requires ready { IsSome (open_call self.old call) }
+        ensures ok { IfOk result (λ x. option_map made (open_call self.old call) ≡ Some (gives self.new x)) }
+        ensures stamp { IfOk result (λ x. x.stamp ≡ self.new.clock) }
+        ensures err { OnErr result (self.new ≡ self.old) }
+        ensures finish { OnErr result (is_finish call ≡ false) }
+    {
+        match call {
+            Call::Put { .. } => {
+                let unit = self.unit(call)?;
+                self.put(unit)
+            }
+            Call::Reserve { types } => self.reserve(types),
+            Call::Fetch { id } => match self.held(id) {
+                Some(note) => self.fetch(id, note),
+                None => unreachable!(),
+            },
+            Call::Finish => Ok(self.finish()),
+            _ => unreachable!(),
+        }
+    }
+}

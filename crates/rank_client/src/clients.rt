@@ -1,0 +1,139 @@
+//! What a client keeps of its rank.
+
+ghost use Rattle.std.specs.Prelude.{◌≡◌, ◌<◌, ◌≤◌, ◌+◌, ◌^◌, ◌∷◌, ◌++◌, [], false, length, map, IfOk, slice_index_or, slice_set};
+ghost use Rattle.std.specs.Vec.{vec_len, vec_capacity};
+ghost use Rattle.rank_client.specs.Calls.{plus};
+ghost use Rattle.rank_client.specs.State.{State, behind, start};
+ghost use Rattle.rank_client.specs.Step.{sending};
+
+use crate::pendings::Pending;
+use crate::rooms::{Farewell, Room};
+use adlb_unit::{
+    Actor, CommonRef, Config, End, Letter, Message, NoMemory, Rank, Sending, Server, Trouble, UnitNote,
+};
+use bag_ledger::Said;
+use std::alloc::Global;
+use std::marker::Model;
+
+/// One rank as its client sees it: what is beneath every implementation of `Adlb`.
+#[derive(Drop)]
+pub struct ClientCore {
+    pub(crate) config: Config,
+    pub(crate) me: Rank,
+    pub(crate) pending: Pending,
+    pub(crate) room: Room,
+    pub(crate) next: u64,
+    pub(crate) puts: u64,
+    pub(crate) batch: Option<CommonRef>,
+    pub(crate) end: Option<End>,
+    pub(crate) handles: Vec<UnitNote>,
+    pub(crate) clock: u64,
+    pub(crate) sent: Vec<u64>,
+    pub(crate) finished: bool,
+    pub(crate) said: Vec<Said>,
+    pub(crate) trouble: Option<Trouble>,
+    pub(crate) farewell: Farewell,
+    pub(crate) alloc: Global,
+}
+
+impl Model for ClientCore {
+    ghost use Rattle.rank_client.specs.State.{State};
+
+    ghost Value = { State };
+
+    ghost use Rattle.rank_client.specs.Inside.{state_of, IsInside};
+
+    ghost view = { state_of };
+
+    ghost invariant = { IsInside };
+}
+
+impl ClientCore {
+    /// A client of this rank at the start of a run. It makes the room for Finish. It fails for want of memory alone.
+    pub fn new(alloc: Global, config: Config, me: Rank) -> Result<ClientCore, NoMemory>
+        requires { me.0 < config.ranks }
+        ensures { IfOk result (λ c. c ≡ start config me) }
+    {
+        let servers = config.servers as usize;
+        let (Ok(sent), Ok(said), Ok(sends), Ok(entries)) = (
+            vec![in alloc; 0; servers],
+            Vec::with_capacity(alloc, 1),
+            Vec::with_capacity(alloc, servers),
+            Vec::with_capacity(alloc, 1),
+        ) else {
+            return Err(NoMemory);
+        };
+        Ok(ClientCore {
+            config,
+            me,
+            pending: Pending::Nothing,
+            room: Room::none(alloc),
+            next: 0,
+            puts: 0,
+            batch: None,
+            end: None,
+            handles: Vec::new(alloc),
+            clock: 0,
+            sent,
+            finished: false,
+            said,
+            trouble: None,
+            farewell: Farewell { sends, entries },
+            alloc,
+        })
+    }
+
+    /// The calls with their answers so far.
+    pub fn transcript(&self) -> &[Said]
+        ensures { result.now ≡ self.now.transcript }
+    {
+        self.said.as_slice()
+    }
+
+    /// What made the client fail, if anything did.
+    pub fn failed(&self) -> Option<Trouble>
+        ensures { result ≡ self.now.trouble }
+    {
+        self.trouble
+    }
+
+    // The client has failed.
+    pub(crate) fn fail(&mut self, trouble: Trouble) -> Trouble
+        ensures failed { self.new ≡ record self.old { trouble = Some trouble } }
+        ensures result { result ≡ trouble }
+    {
+        self.trouble = Some(trouble);
+        trouble
+    }
+}
+
+// Writes a letter to the server, in the event of this stamp. `sent` counts the letters to each server.
+pub(crate) fn write(sent: &mut Vec<u64>, stamp: u64, to: Server, message: Message) -> Sending
+    requires server { to.0 < length sent.old.items }
+    requires first { slice_index_or sent.old.items to.0 0 < stamp }
+    ensures counted { sent.new.items ≡ slice_set sent.old.items to.0 (slice_index_or sent.old.items to.0 0 + 1) }
+    ensures letter { result ≡ sending stamp (slice_index_or sent.old.items to.0 0) (record { to = to; message = message }) }
+{
+    let at = to.0 as usize;
+    let place = sent[at];
+    sent[at] = place + 1;
+    Sending {
+        to: Actor::Server(to),
+        letter: Letter {
+            stamp,
+            place,
+            message,
+        },
+    }
+}
+
+// The server that is so many places behind this one in ring order.
+pub(crate) fn behind(config: &Config, server: Server, places: u64) -> Server
+    requires server { server.0 < config.now.servers }
+    requires places { places < 2 ^ 48 }
+    ensures behind { result ≡ behind config.now server places }
+    ensures there { result.0 < config.now.servers }
+{
+    let servers = config.servers as u64;
+    Server(((server.0 as u64 + places) % servers) as u32)
+}

@@ -1,0 +1,227 @@
+//! What a client does with a letter.
+
+ghost use Rattle.std.specs.Prelude.{◌≡◌, ◌⊎◌, ◌<◌, ◌≤◌, ◌+◌, ◌^◌, ◌↔◌, ◌∷◌, ◌++◌, [], ℕ, true, false, nat_lt, length, All, Some, None, Err, IsSome, IsTrue, IfOk, IfErr, OnOk, OnErr, is_some, ◌||◌};
+ghost use Rattle.std.specs.Option.{option_map};
+ghost use Rattle.adlb_unit.specs.declared.notes.Trouble.{Trouble};
+ghost use Rattle.rank_client.specs.Inside.{IsFresh, gives, is_fetch, is_put, is_reserve};
+ghost use Rattle.rank_client.specs.Rules.{answer_call, call_of, ends, refused};
+ghost use Rattle.rank_client.specs.Step.{hear, letter_trouble, made, told_trouble};
+
+use crate::calls::put_call;
+use crate::clients::{ClientCore, behind, write};
+use crate::pendings::Pending;
+use crate::rooms::Offer;
+use crate::steps::ClientStep;
+use adlb_unit::{Letter, Message, Payload, Server, Trouble, Unit};
+use bag_ledger::{Answer, Call, Entry, Said};
+use std::mem;
+
+impl ClientCore {
+    /// Hears a letter, as `hear` says: the pending call awaits it, or it says that its server has failed. It takes no memory. A
+    /// client that has failed answers the same again; else it fails with the trouble that the letter tells, or with `TooLong`
+    /// where the event's stamp would reach `2^48` (`letter_trouble`). After a failure nothing else has changed.
+    pub fn hear(&mut self, from: Server, letter: Letter) -> Result<ClientStep, Trouble>
+        requires expected { IsSome (told_trouble letter.message) ⊎ IsSome (hear self.old from letter) }
+
+        ensures heard { IfOk result (λ x. hear self.old from letter ≡ Some (gives self.new x)) }
+        ensures stamp { IfOk result (λ x. x.stamp ≡ self.new.clock) }
+
+        // When it fails, and what stands then.
+        ensures whole { OnOk result (letter_trouble self.old letter ≡ None) }
+        ensures troubled { IfErr result (λ t. letter_trouble self.old letter ≡ Some t) }
+        ensures failed { IfErr result (λ t. self.new ≡ record self.old { trouble = Some t }) }
+    {
+        if let Some(trouble) = self.trouble {
+            return Err(trouble);
+        }
+        if let Some(trouble) = told(&letter.message) {
+            return Err(self.fail(trouble));
+        }
+        let stamp = self.clock.max(letter.stamp) + 1;
+        if stamp >= 1 << 48 {
+            return Err(self.fail(Trouble::TooLong { stamp }));
+        }
+        self.clock = stamp;
+        Ok(self.take_in(from, letter.message))
+    }
+
+    // Hears what the letter says in an event that has its stamp.
+    fn take_in(&mut self, from: Server, message: Message) -> ClientStep
+        requires going { self.old.finished ≡ false }
+        requires fresh { IsFresh self.old }
+        requires expected { IsSome (answer_call self.old self.old.pending from message) }
+        ensures ok { option_map made (answer_call self.old self.old.pending from message) ≡ Some (gives self.new result) }
+        ensures stamp { result.stamp ≡ self.new.clock }
+    {
+        match self.pending {
+            Pending::Put { .. } => self.hear_put(from, message),
+            Pending::Reserve { .. } => self.hear_reserve(from, message),
+            Pending::Fetch { .. } => self.hear_fetch(from, message),
+            Pending::Nothing => unreachable!(),
+        }
+    }
+
+    // The step in which a call has its answer.
+    fn ended(&self, entries: Vec<Entry>, answer: Answer) -> ClientStep
+        ensures gives { gives self.now result ≡ record { state = self.now; sends = []; entries = entries.items; answer = Some answer } }
+        ensures stamp { result.stamp ≡ self.now.clock }
+    {
+        ClientStep {
+            stamp: self.clock,
+            sends: Vec::new(self.alloc),
+            entries,
+            answer: Some(answer),
+        }
+    }
+}
+
+impl ClientCore {
+    // A put is answered.
+    fn hear_put(&mut self, from: Server, message: Message) -> ClientStep
+        requires pending { is_put self.old.pending ≡ true }
+        requires going { self.old.finished ≡ false }
+        requires fresh { IsFresh self.old }
+        requires expected { IsSome (answer_call self.old self.old.pending from message) }
+        ensures ok { option_map made (answer_call self.old self.old.pending from message) ≡ Some (gives self.new result) }
+        ensures stamp { result.stamp ≡ self.new.clock }
+    {
+        let Pending::Put { unit, first, tried } =
+            mem::replace(&mut self.pending, Pending::Nothing)
+        else {
+            unreachable!()
+        };
+        let entries = Vec::new(self.alloc);
+        match message {
+            Message::Accepted { .. } => {
+                let call = put_call(unit);
+                let answer = Answer::Fine;
+                self.said.push_reserved(Said { call, answer });
+                self.ended(entries, Answer::Fine)
+            }
+            Message::Ended { end, .. } => {
+                let call = put_call(unit);
+                let answer = Answer::Ended(end);
+                self.end = Some(end);
+                self.said.push_reserved(Said { call, answer });
+                self.ended(entries, Answer::Ended(end))
+            }
+            Message::Full { .. } if tried + 1 < self.config.servers => {
+                let Some(offer) = self.room.tries.pop() else {
+                    unreachable!()
+                };
+                let Offer { body, mut sends } = offer;
+                let next = unit_with(&unit, body);
+                let to = behind(&self.config, first, tried as u64 + 1);
+                sends.push_reserved(write(
+                    &mut self.sent,
+                    self.clock,
+                    to,
+                    Message::Put { unit: next },
+                ));
+                self.pending = Pending::Put {
+                    unit,
+                    first,
+                    tried: tried + 1,
+                };
+                ClientStep {
+                    stamp: self.clock,
+                    sends,
+                    entries,
+                    answer: None,
+                }
+            }
+            Message::Full { .. } => {
+                let mut entries = mem::replace(&mut self.room.entries, entries);
+                entries.push_reserved(Entry::Rejected {
+                    rank: self.me,
+                    call: unit.id.number,
+                });
+                let call = put_call(unit);
+                let answer = Answer::Rejected;
+                self.said.push_reserved(Said { call, answer });
+                self.ended(entries, Answer::Rejected)
+            }
+            _ => unreachable!(),
+        }
+    }
+
+    // A reserve is answered.
+    fn hear_reserve(&mut self, from: Server, message: Message) -> ClientStep
+        requires pending { is_reserve self.old.pending ≡ true }
+        requires going { self.old.finished ≡ false }
+        requires fresh { IsFresh self.old }
+        requires expected { IsSome (answer_call self.old self.old.pending from message) }
+        ensures ok { option_map made (answer_call self.old self.old.pending from message) ≡ Some (gives self.new result) }
+        ensures stamp { result.stamp ≡ self.new.clock }
+    {
+        let Pending::Reserve { types, .. } = mem::replace(&mut self.pending, Pending::Nothing) else {
+            unreachable!()
+        };
+        let call = Call::Reserve { types };
+        match message {
+            Message::Grant { note, .. } => {
+                let answer = Answer::Granted(note);
+                self.handles.push_reserved(note);
+                self.said.push_reserved(Said { call, answer });
+                self.ended(Vec::new(self.alloc), Answer::Granted(note))
+            }
+            Message::Ended { end, .. } => {
+                let answer = Answer::Ended(end);
+                self.end = Some(end);
+                self.said.push_reserved(Said { call, answer });
+                self.ended(Vec::new(self.alloc), Answer::Ended(end))
+            }
+            _ => unreachable!(),
+        }
+    }
+
+    // A fetch is answered.
+    fn hear_fetch(&mut self, from: Server, message: Message) -> ClientStep
+        requires pending { is_fetch self.old.pending ≡ true }
+        requires going { self.old.finished ≡ false }
+        requires fresh { IsFresh self.old }
+        requires expected { IsSome (answer_call self.old self.old.pending from message) }
+        ensures ok { option_map made (answer_call self.old self.old.pending from message) ≡ Some (gives self.new result) }
+        ensures stamp { result.stamp ≡ self.new.clock }
+    {
+        let Pending::Fetch { note, .. } = mem::replace(&mut self.pending, Pending::Nothing) else {
+            unreachable!()
+        };
+        let Message::Bytes { body, .. } = message else {
+            unreachable!()
+        };
+        let mut bytes = mem::replace(&mut self.room.bytes, Vec::new(self.alloc));
+        let Ok(()) = bytes.extend_from_slice(body.bytes()) else {
+            unreachable!()
+        };
+        let call = Call::Fetch { id: note.id };
+        let answer = Answer::Body(body);
+        self.said.push_reserved(Said { call, answer });
+        self.ended(Vec::new(self.alloc), Answer::Body(Payload::from_vec(bytes)))
+    }
+}
+
+// The trouble of a server that has failed and says so.
+fn told(message: &Message) -> Option<Trouble>
+    ensures { result ≡ told_trouble message.now }
+{
+    match message {
+        Message::Broken { trouble } => Some(*trouble),
+        _ => None,
+    }
+}
+
+// The unit with these bytes.
+fn unit_with(unit: &Unit, body: Payload) -> Unit
+    ensures { result ≡ record unit.now { body = body } }
+{
+    Unit {
+        id: unit.id,
+        kind: unit.kind,
+        prio: unit.prio,
+        target: unit.target,
+        answer: unit.answer,
+        common: unit.common,
+        body,
+    }
+}

@@ -1,0 +1,23 @@
+//! What holds of each step of a rank.
+
+ghost use Rattle.std.specs.Prelude.{◌≡◌, None, Some, IsFalse};
+ghost use Rattle.adlb_unit.specs.declared.letters.Letter.{Letter};
+ghost use Rattle.adlb_unit.specs.declared.names.Server.{Server};
+ghost use Rattle.bag_ledger.specs.declared.entries.Call.{Call};
+ghost use Rattle.bag_ledger.specs.Bag.{Bag, has_due};
+ghost use Rattle.rank_client.specs.Agreement.{Agrees, Follows};
+ghost use Rattle.rank_client.specs.State.{State};
+ghost use Rattle.rank_client.specs.Step.{Made, begin, hear};
+
+use bag_ledger::bag_laws;
+
+/// From a bag for whose rank the client stands, and in which no part is due, the entries of a step are steps of the bag, and the
+/// client stands for its rank afterwards. Its transcript is then what the ledger says of this rank.
+pub fn client_laws()
+    ensures begun { (s : State) (call : Call) (x : Made) (b : Bag) →
+        begin s call ≡ Some x → Agrees s None b → IsFalse (has_due b) → Follows s None b x }
+    ensures heard { (s : State) (from : Server) (letter : Letter) (x : Made) (b : Bag) →
+        hear s from letter ≡ Some x → Agrees s (Some letter.message) b → IsFalse (has_due b) → Follows s (Some letter.message) b x }
+{
+    bag_laws();
+}

@@ -1,0 +1,28 @@
+//! One rank: its calls, the programs that make them, and what a client does with each call and each letter.
+//!
+//! It stands on the letters of `adlb_unit` and the calls, answers and entries of `bag_ledger`. `specs/Calls.antt` says what a
+//! call adds to a rank's transcript. `specs/State.antt` is what contracts see of a client, `specs/Rules.antt` has the rule of
+//! each call and of each letter, and `specs/Step.antt` the step that follows it; `laws` states that the entries of a step are
+//! steps of the bag, and that its answers are those that the bag's ledger gives.
+#![tactic(auto)]
+
+mod calls;
+mod clients;
+#[cfg(test)]
+mod driven;
+mod faults;
+mod hearing;
+mod laws;
+mod links;
+mod pendings;
+mod programs;
+mod rooms;
+mod steps;
+
+pub use clients::ClientCore;
+pub use faults::{EndFault, PutFault};
+pub use laws::client_laws;
+pub use links::Adlb;
+pub use pendings::Pending;
+pub use programs::RankProgram;
+pub use steps::ClientStep;

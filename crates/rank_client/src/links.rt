@@ -1,0 +1,104 @@
+//! The calls of a rank.
+
+ghost use Rattle.std.specs.Prelude.{◌≡◌, ◌≤◌, ◌<◌, ◌^◌, ℕ, List, Option, Some, None, Bool, true, false, ◌&&◌, is_none, length, Contains, IfOk, IfErr};
+ghost use Rattle.adlb_unit.specs.Totals.{total_of};
+ghost use Rattle.adlb_unit.specs.declared.notes.Trouble.{Trouble};
+ghost use Rattle.bag_ledger.specs.declared.entries.Call.{Call};
+ghost use Rattle.bag_ledger.specs.declared.entries.Said.{Said};
+ghost use Rattle.rank_client.specs.Calls.{Aims, Began, Repeats, TellsAgain, end_answer, end_told, end_trouble, fetch_answer, fetch_trouble, granted, has_finished, is_granted, is_fetched, plus, put_answer, put_trouble};
+
+use crate::faults::{EndFault, PutFault};
+use adlb_unit::{Handle, Payload, Rank, Target, Trouble, Types, WorkType};
+use bag_ledger::{Call, Said};
+
+/// What a rank can do. Each call but `leave` and `transcript` waits for its answer and adds itself with the answer to the
+/// transcript, unless it answers `Memory` or `TooLong`. A link that answered one of these two has failed: its transcript stays,
+/// and each later call answers the same.
+pub trait Adlb {
+    // The number of ranks.
+    ghost ranks: { Self → ℕ };
+
+    // The calls with their answers, in order.
+    ghost transcript: { Self → List Said };
+
+    // A batch is going on.
+    ghost batch: { Self → Bool };
+
+    // What made the link fail, if anything did.
+    ghost failed: { Self → Option Trouble };
+
+    // The call that was begun and not answered when the link failed, if there was one.
+    ghost begun: { Self → Option Call };
+
+    /// Puts a unit, whose body has at most `2^20` bytes and whose target is a rank. It is Rejected only after each server has
+    /// refused it in this call. After an end was told it gives that end again.
+    fn put(
+        &mut self,
+        kind: WorkType,
+        prio: i32,
+        target: Target,
+        answer: Option<Rank>,
+        body: Payload,
+    ) -> Result<(), PutFault>
+        requires running { has_finished (transcript self.old) ≡ false }
+        requires body { length body ≤ 2 ^ 20 }
+        requires target { Aims target (ranks self.old) }
+        ensures says { transcript self.new ≡ plus (transcript self.old) (Call.Put kind prio target answer body) (put_answer result) }
+        ensures told { TellsAgain (end_told (transcript self.old)) (put_answer result) }
+        ensures ranks { ranks self.new ≡ ranks self.old }
+        ensures batch { batch self.new ≡ (batch self.old && is_none (put_trouble result)) }
+        ensures failed { failed self.new ≡ put_trouble result }
+        ensures repeats { Repeats (failed self.old) (put_trouble result) }
+        ensures began { Began (failed self.old) (begun self.old) (Call.Put kind prio target answer body) (failed self.new) (begun self.new) };
+
+    /// Waits until a unit of these types is granted or an end is told. A unit is granted once. After an end was told it gives
+    /// that end again.
+    fn reserve(&mut self, types: &Types) -> Result<Handle, EndFault>
+        requires running { has_finished (transcript self.old) ≡ false }
+        ensures says { transcript self.new ≡ plus (transcript self.old) (Call.Reserve types.now) (end_answer result) }
+        ensures told { TellsAgain (end_told (transcript self.old)) (end_answer result) }
+        ensures once { IfOk result (λ note. is_granted note.id (transcript self.old) ≡ false) }
+        ensures unfetched { IfOk result (λ note. is_fetched note.id (transcript self.old) ≡ false) }
+        ensures ranks { ranks self.new ≡ ranks self.old }
+        ensures batch { batch self.new ≡ (batch self.old && is_none (end_trouble result)) }
+        ensures failed { failed self.new ≡ end_trouble result }
+        ensures repeats { Repeats (failed self.old) (end_trouble result) }
+        ensures began { Began (failed self.old) (begun self.old) (Call.Reserve types.now) (failed self.new) (begun self.new) };
+
+    /// Gives the bytes of a unit that was granted and not fetched before: those of the common part, if there is one, and then
+    /// its own. A refusal hands the handle back.
+    fn get_reserved(&mut self, handle: Handle) -> Result<Payload, (Handle, Trouble)>
+        requires running { has_finished (transcript self.old) ≡ false }
+        requires granted { granted handle (transcript self.old) }
+        requires once { is_fetched handle.id (transcript self.old) ≡ false }
+        ensures says { transcript self.new ≡ plus (transcript self.old) (Call.Fetch handle.id) (fetch_answer result) }
+        ensures total { IfOk result (λ body. length body ≡ total_of handle) }
+        ensures back { IfErr result (λ e. e.0 ≡ handle) }
+        ensures ranks { ranks self.new ≡ ranks self.old }
+        ensures batch { batch self.new ≡ (batch self.old && is_none (fetch_trouble result)) }
+        ensures failed { failed self.new ≡ fetch_trouble result }
+        ensures repeats { Repeats (failed self.old) (fetch_trouble result) }
+        ensures began { Began (failed self.old) (begun self.old) (Call.Fetch handle.id) (failed self.new) (begun self.new) };
+
+    /// Spends a handle. Its unit stays pinned to the rank, and is not fetched.
+    fn leave(&mut self, handle: Handle)
+        requires granted { granted handle (transcript self.old) }
+        requires once { is_fetched handle.id (transcript self.old) ≡ false }
+        ensures says { transcript self.new ≡ transcript self.old }
+        ensures ranks { ranks self.new ≡ ranks self.old }
+        ensures batch { batch self.new ≡ batch self.old }
+        ensures failed { failed self.new ≡ failed self.old }
+        ensures began { begun self.new ≡ begun self.old };
+
+    /// Leaves the run. No batch is going on.
+    fn finish(self)
+        requires running { has_finished (transcript self) ≡ false }
+        requires batch { batch self ≡ false };
+
+    /// The calls with their answers so far.
+    fn transcript(&self) -> &[Said]
+        ensures { result.now ≡ transcript self.now };
+
+    // Each call takes a stamp of its own.
+    ghost short: { (link : Self) → length (transcript link) < 2 ^ 48 };
+}

@@ -1,0 +1,35 @@
+//! The programs of ranks.
+
+ghost use Rattle.std.specs.Prelude.{◌≡◌, ◌<◌, ℕ, List, [], Some, None, Err, false, IfOk};
+ghost use Rattle.adlb_unit.specs.declared.names.Rank.{Rank};
+ghost use Rattle.bag_ledger.specs.declared.entries.Said.{Said};
+ghost use Rattle.rank_client.specs.Calls.{has_finished};
+
+use crate::links::Adlb;
+use adlb_unit::{Rank, Trouble};
+
+/// What a rank does in a run: it makes calls, and has an outcome at the end.
+pub trait RankProgram {
+    type Outcome;
+
+    // The program fits this number of ranks.
+    ghost fits: { Self → ℕ → Type 0 };
+
+    // What the transcript of this rank can be while the program runs.
+    ghost so_far: { Self → Rank → List Said → Type 0 };
+
+    // What the transcript of this rank can be at this outcome.
+    ghost follows: { Self → Rank → List Said → Self.Outcome → Type 0 };
+
+    /// Makes the calls of this rank, which has made none before. Whoever runs it finishes the link afterwards.
+    fn run<A: Adlb>(&self, rank: Rank, link: &mut A) -> Result<Self::Outcome, Trouble>
+        requires rank { rank.0 < A.ranks link.old }
+        requires fits { fits self.now (A.ranks link.old) }
+        requires empty { A.transcript link.old ≡ [] }
+        requires batch { A.batch link.old ≡ false }
+        requires whole { A.failed link.old ≡ None }
+        ensures follows { IfOk result (λ outcome. follows self.now rank (A.transcript link.new) outcome) }
+        ensures closed { IfOk result (λ outcome. A.batch link.new ≡ false) }
+        ensures open { has_finished (A.transcript link.new) ≡ false }
+        ensures too_long { (stamp : ℕ) → result ≡ Err (Trouble.TooLong stamp) → A.failed link.new ≡ Some (Trouble.TooLong stamp) };
+}

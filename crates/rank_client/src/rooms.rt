@@ -1,0 +1,64 @@
+//! Memory that a client keeps, so that a letter that answers a call takes none.
+
+ghost use Rattle.std.specs.Prelude.{◌≡◌, IfOk};
+
+use adlb_unit::{NoMemory, Payload, Sending};
+use bag_ledger::Entry;
+use std::alloc::Global;
+use std::marker::Model;
+
+// What it takes to offer a unit to one more server: the bytes, and room for the letter. It is seen as the bytes.
+#[derive(Drop)]
+pub(crate) struct Offer {
+    pub(crate) body: Payload,
+    pub(crate) sends: Vec<Sending>,
+}
+
+impl Model for Offer {
+    ghost use Rattle.std.specs.Prelude.{◌≡◌, ◌≤◌, List, [], ℕ};
+    ghost use Rattle.std.specs.Vec.{vec_capacity};
+
+    ghost Value = { List ℕ };
+
+    ghost view = { λ o. o.body };
+
+    ghost invariant = { λ o. (1 ≤ vec_capacity o.sends) × (o.sends.items ≡ []) };
+}
+
+impl Offer {
+    pub(crate) fn new(alloc: Global, body: &Payload) -> Result<Offer, NoMemory>
+        ensures { IfOk result (λ o. o ≡ body.now) }
+    {
+        let body = body.twin(alloc)?;
+        match Vec::with_capacity(alloc, 1) {
+            Ok(sends) => Ok(Offer { body, sends }),
+            Err(_) => Err(NoMemory),
+        }
+    }
+}
+
+// Room for what the rest of a call may need.
+#[derive(Drop)]
+pub(crate) struct Room {
+    pub(crate) tries: Vec<Offer>,
+    pub(crate) entries: Vec<Entry>,
+    pub(crate) bytes: Vec<u8>,
+}
+
+impl Room {
+    // No room.
+    pub(crate) fn none(alloc: Global) -> Room {
+        Room {
+            tries: Vec::new(alloc),
+            entries: Vec::new(alloc),
+            bytes: Vec::new(alloc),
+        }
+    }
+}
+
+// Room for the letters and the entry of Finish.
+#[derive(Drop)]
+pub(crate) struct Farewell {
+    pub(crate) sends: Vec<Sending>,
+    pub(crate) entries: Vec<Entry>,
+}
