@@ -1,5 +1,6 @@
 pub mod Bodies
 pub mod Counting
+pub mod Ending
 pub mod Forms
 pub mod Pieces
 pub mod Waiting

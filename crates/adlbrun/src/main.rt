@@ -9,6 +9,8 @@ mod ends;
 mod reading;
 mod reports;
 mod solving;
+#[cfg(test)]
+mod tests;
 mod texts;
 mod top;
 mod words;

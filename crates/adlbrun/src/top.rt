@@ -95,7 +95,8 @@ fn report_on(alloc: Global, grid: &Grid) -> Result<Vec<u8>, NoMemory>
     ensures { IfOk result (λ text. IsReport default_budget default_grain grid.now text.items) }
 {
     let solved = solve(alloc, Settings::DEFAULT, grid)?;
-    report_of(alloc, &solved)
+    let text = report_of(alloc, &solved)?;
+    Ok(text)
 }
 
 // Writes the report and flushes.
