@@ -5,9 +5,15 @@
 //! written, `specs/Books.antt` and `specs/Follows.antt` which calls a rank makes, and `specs/Report.antt` what is written.
 #![tactic(auto)]
 
+mod calls;
+mod desk;
 mod jobs;
+mod outcomes;
+mod program;
 mod texts;
 mod units;
 
 pub use jobs::{Item, Items, Job, Jobs, JobsFault, LineWhy, read_jobs};
+pub use outcomes::{PuzzleOutcome, Settings};
+pub use program::PuzzleProgram;
 pub use units::{Board, Made, Solution};

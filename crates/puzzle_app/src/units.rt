@@ -43,7 +43,8 @@ pub enum Made {
 impl Board {
     /// The body of the board's unit (`board_body`). It fails for want of memory alone.
     pub fn body(&self, alloc: Global) -> Result<Payload, NoMemory>
-        ensures { IfOk result (λ p. p ≡ board_body self.now) }
+        ensures body { IfOk result (λ p. p ≡ board_body self.now) }
+        ensures long { IfOk result (λ p. length p ≡ 93) }
     {
         let Ok(mut bytes) = Vec::with_capacity(alloc, BOARD_BYTES) else {
             return Err(NoMemory);
@@ -77,7 +78,8 @@ impl Board {
 impl Solution {
     /// The body of the solution's unit (`solution_body`). It fails for want of memory alone.
     pub fn body(&self, alloc: Global) -> Result<Payload, NoMemory>
-        ensures { IfOk result (λ p. p ≡ solution_body self.now) }
+        ensures body { IfOk result (λ p. p ≡ solution_body self.now) }
+        ensures long { IfOk result (λ p. length p ≡ 85) }
     {
         let Ok(mut bytes) = Vec::with_capacity(alloc, SOLUTION_BYTES) else {
             return Err(NoMemory);
