@@ -1,5 +1,5 @@
 -- What a unit that comes to a rank changes on its desk.
-use Rattle.std.specs.Prelude.{◌≡◌, ◌+◌, ◌≤◌, ◌^◌, ◌==◌, ℕ, Bool, List, [], ◌∷◌, ◌++◌, length, if◌then◌else◌}
+use Rattle.std.specs.Prelude.{◌≡◌, ◌+◌, ◌≤◌, ◌^◌, ◌==◌, ℕ, Bool, List, [], ◌∷◌, ◌++◌, length, Option, Some, None, if◌then◌else◌}
 use Rattle.std.specs.List.{list_any}
 use Rattle.puzzle_app.specs.Made.{made_by, walk_of}
 use Rattle.puzzle_app.specs.declared.desk.Desk.{Desk}
@@ -25,3 +25,8 @@ abbrev pub Receives : ℕ → Made → Desk → Desk → Type 0
 Receives grain (made.Board board) old new = Works grain board old new
 Receives grain (made.Solution solution) old new =
     (new ≡ record old { kept = new.kept }) × (new.kept.items ≡ old.kept.items ++ (solution.puzzle, solution.grid) ∷ [])
+
+-- what a fetch brings, if it has the form of a unit
+abbrev pub Brings : ℕ → Option Made → Desk → Desk → Type 0
+Brings grain None old new = new ≡ old
+Brings grain (Some unit) old new = Receives grain unit old new

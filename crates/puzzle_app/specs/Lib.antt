@@ -6,3 +6,4 @@ pub mod Follows
 pub mod Input
 pub mod Jobs
 pub mod Made
+pub mod Working

@@ -19,6 +19,7 @@ const ANSWERS: Rank = Rank(0);
 
 /// The work types of boards and of solutions.
 const BOARD: WorkType = WorkType(0);
+
 const SOLUTION: WorkType = WorkType(1);
 
 /// The priority of a solution.

@@ -2,12 +2,13 @@
 
 ghost use Rattle.std.specs.Prelude.{◌≡◌, ◌==◌, ◌+◌, ◌<◌, ◌≤◌, ◌^◌, ◌++◌, ◌∷◌, [], length, map, OnOk, if◌then◌else◌};
 ghost use Rattle.std.specs.List.{list_any};
-ghost use Rattle.puzzle_app.specs.Desk.{Receives, Works, noted};
-ghost use Rattle.puzzle_app.specs.Made.{child_of, made_by, solution_at};
+ghost use Rattle.puzzle_app.specs.Desk.{Brings, Receives, Works, noted};
+ghost use Rattle.adlb_unit.specs.Totals.{total_of};
+ghost use Rattle.puzzle_app.specs.Made.{child_of, fetched_unit, made_by, solution_at};
 
 use crate::outcomes::PuzzleOutcome;
-use crate::units::{Board, Made, Solution};
-use adlb_unit::NoMemory;
+use crate::units::{Board, Made, Solution, read_unit};
+use adlb_unit::{NoMemory, UnitNote};
 use std::alloc::Global;
 use std::collections::VecDeque;
 use sudoku_rules::{Expansion, Grid, expand};
@@ -57,6 +58,26 @@ impl Desk {
         }
     }
 
+    /// A unit of this note is fetched, with these bytes (`Brings`); one that has not the form of its type is dropped. It
+    /// fails for want of memory alone.
+    pub fn bring(
+        &mut self,
+        alloc: Global,
+        grain: u64,
+        note: &UnitNote,
+        bytes: &[u8],
+    ) -> Result<(), NoMemory>
+        requires boards { self.old.boards < 2 ^ 127 }
+        requires found { self.old.found < 2 ^ 127 }
+        requires bytes { length bytes.now ≡ total_of note.now }
+        ensures { OnOk result (Brings grain (fetched_unit note.now bytes.now) self.old self.new) }
+    {
+        match read_unit(note, bytes) {
+            Some(made) => self.receive(alloc, grain, &made),
+            None => Ok(()),
+        }
+    }
+
     // Works a board: what it makes waits before all else.
     fn work(&mut self, alloc: Global, grain: u64, board: &Board) -> Result<(), NoMemory>
         requires boards { self.old.boards < 2 ^ 127 }
@@ -79,8 +100,8 @@ impl Desk {
 
     /// What the rank has at its end.
     pub fn outcome(self, alloc: Global) -> PuzzleOutcome
-        ensures solutions { result.solutions ≡ self.kept }
-        ensures overs { result.overs ≡ self.overs }
+        ensures solutions { result.solutions.items ≡ self.kept.items }
+        ensures overs { result.overs.items ≡ self.overs.items }
         ensures answers { result.answers.items ≡ [] }
         ensures made { result.made ≡ self.boards ∷ self.found ∷ 0 ∷ 0 ∷ [] }
     {

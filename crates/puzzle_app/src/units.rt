@@ -1,14 +1,16 @@
 //! The units that the work on puzzles makes, and their bodies.
 
-ghost use Rattle.std.specs.Prelude.{◌≡◌, ◌↔◌, ◌<◌, ◌^◌, ℕ, List, length, Some, IfSome, IfOk};
+ghost use Rattle.std.specs.Prelude.{◌≡◌, ◌↔◌, ◌<◌, ◌^◌, ℕ, List, length, Some, IfSome, IfOk, option_map};
+ghost use Rattle.adlb_unit.specs.Totals.{total_of};
 ghost use Rattle.sudoku_law.specs.Grid.{IsGrid};
 ghost use Rattle.sudoku_law.specs.Text.{text_of};
 ghost use Rattle.puzzle_app.specs.Bodies.{board_body, board_of, solution_body, solution_of};
+ghost use Rattle.puzzle_app.specs.Made.{fetched_unit, is_for};
 ghost use Rattle.puzzle_app.specs.declared.units.Board.{Board};
 ghost use Rattle.puzzle_app.specs.declared.units.Solution.{Solution};
 
 use crate::texts::append;
-use adlb_unit::{NoMemory, Payload};
+use adlb_unit::{NoMemory, Payload, Rank, UnitNote};
 use std::alloc::Global;
 use sudoku_rules::{Grid, parse81};
 
@@ -130,4 +132,47 @@ fn array_of<const N: usize>(bytes: &[u8]) -> [u8; N]
     let mut array = [0u8; N];
     array.copy_from_slice(bytes);
     array
+}
+
+/// The unit of this note whose fetch gave these bytes, if it has the form of one (`fetched_unit`).
+pub fn read_unit(note: &UnitNote, bytes: &[u8]) -> Option<Made>
+    requires { length bytes.now ≡ total_of note.now }
+    ensures { result ≡ fetched_unit note.now bytes.now }
+{
+    let own = &bytes[bytes.len() - note.length as usize..];
+    if note.kind.0 == 0 && is_for_answers(note.answer) {
+        return read_board(own);
+    }
+    if note.kind.0 == 1 && note.answer.is_none() {
+        return read_solution(own);
+    }
+    None
+}
+
+fn read_board(own: &[u8]) -> Option<Made>
+    ensures { result ≡ option_map Made.Board (board_of own.now) }
+{
+    match Board::read(own) {
+        Some(board) => Some(Made::Board(board)),
+        None => None,
+    }
+}
+
+fn read_solution(own: &[u8]) -> Option<Made>
+    ensures { result ≡ option_map Made.Solution (solution_of own.now) }
+{
+    match Solution::read(own) {
+        Some(solution) => Some(Made::Solution(solution)),
+        None => None,
+    }
+}
+
+// The answers go to the rank that has them all.
+fn is_for_answers(answer: Option<Rank>) -> bool
+    ensures { result ≡ is_for answer }
+{
+    match answer {
+        Some(rank) => rank.0 == 0,
+        None => false,
+    }
 }
