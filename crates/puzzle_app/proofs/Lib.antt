@@ -1,5 +1,7 @@
 pub mod Bodies
 pub mod Forms
+pub mod Parts
+pub mod Pieces
 pub mod Steps
 pub mod Tallies
 pub mod Transcripts

@@ -6,4 +6,5 @@ pub mod Follows
 pub mod Input
 pub mod Jobs
 pub mod Made
+pub mod Report
 pub mod Working

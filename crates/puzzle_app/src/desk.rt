@@ -127,8 +127,8 @@ fn note_over(over: bool, numbers: &mut Vec<u32>, number: u32) -> Result<(), NoMe
     }
 }
 
-// The number is among them.
-fn has(numbers: &[u32], number: u32) -> bool
+/// The number is among them.
+pub fn has(numbers: &[u32], number: u32) -> bool
     ensures { result ≡ list_any (λ n. n == number) numbers.now }
 {
     numbers.iter().any(|n| *n == number)

@@ -10,10 +10,12 @@ mod desk;
 mod jobs;
 mod outcomes;
 mod program;
+mod reports;
 mod texts;
 mod units;
 
 pub use jobs::{Item, Items, Job, Jobs, JobsFault, LineWhy, read_jobs};
 pub use outcomes::{PuzzleOutcome, Settings};
 pub use program::PuzzleProgram;
+pub use reports::render;
 pub use units::{Board, Made, Solution};
