@@ -1,4 +1,5 @@
 pub mod Bodies
+pub mod Calling
 pub mod Forms
 pub mod Parts
 pub mod Pieces

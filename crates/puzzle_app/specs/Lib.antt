@@ -7,4 +7,5 @@ pub mod Input
 pub mod Jobs
 pub mod Made
 pub mod Report
+pub mod Transcripts
 pub mod Working

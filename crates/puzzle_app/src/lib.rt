@@ -8,13 +8,17 @@
 mod calls;
 mod desk;
 mod jobs;
+mod laws;
 mod outcomes;
 mod program;
 mod reports;
+#[cfg(test)]
+mod tests;
 mod texts;
 mod units;
 
 pub use jobs::{Item, Items, Job, Jobs, JobsFault, LineWhy, read_jobs};
+pub use laws::{calls_add_up, calls_in_order};
 pub use outcomes::{PuzzleOutcome, Settings};
 pub use program::PuzzleProgram;
 pub use reports::render;
