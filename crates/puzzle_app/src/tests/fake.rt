@@ -1,6 +1,6 @@
 //! A link of one rank, which keeps its own units.
 
-ghost use Rattle.std.specs.Prelude.{◌≡◌, ◌<◌, ◌^◌, ◌++◌, ◌∷◌, [], length, Some, None, Err, false, true, OnOk, OnErr, IfErr};
+ghost use Rattle.std.specs.Prelude.{◌≡◌, ◌<◌, ◌≤◌, ◌^◌, ◌++◌, ◌∷◌, [], length, Some, None, Err, false, true, OnOk, OnErr, IfErr};
 ghost use Rattle.bag_ledger.specs.Bag.{same_unit};
 ghost use Rattle.rank_client.specs.Calls.{end_answer, end_of, end_told, end_trouble, fetches, grants, is_fetched, is_granted, put_answer, put_trouble};
 
@@ -86,6 +86,7 @@ impl Fake {
         answer: Option<Rank>,
         body: &Payload,
     ) -> Result<(), Trouble>
+        requires body { length body.now ≤ 2 ^ 20 }
         ensures said { self.new.said ≡ self.old.said }
         ensures trouble { self.new.trouble ≡ self.old.trouble }
     {
