@@ -1,6 +1,6 @@
 -- Texts that grew piece by piece.
-use Rattle.std.proofs.Common.{◌≡◌, ℕ, List, ◌++◌, [], ◌∷◌, ap, ◌∙◌, refl, sym, append_assoc, length, get_or, drop, ◌+◌, ◌<◌, arith, append-nil, codes, decimal}
-use Rattle.std.proofs.lemmas.List.{drop_more, drop_all}
+use Rattle.std.proofs.Common.{◌≡◌, ℕ, List, ◌++◌, [], ◌∷◌, ap, ◌∙◌, sym, append_assoc, length, get_or, drop, ◌+◌, ◌<◌, append-nil, codes, decimal}
+use Rattle.std.proofs.lemmas.List.{drop_more}
 use Rattle.sudoku_law.specs.Grid.{Cells}
 use Rattle.sudoku_law.specs.Text.{text_of}
 use Rattle.puzzle_app.specs.Report.{counted, grid_lines}

@@ -1,11 +1,10 @@
 -- One more call of a rank, and what it leaves.
 use Rattle.std.proofs.Common.{◌≡◌, ℕ, zero, suc, ◌+◌, ◌*◌, ◌^◌, ◌<◌, ◌≤◌, Bool, false, ◌||◌, List, [], ◌∷◌, ◌++◌, length, Option, Some, None, refl, sym, ap, ◌∙◌, subst, arith, append-nil, append_assoc, drop, get_or, count_by, MatchBool, true, lit<, slice_index, inl, inr, ◌⊎◌}
-use Rattle.std.specs.List.{list_any}
 use Rattle.std.proofs.lemmas.List.{drop_all, drop_more, length_push}
 use Rattle.std.proofs.lemmas.List.Folds.{list_any-append}
 use Rattle.adlb_unit.specs.declared.notes.End.{End}
 use Rattle.adlb_unit.specs.declared.notes.UnitNote.{UnitNote}
-use Rattle.bag_ledger.specs.declared.entries.Answer.TheVariants.{Fine, Rejected, Ended, Granted, Body}
+use Rattle.bag_ledger.specs.declared.entries.Answer.TheVariants.{Fine, Rejected, Ended, Body}
 use Rattle.bag_ledger.specs.declared.entries.Call.TheVariants.{Reserve, Fetch}
 use Rattle.bag_ledger.specs.declared.entries.Said.{Said}
 use Rattle.rank_client.specs.Calls.{has_finished, is_finish}
@@ -17,7 +16,7 @@ use Rattle.puzzle_app.specs.declared.calls.Reply.{Reply}
 use Rattle.puzzle_app.specs.declared.jobs.Item.{Item}
 use Rattle.puzzle_app.specs.declared.jobs.Job.{Job}
 use Rattle.puzzle_app.specs.declared.jobs.Job.TheVariants.{Puzzle, Batch}
-use Rattle.puzzle_app.specs.Desk.{Brings, Receives, Works}
+use Rattle.puzzle_app.specs.Desk.{Brings, Receives}
 use Rattle.puzzle_app.specs.Follows.{Follows, IsSoFar, all_made, roots_of}
 use Rattle.puzzle_app.specs.Made.{child_of, fetched_unit, is_board, is_solution, made_by, put_of, roots, roots_from}
 use Rattle.puzzle_app.specs.Working.{HasPut, IsGoing, IsStopped, IsTally}

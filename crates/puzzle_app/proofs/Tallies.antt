@@ -1,12 +1,12 @@
 -- What is counted where one more board is worked.
-use Rattle.std.proofs.Common.{◌≡◌, ℕ, suc, ◌+◌, ◌*◌, ◌^◌, ◌≤◌, ◌==◌, Bool, true, false, cond, ◌&&◌, ◌||◌, List, [], ◌∷◌, ◌++◌, length, map, refl, sym, ap, ◌∙◌, subst, arith, inl, inr, ◌⊎◌, count_by, append-nil, zero-le}
-use Rattle.std.specs.List.{flat_map, list_any}
-use Rattle.std.proofs.lemmas.Bool.{cases_Bool, eqb-true, both_ways}
+use Rattle.std.proofs.Common.{◌≡◌, ℕ, ◌+◌, ◌^◌, ◌≤◌, ◌==◌, Bool, true, false, cond, ◌&&◌, ◌||◌, List, [], ◌∷◌, ◌++◌, length, map, refl, sym, ap, ◌∙◌, subst, arith, inl, inr, count_by, append-nil, zero-le}
+use Rattle.std.specs.List.{list_any}
+use Rattle.std.proofs.lemmas.Bool.{cases_Bool, eqb-true}
 use Rattle.std.proofs.lemmas.List.{flat_map_more, length_push}
 use Rattle.std.proofs.lemmas.List.Folds.{list_any-append}
 use Rattle.std.proofs.lemmas.List.Sums.{sum_by-append, sum_by-cons, sum_by_push}
 use Rattle.sudoku_law.specs.Grid.{Cells}
-use Rattle.puzzle_app.specs.Desk.{Works, noted}
+use Rattle.puzzle_app.specs.Desk.{Works}
 use Rattle.puzzle_app.specs.Follows.{AreOvers, all_made, roots_of}
 use Rattle.puzzle_app.specs.Made.{child_of, is_board, is_solution, made_by, roots_from, solution_at, walk_of}
 use Rattle.puzzle_app.specs.Working.{IsTally}

@@ -1,6 +1,5 @@
 -- One more call in a transcript.
-use Rattle.std.proofs.Common.{◌≡◌, ◌∙◌, ap, sym, subst, false, Bool, ◌||◌, List, [], ◌∷◌, ◌++◌, None, refl}
-use Rattle.std.specs.List.{list_any}
+use Rattle.std.proofs.Common.{◌≡◌, ◌∙◌, ap, false, Bool, ◌||◌, List, [], ◌∷◌, ◌++◌}
 use Rattle.std.proofs.lemmas.List.Folds.{list_any-append}
 use Rattle.std.proofs.lemmas.List.Elements.{Contains-push}
 use Rattle.adlb_unit.specs.declared.names.UnitId.{UnitId}

@@ -1,5 +1,5 @@
 -- What the calls of a rank can be, and its outcome.
-use Rattle.std.specs.Prelude.{◌≡◌, ◌<◌, ◌≤◌, ◌^◌, ◌==◌, ◌&&◌, ℕ, List, [], ◌∷◌, ◌++◌, count_by, slice_index}
+use Rattle.std.specs.Prelude.{◌≡◌, ◌<◌, ◌≤◌, ◌^◌, ◌==◌, ◌&&◌, ℕ, List, [], ◌++◌, count_by, slice_index}
 use Rattle.std.specs.List.{flat_map, list_any}
 use Rattle.bag_ledger.specs.declared.entries.Said.{Said}
 use Rattle.puzzle_app.specs.Books.{Books, Goes, going, shut}

@@ -1,5 +1,5 @@
 -- What the work on puzzles makes, and how each unit is put.
-use Rattle.std.specs.Prelude.{ℕ, ◌+◌, ◌-◌, ◌==◌, ◌&&◌, not, ℤ, pos, Bool, true, false, List, [], ◌∷◌, ◌++◌, length, map, drop, count_by, Option, Some, None, option_map, if◌then◌else◌}
+use Rattle.std.specs.Prelude.{ℕ, ◌+◌, ◌-◌, ◌==◌, ◌&&◌, not, pos, Bool, true, false, List, [], ◌∷◌, ◌++◌, length, map, drop, count_by, Option, Some, None, option_map, if◌then◌else◌}
 use Rattle.adlb_unit.specs.declared.names.Rank.{Rank}
 use Rattle.adlb_unit.specs.declared.names.Target.TheVariants.{Any, Only}
 use Rattle.adlb_unit.specs.declared.notes.UnitNote.{UnitNote}
@@ -11,7 +11,6 @@ use Rattle.puzzle_app.specs.Bodies.{board_body, board_of, solution_body, solutio
 use Rattle.puzzle_app.specs.Jobs.{puzzles}
 use Rattle.puzzle_app.specs.declared.jobs.Job.{Job}
 use Rattle.puzzle_app.specs.declared.units.Board.{Board}
-use Rattle.puzzle_app.specs.declared.units.Solution.{Solution}
 use Rattle.puzzle_app.specs.declared.units.Made.{Made}
 use Rattle.puzzle_app.specs.declared.units.Made.TheVariants as made
 

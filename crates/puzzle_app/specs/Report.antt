@@ -1,5 +1,5 @@
 -- The report of the jobs of an input, and what outcomes together hold.
-use Rattle.std.specs.Prelude.{◌≡◌, ℕ, ◌+◌, ◌==◌, Bool, List, [], ◌∷◌, ◌++◌, length, map, filter, codes, decimal, sum_by, slice_index, MatchBool, IsPermutation, if◌then◌else◌}
+use Rattle.std.specs.Prelude.{◌≡◌, ℕ, ◌+◌, ◌==◌, Bool, List, [], ◌∷◌, ◌++◌, length, codes, decimal, sum_by, slice_index, MatchBool, IsPermutation, if◌then◌else◌}
 use Rattle.std.specs.List.{flat_map, list_any}
 use Rattle.sudoku_law.specs.Grid.{Cells, IsGrid}
 use Rattle.sudoku_law.specs.Solutions.{IsSolutionList}

@@ -1,8 +1,6 @@
-use Rattle.std.proofs.Common.{◌≡◌, ◌∙◌, sym, ap, subst, refl, false, List, Ok}
+use Rattle.std.proofs.Common.{◌≡◌, sym, subst, refl, false}
 use Rattle.adlb_unit.specs.declared.notes.UnitNote.{UnitNote}
-use Rattle.bag_ledger.specs.declared.entries.Said.{Said}
 use Rattle.rank_client.specs.Calls.{granted, has_finished, is_fetched}
-use Rattle.puzzle_app.specs.Calls.{grant}
 use Rattle.puzzle_app.proofs.Transcripts.{granted_last, open_more, unfetched_more}
 use Rattle.puzzle_app.proofs.calls.take.Goals as goal
 

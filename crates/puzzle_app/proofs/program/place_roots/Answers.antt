@@ -1,4 +1,4 @@
-use Rattle.std.proofs.Common.{◌≡◌, ◌∙◌, ◌++◌, ap, arith}
+use Rattle.std.proofs.Common.{◌∙◌, ◌++◌, ap, arith}
 use Rattle.puzzle_app.specs.Made.{roots_from}
 use Rattle.puzzle_app.proofs.Steps.{all_passed, batch_passed, none_left, puzzle_counted, puzzle_passed}
 use Rattle.puzzle_app.proofs.program.place_roots.Goals as goal

@@ -1,4 +1,4 @@
-use Rattle.std.proofs.Common.{◌≡◌, ℕ, arith, subst}
+use Rattle.std.proofs.Common.{arith, subst}
 use Rattle.puzzle_app.specs.Report.{AreWhole, IsReport}
 use Rattle.puzzle_app.proofs.Parts.{batch_more, puzzle_more, report_is}
 use Rattle.puzzle_app.proofs.reports.render.Goals as goal

@@ -1,6 +1,4 @@
-use Rattle.std.proofs.Common.{◌≡◌, ◌∙◌, List, [], ◌∷◌, ◌++◌, refl, length, ◌≤◌}
-use Rattle.bag_ledger.specs.declared.entries.Said.{Said}
-use Rattle.puzzle_app.specs.Working.{IsGoing, IsStopped}
+use Rattle.std.proofs.Common.{◌∙◌, refl}
 use Rattle.puzzle_app.specs.declared.calls.Reply.TheVariants as replies
 use Rattle.puzzle_app.specs.declared.desk.Desk.{Desk}
 use Rattle.puzzle_app.proofs.Steps.{Popped, accepted_is, boards_few, found_few, going_so, grows, rejected_is, rejected_so, replied, so_open, stopped_is, stopped_so}

@@ -1,8 +1,7 @@
-use Rattle.std.proofs.Common.{◌≡◌, ◌∙◌, ◌++◌, subst, refl}
+use Rattle.std.proofs.Common.{◌∙◌, subst}
 use Rattle.puzzle_app.specs.Calls.{Takes}
 use Rattle.puzzle_app.specs.Desk.{Brings}
 use Rattle.puzzle_app.specs.Made.{fetched_unit}
-use Rattle.puzzle_app.specs.declared.calls.Taken.TheVariants as takes
 use Rattle.puzzle_app.proofs.Steps.{all_is, boards_few, brought_is, brought_so, empty_so, found_few, part_so, so_open, stopped_so, told_is}
 use Rattle.puzzle_app.proofs.program.PuzzleProgram.work.Goals as goal
 

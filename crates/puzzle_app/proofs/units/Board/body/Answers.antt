@@ -1,4 +1,4 @@
-use Rattle.std.proofs.Common.{◌≡◌, ◌∙◌, ◌++◌, ap, sym, append_assoc}
+use Rattle.std.proofs.Common.{◌∙◌, ◌++◌, ap, sym, append_assoc}
 use Rattle.std.specs.Int.{to_be_bytes, w32, w64}
 use Rattle.puzzle_app.proofs.Bodies.{board_is}
 use Rattle.puzzle_app.proofs.units.Board.body.Goals as goal

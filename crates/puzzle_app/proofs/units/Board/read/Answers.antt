@@ -1,4 +1,4 @@
-use Rattle.std.proofs.Common.{◌≡◌, ◌∙◌, ◌↔◌, ap, sym, subst, take, drop, List, ℕ, Option, Some, None, arith}
+use Rattle.std.proofs.Common.{◌≡◌, ◌∙◌, ◌↔◌, ap, sym, subst, take, drop, List, ℕ, Some, None, arith}
 use Rattle.std.specs.Int.{from_be_bytes, w32, w64}
 use Rattle.sudoku_law.specs.Grid.{IsGrid}
 use Rattle.sudoku_law.specs.Text.{text_of}

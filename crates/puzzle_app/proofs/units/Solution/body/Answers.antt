@@ -1,4 +1,4 @@
-use Rattle.std.proofs.Common.{◌≡◌, ◌∙◌, ◌++◌, ap, sym}
+use Rattle.std.proofs.Common.{◌∙◌, ◌++◌, ap, sym}
 use Rattle.std.specs.Int.{to_be_bytes, w32}
 use Rattle.puzzle_app.proofs.Bodies.{solution_is}
 use Rattle.puzzle_app.proofs.units.Solution.body.Goals as goal

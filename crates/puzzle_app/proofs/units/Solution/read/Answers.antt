@@ -1,4 +1,4 @@
-use Rattle.std.proofs.Common.{◌≡◌, ◌∙◌, ◌↔◌, ap, sym, subst, drop, List, ℕ, Option, Some, None, arith}
+use Rattle.std.proofs.Common.{◌≡◌, ◌∙◌, ◌↔◌, ap, sym, subst, List, ℕ, Some, None, arith}
 use Rattle.std.specs.Int.{from_be_bytes, w32}
 use Rattle.sudoku_law.specs.Grid.{IsGrid}
 use Rattle.sudoku_law.specs.Text.{text_of}
