@@ -1,0 +1,13 @@
+use Rattle.std.proofs.Common.{◌≡◌, ◌-◌, ◌^◌, length, false}
+use Rattle.puzzle_app.specs.Working.{IsGoing}
+use Rattle.puzzle_app.proofs.program.PuzzleProgram.work.Given as goal
+
+abbrev pub invariant-rounds : goal.invariant-rounds
+invariant-rounds g l = record {
+  going : IsGoing l.self (g.A.Adlb.transcript l.link) l.desk;
+  ranks : g.A.Adlb.ranks l.link ≡ g.A.Adlb.ranks l.fn.link;
+  batch : g.A.Adlb.batch l.fn.link ≡ false → g.A.Adlb.batch l.link ≡ false;
+}
+
+abbrev pub decreases-rounds : goal.decreases-rounds
+decreases-rounds g l = 2 ^ 48 - length (g.A.Adlb.transcript l.link)

@@ -1,0 +1,39 @@
+-- What the calls of a rank can be, and its outcome.
+use Rattle.std.specs.Prelude.{◌≡◌, ◌<◌, ◌≤◌, ◌^◌, ◌==◌, ◌&&◌, ℕ, List, [], ◌++◌, count_by, slice_index}
+use Rattle.std.specs.List.{flat_map, list_any}
+use Rattle.bag_ledger.specs.declared.entries.Said.{Said}
+use Rattle.puzzle_app.specs.Books.{Books, Goes, going, shut}
+use Rattle.puzzle_app.specs.Made.{counts, made_by, roots, walk_of}
+use Rattle.puzzle_app.specs.declared.outcomes.PuzzleOutcome.{PuzzleOutcome}
+use Rattle.puzzle_app.specs.declared.program.PuzzleProgram.{PuzzleProgram}
+use Rattle.puzzle_app.specs.declared.units.Board.{Board}
+use Rattle.puzzle_app.specs.declared.units.Made.{Made}
+
+-- the numbers are those of the puzzles of which a worked board met an over node, each once
+pub record AreOvers (grain : ℕ) (worked : List Board) (overs : List ℕ) : Type 0 where
+  pub once : (n : ℕ) → count_by (λ x. x == n) overs ≤ 1
+  pub each : (n : ℕ) → list_any (λ x. x == n) overs ≡ list_any (λ (b : Board). (b.puzzle == n) && (walk_of grain b).over) worked
+
+-- what a program makes first
+abbrev pub roots_of : PuzzleProgram → List Made
+roots_of p = roots p.settings.budget p.jobs
+
+-- all that a program makes, accepted or not, where it works these boards
+abbrev pub all_made : PuzzleProgram → List Board → List Made
+all_made p worked = roots_of p ++ flat_map (made_by p.settings.grain) worked
+
+-- the calls that a rank with this program can have made
+pub record IsSoFar (p : PuzzleProgram) (said : List Said) : Type 0 where
+  pub last : Books
+  pub goes : Goes p.settings.grain (going (roots_of p) [] []) said last
+
+-- the calls that it has made at its end, which was told, and its outcome: the solutions that stay with it, the numbers of the
+-- puzzles that are over, and how many units it made; what still waited then was put nowhere
+pub record Follows (p : PuzzleProgram) (said : List Said) (outcome : PuzzleOutcome) : Type 0 where
+  pub left : List Made
+  pub worked : List Board
+  pub goes : Goes p.settings.grain (going (roots_of p) [] []) said (shut left worked outcome.solutions.items)
+  pub overs : AreOvers p.settings.grain worked outcome.overs.items
+  pub answers : outcome.answers.items ≡ []
+  pub made : outcome.made ≡ counts (all_made p worked)
+  pub few : (k : ℕ) → slice_index outcome.made k < 2 ^ 113

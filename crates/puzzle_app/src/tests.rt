@@ -1,0 +1,117 @@
+//! Bodies, inputs, and the program of one rank over a link that has no other.
+
+mod fake;
+
+use crate::jobs::{JobsFault, LineWhy, read_jobs};
+use crate::outcomes::{PuzzleOutcome, Settings};
+use crate::program::PuzzleProgram;
+use crate::reports::render;
+use crate::units::{Board, Solution};
+use adlb_unit::Rank;
+use fake::Fake;
+use rank_client::RankProgram;
+use std::alloc::Global;
+use std::test::Fail;
+use sudoku_rules::parse81;
+
+/// The settings of a run without options.
+const SETTINGS: Settings = Settings {
+    budget: 0x100_0000,
+    grain: 0x1_0000,
+};
+
+/// A puzzle in which every cell is forced.
+const FORCED: &str =
+    "530070000600195000098000060800060003400803001700020006060000280000419005000080079";
+
+/// Its solution.
+const FULL: &str =
+    "534678912672195348198342567859761423426853791713924856961537284287419635345286179";
+
+/// The solution with two columns of two rows blank.
+const TWO: &str =
+    "534678912672195348198342567859760420426850790713924856961537284287419635345286179";
+
+/// The other solution of that.
+const OTHER: &str =
+    "534678912672195348198342567859763421426851793713924856961537284287419635345286179";
+
+#[test]
+fn bodies_are_read_back(rt: HostRuntime) -> Result<(), Fail> {
+    let grid = parse81(TWO.as_bytes())?;
+    let board = Board {
+        puzzle: 1,
+        budget: 0x100_0000,
+        grid,
+    };
+    let body = board.body(rt.alloc())?;
+    let front = [0, 0, 0, 1, 0, 0, 0, 0, 1, 0, 0, 0];
+    assert_eq!(rt; body.len(), 93);
+    assert_eq!(rt; &body.bytes()[..12], front.as_slice());
+    assert_eq!(rt; &body.bytes()[12..], TWO.as_bytes());
+    assert!(rt; Board::read(body.bytes()) == Some(board));
+    assert!(rt; Board::read(&body.bytes()[1..]) == None);
+
+    let child = Board {
+        puzzle: 1,
+        budget: 0x7f_ffff,
+        grid,
+    };
+    let budget = [0, 0, 0, 0, 0, 0x7f, 0xff, 0xff];
+    assert_eq!(rt; &child.body(rt.alloc())?.bytes()[4..12], budget.as_slice());
+
+    let solution = Solution { puzzle: 258, grid };
+    let body = solution.body(rt.alloc())?;
+    assert_eq!(rt; body.len(), 85);
+    assert_eq!(rt; &body.bytes()[..4], [0, 0, 1, 2].as_slice());
+    assert!(rt; Solution::read(body.bytes()) == Some(solution));
+    assert!(rt; Board::read(body.bytes()) == None);
+    Ok(())
+}
+
+#[test]
+fn refuses_other_inputs(rt: HostRuntime) -> Result<(), Fail> {
+    let lines = format!(in rt.alloc(); "{FORCED}\n\n")?;
+    for bytes in [b"".as_slice(), &FORCED.as_bytes()[..80], lines.as_bytes()] {
+        let refused = JobsFault::Refused {
+            line: 1,
+            why: LineWhy::Later,
+        };
+        assert!(rt; read_jobs(rt.alloc(), bytes).err() == Some(refused));
+        let text = refused.to_string(rt.alloc())?;
+        assert_eq!(rt; text.as_str(), "line 1: later");
+    }
+    Ok(())
+}
+
+// The report of a run of one rank on this puzzle, where each put of so many is rejected.
+fn report_on(alloc: Global, puzzle: &str, every: u64) -> Result<String, Fail> {
+    let jobs = read_jobs(alloc, puzzle.as_bytes())?;
+    let shown = read_jobs(alloc, puzzle.as_bytes())?;
+    let program = PuzzleProgram::new(alloc, SETTINGS, Some(jobs));
+    let mut link = Fake::new(alloc, every);
+    let Ok(outcome) = program.run(Rank(0), &mut link) else {
+        return Err("no outcome".into());
+    };
+    let mut outcomes = Vec::new(alloc);
+    outcomes.push(outcome)?;
+    let text = render(alloc, &shown, &outcomes)?;
+    Ok(String::from_utf8(text).unwrap_or(String::new(alloc)))
+}
+
+#[test]
+fn one_rank_writes_the_report(rt: HostRuntime) -> Result<(), Fail> {
+    let one = format!(in rt.alloc();
+        "puzzle 1 solutions 1\n{FULL}\ntotals\nboard 1\nsolution 1\njob 0\nanswer 0\n"
+    )?;
+    let two = format!(in rt.alloc();
+        "puzzle 1 solutions 2\n{FULL}\n{OTHER}\ntotals\nboard 3\nsolution 2\njob 0\nanswer 0\n"
+    )?;
+    for every in [0, 1, 2] {
+        let text = report_on(rt.alloc(), FORCED, every)?;
+        assert_eq!(rt; text.as_str(), one.as_str(), "rejects every {every}");
+        let text = report_on(rt.alloc(), TWO, every)?;
+        assert_eq!(rt; text.as_str(), two.as_str(), "rejects every {every}");
+    }
+    Ok(())
+}
