@@ -1,5 +1,5 @@
 -- The rule of a letter that the pending call awaits.
-use Rattle.std.proofs.Common.{◌≡◌, ◌≤◌, ◌<◌, ◌+◌, ◌∷◌, ◌++◌, [], ◌^◌, ◌⊎◌, inl, inr, ℕ, List, Option, Some, None, All, length, get_or, set, Bool, true, false, ◌&&◌, not, refl, arith, ap, sym, subst, ◌∙◌, ltb}
+use Rattle.std.proofs.Common.{◌≡◌, ◌≤◌, ◌<◌, ◌+◌, ◌∷◌, ◌++◌, [], ◌^◌, ◌⊎◌, inl, inr, ℕ, List, Option, Some, None, length, get_or, set, Bool, true, false, ◌&&◌, not, refl, arith, ap, subst, ◌∙◌}
 use Rattle.std.proofs.Math.ListN.{length-set}
 use Rattle.std.proofs.lemmas.List.{length_push}
 use Rattle.std.specs.Prelude.{if◌then◌else◌, IsSome, nat_le, nat_lt, slice_index_or, slice_set}
@@ -24,7 +24,7 @@ use Rattle.rank_client.specs.declared.pendings.Pending.TheVariants as waits_for
 use Rattle.rank_client.specs.Inside.{IsFresh, IsSound}
 use Rattle.rank_client.specs.Rules.{Response, answer_call, asked, ends, expects_note, is_for, refused}
 use Rattle.rank_client.specs.State.{State, behind, home}
-use Rattle.rank_client.specs.Step.{Made, hear, letter_stamp, letter_trouble, made, sending, ticked, told_trouble}
+use Rattle.rank_client.specs.Step.{hear, letter_stamp, letter_trouble, made, sending, ticked, told_trouble}
 use Rattle.rank_client.proofs.Insides.{first_letter}
 
 -- the note of a grant that is awaited names a server

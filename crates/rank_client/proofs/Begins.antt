@@ -1,18 +1,15 @@
 -- What a step does with a call.
-use Rattle.std.proofs.Common.{◌≡◌, ℕ, ◌+◌, ◌^◌, List, [], ◌∷◌, ◌++◌, length, Option, Some, None, Bool, true, false, ◌&&◌, not, refl, ap, sym, ◌∙◌, append-nil, subst, map, find, filter, ℤ}
-use Rattle.std.specs.Prelude.{if◌then◌else◌, IsFalse, IfSome, All, is_none, nat_le}
+use Rattle.std.proofs.Common.{◌≡◌, ℕ, ◌+◌, ◌^◌, List, [], ◌∷◌, ◌++◌, length, Option, Some, None, Bool, true, false, ◌&&◌, not, refl, ap, sym, ◌∙◌, append-nil, subst, find, filter, ℤ}
+use Rattle.std.specs.Prelude.{if◌then◌else◌, IsFalse, All, is_none, nat_le}
 use Rattle.std.specs.Option.{option_map}
 use Rattle.std.proofs.lemmas.Bool.{and_parts, not-true}
 use Rattle.std.proofs.lemmas.List.Elements.{All-push, All-filter, All-same, All-head, All-tail}
-use Rattle.adlb_unit.specs.declared.messages.Message.{Message}
 use Rattle.adlb_unit.specs.declared.names.Rank.{Rank}
-use Rattle.adlb_unit.specs.declared.names.Server.{Server}
 use Rattle.adlb_unit.specs.declared.names.Target.{Target}
 use Rattle.adlb_unit.specs.declared.names.UnitId.{UnitId}
 use Rattle.adlb_unit.specs.declared.names.WorkType.{WorkType}
 use Rattle.adlb_unit.specs.declared.notes.End.{End}
 use Rattle.adlb_unit.specs.declared.notes.UnitNote.{UnitNote}
-use Rattle.adlb_unit.specs.declared.units.Unit.{Unit}
 use Rattle.bag_ledger.specs.declared.entries.Answer.TheVariants as answers
 use Rattle.bag_ledger.specs.declared.entries.Call.{Call}
 use Rattle.bag_ledger.specs.declared.entries.Call.TheVariants as calls_to
@@ -127,8 +124,7 @@ over_follows same s b entry call end f status free told step silent begun opens 
     let stops : Steps middle over last = step_of middle over free.none (record (running s) { status = status; next = s.next + 1 }, now, opens, cause) in
     let told_so : says middle over ≡ Some (s.me, record { call = call; answer = answers.Ended end }) = rw (now, calls) refl in
     let runs : rank_at last s.me ≡ Some (record (running s) { next = s.next + 1; end = Some end }) =
-        rank_changed middle s.me (λ r. ended (record r { end = Some end })) (record (running s) { status = status; next = s.next + 1 }) now in
-    (
+    rank_changed middle s.me (λ r. ended (record r { end = Some end })) (record (running s) { status = status; next = s.next + 1 }) now in (
       last,
       (middle, step, (last, stops, refl)),
       free_agrees _ last refl free.going (rw told runs) free.servers free.caused free.held,
@@ -218,8 +214,7 @@ fetch_follows same s b id (Some note) free is =
 finish_follows : IsSame → (s : State) (b : Bag) → IsFree s b → s.batch ≡ None → Follows s None b (bare (finish s))
 finish_follows same s b free alone =
     let legal : Legal b (enters.Finished s.me s.next) = (running s, (free.rank, refl, refl), alone) in
-    let step : Steps b (enters.Finished s.me s.next) (with_rank s.me (begun does.Finished) b) = step_of b (enters.Finished s.me s.next) free.none legal in
-    (
+    let step : Steps b (enters.Finished s.me s.next) (with_rank s.me (begun does.Finished) b) = step_of b (enters.Finished s.me s.next) free.none legal in (
       with_rank s.me (begun does.Finished) b,
       (with_rank s.me (begun does.Finished) b, step, refl),
       record {

@@ -1,5 +1,5 @@
 -- The rule of a call for which the rank is ready.
-use Rattle.std.proofs.Common.{◌≡◌, ◌^◌, ℕ, List, length, Option, Some, None, Result, Ok, Err, Bool, true, false, ◌&&◌, ℤ, ap, sym, subst, refl, ◌∙◌}
+use Rattle.std.proofs.Common.{◌≡◌, ◌^◌, ℕ, List, length, Option, Some, None, Result, Ok, Err, Bool, true, false, ◌&&◌, ℤ, ap, refl, ◌∙◌}
 use Rattle.std.specs.Prelude.{if◌then◌else◌, IfOk, IsSome, nat_le}
 use Rattle.std.specs.Option.{option_map}
 use Rattle.adlb_unit.specs.declared.names.NoMemory.{NoMemory}

@@ -1,5 +1,5 @@
 -- What one entry of a rank makes of its state in the bag, and what it says of it.
-use Rattle.std.proofs.Common.{◌≡◌, ℕ, zero, suc, ◌↔◌, List, [], ◌∷◌, ◌++◌, Option, Some, None, Bool, true, false, refl, ap, sym, ◌∙◌, append-nil, ◌==◌, ◌&&◌}
+use Rattle.std.proofs.Common.{◌≡◌, ℕ, zero, suc, ◌↔◌, List, [], ◌∷◌, ◌++◌, Some, None, Bool, true, false, refl, ap, ◌∙◌, append-nil, ◌==◌}
 use Rattle.std.specs.Prelude.{slice_get, IsTrue, IsFalse, ◌||◌, not}
 use Rattle.std.proofs.lemmas.Bool.{and_parts, eq-eqb, eqb-true}
 use Rattle.adlb_unit.specs.declared.names.Rank.{Rank}
@@ -8,9 +8,9 @@ use Rattle.bag_ledger.specs.declared.entries.Entry.{Entry}
 use Rattle.bag_ledger.specs.declared.entries.Said.{Said}
 use Rattle.bag_ledger.specs.declared.states.RankState.{RankState}
 use Rattle.bag_ledger.specs.Bag.{Bag, rank_at, has_due, same_unit}
-use Rattle.bag_ledger.specs.Runs.{IsRun, calls_from, calls_after, said_by, says}
+use Rattle.bag_ledger.specs.Runs.{calls_from, calls_after, said_by, says}
 use Rattle.bag_ledger.specs.Step.{step}
-use Rattle.bag_ledger.specs.Steps.{Steps, Legal, after, change_at, in_turn, is_freeing, with_rank}
+use Rattle.bag_ledger.specs.Steps.{Steps, Legal, after, change_at, is_freeing, with_rank}
 
 -- the function is the relation
 abbrev pub IsSame : Type 0

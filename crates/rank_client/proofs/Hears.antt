@@ -1,5 +1,5 @@
 -- What a step does with a letter.
-use Rattle.std.proofs.Common.{◌≡◌, ◌<◌, ◌≤◌, ℕ, ◌+◌, ◌^◌, ◌==◌, List, [], ◌∷◌, ◌++◌, length, Option, Some, None, Bool, true, false, ◌&&◌, not, refl, ap, sym, ◌∙◌, append-nil, arith}
+use Rattle.std.proofs.Common.{◌≡◌, ◌≤◌, ℕ, ◌+◌, ◌^◌, ◌==◌, List, [], ◌∷◌, ◌++◌, length, Option, Some, None, Bool, true, false, ◌&&◌, not, refl, ap, sym, ◌∙◌, append-nil}
 use Rattle.std.specs.Prelude.{if◌then◌else◌, IsFalse, All, nat_lt}
 use Rattle.std.specs.Option.{option_map}
 use Rattle.std.proofs.lemmas.Bool.{and_parts, not-true, ltb-false}
@@ -23,7 +23,7 @@ use Rattle.bag_ledger.specs.Steps.{Legal, Steps, ended, with_rank}
 use Rattle.rank_client.specs.declared.pendings.Pending.{Pending}
 use Rattle.rank_client.specs.declared.pendings.Pending.TheVariants as waits_for
 use Rattle.rank_client.specs.Agreement.{Agrees, Follows, IsCaused, IsHeld, in_call, note_coming, putting, running, said}
-use Rattle.rank_client.specs.Rules.{Response, answer_call, asked, call_of, ends, expects_note, is_for, refused}
+use Rattle.rank_client.specs.Rules.{answer_call, asked, call_of, ends, expects_note, is_for, refused}
 use Rattle.rank_client.specs.State.{State, home}
 use Rattle.rank_client.specs.Step.{Made, hear, letter_stamp, made, ticked}
 use Rattle.rank_client.proofs.Begins.{Holds, LawOf, bare, free_agrees, law_of_made}
@@ -70,8 +70,7 @@ refusal same s b unit first tried to charge false more a =
     let all = all_asked s.config first (tried + 1) b (putting s unit first (tried + 1)) a.servers enough refl in
     let legal : Legal b entry = (putting s unit first (tried + 1), length unit.body, a.rank, refl, all) in
     let step : Steps b entry (with_rank s.me ended b) = step_of b entry a.none legal in
-    let told : says b entry ≡ Some (s.me, record { call = call_of unit; answer = answers.Rejected }) = rw a.rank refl in
-    (
+    let told : says b entry ≡ Some (s.me, record { call = call_of unit; answer = answers.Rejected }) = rw a.rank refl in (
       with_rank s.me ended b,
       (with_rank s.me ended b, step, refl),
       free_agrees _ (with_rank s.me ended b) refl a.going (rank_changed b s.me ended (putting s unit first (tried + 1)) a.rank) a.servers a.caused (alone s b a.held),

@@ -1,8 +1,7 @@
 -- The fields of a client stay sound.
-use Rattle.std.proofs.Common.{◌≡◌, ◌≤◌, ◌<◌, ◌+◌, ◌∷◌, ◌++◌, [], ℕ, List, All, length, get_or, set, refl, arith, false, Result, Ok, Err, Some, ◌∙◌, ap, sym, subst, filter, not}
+use Rattle.std.proofs.Common.{◌≡◌, ◌≤◌, ◌<◌, ◌+◌, ℕ, List, length, get_or, set, arith, false, Result, Ok, Err, Some, ◌∙◌, ap, sym, subst, filter, not}
 use Rattle.std.proofs.Math.ListN.{length-set}
 use Rattle.std.specs.Prelude.{OnOk, is_err}
-use Rattle.std.specs.Vec.{vec_len, vec_capacity}
 use Rattle.std.proofs.lemmas.List.Elements.{All-filter, All-get_or, All-same, All-set, All-weaker}
 use Rattle.adlb_unit.specs.declared.configs.Config.{Config}
 use Rattle.adlb_unit.specs.declared.messages.Message.TheVariants as tells
@@ -94,7 +93,7 @@ pub fetched_gives : (s at now : State) (id : UnitId) (note : UnitNote) (x : Clie
     → notes ≡ filter (λ n. not (same_unit n.id id)) now.handles → made (fetched s id note) ≡ gives (record now { handles = notes }) x
 fetched_gives s at now id note x notes at_is gave is =
     let e : made (asks s (enters.Fetching s.me s.next id) note.server (tells.Fetch s.next id) (waits_for.Fetch s.next note)) ≡ gives now x =
-        subst (λ (a : State). made (asks s (enters.Fetching a.me a.next id) note.server (tells.Fetch a.next id) (waits_for.Fetch a.next note)) ≡ gives now x) at_is gave in
+    subst (λ (a : State). made (asks s (enters.Fetching a.me a.next id) note.server (tells.Fetch a.next id) (waits_for.Fetch a.next note)) ≡ gives now x) at_is gave in
     let same : s.handles ≡ now.handles = ap (λ (m : Made). m.state.handles) e in
     let without : List UnitNote → List UnitNote = λ all. filter (λ n. not (same_unit n.id id)) all in
     ap (λ (m : Made). record m { state = record m.state { handles = without s.handles } }) e

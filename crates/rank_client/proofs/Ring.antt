@@ -1,6 +1,6 @@
 -- So many servers in ring order as there are servers are all of them.
-use Rattle.std.proofs.Common.{◌≡◌, ◌<◌, ◌≤◌, ◌+◌, ◌-◌, ◌*◌, ◌/◌, ◌%◌, ℕ, ◌⊎◌, Bool, true, List, [], ◌∷◌, map, length, get_or, refl, ap, ◌∙◌, sym, arith, eqb, ◌==◌, inl, inr}
-use Rattle.std.specs.List.{range_with_len, list_all, list_any}
+use Rattle.std.proofs.Common.{◌≡◌, ◌<◌, ◌≤◌, ◌+◌, ◌-◌, ◌*◌, ◌/◌, ◌%◌, ℕ, ◌⊎◌, true, length, get_or, ap, ◌∙◌, arith, ◌==◌, inl, inr}
+use Rattle.std.specs.List.{range_with_len, list_any}
 use Rattle.std.proofs.lemmas.Bool.{cases_lt, eq-eqb}
 use Rattle.std.proofs.lemmas.List.Elements.{All-from_get_or}
 use Rattle.std.proofs.lemmas.List.Folds.{list_any_at}
@@ -42,8 +42,9 @@ all_asked config first n b r servers enough is =
         let short : j.0 < n = omega (arith, j.1) in
         let long : j.0 < length (ring_from config first n) = rw (length-map-range_with_len (behind config first) 0 n) short in
         let there : get_or (ring_from config first n) j.0 first ≡ behind config first j.0 =
-            get_or-map-range_with_len (behind config first) 0 n j.0 j.0 first short (omega arith) in
+        get_or-map-range_with_len (behind config first) 0 n j.0 j.0 first short (omega arith) in
         list_any_at (λ (s : Server). s.0 == k) (ring_from config first n) j.0 first long (rw there (eq-eqb ((first.0 + j.0) % config.servers) k j.2))
+
     at : (i : ℕ) → i < length (range_with_len 0 b.servers) → list_any (λ (s : Server). s.0 == get_or (range_with_len 0 b.servers) i 0) r.declined ≡ true
     at i within =
         let short : i < b.servers = rw (length-range_with_len 0 b.servers) at within in

@@ -1,7 +1,6 @@
 -- What a call answers, and what it adds to a transcript.
 use Rattle.std.specs.Prelude.{ℕ, ◌≡◌, ◌<◌, ◌⊎◌, List, [], ◌∷◌, ◌++◌, Option, Some, None, Bool, true, false, Result, Ok, Err, MatchOption, Contains}
 use Rattle.std.specs.List.{list_any}
-use Rattle.adlb_unit.specs.declared.names.Rank.{Rank}
 use Rattle.adlb_unit.specs.declared.names.Target.{Target}
 use Rattle.adlb_unit.specs.declared.names.Target.TheVariants.{Any, Only}
 use Rattle.adlb_unit.specs.declared.names.UnitId.{UnitId}

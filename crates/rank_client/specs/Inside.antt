@@ -1,14 +1,11 @@
 -- The fields of a client.
-use Rattle.std.specs.Prelude.{◌≡◌, ℕ, ◌+◌, ◌<◌, ◌≤◌, ◌^◌, List, [], length, Bool, true, false, All}
+use Rattle.std.specs.Prelude.{◌≡◌, ℕ, ◌+◌, ◌<◌, ◌≤◌, ◌^◌, [], length, Bool, true, false, All}
 use Rattle.std.specs.Vec.{vec_len, vec_capacity}
 use Rattle.adlb_unit.specs.declared.configs.Config.{Config}
-use Rattle.bag_ledger.specs.declared.entries.Entry.{Entry}
-use Rattle.adlb_unit.specs.declared.letters.Sending.{Sending}
 use Rattle.rank_client.specs.declared.clients.ClientCore.TheInside.{Inside}
 use Rattle.rank_client.specs.declared.pendings.Pending.{Pending}
 use Rattle.rank_client.specs.declared.pendings.Pending.TheVariants as waits_for
 use Rattle.rank_client.specs.declared.rooms.Room.{Room}
-use Rattle.rank_client.specs.declared.rooms.Farewell.{Farewell}
 use Rattle.rank_client.specs.declared.steps.ClientStep.{ClientStep}
 use Rattle.rank_client.specs.State.{State}
 use Rattle.rank_client.specs.Step.{Made}

@@ -17,7 +17,8 @@ use crate::pendings::Pending;
 use crate::rooms::{Farewell, Offer, Room};
 use crate::steps::ClientStep;
 use adlb_unit::{
-    End, Message, NoMemory, Payload, Sending, Server, Target, Trouble, Types, Unit, UnitId, UnitNote,
+    End, Message, NoMemory, Payload, Sending, Server, Target, Trouble, Types, Unit, UnitId,
+    UnitNote,
 };
 use bag_ledger::{Answer, Call, Entry, Said};
 use std::alloc::Global;
@@ -236,7 +237,14 @@ impl ClientCore {
     }
 
     // The call begins: it goes to a server, and waits for its answer.
-    fn ask(&mut self, entry: Entry, to: Server, message: Message, pending: Pending, room: Room) -> Result<ClientStep, NoMemory>
+    fn ask(
+        &mut self,
+        entry: Entry,
+        to: Server,
+        message: Message,
+        pending: Pending,
+        room: Room,
+    ) -> Result<ClientStep, NoMemory>
         requires free { is_free self.old ≡ true }
         requires fresh { IsFresh self.old }
         requires server { to.0 < self.old.config.servers }
@@ -315,7 +323,13 @@ impl ClientCore {
             types: types.twin(),
         };
         let room = Room::none(self.alloc);
-        self.ask(entry, home, message, Pending::Reserve { request, types }, room)
+        self.ask(
+            entry,
+            home,
+            message,
+            Pending::Reserve { request, types },
+            room,
+        )
     }
 
     // Asks the unit's server for its bytes.
@@ -339,7 +353,13 @@ impl ClientCore {
             entries: Vec::new(self.alloc),
         };
         let message = Message::Fetch { request, id };
-        let step = self.ask(entry, note.server, message, Pending::Fetch { request, note }, room)?;
+        let step = self.ask(
+            entry,
+            note.server,
+            message,
+            Pending::Fetch { request, note },
+            room,
+        )?;
         drop_note(&mut self.handles, id);
         Ok(step)
     }

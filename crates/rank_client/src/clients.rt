@@ -9,7 +9,8 @@ ghost use Rattle.rank_client.specs.Step.{sending};
 use crate::pendings::Pending;
 use crate::rooms::{Farewell, Room};
 use adlb_unit::{
-    Actor, CommonRef, Config, End, Letter, Message, NoMemory, Rank, Sending, Server, Trouble, UnitNote,
+    Actor, CommonRef, Config, End, Letter, Message, NoMemory, Rank, Sending, Server, Trouble,
+    UnitNote,
 };
 use bag_ledger::Said;
 use std::alloc::Global;

@@ -7,7 +7,8 @@ use crate::clients::{ClientCore, behind};
 use crate::pendings::Pending;
 use crate::steps::ClientStep;
 use adlb_unit::{
-    Actor, Config, End, Letter, Message, Payload, Rank, Server, Target, Trouble, Types, UnitId, UnitNote, WorkType,
+    Actor, Config, End, Letter, Message, Payload, Rank, Server, Target, Trouble, Types, UnitId,
+    UnitNote, WorkType,
 };
 use bag_ledger::{Answer, Call, Entry};
 use std::alloc::Global;
@@ -97,7 +98,9 @@ fn reserve() -> Call {
 
 // The step sends one letter, to this server.
 fn asks(step: &ClientStep, server: u32) -> bool {
-    step.sends.len() == 1 && step.sends[0].to == Actor::Server(Server(server)) && step.answer.is_none()
+    step.sends.len() == 1
+        && step.sends[0].to == Actor::Server(Server(server))
+        && step.answer.is_none()
 }
 
 #[test]

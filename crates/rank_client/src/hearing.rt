@@ -85,8 +85,7 @@ impl ClientCore {
         ensures ok { option_map made (answer_call self.old self.old.pending from message) ≡ Some (gives self.new result) }
         ensures stamp { result.stamp ≡ self.new.clock }
     {
-        let Pending::Put { unit, first, tried } =
-            mem::replace(&mut self.pending, Pending::Nothing)
+        let Pending::Put { unit, first, tried } = mem::replace(&mut self.pending, Pending::Nothing)
         else {
             unreachable!()
         };
@@ -154,7 +153,8 @@ impl ClientCore {
         ensures ok { option_map made (answer_call self.old self.old.pending from message) ≡ Some (gives self.new result) }
         ensures stamp { result.stamp ≡ self.new.clock }
     {
-        let Pending::Reserve { types, .. } = mem::replace(&mut self.pending, Pending::Nothing) else {
+        let Pending::Reserve { types, .. } = mem::replace(&mut self.pending, Pending::Nothing)
+        else {
             unreachable!()
         };
         let call = Call::Reserve { types };

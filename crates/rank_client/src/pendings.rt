@@ -8,9 +8,19 @@ pub enum Pending {
     /// No call is pending.
     Nothing,
     /// The unit is offered to one server after the other.
-    Put { unit: Unit, first: Server, tried: u32 },
+    Put {
+        unit: Unit,
+        first: Server,
+        tried: u32,
+    },
     /// The home looks for a unit of these types.
-    Reserve { request: u64, types: Types },
+    Reserve {
+        request: u64,
+        types: Types,
+    },
     /// The unit's server is asked for its bytes.
-    Fetch { request: u64, note: UnitNote },
+    Fetch {
+        request: u64,
+        note: UnitNote,
+    },
 }

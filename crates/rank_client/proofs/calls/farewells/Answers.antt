@@ -1,5 +1,5 @@
-use Rattle.std.proofs.Common.{◌≡◌, ◌≤◌, ◌<◌, ◌+◌, ◌∙◌, arith, ap, ℕ, All, get_or, length}
-use Rattle.std.proofs.Math.ListN.{set, length-set}
+use Rattle.std.proofs.Common.{◌≤◌, ◌<◌, ◌∙◌, arith, ap, ℕ, get_or, length}
+use Rattle.std.proofs.Math.ListN.{length-set}
 use Rattle.std.proofs.lemmas.List.Elements.{All-same, All-set}
 use Rattle.rank_client.proofs.Farewells.{later_kept, one_more}
 use Rattle.rank_client.proofs.calls.farewells.Goals as goal

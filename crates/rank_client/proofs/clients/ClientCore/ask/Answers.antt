@@ -1,6 +1,6 @@
-use Rattle.std.proofs.Common.{◌≡◌, ◌<◌, ◌≤◌, ◌+◌, ℕ, arith, rules, length, subst, sym, ◌∙◌}
+use Rattle.std.proofs.Common.{◌<◌, ◌≤◌, ◌+◌, arith, subst, sym, ◌∙◌}
 use Rattle.std.specs.Vec.{vec_len, vec_capacity}
-use Rattle.rank_client.specs.Inside.{HasRoom, IsFresh, awaited, state_of}
+use Rattle.rank_client.specs.Inside.{HasRoom, IsFresh, state_of}
 use Rattle.rank_client.specs.State.{State}
 use Rattle.rank_client.proofs.Insides.{asked_sound, awaited_few, first_letter, on_ok, room_with}
 use Rattle.rank_client.proofs.clients.ClientCore.ask.Goals as goal

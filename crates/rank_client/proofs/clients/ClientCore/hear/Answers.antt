@@ -1,11 +1,11 @@
-use Rattle.std.proofs.Common.{◌≡◌, ◌∙◌, ◌<◌, ◌≤◌, ◌+◌, ◌^◌, ℕ, None, Some, Option, ap, sym, subst, arith}
+use Rattle.std.proofs.Common.{◌≡◌, ◌∙◌, ◌<◌, ◌+◌, ◌^◌, None, Some, ap, sym, subst, arith}
 use Rattle.std.specs.Prelude.{IsSome, ◌⊎◌}
 use Rattle.std.specs.Option.{option_map}
 use Rattle.rank_client.specs.Inside.{gives, state_of}
 use Rattle.rank_client.specs.Rules.{answer_call}
 use Rattle.rank_client.specs.State.{State}
 use Rattle.rank_client.specs.Step.{hear, letter_stamp, letter_trouble, made, ticked, told_trouble}
-use Rattle.rank_client.proofs.Awaited.{IsHeard, hear_is, heard_is, no_trouble, none_left}
+use Rattle.rank_client.proofs.Awaited.{hear_is, heard_is, no_trouble, none_left}
 use Rattle.rank_client.proofs.Insides.{ticks}
 use Rattle.rank_client.proofs.clients.ClientCore.hear.Goals as goal
 

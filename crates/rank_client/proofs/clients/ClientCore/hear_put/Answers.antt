@@ -1,10 +1,10 @@
-use Rattle.std.proofs.Common.{◌≡◌, ◌∙◌, ◌<◌, ◌≤◌, ◌+◌, ℕ, List, [], All, MatchOption, Some, ap, sym, subst, arith, false}
+use Rattle.std.proofs.Common.{◌≡◌, ◌∙◌, ◌+◌, ℕ, List, MatchOption, Some, ap, sym, subst, arith}
 use Rattle.std.specs.Prelude.{IsSome}
-use Rattle.std.specs.Option.{IfSome, option_map}
+use Rattle.std.specs.Option.{option_map}
 use Rattle.std.specs.Vec.{vec_len, vec_capacity}
 use Rattle.std.proofs.lemmas.List.Elements.{All-pop}
 use Rattle.rank_client.specs.declared.pendings.Pending.{Pending}
-use Rattle.rank_client.specs.Inside.{HasRoom, IsFresh, awaited, gives, state_of}
+use Rattle.rank_client.specs.Inside.{HasRoom, IsFresh, awaited, state_of}
 use Rattle.rank_client.specs.Rules.{answer_call}
 use Rattle.rank_client.specs.State.{State}
 use Rattle.rank_client.specs.Step.{made}
@@ -43,5 +43,5 @@ returns-in-Some-clause-ok c =
     let same = c.unit_with-next.ensures ∙ ap (λ (body : List ℕ). record c.in-Put.unit { body = body }) (c.offer.view_is ∙ popped.1) in
     let rule = refused_next now c.self.inside.pending c.in-Put.unit c.in-Put.first c.in-Put.tried c.args.from c.args.message c.in-Full.request c.in-Full.charge pending c.in-Full.is c.if-tried-self.true expected in
     let gave = retry_gives now c.in-Put.unit c.unit_with-next.result c.in-Put.first c.behind-to.result c.in-Put.tried c.write.result c.push_reserved-in-Full.new.self.items c.offer.inside.sends.items c.new-entries.result.items c.write.new.sent.items
-        c.behind-to.ensures.behind same c.write.ensures.counted c.write.ensures.letter c.offer.invariant.1 c.push_reserved-in-Full.ensures.items c.new-entries.ensures.items in
+    c.behind-to.ensures.behind same c.write.ensures.counted c.write.ensures.letter c.offer.invariant.1 c.push_reserved-in-Full.ensures.items c.new-entries.ensures.items in
     ap (λ (s : State). option_map made (answer_call s s.pending c.args.from c.args.message)) (sym c.self.view_is) ∙ ap (λ o. option_map made o) rule ∙ ap Some gave
