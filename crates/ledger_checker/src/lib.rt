@@ -16,3 +16,6 @@ mod reading;
 mod units;
 
 pub use checking::first_illegal;
+
+#[cfg(test)]
+mod tests;
