@@ -11,9 +11,6 @@ use std::marker::Model;
 use sudoku_rules::{Grid, parse81};
 use thiserror::Error;
 
-/// The most bytes of an input.
-const MOST: usize = 0x100_0000;
-
 /// What is asked of the bytes of a batch: how many are from `lo` to `hi`, their sum, or the greatest.
 #[derive(Clone, Copy, Debug, PartialEq, Eq)]
 pub enum Item {
@@ -100,7 +97,7 @@ pub enum JobsFault {
     Memory,
 }
 
-/// Reads the jobs of an input of at most 2^24 bytes (`AreJobs`). Today it is refused, at line 1 as `Later`, exactly
+/// Reads the jobs of an input (`AreJobs`). Today it is refused, at line 1 as `Later`, exactly
 /// where it is not one puzzle line; `Memory` may come of any input that is read.
 pub fn read_jobs(alloc: Global, bytes: &[u8]) -> Result<Jobs, JobsFault>
     ensures jobs { IfOk result (AreJobs bytes.now) }

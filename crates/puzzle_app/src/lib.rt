@@ -3,6 +3,7 @@
 //! `read_jobs` reads the jobs, a `PuzzleProgram` works them by the calls of `rank_client`, and `render` writes what the
 //! outcomes of all ranks together found. `specs/Jobs.antt` says which inputs are read, `specs/Bodies.antt` how a unit is
 //! written, `specs/Books.antt` and `specs/Follows.antt` which calls a rank makes, and `specs/Report.antt` what is written.
+//! `calls_add_up` and `calls_in_order` say what follows from the relation of a rank's calls for its transcript alone.
 #![tactic(auto)]
 
 mod calls;
