@@ -1,0 +1,3 @@
+pub mod Balanced
+pub mod Orderly
+pub mod Parcels
