@@ -1,5 +1,5 @@
 -- A common part that is kept is within the limit.
-use Rattle.std.proofs.Common.{◌≡◌, ◌∙◌, ℕ, ◌+◌, ◌≤◌, true, List, length, Option, Some, sym, rules, arith, refl, ap}
+use Rattle.std.proofs.Common.{◌≡◌, ◌∙◌, ℕ, ◌≤◌, true, List, length, Some, sym, arith, refl, ap}
 use Rattle.std.specs.Prelude.{option_and_then}
 use Rattle.adlb_unit.specs.declared.names.Server.{Server}
 use Rattle.adlb_unit.specs.declared.names.BatchId.{BatchId}

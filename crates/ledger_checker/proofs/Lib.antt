@@ -1,5 +1,3 @@
-pub mod Changing
-pub mod Finding
-pub mod Kept
 pub mod Growing
+pub mod Kept
 pub mod Places

@@ -1,5 +1,5 @@
 -- What the place that is found says of the ledger.
-use Rattle.std.proofs.Common.{◌≡◌, ◌∙◌, ◌↔◌, ℕ, ◌+◌, Bool, true, List, ◌∷◌, Option, Some, None, Ok, Err, sym, ap, refl, arith}
+use Rattle.std.proofs.Common.{◌≡◌, ◌∙◌, ◌↔◌, ℕ, ◌+◌, List, ◌∷◌, Option, Some, None, Ok, Err, sym, ap, refl, arith}
 use Rattle.std.specs.Prelude.{IfOk, Result}
 use Rattle.adlb_unit.specs.declared.configs.Config.{Config}
 use Rattle.adlb_unit.specs.declared.names.NoMemory.{NoMemory}

@@ -13,6 +13,10 @@ use std::alloc::Global;
 /// The place of the first entry of the ledger that is no step of the bag from the state which the entries before it
 /// leave, counted from 0; nothing exactly where the ledger is a legal run. So it is the least such place. It fails for want of
 /// memory alone.
+///
+/// A ledger of n entries takes time within n log n and room within n, but for entries that look at more than one thing: each
+/// `Looked` looks at the shelves that have a free unit (the free units of one type and one target at one server), each
+/// `Counted` at all accepted units, and `Exhausted`, which is legal once, at all units for each rank and at all promises.
 pub fn first_illegal(
     alloc: Global,
     ledger: &Ledger,

@@ -1,108 +1,77 @@
 //! What an entry changes.
 
-ghost use Rattle.std.specs.Prelude.{◌≡◌, ◌≤◌, ◌^◌, ◌-◌, ◌+◌, ◌<◌, ◌++◌, ◌∷◌, [], IfOk, IsTrue, MatchBool, MatchOption, All, None, Some, length, true, false, option_and_then};
+ghost use Rattle.std.specs.Prelude.{◌≡◌, ◌≤◌, ◌^◌, ◌-◌, ◌+◌, ◌<◌, ◌++◌, ◌∷◌, [], IfOk, OnOk, IsTrue, MatchBool, MatchOption, All, None, Some, length, true, false, option_and_then};
 ghost use Rattle.bag_ledger.specs.declared.entries.Entry.TheVariants.{Putting, Refused, Accepted, Rejected, Keeping, Kept, Closing, Closed, Freed, Asked, Tried, Granted, Looked, NoCurrent, Fetching, Fetched, CommonFetched, Promised, Left, Arrived, Withdrawn, Counting, Counted, Done, Exhausted, Over, Finished};
 ghost use Rattle.bag_ledger.specs.declared.states.Status.TheVariants as does;
 ghost use Rattle.bag_ledger.specs.declared.states.UnitPlace.TheVariants.{Free, Pinned, Spent};
 ghost use Rattle.bag_ledger.specs.Bag.{rank_at, unit_of, putting, keeping};
 ghost use Rattle.bag_ledger.specs.Step.{legal, step};
 ghost use Rattle.bag_ledger.specs.Steps.{after, begun, ended, declined_by, kept, moved, new_part, own_fetched, shared, taken, unpromised, with_part, with_rank};
+ghost use Rattle.bag_tables.specs.Changes.{rank_changed, part_changed};
 ghost use Rattle.ledger_checker.specs.Room.{HasRoom};
 
 use crate::machines::Machine;
-use crate::ranks::{begin_at, decline_at, end_at, end_with, end_with_batch, fetch_own_at, put_at};
 use adlb_unit::{
-    BatchId, CommonRef, End, NoMemory, Payload, Rank, Server, Target, Types, Unit, UnitId, WorkType,
+    BatchId, CommonRef, NoMemory, Payload, Rank, Server, Target, Types, Unit, UnitId, WorkType,
 };
 use bag_ledger::{Entry, Part, Promise, Status, UnitPlace};
+use bag_tables::{PartChange, RankChange};
 use std::alloc::Global;
 
 // A rank's call begins or ends.
 impl Machine {
-    fn begin(&mut self, rank: Rank, status: Status)
+    // The rank is changed.
+    fn change(&mut self, rank: Rank, change: RankChange) -> Result<(), NoMemory>
         requires { All (λ r. r.next + 1 < 2 ^ 64) self.old.ranks }
-        ensures { self.new ≡ with_rank rank (begun status) self.old }
+        ensures { OnOk result (self.new ≡ with_rank rank (rank_changed change) self.old) }
     {
-        begin_at(&mut self.ranks, rank, status);
+        self.ranks.change(rank, change)
     }
 
-    fn end(&mut self, rank: Rank)
-        ensures { self.new ≡ with_rank rank ended self.old }
-    {
-        end_at(&mut self.ranks, rank);
-    }
-
-    fn decline(&mut self, rank: Rank, server: Server) -> Result<(), NoMemory>
-        ensures { IfOk result (λ _. self.new ≡ with_rank rank (declined_by server) self.old) }
-    {
-        decline_at(&mut self.ranks, rank, server)
-    }
-
-    fn put(&mut self, rank: Rank, unit: Unit)
+    fn begin(&mut self, rank: Rank, status: Status) -> Result<(), NoMemory>
         requires { All (λ r. r.next + 1 < 2 ^ 64) self.old.ranks }
-        ensures { self.new ≡ with_rank rank (λ r. begun (does.Putting (record unit { common = r.batch })) r) self.old }
+        ensures { OnOk result (self.new ≡ with_rank rank (begun status) self.old) }
     {
-        put_at(&mut self.ranks, rank, unit);
+        self.change(rank, RankChange::Begins(status))
+    }
+
+    fn end(&mut self, rank: Rank) -> Result<(), NoMemory>
+        requires { All (λ r. r.next + 1 < 2 ^ 64) self.old.ranks }
+        ensures { OnOk result (self.new ≡ with_rank rank ended self.old) }
+    {
+        self.change(rank, RankChange::Ended)
     }
 
     fn keep(&mut self, rank: Rank, call: u64, common: &Payload) -> Result<(), NoMemory>
         requires { All (λ r. r.next + 1 < 2 ^ 64) self.old.ranks }
-        ensures { IfOk result (λ _. self.new ≡ after self.old (Keeping rank call common.now)) }
+        ensures { OnOk result (self.new ≡ after self.old (Keeping rank call common.now)) }
     {
         let common = common.twin(self.alloc)?;
-        self.begin(rank, Status::Keeping { call, common });
-        Ok(())
+        self.begin(rank, Status::Keeping { call, common })
     }
 
-    fn ask(&mut self, rank: Rank, call: u64, types: &Types)
+    fn ask(&mut self, rank: Rank, call: u64, types: &Types) -> Result<(), NoMemory>
         requires { All (λ r. r.next + 1 < 2 ^ 64) self.old.ranks }
-        ensures { self.new ≡ with_rank rank (begun (does.Asking call types.now)) self.old }
+        ensures { OnOk result (self.new ≡ with_rank rank (begun (does.Asking call types.now)) self.old) }
     {
         let types = types.twin();
-        self.begin(rank, Status::Asking { call, types });
+        self.begin(rank, Status::Asking { call, types })
     }
 
-    fn try_for(&mut self, rank: Rank, call: u64, types: &Types)
+    fn try_for(&mut self, rank: Rank, call: u64, types: &Types) -> Result<(), NoMemory>
         requires { All (λ r. r.next + 1 < 2 ^ 64) self.old.ranks }
-        ensures { self.new ≡ with_rank rank (begun (does.Trying call types.now)) self.old }
+        ensures { OnOk result (self.new ≡ with_rank rank (begun (does.Trying call types.now)) self.old) }
     {
         let types = types.twin();
-        self.begin(rank, Status::Trying { call, types });
+        self.begin(rank, Status::Trying { call, types })
     }
 
-    fn fetch(&mut self, rank: Rank, call: u64, id: UnitId)
+    fn call_done(&mut self, rank: Rank) -> Result<(), NoMemory>
         requires { All (λ r. r.next + 1 < 2 ^ 64) self.old.ranks }
-        ensures { self.new ≡ with_rank rank (begun (does.Fetching call id false)) self.old }
-    {
-        let own = false;
-        self.begin(rank, Status::Fetching { call, id, own });
-    }
-
-    fn count(&mut self, rank: Rank, call: u64, kind: WorkType)
-        requires { All (λ r. r.next + 1 < 2 ^ 64) self.old.ranks }
-        ensures { self.new ≡ with_rank rank (begun (does.Counting call kind)) self.old }
-    {
-        self.begin(rank, Status::Counting { call, kind });
-    }
-
-    fn call_done(&mut self, rank: Rank)
-        requires { All (λ r. r.next + 1 < 2 ^ 64) self.old.ranks }
-        ensures { self.new ≡ with_rank rank (begun does.Running) (record self.old { done = true }) }
+        ensures { OnOk result (self.new ≡ with_rank rank (begun does.Running) (record self.old { done = true })) }
     {
         self.done = true;
-        begin_at(&mut self.ranks, rank, Status::Running);
-    }
-
-    fn exhaust(&mut self)
-        ensures { self.new ≡ record self.old { exhausted = true } }
-    {
-        self.exhausted = true;
-    }
-
-    fn tell_end(&mut self, rank: Rank, end: End)
-        ensures { self.new ≡ with_rank rank (λ r. ended (record r { end = Some end })) self.old }
-    {
-        end_with(&mut self.ranks, rank, end);
+        self.begin(rank, Status::Running)
     }
 }
 
@@ -116,49 +85,45 @@ impl Machine {
             return Ok(None);
         };
         match &r.status {
-            Status::Putting { unit } => Ok(Some(twin_of(self.alloc, unit)?)),
+            Status::Putting { unit } => Ok(Some(unit.twin(self.alloc)?)),
             _ => Ok(None),
         }
     }
 
     // One unit more of this common part was accepted.
     fn share(&mut self, common: Option<CommonRef>)
-        requires { All (λ p. p.accepted + 1 < 2 ^ 64) self.old.parts }
+        requires accepted { All (λ p. p.accepted + 1 < 2 ^ 64) self.old.parts }
+        requires fetched { All (λ p. p.fetched + 1 < 2 ^ 64) self.old.parts }
         ensures { self.new ≡ shared common self.old }
     {
         if let Some(common) = common {
-            self.parts.count_accepted(common.batch);
+            self.parts.change(common.batch, PartChange::Accepted);
         }
     }
 
-    // One unit more, free at the server.
-    fn add_unit(&mut self, server: Server, unit: Unit) -> Result<(), NoMemory>
-        ensures { IfOk result (λ _. self.new ≡ record self.old { units = self.old.units ++ record { unit = unit; place = Free server } ∷ [] }) }
-    {
-        self.units.add(unit, server)
-    }
-
     fn take(&mut self, server: Server, unit: Option<Unit>) -> Result<(), NoMemory>
-        requires { All (λ p. p.accepted + 1 < 2 ^ 64) self.old.parts }
+        requires accepted { All (λ p. p.accepted + 1 < 2 ^ 64) self.old.parts }
+        requires fetched { All (λ p. p.fetched + 1 < 2 ^ 64) self.old.parts }
         ensures { IfOk result (λ _. self.new ≡ taken server unit self.old) }
     {
         let Some(unit) = unit else {
             return Ok(());
         };
         let common = unit.common;
-        self.add_unit(server, unit)?;
+        self.units.add(unit, server)?;
         self.share(common);
         Ok(())
     }
 
     fn accept(&mut self, server: Server, id: UnitId) -> Result<(), NoMemory>
-        requires { All (λ p. p.accepted + 1 < 2 ^ 64) self.old.parts }
-        ensures { IfOk result (λ _. self.new ≡ after self.old (Accepted server id)) }
+        requires calls { All (λ r. r.next + 1 < 2 ^ 64) self.old.ranks }
+        requires accepted { All (λ p. p.accepted + 1 < 2 ^ 64) self.old.parts }
+        requires fetched { All (λ p. p.fetched + 1 < 2 ^ 64) self.old.parts }
+        ensures { OnOk result (self.new ≡ after self.old (Accepted server id)) }
     {
         let unit = self.unit_put(id.rank)?;
         self.take(server, unit)?;
-        self.end(id.rank);
-        Ok(())
+        self.end(id.rank)
     }
 
     // The common part that the rank brings.
@@ -175,24 +140,10 @@ impl Machine {
     }
 }
 
-fn twin_of(alloc: Global, unit: &Unit) -> Result<Unit, NoMemory>
-    ensures { IfOk result (λ twin. twin ≡ unit.now) }
-{
-    Ok(Unit {
-        id: unit.id,
-        kind: unit.kind,
-        prio: unit.prio,
-        target: unit.target,
-        answer: unit.answer,
-        common: unit.common,
-        body: unit.body.twin(alloc)?,
-    })
-}
-
 // Batches.
 impl Machine {
     fn add_part(&mut self, server: Server, batch: BatchId, common: Payload) -> Result<(), NoMemory>
-        ensures { IfOk result (λ _. self.new ≡ record self.old { parts = self.old.parts ++ new_part server batch common ∷ [] }) }
+        ensures { OnOk result (self.new ≡ record self.old { parts = self.old.parts ++ new_part server batch common ∷ [] }) }
     {
         self.parts.add(Part {
             batch,
@@ -205,10 +156,12 @@ impl Machine {
         })
     }
 
-    fn go_on(&mut self, rank: Rank, batch: Option<CommonRef>)
-        ensures { self.new ≡ with_rank rank (λ r. ended (record r { batch = batch })) self.old }
+    fn change_part(&mut self, batch: BatchId, change: PartChange)
+        requires accepted { All (λ p. p.accepted + 1 < 2 ^ 64) self.old.parts }
+        requires fetched { All (λ p. p.fetched + 1 < 2 ^ 64) self.old.parts }
+        ensures { self.new ≡ with_part batch (part_changed change) self.old }
     {
-        end_with_batch(&mut self.ranks, rank, batch);
+        self.parts.change(batch, change);
     }
 
     fn hold_common(
@@ -218,26 +171,25 @@ impl Machine {
         call: u64,
         common: Payload,
     ) -> Result<(), NoMemory>
-        requires { length common < 2 ^ 32 }
-        ensures { IfOk result (λ _. self.new ≡ kept server batch (Some (call, common)) self.old) }
+        requires short { length common < 2 ^ 32 }
+        requires calls { All (λ r. r.next + 1 < 2 ^ 64) self.old.ranks }
+        ensures { OnOk result (self.new ≡ kept server batch (Some (call, common)) self.old) }
     {
         let length = common.len() as u32;
         self.add_part(server, batch, common)?;
-        self.go_on(
-            batch.rank,
-            Some(CommonRef {
-                batch,
-                server,
-                length,
-            }),
-        );
-        Ok(())
+        let common = CommonRef {
+            batch,
+            server,
+            length,
+        };
+        self.change(batch.rank, RankChange::GoesOn(Some(common)))
     }
 
     fn hold(&mut self, server: Server, batch: BatchId) -> Result<(), NoMemory>
         requires limit { self.old.limit ≤ 2 ^ 30 }
+        requires calls { All (λ r. r.next + 1 < 2 ^ 64) self.old.ranks }
         requires legal { IsTrue (legal self.old (Kept server batch)) }
-        ensures { IfOk result (λ _. self.new ≡ after self.old (Kept server batch)) }
+        ensures { OnOk result (self.new ≡ after self.old (Kept server batch)) }
     {
         let Some((call, common)) = self.common_kept(batch.rank)? else {
             return Ok(());
@@ -245,41 +197,41 @@ impl Machine {
         self.hold_common(server, batch, call, common)
     }
 
-    fn close(&mut self, batch: BatchId)
-        ensures { self.new ≡ with_rank batch.rank (λ r. ended (record r { batch = None })) (with_part batch (λ p. record p { closed = true }) self.old) }
+    fn close(&mut self, batch: BatchId) -> Result<(), NoMemory>
+        requires calls { All (λ r. r.next + 1 < 2 ^ 64) self.old.ranks }
+        requires accepted { All (λ p. p.accepted + 1 < 2 ^ 64) self.old.parts }
+        requires fetched { All (λ p. p.fetched + 1 < 2 ^ 64) self.old.parts }
+        ensures { OnOk result (self.new ≡ with_rank batch.rank (λ r. ended (record r { batch = None })) (with_part batch (λ p. record p { closed = true }) self.old)) }
     {
-        self.parts.close(batch);
-        self.go_on(batch.rank, None);
+        self.change_part(batch, PartChange::Closed);
+        self.change(batch.rank, RankChange::GoesOn(None))
     }
 
-    fn free(&mut self, batch: BatchId)
-        ensures { self.new ≡ with_part batch (λ p. record p { freed = true }) self.old }
+    fn give_common(&mut self, rank: Rank, batch: BatchId) -> Result<(), NoMemory>
+        requires calls { All (λ r. r.next + 1 < 2 ^ 64) self.old.ranks }
+        requires accepted { All (λ p. p.accepted + 1 < 2 ^ 64) self.old.parts }
+        requires fetched { All (λ p. p.fetched + 1 < 2 ^ 64) self.old.parts }
+        ensures { OnOk result (self.new ≡ with_rank rank ended (with_part batch (λ p. record p { fetched = p.fetched + 1 }) self.old)) }
     {
-        self.parts.free(batch);
-    }
-
-    fn give_common(&mut self, rank: Rank, batch: BatchId)
-        requires { All (λ p. p.fetched + 1 < 2 ^ 64) self.old.parts }
-        ensures { self.new ≡ with_rank rank ended (with_part batch (λ p. record p { fetched = p.fetched + 1 }) self.old) }
-    {
-        self.parts.count_fetched(batch);
-        self.end(rank);
+        self.change_part(batch, PartChange::Fetched);
+        self.end(rank)
     }
 }
 
 // Units.
 impl Machine {
-    fn place(&mut self, id: UnitId, place: UnitPlace)
-        ensures { self.new ≡ moved id place self.old }
+    fn place(&mut self, id: UnitId, place: UnitPlace) -> Result<(), NoMemory>
+        ensures { OnOk result (self.new ≡ moved id place self.old) }
     {
-        self.units.move_to(id, place);
+        self.units.move_to(id, place)
     }
 
-    fn grant(&mut self, server: Server, rank: Rank, id: UnitId)
-        ensures { self.new ≡ with_rank rank ended (moved id (Pinned server rank) self.old) }
+    fn grant(&mut self, server: Server, rank: Rank, id: UnitId) -> Result<(), NoMemory>
+        requires { All (λ r. r.next + 1 < 2 ^ 64) self.old.ranks }
+        ensures { OnOk result (self.new ≡ with_rank rank ended (moved id (Pinned server rank) self.old)) }
     {
-        self.place(id, UnitPlace::Pinned(server, rank));
-        self.end(rank);
+        self.place(id, UnitPlace::Pinned(server, rank))?;
+        self.end(rank)
     }
 
     // The common part of the unit.
@@ -292,16 +244,18 @@ impl Machine {
         }
     }
 
-    fn give(&mut self, rank: Rank, id: UnitId)
-        ensures { self.new ≡ with_rank rank (own_fetched (option_and_then (λ u. u.unit.common) (unit_of self.old id))) (moved id Spent self.old) }
+    fn give(&mut self, rank: Rank, id: UnitId) -> Result<(), NoMemory>
+        requires { All (λ r. r.next + 1 < 2 ^ 64) self.old.ranks }
+        ensures { OnOk result (self.new ≡ with_rank rank (own_fetched (option_and_then (λ u. u.unit.common) (unit_of self.old id))) (moved id Spent self.old)) }
     {
         let common = self.common_of(id);
-        self.place(id, UnitPlace::Spent);
-        fetch_own_at(&mut self.ranks, rank, common);
+        self.place(id, UnitPlace::Spent)?;
+        self.change(rank, RankChange::OwnCame(common))
     }
 
     fn promise_room(&mut self, server: Server, id: UnitId, length: u32) -> Result<(), NoMemory>
-        ensures { IfOk result (λ _. self.new ≡ record self.old { promises = self.old.promises ++ record { server = server; id = id; length = length } ∷ [] }) }
+        requires { IsTrue (legal self.old (Promised server id length)) }
+        ensures { OnOk result (self.new ≡ record self.old { promises = self.old.promises ++ record { server = server; id = id; length = length } ∷ [] }) }
     {
         self.promises.add(Promise { server, id, length })
     }
@@ -312,11 +266,12 @@ impl Machine {
         self.promises.remove(id);
     }
 
-    fn arrive(&mut self, server: Server, id: UnitId)
-        ensures { self.new ≡ unpromised id (moved id (Free server) self.old) }
+    fn arrive(&mut self, server: Server, id: UnitId) -> Result<(), NoMemory>
+        ensures { OnOk result (self.new ≡ unpromised id (moved id (Free server) self.old)) }
     {
-        self.place(id, UnitPlace::Free(server));
+        self.place(id, UnitPlace::Free(server))?;
         self.withdraw(id);
+        Ok(())
     }
 }
 
@@ -333,7 +288,7 @@ impl Machine {
         body: &Payload,
     ) -> Result<(), NoMemory>
         requires { All (λ r. r.next + 1 < 2 ^ 64) self.old.ranks }
-        ensures { IfOk result (λ _. self.new ≡ after self.old (Putting rank call kind prio target answer body.now)) }
+        ensures { OnOk result (self.new ≡ after self.old (Putting rank call kind prio target answer body.now)) }
     {
         let body = body.twin(self.alloc)?;
         let unit = Unit {
@@ -345,8 +300,7 @@ impl Machine {
             common: None,
             body,
         };
-        self.put(rank, unit);
-        Ok(())
+        self.change(rank, RankChange::Puts(unit))
     }
 
     // Takes the step of this entry, which is legal.
@@ -356,7 +310,7 @@ impl Machine {
         requires accepted { All (λ p. p.accepted + 1 < 2 ^ 64) self.old.parts }
         requires fetched { All (λ p. p.fetched + 1 < 2 ^ 64) self.old.parts }
         requires legal { IsTrue (legal self.old entry.now) }
-        ensures { IfOk result (λ _. self.new ≡ after self.old entry.now) }
+        ensures { OnOk result (self.new ≡ after self.old entry.now) }
     {
         match entry {
             Entry::Putting {
@@ -367,15 +321,20 @@ impl Machine {
                 target,
                 answer,
                 body,
-            } => { self.put_copy(*rank, *call, *kind, *prio, *target, *answer, body)? }
-            Entry::Refused { server, id, .. } => self.decline(id.rank, *server)?,
-            Entry::Accepted { server, id } => self.accept(*server, *id)?,
+            } => { self.put_copy(*rank, *call, *kind, *prio, *target, *answer, body) }
+            Entry::Refused { server, id, .. } => {
+                self.change(id.rank, RankChange::Declined(*server))
+            }
+            Entry::Accepted { server, id } => self.accept(*server, *id),
             Entry::Rejected { rank, .. } => self.end(*rank),
-            Entry::Keeping { rank, call, common } => self.keep(*rank, *call, common)?,
-            Entry::Kept { server, batch } => self.hold(*server, *batch)?,
-            Entry::Closing { rank, call } => self.begin(*rank, Status::Closing { call: *call }),
+            Entry::Keeping { rank, call, common } => self.keep(*rank, *call, common),
+            Entry::Kept { server, batch } => self.hold(*server, *batch),
+            Entry::Closing { rank, call } => { self.begin(*rank, Status::Closing { call: *call }) }
             Entry::Closed { batch, .. } => self.close(*batch),
-            Entry::Freed { batch, .. } => self.free(*batch),
+            Entry::Freed { batch, .. } => {
+                self.change_part(*batch, PartChange::Freed);
+                Ok(())
+            }
             Entry::Asked { rank, call, types } => self.ask(*rank, *call, types),
             Entry::Tried { rank, call, types } => self.try_for(*rank, *call, types),
             Entry::Granted {
@@ -384,23 +343,47 @@ impl Machine {
                 id,
                 ..
             } => self.grant(*server, *rank, *id),
-            Entry::Looked { server, rank, .. } => self.decline(*rank, *server)?,
+            Entry::Looked { server, rank, .. } => {
+                self.change(*rank, RankChange::Declined(*server))
+            }
             Entry::NoCurrent { rank, .. } => self.end(*rank),
-            Entry::Fetching { rank, call, id } => self.fetch(*rank, *call, *id),
+            Entry::Fetching { rank, call, id } => {
+                self.begin(
+                    *rank,
+                    Status::Fetching {
+                        call: *call,
+                        id: *id,
+                        own: false,
+                    },
+                )
+            }
             Entry::Fetched { rank, id, .. } => self.give(*rank, *id),
             Entry::CommonFetched { rank, batch, .. } => self.give_common(*rank, *batch),
-            Entry::Promised { server, id, length } => self.promise_room(*server, *id, *length)?,
+            Entry::Promised { server, id, length } => self.promise_room(*server, *id, *length),
             Entry::Left { to, id, .. } => self.place(*id, UnitPlace::Travelling(*to)),
             Entry::Arrived { server, id } => self.arrive(*server, *id),
-            Entry::Withdrawn { id, .. } => self.withdraw(*id),
-            Entry::Counting { rank, call, kind } => self.count(*rank, *call, *kind),
+            Entry::Withdrawn { id, .. } => {
+                self.withdraw(*id);
+                Ok(())
+            }
+            Entry::Counting { rank, call, kind } => {
+                self.begin(
+                    *rank,
+                    Status::Counting {
+                        call: *call,
+                        kind: *kind,
+                    },
+                )
+            }
             Entry::Counted { rank, .. } => self.end(*rank),
             Entry::Done { rank, .. } => self.call_done(*rank),
-            Entry::Exhausted => self.exhaust(),
-            Entry::Over { rank, end, .. } => self.tell_end(*rank, *end),
+            Entry::Exhausted => {
+                self.exhausted = true;
+                Ok(())
+            }
+            Entry::Over { rank, end, .. } => self.change(*rank, RankChange::Told(*end)),
             Entry::Finished { rank, .. } => self.begin(*rank, Status::Finished),
         }
-        Ok(())
     }
 
     // Takes the step of this entry, where it is one.

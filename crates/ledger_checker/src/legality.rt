@@ -8,13 +8,13 @@ ghost use Rattle.bag_ledger.specs.Step.{has, begins, anything, fits, is_closing,
 ghost use Rattle.bag_ledger.specs.Steps.{has_cause, in_turn};
 
 use crate::machines::Machine;
-use crate::reading::{
+use adlb_unit::{BatchId, End, Info, NoMemory, Rank, Server, Types, UnitId, permits};
+use bag_ledger::{Entry, Placed, RankState, Status};
+use bag_tables::reading::{
     begins, counting, fetching, is_closing, is_due, is_free_at, is_of, is_over, is_pinned,
     is_pinned_to, is_placed_at, is_travelling, is_travelling_to, offer, open_call, same_info,
     same_number, same_server, same_unit, trying, wish,
 };
-use adlb_unit::{BatchId, End, Info, NoMemory, Rank, Server, Types, UnitId, permits};
-use bag_ledger::{Entry, Placed, RankState, Status};
 
 // A rank's calls that begin.
 impl Machine {

@@ -6,14 +6,11 @@ ghost use Rattle.adlb_unit.specs.Permit.{permitted};
 ghost use Rattle.adlb_unit.specs.declared.names.BatchId.{BatchId};
 ghost use Rattle.bag_ledger.specs.Bag.{Bag, start, rank_at, unit_of, part_of, promise_of, charge, has_due, has_fit_at, has_fit, none_fits, settled, info_of, is_asking, is_asking_or_finished, is_travelling};
 ghost use Rattle.bag_ledger.specs.Step.{is_server, fits};
+ghost use Rattle.bag_ledger.specs.Steps.{IsServer};
 
-use crate::parts::Parts;
-use crate::promises::Promises;
-use crate::ranks::fresh_ranks;
-use crate::reading::{is_asking, is_asking_or_finished};
-use crate::units::Units;
 use adlb_unit::{BatchId, Config, Info, NoMemory, Rank, Server, Types, UnitId, WorkType};
 use bag_ledger::{Part, Placed, Promise, RankState, Status};
+use bag_tables::{Parts, Promises, Ranks, Units};
 use std::alloc::Global;
 use std::marker::Model;
 
@@ -21,7 +18,7 @@ use std::marker::Model;
 #[derive(Drop)]
 pub(crate) struct Machine {
     pub(crate) alloc: Global,
-    pub(crate) ranks: Vec<RankState>,
+    pub(crate) ranks: Ranks,
     pub(crate) units: Units,
     pub(crate) parts: Parts,
     pub(crate) promises: Promises,
@@ -32,11 +29,14 @@ pub(crate) struct Machine {
 }
 
 impl Model for Machine {
+    ghost use Rattle.std.specs.Prelude.{◌≤◌};
     ghost use Rattle.bag_ledger.specs.Bag.{Bag};
 
     ghost Value = { Bag };
 
-    ghost view = { λ m. record { ranks = m.ranks.items; units = m.units; parts = m.parts; promises = m.promises; done = m.done; exhausted = m.exhausted; servers = m.servers; limit = m.limit } };
+    ghost view = { λ m. record { ranks = m.ranks; units = m.units; parts = m.parts; promises = m.promises; done = m.done; exhausted = m.exhausted; servers = m.servers; limit = m.limit } };
+
+    ghost invariant = { λ m. m.servers ≤ 8 };
 }
 
 impl Machine {
@@ -44,7 +44,7 @@ impl Machine {
     pub(crate) fn new(alloc: Global, config: &Config) -> Result<Machine, NoMemory>
         ensures { IfOk result (λ m. m ≡ start config.now) }
     {
-        let ranks = fresh_ranks(alloc, config.ranks)?;
+        let ranks = Ranks::new(alloc, config.ranks)?;
         Ok(Machine {
             alloc,
             ranks,
@@ -85,7 +85,7 @@ impl Machine {
     pub(crate) fn rank(&self, rank: Rank) -> Option<&RankState>
         ensures { MatchOption result (rank_at self.now rank ≡ None) (λ r. rank_at self.now rank ≡ Some r.now) }
     {
-        self.ranks.get(rank.0 as usize)
+        self.ranks.get(rank)
     }
 
     pub(crate) fn unit(&self, id: UnitId) -> Option<&Placed>
@@ -114,6 +114,7 @@ impl Machine {
 
     // What the server's charge leaves of the room.
     fn left_of(&self, server: Server, room: u64) -> Option<u64>
+        requires { IsServer self.now server }
         ensures { MatchOption result (room < charge self.now server) (λ left. left + charge self.now server ≡ room) }
     {
         let left = self.units.left_of(server, room)?;
@@ -123,6 +124,7 @@ impl Machine {
 
     // So many bytes fit at the server.
     pub(crate) fn fits(&self, server: Server, n: u64) -> bool
+        requires { IsServer self.now server }
         ensures { result ≡ fits self.now server n }
     {
         match self.left_of(server, self.limit) {
@@ -133,6 +135,7 @@ impl Machine {
 
     // This is the server's charge.
     pub(crate) fn is_charge(&self, server: Server, used: u64) -> bool
+        requires { IsServer self.now server }
         ensures { result ≡ (used == charge self.now server) }
     {
         self.left_of(server, used) == Some(0)
@@ -172,32 +175,21 @@ impl Machine {
         requires { length self.now.ranks ≤ 32 }
         ensures { result ≡ none_fits self.now.units 0 self.now.ranks }
     {
-        for place in 0..self.ranks.len() {
-            if self.has_fit(Rank(place as u32), &self.ranks[place]) {
+        let ranks = self.ranks.as_slice();
+        for place in 0..ranks.len() {
+            if self.has_fit(Rank(place as u32), &ranks[place]) {
                 return false;
             }
         }
         true
     }
 
-    fn each_asks_or_finished(&self) -> bool
-        ensures { result ≡ list_all (λ r. is_asking_or_finished r.status) self.now.ranks }
-    {
-        self.ranks.iter().all(|r| is_asking_or_finished(r))
-    }
-
-    fn some_asks(&self) -> bool
-        ensures { result ≡ list_any (λ r. is_asking r.status) self.now.ranks }
-    {
-        self.ranks.iter().any(|r| is_asking(r))
-    }
-
     // Each rank asks or has finished, some rank asks, no promise stands, and no unit travels.
     fn is_still(&self) -> bool
         ensures { result ≡ (list_all (λ r. is_asking_or_finished r.status) self.now.ranks && list_any (λ r. is_asking r.status) self.now.ranks && (length self.now.promises == 0) && not (list_any (λ u. is_travelling u.place) self.now.units)) }
     {
-        self.each_asks_or_finished()
-            && self.some_asks()
+        self.ranks.each_asks_or_finished()
+            && self.ranks.some_asks()
             && self.promises.is_empty()
             && !self.units.has_travelling()
     }

@@ -93,12 +93,17 @@ fn put(alloc: Global, rank: u32, call: u64, body: &[u8]) -> Result<Entry, NoMemo
 }
 
 fn put_for(alloc: Global, rank: u32) -> Result<Entry, NoMemory> {
+    put_as(alloc, 0, 1, Target::Only(Rank(rank)))
+}
+
+// Rank 0 puts a unit of this type for this target.
+fn put_as(alloc: Global, call: u64, kind: u32, target: Target) -> Result<Entry, NoMemory> {
     Ok(Entry::Putting {
         rank: Rank(0),
-        call: 0,
-        kind: WorkType(1),
+        call,
+        kind: WorkType(kind),
         prio: 0,
-        target: Target::Only(Rank(rank)),
+        target,
         answer: None,
         body: Payload::copy(alloc, b"")?,
     })
@@ -135,10 +140,14 @@ fn asked(rank: u32, call: u64, types: Types) -> Entry {
 }
 
 fn tried(rank: u32, call: u64) -> Entry {
+    tried_for(rank, call, Types::any())
+}
+
+fn tried_for(rank: u32, call: u64, types: Types) -> Entry {
     Entry::Tried {
         rank: Rank(rank),
         call,
-        types: Types::any(),
+        types,
     }
 }
 
@@ -205,6 +214,21 @@ fn promised(server: u32, id: UnitId, length: u32) -> Entry {
     }
 }
 
+fn left(server: u32, to: u32, id: UnitId) -> Entry {
+    Entry::Left {
+        server: Server(server),
+        to: Server(to),
+        id,
+    }
+}
+
+fn arrived(server: u32, id: UnitId) -> Entry {
+    Entry::Arrived {
+        server: Server(server),
+        id,
+    }
+}
+
 fn withdrawn(server: u32, id: UnitId) -> Entry {
     Entry::Withdrawn {
         server: Server(server),
@@ -253,6 +277,9 @@ enum Base {
     BatchOnTwo,
     DoneCalled,
     CancelledPush,
+    Shelves,
+    PushedBack,
+    Long,
 }
 
 const ROOM: u64 = 67108864;
@@ -269,6 +296,9 @@ fn numbers(base: Base) -> (u32, u32, u64) {
         Base::BatchOnTwo => (1, 2, ROOM),
         Base::DoneCalled => (2, 2, ROOM),
         Base::CancelledPush => (2, 2, 64),
+        Base::Shelves => (3, 2, ROOM),
+        Base::PushedBack => (2, 2, 64),
+        Base::Long => (2, 2, ROOM),
     }
 }
 
@@ -284,6 +314,9 @@ fn write_base(base: Base, to: &mut Writer) -> Result<(), NoMemory> {
         Base::BatchOnTwo => batch_of_two(to),
         Base::DoneCalled => done_called(to),
         Base::CancelledPush => cancelled_push(to),
+        Base::Shelves => shelves(to),
+        Base::PushedBack => pushed_back(to),
+        Base::Long => long(to),
     }
 }
 
@@ -321,15 +354,8 @@ fn pushed(to: &mut Writer) -> Result<(), NoMemory> {
     to.write(accepted(1, unit(1, 0)))?;
     to.write(asked(1, 1, only(2)))?;
     to.write(promised(0, unit(1, 0), 60))?;
-    to.write(Entry::Left {
-        server: Server(1),
-        to: Server(0),
-        id: unit(1, 0),
-    })?;
-    to.write(Entry::Arrived {
-        server: Server(0),
-        id: unit(1, 0),
-    })?;
+    to.write(left(1, 0, unit(1, 0)))?;
+    to.write(arrived(0, unit(1, 0)))?;
     to.write(Entry::Exhausted)?;
     to.write(over(0, 0, End::Exhausted))?;
     to.write(over(1, 1, End::Exhausted))
@@ -436,6 +462,74 @@ fn cancelled_push(to: &mut Writer) -> Result<(), NoMemory> {
     to.write(rejected(1, 0))
 }
 
+// A unit for rank 1 alone and one of another type are looked past, and then granted.
+fn shelves(to: &mut Writer) -> Result<(), NoMemory> {
+    let first = put_as(to.alloc, 0, 1, Target::Only(Rank(1)))?;
+    to.write(first)?;
+    to.write(accepted(0, unit(0, 0)))?;
+    let second = put_as(to.alloc, 1, 2, Target::Any)?;
+    to.write(second)?;
+    to.write(accepted(0, unit(0, 1)))?;
+    to.write(tried_for(0, 2, only(1)))?;
+    to.write(looked(0, 0, 2))?;
+    to.write(looked(1, 0, 2))?;
+    to.write(no_current(0, 2))?;
+    to.write(tried_for(1, 0, only(1)))?;
+    to.write(granted(0, 1, 0, unit(0, 0)))?;
+    to.write(tried_for(2, 0, only(1)))?;
+    to.write(looked(0, 2, 0))?;
+    to.write(looked(1, 2, 0))?;
+    to.write(no_current(2, 0))?;
+    to.write(tried(2, 1))?;
+    to.write(granted(0, 2, 1, unit(0, 1)))?;
+    to.write(tried(1, 1))?;
+    to.write(looked(0, 1, 1))
+}
+
+// A unit is promised, withdrawn, promised again, pushed, and pushed back.
+fn pushed_back(to: &mut Writer) -> Result<(), NoMemory> {
+    to.put(0, 0, &[0; 60])?;
+    to.write(accepted(0, unit(0, 0)))?;
+    to.write(promised(1, unit(0, 0), 60))?;
+    to.write(withdrawn(1, unit(0, 0)))?;
+    to.write(promised(1, unit(0, 0), 60))?;
+    to.write(left(0, 1, unit(0, 0)))?;
+    to.write(arrived(1, unit(0, 0)))?;
+    to.write(promised(0, unit(0, 0), 60))?;
+    to.write(left(1, 0, unit(0, 0)))?;
+    to.write(arrived(0, unit(0, 0)))?;
+    to.write(asked(0, 1, Types::any()))?;
+    to.write(granted(0, 0, 1, unit(0, 0)))?;
+    to.put(1, 0, &[0; 65])?;
+    to.write(refused(1, unit(1, 0), 0))?;
+    to.write(refused(0, unit(1, 0), 60))?;
+    to.write(rejected(1, 0))
+}
+
+const UNITS: u64 = 2000;
+
+// Rank 0 puts units at two servers, rank 1 gets them all, and then nothing is left to do.
+fn long(to: &mut Writer) -> Result<(), NoMemory> {
+    for call in 0..UNITS {
+        to.put(0, call, b"x")?;
+        to.write(accepted((call % 2) as u32, unit(0, call)))?;
+    }
+    for call in 0..UNITS {
+        let server = (call % 2) as u32;
+        to.write(asked(1, 2 * call, Types::any()))?;
+        to.write(granted(server, 1, 2 * call, unit(0, call)))?;
+        to.write(fetching(1, 2 * call + 1, unit(0, call)))?;
+        to.write(fetched(server, 1, unit(0, call)))?;
+    }
+    to.write(asked(0, UNITS, Types::any()))?;
+    to.write(asked(1, 2 * UNITS, Types::any()))?;
+    to.write(Entry::Exhausted)?;
+    to.write(over(0, UNITS, End::Exhausted))?;
+    to.write(over(1, 2 * UNITS, End::Exhausted))?;
+    to.write(finished(0, UNITS + 1))?;
+    to.write(finished(1, 2 * UNITS + 1))
+}
+
 // Where the ledger with this edit is illegal first.
 fn found(alloc: Global, base: Base, place: u64, edit: Edit) -> Result<Option<u64>, Fail> {
     let mut writer = Writer {
@@ -468,6 +562,9 @@ fn small_ledgers_are_legal(rt: HostRuntime) -> Result<(), Fail> {
         Base::BatchOfTwo,
         Base::DoneCalled,
         Base::CancelledPush,
+        Base::Shelves,
+        Base::PushedBack,
+        Base::Long,
     ] {
         assert_eq!(rt; found(rt.alloc(), base, 0, Edit::Keep)?, None);
     }
@@ -559,5 +656,71 @@ fn pushes_are_checked(rt: HostRuntime) -> Result<(), Fail> {
     assert!(rt; fails(alloc, Base::CancelledPush, 8, Edit::Set(pinned_left_out), 8)?);
     let by_another_rank = fetching(1, 0, unit(0, 0));
     assert!(rt; fails(alloc, Base::GrantedOnce, 4, Edit::Set(by_another_rank), 4)?);
+    Ok(())
+}
+
+#[test]
+fn looks_go_by_type_and_target(rt: HostRuntime) -> Result<(), Fail> {
+    let alloc = rt.alloc();
+    let for_the_rank = put_for(alloc, 0)?;
+    assert!(rt; fails(alloc, Base::Shelves, 0, Edit::Set(for_the_rank), 5)?);
+    let for_any = put_as(alloc, 0, 1, Target::Any)?;
+    assert!(rt; fails(alloc, Base::Shelves, 0, Edit::Set(for_any), 5)?);
+    let wanted = put_as(alloc, 1, 1, Target::Any)?;
+    assert!(rt; fails(alloc, Base::Shelves, 2, Edit::Set(wanted), 5)?);
+    assert!(rt; fails(alloc, Base::Shelves, 4, Edit::Set(tried(0, 2)), 5)?);
+    assert!(rt; fails(alloc, Base::Shelves, 9, Edit::Set(looked(0, 1, 0)), 9)?);
+    assert!(rt; fails(alloc, Base::Shelves, 10, Edit::Set(tried(2, 0)), 11)?);
+    assert!(rt; fails(alloc, Base::Shelves, 15, Edit::Set(looked(0, 2, 1)), 15)?);
+    Ok(())
+}
+
+#[test]
+fn pushes_back_are_checked(rt: HostRuntime) -> Result<(), Fail> {
+    let alloc = rt.alloc();
+    assert!(rt; fails(alloc, Base::PushedBack, 3, Edit::Remove, 3)?);
+    assert!(rt; fails(alloc, Base::PushedBack, 4, Edit::Remove, 4)?);
+    let from_elsewhere = left(1, 0, unit(0, 0));
+    assert!(rt; fails(alloc, Base::PushedBack, 5, Edit::Set(from_elsewhere), 5)?);
+    let none_stands = withdrawn(1, unit(0, 0));
+    assert!(rt; fails(alloc, Base::PushedBack, 7, Edit::Insert(none_stands), 7)?);
+    assert!(rt; fails(alloc, Base::PushedBack, 7, Edit::Remove, 7)?);
+    let where_it_was = granted(1, 0, 1, unit(0, 0));
+    assert!(rt; fails(alloc, Base::PushedBack, 11, Edit::Set(where_it_was), 11)?);
+    let still_charged = refused(1, unit(1, 0), 60);
+    assert!(rt; fails(alloc, Base::PushedBack, 13, Edit::Set(still_charged), 13)?);
+    let charged_twice = refused(0, unit(1, 0), 120);
+    assert!(rt; fails(alloc, Base::PushedBack, 14, Edit::Set(charged_twice), 14)?);
+    Ok(())
+}
+
+#[test]
+fn long_ledgers_are_checked_to_their_end(rt: HostRuntime) -> Result<(), Fail> {
+    let alloc = rt.alloc();
+    let last_grant = 6 * UNITS - 3;
+    let twice = granted(1, 1, 2 * UNITS - 2, unit(0, UNITS - 3));
+    assert!(rt; fails(alloc, Base::Long, last_grant, Edit::Set(twice), last_grant)?);
+    let elsewhere = granted(0, 1, 2 * UNITS - 2, unit(0, UNITS - 1));
+    assert!(rt;
+        fails(
+            alloc,
+            Base::Long,
+            last_grant,
+            Edit::Set(elsewhere),
+            last_grant
+        )?
+    );
+    assert!(rt;
+        fails(
+            alloc,
+            Base::Long,
+            last_grant + 2,
+            Edit::Remove,
+            last_grant + 3
+        )?
+    );
+    let other_call = finished(1, 2 * UNITS);
+    let end = 6 * UNITS + 6;
+    assert!(rt; fails(alloc, Base::Long, end, Edit::Set(other_call), end)?);
     Ok(())
 }

@@ -1,4 +1,4 @@
-use Rattle.std.proofs.Common.{◌≡◌, ◌∙◌, ◌+◌, ◌<◌, ◌∷◌, Some, drop, drop-cons, length, add-one, arith, sym, true, ap, suc}
+use Rattle.std.proofs.Common.{◌≡◌, ◌∙◌, ◌+◌, ◌<◌, ◌∷◌, Some, drop, drop-cons, length, add-one, arith, sym, ap, suc}
 use Rattle.bag_ledger.specs.declared.entries.Entry.{Entry}
 use Rattle.bag_ledger.specs.Step.{step}
 use Rattle.bag_ledger.specs.Runs.{first_illegal}

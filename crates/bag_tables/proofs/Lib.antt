@@ -1,0 +1,10 @@
+pub mod Changing
+pub mod Finding
+pub mod Fitting
+pub mod Ids
+pub mod PartsKept
+pub mod Placing
+pub mod Shelving
+pub mod Slots
+pub mod Summing
+pub mod UnitsKept

@@ -1,6 +1,0 @@
-use Rattle.std.proofs.Common.{◌≡◌, replicate}
-use Rattle.bag_ledger.specs.Bag.{fresh}
-use Rattle.ledger_checker.proofs.ranks.fresh_ranks.Given as goal
-
-abbrev pub invariant-loop-place : goal.invariant-loop-place
-invariant-loop-place l = l.ranks.items ≡ replicate l._place fresh
