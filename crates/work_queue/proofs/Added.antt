@@ -1,13 +1,14 @@
 -- A queue with one unit more.
-use Rattle.std.proofs.Common.{◌≡◌, ◌≢◌, ◌≤◌, ◌^◌, ℕ, ◌+◌, List, [], ◌∷◌, ◌++◌, length, Some, None, refl, ap, ◌∙◌, All, arith, IsSome, is_some, true}
+use Rattle.std.proofs.Common.{◌≡◌, ◌≢◌, ◌≤◌, ◌^◌, ℕ, ◌+◌, List, [], ◌∷◌, ◌++◌, length, get_or, Some, None, refl, sym, ap, ◌∙◌, All, sum_by, arith, IsSome, is_some, true}
+use Rattle.std.specs.Vec.{vec_capacity, vec_len}
 use Rattle.std.proofs.lemmas.List.Elements.{All-push, All-weaker, filter_map-append}
 use Rattle.std.proofs.lemmas.List.Quantifiers.{all_pairs_push}
 use Rattle.std.proofs.lemmas.List.Sums.{sum_by_push}
 use Rattle.adlb_unit.specs.declared.units.Unit.{Unit}
-use Rattle.slab.specs.Slab.{Slab, get, Updates}
+use Rattle.slab.specs.Slab.{HasRoomFor, Slab, get, Updates}
 use Rattle.work_queue.proofs.Units.{units_one, units_same}
 use Rattle.work_queue.specs.Inside.{IsSound, queue_of}
-use Rattle.work_queue.specs.Queue.{IsSmall, id_of, size_of, with_unit}
+use Rattle.work_queue.specs.Queue.{HasApartPromises, HasDistinctPromises, HasNoPromise, HasNoUnit, IsSmall, id_of, promised, size_of}
 use Rattle.work_queue.specs.Units.{units_at}
 use Rattle.work_queue.specs.declared.placing.Placed.{Placed}
 use Rattle.work_queue.specs.declared.queues.WorkQueue.TheInside.{Inside}
@@ -31,25 +32,56 @@ units_added old new order key p there vacant updates =
     let differ : All Q order = All-weaker P Q (λ k some. kept_at old new key k p vacant updates some) order there in
     rw (filter_map-append, units_same old new order differ, units_one new key, updates.changed) refl
 
-pub sound_added : (w : Inside) (new : Slab Placed) (key : ℕ) (unit : Unit) → IsSound w → get w.slots key ≡ None → Updates w.slots new key (Some (record { unit = unit; pin = None })) → All (λ p. id_of p ≢ unit.id) (units_at w.slots w.order.items) → length unit.body ≤ 2 ^ 20 → w.charge + length unit.body ≤ w.limit → (v : Inside) → v.slots ≡ new → v.order.items ≡ w.order.items ++ key ∷ [] → v.charge ≡ w.charge + length unit.body → v.limit ≡ w.limit → IsSound v
-sound_added w new key unit sound vacant updates fresh small fits v slots order charge limit =
-    let p : Placed = record { unit = unit; pin = None } in
-    let P : ℕ → Type 0 = λ k. IsSome (get new k) in
-    let O : ℕ → Type 0 = λ k. IsSome (get w.slots k) in
-    let S : Placed → Type 0 = λ q. IsSmall q in
-    let old : List Placed = units_at w.slots w.order.items in
-    let units : units_at new (w.order.items ++ key ∷ []) ≡ old ++ p ∷ [] = units_added w.slots new w.order.items key p sound.there vacant updates in
-    let here : get new key ≡ Some p = updates.changed in
-    record {
-      there = rw (slots, order) (All-push P w.order.items key (All-weaker O P (λ k some. rw (kept_at w.slots new key k p vacant updates some) some) w.order.items sound.there) (rw here refl));
-      distinct = rw (slots, order, units) (all_pairs_push (λ a b. id_of a ≢ id_of b) old p sound.distinct (λ k d within. fresh k d within));
-      small = rw (slots, order, units) (All-push S old p sound.small small);
-      charge = rw (charge, slots, order, units, sum_by_push size_of old p) (omega (arith, sound.charge));
-      within = rw (charge, limit) fits;
-    }
+-- a unit comes into the queue w under the key, and leaves the queue v
+pub record Comes (w v : Inside) (key : ℕ) (unit : Unit) : Type 0 where
+  pub vacant : get w.slots key ≡ None
+  pub updates : Updates w.slots v.slots key (Some (record { unit = unit; pin = None }))
+  pub order : v.order.items ≡ w.order.items ++ key ∷ []
+  pub fresh : HasNoUnit unit.id (units_at w.slots w.order.items)
+  pub small : length unit.body ≤ 2 ^ 20
+  pub once : HasDistinctPromises v.rooms
+  pub apart : HasApartPromises (units_at w.slots w.order.items) v.rooms
+  pub unpromised : HasNoPromise unit.id v.rooms
+  pub charge : v.charge ≡ sum_by size_of (units_at w.slots w.order.items) + length unit.body + sum_by promised v.rooms + v.common
+  pub within : v.charge ≤ v.limit
+  pub slots_room : HasRoomFor v.slots (length v.rooms)
+  pub order_room : vec_len v.order + length v.rooms ≤ vec_capacity v.order
 
-pub view_added : (w : Inside) (new : Slab Placed) (key : ℕ) (unit : Unit) → IsSound w → get w.slots key ≡ None → Updates w.slots new key (Some (record { unit = unit; pin = None })) → (v : Inside) → v.slots ≡ new → v.order.items ≡ w.order.items ++ key ∷ [] → v.arrivals ≡ w.arrivals + 1 → v.limit ≡ w.limit → queue_of v ≡ with_unit (queue_of w) unit
-view_added w new key unit sound vacant updates v slots order arrivals limit =
-    let p : Placed = record { unit = unit; pin = None } in
-    let units : units_at new (w.order.items ++ key ∷ []) ≡ units_at w.slots w.order.items ++ p ∷ [] = units_added w.slots new w.order.items key p sound.there vacant updates in
-    rw (slots, order, units, arrivals, limit) refl
+module _ (w v : Inside) (key : ℕ) (unit : Unit) (sound : IsSound w) (comes : Comes w v key unit) where
+  pub units_come : units_at v.slots v.order.items ≡ units_at w.slots w.order.items ++ record { unit = unit; pin = None } ∷ []
+  units_come = ap (λ o. units_at v.slots o) comes.order ∙ units_added w.slots v.slots w.order.items key (record { unit = unit; pin = None }) sound.there comes.vacant comes.updates
+
+  keys_there : All (λ k. IsSome (get v.slots k)) (w.order.items ++ key ∷ [])
+  keys_there =
+      let now : Placed = record { unit = unit; pin = None } in
+      let P : ℕ → Type 0 = λ k. IsSome (get v.slots k) in
+      let O : ℕ → Type 0 = λ k. IsSome (get w.slots k) in
+      let here : get v.slots key ≡ Some now = comes.updates.changed in
+      All-push P w.order.items key (All-weaker O P (λ k some. rw (kept_at w.slots v.slots key k now comes.vacant comes.updates some) some) w.order.items sound.there) (rw here refl)
+
+  apart_still : HasApartPromises (units_at w.slots w.order.items ++ record { unit = unit; pin = None } ∷ []) v.rooms
+  apart_still k d within =
+      let now : Placed = record { unit = unit; pin = None } in
+      let id = (get_or v.rooms k d).id in
+      let P : Placed → Type 0 = λ q. id_of q ≢ id in
+      All-push P (units_at w.slots w.order.items) now (comes.apart k d within) (λ same. comes.unpromised k d within (sym same))
+
+  pub sound_come : IsSound v
+  sound_come =
+      let now : Placed = record { unit = unit; pin = None } in
+      let units : List Placed = units_at w.slots w.order.items in
+      let S : Placed → Type 0 = λ q. IsSmall q in
+      record {
+        there = rw comes.order keys_there;
+        distinct = rw units_come (all_pairs_push (λ a b. id_of a ≢ id_of b) units now sound.distinct comes.fresh);
+        small = rw units_come (All-push S units now sound.small comes.small);
+        once = comes.once;
+        apart = rw units_come apart_still;
+        charge = comes.charge ∙ rw units_come (omega (arith, sum_by_push size_of units now));
+        within = comes.within;
+        slots_room = comes.slots_room;
+        order_room = comes.order_room;
+      }
+
+  pub view_come : queue_of v ≡ record { units = units_at w.slots w.order.items ++ record { unit = unit; pin = None } ∷ []; promises = v.rooms; common = v.common; arrivals = v.arrivals; limit = v.limit }
+  view_come = rw units_come refl

@@ -1,27 +1,24 @@
 -- Units by their ids: a pin and a removal in a list of units of distinct ids.
-use Rattle.std.proofs.Common.{◌≡◌, ◌≢◌, ◌<◌, ℕ, suc, ◌+◌, Bool, true, false, cond, List, [], ◌∷◌, ◌++◌, length, get_or, map, Some, refl, sym, ap, ◌∙◌, All, arith, eqb, length-append, sum_by, Contains, inl, inr}
+use Rattle.std.proofs.Common.{◌≡◌, ◌≢◌, ◌<◌, ℕ, Bool, true, false, cond, List, [], ◌∷◌, ◌++◌, length, get_or, map, Some, refl, sym, ap, ◌∙◌, All, arith, sum_by, Contains}
 use Rattle.std.specs.List.{filter}
-use Rattle.std.proofs.lemmas.List.{map-append, get_or_append_left, get_or_at, get_or-append-add, get_or-map, get_or_default, length-map}
-use Rattle.std.proofs.lemmas.List.Elements.{All-head, All-tail, All-weaker, All-map, filter-append}
+use Rattle.std.proofs.lemmas.List.{map-append, get_or-map, length-map}
+use Rattle.std.proofs.lemmas.List.Elements.{All-head, All-tail, All-weaker, All-map}
 use Rattle.std.proofs.lemmas.List.Sums.{sum_by-cons}
-use Rattle.std.proofs.lemmas.Bool.{and_parts, and_from, eqb-true, eq-eqb, false_from_ne_true, cases_order}
 use Rattle.adlb_unit.specs.declared.names.Rank.{Rank}
 use Rattle.adlb_unit.specs.declared.names.UnitId.{UnitId}
+use Rattle.work_queue.proofs.Named as named
+use Rattle.work_queue.proofs.SameId as test
 use Rattle.work_queue.specs.Queue.{HasDistinctIds, IsSmall, has_other_id, id_of, pinned_by, same_id, size_of}
 use Rattle.work_queue.specs.declared.placing.Placed.{Placed}
 
 pub same_is : (a b : UnitId) → a ≡ b → same_id a b ≡ true
-same_is a b e = and_from (eqb a.rank.0 b.rank.0) (eqb a.number b.number) (eq-eqb a.rank.0 b.rank.0 (ap (λ u. u.rank.0) e)) (eq-eqb a.number b.number (ap (λ u. u.number) e))
+same_is = test.same_is
 
 pub is_same : (a b : UnitId) → same_id a b ≡ true → a ≡ b
-is_same a b e =
-    let parts = and_parts (eqb a.rank.0 b.rank.0) (eqb a.number b.number) e in
-    let with_number : ℕ → UnitId = λ n. record { rank = a.rank; number = n } in
-    let with_rank : ℕ → UnitId = λ r. record { rank = record { 0 = r }; number = b.number } in
-    ap with_number (eqb-true a.number b.number parts.1) ∙ ap with_rank (eqb-true a.rank.0 b.rank.0 parts.0)
+is_same = test.is_same
 
 pub differs_is : (a b : UnitId) → a ≢ b → same_id a b ≡ false
-differs_is a b differs = false_from_ne_true (same_id a b) (λ t. differs (is_same a b t))
+differs_is = test.differs_is
 
 -- a unit of another id stays as it is
 pub other_stays : (id : UnitId) (rank : Rank) (q : Placed) → id_of q ≢ id → pinned_by id rank q ≡ q
@@ -44,26 +41,12 @@ map_others id rank (q ∷ units) others =
     let P : Placed → Type 0 = λ q. id_of q ≢ id in
     rw (other_stays id rank q (All-head P q units others), map_others id rank units (All-tail P q units others)) refl
 
-pub filter_others : (id : UnitId) (units : List Placed) → All (λ q. id_of q ≢ id) units → filter (has_other_id id) units ≡ units
-filter_others id [] others = refl
-filter_others id (q ∷ units) others =
-    let P : Placed → Type 0 = λ q. id_of q ≢ id in
-    rw (differs_is (id_of q) id (All-head P q units others), filter_others id units (All-tail P q units others)) refl
-
 -- the units on both sides of one have other ids
 pub others_before : (front back : List Placed) (p : Placed) (id : UnitId) → HasDistinctIds (front ++ p ∷ back) → id_of p ≡ id → All (λ q. id_of q ≢ id) front
-others_before front back p id distinct is k d within same =
-    let here : get_or (front ++ p ∷ back) k d ≡ get_or front k d = get_or_append_left front (p ∷ back) d k within in
-    let there : get_or (front ++ p ∷ back) (length front) d ≡ p = get_or_at front p back d (length front) refl in
-    let long : length (front ++ p ∷ back) ≡ length front + suc (length back) = length-append front (p ∷ back) in
-    distinct k (length front) d within (omega arith) (ap id_of here ∙ same ∙ sym is ∙ sym (ap id_of there))
+others_before = named.others_before id_of
 
 pub others_after : (front back : List Placed) (p : Placed) (id : UnitId) → HasDistinctIds (front ++ p ∷ back) → id_of p ≡ id → All (λ q. id_of q ≢ id) back
-others_after front back p id distinct is k d within same =
-    let here : get_or (front ++ p ∷ back) (length front + suc k) d ≡ get_or back k d = get_or-append-add front (p ∷ back) (suc k) d in
-    let there : get_or (front ++ p ∷ back) (length front) d ≡ p = get_or_at front p back d (length front) refl in
-    let long : length (front ++ p ∷ back) ≡ length front + suc (length back) = length-append front (p ∷ back) in
-    distinct (length front) (length front + suc k) d (omega arith) (omega arith) (ap id_of there ∙ is ∙ sym same ∙ sym (ap id_of here))
+others_after = named.others_after id_of
 
 pub map_at : (front back : List Placed) (p : Placed) (id : UnitId) (rank : Rank) → HasDistinctIds (front ++ p ∷ back) → id_of p ≡ id → map (pinned_by id rank) (front ++ p ∷ back) ≡ front ++ record p { pin = Some rank } ∷ back
 map_at front back p id rank distinct is =
@@ -71,20 +54,11 @@ map_at front back p id rank distinct is =
     ∙ rw (map_others id rank front (others_before front back p id distinct is), this_pinned id rank p is, map_others id rank back (others_after front back p id distinct is)) refl
 
 pub filter_at : (front back : List Placed) (p : Placed) (id : UnitId) → HasDistinctIds (front ++ p ∷ back) → id_of p ≡ id → filter (has_other_id id) (front ++ p ∷ back) ≡ front ++ back
-filter_at front back p id distinct is =
-    filter-append (has_other_id id) front (p ∷ back)
-    ∙ rw (filter_others id front (others_before front back p id distinct is), same_is (id_of p) id is, filter_others id back (others_after front back p id distinct is)) refl
+filter_at = named.filter_at id_of
 
 -- a unit of the list is the only one of its id
 pub only_one : (units : List Placed) (k : ℕ) (d p : Placed) → HasDistinctIds units → Contains units p → k < length units → id_of (get_or units k d) ≡ id_of p → get_or units k d ≡ p
-only_one units k d p distinct there within same =
-    let j = there.0 in
-    let at : get_or units j d ≡ p = get_or_default units j d p there.1 ∙ there.2 in
-    elim (cases_order k j) [
-      | inl here ↦ ap (λ i. get_or units i d) here ∙ at
-      | inr (inl below) ↦ absurd (distinct k j d below there.1 (same ∙ sym (ap id_of at)))
-      | inr (inr above) ↦ absurd (distinct j k d above within (ap id_of at ∙ sym same))
-    ]
+only_one = named.only_one id_of
 
 -- ids stay distinct where units are pinned
 pub distinct_pinned : (id : UnitId) (rank : Rank) (units : List Placed) → HasDistinctIds units → HasDistinctIds (map (pinned_by id rank) units)

@@ -8,7 +8,7 @@ use Rattle.adlb_unit.specs.declared.names.Rank.{Rank}
 use Rattle.adlb_unit.specs.declared.names.Target.{Target}
 use Rattle.adlb_unit.specs.declared.names.Target.TheVariants.{Any, Only}
 use Rattle.adlb_unit.specs.declared.names.WorkType.{WorkType}
-use Rattle.adlb_unit.specs.Permit.{HasKind, IsFor, has_kind, is_for, permitted}
+use Rattle.adlb_unit.specs.Permit.{HasKind, IsFor, Permits, has_kind, is_for, permitted}
 use Rattle.work_queue.specs.Best.{ByPriority, ByTarget, IsOffered, is_own, offered, same}
 use Rattle.work_queue.specs.declared.placing.Placed.{Placed}
 
@@ -42,21 +42,27 @@ is_is_for : (target : Target) (rank : Rank) → IsFor target rank → is_for tar
 is_is_for Any rank for = refl
 is_is_for (Only only) rank for = eq-eqb only.0 rank.0 (ap (λ r. r.0) for)
 
-free_is : (pin : Option Rank) → is_none pin ≡ true → pin ≡ None
+pub free_is : (pin : Option Rank) → is_none pin ≡ true → pin ≡ None
 free_is None test = refl
 free_is (Some rank) test = absurd (false≢true test)
+
+-- the test tells what is permitted
+pub permitted_is : (rank : Rank) (types : Option (List WorkType)) (kind : WorkType) (target : Target) → permitted rank types kind target ≡ true → Permits rank types kind target
+permitted_is rank types kind target test =
+    let parts = and_parts (is_for target rank) (has_kind types kind) test in
+    (has_kind_is types kind parts.1, is_for_is target rank parts.0)
+
+pub is_permitted : (rank : Rank) (types : Option (List WorkType)) (kind : WorkType) (target : Target) → Permits rank types kind target → permitted rank types kind target ≡ true
+is_permitted rank types kind target is = and_from (is_for target rank) (has_kind types kind) (is_is_for target rank is.1) (is_has_kind types kind is.0)
 
 -- the test tells the offered units
 pub offered_is : (rank : Rank) (types : Option (List WorkType)) (p : Placed) → offered rank types p ≡ true → IsOffered rank types p
 offered_is rank types p test =
     let free = and_parts (is_none p.pin) (permitted rank types p.unit.kind p.unit.target) test in
-    let parts = and_parts (is_for p.unit.target rank) (has_kind types p.unit.kind) free.1 in
-    (free_is p.pin free.0, (has_kind_is types p.unit.kind parts.1, is_for_is p.unit.target rank parts.0))
+    (free_is p.pin free.0, permitted_is rank types p.unit.kind p.unit.target free.1)
 
 pub is_offered : (rank : Rank) (types : Option (List WorkType)) (p : Placed) → IsOffered rank types p → offered rank types p ≡ true
-is_offered rank types p is =
-    and_from (is_none p.pin) (permitted rank types p.unit.kind p.unit.target) (rw is.0 refl)
-    (and_from (is_for p.unit.target rank) (has_kind types p.unit.kind) (is_is_for p.unit.target rank is.1.1) (is_has_kind types p.unit.kind is.1.0))
+is_offered rank types p is = and_from (is_none p.pin) (permitted rank types p.unit.kind p.unit.target) (rw is.0 refl) (is_permitted rank types p.unit.kind p.unit.target is.1)
 
 -- the test that a later unit, of target u and priority b, is strictly better than one of target t and priority a
 abbrev pub passes : Target → Target → ℤ → ℤ → Bool

@@ -1,16 +1,17 @@
 -- A queue with one unit less.
 use Rattle.std.proofs.Common.{◌≡◌, ◌≢◌, ◌≤◌, ◌+◌, ◌-◌, ℕ, suc, List, ◌∷◌, ◌++◌, get_or, take, drop, None, refl, sym, ap, ◌∙◌, All, arith, IsSome, sum_by}
 use Rattle.std.specs.List.{filter, remove}
+use Rattle.std.specs.Vec.{vec_capacity, vec_len}
 use Rattle.std.proofs.lemmas.List.Elements.{All-append, All-take, All-drop, All-filter, filter_map-append}
 use Rattle.std.proofs.lemmas.List.Kept.{AllPairs-filter}
 use Rattle.std.proofs.lemmas.List.Sums.{sum_by-append, sum_by-cons}
 use Rattle.adlb_unit.specs.declared.names.UnitId.{UnitId}
-use Rattle.slab.specs.Slab.{Slab, get, Updates}
+use Rattle.slab.specs.Slab.{Slab, get, slab_len, Updates}
 use Rattle.work_queue.proofs.Found.{IsFound}
 use Rattle.work_queue.proofs.Ids.{filter_at}
 use Rattle.work_queue.proofs.Units.{Parts, parts_at, units_besides, units_parted}
 use Rattle.work_queue.specs.Inside.{IsSound, queue_of}
-use Rattle.work_queue.specs.Queue.{IsSmall, has_other_id, id_of, size_of, without}
+use Rattle.work_queue.specs.Queue.{HasNoUnit, IsSmall, has_other_id, id_of, size_of, without}
 use Rattle.work_queue.specs.Units.{units_at}
 use Rattle.work_queue.specs.declared.placing.Placed.{Placed}
 use Rattle.work_queue.specs.declared.queues.WorkQueue.TheInside.{Inside}
@@ -49,11 +50,16 @@ module _ (w : Inside) (new : Slab Placed) (place key : ℕ) (p : Placed) (id : U
   units : units_at new (remove w.order.items place) ≡ filter (has_other_id id) (units_at w.slots w.order.items)
   units = units_taken w.slots new w.order.items (take place w.order.items) (drop (suc place) w.order.items) key p parts updates id at.has_id
 
+  apart_left : (old : List Placed) (other : UnitId) → HasNoUnit other old → HasNoUnit other (filter (has_other_id id) old)
+  apart_left old other apart =
+      let P : Placed → Type 0 = λ q. id_of q ≢ other in
+      All-filter (has_other_id id) P old apart
+
   pub size_within : size_of p ≤ w.charge
   size_within = omega (arith, sizes, sound.charge)
 
-  pub sound_taken : (v : Inside) → v.slots ≡ new → v.order.items ≡ remove w.order.items place → v.charge ≡ w.charge - size_of p → v.limit ≡ w.limit → IsSound v
-  sound_taken v slots order charge limit =
+  pub sound_taken : (v : Inside) → v.slots ≡ new → v.order.items ≡ remove w.order.items place → v.charge ≡ w.charge - size_of p → v.limit ≡ w.limit → v.rooms ≡ w.rooms → v.common ≡ w.common → slab_len new + 1 ≡ slab_len w.slots → new.capacity ≡ w.slots.capacity → vec_len v.order + 1 ≡ vec_len w.order → vec_capacity v.order ≡ vec_capacity w.order → IsSound v
+  sound_taken v slots order charge limit rooms common slab_less slab_same order_less order_same =
       let O : ℕ → Type 0 = λ k. IsSome (get w.slots k) in
       let P : ℕ → Type 0 = λ k. IsSome (get new k) in
       let S : Placed → Type 0 = λ q. IsSmall q in
@@ -65,9 +71,13 @@ module _ (w : Inside) (new : Slab Placed) (place key : ℕ) (p : Placed) (id : U
         there = rw (slots, order) (All-append P front back before after);
         distinct = rw (slots, order, units) (AllPairs-filter (λ a b. id_of a ≢ id_of b) (has_other_id id) (units_at w.slots w.order.items) sound.distinct);
         small = rw (slots, order, units) (All-filter (has_other_id id) S (units_at w.slots w.order.items) sound.small);
-        charge = rw (charge, slots, order) (omega (arith, sizes, sound.charge));
+        once = rw rooms sound.once;
+        apart = rw (rooms, slots, order, units) (λ k d within. apart_left (units_at w.slots w.order.items) (get_or w.rooms k d).id (sound.apart k d within));
+        charge = rw (charge, slots, order, rooms, common) (omega (arith, sizes, sound.charge));
         within = omega (arith, charge, limit, sound.within);
+        slots_room = rw (slots, rooms) (omega (arith, slab_less, slab_same, sound.slots_room));
+        order_room = rw rooms (omega (arith, order_less, order_same, sound.order_room));
       }
 
-  pub view_taken : (v : Inside) → v.slots ≡ new → v.order.items ≡ remove w.order.items place → v.arrivals ≡ w.arrivals → v.limit ≡ w.limit → queue_of v ≡ without (queue_of w) id
-  view_taken v slots order arrivals limit = rw (slots, order, units, arrivals, limit) refl
+  pub view_taken : (v : Inside) → v.slots ≡ new → v.order.items ≡ remove w.order.items place → v.arrivals ≡ w.arrivals → v.limit ≡ w.limit → v.rooms ≡ w.rooms → v.common ≡ w.common → queue_of v ≡ without (queue_of w) id
+  view_taken v slots order arrivals limit rooms common = rw (slots, order, units, arrivals, limit, rooms, common) refl

@@ -5,10 +5,12 @@ ghost use Rattle.std.specs.List.{slice_get};
 ghost use Rattle.std.specs.Option.{option_map};
 ghost use Rattle.work_queue.specs.Best.{IsBest, IsOffered, best_of};
 ghost use Rattle.work_queue.specs.Facts.{facts_of};
-ghost use Rattle.work_queue.specs.Queue.{Queue, Promise, HasDistinctIds, HasFree, HasPinned, IsSmall, Overfills, charge_of, id_of, seen, with_pin, with_unit, without};
+ghost use Rattle.work_queue.specs.Queue.{Queue, Promise, HasApartPromises, HasDistinctIds, HasDistinctPromises, HasFree, HasPinned, HasUnit, IsSmall, Overfills, charge_of, id_of, seen, with_pin, with_unit, without};
 
+use crate::growth::make_room;
 use crate::placing::{Placed, UnitFacts};
 use crate::rating::Rated;
+use crate::rooms::Rooms;
 use crate::searching::{consider, pin_at, place_of, seen_at, take_at};
 use adlb_unit::{Payload, Rank, Types, Unit, UnitId};
 use slab::Slab;
@@ -27,17 +29,22 @@ pub enum AddFault {
     Memory,
 }
 
-/// The units of one server in arrival order, each with its pin, within a limit of bytes. Contracts see it as
-/// a `Queue` of `specs/Queue.antt`.
+/// The units of one server in arrival order, each with its pin, beside the room that is promised to units on
+/// their way and the bytes of common parts, all within a limit of bytes. Contracts see it as a `Queue` of
+/// `specs/Queue.antt`. Only `add` and `promise` take memory.
 #[derive(Drop)]
 pub struct WorkQueue {
     // The units, each under a key that it keeps as long as it stays.
-    slots: Slab<Placed>,
-    // The keys in arrival order.
-    order: Vec<usize>,
-    charge: u64,
-    arrivals: u64,
-    limit: u64,
+    pub(crate) slots: Slab<Placed>,
+    // The keys in arrival order. Both have room for each unit that is promised room.
+    pub(crate) order: Vec<usize>,
+    pub(crate) rooms: Rooms,
+    // The bytes of common parts.
+    pub(crate) common: u64,
+    // The bytes of units, promises and common parts together.
+    pub(crate) charge: u64,
+    pub(crate) arrivals: u64,
+    pub(crate) limit: u64,
 }
 
 impl Model for WorkQueue {
@@ -60,6 +67,8 @@ impl WorkQueue {
         WorkQueue {
             slots: Slab::new(alloc),
             order: Vec::new(alloc),
+            rooms: Rooms::new(alloc),
+            common: 0,
             charge: 0,
             arrivals: 0,
             limit,
@@ -68,12 +77,15 @@ impl WorkQueue {
 
     /// The bytes that the bodies of the queue's units, its promises and its common parts take together
     /// (`charge_of`). They are never more than the limit. Besides, it tells what is so of each queue: no two
-    /// units have the same id, and no body has more than 2^20 bytes.
+    /// units have the same id, no body has more than 2^20 bytes, no two promises are of the same id, and no
+    /// unit has the id of a promise.
     pub fn charge(&self) -> u64
         ensures exact { result ≡ charge_of self.now }
         ensures within { result ≤ self.now.limit }
         ensures distinct { HasDistinctIds self.now.units }
         ensures small { All IsSmall self.now.units }
+        ensures once { HasDistinctPromises self.now.promises }
+        ensures apart { HasApartPromises self.now.units self.now.promises }
     {
         self.charge
     }
@@ -105,10 +117,8 @@ impl WorkQueue {
             let charge = self.charge;
             return Err((unit, AddFault::Full { charge }));
         }
-        if self.slots.reserve(1).is_err() {
-            return Err((unit, AddFault::Memory));
-        }
-        if self.order.reserve(1).is_err() {
+        let more = self.rooms.len() + 1;
+        if make_room(&mut self.slots, &mut self.order, more).is_err() {
             return Err((unit, AddFault::Memory));
         }
         let key = self.slots.insert_reserved(Placed { unit, pin: None });
@@ -157,11 +167,30 @@ impl WorkQueue {
         ensures taken { self.new ≡ without self.old id }
         ensures body { All (λ p. id_of p ≡ id → result ≡ p.unit.body) self.old.units }
     {
+        self.take_out(id).body
+    }
+
+    /// Takes the free unit of this id away and gives it. The charge falls by its body's length, and nothing
+    /// else changes (`without`).
+    pub fn remove_free(&mut self, id: UnitId) -> Unit
+        requires { HasFree id self.old.units }
+        ensures taken { self.new ≡ without self.old id }
+        ensures unit { All (λ p. id_of p ≡ id → result ≡ p.unit) self.old.units }
+    {
+        self.take_out(id)
+    }
+
+    // Takes the unit of this id away.
+    fn take_out(&mut self, id: UnitId) -> Unit
+        requires { HasUnit id self.old.units }
+        ensures taken { self.new ≡ without self.old id }
+        ensures unit { All (λ p. id_of p ≡ id → result ≡ p.unit) self.old.units }
+    {
         let place = place_of(&self.slots, &self.order, id);
         let key = self.order.remove(place);
-        let body = take_at(&mut self.slots, key);
-        self.charge -= body.len() as u64;
-        body
+        let unit = take_at(&mut self.slots, key);
+        self.charge -= unit.body.len() as u64;
+        unit
     }
 
     /// The unit at this place of the arrival order, counted from 0, with its pin. There is none exactly where

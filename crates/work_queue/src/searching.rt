@@ -1,17 +1,17 @@
 //! Units in their slots, by the list of keys in arrival order.
 
-ghost use Rattle.std.specs.Prelude.{◌≡◌, ◌<◌, ◌^◌, ◌≤◌, ◌↔◌, IfSome, IsSome, IsTrue, None, Some, length, slice_index};
-ghost use Rattle.std.specs.Option.{option_map, option_to_list};
-ghost use Rattle.slab.specs.Slab.{get, with_value, Updates};
+ghost use Rattle.std.specs.Prelude.{◌≡◌, ◌<◌, ◌^◌, ◌≤◌, ◌↔◌, IfSome, IsSome, IsTrue, None, Some, ◌+◌, find, length, slice_index};
+ghost use Rattle.std.specs.Option.{option_copied, option_map, option_to_list};
+ghost use Rattle.slab.specs.Slab.{get, slab_len, with_value, Updates};
 ghost use Rattle.work_queue.specs.Best.{best_from};
 ghost use Rattle.work_queue.specs.Facts.{facts_of};
-ghost use Rattle.work_queue.specs.Queue.{HasUnit, IsSmall, seen};
+ghost use Rattle.work_queue.specs.Queue.{HasUnit, IsSmall, is_unit, seen};
 ghost use Rattle.work_queue.specs.Units.{units_at, HasId};
 ghost use Rattle.work_queue.specs.declared.placing.Placed.{Placed};
 
 use crate::placing::{Placed, UnitFacts};
 use crate::rating::{Rated, better_of, is_offered, rate};
-use adlb_unit::{Payload, Rank, Types, UnitId};
+use adlb_unit::{Rank, Types, Unit, UnitId};
 use slab::Slab;
 
 // The better of what was found before and the unit under the key, where that is offered.
@@ -84,14 +84,32 @@ pub(crate) fn pin_at(slots: &mut Slab<Placed>, key: usize, rank: Rank) -> UnitFa
     placed.facts()
 }
 
-// Takes the unit under the key away, and gives its body.
-pub(crate) fn take_at(slots: &mut Slab<Placed>, key: usize) -> Payload
+// Takes the unit under the key away. The room that it had is free again.
+pub(crate) fn take_at(slots: &mut Slab<Placed>, key: usize) -> Unit
     requires { IsSome (get slots.old key) }
-    ensures body { (p : Placed) → get slots.old key ≡ Some p → result ≡ p.unit.body }
+    ensures unit { (p : Placed) → get slots.old key ≡ Some p → result ≡ p.unit }
     ensures taken { Updates slots.old slots.new key None }
+    ensures len { slab_len slots.new + 1 ≡ slab_len slots.old }
+    ensures capacity { slots.new.capacity ≡ slots.old.capacity }
 {
     let Some(placed) = slots.try_remove(key) else {
         unreachable!()
     };
-    placed.unit.body
+    placed.unit
+}
+
+// The unit of this id.
+pub(crate) fn unit_of<'a>(
+    slots: &'a Slab<Placed>,
+    order: &[usize],
+    id: UnitId,
+) -> Option<&'a Placed>
+    ensures { option_copied result ≡ find (is_unit id) (units_at slots.now order.now) }
+{
+    for key in order {
+        if has_id(slots, *key, id) {
+            return slots.get(*key);
+        }
+    }
+    None
 }

@@ -1,7 +1,7 @@
 //! Tests of values that were found by hand, and that the calls succeed where there is memory.
 
-ghost use Rattle.std.specs.Prelude.{◌≡◌, ◌≢◌, ◌≤◌, ◌<◌, ◌+◌, ◌^◌, [], All, IfOk, length};
-ghost use Rattle.work_queue.specs.Queue.{id_of};
+ghost use Rattle.std.specs.Prelude.{◌≡◌, ◌≢◌, ◌≤◌, ◌<◌, ◌+◌, ◌^◌, [], All, IfOk, IsTrue, length};
+ghost use Rattle.work_queue.specs.Queue.{HasNoPromise, HasNoUnit, id_of};
 
 use super::*;
 use adlb_unit::{Payload, Rank, Target, Types, Unit, UnitId, WorkType};
@@ -31,6 +31,22 @@ fn unit(
         common: None,
         body: Payload::from_vec(bytes),
     })
+}
+
+// The id of the unit of this number.
+fn number(number: u64) -> UnitId {
+    UnitId {
+        rank: Rank(0),
+        number,
+    }
+}
+
+// Neither a unit nor a promise has this id.
+fn is_new(queue: &WorkQueue, id: UnitId) -> bool
+    ensures unit { IsTrue result → HasNoUnit id queue.now.units }
+    ensures promise { IsTrue result → HasNoPromise id queue.now.promises }
+{
+    !queue.has_unit(id) && queue.promised(id).is_none()
 }
 
 // Adds a unit to those of lower numbers, and gives the fault if there is one.
@@ -67,6 +83,9 @@ fn takes_units_up_to_the_limit(rt: HostRuntime) -> Result<(), Fail> {
         assert_eq!(rt; queue.charge(), charge, "at {place}");
     }
     assert_eq!(rt; queue.arrivals(), 3);
+    let fault = promise_new(&mut queue, number(4), 1);
+    assert_eq!(rt; fault, Some(AddFault::Full { charge: 64 }));
+    assert_eq!(rt; queue.first_to_push(), Some((number(3), 0)));
     Ok(())
 }
 
@@ -126,12 +145,141 @@ fn shows_units_in_arrival_order(rt: HostRuntime) -> Result<(), Fail> {
     let mut queue = filled(alloc, &[(5, 1, Target::Any), (5, 9, Target::Any)])?;
     let best = queue.best(Rank(3), &any).expect(&rt, "a unit is offered");
     queue.pin(best, Rank(3));
-    let first = UnitId {
-        rank: Rank(0),
-        number: 0,
-    };
-    assert_eq!(rt; queue.unit_at(0), Some((first, None)));
+    assert_eq!(rt; queue.unit_at(0), Some((number(0), None)));
     assert_eq!(rt; queue.unit_at(1), Some((best, Some(Rank(3)))));
     assert_eq!(rt; queue.unit_at(2), None);
+    Ok(())
+}
+
+// Promises room to a unit of a new id.
+fn promise_new(queue: &mut WorkQueue, id: UnitId, n: u32) -> Option<AddFault> {
+    if !is_new(queue, id) {
+        return None;
+    }
+    queue.promise(id, n).err()
+}
+
+// Adds a unit of a new id.
+fn add_new(queue: &mut WorkQueue, unit: Unit) -> Option<AddFault>
+    requires { length unit.body ≤ 255 }
+{
+    if !is_new(queue, unit.id) || queue.arrivals() > 9 {
+        return None;
+    }
+    match queue.add(unit) {
+        Ok(()) => None,
+        Err((_, fault)) => Some(fault),
+    }
+}
+
+// Lets a unit come to which room of its length is promised.
+fn come(queue: &mut WorkQueue, unit: Unit)
+    requires { length unit.body ≤ 255 }
+{
+    let Some(length) = queue.promised(unit.id) else {
+        return;
+    };
+    if length as usize == unit.body.len() && queue.arrivals() < 9 {
+        queue.arrive(unit);
+    }
+}
+
+#[test]
+fn a_promised_unit_comes_after_later_ones(rt: HostRuntime) -> Result<(), Fail> {
+    let alloc = rt.alloc();
+    let mut queue = WorkQueue::new(alloc, 64);
+    let early = unit(alloc, 2, WorkType(5), 0, Target::Any, 24)?;
+    let more = unit(alloc, 3, WorkType(5), 0, Target::Any, 1)?;
+    let late = unit(alloc, 7, WorkType(5), 0, Target::Any, 40)?;
+    assert_eq!(rt; promise_new(&mut queue, late.id, 40), None);
+    assert_eq!(rt; add_new(&mut queue, early), None);
+    assert_eq!(rt;
+        add_new(&mut queue, more),
+        Some(AddFault::Full { charge: 64 })
+    );
+    come(&mut queue, late);
+    assert_eq!(rt; queue.unit_at(1), Some((number(7), None)));
+    assert_eq!(rt; queue.promised(number(7)), None);
+    assert_eq!(rt; (queue.charge(), queue.arrivals()), (64, 2));
+    Ok(())
+}
+
+// Takes the promise back, and the unit away, where they are there.
+fn clear(queue: &mut WorkQueue, promised: UnitId, free: UnitId) -> u64 {
+    if let Some(_length) = queue.promised(promised) {
+        queue.withdraw(promised);
+    }
+    if queue.is_free(free) {
+        let unit = queue.remove_free(free);
+        return unit.body.len() as u64;
+    }
+    0
+}
+
+#[test]
+fn promises_and_free_units_go(rt: HostRuntime) -> Result<(), Fail> {
+    let alloc = rt.alloc();
+    let mut queue = WorkQueue::new(alloc, 64);
+    let first = unit(alloc, 2, WorkType(5), 0, Target::Any, 24)?;
+    assert_eq!(rt; add_new(&mut queue, first), None);
+    assert_eq!(rt; promise_new(&mut queue, number(7), 40), None);
+    assert_eq!(rt; clear(&mut queue, number(7), number(2)), 24);
+    assert_eq!(rt; queue.charge(), 0);
+    assert!(rt; is_new(&queue, number(7)) && is_new(&queue, number(2)));
+    Ok(())
+}
+
+#[test]
+fn common_parts_take_room(rt: HostRuntime) {
+    let mut queue = WorkQueue::new(rt.alloc(), 64);
+    assert_eq!(rt; queue.hold(64), Ok(()));
+    assert_eq!(rt; queue.hold(1), Err(Full { charge: 64 }));
+    queue.release(60);
+    assert_eq!(rt; queue.charge(), 4);
+}
+
+// Units of two types, of which the second is pinned to rank 3.
+fn mixed(alloc: Global) -> Result<WorkQueue, Fail> {
+    let own = Target::Only(Rank(3));
+    let rows = [
+        (5, 1, Target::Any),
+        (5, 9, own),
+        (6, -4, own),
+        (5, 9, Target::Any),
+        (5, 1, Target::Any),
+        (6, 2, Target::Any),
+    ];
+    let mut queue = filled(alloc, &rows)?;
+    if let Some(best) = queue.best(Rank(3), &Types::any()) {
+        queue.pin(best, Rank(3));
+    }
+    Ok(queue)
+}
+
+#[test]
+fn tells_what_is_free(rt: HostRuntime) -> Result<(), Fail> {
+    let queue = mixed(rt.alloc())?;
+    let six = Types::list(&[WorkType(6)])?;
+    assert_eq!(rt; queue.first_to_push(), Some((number(4), 3)));
+    assert_eq!(rt; queue.fits(&[(Rank(2), six.twin())]), Some(number(5)));
+    assert_eq!(rt;
+        queue.fits(&[(Rank(2), six.twin()), (Rank(3), six)]),
+        Some(number(2))
+    );
+    let found = queue.counts(WorkType(5));
+    assert_eq!(rt; (found.free, found.top, found.at_top), (3, Some(9), 1));
+    Ok(())
+}
+
+#[test]
+fn tells_of_a_unit(rt: HostRuntime) -> Result<(), Fail> {
+    let queue = mixed(rt.alloc())?;
+    let id = number(1);
+    assert_eq!(rt; queue.pinned_to(id), Some(Rank(3)));
+    assert!(rt; !queue.is_free(id));
+    assert!(rt; queue.has_unit(id));
+    let (facts, target) = queue.facts(id);
+    assert_eq!(rt; (facts.prio, facts.length), (9, 3));
+    assert_eq!(rt; target, Target::Only(Rank(3)));
     Ok(())
 }

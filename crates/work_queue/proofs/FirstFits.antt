@@ -1,0 +1,96 @@
+-- The first unit that is permitted to some request.
+use Rattle.std.proofs.Common.{◌≡◌, ◌<◌, ◌≤◌, ◌+◌, ℕ, Bool, true, List, get_or, length, take, Option, Some, None, Any, refl, sym, ap, ◌∙◌, find, is_none}
+use Rattle.std.specs.List.{list_any}
+use Rattle.std.specs.Option.{option_map, option_to_list}
+use Rattle.std.proofs.lemmas.Bool.{and_parts, and_from, both_ways}
+use Rattle.std.proofs.lemmas.List.Folds.{Any-from_list_any, list_any-from_Any}
+use Rattle.std.proofs.lemmas.Option.{get_or_from_slice_get, none-some, same_Some}
+use Rattle.adlb_unit.specs.declared.names.Rank.{Rank}
+use Rattle.adlb_unit.specs.declared.names.UnitId.{UnitId}
+use Rattle.adlb_unit.specs.declared.names.WorkType.{WorkType}
+use Rattle.adlb_unit.specs.Permit.{permitted}
+use Rattle.slab.specs.Slab.{Slab, get}
+use Rattle.work_queue.proofs.Finding.{found_here, not_yet, nowhere}
+use Rattle.work_queue.proofs.Offers.{free_is, is_permitted, permitted_is}
+use Rattle.work_queue.proofs.Searched.{find_first, find_none}
+use Rattle.work_queue.specs.Fits.{IsAsked, IsFirstFit, asked_for, first_fit}
+use Rattle.work_queue.specs.Queue.{HasFree, id_of}
+use Rattle.work_queue.specs.Units.{units_at}
+use Rattle.work_queue.specs.declared.placing.Placed.{Placed}
+
+module _ (asked : List (Rank × Option (List WorkType))) where
+  abbrev permits : Placed → Rank × Option (List WorkType) → Bool
+  permits p a = permitted a.0 a.1 p.unit.kind p.unit.target
+
+  -- the test tells the units that are asked
+  asked_is : (p : Placed) → asked_for asked p ≡ true → IsAsked asked p
+  asked_is p test =
+      let parts = and_parts (is_none p.pin) (list_any (permits p) asked) test in
+      let some = Any-from_list_any (permits p) asked parts.1 in
+      (free_is p.pin parts.0, (some.0, some.1, some.2, some.3, permitted_is some.1.0 some.1.1 p.unit.kind p.unit.target some.4))
+
+  is_asked : (p : Placed) → IsAsked asked p → asked_for asked p ≡ true
+  is_asked p is =
+      let some = is.1 in
+      and_from (is_none p.pin) (list_any (permits p) asked) (rw is.0 refl)
+      (list_any-from_Any (permits p) asked (some.0, some.1, some.2, some.3, is_permitted some.1.0 some.1.1 p.unit.kind p.unit.target some.4))
+
+  -- what is found is a unit with this id
+  pub fit_found : (o : Option Placed) (id : UnitId) → Some id ≡ option_map id_of o → (p : Placed) × (o ≡ Some p) × (id_of p ≡ id)
+  fit_found None id same = absurd (none-some id (sym same))
+  fit_found (Some p) id same = (p, refl, sym (same_Some id (id_of p) same))
+
+  pub fit_missing : (o : Option Placed) → None ≡ option_map id_of o → o ≡ None
+  fit_missing None same = refl
+  fit_missing (Some p) same = absurd (none-some (id_of p) same)
+
+  -- the unit under the key at this place of the list is the first fit, where no unit before fits
+  pub fit_under : (slots : Slab Placed) (order items : List ℕ) (i : ℕ) (id : UnitId) → items ≡ order → i < length items → find (asked_for asked) (units_at slots (take i order)) ≡ None → Some id ≡ option_map id_of (find (asked_for asked) (option_to_list (get slots (get_or items i 0)))) → Some id ≡ first_fit asked (units_at slots order)
+  fit_under slots order items i id same within before here =
+      let within' : i < length order = rw same at within in
+      let here' : Some id ≡ option_map id_of (find (asked_for asked) (option_to_list (get slots (get_or order i 0)))) = rw same at here in
+      let found = fit_found (find (asked_for asked) (option_to_list (get slots (get_or order i 0)))) id here' in
+      sym (ap (λ o. option_map id_of o) (found_here (asked_for asked) slots order i found.0 within' before found.1) ∙ ap (λ a. Some a) found.2)
+
+  -- and where it does not fit either, no unit up to it does
+  pub no_fit_under : (slots : Slab Placed) (order items : List ℕ) (i : ℕ) → items ≡ order → i < length items → find (asked_for asked) (units_at slots (take i order)) ≡ None → None ≡ option_map id_of (find (asked_for asked) (option_to_list (get slots (get_or items i 0)))) → find (asked_for asked) (units_at slots (take (i + 1) order)) ≡ None
+  no_fit_under slots order items i same within before here =
+      let within' : i < length order = rw same at within in
+      let here' : None ≡ option_map id_of (find (asked_for asked) (option_to_list (get slots (get_or order i 0)))) = rw same at here in
+      not_yet (asked_for asked) slots order i within' before (fit_missing (find (asked_for asked) (option_to_list (get slots (get_or order i 0)))) here')
+
+  pub no_fit : (slots : Slab Placed) (order items : List ℕ) (i : ℕ) → items ≡ order → length items ≤ i → find (asked_for asked) (units_at slots (take i order)) ≡ None → None ≡ first_fit asked (units_at slots order)
+  no_fit slots order items i same past none =
+      let past' : length order ≤ i = rw same at past in
+      sym (ap (λ o. option_map id_of o) (nowhere (asked_for asked) slots order i past' none))
+
+  module _ (units : List Placed) (id : UnitId) (same : Some id ≡ first_fit asked units) where
+    pub fit_is : IsFirstFit asked units id
+    fit_is =
+        let found = fit_found (find (asked_for asked) units) id same in
+        let first = find_first (asked_for asked) units found.0 found.1 in
+        record {
+          place = first.place;
+          unit = found.0;
+          here = first.here;
+          has_id = found.2;
+          is_asked = asked_is found.0 first.passes;
+          is_first = λ other q before at is. both_ways (asked_for asked q) (ap (asked_for asked) (sym (get_or_from_slice_get units other q q at)) ∙ first.fails other q before) (is_asked q is);
+        }
+
+    pub some_asked : Any (IsAsked asked) units
+    some_asked =
+        let found = fit_found (find (asked_for asked) units) id same in
+        let first = find_first (asked_for asked) units found.0 found.1 in
+        (first.place, found.0, first.within, first.read, asked_is found.0 first.passes)
+
+    pub fit_is_free : HasFree id units
+    fit_is_free =
+        let found = fit_found (find (asked_for asked) units) id same in
+        let first = find_first (asked_for asked) units found.0 found.1 in
+        (first.place, found.0, first.within, first.read, (found.2, (asked_is found.0 first.passes).0))
+
+  pub none_asked : (units : List Placed) → None ≡ first_fit asked units → Any (IsAsked asked) units → ⊥
+  none_asked units same some =
+      let fails = find_none (asked_for asked) units (fit_missing (find (asked_for asked) units) same) some.0 some.1 some.2 in
+      both_ways (asked_for asked some.1) (ap (asked_for asked) (sym some.3) ∙ fails) (is_asked some.1 some.4)

@@ -1,0 +1,58 @@
+-- A queue with more room, and with one promise more or less.
+use Rattle.std.proofs.Common.{◌≡◌, ◌≢◌, ◌≤◌, ◌+◌, ℕ, List, ◌∷◌, [], ◌++◌, length, refl, ap, ◌∙◌, sum_by}
+use Rattle.std.specs.List.{filter}
+use Rattle.std.specs.Vec.{vec_capacity, vec_len}
+use Rattle.std.proofs.lemmas.List.Elements.{All-filter, All-push}
+use Rattle.std.proofs.lemmas.List.Kept.{AllPairs-filter}
+use Rattle.std.proofs.lemmas.List.Quantifiers.{all_pairs_push}
+use Rattle.adlb_unit.specs.declared.names.UnitId.{UnitId}
+use Rattle.slab.specs.Slab.{HasRoomFor}
+use Rattle.work_queue.specs.Inside.{IsSound, queue_of}
+use Rattle.work_queue.specs.Queue.{HasApartPromises, HasDistinctPromises, HasNoPromise, HasNoUnit, Promise, is_for_other, promised, size_of}
+use Rattle.work_queue.specs.Units.{units_at}
+use Rattle.work_queue.specs.declared.placing.Placed.{Placed}
+use Rattle.work_queue.specs.declared.queues.WorkQueue.TheInside.{Inside}
+
+-- the slots and the list of keys of v are those of w, with room for each promise of v
+pub record IsGrown (w v : Inside) : Type 0 where
+  pub slots : v.slots ≡ record w.slots { capacity = v.slots.capacity }
+  pub items : v.order.items ≡ w.order.items
+  pub slots_room : HasRoomFor v.slots (length v.rooms)
+  pub order_room : vec_len v.order + length v.rooms ≤ vec_capacity v.order
+
+module _ (w v : Inside) (sound : IsSound w) (grown : IsGrown w v) where
+  pub units_kept : units_at v.slots v.order.items ≡ units_at w.slots w.order.items
+  units_kept = ap (λ o. units_at v.slots o) grown.items ∙ ap (λ s. units_at s w.order.items) grown.slots
+
+  -- promises that are sound with the units of w, and the charge with them
+  pub sound_rooms : HasDistinctPromises v.rooms → HasApartPromises (units_at w.slots w.order.items) v.rooms → v.charge ≡ sum_by size_of (units_at w.slots w.order.items) + sum_by promised v.rooms + v.common → v.charge ≤ v.limit → IsSound v
+  sound_rooms once apart charge within = record {
+    there = rw (grown.items, grown.slots) sound.there;
+    distinct = rw units_kept sound.distinct;
+    small = rw units_kept sound.small;
+    once = once;
+    apart = rw units_kept apart;
+    charge = rw units_kept charge;
+    within = within;
+    slots_room = grown.slots_room;
+    order_room = grown.order_room;
+  }
+
+  pub view_rooms : queue_of v ≡ record { units = units_at w.slots w.order.items; promises = v.rooms; common = v.common; arrivals = v.arrivals; limit = v.limit }
+  view_rooms = rw units_kept refl
+
+pub once_more : (promises : List Promise) (id : UnitId) (n : ℕ) → HasDistinctPromises promises → HasNoPromise id promises → HasDistinctPromises (promises ++ record { id = id; length = n } ∷ [])
+once_more promises id n once none = all_pairs_push (λ (p q : Promise). p.id ≢ q.id) promises (record { id = id; length = n }) once none
+
+pub apart_more : (units : List Placed) (promises : List Promise) (id : UnitId) (n : ℕ) → HasApartPromises units promises → HasNoUnit id units → HasApartPromises units (promises ++ record { id = id; length = n } ∷ [])
+apart_more units promises id n apart none =
+    let P : Promise → Type 0 = λ p. HasNoUnit p.id units in
+    All-push P promises (record { id = id; length = n }) apart none
+
+pub once_left : (promises : List Promise) (id : UnitId) → HasDistinctPromises promises → HasDistinctPromises (filter (is_for_other id) promises)
+once_left promises id once = AllPairs-filter (λ (p q : Promise). p.id ≢ q.id) (is_for_other id) promises once
+
+pub apart_left : (units : List Placed) (promises : List Promise) (id : UnitId) → HasApartPromises units promises → HasApartPromises units (filter (is_for_other id) promises)
+apart_left units promises id apart =
+    let P : Promise → Type 0 = λ p. HasNoUnit p.id units in
+    All-filter (is_for_other id) P promises apart

@@ -1,0 +1,26 @@
+use Rattle.std.proofs.Common.{◌≡◌, ◌≤◌, ◌+◌, ◌++◌, ◌∷◌, [], ap, ◌∙◌, sym, subst, arith, rules, length}
+use Rattle.std.specs.Vec.{vec_capacity, vec_len}
+use Rattle.std.proofs.lemmas.List.{length-append}
+use Rattle.std.proofs.lemmas.List.Sums.{sum_by_push}
+use Rattle.slab.specs.Slab.{HasRoomFor}
+use Rattle.work_queue.specs.Queue.{HasNoPromise, HasNoUnit, Promise, Queue, promised}
+use Rattle.work_queue.specs.Units.{units_at}
+use Rattle.work_queue.proofs.Grown.{apart_more, once_more, sound_rooms}
+use Rattle.work_queue.proofs.queues.WorkQueue.promise.Goals as goal
+
+pub invariant_of-self-2 : goal.invariant_of-self-2
+invariant_of-self-2 c =
+    let w = c.self.inside in
+    let room : Promise = record { id = c.args.id; length = c.args.n } in
+    let New : Queue → Type 0 = λ q. HasNoUnit c.args.id q.units in
+    let Unpromised : Queue → Type 0 = λ q. HasNoPromise c.args.id q.promises in
+    let added : c.add.new.self ≡ w.rooms ++ room ∷ [] = search rules in
+    let long : length c.add.new.self ≡ length w.rooms + 1 = ap (λ l. length l) added ∙ length-append w.rooms (room ∷ []) in
+    let slots : HasRoomFor c.make_room.new.slots (c.len-more.result + 1) = search rules in
+    let keys : vec_len c.make_room.new.order + (c.len-more.result + 1) ≤ vec_capacity c.make_room.new.order = search rules in
+    sound_rooms w _ c.self.invariant
+    (record { slots = c.make_room.ensures.slots; items = c.make_room.ensures.items; slots_room = omega arith; order_room = omega arith })
+    (rw added (once_more w.rooms c.args.id c.args.n c.self.invariant.once (subst Unpromised (sym c.self.view_is) c.requires.unpromised)))
+    (rw added (apart_more (units_at w.slots w.order.items) w.rooms c.args.id c.args.n c.self.invariant.apart (subst New (sym c.self.view_is) c.requires.new)))
+    (rw added (omega (arith, sum_by_push promised w.rooms room)))
+    (omega arith)

@@ -1,0 +1,119 @@
+//! What a queue tells of its units.
+
+ghost use Rattle.std.specs.Prelude.{◌≡◌, ◌↔◌, All, Any, IfSome, IsSome, IsTrue, Some, find, option_copied};
+ghost use Rattle.work_queue.specs.Counts.{counts_of};
+ghost use Rattle.work_queue.specs.Facts.{facts_of};
+ghost use Rattle.work_queue.specs.Fits.{IsAsked, IsFirstFit, first_fit};
+ghost use Rattle.work_queue.specs.Push.{IsFirstToPush, IsMovable, first_to_push_of};
+ghost use Rattle.work_queue.specs.Queue.{HasDistinctIds, HasFree, HasPinned, HasUnit, IsSmall, id_of, is_unit};
+
+use crate::counting::count_one;
+use crate::fitting::fit_at;
+use crate::placing::{Placed, UnitFacts};
+use crate::pushing::consider_push;
+use crate::queues::WorkQueue;
+use crate::searching::unit_of;
+use adlb_unit::{Info, Rank, Target, Types, UnitId, WorkType};
+
+impl WorkQueue {
+    /// A unit of this id is here, free or pinned (`HasUnit`).
+    pub fn has_unit(&self, id: UnitId) -> bool
+        ensures { IsTrue result ↔ HasUnit id self.now.units }
+    {
+        self.unit(id).is_some()
+    }
+
+    /// A free unit of this id is here (`HasFree`).
+    pub fn is_free(&self, id: UnitId) -> bool
+        ensures { IsTrue result ↔ HasFree id self.now.units }
+    {
+        match self.unit(id) {
+            Some(placed) => placed.pin.is_none(),
+            None => false,
+        }
+    }
+
+    /// The rank to which the unit of this id is pinned (`HasPinned`); none exactly where no pinned unit has
+    /// this id.
+    pub fn pinned_to(&self, id: UnitId) -> Option<Rank>
+        ensures { (rank : Rank) → (result ≡ Some rank) ↔ HasPinned id rank self.now.units }
+    {
+        match self.unit(id) {
+            Some(placed) => placed.pin,
+            None => None,
+        }
+    }
+
+    /// What a rank is told of the unit of this id (`facts_of`), and its target.
+    pub fn facts(&self, id: UnitId) -> (UnitFacts, Target)
+        requires { HasUnit id self.now.units }
+        ensures facts { All (λ p. id_of p ≡ id → result.0 ≡ facts_of p) self.now.units }
+        ensures target { All (λ p. id_of p ≡ id → result.1 ≡ p.unit.target) self.now.units }
+    {
+        let Some(placed) = self.unit(id) else {
+            unreachable!()
+        };
+        (placed.facts(), placed.unit.target)
+    }
+
+    /// The free unit for any rank that is pushed first (`IsFirstToPush`), the one of lowest priority and of
+    /// these the latest arrival, with its length in bytes. There is none exactly where no free unit is for any
+    /// rank (`IsMovable`).
+    pub fn first_to_push(&self) -> Option<(UnitId, u32)>
+        ensures first { IfSome result (IsFirstToPush self.now.units) }
+        ensures some { IsSome result ↔ Any IsMovable self.now.units }
+        ensures free { IfSome result (λ is. HasFree is.0 self.now.units) }
+        ensures fold { result ≡ first_to_push_of self.now.units }
+    {
+        let mut found = None;
+        for key in &self.order {
+            found = consider_push(&self.slots, *key, found);
+        }
+        match found {
+            None => None,
+            Some(first) => Some((first.id, first.length)),
+        }
+    }
+
+    /// The first free unit in arrival order that is permitted to one of the requests, each a rank with the
+    /// types that it wants (`IsFirstFit`). There is none exactly where no free unit is permitted to any of them
+    /// (`IsAsked`).
+    pub fn fits(&self, asked: &[(Rank, Types)]) -> Option<UnitId>
+        ensures first { IfSome result (IsFirstFit asked.now self.now.units) }
+        ensures some { IsSome result ↔ Any (IsAsked asked.now) self.now.units }
+        ensures free { IfSome result (λ id. HasFree id self.now.units) }
+        ensures found { result ≡ first_fit asked.now self.now.units }
+    {
+        for key in &self.order {
+            if let Some(id) = fit_at(&self.slots, *key, asked) {
+                return Some(id);
+            }
+        }
+        None
+    }
+
+    /// Of the free units of this type: how many there are, their highest priority, and how many have it
+    /// (`counts_of`).
+    pub fn counts(&self, kind: WorkType) -> Info
+        ensures { result ≡ counts_of kind self.now.units }
+    {
+        let mut info = Info {
+            free: 0,
+            top: None,
+            at_top: 0,
+        };
+        for key in &self.order {
+            info = count_one(&self.slots, *key, kind, info);
+        }
+        info
+    }
+
+    // The unit of this id.
+    fn unit(&self, id: UnitId) -> Option<&Placed>
+        ensures found { option_copied result ≡ find (is_unit id) self.now.units }
+        ensures distinct { HasDistinctIds self.now.units }
+        ensures small { All IsSmall self.now.units }
+    {
+        unit_of(&self.slots, &self.order, id)
+    }
+}
