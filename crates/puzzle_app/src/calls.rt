@@ -43,10 +43,10 @@ pub enum Taken {
 /// Puts a unit that was made (`put_of`).
 pub fn put<A: Adlb>(alloc: Global, link: &mut A, made: &Made) -> Result<Reply, Trouble>
     requires running { has_finished (A.transcript link.old) ≡ false }
-    requires ranks { 0 < A.ranks link.old }
+    requires ranks { 0 < (A.seat link.old).ranks }
     ensures says { IfOk result (λ reply. A.transcript link.new ≡ A.transcript link.old ++ said_of (put_of made.now) (answer_of reply) ∷ []) }
     ensures same { OnErr result (A.transcript link.new ≡ A.transcript link.old) }
-    ensures ranks { A.ranks link.new ≡ A.ranks link.old }
+    ensures seat { A.seat link.new ≡ A.seat link.old }
     ensures batch { A.batch link.old ≡ false → A.batch link.new ≡ false }
     ensures too_long { (stamp : ℕ) → result ≡ Err (Trouble.TooLong stamp) → A.failed link.new ≡ Some (Trouble.TooLong stamp) }
 {
@@ -79,10 +79,10 @@ fn put_unit<A: Adlb>(
 ) -> Result<Reply, Trouble>
     requires running { has_finished (A.transcript link.old) ≡ false }
     requires body { length body ≤ 2 ^ 20 }
-    requires target { Aims target (A.ranks link.old) }
+    requires target { Aims target (A.seat link.old).ranks }
     ensures says { IfOk result (λ reply. A.transcript link.new ≡ A.transcript link.old ++ said_of (Call.Put kind prio target answer body) (answer_of reply) ∷ []) }
     ensures same { OnErr result (A.transcript link.new ≡ A.transcript link.old) }
-    ensures ranks { A.ranks link.new ≡ A.ranks link.old }
+    ensures seat { A.seat link.new ≡ A.seat link.old }
     ensures batch { A.batch link.old ≡ false → A.batch link.new ≡ false }
     ensures too_long { (stamp : ℕ) → result ≡ Err (Trouble.TooLong stamp) → A.failed link.new ≡ Some (Trouble.TooLong stamp) }
 {
@@ -102,7 +102,7 @@ pub fn take<A: Adlb>(link: &mut A) -> Result<Taken, Trouble>
     ensures takes { IfOk result (λ taken. Takes (A.transcript link.old) (A.transcript link.new) taken) }
     ensures whole { IfOk result IsWhole }
     ensures part { OnErr result ((A.transcript link.new ≡ A.transcript link.old) ⊎ ((note : UnitNote) × (A.transcript link.new ≡ A.transcript link.old ++ grant note ∷ []))) }
-    ensures ranks { A.ranks link.new ≡ A.ranks link.old }
+    ensures seat { A.seat link.new ≡ A.seat link.old }
     ensures batch { A.batch link.old ≡ false → A.batch link.new ≡ false }
     ensures too_long { (stamp : ℕ) → result ≡ Err (Trouble.TooLong stamp) → A.failed link.new ≡ Some (Trouble.TooLong stamp) }
 {

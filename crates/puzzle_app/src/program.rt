@@ -62,11 +62,11 @@ impl PuzzleProgram {
     // Puts all that waits. False: an end was told.
     fn put_all<A: Adlb>(&self, link: &mut A, desk: &mut Desk) -> Result<bool, Trouble>
         requires going { IsGoing self.now (A.transcript link.old) desk.old }
-        requires ranks { 0 < A.ranks link.old }
+        requires ranks { 0 < (A.seat link.old).ranks }
         ensures told { IfOk result (λ all. MatchBool all (HasPut self.now (A.transcript link.new) desk.new) (IsStopped self.now (A.transcript link.new) desk.new)) }
         ensures so_far { IsSoFar self.now (A.transcript link.new) }
         ensures more { length (A.transcript link.old) ≤ length (A.transcript link.new) }
-        ensures ranks { A.ranks link.new ≡ A.ranks link.old }
+        ensures seat { A.seat link.new ≡ A.seat link.old }
         ensures batch { A.batch link.old ≡ false → A.batch link.new ≡ false }
         ensures too_long { (stamp : ℕ) → result ≡ Err (Trouble.TooLong stamp) → A.failed link.new ≡ Some (Trouble.TooLong stamp) }
     {
@@ -86,10 +86,11 @@ impl PuzzleProgram {
 
     // Puts, takes and works until an end is told.
     fn work<A: Adlb>(&self, link: &mut A) -> Result<Desk, Trouble>
-        requires ranks { 0 < A.ranks link.old }
+        requires ranks { 0 < (A.seat link.old).ranks }
         requires empty { A.transcript link.old ≡ [] }
         ensures stopped { IfOk result (IsStopped self.now (A.transcript link.new)) }
         ensures so_far { IsSoFar self.now (A.transcript link.new) }
+        ensures seat { A.seat link.new ≡ A.seat link.old }
         ensures batch { A.batch link.old ≡ false → A.batch link.new ≡ false }
         ensures too_long { (stamp : ℕ) → result ≡ Err (Trouble.TooLong stamp) → A.failed link.new ≡ Some (Trouble.TooLong stamp) }
     {

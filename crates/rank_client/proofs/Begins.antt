@@ -1,6 +1,6 @@
 -- What a step does with a call.
 use Rattle.std.proofs.Common.{◌≡◌, ℕ, ◌+◌, ◌^◌, List, [], ◌∷◌, ◌++◌, length, Option, Some, None, Bool, true, false, ◌&&◌, not, refl, ap, sym, ◌∙◌, append-nil, subst, find, filter, ℤ}
-use Rattle.std.specs.Prelude.{if◌then◌else◌, IsFalse, All, is_none, nat_le}
+use Rattle.std.specs.Prelude.{if◌then◌else◌, ◌==◌, IsFalse, All, is_none, nat_le}
 use Rattle.std.specs.Option.{option_map}
 use Rattle.std.proofs.lemmas.Bool.{and_parts, not-true}
 use Rattle.std.proofs.lemmas.List.Elements.{All-push, All-filter, All-same, All-head, All-tail}
@@ -236,7 +236,11 @@ opens same s b (calls_to.Put kind prio target answer body) free = by_test (nat_l
     by_test : (t : Bool) → LawOf s.transcript s.me b (if t then Some (put s (unit_put s kind prio target answer body) s.end) else None)
     by_test true = put_follows same s b kind prio target answer body s.end free refl
     by_test false = tt
-opens same s b (calls_to.Reserve types) free = reserve_follows same s b types s.end free refl
+opens same s b (calls_to.Reserve types) free = by_test (s.config.servers == 1)
+  where
+    by_test : (t : Bool) → LawOf s.transcript s.me b (if t then Some (reserve s types s.end) else None)
+    by_test true = reserve_follows same s b types s.end free refl
+    by_test false = tt
 opens same s b (calls_to.Try types) free = tt
 opens same s b (calls_to.Fetch id) free = fetch_follows same s b id (held s id) free refl
 opens same s b (calls_to.BeginBatch common) free = tt

@@ -1,9 +1,11 @@
-mod Awaited
-mod Begins
-mod Calling
-mod Entries
-mod Farewells
-mod Hears
-mod Insides
-mod Ring
+pub mod Awaited
+pub mod Begins
+pub mod Calling
+pub mod Entries
+pub mod Expected
+pub mod Farewells
+pub mod Granted
+pub mod Hears
+pub mod Insides
+pub mod Ring
 pub mod Transcripts

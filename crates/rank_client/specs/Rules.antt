@@ -149,12 +149,12 @@ is_idle _ = false
 abbrev pub is_free : State → Bool
 is_free s = is_idle s.pending && not s.finished
 
--- the rule of a call; nothing where the rank is not ready for it
+-- the rule of a call; nothing where the rank is not ready for it. So far a rank reserves with one server alone.
 abbrev pub open_call : State → Call → Option Response
 open_call s (calls_to.Put kind prio target answer body) =
     if nat_le (length body) (2 ^ 20) && in_ranks s.config target
     then Some (put s (unit_put s kind prio target answer body) s.end) else None
-open_call s (calls_to.Reserve types) = Some (reserve s types s.end)
+open_call s (calls_to.Reserve types) = if s.config.servers == 1 then Some (reserve s types s.end) else None
 open_call s (calls_to.Fetch id) = fetch s id (held s id)
 open_call s calls_to.Finish = if is_none s.batch then Some (finish s) else None
 open_call s _ = None

@@ -113,7 +113,8 @@ fn farewells(sent: &mut Vec<u64>, stamp: u64, servers: u32, sends: Vec<Sending>)
 
 impl ClientCore {
     /// The rank is ready for this call: no call is pending, it has not finished, and the call's own conditions hold. The body of
-    /// a put has at most `2^20` bytes and its target is a rank; a unit that is fetched is held; no batch is going on at Finish.
+    /// a put has at most `2^20` bytes and its target is a rank; there is one server at a reserve, so far; a unit that is fetched
+    /// is held; no batch is going on at Finish.
     pub fn ready(&self, call: &Call) -> bool
         ensures { IsTrue result ↔ IsSome (begin self.now call.now) }
     {
@@ -122,7 +123,7 @@ impl ClientCore {
         }
         match call {
             Call::Put { target, body, .. } => body.len() <= 1 << 20 && self.has_target(*target),
-            Call::Reserve { .. } => true,
+            Call::Reserve { .. } => self.config.servers == 1,
             Call::Fetch { id } => self.held(*id).is_some(),
             Call::Finish => self.batch.is_none(),
             _ => false,

@@ -91,6 +91,13 @@ impl ClientCore {
         self.said.as_slice()
     }
 
+    /// The same, with the client used up.
+    pub fn into_transcript(self) -> Vec<Said>
+        ensures { result.items ≡ self.transcript }
+    {
+        self.said
+    }
+
     /// What made the client fail, if anything did.
     pub fn failed(&self) -> Option<Trouble>
         ensures { result ≡ self.now.trouble }

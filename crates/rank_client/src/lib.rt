@@ -2,14 +2,16 @@
 //!
 //! It stands on the letters of `adlb_unit` and the calls, answers and entries of `bag_ledger`. `specs/Calls.antt` says what a
 //! call adds to a rank's transcript. `specs/State.antt` is what contracts see of a client, `specs/Rules.antt` has the rule of
-//! each call and of each letter, and `specs/Step.antt` the step that follows it; `laws` states that the entries of a step are
-//! steps of the bag, and that its answers are those that the bag's ledger gives.
+//! each call and of each letter, `specs/Step.antt` the step that follows it, and `specs/Expected.antt` says which letters have a
+//! step; `laws` states that the entries of a step are steps of the bag, and that its answers are those that the bag's ledger
+//! gives.
 #![tactic(auto)]
 
 mod calls;
 mod clients;
 #[cfg(test)]
 mod driven;
+mod expecting;
 mod faults;
 mod hearing;
 mod laws;

@@ -1,11 +1,12 @@
 //! The calls of a rank.
 
-ghost use Rattle.std.specs.Prelude.{◌≡◌, ◌≤◌, ◌<◌, ◌^◌, ℕ, List, Option, Some, None, Bool, true, false, ◌&&◌, is_none, length, Contains, IfOk, IfErr};
+ghost use Rattle.std.specs.Prelude.{◌≡◌, ◌≤◌, ◌<◌, ◌^◌, List, Option, Some, None, Bool, true, false, ◌&&◌, is_none, length, Contains, IfOk, IfErr};
 ghost use Rattle.adlb_unit.specs.Totals.{total_of};
 ghost use Rattle.adlb_unit.specs.declared.notes.Trouble.{Trouble};
 ghost use Rattle.bag_ledger.specs.declared.entries.Call.{Call};
 ghost use Rattle.bag_ledger.specs.declared.entries.Said.{Said};
 ghost use Rattle.rank_client.specs.Calls.{Aims, Began, Repeats, TellsAgain, end_answer, end_told, end_trouble, fetch_answer, fetch_trouble, granted, has_finished, is_granted, is_fetched, plus, put_answer, put_trouble};
+ghost use Rattle.rank_client.specs.Seat.{Seat};
 
 use crate::faults::{EndFault, PutFault};
 use adlb_unit::{Handle, Payload, Rank, Target, Trouble, Types, WorkType};
@@ -15,8 +16,8 @@ use bag_ledger::{Call, Said};
 /// transcript, unless it answers `Memory` or `TooLong`. A link that answered one of these two has failed: its transcript stays,
 /// and each later call answers the same.
 pub trait Adlb {
-    // The number of ranks.
-    ghost ranks: { Self → ℕ };
+    // Which rank of which run it serves; this stays.
+    ghost seat: { Self → Seat };
 
     // The calls with their answers, in order.
     ghost transcript: { Self → List Said };
@@ -42,10 +43,10 @@ pub trait Adlb {
     ) -> Result<(), PutFault>
         requires running { has_finished (transcript self.old) ≡ false }
         requires body { length body ≤ 2 ^ 20 }
-        requires target { Aims target (ranks self.old) }
+        requires target { Aims target (seat self.old).ranks }
         ensures says { transcript self.new ≡ plus (transcript self.old) (Call.Put kind prio target answer body) (put_answer result) }
         ensures told { TellsAgain (end_told (transcript self.old)) (put_answer result) }
-        ensures ranks { ranks self.new ≡ ranks self.old }
+        ensures seat { seat self.new ≡ seat self.old }
         ensures batch { batch self.new ≡ (batch self.old && is_none (put_trouble result)) }
         ensures failed { failed self.new ≡ put_trouble result }
         ensures repeats { Repeats (failed self.old) (put_trouble result) }
@@ -59,7 +60,7 @@ pub trait Adlb {
         ensures told { TellsAgain (end_told (transcript self.old)) (end_answer result) }
         ensures once { IfOk result (λ note. is_granted note.id (transcript self.old) ≡ false) }
         ensures unfetched { IfOk result (λ note. is_fetched note.id (transcript self.old) ≡ false) }
-        ensures ranks { ranks self.new ≡ ranks self.old }
+        ensures seat { seat self.new ≡ seat self.old }
         ensures batch { batch self.new ≡ (batch self.old && is_none (end_trouble result)) }
         ensures failed { failed self.new ≡ end_trouble result }
         ensures repeats { Repeats (failed self.old) (end_trouble result) }
@@ -74,7 +75,7 @@ pub trait Adlb {
         ensures says { transcript self.new ≡ plus (transcript self.old) (Call.Fetch handle.id) (fetch_answer result) }
         ensures total { IfOk result (λ body. length body ≡ total_of handle) }
         ensures back { IfErr result (λ e. e.0 ≡ handle) }
-        ensures ranks { ranks self.new ≡ ranks self.old }
+        ensures seat { seat self.new ≡ seat self.old }
         ensures batch { batch self.new ≡ (batch self.old && is_none (fetch_trouble result)) }
         ensures failed { failed self.new ≡ fetch_trouble result }
         ensures repeats { Repeats (failed self.old) (fetch_trouble result) }
@@ -85,7 +86,7 @@ pub trait Adlb {
         requires granted { granted handle (transcript self.old) }
         requires once { is_fetched handle.id (transcript self.old) ≡ false }
         ensures says { transcript self.new ≡ transcript self.old }
-        ensures ranks { ranks self.new ≡ ranks self.old }
+        ensures seat { seat self.new ≡ seat self.old }
         ensures batch { batch self.new ≡ batch self.old }
         ensures failed { failed self.new ≡ failed self.old }
         ensures began { begun self.new ≡ begun self.old };

@@ -23,13 +23,14 @@ pub trait RankProgram {
 
     /// Makes the calls of this rank, which has made none before. Whoever runs it finishes the link afterwards.
     fn run<A: Adlb>(&self, rank: Rank, link: &mut A) -> Result<Self::Outcome, Trouble>
-        requires rank { rank.0 < A.ranks link.old }
-        requires fits { fits self.now (A.ranks link.old) }
+        requires rank { rank.0 < (A.seat link.old).ranks }
+        requires fits { fits self.now (A.seat link.old).ranks }
         requires empty { A.transcript link.old ≡ [] }
         requires batch { A.batch link.old ≡ false }
         requires whole { A.failed link.old ≡ None }
         ensures follows { IfOk result (λ outcome. follows self.now rank (A.transcript link.new) outcome) }
         ensures closed { IfOk result (λ outcome. A.batch link.new ≡ false) }
+        ensures seat { A.seat link.new ≡ A.seat link.old }
         ensures open { has_finished (A.transcript link.new) ≡ false }
         ensures too_long { (stamp : ℕ) → result ≡ Err (Trouble.TooLong stamp) → A.failed link.new ≡ Some (Trouble.TooLong stamp) };
 }

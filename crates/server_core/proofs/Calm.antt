@@ -1,5 +1,6 @@
 -- Where nothing follows an event.
-use Rattle.std.proofs.Common.{◌≡◌, inl, inr, ℕ, ◌<◌, Bool, true, false, ◌&&◌, cond, not, [], ◌∷◌, get_or, refl, sym, ap, ◌∙◌, arith, eqb}
+use Rattle.std.proofs.Common.{◌≡◌, ◌≢◌, ◌⊎◌, inl, inr, ℕ, Bool, true, false, ◌&&◌, cond, not, [], ◌∷◌, refl, sym, ap, ◌∙◌, eqb}
+use Rattle.std.proofs.lemmas.Bool.{cases_eq, ne_eqb}
 use Rattle.std.specs.List.{list_any}
 use Rattle.adlb_unit.specs.declared.names.Rank.{Rank}
 use Rattle.adlb_unit.specs.declared.names.UnitId.{UnitId}
@@ -8,16 +9,8 @@ use Rattle.work_queue.specs.declared.placing.Placed.{Placed}
 use Rattle.server_core.specs.declared.standings.Standing.TheVariants.{Running, Finished}
 use Rattle.server_core.specs.Inside.{IsSettled}
 use Rattle.server_core.specs.Rules.{fetched, grant, is_running, put}
-use Rattle.server_core.specs.State.{State, standing}
+use Rattle.server_core.specs.State.{State}
 use Rattle.server_core.specs.Step.{Served, after_event, served, verdict, waiting_from}
-
--- the only rank, which runs
-pub one_runs : (s : State) (from : Rank) → IsSettled s → from.0 < 1 → is_running (standing s from) ≡ true → s.ranks ≡ Running ∷ []
-one_runs s from (inl runs) first is = runs
-one_runs s from (inr has) first is =
-    let zeroth : from.0 ≡ 0 = omega arith in
-    let finished : is_running (get_or (Finished ∷ []) 0 Running) ≡ true = ap (λ k. is_running (get_or (Finished ∷ []) k Running)) (sym zeroth) ∙ ap (λ ranks. is_running (get_or ranks from.0 Running)) (sym has.0) ∙ is in
-    absurd (cc)
 
 off : (x : Served) (b : Bool) → cond (b && false) (verdict x (waiting_from 0 x.state.ranks)) x ≡ x
 off x true = refl
@@ -39,10 +32,22 @@ calm_finished x finished shut =
     ap (λ ranks. cond (eqb x.state.config.servers 1 && not (list_any is_running ranks)) (verdict x (waiting_from 0 ranks)) x) finished
     ∙ after_finish x (eqb x.state.config.servers 1) shut
 
+-- nothing follows where there are several servers
+pub calm_among : (x : Served) → x.state.config.servers ≢ 1 → after_event x ≡ x
+calm_among x several =
+    let none : eqb x.state.config.servers 1 ≡ false = ne_eqb x.state.config.servers 1 several in
+    ap (λ t. cond (t && not (list_any is_running x.state.ranks)) (verdict x (waiting_from 0 x.state.ranks)) x) none
+
 -- nothing follows where no rank waits
+calm_alone : (x : Served) → (x.state.ranks ≡ Running ∷ []) ⊎ ((x.state.ranks ≡ Finished ∷ []) × (x.state.shut ≡ true)) → after_event x ≡ x
+calm_alone x (inl runs) = calm_running x runs
+calm_alone x (inr has) = calm_finished x has.0 has.1
+
 pub calm : (x : Served) → IsSettled x.state → after_event x ≡ x
-calm x (inl runs) = calm_running x runs
-calm x (inr has) = calm_finished x has.0 has.1
+calm x settled = elim (cases_eq x.state.config.servers 1) [
+  | inl one ↦ calm_alone x (settled one)
+  | inr several ↦ calm_among x several
+]
 
 pub calm_put : (s : State) (from : Rank) (unit : Unit) (done over : Bool) → IsSettled s → after_event (served (put s from unit done over)) ≡ served (put s from unit done over)
 calm_put s from unit true over settled = calm (served (put s from unit true over)) settled

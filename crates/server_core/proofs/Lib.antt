@@ -1,14 +1,12 @@
-mod Calm
-mod Entries
-mod Expected
-mod Finds
-mod Following
-mod Grants
-mod LeftUnits
-mod Once
-mod Ranks
-mod Room
-mod Serving
-mod Slots
-mod Starting
-mod Whole
+pub mod Calm
+pub mod Entries
+pub mod Expected
+pub mod Finds
+pub mod Following
+pub mod Grants
+pub mod LeftUnits
+pub mod Once
+pub mod Ranks
+pub mod Slots
+pub mod Starting
+pub mod Whole

@@ -33,9 +33,9 @@ use Rattle.server_core.specs.Agreement.{Agrees, IsAlone, IsCalled, StepsAreLegal
 use Rattle.server_core.specs.Rules.{Response, best_unit, expects_finish, expects_put, expects_reserve, fetch, fetched, finish, is_over, is_pinned_as, is_running, leave, park, put, reserve, respond}
 use Rattle.server_core.specs.State.{State, is_home, standing}
 use Rattle.server_core.specs.Step.{Served, after_event, next_stamp, served, ticked}
-use Rattle.server_core.specs.declared.standings.Standing.{Standing}
 use Rattle.server_core.specs.declared.standings.Standing.TheVariants.{Running, Parked, Finished}
 use Rattle.server_core.proofs.Entries.{accepted_agrees, accepted_steps, over_steps, rank_agrees, refused_steps, standing_agrees}
+use Rattle.server_core.proofs.Expected.{running_is}
 use Rattle.server_core.proofs.Finds.{some_is}
 use Rattle.server_core.proofs.Following.{all_changed, follows}
 use Rattle.server_core.proofs.Grants.{fetched_agrees, fetched_steps, granted_agrees, granted_steps}
@@ -93,11 +93,6 @@ put_stepped b s unit r false false done is m alone at (puts, fresh, new, unclose
     (c, (c, accepted_steps b s unit r m at puts fresh is, refl), accepted_agrees b s unit m new unclosed runs, placed_alone b s unit unit.common alone)
 
 -- Reserve.
-
-running_is : (standing : Standing) → is_running standing ≡ true → standing ≡ Running
-running_is Running e = refl
-running_is (Parked request types) e = absurd (cc)
-running_is Finished e = absurd (cc)
 
 -- with one rank and one server the rank's home is here
 rank_first : (b : Bag) (from : Rank) (r : RankState) → length b.ranks ≡ 1 → rank_at b from ≡ Some r → from.0 ≡ 0

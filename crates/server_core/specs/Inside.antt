@@ -1,5 +1,5 @@
 -- The fields of a server.
-use Rattle.std.specs.Prelude.{◌≡◌, ◌⊎◌, ◌<◌, ◌≤◌, ◌^◌, [], ◌∷◌, length, true, All}
+use Rattle.std.specs.Prelude.{◌≡◌, ◌⊎◌, ◌+◌, ◌<◌, ◌≤◌, ◌^◌, [], ◌∷◌, length, true, All}
 use Rattle.server_core.specs.declared.standings.Standing.TheVariants.{Running, Finished}
 use Rattle.server_core.specs.declared.states.ServerState.TheInside.{Inside}
 use Rattle.server_core.specs.State.{State}
@@ -20,17 +20,18 @@ state_of i = record {
   trouble = i.trouble;
 }
 
--- with one rank: it runs, or it has finished and the server is shut
+-- where this is the only server: the only rank runs, or it has finished and the server is shut. Where there are several, nothing
+-- follows an event
 abbrev pub IsSettled : State → Type 0
-IsSettled s = (s.ranks ≡ Running ∷ []) ⊎ ((s.ranks ≡ Finished ∷ []) × (s.shut ≡ true))
+IsSettled s = s.config.servers ≡ 1 → (s.ranks ≡ Running ∷ []) ⊎ ((s.ranks ≡ Finished ∷ []) × (s.shut ≡ true))
 
 pub record IsSound (s : State) : Type 0 where
   pub one_rank : s.config.ranks ≡ 1
-  pub one_server : s.config.servers ≡ 1
-  pub first : s.me.0 ≡ 0
+  pub there : s.me.0 < s.config.servers
   pub settled : IsSettled s
+  pub ranks : length s.ranks ≡ 1
   pub finished : length s.finished ≡ 1
-  pub actors : length s.sent ≡ 2
+  pub actors : length s.sent ≡ 1 + s.config.servers
   -- an event brings at most one unit, and sends each actor at most one letter
   pub arrivals : s.queue.arrivals ≤ s.clock
   pub activity : s.activity ≤ s.clock

@@ -1,8 +1,9 @@
 pub mod Agreement
+pub mod Expected
 pub mod Inside
 pub mod Left
 pub mod Out
+pub mod Quiet
 pub mod Rules
-pub mod Serving
 pub mod State
 pub mod Step

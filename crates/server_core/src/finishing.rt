@@ -10,7 +10,7 @@ use crate::states::ServerState;
 use adlb_unit::Rank;
 
 impl ServerState {
-    // The only rank has finished, so the server is shut.
+    // The rank has finished; its home knows it. The only server is then shut, since there is no other rank.
     pub(crate) fn finish(&mut self, from: Rank)
         requires rank { from.0 < self.old.config.ranks }
         requires expected { expects_finish self.old from ≡ true }
@@ -18,7 +18,9 @@ impl ServerState {
     {
         let at = from.0 as usize;
         self.finished[at] = true;
-        self.ranks[at] = Standing::Finished;
-        self.shut = true;
+        if self.is_home(from) {
+            self.ranks[at] = Standing::Finished;
+            self.shut = self.shut || self.config.servers == 1;
+        }
     }
 }

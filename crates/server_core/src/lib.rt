@@ -3,10 +3,11 @@
 //! It stands on the letters of `adlb_unit`, the queue of `work_queue` and the ledger's entries of `bag_ledger`.
 //! `specs/State.antt` is what contracts see of a server, `specs/Rules.antt` has the rule of each letter,
 //! `specs/Step.antt` the step with what follows each event, and `specs/Agreement.antt` which part of the bag of units
-//! a server stands for; `server_laws` states that the entries of a step are steps of the bag. So far there is one rank
-//! and one server.
+//! a server stands for; `server_laws` states that the entries of a step are steps of the bag. `specs/Expected.antt` says
+//! which letters have a step. So far there is one rank, and any number of servers.
 #![tactic(auto)]
 
+mod expecting;
 mod fetches;
 mod finishing;
 mod laws;

@@ -10,7 +10,7 @@ use crate::outgoing::Outgoing;
 use crate::states::ServerState;
 use adlb_unit::{End, Message, NoMemory, Rank, Unit};
 use bag_ledger::Entry;
-use work_queue::AddFault;
+use put_path::{PutStep, put};
 
 impl ServerState {
     pub(crate) fn put(&mut self, from: Rank, unit: Unit, out: &mut Outgoing) -> Result<(), NoMemory>
@@ -27,30 +27,23 @@ impl ServerState {
             self.end_call(from, id.number, End::NoMoreWork, out);
             return Ok(());
         }
-        match self.queue.add(unit) {
-            Ok(()) => {
+        match put(&mut self.queue, unit)? {
+            PutStep::Accepted => {
                 out.enter(Entry::Accepted {
                     server: self.me,
                     id,
                 });
                 self.say(from, Message::Accepted { request: id.number }, out);
             }
-            Err((_, AddFault::Full { charge })) => {
+            PutStep::Full { charge } => {
                 out.enter(Entry::Refused {
                     server: self.me,
                     id,
                     used: charge,
                 });
-                self.say(
-                    from,
-                    Message::Full {
-                        request: id.number,
-                        charge,
-                    },
-                    out,
-                );
+                let request = id.number;
+                self.say(from, Message::Full { request, charge }, out);
             }
-            Err((_, AddFault::Memory)) => return Err(NoMemory),
         }
         Ok(())
     }

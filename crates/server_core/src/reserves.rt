@@ -1,6 +1,6 @@
 //! The letter Reserve.
 
-ghost use Rattle.std.specs.Prelude.{◌≡◌, ◌<◌, ◌++◌, ◌∷◌, [], true, false, length, All};
+ghost use Rattle.std.specs.Prelude.{◌≡◌, ◌≢◌, ◌<◌, ◌++◌, ◌∷◌, [], true, false, length, slice_set, All};
 ghost use Rattle.server_core.specs.Inside.{IsFresh};
 ghost use Rattle.server_core.specs.Out.{Out, made, nothing};
 ghost use Rattle.server_core.specs.Rules.{expects_reserve, grant, reserve_now, to_rank};
@@ -9,6 +9,7 @@ ghost use Rattle.server_core.specs.Step.{after_event, counted, posted, served};
 ghost use Rattle.work_queue.specs.Queue.{HasFree, id_of};
 
 use crate::outgoing::Outgoing;
+use crate::standings::Standing;
 use crate::states::ServerState;
 use adlb_unit::{Actor, End, Message, Rank, Types, UnitId, UnitNote};
 use bag_ledger::Entry;
@@ -29,7 +30,8 @@ impl ServerState {
         } else {
             match self.queue.best(from, &types) {
                 Some(id) => self.grant(from, request, id, out),
-                None => self.exhaust(from, request, out),
+                None if self.config.servers == 1 => self.exhaust(from, request, out),
+                None => self.park(from, request, types),
             }
         }
     }
@@ -60,6 +62,15 @@ impl ServerState {
             id,
         });
         self.say(from, Message::Grant { request, note }, out);
+    }
+
+    // The rank waits.
+    fn park(&mut self, from: Rank, request: u64, types: Types)
+        requires rank { from.0 < self.old.config.ranks }
+        requires others { self.old.config.servers ≢ 1 }
+        ensures { self.new ≡ record self.old { ranks = slice_set self.old.ranks from.0 (Standing.Parked request types) } }
+    {
+        self.ranks[from.0 as usize] = Standing::Parked { request, types };
     }
 
     // No unit is left, and the only rank waits: with one server nothing can bring another, so all work is used up.

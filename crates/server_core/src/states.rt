@@ -4,9 +4,11 @@ ghost use Rattle.std.specs.Prelude.{◌≡◌, ◌<◌, ◌+◌, ◌^◌, ◌∷
 ghost use Rattle.std.specs.Vec.{vec_len};
 ghost use Rattle.server_core.specs.Inside.{IsFresh, IsSettled};
 ghost use Rattle.server_core.specs.Out.{Out};
-ghost use Rattle.server_core.specs.Rules.{Saying};
+ghost use Rattle.server_core.specs.Rules.{Saying, is_running};
 ghost use Rattle.server_core.specs.Left.{left_of};
-ghost use Rattle.server_core.specs.State.{State, start};
+ghost use Rattle.server_core.specs.Expected.{IsHome, Runs};
+ghost use Rattle.server_core.specs.Quiet.{IsQuiet};
+ghost use Rattle.server_core.specs.State.{State, is_home, standing, start};
 ghost use Rattle.server_core.specs.Step.{counted, posted, ticked};
 
 use crate::outgoing::Outgoing;
@@ -55,24 +57,21 @@ impl Model for ServerState {
 }
 
 impl ServerState {
-    /// A server at the start of a run. So far the run has one rank and one server. It fails for want of memory alone.
+    /// One of the servers of a run at its start. So far the run has one rank. It fails for want of memory alone.
     pub fn new(alloc: Global, config: Config, me: Server) -> Result<ServerState, NoMemory>
         requires one_rank { config.ranks ≡ 1 }
-        requires one_server { config.servers ≡ 1 }
         requires me { me.0 < config.servers }
         ensures { IfOk result (λ s. s ≡ start config me) }
     {
-        let (Ok(mut ranks), Ok(mut finished), Ok(mut sent)) = (
+        let actors = config.ranks as usize + config.servers as usize;
+        let (Ok(mut ranks), Ok(finished), Ok(sent)) = (
             Vec::with_capacity(alloc, 1),
-            Vec::with_capacity(alloc, 1),
-            Vec::with_capacity(alloc, 2),
+            vec![in alloc; false; config.ranks as usize],
+            vec![in alloc; 0; actors],
         ) else {
             return Err(NoMemory);
         };
         ranks.push_reserved(Standing::Running);
-        finished.push_reserved(false);
-        sent.push_reserved(0);
-        sent.push_reserved(0);
         Ok(ServerState {
             config,
             me,
@@ -101,7 +100,19 @@ impl ServerState {
     pub fn ended(&self) -> bool
         ensures { IsTrue result ↔ (IsTrue self.now.shut × All IsTrue self.now.finished) }
     {
-        self.shut && self.finished[0]
+        self.shut && self.finished.iter().all(|finished| *finished)
+    }
+
+    /// Each rank whose home this is waits here or has finished (`IsQuiet`).
+    pub fn is_quiet(&self) -> bool
+        ensures { IsTrue result ↔ IsQuiet self.now }
+    {
+        for number in 0..self.config.ranks {
+            if self.runs_here(Rank(number)) {
+                return false;
+            }
+        }
+        true
     }
 
     /// The units that are here, in arrival order. It fails for want of memory alone.
@@ -122,6 +133,29 @@ impl ServerState {
             place += 1;
         }
         Ok(left)
+    }
+
+    // The server is the rank's home.
+    pub(crate) fn is_home(&self, rank: Rank) -> bool
+        ensures { result ≡ is_home self.now rank }
+    {
+        self.config.home(rank).0 == self.me.0
+    }
+
+    // The rank runs, as far as its home knows.
+    pub(crate) fn runs(&self, rank: Rank) -> bool
+        requires { rank.0 < self.now.config.ranks }
+        ensures { result ≡ is_running (standing self.now rank) }
+    {
+        matches!(self.ranks[rank.0 as usize], Standing::Running)
+    }
+
+    // The rank's home is here, and it runs.
+    pub(crate) fn runs_here(&self, rank: Rank) -> bool
+        requires { rank.0 < self.now.config.ranks }
+        ensures { IsTrue result ↔ (IsHome self.now rank × Runs self.now rank) }
+    {
+        self.is_home(rank) && self.runs(rank)
     }
 
     // The event has this stamp.

@@ -1,7 +1,6 @@
 //! Tests of letters handled one after the other, with entries and answers that were found by hand.
 
-ghost use Rattle.std.specs.Prelude.{◌≡◌, ◌≤◌, ◌+◌, IfOk, OnOk, length};
-ghost use Rattle.server_core.specs.Serving.{IsServing};
+ghost use Rattle.std.specs.Prelude.{◌<◌};
 
 use super::*;
 use adlb_unit::{
@@ -9,32 +8,26 @@ use adlb_unit::{
     WorkType,
 };
 use std::alloc::Global;
+use std::process::Abort;
 use std::test::Fail;
 
-// A server of a run with one rank and one server, and with the lowest limit.
-fn server(alloc: Global) -> Result<ServerState, Fail>
-    ensures { IfOk result (λ s. IsServing s 0) }
+// A server of a run with one rank and so many servers, and with the lowest limit.
+fn server(alloc: Global, servers: u32, me: u32) -> Result<ServerState, Fail>
+    requires { me < servers }
 {
-    let config = Config::new(1, 1, 64)?;
-    Ok(ServerState::new(alloc, config, Server(0))?)
+    let config = Config::new(1, servers, 64)?;
+    Ok(ServerState::new(alloc, config, Server(me))?)
 }
 
 // A unit of the rank with a body of so many bytes, each 7.
-fn unit(alloc: Global, number: u64, size: u8) -> Result<Unit, Fail>
-    ensures sender { IfOk result (λ u. u.id.rank.0 ≡ 0) }
-    ensures number { IfOk result (λ u. u.id.number ≡ number) }
-    ensures size { IfOk result (λ u. length u.body ≤ 255) }
-    ensures target { IfOk result (λ u. u.target ≡ Target.Any) }
-{
-    let bytes = vec![in alloc; 7_u8; size as usize]?;
+fn unit(alloc: Global, rank: u32, number: u64, size: usize, target: Target) -> Result<Unit, Fail> {
+    let bytes = vec![in alloc; 7_u8; size]?;
+    let rank = Rank(rank);
     Ok(Unit {
-        id: UnitId {
-            rank: Rank(0),
-            number,
-        },
+        id: UnitId { rank, number },
         kind: WorkType(5),
         prio: 3,
-        target: Target::Any,
+        target,
         answer: None,
         common: None,
         body: Payload::from_vec(bytes),
@@ -42,9 +35,7 @@ fn unit(alloc: Global, number: u64, size: u8) -> Result<Unit, Fail>
 }
 
 // The letter that says so, the first of its event.
-fn said(message: Message) -> Letter
-    ensures { result ≡ record { stamp = 0; place = 0; message = message } }
-{
+fn said(message: Message) -> Letter {
     Letter {
         stamp: 0,
         place: 0,
@@ -52,34 +43,38 @@ fn said(message: Message) -> Letter
     }
 }
 
-fn put(server: &mut ServerState, unit: Unit) -> Result<Step, Trouble>
-    requires serving { IsServing server.old unit.id.number }
-    requires sender { unit.id.rank.0 ≡ 0 }
-    requires size { length unit.body ≤ 255 }
-    requires target { unit.target ≡ Target.Any }
-    ensures { OnOk result (IsServing server.new (unit.id.number + 1)) }
-{
-    server.step(Actor::Rank(Rank(0)), said(Message::Put { unit }))
+// The server handles a letter of the rank, which it expects.
+fn hear(rt: &impl Abort, server: &mut ServerState, message: Message) -> Result<Step, Trouble> {
+    let rank = Actor::Rank(Rank(0));
+    let letter = said(message);
+    assert!(rt; server.broken().is_none());
+    assert!(rt; server.expects(rank, &letter));
+    server.step(rank, letter)
 }
 
-// All units of the server have a number below this one.
-fn reserve(server: &mut ServerState, below: u64, request: u64) -> Result<Step, Trouble>
-    requires { IsServing server.old below }
-    ensures { OnOk result (IsServing server.new below) }
-{
-    let _ = below;
+fn put(rt: &impl Abort, server: &mut ServerState, unit: Unit) -> Result<Step, Trouble> {
+    hear(rt, server, Message::Put { unit })
+}
+
+fn reserve(rt: &impl Abort, server: &mut ServerState, request: u64) -> Result<Step, Trouble> {
     let types = Types::any();
-    server.step(
-        Actor::Rank(Rank(0)),
-        said(Message::Reserve { request, types }),
-    )
+    hear(rt, server, Message::Reserve { request, types })
 }
 
-fn finish(server: &mut ServerState, below: u64) -> Result<Step, Trouble>
-    requires { IsServing server.old below }
-{
-    let _ = below;
-    server.step(Actor::Rank(Rank(0)), said(Message::Finish))
+// Whether the server expects a letter that says so.
+fn expects(server: &ServerState, from: Actor, message: Message) -> bool {
+    server.expects(from, &said(message))
+}
+
+// Whether it expects of rank 0 a put of such a unit.
+fn expects_put(
+    server: &ServerState,
+    alloc: Global,
+    row: (u32, u64, usize, Target),
+) -> Result<bool, Fail> {
+    let (rank, number, size, target) = row;
+    let unit = unit(alloc, rank, number, size, target)?;
+    Ok(expects(server, Actor::Rank(Rank(0)), Message::Put { unit }))
 }
 
 // The letter of a step with what it says, and its entries, as they are shown.
@@ -92,9 +87,9 @@ fn shown(alloc: Global, step: &Step) -> Result<(String, String), Fail> {
 #[test]
 fn accepts_until_it_is_full(rt: HostRuntime) -> Result<(), Fail> {
     let alloc = rt.alloc();
-    let mut server = server(alloc)?;
-    let first = put(&mut server, unit(alloc, 0, 60)?)?;
-    let second = put(&mut server, unit(alloc, 1, 5)?)?;
+    let mut server = server(alloc, 1, 0)?;
+    let first = put(&rt, &mut server, unit(alloc, 0, 0, 60, Target::Any)?)?;
+    let second = put(&rt, &mut server, unit(alloc, 0, 1, 5, Target::Any)?)?;
     assert_eq!(rt; (first.stamp, second.stamp), (1, 2));
     let (letters, entries) = shown(alloc, &first)?;
     assert_eq!(rt;
@@ -120,9 +115,9 @@ fn accepts_until_it_is_full(rt: HostRuntime) -> Result<(), Fail> {
 #[test]
 fn grants_and_then_is_exhausted(rt: HostRuntime) -> Result<(), Fail> {
     let alloc = rt.alloc();
-    let mut server = server(alloc)?;
-    put(&mut server, unit(alloc, 0, 2)?)?;
-    let granted = reserve(&mut server, 1, 1)?;
+    let mut server = server(alloc, 1, 0)?;
+    put(&rt, &mut server, unit(alloc, 0, 0, 2, Target::Any)?)?;
+    let granted = reserve(&rt, &mut server, 1)?;
     let (letters, entries) = shown(alloc, &granted)?;
     assert_eq!(rt;
         letters.as_str(),
@@ -146,7 +141,7 @@ fn grants_and_then_is_exhausted(rt: HostRuntime) -> Result<(), Fail> {
         }]
         .as_slice()
     );
-    let over = reserve(&mut server, 1, 2)?;
+    let over = reserve(&rt, &mut server, 2)?;
     let (letters, entries) = shown(alloc, &over)?;
     assert_eq!(rt;
         letters.as_str(),
@@ -162,13 +157,81 @@ fn grants_and_then_is_exhausted(rt: HostRuntime) -> Result<(), Fail> {
 #[test]
 fn finishing_shuts_the_server(rt: HostRuntime) -> Result<(), Fail> {
     let alloc = rt.alloc();
-    let mut server = server(alloc)?;
-    put(&mut server, unit(alloc, 0, 2)?)?;
+    let mut server = server(alloc, 1, 0)?;
+    put(&rt, &mut server, unit(alloc, 0, 0, 2, Target::Any)?)?;
     assert!(rt; !server.ended());
-    let last = finish(&mut server, 1)?;
+    let last = hear(&rt, &mut server, Message::Finish)?;
     assert_eq!(rt; last.stamp, 2);
     assert!(rt; last.sends.is_empty() && last.entries.is_empty());
     assert!(rt; server.ended());
     assert_eq!(rt; server.broken(), None);
+    Ok(())
+}
+
+#[test]
+fn one_of_several_waits_and_is_not_shut(rt: HostRuntime) -> Result<(), Fail> {
+    let alloc = rt.alloc();
+    let mut home = server(alloc, 2, 0)?;
+    assert!(rt; !home.is_quiet());
+    let waits = reserve(&rt, &mut home, 0)?;
+    assert!(rt; waits.sends.is_empty() && waits.entries.is_empty());
+    assert!(rt; home.is_quiet());
+    let mut other = server(alloc, 2, 1)?;
+    assert!(rt; other.is_quiet());
+    let types = Types::any();
+    let rank = Actor::Rank(Rank(0));
+    assert!(rt; !expects(&other, rank, Message::Reserve { request: 1, types }));
+    let last = hear(&rt, &mut other, Message::Finish)?;
+    assert!(rt; last.sends.is_empty() && last.entries.is_empty());
+    assert!(rt; !other.ended());
+    Ok(())
+}
+
+#[test]
+fn expects_a_put_of_a_new_unit(rt: HostRuntime) -> Result<(), Fail> {
+    let alloc = rt.alloc();
+    let most = 1 << 20;
+    let mut server = server(alloc, 1, 0)?;
+    put(&rt, &mut server, unit(alloc, 0, 0, 2, Target::Any)?)?;
+    let rows = [
+        ((0, 1, most, Target::Only(Rank(0))), true),
+        ((0, 0, 2, Target::Any), false),
+        ((1, 1, 2, Target::Any), false),
+        ((0, 1, most + 1, Target::Any), false),
+        ((0, 1, 2, Target::Only(Rank(1))), false),
+    ];
+    for (row, expected) in rows {
+        assert_eq!(rt; expects_put(&server, alloc, row)?, expected);
+    }
+    Ok(())
+}
+
+#[test]
+fn expects_each_letter_by_its_row(rt: HostRuntime) -> Result<(), Fail> {
+    let alloc = rt.alloc();
+    let rank = Actor::Rank(Rank(0));
+    let types = Types::any();
+    let id = UnitId {
+        rank: Rank(0),
+        number: 0,
+    };
+    let mut server = server(alloc, 1, 0)?;
+    put(&rt, &mut server, unit(alloc, 0, 0, 2, Target::Any)?)?;
+    assert!(rt; !expects(&server, rank, Message::Fetch { request: 1, id }));
+    reserve(&rt, &mut server, 1)?;
+    assert!(rt; expects(&server, rank, Message::Fetch { request: 2, id }));
+    assert!(rt; expects(&server, rank, Message::Reserve { request: 2, types }));
+    assert!(rt; expects(&server, rank, Message::Finish));
+    assert!(rt; !expects(&server, rank, Message::Done { request: 2 }));
+    assert!(rt; !expects(&server, Actor::Rank(Rank(1)), Message::Finish));
+    assert!(rt; !expects(&server, Actor::Server(Server(0)), Message::Finish));
+    let late = Letter {
+        stamp: 1 << 48,
+        place: 0,
+        message: Message::Finish,
+    };
+    assert!(rt; !server.expects(rank, &late));
+    hear(&rt, &mut server, Message::Finish)?;
+    assert!(rt; !expects(&server, rank, Message::Finish));
     Ok(())
 }

@@ -223,7 +223,7 @@ fn end_end(end: End) -> EndFault
 }
 
 impl Adlb for Fake {
-    ghost ranks = { λ l. 1 };
+    ghost seat = { λ l. record { ranks = 1; servers = 1; limit = 64; me = record { 0 = 0 } } };
 
     ghost transcript = { λ l. l.said.items };
 

@@ -20,7 +20,7 @@ puts-preserved-in-Accepted g c =
     let one = replied _ _ c.in-Some.made _ replies.Accepted c.in_ok-put.ensures.says c.in-Accepted.is in record {
       going = accepted_is c.args.self.now _ _ c.puts.desk rest c.in-Some.made c.puts.invariant.going popped one;
       more = grows _ _ _ _ c.puts.invariant.more one;
-      ranks = c.in_ok-put.ensures.ranks ∙ c.puts.invariant.ranks;
+      seat = c.in_ok-put.ensures.seat ∙ c.puts.invariant.seat;
       batch = λ h. c.in_ok-put.ensures.batch (c.puts.invariant.batch h);
     }
 
@@ -31,7 +31,7 @@ puts-preserved g c =
     let one = replied _ _ c.in-Some.made _ replies.Rejected c.in_ok-put.ensures.says c.in-Rejected.is in record {
       going = rejected_is c.args.self.now _ _ c.puts.desk rest c.receive.new.self c.in-Some.made c.puts.invariant.going popped one c.in-Ok.ensures;
       more = grows _ _ _ _ c.puts.invariant.more one;
-      ranks = c.in_ok-put.ensures.ranks ∙ c.puts.invariant.ranks;
+      seat = c.in_ok-put.ensures.seat ∙ c.puts.invariant.seat;
       batch = λ h. c.in_ok-put.ensures.batch (c.puts.invariant.batch h);
     }
 

@@ -6,7 +6,7 @@ abbrev pub invariant-puts : goal.invariant-puts
 invariant-puts g l = record {
   going : IsGoing l.self (g.A.Adlb.transcript l.link) l.desk;
   more : length (g.A.Adlb.transcript l.fn.link) ≤ length (g.A.Adlb.transcript l.link);
-  ranks : g.A.Adlb.ranks l.link ≡ g.A.Adlb.ranks l.fn.link;
+  seat : g.A.Adlb.seat l.link ≡ g.A.Adlb.seat l.fn.link;
   batch : g.A.Adlb.batch l.fn.link ≡ false → g.A.Adlb.batch l.link ≡ false;
 }
 

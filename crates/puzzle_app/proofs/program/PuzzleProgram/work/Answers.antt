@@ -34,7 +34,7 @@ rounds-preserved-in-Ok-bring g c =
     let all = all_is _ _ _ c.if-not-branch.false c.in_ok-put_all.ensures.told in
     let own = subst (λ b. Brings c.args.self.now.settings.grain (fetched_unit c.in-Unit.note b) c.put_all.new.desk c.bring.new.self) c.bytes.ensures c.in-Ok-bring.ensures in record {
       going = brought_is c.args.self.now _ _ c.put_all.new.desk c.bring.new.self c.in-Unit.note c.in-Unit.body all (subst (λ t. Takes (g.A.Adlb.transcript c.put_all.new.link) (g.A.Adlb.transcript c.take.new.link) t) c.in-Unit.is c.in_ok-note.ensures.takes) own;
-      ranks = c.in_ok-note.ensures.ranks ∙ c.in_ok-put_all.ensures.ranks ∙ c.rounds.invariant.ranks;
+      seat = c.in_ok-note.ensures.seat ∙ c.in_ok-put_all.ensures.seat ∙ c.rounds.invariant.seat;
       batch = λ h. c.in_ok-note.ensures.batch (c.in_ok-put_all.ensures.batch (c.rounds.invariant.batch h));
     }
 
@@ -43,7 +43,7 @@ rounds-preserved g c =
     let all = all_is _ _ _ c.if-not-branch.false c.in_ok-put_all.ensures.told in
     let own = subst (λ b. Brings c.args.self.now.settings.grain (fetched_unit c.in-Unit.note b) c.put_all.new.desk c.bring.new.self) c.bytes.ensures c.in-Ok-bring.ensures in record {
       going = brought_is c.args.self.now _ _ c.put_all.new.desk c.bring.new.self c.in-Unit.note c.in-Unit.body all (subst (λ t. Takes (g.A.Adlb.transcript c.put_all.new.link) (g.A.Adlb.transcript c.take.new.link) t) c.in-Unit.is c.in_ok-note.ensures.takes) own;
-      ranks = c.in_ok-note.ensures.ranks ∙ c.in_ok-put_all.ensures.ranks ∙ c.rounds.invariant.ranks;
+      seat = c.in_ok-note.ensures.seat ∙ c.in_ok-put_all.ensures.seat ∙ c.rounds.invariant.seat;
       batch = λ h. c.in_ok-note.ensures.batch (c.in_ok-put_all.ensures.batch (c.rounds.invariant.batch h));
     }
 

@@ -5,7 +5,7 @@ use Rattle.puzzle_app.proofs.program.PuzzleProgram.work.Given as goal
 abbrev pub invariant-rounds : goal.invariant-rounds
 invariant-rounds g l = record {
   going : IsGoing l.self (g.A.Adlb.transcript l.link) l.desk;
-  ranks : g.A.Adlb.ranks l.link ≡ g.A.Adlb.ranks l.fn.link;
+  seat : g.A.Adlb.seat l.link ≡ g.A.Adlb.seat l.fn.link;
   batch : g.A.Adlb.batch l.fn.link ≡ false → g.A.Adlb.batch l.link ≡ false;
 }
 

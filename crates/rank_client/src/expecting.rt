@@ -1,0 +1,126 @@
+//! Which letters a client expects.
+
+ghost use Rattle.std.specs.Prelude.{◌≡◌, ◌<◌, ◌↔◌, ◌&&◌, IsTrue, IsSome};
+ghost use Rattle.adlb_unit.specs.declared.messages.Message.{Message};
+ghost use Rattle.bag_ledger.specs.declared.entries.Said.{Said};
+ghost use Rattle.rank_client.specs.Calls.{fetches, grants, is_fetched, is_granted};
+ghost use Rattle.rank_client.specs.Expected.{AnswersFetch, AnswersPut, AnswersReserve, IsAwaited, IsExpected};
+ghost use Rattle.rank_client.specs.Rules.{expects_note, is_for};
+ghost use Rattle.rank_client.specs.Step.{hear};
+
+use crate::clients::{ClientCore, behind};
+use crate::pendings::Pending;
+use adlb_unit::{Letter, Message, Server, UnitId, UnitNote};
+use bag_ledger::{Answer, Call, Said};
+
+impl ClientCore {
+    /// The letter is expected (`IsExpected`): the pending call awaits such an answer, with this request, from this server.
+    /// Exactly such a letter has a step (`hear`). It takes no memory.
+    pub fn expects(&self, from: Server, letter: &Letter) -> bool
+        ensures expected { IsTrue result ↔ IsExpected self.now from letter.now }
+        ensures heard { IsTrue result ↔ IsSome (hear self.now from letter.now) }
+    {
+        !self.finished && letter.stamp < 1 << 48 && self.awaits(from, &letter.message)
+    }
+
+    // The pending call awaits this answer from this server.
+    fn awaits(&self, from: Server, message: &Message) -> bool
+        ensures { IsTrue result ↔ IsAwaited self.now self.now.pending from message.now }
+    {
+        match &self.pending {
+            Pending::Nothing => false,
+            Pending::Put { unit, first, tried } => {
+                let at = behind(&self.config, *first, *tried as u64);
+                answers_put(unit.id.number, at, from, message)
+            }
+            Pending::Reserve { request, .. } => self.answers_reserve(*request, from, message),
+            Pending::Fetch { request, note } => answers_fetch(*request, note, from, message),
+        }
+    }
+
+    fn answers_reserve(&self, request: u64, from: Server, message: &Message) -> bool
+        ensures { IsTrue result ↔ AnswersReserve self.now request from message.now }
+    {
+        let home = self.config.home(self.me);
+        match message {
+            Message::Grant { request: to, note } => {
+                is_for(request, home, from, *to) && self.expects_note(note)
+            }
+            Message::Ended { request: to, .. } => is_for(request, home, from, *to),
+            _ => false,
+        }
+    }
+
+    // The note names a server, its unit was not granted or fetched before, and it has no common part.
+    fn expects_note(&self, note: &UnitNote) -> bool
+        ensures { result ≡ expects_note self.now note.now }
+    {
+        note.server.0 < self.config.servers
+            && note.common.is_none()
+            && !is_granted(note.id, &self.said)
+            && !is_fetched(note.id, &self.said)
+    }
+}
+
+// The answer to this request comes from the server that was asked.
+fn is_for(request: u64, at: Server, from: Server, to: u64) -> bool
+    ensures { result ≡ is_for request at from to }
+{
+    to == request && from.0 == at.0
+}
+
+fn answers_put(request: u64, at: Server, from: Server, message: &Message) -> bool
+    ensures { IsTrue result ↔ AnswersPut request at from message.now }
+{
+    match message {
+        Message::Accepted { request: to } => is_for(request, at, from, *to),
+        Message::Full { request: to, .. } => is_for(request, at, from, *to),
+        Message::Ended { request: to, .. } => is_for(request, at, from, *to),
+        _ => false,
+    }
+}
+
+fn answers_fetch(request: u64, note: &UnitNote, from: Server, message: &Message) -> bool
+    ensures { IsTrue result ↔ AnswersFetch request note.now from message.now }
+{
+    match message {
+        Message::Bytes { request: to, body } => {
+            is_for(request, note.server, from, *to) && body.len() == note.length as usize
+        }
+        _ => false,
+    }
+}
+
+// A unit of this id was granted.
+#[tactic(auto, unfolding(crate::specs::Calls::is_granted))]
+fn is_granted(id: UnitId, said: &[Said]) -> bool
+    ensures { result ≡ is_granted id said.now }
+{
+    said.iter().any(|s| grants(id, &s.answer))
+}
+
+fn grants(id: UnitId, answer: &Answer) -> bool
+    ensures { result ≡ grants id answer.now }
+{
+    match answer {
+        Answer::Granted(note) => note.id == id,
+        _ => false,
+    }
+}
+
+// A unit of this id was fetched.
+#[tactic(auto, unfolding(crate::specs::Calls::is_fetched))]
+fn is_fetched(id: UnitId, said: &[Said]) -> bool
+    ensures { result ≡ is_fetched id said.now }
+{
+    said.iter().any(|s| fetches(id, &s.call))
+}
+
+fn fetches(id: UnitId, call: &Call) -> bool
+    ensures { result ≡ fetches id call.now }
+{
+    match call {
+        Call::Fetch { id: fetched } => *fetched == id,
+        _ => false,
+    }
+}
