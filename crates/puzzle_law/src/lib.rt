@@ -1,0 +1,34 @@
+//! How the report follows from the ledger of a run of puzzle programs.
+//!
+//! It speaks of definitions alone and has no code. `specs/Joined.antt` says what a run of puzzle programs is.
+#![tactic(auto)]
+
+ghost use Rattle.std.specs.Prelude.{◌≡◌, ◌<◌, ◌≤◌, ◌^◌, ℕ, List, All, length};
+ghost use Rattle.adlb_unit.specs.declared.configs.Config.{Config};
+ghost use Rattle.bag_ledger.specs.declared.entries.Entry.{Entry};
+ghost use Rattle.bag_ledger.specs.declared.states.UnitPlace.TheVariants.{Spent};
+ghost use Rattle.bag_ledger.specs.Bag.{Bag, start};
+ghost use Rattle.bag_ledger.specs.Runs.{IsRun};
+ghost use Rattle.puzzle_app.specs.declared.jobs.Job.{Job};
+ghost use Rattle.puzzle_app.specs.declared.outcomes.PuzzleOutcome.{PuzzleOutcome};
+ghost use Rattle.puzzle_app.specs.declared.outcomes.Settings.{Settings};
+ghost use Rattle.puzzle_app.specs.Jobs.{puzzles};
+ghost use Rattle.puzzle_app.specs.Report.{AreWhole};
+ghost use Rattle.puzzle_law.specs.Joined.{IsPuzzleRun};
+ghost use Rattle.sudoku_law.specs.Grid.{IsGrid};
+
+use bag_balance::balance_laws;
+
+/// The joining of ledger, programs and report, for every configuration. In a legal run in which each rank
+/// ran its puzzle program and then finished, the outcomes together hold exactly what the jobs are to give (`whole`), and
+/// each accepted unit was fetched, so nothing is left (`spent`).
+pub fn joining_laws()
+    ensures whole { (config : Config) (ledger : List Entry) (last : Bag) (settings : Settings) (jobs : List Job) (outcomes : List PuzzleOutcome) →
+        0 < config.ranks → IsRun (start config) ledger last → All (IsGrid 3) (puzzles jobs) → length jobs ≤ 2 ^ 24 → settings.budget < 2 ^ 64 →
+        IsPuzzleRun config ledger settings jobs outcomes → AreWhole settings.budget settings.grain jobs outcomes }
+    ensures spent { (config : Config) (ledger : List Entry) (last : Bag) (settings : Settings) (jobs : List Job) (outcomes : List PuzzleOutcome) →
+        0 < config.ranks → IsRun (start config) ledger last →
+        IsPuzzleRun config ledger settings jobs outcomes → All (λ u. u.place ≡ Spent) last.units }
+{
+    balance_laws();
+}
