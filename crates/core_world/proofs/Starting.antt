@@ -1,0 +1,38 @@
+-- At the start each actor is there, and none has failed.
+use Rattle.std.proofs.Common.{◌≡◌, ◌+◌, ℕ, List, [], ◌∷◌, ◌++◌, map, None, Result, Ok, Err, false, cond, refl, zero-add}
+use Rattle.std.specs.Prelude.{is_err, is_ok}
+use Rattle.std.specs.List.{range_with_len}
+use Rattle.std.proofs.lemmas.List.Elements.{All-map}
+use Rattle.std.proofs.lemmas.List.FromFn.{length-map-range_with_len, map-range_with_len_more}
+use Rattle.adlb_unit.specs.declared.configs.Config.{Config}
+use Rattle.rank_client.specs.State.{State as Client, start as new_client}
+use Rattle.server_core.specs.State.{State as Pool, start as new_pool}
+use Rattle.core_run.specs.World.{rank_named, server_named, start}
+use Rattle.core_world.specs.Stage.{IsFull, IsWhole}
+
+pub start_full : (config : Config) → IsFull (start config)
+start_full config = record {
+  ranks = length-map-range_with_len (λ n. new_client config (rank_named n)) 0 config.ranks;
+  servers = length-map-range_with_len (λ n. new_pool config (server_named n)) 0 config.servers;
+}
+
+pub start_whole : (config : Config) → IsWhole (start config)
+start_whole config = record {
+  ranks = All-map (λ (c : Client). c.trouble ≡ None) (λ n. new_client config (rank_named n)) (range_with_len 0 config.ranks) (λ k d within. refl);
+  servers = All-map (λ (s : Pool). s.trouble ≡ None) (λ n. new_pool config (server_named n)) (range_with_len 0 config.servers) (λ k d within. refl);
+}
+
+-- one actor more
+pub one_more_client : (config : Config) (before now : List Client) (client : Client) (n : ℕ) → before ≡ map (λ k. new_client config (rank_named k)) (range_with_len 0 n)
+    → client ≡ new_client config (rank_named n) → now ≡ before ++ client ∷ [] → now ≡ map (λ k. new_client config (rank_named k)) (range_with_len 0 (n + 1))
+one_more_client config before now client n was is pushed =
+    rw (map-range_with_len_more (λ k. new_client config (rank_named k)) 0 n n (zero-add n), pushed, was, is) refl
+
+pub one_more_server : (config : Config) (before now : List Pool) (server : Pool) (n : ℕ) → before ≡ map (λ k. new_pool config (server_named k)) (range_with_len 0 n)
+    → server ≡ new_pool config (server_named n) → now ≡ before ++ server ∷ [] → now ≡ map (λ k. new_pool config (server_named k)) (range_with_len 0 (n + 1))
+one_more_server config before now server n was is pushed =
+    rw (map-range_with_len_more (λ k. new_pool config (server_named k)) 0 n n (zero-add n), pushed, was, is) refl
+
+pub pushed_is : {X T E : Type 0} (r : Result T E) (now more before : List X) → is_err r ≡ false → now ≡ cond (is_ok r) more before → now ≡ more
+pushed_is (Ok x) now more before whole is = is
+pushed_is (Err e) now more before whole is = absurd (cc)

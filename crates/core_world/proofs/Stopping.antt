@@ -1,0 +1,144 @@
+-- What stands after an event that failed.
+use Rattle.std.proofs.Common.{◌≡◌, ℕ, zero, suc, Bool, true, false, ◌&&◌, cond, List, [], ◌∷◌, ◌++◌, get_or, set, Option, Some, None, inl, refl, sym, ap, ◌∙◌, subst, append-nil}
+use Rattle.std.specs.Prelude.{IsSome, nat_lt}
+use Rattle.std.specs.Option.{option_map}
+use Rattle.adlb_unit.specs.declared.actors.Actor.{Actor}
+use Rattle.adlb_unit.specs.declared.actors.Actor.TheVariants as by
+use Rattle.adlb_unit.specs.declared.letters.Letter.{Letter}
+use Rattle.adlb_unit.specs.declared.names.Rank.{Rank}
+use Rattle.adlb_unit.specs.declared.names.Server.{Server}
+use Rattle.adlb_unit.specs.declared.notes.Trouble.{Trouble}
+use Rattle.adlb_unit.specs.declared.notes.Trouble.TheVariants as troubles
+use Rattle.bag_ledger.specs.declared.entries.Entry.{Entry}
+use Rattle.bag_ledger.specs.declared.entries.Call.{Call}
+use Rattle.rank_client.specs.State.{State as Client, start as new_client}
+use Rattle.server_core.specs.State.{State as Pool}
+use Rattle.rank_client.specs.Step.{Made, begin, hear, letter_stamp}
+use Rattle.server_core.specs.State.{place_of}
+use Rattle.server_core.specs.Step.{Served, next_stamp, serve}
+use Rattle.core_run.specs.declared.events.Event.{Event}
+use Rattle.core_run.specs.declared.events.Event.TheVariants as occurs
+use Rattle.core_run.specs.World.{Links, World, after_rank, after_server, client_of, handle, happens, has_ended, is_within, link, pool_of, taken}
+use Rattle.core_world.specs.Applied.{Causes, IsCut, IsEnabled, IsKept, Stops, event_stamp, front_stamp}
+use Rattle.core_world.specs.Seen.{under_way}
+use Rattle.core_world.specs.Stage.{with_client, with_server}
+
+-- An event adds its entries behind those of before.
+
+abbrev Extends : World → Option World → Type 0
+Extends w None = Prim.Unit {0}
+Extends w (Some after) = (more : List Entry) × (after.ledger ≡ w.ledger ++ more)
+
+by_rank : (w : World) (rank : Rank) (links : Links) (o : Option Made) → Extends w (option_map (after_rank w rank links) o)
+by_rank w rank links None = tt
+by_rank w rank links (Some x) = (x.entries, refl)
+
+by_server : (w : World) (server : Server) (links : Links) (o : Option Served) → Extends w (option_map (after_server w server links) o)
+by_server w server links None = tt
+by_server w server links (Some x) = (x.entries, refl)
+
+where_it : (w : World) (b : Bool) (o : Option World) → Extends w o → Extends w (cond b o None)
+where_it w true o extends = extends
+where_it w false o extends = tt
+
+unless_it : (w : World) (b : Bool) (o : Option World) → Extends w o → Extends w (cond b None o)
+unless_it w true o extends = tt
+unless_it w false o extends = extends
+
+by_letter : (w : World) (from to : Actor) (letters : List Letter) → Extends w (handle w from to letters)
+by_letter w from to [] = tt
+by_letter w (by.Rank from) (by.Rank to) (letter ∷ rest) = tt
+by_letter w (by.Server from) (by.Rank to) (letter ∷ rest) = by_rank w to (taken w (by.Server from) (by.Rank to) rest) (hear (client_of w to) from letter)
+by_letter w (by.Rank from) (by.Server to) (letter ∷ rest) =
+    unless_it w (has_ended (pool_of w to)) _ (by_server w to (taken w (by.Rank from) (by.Server to) rest) (serve (pool_of w to) (by.Rank from) letter))
+by_letter w (by.Server from) (by.Server to) (letter ∷ rest) =
+    unless_it w (has_ended (pool_of w to)) _ (by_server w to (taken w (by.Server from) (by.Server to) rest) (serve (pool_of w to) (by.Server from) letter))
+
+by_event : (w : World) (event : Event) → Extends w (happens w event)
+by_event w (occurs.Call rank call) = where_it w (nat_lt rank.0 w.config.ranks) _ (by_rank w rank w.links (begin (client_of w rank) call))
+by_event w (occurs.Deliver from to) =
+    where_it w (is_within w.config from && is_within w.config to) _ (by_letter w from to (link w.links (place_of w.config from) (place_of w.config to)))
+
+grows : (w after : World) (event : Event) → happens w event ≡ Some after → (more : List Entry) × (after.ledger ≡ w.ledger ++ more)
+grows w after event h = subst (Extends w) h (by_event w event)
+
+cut_kept : (w new after : World) (event : Event) → IsKept w new → happens w event ≡ Some after → IsCut w new after
+cut_kept w new after event kept h =
+    let more = grows w after event h in
+    record {
+      config = kept.config;
+      ledger = record {
+        entered = [];
+        rest = more.0;
+        now_is = kept.ledger ∙ sym (append-nil w.ledger);
+        after_is = more.1 ∙ ap (λ l. l ++ more.0) (sym kept.ledger);
+      };
+      transcripts = λ rank. inl (kept.transcripts rank);
+    }
+
+-- The actor itself failed.
+
+pub stops_kept : (w new : World) (event : Event) (trouble : Trouble) → Causes (event_stamp w event) trouble → IsKept w new → Stops w event trouble new
+stops_kept w new event troubles.Memory cause kept = record { cause = cause; leaves = λ after h. cut_kept w new after event kept h }
+stops_kept w new event (troubles.TooLong stamp) cause kept = record { cause = cause; leaves = kept }
+
+same_at : (ranks : List Client) (at k : ℕ) (d e s : Client) → s.transcript ≡ (get_or ranks at e).transcript → (get_or (set ranks at s) k d).transcript ≡ (get_or ranks k d).transcript
+same_at [] at k d e s is = refl
+same_at (x ∷ ranks) zero zero d e s is = is
+same_at (x ∷ ranks) zero (suc k) d e s is = refl
+same_at (x ∷ ranks) (suc at) zero d e s is = refl
+same_at (x ∷ ranks) (suc at) (suc k) d e s is = same_at ranks at k d e s is
+
+pub kept_client : (w : World) (links : Links) (rank : Rank) (s : Client) → s.transcript ≡ (client_of w rank).transcript → IsKept w (with_client (record w { links = links }) rank s)
+kept_client w links rank s is =
+    record { config = refl; ledger = refl; transcripts = λ r. same_at w.ranks rank.0 r.0 (new_client w.config r) (new_client w.config rank) s is }
+
+pub kept_server : (w : World) (links : Links) (server : Server) (s : Pool) → IsKept w (with_server (record w { links = links }) server s)
+kept_server w links server s = record { config = refl; ledger = refl; transcripts = λ r. refl }
+
+-- The client that was to begin a call, or to hear the front letter, failed; the server that was to handle it failed.
+
+pub call_stops : (w now : World) (rank : Rank) (call : Call) (trouble : Trouble) → Causes (event_stamp w (occurs.Call rank call)) trouble
+    → now ≡ with_client w rank (record (client_of w rank) { trouble = Some trouble }) → Stops w (occurs.Call rank call) trouble now
+call_stops w now rank call trouble cause is =
+    let s : Client = record (client_of w rank) { trouble = Some trouble } in
+    subst (λ (v : World). Stops w (occurs.Call rank call) trouble v) (sym is)
+    (stops_kept w (with_client w rank s) (occurs.Call rank call) trouble cause (kept_client w w.links rank s refl))
+
+pub answer_stops : (w took now : World) (from : Server) (to : Rank) (letter : Letter) (rest : List Letter) (trouble : Trouble)
+    → under_way w (by.Server from) (by.Rank to) ≡ letter ∷ rest → took ≡ record w { links = taken w (by.Server from) (by.Rank to) rest }
+    → Causes (letter_stamp (client_of took to) letter) trouble → now ≡ with_client took to (record (client_of took to) { trouble = Some trouble })
+    → Stops w (occurs.Deliver (by.Server from) (by.Rank to)) trouble now
+answer_stops w took now from to letter rest trouble front took_is cause is =
+    let event : Event = occurs.Deliver (by.Server from) (by.Rank to) in
+    let links : Links = taken w (by.Server from) (by.Rank to) rest in
+    let s : Client = record (client_of w to) { trouble = Some trouble } in
+    let stamp : event_stamp w event ≡ letter_stamp (client_of w to) letter = ap (front_stamp w (by.Rank to)) front in
+    let caused : Causes (letter_stamp (client_of w to) letter) trouble = subst (λ (v : World). Causes (letter_stamp (client_of v to) letter) trouble) took_is cause in
+    let now_is : now ≡ with_client (record w { links = links }) to s =
+    is ∙ ap (λ (v : World). with_client v to (record (client_of v to) { trouble = Some trouble })) took_is in
+    subst (λ (v : World). Stops w event trouble v) (sym now_is)
+    (stops_kept w (with_client (record w { links = links }) to s) event trouble (subst (λ n. Causes n trouble) (sym stamp) caused) (kept_client w links to s refl))
+
+pub request_stops : (w took now : World) (from : Actor) (to : Server) (letter : Letter) (rest : List Letter) (trouble : Trouble)
+    → under_way w from (by.Server to) ≡ letter ∷ rest → took ≡ record w { links = taken w from (by.Server to) rest }
+    → Causes (next_stamp (pool_of took to) letter) trouble → (s : Pool) → now ≡ with_server took to s
+    → Stops w (occurs.Deliver from (by.Server to)) trouble now
+request_stops w took now from to letter rest trouble front took_is cause s is =
+    let event : Event = occurs.Deliver from (by.Server to) in
+    let links : Links = taken w from (by.Server to) rest in
+    let stamp : event_stamp w event ≡ next_stamp (pool_of w to) letter = ap (front_stamp w (by.Server to)) front in
+    let caused : Causes (next_stamp (pool_of w to) letter) trouble = subst (λ (v : World). Causes (next_stamp (pool_of v to) letter) trouble) took_is cause in
+    let now_is : now ≡ with_server (record w { links = links }) to s = is ∙ ap (λ (v : World). with_server v to s) took_is in
+    subst (λ (v : World). Stops w event trouble v) (sym now_is)
+    (stops_kept w (with_server (record w { links = links }) to s) event trouble (subst (λ n. Causes n trouble) (sym stamp) caused) (kept_server w links to s))
+
+-- In each case the configuration is as it was.
+
+some_of : {X : Type 0} (o : Option X) → IsSome o → (x : X) × (o ≡ Some x)
+some_of None some = absurd (cc)
+some_of (Some x) some = (x, refl)
+
+pub stops_config : (w now : World) (event : Event) (trouble : Trouble) → IsEnabled w event → Stops w event trouble now → now.config ≡ w.config
+stops_config w now event troubles.Memory enabled stops = let after = some_of (happens w event) enabled in (stops.leaves after.0 after.1).config
+stops_config w now event (troubles.TooLong stamp) enabled stops = stops.leaves.config

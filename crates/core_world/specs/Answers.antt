@@ -1,0 +1,69 @@
+-- Which answers a call can have.
+use Rattle.std.specs.Prelude.{◌≡◌, ◌≤◌, ◌^◌, Bool, true, false, List, length, Option, None, Some, Result, Ok, Err}
+use Rattle.adlb_unit.specs.declared.notes.Trouble.{Trouble}
+use Rattle.adlb_unit.specs.declared.notes.UnitNote.{UnitNote}
+use Rattle.adlb_unit.specs.Totals.{total_of}
+use Rattle.bag_ledger.specs.declared.entries.Answer.{Answer}
+use Rattle.bag_ledger.specs.declared.entries.Answer.TheVariants as answers
+use Rattle.bag_ledger.specs.declared.entries.Call.{Call}
+use Rattle.bag_ledger.specs.declared.entries.Call.TheVariants as calls_to
+use Rattle.bag_ledger.specs.declared.entries.Said.{Said}
+use Rattle.rank_client.specs.Calls.{Aims, granted, is_fetched, is_granted}
+
+-- the answer that was given, and the trouble with which the call failed
+abbrev pub answered : Result Answer Trouble → Option Answer
+answered (Ok answer) = Some answer
+answered (Err trouble) = None
+
+abbrev pub troubled : Result Answer Trouble → Option Trouble
+troubled (Ok answer) = None
+troubled (Err trouble) = Some trouble
+
+-- what a put, a reserve and a fetch can be answered
+abbrev pub answers_put : Answer → Bool
+answers_put answers.Fine = true
+answers_put answers.Rejected = true
+answers_put (answers.Ended end) = true
+answers_put _ = false
+
+abbrev pub answers_reserve : Answer → Bool
+answers_reserve (answers.Granted note) = true
+answers_reserve (answers.Ended end) = true
+answers_reserve _ = false
+
+abbrev pub answers_fetch : Answer → Bool
+answers_fetch (answers.Body body) = true
+answers_fetch _ = false
+
+abbrev pub answers_finish : Answer → Bool
+answers_finish answers.Fine = true
+answers_finish _ = false
+
+abbrev pub answers_call : Call → Answer → Bool
+answers_call (calls_to.Put kind prio target answer body) = answers_put
+answers_call (calls_to.Reserve types) = answers_reserve
+answers_call (calls_to.Fetch id) = answers_fetch
+answers_call calls_to.Finish = answers_finish
+answers_call _ = λ a. false
+
+-- after an end was told, a put and a reserve are answered by it
+abbrev pub heeds_end : Call → Bool
+heeds_end (calls_to.Put kind prio target answer body) = true
+heeds_end (calls_to.Reserve types) = true
+heeds_end _ = false
+
+-- the rank can make the call: a put with a body of at most 2^20 bytes for a rank of the run, a reserve, a fetch of a unit that was
+-- granted and not fetched, or Finish
+abbrev pub CanCall : List Said → Call → Type 0
+CanCall said (calls_to.Put kind prio target answer body) = (length body ≤ 2 ^ 20) × Aims target 1
+CanCall said (calls_to.Reserve types) = Unit {0}
+CanCall said (calls_to.Fetch id) = (note : UnitNote) × granted note said × (note.id ≡ id) × (is_fetched id said ≡ false)
+CanCall said calls_to.Finish = Unit {0}
+CanCall said _ = ⊥
+
+-- what is known of an answer: a unit is granted that was not granted and not fetched before, and as many bytes come as the note says
+abbrev pub IsAnswer : List Said → Call → Answer → Type 0
+IsAnswer said (calls_to.Reserve types) (answers.Granted note) = (is_granted note.id said ≡ false) × (is_fetched note.id said ≡ false)
+IsAnswer said (calls_to.Fetch id) (answers.Body body) =
+    (note : UnitNote) → granted note said → note.id ≡ id → length body ≡ total_of note
+IsAnswer said call answer = Unit {0}

@@ -1,0 +1,10 @@
+pub mod Answers
+pub mod Applied
+pub mod Fields
+pub mod Inline
+pub mod Inside
+pub mod Known
+pub mod Left
+pub mod Rounds
+pub mod Seen
+pub mod Stage

@@ -1,0 +1,37 @@
+-- The fields of a world.
+use Rattle.std.specs.Prelude.{◌≡◌, length, slice_set, None, All}
+use Rattle.adlb_unit.specs.declared.names.Rank.{Rank}
+use Rattle.adlb_unit.specs.declared.names.Server.{Server}
+use Rattle.rank_client.specs.State.{State as Client}
+use Rattle.server_core.specs.State.{State as Pool}
+use Rattle.core_run.specs.World.{World}
+use Rattle.core_world.specs.declared.stages.Stage.TheInside.{Inside}
+
+abbrev pub world_of : Inside → World
+world_of i = record {
+  config = i.config;
+  ranks = i.ranks.items;
+  servers = i.servers.items;
+  links = i.links;
+  ledger = i.ledger;
+}
+
+-- the rank has this client now, and the server this state
+abbrev pub with_client : World → Rank → Client → World
+with_client w rank s = record w { ranks = slice_set w.ranks rank.0 s }
+
+abbrev pub with_server : World → Server → Pool → World
+with_server w server s = record w { servers = slice_set w.servers server.0 s }
+
+-- each rank has its client, and each server is there
+pub record IsFull (w : World) : Type 0 where
+  pub ranks : length w.ranks ≡ w.config.ranks
+  pub servers : length w.servers ≡ w.config.servers
+
+abbrev pub IsInside : Inside → Type 0
+IsInside i = IsFull (world_of i)
+
+-- no client has failed, and no server is broken
+pub record IsWhole (w : World) : Type 0 where
+  pub ranks : All (λ (c : Client). c.trouble ≡ None) w.ranks
+  pub servers : All (λ (s : Pool). s.trouble ≡ None) w.servers

@@ -1,0 +1,65 @@
+//! Events, applied one by one.
+
+ghost use Rattle.std.specs.Prelude.{◌≡◌, ◌≤◌, ◌^◌, ◌↔◌, ℕ, None, Some, Err, IfErr, IfOk, OnOk, length};
+ghost use Rattle.adlb_unit.specs.declared.notes.Trouble.{Trouble};
+ghost use Rattle.core_run.specs.declared.events.Event.{Event};
+ghost use Rattle.core_run.specs.Runs.{run};
+ghost use Rattle.core_run.specs.World.{happens};
+ghost use Rattle.core_world.specs.Applied.{Applies, IsEnabled, Refuses, StopsAt, event_stamp, fault_of};
+
+use crate::faults::ApplyFault;
+use crate::worlds::World;
+use core_run::Event;
+
+impl World {
+    /// Carries out an event, as `happens` says: a rank begins a call, or an actor handles the front letter of a list. Where there
+    /// is no such event now, it answers `NotEnabled` with the event, and nothing has changed; this is tested first. It answers
+    /// `TooLong` exactly where the event is enabled and its stamp would reach `2^48`, and `Memory` for want of memory alone.
+    /// After one of these two the world has failed, and answers the same to every event; what stands then is said by `Stops`.
+    pub fn apply(&mut self, event: Event) -> Result<(), ApplyFault>
+        ensures applied { OnOk result (Applies self.old event self.new) }
+        ensures refused { IfErr result (λ fault. Refuses self.old event fault self.new) }
+
+        // When each refusal comes.
+        ensures not_enabled { (given : Event) → (result ≡ Err (ApplyFault.NotEnabled given)) ↔
+            ((self.old.trouble ≡ None) × (happens self.old.world event ≡ None) × (given ≡ event)) }
+        ensures too_long { self.old.trouble ≡ None → (stamp : ℕ) → (result ≡ Err (ApplyFault.TooLong stamp)) ↔
+            (IsEnabled self.old.world event × (2 ^ 48 ≤ stamp) × (stamp ≡ event_stamp self.old.world event)) }
+        ensures failed { (trouble : Trouble) → self.old.trouble ≡ Some trouble → result ≡ Err (fault_of trouble) }
+
+        ensures config { self.new.world.config ≡ self.old.world.config }
+    {
+        if let Some(trouble) = self.trouble {
+            return Err(ApplyFault::of(trouble));
+        }
+        if !self.stage.enables(&event) {
+            return Err(ApplyFault::NotEnabled { event });
+        }
+        match self.stage.carry_out(event) {
+            Ok(()) => Ok(()),
+            Err(trouble) => {
+                self.trouble = Some(trouble);
+                Err(ApplyFault::of(trouble))
+            }
+        }
+    }
+
+    /// Applies the events in order, as `run` says, and tells how many there were. At the first refusal it stops: the number says
+    /// how many were applied before, and the fault is that of the event of this number, from 0, as `apply` answers it.
+    pub fn run_events(&mut self, events: Vec<Event>) -> Result<u64, (u64, ApplyFault)>
+        ensures number { IfOk result (λ n. n ≡ length events.items) }
+        ensures ran { OnOk result (run self.old.world events.items ≡ Some self.new.world) }
+        ensures goes_on { OnOk result (self.new.trouble ≡ self.old.trouble) }
+        ensures refused { IfErr result (λ e. StopsAt self.old events.items e.0 e.1 self.new) }
+        ensures config { self.new.world.config ≡ self.old.world.config }
+    {
+        let mut applied = 0;
+        for event in events {
+            match self.apply(event) {
+                Ok(()) => applied += 1,
+                Err(fault) => return Err((applied, fault)),
+            }
+        }
+        Ok(applied)
+    }
+}

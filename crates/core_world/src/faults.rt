@@ -1,0 +1,35 @@
+//! Why an event is not applied.
+
+ghost use Rattle.std.specs.Prelude.{◌≡◌};
+ghost use Rattle.core_world.specs.Applied.{fault_of};
+
+use adlb_unit::Trouble;
+use core_run::Event;
+use thiserror::Error;
+
+/// Why a world does not apply an event.
+#[derive(Debug, Drop, Error)]
+pub enum ApplyFault {
+    /// There is no such event now: the rank is not ready for the call, or the list has no letter, or its actor has ended or
+    /// does not expect the letter.
+    #[error("not enabled now: {event:?}")]
+    NotEnabled { event: Event },
+    /// There is no memory.
+    #[error("out of memory")]
+    Memory,
+    /// The event would have this stamp, which is past the last one that is given.
+    #[error("the run is too long: an event would have stamp {stamp}")]
+    TooLong { stamp: u64 },
+}
+
+impl ApplyFault {
+    // The trouble as a refusal.
+    pub(crate) fn of(trouble: Trouble) -> ApplyFault
+        ensures { result ≡ fault_of trouble }
+    {
+        match trouble {
+            Trouble::Memory => ApplyFault::Memory,
+            Trouble::TooLong { stamp } => ApplyFault::TooLong { stamp },
+        }
+    }
+}

@@ -1,0 +1,173 @@
+//! All actors, the letters between them and the ledger.
+
+ghost use Rattle.std.specs.Prelude.{◌≡◌, ◌<◌, ◌∷◌, ◌↔◌, List, true, IfOk, IsSome, IsTrue, length};
+ghost use Rattle.adlb_unit.specs.declared.letters.Letter.{Letter};
+ghost use Rattle.core_run.specs.World.{client_of, handle, is_within, pool_of, start};
+ghost use Rattle.core_world.specs.Applied.{IsEnabled};
+ghost use Rattle.core_world.specs.Seen.{under_way};
+ghost use Rattle.core_world.specs.Stage.{IsWhole};
+
+use crate::links::{Links, place_of};
+use adlb_unit::{Actor, Config, Letter, NoMemory, Rank, Server};
+use bag_ledger::Ledger;
+use core_run::Event;
+use rank_client::ClientCore;
+use server_core::ServerState;
+use std::alloc::Global;
+use std::marker::Model;
+
+// All actors by their numbers, the letters that are under way, and the entries so far.
+#[derive(Drop)]
+pub(crate) struct Stage {
+    pub(crate) config: Config,
+    pub(crate) ranks: Vec<ClientCore>,
+    pub(crate) servers: Vec<ServerState>,
+    pub(crate) links: Links,
+    pub(crate) ledger: Ledger,
+}
+
+impl Model for Stage {
+    ghost use Rattle.core_run.specs.World.{World};
+
+    ghost Value = { World };
+
+    ghost use Rattle.core_world.specs.Stage.{IsInside, world_of};
+
+    ghost view = { world_of };
+
+    ghost invariant = { IsInside };
+}
+
+impl Stage {
+    // All actors at the start.
+    pub(crate) fn new(alloc: Global, config: Config) -> Result<Stage, NoMemory>
+        requires { config.ranks ≡ 1 }
+        ensures start { IfOk result (λ s. s ≡ start config) }
+        ensures whole { IfOk result IsWhole }
+    {
+        let actors = config.ranks as usize + config.servers as usize;
+        Ok(Stage {
+            config,
+            ranks: clients(alloc, config)?,
+            servers: servers(alloc, config)?,
+            links: Links::new(alloc, actors)?,
+            ledger: Ledger::new(alloc),
+        })
+    }
+
+    pub(crate) fn ledger(&self) -> &Ledger
+        ensures { result.now ≡ self.now.ledger }
+    {
+        &self.ledger
+    }
+
+    // The client of a rank.
+    pub(crate) fn client_at(&self, rank: Rank) -> &ClientCore
+        requires { rank.0 < self.now.config.ranks }
+        ensures { result.now ≡ client_of self.now rank }
+    {
+        &self.ranks[rank.0 as usize]
+    }
+
+    pub(crate) fn server_at(&self, server: Server) -> &ServerState
+        requires { server.0 < self.now.config.servers }
+        ensures { result.now ≡ pool_of self.now server }
+    {
+        &self.servers[server.0 as usize]
+    }
+
+    // The actor is one of the run.
+    fn has_actor(&self, actor: Actor) -> bool
+        ensures { result ≡ is_within self.now.config actor }
+    {
+        match actor {
+            Actor::Rank(rank) => rank.0 < self.config.ranks,
+            Actor::Server(server) => server.0 < self.config.servers,
+        }
+    }
+
+    // How many letters wait on the list; none where an actor is none of the run.
+    pub(crate) fn waiting(&self, from: Actor, to: Actor) -> u64
+        ensures { result ≡ length (under_way self.now from to) }
+    {
+        if !self.has_actor(from) || !self.has_actor(to) {
+            return 0;
+        }
+        self.links
+            .waiting(place_of(&self.config, from), place_of(&self.config, to))
+    }
+
+    // There is such an event now.
+    pub(crate) fn enables(&self, event: &Event) -> bool
+        ensures { IsTrue result ↔ IsEnabled self.now event.now }
+    {
+        match event {
+            Event::Call(rank, call) => {
+                rank.0 < self.config.ranks && self.client_at(*rank).ready(call)
+            }
+            Event::Deliver(from, to) => self.can_deliver(*from, *to),
+        }
+    }
+
+    // There is a front letter, and it is expected.
+    fn can_deliver(&self, from: Actor, to: Actor) -> bool
+        ensures { IsTrue result ↔ IsEnabled self.now (Event.Deliver from to) }
+    {
+        if !self.has_actor(from) || !self.has_actor(to) {
+            return false;
+        }
+        match self
+            .links
+            .front(place_of(&self.config, from), place_of(&self.config, to))
+        {
+            Some(letter) => self.expects(from, to, letter),
+            None => false,
+        }
+    }
+
+    // The actor handles such a letter.
+    fn expects(&self, from: Actor, to: Actor, letter: &Letter) -> bool
+        requires { is_within self.now.config to ≡ true }
+        ensures { (rest : List Letter) → IsTrue result ↔ IsSome (handle self.now from to (letter.now ∷ rest)) }
+    {
+        match to {
+            Actor::Rank(to) => match from {
+                Actor::Server(from) => self.client_at(to).expects(from, letter),
+                Actor::Rank(_) => false,
+            },
+            Actor::Server(to) => {
+                let server = self.server_at(to);
+                !server.ended() && server.expects(from, letter)
+            }
+        }
+    }
+}
+
+// The clients of all ranks at the start.
+fn clients(alloc: Global, config: Config) -> Result<Vec<ClientCore>, NoMemory>
+    ensures { IfOk result (λ v. v.items ≡ (start config).ranks) }
+{
+    let mut clients = Vec::new(alloc);
+    for number in 0..config.ranks {
+        let client = ClientCore::new(alloc, config, Rank(number))?;
+        if clients.push(client).is_err() {
+            return Err(NoMemory);
+        }
+    }
+    Ok(clients)
+}
+
+// All servers at the start.
+fn servers(alloc: Global, config: Config) -> Result<Vec<ServerState>, NoMemory>
+    requires { config.ranks ≡ 1 }
+    ensures { IfOk result (λ v. v.items ≡ (start config).servers) }
+{
+    let mut servers = Vec::new(alloc);
+    for number in 0..config.servers {
+        let server = ServerState::new(alloc, config, Server(number))?;
+        if servers.push(server).is_err() {
+            return Err(NoMemory);
+        }
+    }
+    Ok(servers)
+}

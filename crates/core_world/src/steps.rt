@@ -1,0 +1,190 @@
+//! One event after another.
+
+ghost use Rattle.std.specs.Prelude.{◌≡◌, ◌≢◌, ◌<◌, ◌^◌, ◌∷◌, ◌++◌, [], List, IfOk, IfErr, OnOk, IsSome, None, Some};
+ghost use Rattle.adlb_unit.specs.declared.letters.Letter.{Letter};
+ghost use Rattle.adlb_unit.specs.declared.notes.Trouble.{Trouble};
+ghost use Rattle.core_run.specs.World.{client_of, happens, pool_of, post, taken};
+ghost use Rattle.core_world.specs.Applied.{Causes, IsBetween, IsEnabled, IsHalf, Stops, event_stamp};
+ghost use Rattle.core_world.specs.Seen.{under_way};
+ghost use Rattle.core_world.specs.Stage.{IsWhole, with_client, with_server};
+ghost use Rattle.rank_client.specs.Inside.{gives};
+ghost use Rattle.rank_client.specs.State.{State as Client};
+ghost use Rattle.rank_client.specs.Step.{begin, call_stamp, hear, letter_stamp};
+ghost use Rattle.server_core.specs.State.{State as Pool, place_of};
+ghost use Rattle.server_core.specs.Step.{next_stamp, serve};
+
+use crate::links::place_of;
+use crate::stages::Stage;
+use adlb_unit::{Actor, Letter, NoMemory, Rank, Sending, Server, Trouble};
+use bag_ledger::{Call, Entry, Ledger};
+use core_run::Event;
+use rank_client::ClientStep;
+use server_core::Step;
+
+impl Stage {
+    // Carries out an event that is enabled.
+    pub(crate) fn carry_out(&mut self, event: Event) -> Result<(), Trouble>
+        requires enabled { IsEnabled self.old event }
+        requires whole { IsWhole self.old }
+        ensures happened { OnOk result (happens self.old event ≡ Some self.new) }
+        ensures stamp { OnOk result (event_stamp self.old event < 2 ^ 48) }
+        ensures whole { OnOk result (IsWhole self.new) }
+        ensures stops { IfErr result (λ trouble. Stops self.old event trouble self.new) }
+    {
+        match event {
+            Event::Call(rank, call) => self.begin(rank, call),
+            Event::Deliver(from, to) => self.deliver(from, to),
+        }
+    }
+
+    // An actor handles the front letter of another.
+    fn deliver(&mut self, from: Actor, to: Actor) -> Result<(), Trouble>
+        requires enabled { IsEnabled self.old (Event.Deliver from to) }
+        requires whole { IsWhole self.old }
+        ensures happened { OnOk result (happens self.old (Event.Deliver from to) ≡ Some self.new) }
+        ensures stamp { OnOk result (event_stamp self.old (Event.Deliver from to) < 2 ^ 48) }
+        ensures whole { OnOk result (IsWhole self.new) }
+        ensures stops { IfErr result (λ trouble. Stops self.old (Event.Deliver from to) trouble self.new) }
+    {
+        match to {
+            Actor::Server(to) => self.serve(from, to),
+            Actor::Rank(to) => match from {
+                Actor::Server(from) => self.hear(from, to),
+                Actor::Rank(_) => unreachable!(),
+            },
+        }
+    }
+
+    // A rank begins a call.
+    fn begin(&mut self, rank: Rank, call: Call) -> Result<(), Trouble>
+        requires enabled { IsEnabled self.old (Event.Call rank call) }
+        requires whole { IsWhole self.old }
+        ensures happened { OnOk result (happens self.old (Event.Call rank call) ≡ Some self.new) }
+        ensures stamp { OnOk result (event_stamp self.old (Event.Call rank call) < 2 ^ 48) }
+        ensures whole { OnOk result (IsWhole self.new) }
+        ensures stops { IfErr result (λ trouble. Stops self.old (Event.Call rank call) trouble self.new) }
+    {
+        let ClientStep { sends, entries, .. } = self.client_begins(rank, call)?;
+        self.give(Actor::Rank(rank), sends, entries)
+    }
+
+    // A rank hears the front letter of a server.
+    fn hear(&mut self, from: Server, to: Rank) -> Result<(), Trouble>
+        requires enabled { IsEnabled self.old (Event.Deliver (Actor.Server from) (Actor.Rank to)) }
+        requires whole { IsWhole self.old }
+        ensures happened { OnOk result (happens self.old (Event.Deliver (Actor.Server from) (Actor.Rank to)) ≡ Some self.new) }
+        ensures stamp { OnOk result (event_stamp self.old (Event.Deliver (Actor.Server from) (Actor.Rank to)) < 2 ^ 48) }
+        ensures whole { OnOk result (IsWhole self.new) }
+        ensures stops { IfErr result (λ trouble. Stops self.old (Event.Deliver (Actor.Server from) (Actor.Rank to)) trouble self.new) }
+    {
+        let letter = self.take(Actor::Server(from), Actor::Rank(to));
+        let ClientStep { sends, entries, .. } = self.client_hears(to, from, letter)?;
+        self.give(Actor::Rank(to), sends, entries)
+    }
+
+    // A server handles the front letter of an actor.
+    fn serve(&mut self, from: Actor, to: Server) -> Result<(), Trouble>
+        requires enabled { IsEnabled self.old (Event.Deliver from (Actor.Server to)) }
+        requires whole { IsWhole self.old }
+        ensures happened { OnOk result (happens self.old (Event.Deliver from (Actor.Server to)) ≡ Some self.new) }
+        ensures stamp { OnOk result (event_stamp self.old (Event.Deliver from (Actor.Server to)) < 2 ^ 48) }
+        ensures whole { OnOk result (IsWhole self.new) }
+        ensures stops { IfErr result (λ trouble. Stops self.old (Event.Deliver from (Actor.Server to)) trouble self.new) }
+    {
+        let letter = self.take(from, Actor::Server(to));
+        let Step { sends, entries, .. } = self.server_steps(to, from, letter)?;
+        self.give(Actor::Server(to), sends, entries)
+    }
+}
+
+impl Stage {
+    // The client of the rank begins the call.
+    fn client_begins(&mut self, rank: Rank, call: Call) -> Result<ClientStep, Trouble>
+        requires there { rank.0 < self.old.config.ranks }
+        requires whole { (client_of self.old rank).trouble ≡ None }
+        requires ready { IsSome (begin (client_of self.old rank) call) }
+        ensures begun { IfOk result (λ x. (s : Client) × (begin (client_of self.old rank) call ≡ Some (gives s x)) × (self.new ≡ with_client self.old rank s)) }
+        ensures stamp { OnOk result (call_stamp (client_of self.old rank) < 2 ^ 48) }
+        ensures cause { IfErr result (Causes (call_stamp (client_of self.old rank))) }
+        ensures failed { IfErr result (λ trouble. self.new ≡ with_client self.old rank (record (client_of self.old rank) { trouble = Some trouble })) }
+    {
+        let client = &mut self.ranks[rank.0 as usize];
+        client.begin(call)
+    }
+
+    // The client of the rank hears the letter.
+    fn client_hears(
+        &mut self,
+        rank: Rank,
+        from: Server,
+        letter: Letter,
+    ) -> Result<ClientStep, Trouble>
+        requires there { rank.0 < self.old.config.ranks }
+        requires whole { (client_of self.old rank).trouble ≡ None }
+        requires expected { IsSome (hear (client_of self.old rank) from letter) }
+        ensures heard { IfOk result (λ x. (s : Client) × (hear (client_of self.old rank) from letter ≡ Some (gives s x)) × (self.new ≡ with_client self.old rank s)) }
+        ensures stamp { OnOk result (letter_stamp (client_of self.old rank) letter < 2 ^ 48) }
+        ensures cause { IfErr result (Causes (letter_stamp (client_of self.old rank) letter)) }
+        ensures failed { IfErr result (λ trouble. self.new ≡ with_client self.old rank (record (client_of self.old rank) { trouble = Some trouble })) }
+    {
+        let client = &mut self.ranks[rank.0 as usize];
+        client.hear(from, letter)
+    }
+
+    // The server handles the letter.
+    fn server_steps(&mut self, server: Server, from: Actor, letter: Letter) -> Result<Step, Trouble>
+        requires there { server.0 < self.old.config.servers }
+        requires whole { (pool_of self.old server).trouble ≡ None }
+        requires expected { IsSome (serve (pool_of self.old server) from letter) }
+        ensures served { IfOk result (λ x. (s : Pool) × (serve (pool_of self.old server) from letter ≡ Some (record { state = s; sends = x.sends.items; entries = x.entries.items }))
+            × (self.new ≡ with_server self.old server s)) }
+        ensures stamp { OnOk result (next_stamp (pool_of self.old server) letter < 2 ^ 48) }
+        ensures cause { IfErr result (Causes (next_stamp (pool_of self.old server) letter)) }
+        ensures failed { IfErr result (λ trouble. (s : Pool) × (self.new ≡ with_server self.old server s)) }
+    {
+        let server = &mut self.servers[server.0 as usize];
+        server.step(from, letter)
+    }
+
+    // The front letter of the list, which has one.
+    fn take(&mut self, from: Actor, to: Actor) -> Letter
+        requires { under_way self.old from to ≢ [] }
+        ensures { (rest : List Letter) × (under_way self.old from to ≡ result ∷ rest) × (self.new ≡ record self.old { links = taken self.old from to rest }) }
+    {
+        let from = place_of(&self.config, from);
+        let to = place_of(&self.config, to);
+        match self.links.pop(from, to) {
+            Some(letter) => letter,
+            None => unreachable!(),
+        }
+    }
+
+    // Sends the letters of an event of the actor, and then enters its entries.
+    fn give(&mut self, from: Actor, sends: Vec<Sending>, entries: Vec<Entry>) -> Result<(), Trouble>
+        ensures given { OnOk result (self.new ≡ record self.old {
+          links = post self.old.config self.old.links (place_of self.old.config from) sends.items;
+          ledger = self.old.ledger ++ entries.items;
+        }) }
+        ensures cut { IfErr result (λ trouble. (trouble ≡ Trouble.Memory) × IsHalf self.old entries.items self.new) }
+    {
+        let place = place_of(&self.config, from);
+        if self.links.post(&self.config, place, sends).is_err() {
+            return Err(Trouble::Memory);
+        }
+        match enter(&mut self.ledger, entries) {
+            Ok(()) => Ok(()),
+            Err(NoMemory) => Err(Trouble::Memory),
+        }
+    }
+}
+
+// Enters what an event gave, in order, as far as there is memory.
+fn enter(ledger: &mut Ledger, entries: Vec<Entry>) -> Result<(), NoMemory>
+    ensures entered { OnOk result (ledger.new ≡ ledger.old ++ entries.items) }
+    ensures cut { IsBetween ledger.old ledger.new (ledger.old ++ entries.items) }
+{
+    for entry in entries {
+        ledger.push(entry)?;
+    }
+    Ok(())
+}

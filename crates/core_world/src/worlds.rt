@@ -1,0 +1,79 @@
+//! A run that is stepped by hand.
+
+ghost use Rattle.std.specs.Prelude.{◌≡◌, ◌<◌, IfOk, length};
+ghost use Rattle.core_run.specs.Runs.{transcript};
+ghost use Rattle.core_run.specs.World.{pool_of};
+ghost use Rattle.core_world.specs.Seen.{new_world, under_way};
+ghost use Rattle.server_core.specs.Left.{left_of};
+
+use crate::stages::Stage;
+use adlb_unit::{Actor, Config, NoMemory, Rank, Server, Trouble};
+use bag_ledger::{Ledger, Said};
+use server_core::LeftUnit;
+use std::alloc::Global;
+use std::marker::Model;
+
+/// All actors of a run, stepped by hand. Contracts see it as a `Seen`: the world of `core_run`, and the trouble with which it
+/// has failed, if it has.
+#[derive(Drop)]
+pub struct World {
+    pub(crate) stage: Stage,
+    pub(crate) trouble: Option<Trouble>,
+}
+
+impl Model for World {
+    ghost use Rattle.core_world.specs.Seen.{Seen};
+
+    ghost Value = { Seen };
+
+    ghost use Rattle.core_world.specs.Fields.{IsSound, seen_of};
+
+    ghost view = { seen_of };
+
+    ghost invariant = { IsSound };
+}
+
+impl World {
+    /// A run at its start: no letter is under way, and each rank runs. So far there is one rank. It fails for want of memory
+    /// alone.
+    pub fn new(alloc: Global, config: Config) -> Result<World, NoMemory>
+        requires { config.ranks ≡ 1 }
+        ensures { IfOk result (λ w. w ≡ new_world config) }
+    {
+        Ok(World {
+            stage: Stage::new(alloc, config)?,
+            trouble: None,
+        })
+    }
+
+    /// The entries so far, in the order of the events.
+    pub fn ledger(&self) -> &Ledger
+        ensures { result.now ≡ self.now.world.ledger }
+    {
+        self.stage.ledger()
+    }
+
+    /// The calls of a rank of the run with their answers, so far as it has heard them.
+    pub fn transcript(&self, rank: Rank) -> &[Said]
+        requires { rank.0 < self.now.world.config.ranks }
+        ensures { result.now ≡ transcript self.now.world rank }
+    {
+        self.stage.client_at(rank).transcript()
+    }
+
+    /// How many letters from one actor to another were sent and not handled. Where one of the two is no actor of the run, there
+    /// are none.
+    pub fn waiting(&self, from: Actor, to: Actor) -> u64
+        ensures { result ≡ length (under_way self.now.world from to) }
+    {
+        self.stage.waiting(from, to)
+    }
+
+    /// The units that are left at a server of the run, in arrival order. It fails for want of memory alone.
+    pub fn left(&self, server: Server) -> Result<Vec<LeftUnit>, NoMemory>
+        requires { server.0 < self.now.world.config.servers }
+        ensures { IfOk result (λ left. left.items ≡ left_of (pool_of self.now.world server)) }
+    {
+        self.stage.server_at(server).left()
+    }
+}
