@@ -1,8 +1,8 @@
 //! Filling a room from a source, and writing a whole text to a sink.
 
-ghost use Rattle.std.specs.Prelude.{◌≡◌, ◌≤◌, length, IfOk, OnOk, OnErr, IsErrOf, true};
+ghost use Rattle.std.specs.Prelude.{◌≡◌, ◌≤◌, length, take, IfOk, IfErr, OnOk, OnErr, true};
 ghost use Rattle.adlb_io.specs.Outside.{Rises, Takes};
-ghost use Rattle.adlb_io.specs.Whole.{Fills, TakesPrefix};
+ghost use Rattle.adlb_io.specs.Whole.{Fills};
 
 use crate::sinks::{Sink, SinkFault};
 use crate::sources::{Failed, Source};
@@ -27,18 +27,32 @@ pub fn fill<S: Source>(source: &mut S, room: &mut [u8]) -> Result<usize, Failed>
     Ok(at)
 }
 
-/// Writes the whole text and flushes. After a refusal the sink took a part of the front of the text. `Failed` comes
-/// only where the sink's count of faults rose (or stands at its last value).
-pub fn write_all<K: Sink>(sink: &mut K, text: &[u8]) -> Result<(), SinkFault>
+/// A text was not written whole: why, and how many of its first bytes the sink took.
+#[derive(Clone, Copy, Debug, PartialEq, Eq)]
+pub struct Unwritten {
+    pub fault: SinkFault,
+    pub taken: usize,
+}
+
+/// Writes the whole text and flushes. A refusal tells how many bytes of the text the sink took before, which are its
+/// first. `Failed` comes only where the sink's count of faults rose (or stands at its last value).
+pub fn write_all<K: Sink>(sink: &mut K, text: &[u8]) -> Result<(), Unwritten>
     ensures taken { OnOk result (Takes (K.taken sink.old) (K.taken sink.new) text.now) }
     ensures flushed { OnOk result (K.all_flushed sink.new ≡ true) }
-    ensures prefix { OnErr result (TakesPrefix (K.taken sink.old) (K.taken sink.new) text.now) }
+    ensures front { IfErr result (λ e. Takes (K.taken sink.old) (K.taken sink.new) (take e.taken text.now)) }
+    ensures part { IfErr result (λ e. e.taken ≤ length text.now) }
     ensures later { K.faults sink.old ≤ K.faults sink.new }
-    ensures cause { IsErrOf result SinkFault.Failed → Rises (K.faults sink.old) (K.faults sink.new) }
+    ensures cause { IfErr result (λ e. e.fault ≡ SinkFault.Failed → Rises (K.faults sink.old) (K.faults sink.new)) }
 {
-    let mut at = 0;
-    while at < text.len() {
-        at += sink.write(&text[at..])?;
+    let mut taken = 0;
+    while taken < text.len() {
+        match sink.write(&text[taken..]) {
+            Ok(n) => taken += n,
+            Err(fault) => return Err(Unwritten { fault, taken }),
+        }
     }
-    sink.flush()
+    match sink.flush() {
+        Ok(()) => Ok(()),
+        Err(fault) => Err(Unwritten { fault, taken }),
+    }
 }

@@ -1,19 +1,19 @@
--- The form of an input: with and without its line feed, and in a room that was filled from a source.
-use Rattle.std.proofs.Common.{◌≡◌, ◌↔◌, Bool, IsTrue, ℕ, ◌+◌, ◌<◌, ◌≤◌, suc, List, [], ◌∷◌, ◌++◌, length, take, get_or, Option, Some, None, Result, Ok, Err, refl, sym, ap, ◌∙◌, subst, arith, inl, inr, ◌⊎◌, length-append, Contains}
-use Rattle.std.specs.Result.{result_ok}
+-- The form of an input in a room that was filled from a source, and its jobs.
+use Rattle.std.proofs.Common.{◌≡◌, ◌↔◌, Bool, IsTrue, ℕ, ◌+◌, ◌<◌, ◌≤◌, suc, List, [], ◌∷◌, ◌++◌, length, take, get_or, Option, Some, None, Result, Ok, Err, IfErr, refl, sym, ap, ◌∙◌, subst, arith, inl, inr, ◌⊎◌, length-append}
 use Rattle.std.specs.Str.{bytes_eq}
 use Rattle.std.proofs.lemmas.Slice.Eq.{bytes_eq-Decides}
 use Rattle.std.proofs.lemmas.List.{take_all, drop_all, length-take-le}
-use Rattle.std.proofs.lemmas.List.Elements.{All-contains, Contains-push}
 use Rattle.adlb_io.specs.Whole.{Fills}
+use Rattle.puzzle_app.specs.declared.jobs.Job.{Job}
+use Rattle.puzzle_app.specs.declared.jobs.Job.TheVariants.{Puzzle}
+use Rattle.puzzle_app.specs.Input.{HasForm, IsAccepted}
+use Rattle.puzzle_app.specs.Jobs.{AreJobs}
+use Rattle.puzzle_app.proofs.Bodies.{reads_once}
 use Rattle.sudoku_law.specs.Grid.{Cells}
-use Rattle.sudoku_rules.specs.Reading.{Reads, IsCellSign}
-use Rattle.adlbrun.specs.Input.{HasForm, IsAccepted, IsAtEnd, IsLine, open_end, ended}
-
--- a line feed is no sign of a cell
-no_sign : IsCellSign 10 → ⊥
-no_sign (inl e) = omega (arith, e)
-no_sign (inr range) = omega (arith, range.0)
+use Rattle.sudoku_rules.specs.Reading.{Reads}
+use Rattle.adlbrun.specs.Input.{IsAtEnd, Refuses, RefusesBytes}
+use Rattle.adlbrun.specs.declared.ends.RunFault.{RunFault}
+use Rattle.adlbrun.specs.declared.ends.RunFault.TheVariants.{Input, Usage, Read, Write, Memory, TooLong}
 
 push_same : (xs ys : List ℕ) (x y : ℕ) → xs ++ x ∷ [] ≡ ys ++ y ∷ [] → xs ≡ ys
 push_same [] [] x y e = refl
@@ -26,24 +26,6 @@ push_same (a ∷ xs) (b ∷ ys) x y e =
     let rest : xs ++ x ∷ [] ≡ ys ++ y ∷ [] = cc in
     let tail : xs ≡ ys = push_same xs ys x y rest in
     ap (λ k. k ∷ xs) head ∙ ap (λ l. b ∷ l) tail
-
-pub form_of_line : (line bytes : List ℕ) (g : Cells) → IsLine line bytes → Reads line g → HasForm bytes g
-form_of_line line bytes g (open_end same bare) reads = record { text = line; reads = reads; ends = inl same }
-form_of_line line bytes g (ended same) reads = record { text = line; reads = reads; ends = inr same }
-
-ends_with_sign : (text line : List ℕ) (g : Cells) → Reads text g → text ≡ line ++ 10 ∷ [] → ⊥
-ends_with_sign text line g reads e =
-    let there : Contains text 10 = subst (λ l. Contains l 10) (sym e) (Contains-push line 10) in
-    no_sign (All-contains IsCellSign text 10 reads.signs there)
-
-pub line_of_form : (line bytes : List ℕ) (g : Cells) → IsLine line bytes → HasForm bytes g → Reads line g
-line_of_form line bytes g is form = by_ends is form.ends
-  where
-    by_ends : IsLine line bytes → (bytes ≡ form.text) ⊎ (bytes ≡ form.text ++ 10 ∷ []) → Reads line g
-    by_ends (open_end same bare) (inl e) = subst (λ l. Reads l g) (sym e ∙ same) form.reads
-    by_ends (open_end same bare) (inr e) = absurd (bare form.text e)
-    by_ends (ended same) (inl e) = absurd (ends_with_sign form.text line g form.reads (sym e ∙ same))
-    by_ends (ended same) (inr e) = subst (λ l. Reads l g) (push_same form.text line 10 10 (sym e ∙ same)) form.reads
 
 -- such an input has 81 or 82 bytes
 pub form_is_short : (bytes : List ℕ) (g : Cells) → HasForm bytes g → length bytes ≤ 82
@@ -86,10 +68,45 @@ filled_refused (Some all) after room bytes n long fits fills refused told accept
     let is : take n room ≡ bytes = fills.given ∙ take_all n all (omega arith) ∙ same in
     refused (subst IsAccepted (sym is) accepted)
 
--- what `ok` keeps of a result
-pub ok_of_some : {X E : Type 0} (r : Result X E) (x : X) → result_ok r ≡ Some x → r ≡ Ok x
-ok_of_some (Ok y) x is = let same : y ≡ x = cc in ap Ok same
-ok_of_some (Err e) x is = absurd (cc)
+-- a room filled from a telling source gives the jobs of the whole source
+pub filled_jobs : (start after : Option (List ℕ)) (room bytes : List ℕ) (n : ℕ) (jobs : List Job) → length room ≡ 83 → n ≤ 83 → Fills start after room n → AreJobs (take n room) jobs → start ≡ Some bytes → AreJobs bytes jobs
+filled_jobs start after room bytes n jobs long fits fills are told =
+    (are.0, filled_form start after room bytes n are.0 long fits fills are.1 told, are.2)
+
+-- why its bytes gave no jobs is why the input gave none
+pub filled_refuses : (start after : Option (List ℕ)) (room : List ℕ) (n reads reads' : ℕ) → length room ≡ 83 → n ≤ 83 → Fills start after room n → (fault : RunFault) → RefusesBytes (take n room) fault → Refuses start reads reads' fault
+filled_refuses start after room n reads reads' long fits fills (Input line why) is =
+    (is.0, λ bytes told accepted. filled_refused start after room bytes n long fits fills is.1 told accepted)
+filled_refuses start after room n reads reads' long fits fills Memory is =
+    λ bytes told not. is (λ accepted. not (accepted.0, filled_form start after room bytes n accepted.0 long fits fills accepted.1 told))
+filled_refuses start after room n reads reads' long fits fills Usage is = is
+filled_refuses start after room n reads reads' long fits fills Read is = absurd is
+filled_refuses start after room n reads reads' long fits fills Write is = is
+filled_refuses start after room n reads reads' long fits fills (TooLong stamp) is = absurd is
+
+-- bytes have one list of jobs
+form_once : (bytes : List ℕ) (g h : Cells) → HasForm bytes g → HasForm bytes h → g ≡ h
+form_once bytes g h a b = by_ends a.ends b.ends
+  where
+    long : length a.text ≡ 81
+    long = a.reads.long
+
+    long' : length b.text ≡ 81
+    long' = b.reads.long
+
+    same : a.text ≡ b.text → g ≡ h
+    same e = reads_once b.text g h (subst (λ t. Reads t g) e a.reads) b.reads
+
+    by_ends : (bytes ≡ a.text) ⊎ (bytes ≡ a.text ++ 10 ∷ []) → (bytes ≡ b.text) ⊎ (bytes ≡ b.text ++ 10 ∷ []) → g ≡ h
+    by_ends (inl d) (inl e) = same (sym d ∙ e)
+    by_ends (inl d) (inr e) = absurd (let n : length a.text ≡ length b.text + 1 = ap length (sym d ∙ e) ∙ length-append b.text (10 ∷ []) in omega (arith, long, long'))
+    by_ends (inr d) (inl e) = absurd (let n : length b.text ≡ length a.text + 1 = ap length (sym e ∙ d) ∙ length-append a.text (10 ∷ []) in omega (arith, long, long'))
+    by_ends (inr d) (inr e) = same (push_same a.text b.text 10 10 (sym d ∙ e))
+
+pub jobs_once : (bytes : List ℕ) (xs ys : List Job) → AreJobs bytes xs → AreJobs bytes ys → xs ≡ ys
+jobs_once bytes xs ys a b =
+    let g : a.0 ≡ b.0 = form_once bytes a.0 b.0 a.1 b.1 in
+    a.2 ∙ ap (λ (c : Cells). Puzzle c ∷ []) g ∙ sym b.2
 
 -- a list of one element
 pub one_element : {X : Type 0} (xs : List X) (d : X) → 1 ≤ length xs → length xs < 2 → xs ≡ get_or xs 0 d ∷ []
@@ -108,3 +125,8 @@ one_word test words word spoken text one same is = (
       let w : word ≡ text = cc in
       is ∙ (bytes_eq-Decides spoken text).1 (same ∙ w),
 )
+
+-- what is said of a fault, where less is
+pub fault_weaker : {X : Type 0} (P Q : RunFault → Type 0) (r : Result X RunFault) → ((fault : RunFault) → P fault → Q fault) → IfErr r P → IfErr r Q
+fault_weaker P Q (Ok x) weaker is = is
+fault_weaker P Q (Err fault) weaker is = weaker fault is

@@ -1,8 +1,6 @@
-pub mod Boards
-pub mod Desk
 pub mod Ends
 pub mod Input
-pub mod Report
-pub mod Solved
+pub mod Kept
 pub mod Top
 pub mod Words
+pub mod Written

@@ -1,57 +1,76 @@
--- What a run of `solve` wrote, and why it ended.
-use Rattle.std.specs.Prelude.{◌≡◌, ◌⊎◌, ◌≤◌, ◌^◌, ℕ, Bool, true, List, Option, Some, None}
+-- What a run of `solve` wrote and kept, and why it ended.
+use Rattle.std.specs.Prelude.{◌≡◌, ◌↔◌, ◌≤◌, ◌<◌, ◌^◌, ℕ, Bool, true, List, [], length, Option, Some, None, IsSome}
 use Rattle.adlb_io.specs.Outside.{Rises, Takes}
 use Rattle.adlb_io.specs.Whole.{TakesPrefix}
-use Rattle.sudoku_law.specs.Grid.{Cells}
-use Rattle.adlbrun.specs.Input.{HasForm, IsAccepted, IsAtEnd}
-use Rattle.adlbrun.specs.Report.{IsReport}
-use Rattle.adlbrun.specs.Words.{AreAccepted}
+use Rattle.adlb_unit.specs.declared.configs.Config.{Config}
+use Rattle.adlb_threads.specs.Reports.{Reported}
+use Rattle.puzzle_app.specs.declared.jobs.Job.{Job}
+use Rattle.puzzle_app.specs.declared.outcomes.PuzzleOutcome.{PuzzleOutcome}
+use Rattle.puzzle_app.specs.declared.outcomes.Settings.{Settings}
+use Rattle.puzzle_app.specs.Input.{IsAccepted}
+use Rattle.puzzle_app.specs.Jobs.{AreJobs}
+use Rattle.puzzle_app.specs.Report.{IsReport}
+use Rattle.adlbrun.specs.Ends.{IsEarly, IsFine, IsInputFault}
+use Rattle.adlbrun.specs.Input.{IsAtEnd}
+use Rattle.adlbrun.specs.Kept.{IsKept}
 use Rattle.adlbrun.specs.declared.ends.RunFault.{RunFault}
-use Rattle.adlbrun.specs.declared.ends.RunFault.TheVariants.{Input, Usage, Read, Write, Memory}
+use Rattle.adlbrun.specs.declared.ends.RunFault.TheVariants.{Read, Write, Memory, TooLong, Usage}
 
--- the budget of the tree, and the grain, of a run without options
-abbrev pub default_budget : ℕ
-default_budget = 2 ^ 24
+-- The numbers of a run without options: one rank, one server, and its limit; the budget of a puzzle's tree, and the grain.
 
-abbrev pub default_grain : ℕ
-default_grain = 2 ^ 16
+pub record IsDefaultConfig (config : Config) : Type 0 where
+  pub ranks : config.ranks ≡ 1
+  pub servers : config.servers ≡ 1
+  pub limit : config.limit ≡ 2 ^ 26
 
--- the sink took exactly the report of the puzzle that these bytes are
-abbrev pub WritesReport : List ℕ → Option (List ℕ) → Option (List ℕ) → Type 0
-WritesReport bytes before after =
-    (g : Cells) × HasForm bytes g × (report : List ℕ) × IsReport default_budget default_grain g report × Takes before after report
+abbrev pub default_settings : Settings
+default_settings = record { budget = 2 ^ 24; grain = 2 ^ 16 }
 
--- the sink took a part of the front of that report
-abbrev pub WritesFront : List ℕ → Option (List ℕ) → Option (List ℕ) → Type 0
-WritesFront bytes before after =
-    (g : Cells) × HasForm bytes g × (report : List ℕ) × IsReport default_budget default_grain g report × TakesPrefix before after report
+-- the input's jobs were run with these settings: this is the report's text, and this is kept
+pub record IsAnswered (settings : Settings) (left : Option (List ℕ)) (r : Reported PuzzleOutcome) (text : List ℕ) : Type 0 where
+  pub jobs : List Job
+  pub read : (bytes : List ℕ) → left ≡ Some bytes → AreJobs bytes jobs
+  pub kept : IsKept settings jobs r
+  pub report : IsReport settings.budget settings.grain jobs text
 
--- the fault is that of a refused input line
-abbrev pub IsInputFault : Option RunFault → Type 0
-IsInputFault (Some (Input line why)) = line ≡ 1
-IsInputFault _ = ⊥
+-- a report is kept, of a run in line, which has no history of events; and the sink took its whole text
+abbrev pub HasWritten : Settings → Option (List ℕ) → Option (List ℕ) → Option (List ℕ) → Option (Reported PuzzleOutcome) → Type 0
+HasWritten settings left taken after None = ⊥
+HasWritten settings left taken after (Some r) =
+    (text : List ℕ) × IsAnswered settings left r text × (r.history ≡ []) × Takes taken after text
 
--- the faults before which nothing is written
-abbrev pub IsEarly : Option RunFault → Type 0
-IsEarly (Some (Input line why)) = Unit {0}
-IsEarly (Some Usage) = Unit {0}
-IsEarly (Some Read) = Unit {0}
-IsEarly _ = ⊥
+-- the same, and the sink took a part of the front of that text
+abbrev pub HasWrittenPart : Settings → Option (List ℕ) → Option (List ℕ) → Option (List ℕ) → Option (Reported PuzzleOutcome) → Type 0
+HasWrittenPart settings left taken after None = ⊥
+HasWrittenPart settings left taken after (Some r) =
+    (text : List ℕ) × IsAnswered settings left r text × (r.history ≡ []) × TakesPrefix taken after text
 
--- a run with these words, over this source and sink: what they told, and their counts of faults, before and after
-pub record IsRun (words : List (List ℕ)) (left rest taken after : Option (List ℕ)) (reads reads' writes writes' : ℕ) (flushed : Bool) (fault : Option RunFault) : Type 0 where
-  pub usage : fault ≡ Some Usage → AreAccepted words → ⊥
-  pub words_refused : (AreAccepted words → ⊥) → fault ≡ Some Usage
+-- a report is kept, and a part of its front was taken; or none is, and nothing was taken
+abbrev pub HasBegun : Settings → Option (List ℕ) → Option (List ℕ) → Option (List ℕ) → Option (Reported PuzzleOutcome) → Type 0
+HasBegun settings left taken after None = after ≡ taken
+HasBegun settings left taken after (Some r) = HasWrittenPart settings left taken after (Some r)
+
+-- where the sink tells what it took, a report is kept exactly where it took a byte
+abbrev pub IsKeptWhereBegun : Option (List ℕ) → Option (List ℕ) → Option (Reported PuzzleOutcome) → Type 0
+IsKeptWhereBegun taken after report =
+    (before now : List ℕ) → taken ≡ Some before → after ≡ Some now → IsSome report ↔ (length before < length now)
+
+-- a run with these settings over this source and sink: what they told, and their counts of faults, before and after; and how it ended
+pub record IsRun (settings : Settings) (left rest taken after : Option (List ℕ)) (reads reads' writes writes' : ℕ) (flushed : Bool) (fault : Option RunFault) (report : Option (Reported PuzzleOutcome)) : Type 0 where
+  pub usage : fault ≡ Some Usage → ⊥
   pub read : fault ≡ Some Read → Rises reads reads'
   pub write : fault ≡ Some Write → Rises writes writes'
   pub input : IsInputFault fault → (bytes : List ℕ) → left ≡ Some bytes → IsAccepted bytes → ⊥
+  pub too_long : (stamp : ℕ) → fault ≡ Some (TooLong stamp) → 2 ^ 48 ≤ stamp
   pub ended : fault ≡ None → IsAtEnd rest
-  pub report : fault ≡ None → (bytes : List ℕ) → left ≡ Some bytes → WritesReport bytes taken after
+  pub written : fault ≡ None → HasWritten settings left taken after report
   pub all_flushed : fault ≡ None → flushed ≡ true
   pub nothing : IsEarly fault → after ≡ taken
-  pub front : fault ≡ Some Write → (bytes : List ℕ) → left ≡ Some bytes → WritesFront bytes taken after
-  pub memory : fault ≡ Some Memory → (bytes : List ℕ) → left ≡ Some bytes → (after ≡ taken) ⊎ WritesFront bytes taken after
-  pub complete : AreAccepted words → (bytes : List ℕ) → left ≡ Some bytes → IsAccepted bytes → (Rises reads reads' → ⊥) → (Rises writes writes' → ⊥) → (fault ≡ None) ⊎ (fault ≡ Some Memory)
-  pub refused : AreAccepted words → (bytes : List ℕ) → left ≡ Some bytes → (IsAccepted bytes → ⊥) → (Rises reads reads' → ⊥) → IsInputFault fault
+  pub none_kept : IsEarly fault → report ≡ None
+  pub front : fault ≡ Some Write → HasWrittenPart settings left taken after report
+  pub memory : fault ≡ Some Memory → HasBegun settings left taken after report
+  pub begun : fault ≡ Some Memory → IsKeptWhereBegun taken after report
+  pub complete : (bytes : List ℕ) → left ≡ Some bytes → IsAccepted bytes → (Rises reads reads' → ⊥) → (Rises writes writes' → ⊥) → IsFine fault
+  pub refused : (bytes : List ℕ) → left ≡ Some bytes → (IsAccepted bytes → ⊥) → (Rises reads reads' → ⊥) → IsInputFault fault
   pub source : reads ≤ reads'
   pub sink : writes ≤ writes'

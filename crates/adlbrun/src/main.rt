@@ -3,17 +3,15 @@
 //! `top::run_adlb` is the whole of it over any source and sink; `main` hands it standard input and output.
 #![tactic(auto)]
 
-mod boards;
-mod desk;
 mod ends;
+mod inline;
+mod programs;
 mod reading;
-mod reports;
-mod solving;
 #[cfg(test)]
 mod tests;
-mod texts;
 mod top;
 mod words;
+mod writing;
 
 use adlb_io::{StdinSource, StdoutSink};
 use std::env;
@@ -26,7 +24,7 @@ fn main(rt: HostRuntime) -> ExitCode {
             let mut output = StdoutSink::new(rt.clone().unwrap());
             top::run_adlb(rt.alloc(), words.as_slice(), &mut input, &mut output)
         }
-        Err(fault) => ends::RunEnd::of(Err(fault)),
+        Err(fault) => ends::RunEnd::new(Some(fault), None),
     };
     if let Some(fault) = end.fault {
         let _ = eprintln!(&rt; "adlbrun: {fault}");

@@ -1,57 +1,61 @@
 //! The reading of an input.
 
-ghost use Rattle.std.specs.Prelude.{◌≡◌, ◌≤◌, ◌⊎◌, ◌↔◌, ℕ, List, Some, None, IfOk, OnOk, IfErr, IfSome, IsErrOf, IsNone};
-ghost use Rattle.adlb_io.specs.Outside.{Rises};
-ghost use Rattle.sudoku_law.specs.Grid.{IsGrid};
-ghost use Rattle.adlbrun.specs.Input.{HasForm, IsAccepted, IsAtEnd, IsLine};
+ghost use Rattle.std.specs.Prelude.{◌≡◌, ◌≤◌, ℕ, List, Some, All, IfOk, OnOk, IfErr};
+ghost use Rattle.puzzle_app.specs.Jobs.{AreJobs};
+ghost use Rattle.adlbrun.specs.Input.{IsAtEnd, Refuses, RefusesBytes};
 
-use crate::ends::{LineWhy, RunFault};
+use crate::ends::RunFault;
 use adlb_io::{Source, fill};
-use sudoku_rules::{Grid, parse81};
+use puzzle_app::{Jobs, JobsFault, read_jobs};
+use std::alloc::Global;
 
 /// The longest input of this form and one byte more.
 const ROOM: usize = 83;
 
-/// Reads a puzzle: at most 83 bytes, which must be one puzzle line. `Input` comes exactly where the bytes are not of
-/// this form and no read failed before, `Read` only where the source's count of faults rose (or stands at its last
-/// value).
-pub fn read_puzzle<S: Source>(input: &mut S) -> Result<Grid, RunFault>
-    ensures grid { IfOk result (IsGrid 3) }
-    ensures form { IfOk result (λ g. (bytes : List ℕ) → S.left input.old ≡ Some bytes → HasForm bytes g) }
+/// The jobs of an input, twice: for the program, and for its report.
+#[derive(Drop)]
+pub struct Asked {
+    pub jobs: Jobs,
+    pub shown: Jobs,
+}
+
+/// Reads the jobs of the input: at most 83 bytes, which must be one puzzle line. `Input` comes exactly where the bytes
+/// are not of this form and no read failed before, `Read` only where the source's count of faults rose (or stands at
+/// its last value); `Memory` is want of memory.
+pub fn read_input<S: Source>(alloc: Global, input: &mut S) -> Result<Asked, RunFault>
+    ensures jobs { IfOk result (λ a. (bytes : List ℕ) → S.left input.old ≡ Some bytes → AreJobs bytes a.jobs) }
+    ensures some { IfOk result (λ a. (bytes : List ℕ) × AreJobs bytes a.jobs) }
+    ensures shown { IfOk result (λ a. a.shown ≡ a.jobs) }
     ensures end { OnOk result (IsAtEnd (S.left input.new)) }
-    ensures faults { IfErr result (λ e. (e ≡ RunFault.Input 1 LineWhy.Later) ⊎ (e ≡ RunFault.Read)) }
-    ensures refused { IsErrOf result (RunFault.Input 1 LineWhy.Later) → (bytes : List ℕ) → S.left input.old ≡ Some bytes → IsAccepted bytes → ⊥ }
-    ensures read { IsErrOf result RunFault.Read → Rises (S.faults input.old) (S.faults input.new) }
+    ensures refused { IfErr result (Refuses (S.left input.old) (S.faults input.old) (S.faults input.new)) }
     ensures later { S.faults input.old ≤ S.faults input.new }
 {
     let mut room = [0u8; ROOM];
     let Ok(n) = fill(input, &mut room) else {
         return Err(RunFault::Read);
     };
-    match grid_of(&room[..n]) {
-        Some(grid) => Ok(grid),
-        None => Err(RunFault::Input {
-            line: 1,
-            why: LineWhy::Later,
-        }),
-    }
+    read_twice(alloc, &room[..n])
 }
 
-// The grid of an input of this form.
-fn grid_of(bytes: &[u8]) -> Option<Grid>
-    ensures some { (g : List ℕ) → (result ≡ Some g) ↔ HasForm bytes.now g }
-    ensures grid { IfSome result (IsGrid 3) }
-    ensures none { IsNone result → IsAccepted bytes.now → ⊥ }
+// The jobs of an input of these bytes, twice.
+fn read_twice(alloc: Global, bytes: &[u8]) -> Result<Asked, RunFault>
+    ensures jobs { IfOk result (λ a. AreJobs bytes.now a.jobs) }
+    ensures shown { IfOk result (λ a. AreJobs bytes.now a.shown) }
+    ensures refused { IfErr result (RefusesBytes bytes.now) }
 {
-    parse81(without_line_feed(bytes)).ok()
+    let jobs = read_once(alloc, bytes)?;
+    let shown = read_once(alloc, bytes)?;
+    Ok(Asked { jobs, shown })
 }
 
-// The bytes without a line feed at their end.
-fn without_line_feed(bytes: &[u8]) -> &[u8]
-    ensures { IsLine result.now bytes.now }
+// The jobs of an input of these bytes.
+fn read_once(alloc: Global, bytes: &[u8]) -> Result<Jobs, RunFault>
+    ensures jobs { IfOk result (AreJobs bytes.now) }
+    ensures refused { IfErr result (RefusesBytes bytes.now) }
 {
-    match bytes {
-        [.., b'\n'] => &bytes[..bytes.len() - 1],
-        _ => bytes,
+    match read_jobs(alloc, bytes) {
+        Ok(jobs) => Ok(jobs),
+        Err(JobsFault::Refused { line, why }) => Err(RunFault::Input { line, why }),
+        Err(JobsFault::Memory) => Err(RunFault::Memory),
     }
 }

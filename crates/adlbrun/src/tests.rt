@@ -3,13 +3,15 @@
 mod solved;
 
 use crate::ends::RunEnd;
-use crate::solving::{Settings, solve};
-use crate::top::run_adlb;
+use crate::inline::solve_inline;
+use crate::top::{SETTINGS, run_adlb};
 use adlb_io::{MemorySink, MemorySource, SteadySink, SteadySource};
+use adlb_unit::Config;
+use bag_ledger::Entry;
+use puzzle_app::Settings;
 use solved::SOLVED;
 use std::alloc::Global;
 use std::test::Fail;
-use sudoku_rules::parse81;
 
 /// A puzzle in which every cell is forced.
 const FORCED: &str =
@@ -54,6 +56,21 @@ fn run_on(alloc: Global, bytes: &[u8]) -> Result<(RunEnd, String), Fail> {
     let mut input = SteadySource::new(bytes.to_vec(alloc)?);
     let mut output = SteadySink::new(alloc);
     let end = run_adlb(alloc, words.as_slice(), &mut input, &mut output);
+    let written = String::from_utf8(output.taken().to_vec(alloc)?).unwrap_or(String::new(alloc));
+    Ok((end, written))
+}
+
+// The same in line with these settings, over a server that takes so many bytes.
+fn solve_on(
+    alloc: Global,
+    puzzle: &str,
+    settings: Settings,
+    limit: u64,
+) -> Result<(RunEnd, String), Fail> {
+    let config = Config::new(1, 1, limit).ok().ok_or("no such limit")?;
+    let mut input = SteadySource::new(puzzle.as_bytes().to_vec(alloc)?);
+    let mut output = SteadySink::new(alloc);
+    let end = solve_inline(alloc, config, settings, &mut input, &mut output);
     let written = String::from_utf8(output.taken().to_vec(alloc)?).unwrap_or(String::new(alloc));
     Ok((end, written))
 }
@@ -116,10 +133,11 @@ fn refuses_each_bad_input_and_writes_nothing(rt: HostRuntime) -> Result<(), Fail
         assert_eq!(rt; run.status, u8::from(!is_line), "{end:?}");
         assert_eq!(rt; written.is_empty(), !is_line, "{end:?}");
         assert_eq!(rt;
-            says(rt.alloc(), run, "line 1: later")?,
+            says(rt.alloc(), &run, "line 1: later")?,
             !is_line,
             "{end:?}"
         );
+        assert_eq!(rt; run.report.is_none(), !is_line, "{end:?}");
     }
     Ok(())
 }
@@ -131,7 +149,7 @@ fn refuses_an_empty_input_and_a_large_one(rt: HostRuntime) -> Result<(), Fail> {
         let (run, written) = run_on(rt.alloc(), input.as_slice())?;
         assert_eq!(rt; run.status, 1, "{length} digits");
         assert!(rt; written.is_empty(), "{length} digits");
-        assert!(rt; says(rt.alloc(), run, "line 1: later")?, "{length} digits");
+        assert!(rt; says(rt.alloc(), &run, "line 1: later")?, "{length} digits");
     }
     Ok(())
 }
@@ -142,8 +160,8 @@ fn ones(alloc: Global, length: usize) -> Result<Vec<u8>, Fail> {
 }
 
 // The fault has this text.
-fn says(alloc: Global, end: RunEnd, text: &str) -> Result<bool, Fail> {
-    match end.fault {
+fn says(alloc: Global, end: &RunEnd, text: &str) -> Result<bool, Fail> {
+    match &end.fault {
         Some(fault) => Ok(fault.to_string(alloc)?.as_str() == text),
         None => Ok(false),
     }
@@ -157,8 +175,9 @@ fn refuses_other_words(rt: HostRuntime) -> Result<(), Fail> {
         let mut output = SteadySink::new(rt.alloc());
         let end = run_adlb(rt.alloc(), words.as_slice(), &mut input, &mut output);
         assert_eq!(rt; end.status, 2, "{line}");
-        assert!(rt; says(rt.alloc(), end, "usage: adlbrun solve")?, "{line}");
+        assert!(rt; says(rt.alloc(), &end, "usage: adlbrun solve")?, "{line}");
         assert!(rt; output.taken().is_empty(), "{line}");
+        assert!(rt; end.report.is_none(), "{line}");
     }
     Ok(())
 }
@@ -173,7 +192,8 @@ fn a_read_that_fails_writes_nothing(rt: HostRuntime) -> Result<(), Fail> {
         let mut output = SteadySink::new(rt.alloc());
         let end = run_adlb(rt.alloc(), words.as_slice(), &mut input, &mut output);
         assert_eq!(rt; end.status, 3);
-        assert!(rt; says(rt.alloc(), end, "read failed")?);
+        assert!(rt; end.report.is_none());
+        assert!(rt; says(rt.alloc(), &end, "read failed")?);
         assert!(rt; output.taken().is_empty());
     }
     Ok(())
@@ -188,7 +208,8 @@ fn a_write_that_fails_leaves_the_front_of_the_report(rt: HostRuntime) -> Result<
         let mut output = MemorySink::new(rt.alloc(), 10, [fails].to_vec(rt.alloc())?);
         let end = run_adlb(rt.alloc(), words.as_slice(), &mut input, &mut output);
         assert_eq!(rt; end.status, 4, "call {fails}");
-        assert!(rt; says(rt.alloc(), end, "write failed")?);
+        assert!(rt; end.report.is_some(), "call {fails}");
+        assert!(rt; says(rt.alloc(), &end, "write failed")?);
         assert_eq!(rt; output.taken().len(), taken, "call {fails}");
         if fails == 2 {
             assert_eq!(rt; output.taken(), b"puzzle 1 s".as_slice());
@@ -198,41 +219,83 @@ fn a_write_that_fails_leaves_the_front_of_the_report(rt: HostRuntime) -> Result<
 }
 
 #[test]
-fn a_full_queue_and_another_grain_change_no_solution(rt: HostRuntime) -> Result<(), Fail> {
-    let grid = parse81(MANY.as_bytes()).ok().ok_or("no grid")?;
-    let whole = solve(rt.alloc(), Settings::DEFAULT, &grid)?;
-    assert_eq!(rt; whole.solutions.len(), 1462);
-    // A board has 93 bytes: at the limit 64 each is refused, at 400 all but four that wait.
+fn another_limit_and_another_grain_change_no_solution(rt: HostRuntime) -> Result<(), Fail> {
+    let (end, whole) = solve_on(rt.alloc(), MANY, SETTINGS, 0x400_0000)?;
+    assert_eq!(rt; end.status, 0);
+    // A board has 93 bytes: at the limit 64 each unit is rejected, at 400 all but a few that wait.
     for (grain, limit) in [(1, 0x400_0000), (16, 0x400_0000), (0x1_0000, 64), (16, 400)] {
         let settings = Settings {
-            budget: Settings::DEFAULT.budget,
+            budget: SETTINGS.budget,
             grain,
-            limit,
         };
-        let solved = solve(rt.alloc(), settings, &grid)?;
-        assert!(rt; !solved.over, "grain {grain}, limit {limit}");
+        let (end, written) = solve_on(rt.alloc(), MANY, settings, limit)?;
+        assert_eq!(rt; end.status, 0, "grain {grain}, limit {limit}");
+        let solutions = whole.split("totals").next().unwrap_or("");
         assert!(rt;
-            solved.solutions == whole.solutions,
+            written.as_str().starts_with(solutions),
             "grain {grain}, limit {limit}"
         );
-        assert!(rt; grain == 0x1_0000 || solved.boards > whole.boards);
     }
     Ok(())
 }
 
 #[test]
 fn a_small_budget_is_over(rt: HostRuntime) -> Result<(), Fail> {
-    let blank = parse81(&[b'.'; 81]).ok().ok_or("no grid")?;
-    for (budget, boards) in [(1, 1), (2, 1), (9, 1), (100, 1)] {
+    let blank = [b'.'; 81];
+    let blank = str::from_utf8(&blank).unwrap_or("");
+    let over = "puzzle 1 over\ntotals\nboard 1\nsolution 0\njob 0\nanswer 0\n";
+    for (puzzle, budget) in [(blank, 1), (blank, 2), (blank, 9), (blank, 100), (TWO, 1)] {
         let settings = Settings {
             budget,
-            grain: Settings::DEFAULT.grain,
-            limit: Settings::DEFAULT.limit,
+            grain: SETTINGS.grain,
         };
-        let solved = solve(rt.alloc(), settings, &blank)?;
-        assert!(rt; solved.over, "budget {budget}");
-        assert_eq!(rt; solved.boards, boards, "budget {budget}");
-        assert!(rt; solved.solutions.is_empty(), "budget {budget}");
+        let (end, written) = solve_on(rt.alloc(), puzzle, settings, 0x400_0000)?;
+        assert_eq!(rt; end.status, 0, "budget {budget}");
+        assert_eq!(rt; written.as_str(), over, "budget {budget}");
+    }
+    Ok(())
+}
+
+// The first letter of each entry's name, in order; of one that begins with another's letter, another.
+fn names(alloc: Global, entries: &[Entry]) -> Result<String, Fail> {
+    let mut names = String::new(alloc);
+    for entry in entries {
+        names.push(match entry {
+            Entry::Putting { .. } => 'p',
+            Entry::Refused { used: 0, .. } => 'r',
+            Entry::Accepted { .. } => 'a',
+            Entry::Rejected { .. } => 'R',
+            Entry::Asked { .. } => 'q',
+            Entry::Granted { .. } => 'g',
+            Entry::Fetching { .. } => 'f',
+            Entry::Fetched { .. } => 'F',
+            Entry::Exhausted => 'x',
+            Entry::Over { .. } => 'o',
+            Entry::Finished { .. } => '.',
+            _ => '?',
+        })?;
+    }
+    Ok(names)
+}
+
+#[test]
+fn a_server_that_is_too_small_keeps_the_report(rt: HostRuntime) -> Result<(), Fail> {
+    let solution = format!(in rt.alloc(); "{FULL}\n")?;
+    let wanted = report(rt.alloc(), solution.as_str(), 1, 1)?;
+    // The board of 93 bytes and the solution of 85 go to the server and come back, or each is refused by it.
+    for (limit, ledger) in [
+        (0x400_0000, "paqgfFpaqgfFqxo."),
+        (64, "prRprRqxo."),
+        (90, "prRpaqgfFqxo."),
+    ] {
+        let (end, written) = solve_on(rt.alloc(), FORCED, SETTINGS, limit)?;
+        assert_eq!(rt; end.status, 0, "limit {limit}");
+        assert_eq!(rt; written.as_str(), wanted.as_str(), "limit {limit}");
+        let kept = end.report.ok_or("no report is kept")?;
+        let entries = names(rt.alloc(), kept.ledger.entries())?;
+        assert_eq!(rt; entries.as_str(), ledger, "limit {limit}");
+        assert!(rt; kept.left.is_empty(), "limit {limit}");
+        assert_eq!(rt; kept.config.limit, limit);
     }
     Ok(())
 }
