@@ -1,0 +1,145 @@
+//! Entries with one change.
+
+use adlb_unit::{End, Rank, UnitId};
+use bag_ledger::Entry;
+use std::alloc::Global;
+use std::test::Fail;
+
+// The id with another number.
+fn other(id: UnitId) -> UnitId {
+    UnitId {
+        rank: id.rank,
+        number: id.number.wrapping_add(1000),
+    }
+}
+
+/// The same entry, for the kinds that one rank's run has.
+pub fn copied(alloc: Global, entry: &Entry) -> Result<Entry, Fail> {
+    let copy = match entry {
+        Entry::Putting {
+            rank,
+            call,
+            kind,
+            prio,
+            target,
+            answer,
+            body,
+        } => Entry::Putting {
+            rank: *rank,
+            call: *call,
+            kind: *kind,
+            prio: *prio,
+            target: *target,
+            answer: *answer,
+            body: body.twin(alloc)?,
+        },
+        Entry::Asked { rank, call, types } => Entry::Asked {
+            rank: *rank,
+            call: *call,
+            types: types.twin(),
+        },
+        Entry::Exhausted => Entry::Exhausted,
+        plain => return plain_copy(plain),
+    };
+    Ok(copy)
+}
+
+// The same entry, of those that keep no bytes and no types.
+fn plain_copy(entry: &Entry) -> Result<Entry, Fail> {
+    let copy = match *entry {
+        Entry::Refused { server, id, used } => Entry::Refused { server, id, used },
+        Entry::Accepted { server, id } => Entry::Accepted { server, id },
+        Entry::Rejected { rank, call } => Entry::Rejected { rank, call },
+        Entry::Granted {
+            server,
+            rank,
+            call,
+            id,
+        } => Entry::Granted {
+            server,
+            rank,
+            call,
+            id,
+        },
+        Entry::Fetching { rank, call, id } => Entry::Fetching { rank, call, id },
+        Entry::Fetched { server, rank, id } => Entry::Fetched { server, rank, id },
+        Entry::Over { rank, call, end } => Entry::Over { rank, call, end },
+        Entry::Finished { rank, call } => Entry::Finished { rank, call },
+        _ => return Err("an entry of another kind".into()),
+    };
+    Ok(copy)
+}
+
+/// The entry with one change, by which it is no step where it was one: a call of another number, a unit that was not put,
+/// another charge, another end; an end in place of exhaustion, and a Finish in place of a put.
+pub fn changed(entry: &Entry) -> Result<Entry, Fail> {
+    let changed = match entry {
+        Entry::Asked { rank, call, types } => Entry::Asked {
+            rank: *rank,
+            call: call.wrapping_add(1),
+            types: types.twin(),
+        },
+        Entry::Putting { rank, call, .. } => Entry::Finished {
+            rank: *rank,
+            call: call.wrapping_add(1),
+        },
+        Entry::Exhausted => Entry::Over {
+            rank: Rank(0),
+            call: 0,
+            end: End::NoMoreWork,
+        },
+        plain => return changed_plain(plain),
+    };
+    Ok(changed)
+}
+
+// The same, of the entries that keep no bytes and no types.
+fn changed_plain(entry: &Entry) -> Result<Entry, Fail> {
+    let changed = match *entry {
+        Entry::Refused { server, id, used } => Entry::Refused {
+            server,
+            id,
+            used: used.wrapping_add(1),
+        },
+        Entry::Accepted { server, id } => Entry::Accepted {
+            server,
+            id: other(id),
+        },
+        Entry::Rejected { rank, call } => Entry::Rejected {
+            rank,
+            call: call.wrapping_add(1),
+        },
+        Entry::Granted {
+            server,
+            rank,
+            call,
+            id,
+        } => Entry::Granted {
+            server,
+            rank,
+            call,
+            id: other(id),
+        },
+        Entry::Fetching { rank, call, id } => Entry::Fetching {
+            rank,
+            call,
+            id: other(id),
+        },
+        Entry::Fetched { server, rank, id } => Entry::Fetched {
+            server,
+            rank,
+            id: other(id),
+        },
+        Entry::Over { rank, call, .. } => Entry::Over {
+            rank,
+            call,
+            end: End::NoMoreWork,
+        },
+        Entry::Finished { rank, call } => Entry::Finished {
+            rank,
+            call: call.wrapping_add(1),
+        },
+        _ => return Err("an entry of another kind".into()),
+    };
+    Ok(changed)
+}
