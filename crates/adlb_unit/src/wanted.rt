@@ -1,6 +1,6 @@
 //! Lists of wanted types, and what is permitted.
 
-ghost use Rattle.std.specs.Prelude.{ℕ, ◌≡◌, ◌<◌, ◌≤◌, ◌↔◌, IsTrue, IfOk, length, Some, None, []};
+ghost use Rattle.std.specs.Prelude.{ℕ, ◌≡◌, ◌<◌, ◌≤◌, ◌↔◌, IsTrue, IfOk, MatchOption, length, Some, None, []};
 ghost use Rattle.adlb_unit.specs.Permit.{HasKind, Permits, has_kind, permitted};
 
 use crate::names::{Rank, Target, WorkType};
@@ -80,6 +80,16 @@ impl Types {
             kinds: self.kinds,
             count: self.count,
         }
+    }
+
+    /// The list, or None where any type is wanted.
+    pub fn kinds(&self) -> Option<&[WorkType]>
+        ensures { MatchOption result (self.now ≡ None) (λ k. self.now ≡ Some k.now) }
+    {
+        if self.any {
+            return None;
+        }
+        Some(&self.kinds[..self.count])
     }
 
     /// The type is wanted: any is, or it stands in the list (`HasKind`; `has_kind` is the same as a test).
