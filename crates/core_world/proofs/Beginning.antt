@@ -80,6 +80,7 @@ module _ (c : Client) (s : Host) (ledger : List Entry) (call : Call) (i : IsIdle
     pub begins : begin c call ≡ Some x
     pub entries : x.entries ≡ entry ∷ enters.Over c.me c.next end ∷ []
     pub answers_it : x.answer ≡ Some (answers.Ended end)
+    pub unsent : x.sends ≡ []
     pub like : IsLike x.state c
     pub next : x.state.next ≡ c.next + 1
     pub idle : x.state.pending ≡ waits_for.Nothing
@@ -153,7 +154,7 @@ module _ (c : Client) (s : Host) (ledger : List Entry) (call : Call) (i : IsIdle
       begins = it.begins;
       whole = i.joint.whole;
       same = it.like.config;
-      goes = inl (record { answer = answers.Ended end; answers_it = it.answers_it; done = record { idle = over_idle; grown = it.grown; kind = kind; fits = ended_fits c.transcript call end; again = λ heeds. rw (i.joint.told ∙ was_told) refl } });
+      goes = inl (record { answer = answers.Ended end; answers_it = it.answers_it; silent = it.unsent; done = record { idle = over_idle; grown = it.grown; kind = kind; fits = ended_fits c.transcript call end; again = λ heeds. rw (i.joint.told ∙ was_told) refl } });
       grown = (record { call = call; answer = answers.Ended end } ∷ [], it.grown);
       entries = omega (arith, ap length it.entries);
       cut = over_cut;

@@ -99,6 +99,7 @@ module _ (c : Client) (s : Host) (ledger : List Entry) (i : IsIdle c s ledger) w
               begins = begin_gives c s ledger call i r opens;
               entries = refl;
               answers_it = refl;
+              unsent = refl;
               like = record { config = refl; me = refl; trouble = refl; finished = refl; batch = refl };
               next = refl;
               idle = refl;
@@ -154,6 +155,7 @@ module _ (c : Client) (s : Host) (ledger : List Entry) (i : IsIdle c s ledger) w
             begins = begin_gives c s ledger call i r opens;
             entries = refl;
             answers_it = refl;
+            unsent = refl;
             like = record { config = refl; me = refl; trouble = refl; finished = refl; batch = refl };
             next = refl;
             idle = refl;

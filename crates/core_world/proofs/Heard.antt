@@ -65,6 +65,7 @@ pub record IsComing (c : Client) (s : Host) (ledger : List Entry) (letter : Lett
 pub record IsHeard (c : Client) (letter : Letter) (call : Call) (answer : Answer) (notes : List UnitNote) (x : Made) : Type 0 where
   pub hears : hear c first_server letter ≡ Some x
   pub answers_it : x.answer ≡ Some answer
+  pub silent : x.sends ≡ []
   pub one_entry : length x.entries ≤ 1
   pub like : IsLike x.state c
   pub next : x.state.next ≡ c.next
@@ -119,6 +120,7 @@ module _ (c : Client) (s : Host) (ledger : List Entry) (letter : Letter) (call :
     x = x;
     hears = heard.hears;
     answers_it = heard.answers_it;
+    silent = heard.silent;
     one_entry = heard.one_entry;
     same = heard.like.config;
     done = record { idle = idle_after; grown = heard.grown; kind = coming.kind; fits = coming.fits; again = coming.again };

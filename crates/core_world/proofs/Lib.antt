@@ -11,8 +11,7 @@ mod Fetches
 mod Beginning
 mod Calls
 mod Finishing
-mod Entering
-mod Failing
+pub mod Failing
 mod Kept
 mod Starts
 mod Scripts
@@ -25,3 +24,6 @@ pub mod Ended
 pub mod Stopping
 pub mod Troubles
 pub mod Wholes
+pub mod Begun
+pub mod Pairing
+pub mod Exchanging

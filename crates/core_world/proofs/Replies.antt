@@ -44,6 +44,7 @@ module _ (c : Client) (letter : Letter) (going : c.finished ≡ false) (stamp : 
       record {
         hears = hear_gives c letter r going stamp is;
         answers_it = refl;
+        silent = refl;
         one_entry = omega arith;
         like = record { config = refl; me = refl; trouble = refl; finished = refl; batch = refl };
         next = refl;
@@ -67,6 +68,7 @@ module _ (c : Client) (letter : Letter) (going : c.finished ≡ false) (stamp : 
       record {
         hears = hear_gives c letter r going stamp is;
         answers_it = refl;
+        silent = refl;
         one_entry = omega arith;
         like = record { config = refl; me = refl; trouble = refl; finished = refl; batch = refl };
         next = refl;
@@ -94,6 +96,7 @@ module _ (c : Client) (letter : Letter) (going : c.finished ≡ false) (stamp : 
       record {
         hears = hear_gives c letter r going stamp is;
         answers_it = refl;
+        silent = refl;
         one_entry = omega arith;
         like = record { config = refl; me = refl; trouble = refl; finished = refl; batch = refl };
         next = refl;
@@ -115,6 +118,7 @@ module _ (c : Client) (letter : Letter) (going : c.finished ≡ false) (stamp : 
       record {
         hears = hear_gives c letter r going stamp is;
         answers_it = refl;
+        silent = refl;
         one_entry = omega arith;
         like = record { config = refl; me = refl; trouble = refl; finished = refl; batch = refl };
         next = refl;
@@ -137,6 +141,7 @@ module _ (c : Client) (letter : Letter) (going : c.finished ≡ false) (stamp : 
       record {
         hears = hear_gives c letter r going stamp is;
         answers_it = refl;
+        silent = refl;
         one_entry = omega arith;
         like = record { config = refl; me = refl; trouble = refl; finished = refl; batch = refl };
         next = refl;

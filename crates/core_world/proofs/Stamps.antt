@@ -76,7 +76,7 @@ told_none s (waits_for.Reserve request types) from (tells.Broken trouble) some =
 told_none s (waits_for.Fetch request note) from (tells.Broken trouble) some = absurd (cc)
 told_none s pending from _ some = refl
 
-unmapped : {X Y : Type 0} (f : X → Y) (o : Option X) → IsSome (option_map f o) → IsSome o
+pub unmapped : {X Y : Type 0} (f : X → Y) (o : Option X) → IsSome (option_map f o) → IsSome o
 unmapped f None some = absurd (cc)
 unmapped f (Some x) some = refl
 

@@ -22,20 +22,21 @@ use Rattle.core_run.specs.World.{Links, World, after_rank, after_server, client_
 use Rattle.core_world.specs.Applied.{Causes, IsCut, IsEnabled, IsKept, Stops, event_stamp, front_stamp}
 use Rattle.core_world.specs.Seen.{under_way}
 use Rattle.core_world.specs.Stage.{with_client, with_server}
+use Rattle.core_world.proofs.Stamps.{unmapped}
 
--- An event adds its entries behind those of before.
+-- An event adds its entries behind those of before, and changes no configuration.
 
 abbrev Extends : World → Option World → Type 0
 Extends w None = Prim.Unit {0}
-Extends w (Some after) = (more : List Entry) × (after.ledger ≡ w.ledger ++ more)
+Extends w (Some after) = (more : List Entry) × (after.ledger ≡ w.ledger ++ more) × (after.config ≡ w.config)
 
 by_rank : (w : World) (rank : Rank) (links : Links) (o : Option Made) → Extends w (option_map (after_rank w rank links) o)
 by_rank w rank links None = tt
-by_rank w rank links (Some x) = (x.entries, refl)
+by_rank w rank links (Some x) = (x.entries, refl, refl)
 
 by_server : (w : World) (server : Server) (links : Links) (o : Option Served) → Extends w (option_map (after_server w server links) o)
 by_server w server links None = tt
-by_server w server links (Some x) = (x.entries, refl)
+by_server w server links (Some x) = (x.entries, refl, refl)
 
 where_it : (w : World) (b : Bool) (o : Option World) → Extends w o → Extends w (cond b o None)
 where_it w true o extends = extends
@@ -59,7 +60,7 @@ by_event w (occurs.Call rank call) = where_it w (nat_lt rank.0 w.config.ranks) _
 by_event w (occurs.Deliver from to) =
     where_it w (is_within w.config from && is_within w.config to) _ (by_letter w from to (link w.links (place_of w.config from) (place_of w.config to)))
 
-grows : (w after : World) (event : Event) → happens w event ≡ Some after → (more : List Entry) × (after.ledger ≡ w.ledger ++ more)
+grows : (w after : World) (event : Event) → happens w event ≡ Some after → (more : List Entry) × (after.ledger ≡ w.ledger ++ more) × (after.config ≡ w.config)
 grows w after event h = subst (Extends w) h (by_event w event)
 
 cut_kept : (w new after : World) (event : Event) → IsKept w new → happens w event ≡ Some after → IsCut w new after
@@ -142,3 +143,19 @@ some_of (Some x) some = (x, refl)
 pub stops_config : (w now : World) (event : Event) (trouble : Trouble) → IsEnabled w event → Stops w event trouble now → now.config ≡ w.config
 stops_config w now event troubles.Memory enabled stops = let after = some_of (happens w event) enabled in (stops.leaves after.0 after.1).config
 stops_config w now event (troubles.TooLong stamp) enabled stops = stops.leaves.config
+
+pub happens_config : (w now : World) (event : Event) → happens w event ≡ Some now → now.config ≡ w.config
+happens_config w now event h = (grows w now event h).2
+
+-- A front letter that a rank is to hear now is expected.
+pub hear_expected : (w took : World) (from : Server) (to : Rank) (letter : Letter) (rest : List Letter) → IsEnabled w (occurs.Deliver (by.Server from) (by.Rank to))
+    → under_way w (by.Server from) (by.Rank to) ≡ letter ∷ rest → took ≡ record w { links = taken w (by.Server from) (by.Rank to) rest } → IsSome (hear (client_of took to) from letter)
+hear_expected w took from to letter rest enabled front took_is =
+    subst (λ (v : World). IsSome (hear (client_of v to) from letter)) (sym took_is) (by_test (is_within w.config (by.Server from) && is_within w.config (by.Rank to)) enabled front)
+  where
+    letters : List Letter
+    letters = link w.links (place_of w.config (by.Server from)) (place_of w.config (by.Rank to))
+
+    by_test : (b : Bool) → IsSome (cond b (handle w (by.Server from) (by.Rank to) letters) None) → cond b letters [] ≡ letter ∷ rest → IsSome (hear (client_of w to) from letter)
+    by_test true some is = unmapped (after_rank w to (taken w (by.Server from) (by.Rank to) rest)) (hear (client_of w to) from letter) (subst (λ (l : List Letter). IsSome (handle w (by.Server from) (by.Rank to) l)) is some)
+    by_test false some is = absurd (cc)

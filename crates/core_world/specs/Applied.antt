@@ -1,5 +1,5 @@
 -- What applying an event does, why it is refused, and what stands then.
-use Rattle.std.specs.Prelude.{◌≡◌, ◌⊎◌, ◌<◌, ◌≤◌, ◌^◌, ℕ, List, [], ◌∷◌, ◌++◌, None, Some, IsSome, take}
+use Rattle.std.specs.Prelude.{◌≡◌, ◌⊎◌, ◌<◌, ◌≤◌, ◌^◌, ℕ, List, [], ◌∷◌, ◌++◌, Option, None, Some, IsSome, take, option_and_then}
 use Rattle.std.specs.List.{slice_get}
 use Rattle.adlb_unit.specs.declared.actors.Actor.{Actor}
 use Rattle.adlb_unit.specs.declared.actors.Actor.TheVariants as by
@@ -7,8 +7,9 @@ use Rattle.adlb_unit.specs.declared.letters.Letter.{Letter}
 use Rattle.adlb_unit.specs.declared.names.Rank.{Rank}
 use Rattle.adlb_unit.specs.declared.notes.Trouble.{Trouble}
 use Rattle.adlb_unit.specs.declared.notes.Trouble.TheVariants as troubles
+use Rattle.bag_ledger.specs.declared.entries.Answer.{Answer}
 use Rattle.bag_ledger.specs.declared.entries.Entry.{Entry}
-use Rattle.rank_client.specs.Step.{call_stamp, letter_stamp}
+use Rattle.rank_client.specs.Step.{begin, call_stamp, hear, letter_stamp}
 use Rattle.server_core.specs.Step.{next_stamp}
 use Rattle.core_run.specs.declared.events.Event.{Event}
 use Rattle.core_run.specs.declared.events.Event.TheVariants as occurs
@@ -29,6 +30,17 @@ front_stamp w (by.Server to) (letter ∷ rest) = next_stamp (pool_of w to) lette
 abbrev pub event_stamp : World → Event → ℕ
 event_stamp w (occurs.Call rank call) = call_stamp (client_of w rank)
 event_stamp w (occurs.Deliver from to) = front_stamp w to (under_way w from to)
+
+-- The answer of an event: that of a call which a rank begins, or of which it hears, where it has one then.
+
+-- of the front letter, where there is one
+abbrev pub front_answer : World → Actor → Actor → List Letter → Option Answer
+front_answer w (by.Server from) (by.Rank to) (letter ∷ rest) = option_and_then (λ x. x.answer) (hear (client_of w to) from letter)
+front_answer w from to letters = None
+
+abbrev pub event_answer : World → Event → Option Answer
+event_answer w (occurs.Call rank call) = option_and_then (λ x. x.answer) (begin (client_of w rank) call)
+event_answer w (occurs.Deliver from to) = front_answer w from to (under_way w from to)
 
 -- it is past the last stamp that is given
 abbrev pub IsLate : World → Event → Type 0

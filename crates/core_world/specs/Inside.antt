@@ -3,26 +3,27 @@ use Rattle.std.specs.Prelude.{◌≡◌, ◌<◌, ◌≤◌, ◌^◌, false, len
 use Rattle.rank_client.specs.Calls.{has_finished}
 use Rattle.server_core.specs.Left.{left_of}
 use Rattle.core_world.specs.declared.runs.InlineRun.TheInside.{Inside}
+use Rattle.core_world.specs.Begun.{begun_in}
 use Rattle.core_world.specs.Inline.{IsInline, Run}
-use Rattle.core_world.specs.Rounds.{IsIdle, begun_by, is_ended}
+use Rattle.core_world.specs.Pairs.{IsReady, rank_in, server_in}
+use Rattle.core_world.specs.Rounds.{is_ended}
 
 abbrev pub run_of : Inside → Run
 run_of i = record {
-  config = i.pair.client.config;
-  ledger = i.pair.ledger;
-  transcript = take i.answered i.pair.client.transcript;
-  left = left_of i.pair.server;
-  failed = i.failed;
-  begun = begun_by i.pair.client i.answered i.pair.entered;
+  config = i.world.world.config;
+  ledger = i.world.world.ledger;
+  transcript = take i.answered (rank_in i.world).transcript;
+  left = left_of (server_in i.world);
+  failed = i.world.trouble;
+  begun = begun_in i.world.world.config i.world.world.ledger (take i.answered (rank_in i.world).transcript);
   finished = i.finished;
-  ended = is_ended i.pair.server;
+  ended = is_ended (server_in i.world);
 }
 
 -- what holds of a world, and, while nothing failed, which state the next call finds
 pub record IsInside (i : Inside) : Type 0 where
   pub inline : IsInline (run_of i)
-  pub answered : i.answered ≤ length i.pair.client.transcript
-  pub idle : i.failed ≡ None → has_finished (take i.answered i.pair.client.transcript) ≡ false → IsIdle i.pair.client i.pair.server i.pair.ledger
-  pub all : i.failed ≡ None → i.answered ≡ length i.pair.client.transcript
-  pub fresh : i.failed ≡ None → i.pair.entered ≡ false
+  pub answered : i.answered ≤ length (rank_in i.world).transcript
+  pub ready : i.world.trouble ≡ None → has_finished (take i.answered (rank_in i.world).transcript) ≡ false → IsReady i.world
+  pub all : i.world.trouble ≡ None → i.answered ≡ length (rank_in i.world).transcript
   pub short : i.answered < 2 ^ 48

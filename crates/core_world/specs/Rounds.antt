@@ -1,7 +1,8 @@
 -- One call of the only rank, from its beginning to its answer: what stands before, between and after its events.
-use Rattle.std.specs.Prelude.{ℕ, zero, suc, ◌+◌, ◌*◌, ◌^◌, ◌≡◌, ◌⊎◌, ◌<◌, ◌≤◌, Bool, true, false, ◌&&◌, slice_index_or, List, [], ◌∷◌, ◌++◌, length, take, drop, Option, None, Some}
+use Rattle.std.specs.Prelude.{ℕ, ◌+◌, ◌*◌, ◌^◌, ◌≡◌, ◌⊎◌, ◌<◌, ◌≤◌, Bool, true, false, ◌&&◌, slice_index_or, List, [], ◌∷◌, ◌++◌, length, take, Option, None, Some}
 use Rattle.adlb_unit.specs.declared.actors.Actor.{Actor}
 use Rattle.adlb_unit.specs.declared.actors.Actor.TheVariants as by
+use Rattle.adlb_unit.specs.declared.configs.Config.{Config}
 use Rattle.adlb_unit.specs.declared.letters.Letter.{Letter}
 use Rattle.adlb_unit.specs.declared.letters.Sending.{Sending}
 use Rattle.adlb_unit.specs.declared.names.Server.{Server}
@@ -113,6 +114,7 @@ pub record IsHearing (c : Client) (s : Host) (ledger : List Entry) (letter : Let
   pub x : Made
   pub hears : hear c first_server letter ≡ Some x
   pub answers_it : x.answer ≡ Some answer
+  pub silent : x.sends ≡ []
   pub one_entry : length x.entries ≤ 1
   pub same : x.state.config ≡ c.config
   pub done : IsAnswered c.transcript call answer x.state s (ledger ++ x.entries)
@@ -139,6 +141,7 @@ pub record IsServing (c : Client) (s : Host) (ledger : List Entry) (letter : Let
 pub record IsOver (said : List Said) (call : Call) (x : Made) (s : Host) (ledger : List Entry) : Type 0 where
   pub answer : Answer
   pub answers_it : x.answer ≡ Some answer
+  pub silent : x.sends ≡ []
   pub done : IsAnswered said call answer x.state s ledger
 
 -- the call goes to the server
@@ -188,35 +191,20 @@ pub record IsFinishing (c : Client) (s : Host) (ledger : List Entry) : Type 0 wh
   pub few : next_stamp s letter ≤ 3 * length c.transcript + 3
   pub few_before : call_stamp c ≤ 3 * length c.transcript + 3
 
--- After a failure.
-
--- the call whose beginning was entered: one that the client answered and the world has not, else the one that is pending
-abbrev pub first_call : List Said → Pending → Option Call
-first_call [] pending = pending_call pending
-first_call (s ∷ said) pending = Some s.call
-
-abbrev pub begun_by : Client → ℕ → Bool → Option Call
-begun_by c answered false = None
-begun_by c answered true = first_call (drop answered c.transcript) c.pending
-
--- The call failed: the transcript is as before, the ledger tells of the call what was entered, and a stamp that was too long is past
--- the last one.
-pub record IsFailed (said : List Said) (call : Call) (trouble : Trouble) (c : Client) (ledger : List Entry) (entered : Bool) : Type 0 where
-  pub kept : take (length said) c.transcript ≡ said
-  pub within : length said ≤ length c.transcript
-  pub told : IsTold c.config ledger said (begun_by c (length said) entered)
-  pub began : (begun_by c (length said) entered ≡ None) ⊎ (begun_by c (length said) entered ≡ Some call)
+-- The call failed: what the rank has heard is as before, the ledger tells of the call what was entered, and a stamp that was too long
+-- is past the last one.
+pub record IsFailed (config : Config) (said : List Said) (call : Call) (trouble : Trouble) (transcript : List Said) (ledger : List Entry) : Type 0 where
+  pub kept : take (length said) transcript ≡ said
+  pub within : length said ≤ length transcript
+  pub begun : Option Call
+  pub told : IsTold config ledger said begun
+  pub began : (begun ≡ None) ⊎ (begun ≡ Some call)
   pub late : (stamp : ℕ) → trouble ≡ TooLong stamp → (2 ^ 48 ≤ stamp) × (stamp ≤ 3 * length said + 3)
 
--- whether an entry was entered, before this event or among so many of its entries
-abbrev pub has_entered : Bool → ℕ → Bool
-has_entered before zero = before
-has_entered before (suc n) = true
-
 -- the rank has finished, and the ledger tells so
-pub record IsFinished (said : List Said) (c : Client) (s : Host) (ledger : List Entry) : Type 0 where
+pub record IsFinished (config : Config) (said : List Said) (c : Client) (s : Host) (ledger : List Entry) : Type 0 where
   pub grown : c.transcript ≡ with_call said calls_to.Finish answers.Fine
-  pub told : IsTold c.config ledger c.transcript None
+  pub told : IsTold config ledger c.transcript None
   pub left : IsLeft told.last (left_of s)
   pub heard : is_ended s ≡ true
   pub short : length c.transcript < 2 ^ 48

@@ -1,14 +1,16 @@
 //! Events, applied one by one.
 
-ghost use Rattle.std.specs.Prelude.{◌≡◌, ◌≤◌, ◌^◌, ◌↔◌, ℕ, None, Some, Err, IfErr, IfOk, OnOk, length};
+ghost use Rattle.std.specs.Prelude.{◌≡◌, ◌<◌, ◌≤◌, ◌^◌, ◌↔◌, ℕ, None, Some, Err, IfErr, IfOk, OnOk, length};
 ghost use Rattle.adlb_unit.specs.declared.notes.Trouble.{Trouble};
 ghost use Rattle.core_run.specs.declared.events.Event.{Event};
 ghost use Rattle.core_run.specs.Runs.{run};
 ghost use Rattle.core_run.specs.World.{happens};
-ghost use Rattle.core_world.specs.Applied.{Applies, IsEnabled, Refuses, StopsAt, event_stamp, fault_of};
+ghost use Rattle.core_world.specs.Applied.{Applies, IsEnabled, Refuses, Stops, StopsAt, event_answer, event_stamp, fault_of};
 
 use crate::faults::ApplyFault;
 use crate::worlds::World;
+use adlb_unit::Trouble;
+use bag_ledger::Answer;
 use core_run::Event;
 
 impl World {
@@ -35,11 +37,30 @@ impl World {
         if !self.stage.enables(&event) {
             return Err(ApplyFault::NotEnabled { event });
         }
+        match self.carry_out(event) {
+            Ok(_) => Ok(()),
+            Err(trouble) => Err(ApplyFault::of(trouble)),
+        }
+    }
+
+    // Carries out an event that is enabled, in a world that has not failed, and tells the answer of the call that it answers, if
+    // there is one.
+    pub(crate) fn carry_out(&mut self, event: Event) -> Result<Option<Answer>, Trouble>
+        requires whole { self.old.trouble ≡ None }
+        requires enabled { IsEnabled self.old.world event }
+        ensures happened { OnOk result (happens self.old.world event ≡ Some self.new.world) }
+        ensures told { IfOk result (λ answer. answer ≡ event_answer self.old.world event) }
+        ensures stamp { OnOk result (event_stamp self.old.world event < 2 ^ 48) }
+        ensures goes_on { OnOk result (self.new.trouble ≡ None) }
+        ensures failed { IfErr result (λ trouble. self.new.trouble ≡ Some trouble) }
+        ensures stops { IfErr result (λ trouble. Stops self.old.world event trouble self.new.world) }
+        ensures config { self.new.world.config ≡ self.old.world.config }
+    {
         match self.stage.carry_out(event) {
-            Ok(()) => Ok(()),
+            Ok(answer) => Ok(answer),
             Err(trouble) => {
                 self.trouble = Some(trouble);
-                Err(ApplyFault::of(trouble))
+                Err(trouble)
             }
         }
     }

@@ -7,20 +7,18 @@ ghost use Rattle.rank_client.specs.Calls.{Began, Repeats, TellsAgain, end_told, 
 ghost use Rattle.core_world.specs.Answers.{CanCall, IsAnswer, answered, answers_call, heeds_end, troubled};
 ghost use Rattle.core_world.specs.Inline.{IsEnd, IsInline, IsStart, finish_answer};
 
-use crate::pairs::Pair;
+use crate::worlds::World;
 use adlb_unit::{Config, NoMemory, Rank, Server, Trouble};
 use bag_ledger::{Answer, Call, Ledger, Said};
-use rank_client::ClientCore;
-use server_core::{LeftUnit, ServerState};
+use server_core::LeftUnit;
 use std::alloc::Global;
 use std::marker::Model;
 
-// A run in line: its rank and its server, how many calls were answered, what made it fail, and whether the rank's finish was called.
+// A run in line: a world of one rank and one server, how many calls were answered, and whether the rank's finish was called.
 #[derive(Drop)]
 pub(crate) struct InlineRun {
-    pair: Pair,
+    world: World,
     answered: usize,
-    failed: Option<Trouble>,
     finished: bool,
 }
 
@@ -48,14 +46,8 @@ impl InlineRun {
             unreachable!()
         };
         Ok(InlineRun {
-            pair: Pair {
-                client: ClientCore::new(alloc, config, Rank(0))?,
-                server: ServerState::new(alloc, config, Server(0))?,
-                ledger: Ledger::new(alloc),
-                entered: false,
-            },
+            world: World::new(alloc, config)?,
             answered: 0,
-            failed: None,
             finished: false,
         })
     }
@@ -75,20 +67,12 @@ impl InlineRun {
         ensures config { self.new.config ≡ self.old.config }
         ensures holds { IsInline self.new }
     {
-        if let Some(trouble) = self.failed {
-            return Err(trouble);
+        if let Some(met) = self.world.trouble() {
+            return Err(met);
         }
-        match self.pair.exchange(call) {
-            Ok(answer) => {
-                self.answered += 1;
-                self.pair.entered = false;
-                Ok(answer)
-            }
-            Err(trouble) => {
-                self.failed = Some(trouble);
-                Err(trouble)
-            }
-        }
+        let answer = self.world.exchange(call)?;
+        self.answered += 1;
+        Ok(answer)
     }
 
     // The rank finishes, and the server hears of it.
@@ -103,15 +87,12 @@ impl InlineRun {
         ensures holds { IsInline self.new }
     {
         self.finished = true;
-        if self.failed.is_some() {
+        if self.world.trouble().is_some() {
             return;
         }
-        match self.pair.finish() {
-            Ok(()) => {
-                self.answered += 1;
-                self.pair.entered = false;
-            }
-            Err(trouble) => self.failed = Some(trouble),
+        match self.world.finish() {
+            Ok(()) => self.answered += 1,
+            Err(_) => {}
         }
     }
 
@@ -127,13 +108,14 @@ impl InlineRun {
         ensures too_long { (n : ℕ) → (result ≡ Err (Trouble.TooLong n)) ↔ (self.failed ≡ Some (Trouble.TooLong n)) }
         ensures memory { self.failed ≡ Some Trouble.Memory → result ≡ Err Trouble.Memory }
     {
-        if let Some(trouble) = self.failed {
+        if let Some(trouble) = self.world.trouble() {
             return Err(trouble);
         }
-        let Ok(left) = self.pair.server.left() else {
+        let Ok(left) = self.world.left(Server(0)) else {
             return Err(Trouble::Memory);
         };
-        Ok((self.pair.ledger, self.pair.client.into_transcript(), left))
+        let (ledger, transcript) = self.world.into_parts();
+        Ok((ledger, transcript, left))
     }
 
     // The entries so far.
@@ -141,13 +123,13 @@ impl InlineRun {
         ensures entries { result.now ≡ self.now.ledger }
         ensures holds { IsInline self.now }
     {
-        &self.pair.ledger
+        self.world.ledger()
     }
 
     // The calls with their answers so far.
     pub(crate) fn transcript(&self) -> &[Said]
         ensures { result.now ≡ self.now.transcript }
     {
-        &self.pair.client.transcript()[..self.answered]
+        &self.world.transcript(Rank(0))[..self.answered]
     }
 }

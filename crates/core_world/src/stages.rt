@@ -2,14 +2,16 @@
 
 ghost use Rattle.std.specs.Prelude.{◌≡◌, ◌<◌, ◌∷◌, ◌↔◌, List, true, IfOk, IsSome, IsTrue, length};
 ghost use Rattle.adlb_unit.specs.declared.letters.Letter.{Letter};
+ghost use Rattle.core_run.specs.Runs.{transcript};
 ghost use Rattle.core_run.specs.World.{client_of, handle, is_within, pool_of, start};
 ghost use Rattle.core_world.specs.Applied.{IsEnabled};
+ghost use Rattle.core_world.specs.Inline.{zeroth};
 ghost use Rattle.core_world.specs.Seen.{under_way};
 ghost use Rattle.core_world.specs.Stage.{IsWhole};
 
 use crate::links::{Links, place_of};
 use adlb_unit::{Actor, Config, Letter, NoMemory, Rank, Server};
-use bag_ledger::Ledger;
+use bag_ledger::{Ledger, Said};
 use core_run::Event;
 use rank_client::ClientCore;
 use server_core::ServerState;
@@ -74,6 +76,19 @@ impl Stage {
         ensures { result.now ≡ pool_of self.now server }
     {
         &self.servers[server.0 as usize]
+    }
+
+    // The ledger and the calls of the only rank with their answers.
+    pub(crate) fn into_parts(self) -> (Ledger, Vec<Said>)
+        requires { self.config.ranks ≡ 1 }
+        ensures ledger { result.0 ≡ self.ledger }
+        ensures transcript { result.1.items ≡ transcript self zeroth }
+    {
+        let mut ranks = self.ranks;
+        let Some(client) = ranks.pop() else {
+            unreachable!()
+        };
+        (self.ledger, client.into_transcript())
     }
 
     // The actor is one of the run.

@@ -4,7 +4,7 @@ ghost use Rattle.std.specs.Prelude.{◌≡◌, ◌≢◌, ◌<◌, ◌^◌, ◌�
 ghost use Rattle.adlb_unit.specs.declared.letters.Letter.{Letter};
 ghost use Rattle.adlb_unit.specs.declared.notes.Trouble.{Trouble};
 ghost use Rattle.core_run.specs.World.{client_of, happens, pool_of, post, taken};
-ghost use Rattle.core_world.specs.Applied.{Causes, IsBetween, IsEnabled, IsHalf, Stops, event_stamp};
+ghost use Rattle.core_world.specs.Applied.{Causes, IsBetween, IsEnabled, IsHalf, Stops, event_answer, event_stamp};
 ghost use Rattle.core_world.specs.Seen.{under_way};
 ghost use Rattle.core_world.specs.Stage.{IsWhole, with_client, with_server};
 ghost use Rattle.rank_client.specs.Inside.{gives};
@@ -16,17 +16,18 @@ ghost use Rattle.server_core.specs.Step.{next_stamp, serve};
 use crate::links::place_of;
 use crate::stages::Stage;
 use adlb_unit::{Actor, Letter, NoMemory, Rank, Sending, Server, Trouble};
-use bag_ledger::{Call, Entry, Ledger};
+use bag_ledger::{Answer, Call, Entry, Ledger};
 use core_run::Event;
 use rank_client::ClientStep;
 use server_core::Step;
 
 impl Stage {
-    // Carries out an event that is enabled.
-    pub(crate) fn carry_out(&mut self, event: Event) -> Result<(), Trouble>
+    // Carries out an event that is enabled, and tells the answer of the call that it answers, if there is one.
+    pub(crate) fn carry_out(&mut self, event: Event) -> Result<Option<Answer>, Trouble>
         requires enabled { IsEnabled self.old event }
         requires whole { IsWhole self.old }
         ensures happened { OnOk result (happens self.old event ≡ Some self.new) }
+        ensures told { IfOk result (λ answer. answer ≡ event_answer self.old event) }
         ensures stamp { OnOk result (event_stamp self.old event < 2 ^ 48) }
         ensures whole { OnOk result (IsWhole self.new) }
         ensures stops { IfErr result (λ trouble. Stops self.old event trouble self.new) }
@@ -38,10 +39,11 @@ impl Stage {
     }
 
     // An actor handles the front letter of another.
-    fn deliver(&mut self, from: Actor, to: Actor) -> Result<(), Trouble>
+    fn deliver(&mut self, from: Actor, to: Actor) -> Result<Option<Answer>, Trouble>
         requires enabled { IsEnabled self.old (Event.Deliver from to) }
         requires whole { IsWhole self.old }
         ensures happened { OnOk result (happens self.old (Event.Deliver from to) ≡ Some self.new) }
+        ensures told { IfOk result (λ answer. answer ≡ event_answer self.old (Event.Deliver from to)) }
         ensures stamp { OnOk result (event_stamp self.old (Event.Deliver from to) < 2 ^ 48) }
         ensures whole { OnOk result (IsWhole self.new) }
         ensures stops { IfErr result (λ trouble. Stops self.old (Event.Deliver from to) trouble self.new) }
@@ -56,44 +58,60 @@ impl Stage {
     }
 
     // A rank begins a call.
-    fn begin(&mut self, rank: Rank, call: Call) -> Result<(), Trouble>
+    fn begin(&mut self, rank: Rank, call: Call) -> Result<Option<Answer>, Trouble>
         requires enabled { IsEnabled self.old (Event.Call rank call) }
         requires whole { IsWhole self.old }
         ensures happened { OnOk result (happens self.old (Event.Call rank call) ≡ Some self.new) }
+        ensures told { IfOk result (λ answer. answer ≡ event_answer self.old (Event.Call rank call)) }
         ensures stamp { OnOk result (event_stamp self.old (Event.Call rank call) < 2 ^ 48) }
         ensures whole { OnOk result (IsWhole self.new) }
         ensures stops { IfErr result (λ trouble. Stops self.old (Event.Call rank call) trouble self.new) }
     {
-        let ClientStep { sends, entries, .. } = self.client_begins(rank, call)?;
-        self.give(Actor::Rank(rank), sends, entries)
+        let ClientStep {
+            sends,
+            entries,
+            answer,
+            ..
+        } = self.client_begins(rank, call)?;
+        self.give(Actor::Rank(rank), sends, entries)?;
+        Ok(answer)
     }
 
     // A rank hears the front letter of a server.
-    fn hear(&mut self, from: Server, to: Rank) -> Result<(), Trouble>
+    fn hear(&mut self, from: Server, to: Rank) -> Result<Option<Answer>, Trouble>
         requires enabled { IsEnabled self.old (Event.Deliver (Actor.Server from) (Actor.Rank to)) }
         requires whole { IsWhole self.old }
         ensures happened { OnOk result (happens self.old (Event.Deliver (Actor.Server from) (Actor.Rank to)) ≡ Some self.new) }
+        ensures told { IfOk result (λ answer. answer ≡ event_answer self.old (Event.Deliver (Actor.Server from) (Actor.Rank to))) }
         ensures stamp { OnOk result (event_stamp self.old (Event.Deliver (Actor.Server from) (Actor.Rank to)) < 2 ^ 48) }
         ensures whole { OnOk result (IsWhole self.new) }
         ensures stops { IfErr result (λ trouble. Stops self.old (Event.Deliver (Actor.Server from) (Actor.Rank to)) trouble self.new) }
     {
         let letter = self.take(Actor::Server(from), Actor::Rank(to));
-        let ClientStep { sends, entries, .. } = self.client_hears(to, from, letter)?;
-        self.give(Actor::Rank(to), sends, entries)
+        let ClientStep {
+            sends,
+            entries,
+            answer,
+            ..
+        } = self.client_hears(to, from, letter)?;
+        self.give(Actor::Rank(to), sends, entries)?;
+        Ok(answer)
     }
 
     // A server handles the front letter of an actor.
-    fn serve(&mut self, from: Actor, to: Server) -> Result<(), Trouble>
+    fn serve(&mut self, from: Actor, to: Server) -> Result<Option<Answer>, Trouble>
         requires enabled { IsEnabled self.old (Event.Deliver from (Actor.Server to)) }
         requires whole { IsWhole self.old }
         ensures happened { OnOk result (happens self.old (Event.Deliver from (Actor.Server to)) ≡ Some self.new) }
+        ensures told { IfOk result (λ answer. answer ≡ event_answer self.old (Event.Deliver from (Actor.Server to))) }
         ensures stamp { OnOk result (event_stamp self.old (Event.Deliver from (Actor.Server to)) < 2 ^ 48) }
         ensures whole { OnOk result (IsWhole self.new) }
         ensures stops { IfErr result (λ trouble. Stops self.old (Event.Deliver from (Actor.Server to)) trouble self.new) }
     {
         let letter = self.take(from, Actor::Server(to));
         let Step { sends, entries, .. } = self.server_steps(to, from, letter)?;
-        self.give(Actor::Server(to), sends, entries)
+        self.give(Actor::Server(to), sends, entries)?;
+        Ok(None)
     }
 }
 

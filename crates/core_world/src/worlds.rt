@@ -3,6 +3,7 @@
 ghost use Rattle.std.specs.Prelude.{◌≡◌, ◌<◌, IfOk, length};
 ghost use Rattle.core_run.specs.Runs.{transcript};
 ghost use Rattle.core_run.specs.World.{pool_of};
+ghost use Rattle.core_world.specs.Inline.{zeroth};
 ghost use Rattle.core_world.specs.Seen.{new_world, under_way};
 ghost use Rattle.server_core.specs.Left.{left_of};
 
@@ -46,6 +47,13 @@ impl World {
         })
     }
 
+    /// What made the run fail, if anything did.
+    pub fn trouble(&self) -> Option<Trouble>
+        ensures { result ≡ self.now.trouble }
+    {
+        self.trouble
+    }
+
     /// The entries so far, in the order of the events.
     pub fn ledger(&self) -> &Ledger
         ensures { result.now ≡ self.now.world.ledger }
@@ -75,5 +83,14 @@ impl World {
         ensures { IfOk result (λ left. left.items ≡ left_of (pool_of self.now.world server)) }
     {
         self.stage.server_at(server).left()
+    }
+
+    // The ledger and the calls of the only rank with their answers.
+    pub(crate) fn into_parts(self) -> (Ledger, Vec<Said>)
+        requires { self.world.config.ranks ≡ 1 }
+        ensures ledger { result.0 ≡ self.world.ledger }
+        ensures transcript { result.1.items ≡ transcript self.world zeroth }
+    {
+        self.stage.into_parts()
     }
 }

@@ -1,5 +1,5 @@
 use Rattle.std.proofs.Common.{◌≡◌, None, ap, ◌∙◌}
-use Rattle.std.proofs.lemmas.Result.{err_from_is_err_and, on_ok_weaker}
+use Rattle.std.proofs.lemmas.Result.{err_from_is_err_and}
 use Rattle.rank_client.specs.Inside.{gives}
 use Rattle.core_run.specs.World.{World, client_of}
 use Rattle.core_world.proofs.Stopping.{call_stops}
@@ -17,6 +17,5 @@ returns-clause-whole c =
     let w = c.args.self.now in
     let b = c.in_ok-sends.ensures.begun in
     let fine : b.0.trouble ≡ None = begin_leaves (client_of w c.args.rank) c.args.call (gives b.0 c.in_ok-sends.field-0) b.1 ∙ whole_rank w c.args.rank c.requires.whole in
-    on_ok_weaker c.give.result
-    (λ is. whole_client w c.client_begins.new.self c.give.new.self c.args.rank b.0 c.requires.whole fine b.2 (ap (λ (v : World). v.ranks) is) (ap (λ (v : World). v.servers) is))
-    c.give.ensures.given
+    let is = c.in_ok-give.ensures.given in
+    whole_client w c.client_begins.new.self c.give.new.self c.args.rank b.0 c.requires.whole fine b.2 (ap (λ (v : World). v.ranks) is) (ap (λ (v : World). v.servers) is)

@@ -1,12 +1,17 @@
 use Rattle.std.proofs.Common.{◌≡◌, None, ap, ◌∙◌}
-use Rattle.std.proofs.lemmas.Result.{err_from_is_err_and, on_ok_weaker}
+use Rattle.std.proofs.lemmas.Result.{err_from_is_err_and}
 use Rattle.rank_client.specs.Inside.{gives}
 use Rattle.core_run.specs.World.{World, client_of}
 use Rattle.core_world.specs.Stage.{IsWhole}
-use Rattle.core_world.proofs.Stopping.{answer_stops}
+use Rattle.core_world.proofs.Stopping.{answer_stops, hear_expected}
 use Rattle.core_world.proofs.Troubles.{hear_leaves}
 use Rattle.core_world.proofs.Wholes.{whole_client, whole_rank, whole_taken}
 use Rattle.core_world.proofs.stages.Stage.hear.Goals as goal
+
+pub client_hears-requires-clause-expected : goal.client_hears-requires-clause-expected
+client_hears-requires-clause-expected c =
+    let t = c.take-letter.ensures in
+    hear_expected c.args.self.now c.take-letter.new.self c.args.from c.args.to c.take-letter.result t.0 c.requires.enabled t.1 t.2
 
 pub returns-in_err-sends-clause-stops : goal.returns-in_err-sends-clause-stops
 returns-in_err-sends-clause-stops c =
@@ -20,6 +25,5 @@ returns-clause-whole c =
     let b = c.in_ok-sends.ensures.heard in
     let whole : IsWhole w = whole_taken c.args.self.now w _ c.requires.whole c.take-letter.ensures.2 in
     let fine : b.0.trouble ≡ None = hear_leaves (client_of w c.args.to) c.args.from c.take-letter.result (gives b.0 c.in_ok-sends.field-0) b.1 ∙ whole_rank w c.args.to whole in
-    on_ok_weaker c.give.result
-    (λ is. whole_client w c.client_hears.new.self c.give.new.self c.args.to b.0 whole fine b.2 (ap (λ (v : World). v.ranks) is) (ap (λ (v : World). v.servers) is))
-    c.give.ensures.given
+    let is = c.in_ok-give.ensures.given in
+    whole_client w c.client_hears.new.self c.give.new.self c.args.to b.0 whole fine b.2 (ap (λ (v : World). v.ranks) is) (ap (λ (v : World). v.servers) is)

@@ -1,5 +1,5 @@
 use Rattle.std.proofs.Common.{◌≡◌, None, ap, ◌∙◌}
-use Rattle.std.proofs.lemmas.Result.{err_from_is_err_and, on_ok_weaker}
+use Rattle.std.proofs.lemmas.Result.{err_from_is_err_and}
 use Rattle.core_run.specs.World.{World, pool_of}
 use Rattle.core_world.specs.Stage.{IsWhole}
 use Rattle.core_world.proofs.Stopping.{request_stops}
@@ -20,6 +20,5 @@ returns-clause-whole c =
     let b = c.in_ok-sends.ensures.served in
     let whole : IsWhole w = whole_taken c.args.self.now w _ c.requires.whole c.take-letter.ensures.2 in
     let fine : b.0.trouble ≡ None = serve_stays (pool_of w c.args.to) c.args.from c.take-letter.result _ b.1 ∙ whole_pool w c.args.to whole in
-    on_ok_weaker c.give.result
-    (λ is. whole_server w c.server_steps.new.self c.give.new.self c.args.to b.0 whole fine b.2 (ap (λ (v : World). v.ranks) is) (ap (λ (v : World). v.servers) is))
-    c.give.ensures.given
+    let is = c.in_ok-give.ensures.given in
+    whole_server w c.server_steps.new.self c.give.new.self c.args.to b.0 whole fine b.2 (ap (λ (v : World). v.ranks) is) (ap (λ (v : World). v.servers) is)
