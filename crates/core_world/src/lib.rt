@@ -4,7 +4,8 @@
 //! server of `server_core` and the run of `core_run`, whose definitions say what happens at an event; `specs/Seen.antt` is what
 //! contracts see of a world, and `specs/Applied.antt` says what applying an event does and why it is refused.
 //!
-//! `InlineWorld` is a run of one rank and one server: each letter is handled inside the call that sends it, so its calls return.
+//! `InlineWorld` is a run in line over a world of one rank and one server: each letter is handled inside the call that sends it,
+//! so its calls return.
 //! `specs/Inline.antt` is what contracts see of it and what holds of it after every sequence of calls, and `specs/Left.antt` says
 //! which units are left at the end.
 #![tactic(auto)]
