@@ -1,133 +1,130 @@
--- A shelf with a fitting unit is one of the counts.
-use Rattle.std.proofs.Common.{◌≡◌, ◌∙◌, sym, ◌==◌, ◌&&◌, ◌||◌, ◌<◌, ℕ, Bool, true, false, cond, List, [], ◌∷◌, Option, Some, None, All, refl, ap, arith, count_by}
-use Rattle.std.specs.Prelude.{nat_lt}
+-- What the counts show of a fit is what the units have.
+use Rattle.std.proofs.Common.{◌≡◌, ◌∙◌, sym, ◌==◌, ◌&&◌, ◌||◌, ◌+◌, ℕ, Bool, true, false, List, [], ◌∷◌, Option, Some, None, refl, ap, arith, sum_by}
+use Rattle.std.specs.Prelude.{nat_lt, if◌then◌else◌}
 use Rattle.std.specs.List.{list_any}
-use Rattle.std.specs.Option.{unwrap_or}
-use Rattle.std.specs.Map.{lookup}
-use Rattle.std.specs.BTreeMap.{is_at, get}
-use Rattle.std.proofs.lemmas.Bool.{and_parts, eqb-true, eq-eqb}
+use Rattle.std.specs.declared.cmp.Ordering.{Ordering}
+use Rattle.std.specs.BTreeMap.{is_at}
 use Rattle.std.proofs.lemmas.Bool.Decides.{nat_tests}
 use Rattle.std.proofs.lemmas.List.Sums.{sum_by-cons}
-use Rattle.std.proofs.lemmas.List.Elements.{All-head, All-tail}
 use Rattle.adlb_unit.specs.declared.names.Rank.{Rank}
 use Rattle.adlb_unit.specs.declared.names.Server.{Server}
 use Rattle.adlb_unit.specs.declared.names.WorkType.{WorkType}
 use Rattle.adlb_unit.specs.declared.names.Target.{Target}
 use Rattle.adlb_unit.specs.declared.names.Target.TheVariants.{Any, Only}
-use Rattle.adlb_unit.specs.Permit.{permitted}
+use Rattle.adlb_unit.specs.Permit.{is_for, permitted}
 use Rattle.bag_ledger.specs.declared.states.Placed.{Placed}
 use Rattle.bag_ledger.specs.declared.states.UnitPlace.{UnitPlace}
+use Rattle.bag_ledger.specs.declared.states.UnitPlace.TheVariants.{Free, Travelling, Pinned, Spent}
 use Rattle.bag_ledger.specs.Bag.{is_free_at}
 use Rattle.bag_tables.specs.declared.counts.FreeCounts.{FreeCounts}
-use Rattle.bag_tables.specs.Shelves.{by_shelf, only_of, target_of, same_only, is_on}
-use Rattle.bag_tables.specs.Counted.{IsCounted, count_at}
-use Rattle.bag_tables.proofs.Shelving.{at_shelf, same_target}
+use Rattle.bag_tables.specs.declared.tallies.Tally.{Tally}
+use Rattle.bag_tables.specs.Keys.{by_shelf, by_target, free_key, shelf_of, target_of}
+use Rattle.bag_tables.specs.Tallies.{IsTallyOf, count_of, one_at}
+use Rattle.bag_tables.specs.Counted.{IsCounted, shows_fit, shows_fit_of}
 
--- the unit fits, and the shelf has a unit that fits
-abbrev fits : Server → Rank → Option (List WorkType) → Placed → Bool
-fits server rank types u = is_free_at server u.place && permitted rank types u.unit.kind u.unit.target
+-- Tests of the elements of a list.
 
-abbrev shows_fit : Server → Rank → Option (List WorkType) → (ℕ × ℕ × Option ℕ) × ℕ → Bool
-shows_fit server rank types e = nat_lt 0 e.1 && (e.0.0 == server.0) && permitted rank types (record { 0 = e.0.1 }) (target_of e.0.2)
+any_same : {X : Type 0} (p q : X → Bool) → ((x : X) → p x ≡ q x) → (xs : List X) → list_any p xs ≡ list_any q xs
+any_same p q same [] = refl
+any_same p q same (x ∷ xs) = rw (same x, any_same p q same xs) refl
 
-both : (a b : Bool) → a ≡ true → b ≡ true → (a && b) ≡ true
-both a b is also = rw (is, also) refl
-
-either_later : (a b : Bool) → b ≡ true → (a || b) ≡ true
-either_later true b is = refl
-either_later false b is = is
-
-same_test : (a b : Bool) → (a ≡ true → b ≡ true) → (b ≡ true → a ≡ true) → a ≡ b
-same_test true b there back = sym (there refl)
-same_test false true there back = back refl
-same_test false false there back = refl
-
-target_back : (target : Target) → target_of (only_of target) ≡ target
-target_back Any = refl
-target_back (Only rank) = refl
-
-free_there : (place : UnitPlace) (s : ℕ) (server : Server) → is_free_at (record { 0 = s }) place ≡ true → s ≡ server.0 → is_free_at server place ≡ true
-free_there place s server is same = rw (← same) is
-
-on_fits : (server : Server) (rank : Rank) (types : Option (List WorkType)) (u : Placed) (s k : ℕ) (t : Option ℕ) → is_on s k t u ≡ true → s ≡ server.0 → permitted rank types (record { 0 = k }) (target_of t) ≡ true → fits server rank types u ≡ true
-on_fits server rank types u s k t is here permits =
-    let parts = and_parts (is_free_at (record { 0 = s }) u.place && (u.unit.kind.0 == k)) (same_only (only_of u.unit.target) t) is in
-    let more = and_parts (is_free_at (record { 0 = s }) u.place) (u.unit.kind.0 == k) parts.0 in
-    let kind : u.unit.kind.0 ≡ k = eqb-true u.unit.kind.0 k more.1 in
-    let target : u.unit.target ≡ target_of t = sym (target_back u.unit.target) ∙ ap target_of (same_target (only_of u.unit.target) t parts.1) in
-    both (is_free_at server u.place) (permitted rank types u.unit.kind u.unit.target) (free_there u.place s server more.0 here) (rw (target, ap {B = WorkType} (λ (n : ℕ). record { 0 = n }) kind) permits)
-
-counts_not : (b : Bool) → b ≡ false → cond {A = ℕ} b 1 0 ≡ 0
-counts_not b is = rw is refl
-
--- a shelf that counts a unit and is permitted has a unit that fits
-from_count : (server : Server) (rank : Rank) (types : Option (List WorkType)) (units : List Placed) (s k : ℕ) (t : Option ℕ) → 0 < count_by (is_on s k t) units → s ≡ server.0 → permitted rank types (record { 0 = k }) (target_of t) ≡ true → list_any (fits server rank types) units ≡ true
-from_count server rank types [] s k t some here permits = absurd (omega (arith, some))
-from_count server rank types (u ∷ us) s k t some here permits = by_test (from_count server rank types us s k t) (is_on s k t u) refl
+any_or : {X : Type 0} (p q : X → Bool) (xs : List X) → (list_any p xs || list_any q xs) ≡ list_any (λ x. p x || q x) xs
+any_or p q [] = refl
+any_or p q (x ∷ xs) = rw (← any_or p q xs) (regroup (p x) (q x) (list_any p xs) (list_any q xs))
   where
-    by_test : (0 < count_by (is_on s k t) us → s ≡ server.0 → permitted rank types (record { 0 = k }) (target_of t) ≡ true → list_any (fits server rank types) us ≡ true) → (b : Bool) → is_on s k t u ≡ b → list_any (fits server rank types) (u ∷ us) ≡ true
-    by_test rest true is = rw (on_fits server rank types u s k t is here permits) refl
-    by_test rest false is =
-        let more = sum_by-cons (λ v. cond (is_on s k t v) 1 0) u us in
-        let none = counts_not (is_on s k t u) is in
-        either_later (fits server rank types u) (list_any (fits server rank types) us) (rest (omega (arith, more, none, some)) here permits)
+    regroup : (a b c d : Bool) → ((a || c) || (b || d)) ≡ ((a || b) || (c || d))
+    regroup a b c d = grind (arith, nat_tests)
 
-same_only_self : (t : Option ℕ) → same_only t t ≡ true
-same_only_self None = refl
-same_only_self (Some n) = eq-eqb n n refl
+any_and : {X : Type 0} (a : Bool) (p : X → Bool) (xs : List X) → list_any (λ x. a && p x) xs ≡ (a && list_any p xs)
+any_and true p xs = refl
+any_and false p [] = refl
+any_and false p (x ∷ xs) = any_and false p xs
 
-on_own : (server : Server) (u : Placed) → is_free_at server u.place ≡ true → is_on server.0 u.unit.kind.0 (only_of u.unit.target) u ≡ true
-on_own server u is =
-    both (is_free_at server u.place && (u.unit.kind.0 == u.unit.kind.0)) (same_only (only_of u.unit.target) (only_of u.unit.target)) (both (is_free_at server u.place) (u.unit.kind.0 == u.unit.kind.0) is (eq-eqb u.unit.kind.0 u.unit.kind.0 refl)) (same_only_self (only_of u.unit.target))
+any_never : {X : Type 0} (xs : List X) → list_any (λ x. false) xs ≡ false
+any_never [] = refl
+any_never (x ∷ xs) = any_never xs
 
--- a unit that fits is counted on a shelf that is permitted
-to_count : (server : Server) (rank : Rank) (types : Option (List WorkType)) (units : List Placed) → list_any (fits server rank types) units ≡ true → (k : ℕ) × (t : Option ℕ) × (0 < count_by (is_on server.0 k t) units) × (permitted rank types (record { 0 = k }) (target_of t) ≡ true)
-to_count server rank types [] some = absurd (cc)
-to_count server rank types (u ∷ us) some = by_test (to_count server rank types us) (fits server rank types u) refl
+-- of the pairs of two lists it is no matter which list is gone through first
+any_swap : {X Y : Type 0} (p : X → Y → Bool) (xs : List X) (ys : List Y) → list_any (λ x. list_any (p x) ys) xs ≡ list_any (λ y. list_any (λ x. p x y) xs) ys
+any_swap p [] ys = sym (any_never ys)
+any_swap p (x ∷ xs) ys = rw (any_swap p xs ys) (any_or (p x) (λ y. list_any (λ z. p z y) xs) ys)
+
+-- this is the key, if there is one
+abbrev is_key : {K : Type 0} → (K → K → Ordering) → Option K → K → Bool
+is_key cmp None q = false
+is_key cmp (Some key) q = is_at (cmp key) q
+
+counted_any : {K X : Type 0} (cmp : K → K → Ordering) (key_of : X → Option K) (q : K) (xs : List X) → nat_lt 0 (sum_by (λ x. one_at cmp (key_of x) q) xs) ≡ list_any (λ x. is_key cmp (key_of x) q) xs
+counted_any cmp key_of q [] = refl
+counted_any cmp key_of q (x ∷ xs) =
+    rw (sum_by-cons (λ y. one_at cmp (key_of y) q) x xs, ← counted_any cmp key_of q xs) (by_key (key_of x) (sum_by (λ y. one_at cmp (key_of y) q) xs))
   where
-    by_test : (list_any (fits server rank types) us ≡ true → (k : ℕ) × (t : Option ℕ) × (0 < count_by (is_on server.0 k t) us) × (permitted rank types (record { 0 = k }) (target_of t) ≡ true)) → (b : Bool) → fits server rank types u ≡ b → (k : ℕ) × (t : Option ℕ) × (0 < count_by (is_on server.0 k t) (u ∷ us)) × (permitted rank types (record { 0 = k }) (target_of t) ≡ true)
-    by_test rest true is =
-        let parts = and_parts (is_free_at server u.place) (permitted rank types u.unit.kind u.unit.target) is in
-        (u.unit.kind.0, only_of u.unit.target, rw (sum_by-cons (λ v. cond (is_on server.0 u.unit.kind.0 (only_of u.unit.target) v) 1 0) u us, on_own server u parts.0) (omega arith), rw (target_back u.unit.target) parts.1)
-    by_test rest false is =
-        let r = rest (rw is at some) in
-        (r.0, r.1, rw (sum_by-cons (λ v. cond (is_on server.0 r.0 r.1 v) 1 0) u us) (omega (arith, r.2)), r.3)
+    by_test : (b : Bool) (n : ℕ) → nat_lt 0 ((if b then 1 else 0) + n) ≡ (b || nat_lt 0 n)
+    by_test true n = grind (arith, nat_tests)
+    by_test false n = grind (arith, nat_tests)
 
--- a shelf that is kept and permitted shows a fit
-to_entry : (server : Server) (rank : Rank) (types : Option (List WorkType)) (es : List ((ℕ × ℕ × Option ℕ) × ℕ)) (k : ℕ) (t : Option ℕ) → 0 < unwrap_or (lookup (is_at (by_shelf (server.0, k, t))) es) 0 → permitted rank types (record { 0 = k }) (target_of t) ≡ true → list_any (shows_fit server rank types) es ≡ true
-to_entry server rank types [] k t some permits = absurd (omega (arith, some))
-to_entry server rank types (e ∷ es) k t some permits = by_test (to_entry server rank types es k t) (is_at (by_shelf (server.0, k, t)) e.0) refl
-  where
-    by_test : (0 < unwrap_or (lookup (is_at (by_shelf (server.0, k, t))) es) 0 → permitted rank types (record { 0 = k }) (target_of t) ≡ true → list_any (shows_fit server rank types) es ≡ true) → (b : Bool) → is_at (by_shelf (server.0, k, t)) e.0 ≡ b → list_any (shows_fit server rank types) (e ∷ es) ≡ true
-    by_test rest true is =
-        let here : ((server.0 == e.0.0) && (k == e.0.1) && same_only t e.0.2) ≡ true = sym (at_shelf server.0 k t e.0.0 e.0.1 e.0.2) ∙ is in
-        let parts = and_parts ((server.0 == e.0.0) && (k == e.0.1)) (same_only t e.0.2) here in
-        let more = and_parts (server.0 == e.0.0) (k == e.0.1) parts.0 in
-        let count : 0 < e.1 = rw is at some in
-        let shown : shows_fit server rank types e ≡ true =
-        both (nat_lt 0 e.1 && (e.0.0 == server.0)) (permitted rank types (record { 0 = e.0.1 }) (target_of e.0.2)) (both (nat_lt 0 e.1) (e.0.0 == server.0) (grind (arith, nat_tests)) (eq-eqb e.0.0 server.0 (sym (eqb-true server.0 e.0.0 more.0)))) (rw (← eqb-true k e.0.1 more.1, ← same_target t e.0.2 parts.1) permits) in
-        rw shown refl
-    by_test rest false is = either_later (shows_fit server rank types e) (list_any (shows_fit server rank types) es) (rest (rw is at some) permits)
+    by_key : (key : Option _) (n : ℕ) → nat_lt 0 (one_at cmp key q + n) ≡ (is_key cmp key q || nat_lt 0 n)
+    by_key None n = by_test false n
+    by_key (Some key) n = by_test (is_at (cmp key) q) n
 
--- a shelf that shows a fit has a unit that fits
-from_entries : (server : Server) (rank : Rank) (types : Option (List WorkType)) (free : FreeCounts) (units : List Placed) (es : List ((ℕ × ℕ × Option ℕ) × ℕ)) → IsCounted free units → All (λ e. get by_shelf free.held e.0 ≡ Some e.1) es → list_any (shows_fit server rank types) es ≡ true → list_any (fits server rank types) units ≡ true
-from_entries server rank types free units [] counted found some = absurd (cc)
-from_entries server rank types free units (e ∷ es) counted found some =
-    let P : (ℕ × ℕ × Option ℕ) × ℕ → Type 0 = λ e. get by_shelf free.held e.0 ≡ Some e.1 in
-    by_test (from_entries server rank types free units es counted (All-tail P e es found)) (All-head P e es found) (shows_fit server rank types e) refl
+-- a count shows whether one of the elements has the key
+shown : {K X : Type 0} (cmp : K → K → Ordering) (key_of : X → Option K) (tally : Tally K) (xs : List X) → IsTallyOf cmp key_of tally xs → (q : K) → nat_lt 0 (count_of cmp tally q) ≡ list_any (λ x. is_key cmp (key_of x) q) xs
+shown cmp key_of tally xs is q = rw (is.counts q) (counted_any cmp key_of q xs)
+
+shown_either : {K X : Type 0} (cmp : K → K → Ordering) (key_of : X → Option K) (tally : Tally K) (xs : List X) → IsTallyOf cmp key_of tally xs → (q r : K) → (nat_lt 0 (count_of cmp tally q) || nat_lt 0 (count_of cmp tally r)) ≡ list_any (λ x. is_key cmp (key_of x) q || is_key cmp (key_of x) r) xs
+shown_either cmp key_of tally xs is q r =
+    rw (shown cmp key_of tally xs is q, shown cmp key_of tally xs is r) (any_or (λ x. is_key cmp (key_of x) q) (λ x. is_key cmp (key_of x) r) xs)
+
+-- The keys of a unit.
+
+-- the unit is free on a shelf of the type, for any rank or for this one
+abbrev on_shelves : Server → Rank → WorkType → Placed → Bool
+on_shelves server rank kind u =
+    is_key by_shelf (free_key shelf_of u) (server.0, kind.0, None) || is_key by_shelf (free_key shelf_of u) (server.0, kind.0, Some rank.0)
+
+abbrev at_targets : Server → Rank → Placed → Bool
+at_targets server rank u =
+    is_key by_target (free_key target_of u) (server.0, None) || is_key by_target (free_key target_of u) (server.0, Some rank.0)
+
+shelves_are : (server : Server) (rank : Rank) (kind : WorkType) (u : Placed) → on_shelves server rank kind u ≡ (is_free_at server u.place && (is_for u.unit.target rank && (kind.0 == u.unit.kind.0)))
+shelves_are server rank kind u = by_place u.place refl
   where
-    by_test : (list_any (shows_fit server rank types) es ≡ true → list_any (fits server rank types) units ≡ true) → get by_shelf free.held e.0 ≡ Some e.1 → (b : Bool) → shows_fit server rank types e ≡ b → list_any (fits server rank types) units ≡ true
-    by_test rest there true is =
-        let parts = and_parts (nat_lt 0 e.1 && (e.0.0 == server.0)) (permitted rank types (record { 0 = e.0.1 }) (target_of e.0.2)) is in
-        let more = and_parts (nat_lt 0 e.1) (e.0.0 == server.0) parts.0 in
-        let count : count_at free e.0.0 e.0.1 e.0.2 ≡ e.1 = rw there refl in
-        let some : 0 < e.1 = grind (arith, nat_tests) in
-        from_count server rank types units e.0.0 e.0.1 e.0.2 (omega (arith, counted.counts e.0.0 e.0.1 e.0.2, count, some)) (eqb-true e.0.0 server.0 more.1) parts.1
-    by_test rest there false is = rest (rw is at some)
+    by_target : (at : Server) (target : Target) → u.place ≡ Free at → u.unit.target ≡ target → on_shelves server rank kind u ≡ (is_free_at server u.place && (is_for u.unit.target rank && (kind.0 == u.unit.kind.0)))
+    by_target at Any is also = rw (is, also) (grind (arith, nat_tests))
+    by_target at (Only only) is also = rw (is, also) (grind (arith, nat_tests))
+
+    by_place : (place : UnitPlace) → u.place ≡ place → on_shelves server rank kind u ≡ (is_free_at server u.place && (is_for u.unit.target rank && (kind.0 == u.unit.kind.0)))
+    by_place (Free at) is = by_target at u.unit.target is refl
+    by_place (Travelling at) is = rw is refl
+    by_place (Pinned at to) is = rw is refl
+    by_place Spent is = rw is refl
+
+targets_are : (server : Server) (rank : Rank) (u : Placed) → at_targets server rank u ≡ (is_free_at server u.place && (is_for u.unit.target rank && true))
+targets_are server rank u = by_place u.place refl
+  where
+    by_aim : (at : Server) (target : Target) → u.place ≡ Free at → u.unit.target ≡ target → at_targets server rank u ≡ (is_free_at server u.place && (is_for u.unit.target rank && true))
+    by_aim at Any is also = rw (is, also) (grind (arith, nat_tests))
+    by_aim at (Only only) is also = rw (is, also) (grind (arith, nat_tests))
+
+    by_place : (place : UnitPlace) → u.place ≡ place → at_targets server rank u ≡ (is_free_at server u.place && (is_for u.unit.target rank && true))
+    by_place (Free at) is = by_aim at u.unit.target is refl
+    by_place (Travelling at) is = rw is refl
+    by_place (Pinned at to) is = rw is refl
+    by_place Spent is = rw is refl
+
+-- a listed type is that of a unit that fits
+listed_are : (server : Server) (rank : Rank) (kinds : List WorkType) (u : Placed) → list_any (λ kind. on_shelves server rank kind u) kinds ≡ (is_free_at server u.place && permitted rank (Some kinds) u.unit.kind u.unit.target)
+listed_are server rank kinds u =
+    any_same (λ kind. on_shelves server rank kind u) (λ kind. is_free_at server u.place && (is_for u.unit.target rank && (kind.0 == u.unit.kind.0))) (λ kind. shelves_are server rank kind u) kinds
+    ∙ any_and (is_free_at server u.place) (λ kind. is_for u.unit.target rank && (kind.0 == u.unit.kind.0)) kinds
+    ∙ ap (λ b. is_free_at server u.place && b) (any_and (is_for u.unit.target rank) (λ kind. kind.0 == u.unit.kind.0) kinds)
 
 -- what the counts show is what the units have
-pub fit_shown : (server : Server) (rank : Rank) (types : Option (List WorkType)) (free : FreeCounts) (units : List Placed) → IsCounted free units → All (λ e. get by_shelf free.held e.0 ≡ Some e.1) free.held.entries → list_any (shows_fit server rank types) free.held.entries ≡ list_any (fits server rank types) units
-fit_shown server rank types free units counted found =
-    same_test (list_any (shows_fit server rank types) free.held.entries) (list_any (fits server rank types) units) (from_entries server rank types free units free.held.entries counted found) (λ some.
-    let r = to_count server rank types units some in
-    to_entry server rank types free.held.entries r.0 r.1 (omega (arith, counted.counts server.0 r.0 r.1, r.2)) r.3)
+pub fit_shown : (free : FreeCounts) (units : List Placed) → IsCounted free units → (server : Server) (rank : Rank) (types : Option (List WorkType)) → shows_fit free server rank types ≡ list_any (λ u. is_free_at server u.place && permitted rank types u.unit.kind u.unit.target) units
+fit_shown free units is server rank None =
+    shown_either by_target (free_key target_of) free.targets units is.targets (server.0, None) (server.0, Some rank.0)
+    ∙ any_same (at_targets server rank) (λ u. is_free_at server u.place && permitted rank None u.unit.kind u.unit.target) (targets_are server rank) units
+fit_shown free units is server rank (Some kinds) =
+    any_same (shows_fit_of free server rank) (λ kind. list_any (on_shelves server rank kind) units) (λ kind. shown_either by_shelf (free_key shelf_of) free.shelves units is.shelves (server.0, kind.0, None) (server.0, kind.0, Some rank.0)) kinds
+    ∙ any_swap (on_shelves server rank) kinds units
+    ∙ any_same (λ u. list_any (λ kind. on_shelves server rank kind u) kinds) (λ u. is_free_at server u.place && permitted rank (Some kinds) u.unit.kind u.unit.target) (listed_are server rank kinds) units

@@ -4,7 +4,9 @@ pub mod Fitting
 pub mod Ids
 pub mod PartsKept
 pub mod Placing
-pub mod Shelving
 pub mod Slots
 pub mod Summing
+pub mod Tallying
+pub mod Telling
+pub mod Topping
 pub mod UnitsKept

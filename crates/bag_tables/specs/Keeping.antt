@@ -3,7 +3,6 @@ use Rattle.std.specs.Prelude.{ℕ, ◌≡◌, List, length, count_by, position, 
 use Rattle.adlb_unit.specs.declared.names.Server.{Server}
 use Rattle.adlb_unit.specs.declared.names.UnitId.{UnitId}
 use Rattle.adlb_unit.specs.declared.names.BatchId.{BatchId}
-use Rattle.adlb_unit.specs.declared.units.Unit.{Unit}
 use Rattle.bag_ledger.specs.declared.states.Placed.{Placed}
 use Rattle.bag_ledger.specs.declared.states.Part.{Part}
 use Rattle.bag_ledger.specs.declared.states.UnitPlace.{UnitPlace}
@@ -14,7 +13,6 @@ use Rattle.bag_tables.specs.declared.charges.Charges.{Charges}
 use Rattle.bag_tables.specs.declared.counts.FreeCounts.{FreeCounts}
 use Rattle.bag_tables.specs.Places.{place_at}
 use Rattle.bag_tables.specs.Charges.{IsSummed}
-use Rattle.bag_tables.specs.Shelves.{only_of}
 use Rattle.bag_tables.specs.Counted.{IsCounted}
 
 -- the server that is charged with a unit at this place
@@ -22,11 +20,6 @@ abbrev pub held_at : UnitPlace → Option Server
 held_at (Free server) = Some server
 held_at (Pinned server rank) = Some server
 held_at _ = None
-
--- the shelf on which a unit at this place is free
-abbrev pub free_on : UnitPlace → Unit → Option (ℕ × ℕ × Option ℕ)
-free_on (Free server) unit = Some (server.0, unit.kind.0, only_of unit.target)
-free_on _ unit = None
 
 -- the server that is charged with a common part
 abbrev pub kept_at : Part → Option Server

@@ -3,6 +3,7 @@ pub mod Charges
 pub mod Counted
 pub mod Found
 pub mod Keeping
+pub mod Keys
 pub mod Places
-pub mod Shelves
 pub mod Standing
+pub mod Tallies

@@ -1,26 +1,14 @@
-//! How many units are free, by server, type and target.
+//! How many units are free, by what is asked of them.
 
-ghost use Rattle.std.specs.Prelude.{◌≡◌, ◌+◌, ◌<◌, ◌≤◌, ◌^◌, ◌==◌, ◌&&◌, ℕ, Option, OnOk, OnErr, All, IsSome, Some, None, nat_lt};
+ghost use Rattle.std.specs.Prelude.{◌≡◌, OnOk, OnErr, MatchOption, Some, None, []};
 ghost use Rattle.std.specs.List.{list_any};
-ghost use Rattle.std.specs.BTreeMap.{get};
-ghost use Rattle.adlb_unit.specs.Permit.{permitted};
-ghost use Rattle.bag_tables.specs.Shelves.{by_shelf, only_of, target_of};
-ghost use Rattle.bag_tables.specs.Counted.{count_at, on_any, on_shelf};
+ghost use Rattle.bag_tables.specs.Counted.{AreHeld, AreShifted, AreTight, HasNoTop, HaveRoom, IsCounted, IsTold, IsTop, shows_fit, shows_fit_of};
+ghost use Rattle.bag_tables.specs.Keys.{kind_of, only_of, prio_of, shelf_of, target_of};
 
-use adlb_unit::{NoMemory, Rank, Server, Target, Types, Unit, WorkType, permits};
+use crate::tallies::Tally;
+use adlb_unit::{Info, NoMemory, Rank, Server, Target, Types, Unit, WorkType};
 use std::alloc::Global;
-use std::collections::BTreeMap;
-
-// A shelf: a server, a type, and the rank that the target names.
-pub(crate) type Shelf = (u32, u32, Option<u32>);
-
-// The shelf on which the unit is while it is free at the server.
-pub(crate) fn shelf_of(server: Server, unit: &Unit) -> Shelf
-    ensures { result ≡ (server.0, unit.now.kind.0, only_of unit.now.target) }
-{
-    let only = only_of(unit.target);
-    (server.0, unit.kind.0, only)
-}
+use std::cmp::Reverse;
 
 // The rank that a target names.
 fn only_of(target: Target) -> Option<u32>
@@ -32,110 +20,182 @@ fn only_of(target: Target) -> Option<u32>
     }
 }
 
-fn target_of(only: Option<u32>) -> Target
-    ensures { result ≡ target_of only }
+// The keys by which a unit is counted while it is free at the server.
+
+fn shelf_of(server: Server, unit: &Unit) -> (u32, u32, Option<u32>)
+    ensures { result ≡ shelf_of server unit.now }
 {
-    match only {
-        None => Target::Any,
-        Some(rank) => Target::Only(Rank(rank)),
-    }
+    (server.0, unit.kind.0, only_of(unit.target))
 }
 
-/// How many units are free on each shelf: the free units of one type and one target at one server. A shelf where none
-/// is free takes no room.
+fn target_of(server: Server, unit: &Unit) -> (u32, Option<u32>)
+    ensures { result ≡ target_of server unit.now }
+{
+    (server.0, only_of(unit.target))
+}
+
+fn kind_of(server: Server, unit: &Unit) -> (u32, u32)
+    ensures { result ≡ kind_of server unit.now }
+{
+    (server.0, unit.kind.0)
+}
+
+fn prio_of(server: Server, unit: &Unit) -> (u32, u32, Option<Reverse<i32>>)
+    ensures { result ≡ prio_of server unit.now }
+{
+    (server.0, unit.kind.0, Some(Reverse(unit.prio)))
+}
+
+/// How many units are free: by server, type and target; by server and target; by server and type; by server, type and
+/// priority. A target is the rank that it names, if it names one. Priorities stand from the highest on, and before them stands
+/// `None`, from which a search of them begins.
 #[derive(Drop)]
 pub struct FreeCounts {
-    held: BTreeMap<(u32, u32, Option<u32>), u64>,
+    shelves: Tally<(u32, u32, Option<u32>)>,
+    targets: Tally<(u32, Option<u32>)>,
+    kinds: Tally<(u32, u32)>,
+    prios: Tally<(u32, u32, Option<Reverse<i32>>)>,
 }
 
 impl FreeCounts {
     pub(crate) fn new(alloc: Global) -> FreeCounts
-        ensures { (s k : ℕ) (t : Option ℕ) → count_at result s k t ≡ 0 }
+        ensures { IsCounted result [] }
     {
         FreeCounts {
-            held: BTreeMap::new(alloc),
+            shelves: Tally::new(alloc),
+            targets: Tally::new(alloc),
+            kinds: Tally::new(alloc),
+            prios: Tally::new(alloc),
         }
     }
 
-    // Makes room on a shelf for one unit more.
-    pub(crate) fn ready(&mut self, shelf: Shelf) -> Result<(), NoMemory>
-        ensures ready { OnOk result (IsSome (get by_shelf self.new.held shelf)) }
-        ensures same { (s k : ℕ) (t : Option ℕ) → count_at self.new s k t ≡ count_at self.old s k t }
+    // One unit more is free at the server.
+    pub(crate) fn raise(&mut self, server: Server, unit: &Unit) -> Result<(), NoMemory>
+        requires tight { AreTight self.old }
+        requires room { HaveRoom self.old }
+        ensures raised { OnOk result (AreShifted self.old self.new None (Some server) unit.now) }
+        ensures kept { OnErr result (AreShifted self.old self.new None None unit.now) }
     {
-        if self.held.contains_key(&shelf) {
-            return Ok(());
+        let shelf = shelf_of(server, unit);
+        let target = target_of(server, unit);
+        let kind = kind_of(server, unit);
+        self.shelves.raise(shelf)?;
+        if let Err(fault) = self.targets.raise(target) {
+            self.shelves.lower(shelf);
+            return Err(fault);
         }
-        match self.held.insert(shelf, 0) {
-            Ok(_) => Ok(()),
-            Err(_) => Err(NoMemory),
+        if let Err(fault) = self.kinds.raise(kind) {
+            self.shelves.lower(shelf);
+            self.targets.lower(target);
+            return Err(fault);
         }
-    }
-
-    // One unit more is free on a shelf that has room.
-    pub(crate) fn raise(&mut self, shelf: Shelf)
-        requires ready { IsSome (get by_shelf self.old.held shelf) }
-        requires room { count_at self.old shelf.0 shelf.1 shelf.2 + 1 < 2 ^ 64 }
-        ensures { (s k : ℕ) (t : Option ℕ) → count_at self.new s k t ≡ count_at self.old s k t + on_shelf shelf s k t }
-    {
-        if let Some(n) = self.held.get_mut(&shelf) {
-            *n += 1;
-        }
-    }
-
-    // One unit less is free on a shelf.
-    pub(crate) fn lower(&mut self, shelf: Shelf)
-        requires { 0 < count_at self.old shelf.0 shelf.1 shelf.2 }
-        ensures { (s k : ℕ) (t : Option ℕ) → count_at self.new s k t + on_shelf shelf s k t ≡ count_at self.old s k t }
-    {
-        if self.count(shelf) <= 1 {
-            self.held.remove(&shelf);
-        } else {
-            self.take_one(shelf);
-        }
-    }
-
-    // One unit is free on one shelf no longer and on another from now on; either may be none.
-    pub(crate) fn shift(&mut self, from: Option<Shelf>, to: Option<Shelf>) -> Result<(), NoMemory>
-        requires held { (s k : ℕ) (t : Option ℕ) → on_any from s k t ≤ count_at self.old s k t }
-        requires room { (s k : ℕ) (t : Option ℕ) → count_at self.old s k t + 1 < 2 ^ 64 }
-        ensures shifted { OnOk result ((s k : ℕ) (t : Option ℕ) → count_at self.new s k t + on_any from s k t ≡ count_at self.old s k t + on_any to s k t) }
-        ensures kept { OnErr result ((s k : ℕ) (t : Option ℕ) → count_at self.new s k t ≡ count_at self.old s k t) }
-    {
-        if let Some(shelf) = to {
-            self.ready(shelf)?;
-            self.raise(shelf);
-        }
-        if let Some(shelf) = from {
-            self.lower(shelf);
+        if let Err(fault) = self.prios.raise(prio_of(server, unit)) {
+            self.shelves.lower(shelf);
+            self.targets.lower(target);
+            self.kinds.lower(kind);
+            return Err(fault);
         }
         Ok(())
     }
 
-    fn count(&self, shelf: Shelf) -> u64
-        ensures { result ≡ count_at self.now shelf.0 shelf.1 shelf.2 }
+    // One unit less is free at the server.
+    pub(crate) fn lower(&mut self, server: Server, unit: &Unit)
+        requires tight { AreTight self.old }
+        requires held { AreHeld self.old (Some server) unit.now }
+        ensures { AreShifted self.old self.new (Some server) None unit.now }
     {
-        match self.held.get(&shelf) {
-            Some(n) => *n,
-            None => 0,
-        }
+        self.shelves.lower(shelf_of(server, unit));
+        self.targets.lower(target_of(server, unit));
+        self.kinds.lower(kind_of(server, unit));
+        self.prios.lower(prio_of(server, unit));
     }
 
-    fn take_one(&mut self, shelf: Shelf)
-        requires { 0 < count_at self.old shelf.0 shelf.1 shelf.2 }
-        ensures { (s k : ℕ) (t : Option ℕ) → count_at self.new s k t + on_shelf shelf s k t ≡ count_at self.old s k t }
+    // The unit is free at one server no longer and at another from now on; either may be none.
+    pub(crate) fn shift(
+        &mut self,
+        from: Option<Server>,
+        to: Option<Server>,
+        unit: &Unit,
+    ) -> Result<(), NoMemory>
+        requires tight { AreTight self.old }
+        requires held { AreHeld self.old from unit.now }
+        requires room { HaveRoom self.old }
+        ensures shifted { OnOk result (AreShifted self.old self.new from to unit.now) }
+        ensures kept { OnErr result (AreShifted self.old self.new None None unit.now) }
     {
-        if let Some(n) = self.held.get_mut(&shelf) {
-            *n -= 1;
+        if let Some(server) = to {
+            self.raise(server, unit)?;
         }
+        if let Some(server) = from {
+            self.lower(server, unit);
+        }
+        Ok(())
+    }
+
+    // Some unit of the type for any rank or for this one is free at the server.
+    fn has_fit_of(&self, server: Server, rank: Rank, kind: WorkType) -> bool
+        ensures { result ≡ shows_fit_of self.now server rank kind }
+    {
+        self.shelves.count((server.0, kind.0, None)) > 0
+            || self.shelves.count((server.0, kind.0, Some(rank.0))) > 0
+    }
+
+    // The same of the types of a list.
+    fn has_fit_among(&self, server: Server, rank: Rank, kinds: &[WorkType]) -> bool
+        ensures { result ≡ list_any (shows_fit_of self.now server rank) kinds.now }
+    {
+        kinds
+            .iter()
+            .any(|kind| self.has_fit_of(server, rank, *kind))
     }
 
     // Some unit that is permitted to the rank with these types is free at the server.
     pub(crate) fn has_fit(&self, server: Server, rank: Rank, types: &Types) -> bool
-        ensures fits { result ≡ list_any (λ e. nat_lt 0 e.1 && (e.0.0 == server.0) && permitted rank types.now (record { 0 = e.0.1 }) (target_of e.0.2)) self.now.held.entries }
-        ensures found { All (λ e. get by_shelf self.now.held e.0 ≡ Some e.1) self.now.held.entries }
+        ensures { result ≡ shows_fit self.now server rank types.now }
     {
-        self.held.iter().any(|(shelf, n)| 0 < *n
-            && shelf.0 == server.0
-            && permits(rank, types, WorkType(shelf.1), target_of(shelf.2)))
+        match types.kinds() {
+            None => {
+                self.targets.count((server.0, None)) > 0
+                    || self.targets.count((server.0, Some(rank.0))) > 0
+            }
+            Some(kinds) => self.has_fit_among(server, rank, kinds),
+        }
+    }
+
+    // The highest priority of a unit of the type that is free at the server, and how many have it.
+    fn top(&self, server: Server, kind: WorkType) -> Option<(i32, u64)>
+        requires { AreTight self.now }
+        ensures { MatchOption result (HasNoTop self.now server kind) (IsTop self.now server kind) }
+    {
+        let Some(((at, of, prio), n)) = self.prios.first_after((server.0, kind.0, None)) else {
+            return None;
+        };
+        if at != server.0 || of != kind.0 {
+            return None;
+        }
+        match prio {
+            Some(Reverse(top)) => Some((top, n)),
+            None => None,
+        }
+    }
+
+    // What the counts tell of the units of the type that are free at the server.
+    pub(crate) fn info(&self, server: Server, kind: WorkType) -> Info
+        requires { AreTight self.now }
+        ensures { IsTold self.now server kind result }
+    {
+        let free = self.kinds.count((server.0, kind.0));
+        match self.top(server, kind) {
+            None => Info {
+                free,
+                top: None,
+                at_top: 0,
+            },
+            Some((top, at_top)) => Info {
+                free,
+                top: Some(top),
+                at_top,
+            },
+        }
     }
 }

@@ -13,6 +13,7 @@ mod places;
 mod promises;
 mod ranks;
 pub mod reading;
+mod tallies;
 mod units;
 
 pub use changes::{PartChange, RankChange};

@@ -1,7 +1,6 @@
 //! The accepted units.
 
-ghost use Rattle.std.specs.Prelude.{◌≡◌, ◌==◌, ◌&&◌, ◌+◌, ◌<◌, ◌++◌, ◌∷◌, [], IfOk, OnOk, OnErr, MatchOption, None, Some, length, map, filter, find, sum_by, count_by, fold, int_le, slice_set, slice_index_or};
-ghost use Rattle.std.specs.Int.{int_max};
+ghost use Rattle.std.specs.Prelude.{◌≡◌, ◌==◌, ◌&&◌, ◌+◌, ◌<◌, ◌++◌, ◌∷◌, [], IfOk, OnOk, OnErr, MatchOption, None, Some, length, map, filter, find, sum_by};
 ghost use Rattle.std.specs.List.{list_any};
 ghost use Rattle.adlb_unit.specs.Permit.{permitted};
 ghost use Rattle.bag_ledger.specs.Bag.{same_unit, unit_charge, is_free, is_free_at, is_travelling, info_of_prios};
@@ -11,22 +10,22 @@ ghost use Rattle.bag_ledger.specs.declared.states.UnitPlace.TheVariants.{Free};
 ghost use Rattle.bag_tables.specs.Charges.{IsSummed};
 ghost use Rattle.bag_tables.specs.Counted.{IsCounted};
 ghost use Rattle.bag_tables.specs.Found.{IsAbsent, IsFoundAt};
-ghost use Rattle.bag_tables.specs.Keeping.{held_at, free_on, unit_weight, unit_size};
+ghost use Rattle.bag_tables.specs.Keeping.{held_at, unit_weight, unit_size};
+ghost use Rattle.bag_tables.specs.Keys.{free_server};
 
 use crate::charges::{Charges, left_of};
-use crate::counts::{FreeCounts, Shelf, shelf_of};
+use crate::counts::FreeCounts;
 use crate::places::Places;
-use crate::reading::{is_free, is_free_at, is_travelling};
+use crate::reading::{is_free, is_travelling};
 use adlb_unit::{Info, NoMemory, Rank, Server, Types, Unit, UnitId, WorkType, permits};
 use bag_ledger::{Placed, UnitPlace};
-use std::alloc::{AllocError, Global};
+use std::alloc::Global;
 use std::marker::Model;
 
 /// The accepted units, in order, seen as their list. A unit is found by its id, a server's charge is a sum that is kept, and
-/// the free units are counted by server, type and target.
+/// the free units are counted by what is asked of them.
 #[derive(Drop)]
 pub struct Units {
-    alloc: Global,
     held: Vec<Placed>,
     places: Places,
     charges: Charges,
@@ -52,7 +51,6 @@ impl Units {
         ensures { result ≡ [] }
     {
         Units {
-            alloc,
             held: Vec::new(alloc),
             places: Places::new(alloc),
             charges: Charges::new(),
@@ -84,13 +82,14 @@ impl Units {
         let id = unit.id;
         let at = self.held.len();
         let n = unit.body.len() as u64;
-        let shelf = shelf_of(server, &unit);
         if self.held.reserve(1).is_err() {
             return Err(NoMemory);
         }
-        self.free.ready(shelf)?;
-        self.places.note(id.rank.0, id.number, at)?;
-        self.free.raise(shelf);
+        self.free.raise(server, &unit)?;
+        if let Err(fault) = self.places.note(id.rank.0, id.number, at) {
+            self.free.lower(server, &unit);
+            return Err(fault);
+        }
         self.charges.shift(None, Some(server), n);
         let place = UnitPlace::Free(server);
         self.held.push_reserved(Placed { unit, place });
@@ -116,9 +115,8 @@ impl Units {
         left_of(&self.charges, server, room)
     }
 
-    /// A unit free at the server is permitted to the rank with these types. It looks at each shelf that has a free unit, at all
-    /// servers: as many as there are triples of a server, a type and a target of which a unit is free, which are no more than
-    /// the free units.
+    /// A unit free at the server is permitted to the rank with these types. It looks up two counts for each type that is listed,
+    /// or two where any is wanted.
     pub fn has_fit_at(&self, server: Server, rank: Rank, types: &Types) -> bool
         ensures { result ≡ list_any (λ u. is_free_at server u.place && permitted rank types.now u.unit.kind u.unit.target) self.now }
     {
@@ -140,15 +138,12 @@ impl Units {
         self.held.iter().any(|u| is_travelling(u.place))
     }
 
-    /// What a count of the units of the type that are free at the server tells. It looks at each unit, and fails for want of
-    /// memory alone.
-    pub fn info(&self, server: Server, kind: WorkType) -> Result<Info, NoMemory>
-        ensures { IfOk result (λ info. info ≡ info_of_prios (map (λ u. u.unit.prio) (filter (λ u. is_free_at server u.place && (u.unit.kind.0 == kind.0)) self.now))) }
+    /// What a count of the units of the type that are free at the server tells. It looks up one count, and searches for the
+    /// highest priority once.
+    pub fn info(&self, server: Server, kind: WorkType) -> Info
+        ensures { result ≡ info_of_prios (map (λ u. u.unit.prio) (filter (λ u. is_free_at server u.place && (u.unit.kind.0 == kind.0)) self.now)) }
     {
-        match prios(self.alloc, self.held.as_slice(), server, kind) {
-            Ok(prios) => Ok(info_of(prios.as_slice())),
-            Err(_) => Err(NoMemory),
-        }
+        self.free.info(server, kind)
     }
 }
 
@@ -163,12 +158,12 @@ fn held_at(place: UnitPlace) -> Option<Server>
     }
 }
 
-// The shelf on which the unit at this place is free.
-fn free_on(place: UnitPlace, unit: &Unit) -> Option<Shelf>
-    ensures { result ≡ free_on place unit.now }
+// The server at which a unit at this place is free.
+fn free_server(place: UnitPlace) -> Option<Server>
+    ensures { result ≡ free_server place }
 {
     match place {
-        UnitPlace::Free(server) => Some(shelf_of(server, unit)),
+        UnitPlace::Free(server) => Some(server),
         _ => None,
     }
 }
@@ -201,65 +196,10 @@ fn move_at(
     let unit = &units[at];
     let n = unit.unit.body.len() as u64;
     let from = unit.place;
-    let old_shelf = free_on(from, &unit.unit);
-    let new_shelf = free_on(place, &unit.unit);
-    free.shift(old_shelf, new_shelf)?;
+    let old_server = free_server(from);
+    let new_server = free_server(place);
+    free.shift(old_server, new_server, &unit.unit)?;
     charges.shift(held_at(from), held_at(place), n);
     put_at(units, at, place);
     Ok(())
-}
-
-// The priorities of the units of the type that are free at the server.
-fn prios(
-    alloc: Global,
-    units: &[Placed],
-    server: Server,
-    kind: WorkType,
-) -> Result<Vec<i32>, AllocError>
-    ensures { IfOk result (λ prios. prios.items ≡ map (λ u. u.unit.prio) (filter (λ u. is_free_at server u.place && (u.unit.kind.0 == kind.0)) units.now)) }
-{
-    units
-        .iter()
-        .filter(|u| is_free_at(u.place, server) && u.unit.kind.0 == kind.0)
-        .map(|u| u.unit.prio)
-        .collect(alloc)
-}
-
-// What is told of units with these priorities.
-fn info_of(prios: &[i32]) -> Info
-    ensures { result ≡ info_of_prios prios.now }
-{
-    match prios {
-        [] => Info {
-            free: 0,
-            top: None,
-            at_top: 0,
-        },
-        [first, rest @ ..] => {
-            let top = top_of(*first, rest);
-            Info {
-                free: prios.len() as u64,
-                top: Some(top),
-                at_top: count_from(prios, top),
-            }
-        }
-    }
-}
-
-// The highest of these priorities.
-fn top_of(first: i32, rest: &[i32]) -> i32
-    ensures { result ≡ fold int_max first rest.now }
-{
-    let mut top = first;
-    for prio in rest {
-        top = top.max(*prio);
-    }
-    top
-}
-
-// How many of these priorities are not below this one.
-fn count_from(prios: &[i32], top: i32) -> u64
-    ensures { result ≡ count_by (int_le top) prios.now }
-{
-    prios.iter().filter(|prio| top <= **prio).count() as u64
 }

@@ -14,9 +14,9 @@ use std::alloc::Global;
 /// leave, counted from 0; nothing exactly where the ledger is a legal run. So it is the least such place. It fails for want of
 /// memory alone.
 ///
-/// A ledger of n entries takes time within n log n and room within n, but for entries that look at more than one thing: each
-/// `Looked` looks at the shelves that have a free unit (the free units of one type and one target at one server), each
-/// `Counted` at all accepted units, and `Exhausted`, which is legal once, at all units for each rank and at all promises.
+/// A ledger of n entries takes time within n log n and room within n. Each entry looks a few things up by their ids, and
+/// `Looked` and `Counted` look counts up: two for each type that the rank wants, of which there are 16 at most, or two in all.
+/// `Exhausted` alone, which is legal once, looks at all units for each rank, of which there are 32 at most, and at all promises.
 pub fn first_illegal(
     alloc: Global,
     ledger: &Ledger,

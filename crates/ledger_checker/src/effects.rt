@@ -394,7 +394,7 @@ impl Machine {
         if !self.in_turn(entry) {
             return Ok(false);
         }
-        if !self.is_legal(entry)? {
+        if !self.is_legal(entry) {
             return Ok(false);
         }
         self.follow(entry)?;

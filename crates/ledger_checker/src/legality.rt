@@ -1,6 +1,6 @@
 //! Where an entry is legal.
 
-ghost use Rattle.std.specs.Prelude.{◌≡◌, ◌==◌, ◌&&◌, ◌%◌, ◌+◌, ◌≤◌, IfOk, is_none, not, nat_lt, length, true};
+ghost use Rattle.std.specs.Prelude.{◌≡◌, ◌==◌, ◌&&◌, ◌%◌, ◌+◌, ◌≤◌, is_none, not, nat_lt, length, true};
 ghost use Rattle.adlb_unit.specs.Permit.{permitted};
 ghost use Rattle.bag_ledger.specs.declared.entries.Entry.TheVariants.{Putting, Refused, Accepted, Rejected, Keeping, Kept, Closing, Closed, Freed, Asked, Tried, Granted, Looked, NoCurrent, Fetching, Fetched, CommonFetched, Promised, Left, Arrived, Withdrawn, Counting, Counted, Done, Exhausted, Over, Finished};
 ghost use Rattle.bag_ledger.specs.Bag.{rank_at, unit_of, part_of, promise_of, putting, keeping, offer, wish, open_call, has_declined, all_declined, charge, is_due, is_free_at, is_placed_at, is_travelling, same_unit, has_fit_at, info_of};
@@ -8,7 +8,7 @@ ghost use Rattle.bag_ledger.specs.Step.{has, begins, anything, fits, is_closing,
 ghost use Rattle.bag_ledger.specs.Steps.{has_cause, in_turn};
 
 use crate::machines::Machine;
-use adlb_unit::{BatchId, End, Info, NoMemory, Rank, Server, Types, UnitId, permits};
+use adlb_unit::{BatchId, End, Info, Rank, Server, Types, UnitId, permits};
 use bag_ledger::{Entry, Placed, RankState, Status};
 use bag_tables::reading::{
     begins, counting, fetching, is_closing, is_due, is_free_at, is_of, is_over, is_pinned,
@@ -419,34 +419,24 @@ impl Machine {
         self.is_server(server) && server.0 == rank.0 % self.servers()
     }
 
-    fn counts(
-        &self,
-        r: &RankState,
-        server: Server,
-        rank: Rank,
-        call: u64,
-        info: Info,
-    ) -> Result<bool, NoMemory>
-        ensures { IfOk result (λ it. it ≡ has (counting r.now.status) (λ c. (c.0 == call) && is_server self.now server && (server.0 == (rank.0 % self.now.servers)) && same_info info (info_of self.now server c.1))) }
+    fn counts(&self, r: &RankState, server: Server, rank: Rank, call: u64, info: Info) -> bool
+        ensures { result ≡ has (counting r.now.status) (λ c. (c.0 == call) && is_server self.now server && (server.0 == (rank.0 % self.now.servers)) && same_info info (info_of self.now server c.1)) }
     {
-        let Some((pending, kind)) = counting(r) else {
-            return Ok(false);
-        };
-        if !same_number(pending, call) {
-            return Ok(false);
+        match counting(r) {
+            None => false,
+            Some((pending, kind)) => {
+                same_number(pending, call)
+                    && self.is_home(server, rank)
+                    && same_info(info, self.info(server, kind))
+            }
         }
-        if !self.is_home(server, rank) {
-            return Ok(false);
-        }
-        let told = self.info(server, kind)?;
-        Ok(same_info(info, told))
     }
 
-    fn may_count(&self, server: Server, rank: Rank, call: u64, info: Info) -> Result<bool, NoMemory>
-        ensures { IfOk result (λ it. it ≡ legal self.now (Counted server rank call info)) }
+    fn may_count(&self, server: Server, rank: Rank, call: u64, info: Info) -> bool
+        ensures { result ≡ legal self.now (Counted server rank call info) }
     {
         match self.rank(rank) {
-            None => Ok(false),
+            None => false,
             Some(r) => self.counts(r, server, rank, call, info),
         }
     }
@@ -489,11 +479,11 @@ impl Machine {
 // Any entry.
 impl Machine {
     // The entry is legal, but for parts that are due.
-    pub(crate) fn is_legal(&self, entry: &Entry) -> Result<bool, NoMemory>
+    pub(crate) fn is_legal(&self, entry: &Entry) -> bool
         requires { length self.now.ranks ≤ 32 }
-        ensures { IfOk result (λ it. it ≡ legal self.now entry.now) }
+        ensures { result ≡ legal self.now entry.now }
     {
-        Ok(match entry {
+        match entry {
             Entry::Putting { rank, call, .. } => self.may_begin(*rank, *call),
             Entry::Refused { server, id, used } => self.may_refuse(*server, *id, *used),
             Entry::Accepted { server, id } => self.may_accept(*server, *id),
@@ -530,12 +520,12 @@ impl Machine {
                 rank,
                 call,
                 info,
-            } => { self.may_count(*server, *rank, *call, *info)? }
+            } => { self.may_count(*server, *rank, *call, *info) }
             Entry::Done { rank, call } => self.may_begin(*rank, *call),
             Entry::Exhausted => self.may_exhaust(),
             Entry::Over { rank, call, end } => self.may_end(*rank, *call, *end),
             Entry::Finished { rank, call } => self.may_begin_outside(*rank, *call),
-        })
+        }
     }
 
     // Where a part is due, the entry frees one.

@@ -154,8 +154,8 @@ impl Machine {
     }
 
     // What a count of the type at the server tells.
-    pub(crate) fn info(&self, server: Server, kind: WorkType) -> Result<Info, NoMemory>
-        ensures { IfOk result (λ info. info ≡ info_of self.now server kind) }
+    pub(crate) fn info(&self, server: Server, kind: WorkType) -> Info
+        ensures { result ≡ info_of self.now server kind }
     {
         self.units.info(server, kind)
     }

@@ -1,10 +1,19 @@
-use Rattle.std.proofs.Common.{◌==◌, ◌&&◌, ◌+◌, sym}
-use Rattle.std.specs.BTreeMap.{get}
-use Rattle.bag_tables.specs.Shelves.{by_shelf, same_only}
-use Rattle.bag_tables.proofs.Shelving.{at_shelf, same_shelf, count_raised}
+use Rattle.bag_tables.specs.Keys.{by_prio}
+use Rattle.bag_tables.proofs.Tallying.{shifted_back, unshifted}
 use Rattle.bag_tables.proofs.counts.FreeCounts.raise.Goals as goal
 
-pub returns-in-Some : goal.returns-in-Some
-returns-in-Some c = λ s k t.
-    let updates = (c.get_mut.follows.holds (c.in-Some.n.now + 1)).3 c.requires.ready in
-    rw (updates.0 (s, k, t), at_shelf c.args.shelf.0 c.args.shelf.1 c.args.shelf.2 s k t) (count_raised c.in-Some.n.now ((c.args.shelf.0 == s) && (c.args.shelf.1 == k) && same_only c.args.shelf.2 t) (get by_shelf c.args.self.now.held c.args.shelf) (get by_shelf c.args.self.now.held (s, k, t)) (sym c.in-Some.ensures.value) (same_shelf c.args.self.now c.args.shelf.0 c.args.shelf.1 c.args.shelf.2 s k t))
+pub returns-in-Err-raise-clause-kept : goal.returns-in-Err-raise-clause-kept
+returns-in-Err-raise-clause-kept c = record {
+  shelves = shifted_back c.in_ok-raise.ensures.raised c.lower-in-Err-raise.ensures;
+  targets = shifted_back c.in_default.ensures.raised c.lower-in-Err-raise-2.ensures;
+  kinds = c.in-Err-raise.ensures.kept;
+  prios = unshifted by_prio c.args.self.now.prios c.requires.tight.prios;
+}
+
+pub returns-in-Err-raise-2-clause-kept : goal.returns-in-Err-raise-2-clause-kept
+returns-in-Err-raise-2-clause-kept c = record {
+  shelves = shifted_back c.in_ok-raise.ensures.raised c.lower-in-Err-raise-2-2.ensures;
+  targets = shifted_back c.in_default.ensures.raised c.lower-in-Err-raise-2-3.ensures;
+  kinds = shifted_back c.in_default-raise.ensures.raised c.lower-in-Err-raise-2-4.ensures;
+  prios = c.in-Err-raise-2.ensures.kept;
+}
