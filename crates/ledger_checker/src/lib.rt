@@ -11,6 +11,3 @@ mod legality;
 mod machines;
 
 pub use checking::first_illegal;
-
-#[cfg(test)]
-mod tests;

@@ -1,10 +1,10 @@
 //! Small ledgers, and ledgers that differ from them in one entry, each with the place where it is illegal first.
 
-use crate::first_illegal;
 use adlb_unit::{
     BatchId, Config, End, Info, NoMemory, Payload, Rank, Server, Target, Types, UnitId, WorkType,
 };
 use bag_ledger::{Entry, Ledger};
+use ledger_checker::first_illegal;
 use std::alloc::Global;
 use std::mem;
 use std::test::Fail;

@@ -14,7 +14,7 @@ fn other(id: UnitId) -> UnitId {
 }
 
 /// The same entry, for the kinds that one rank's run has.
-pub fn copied(alloc: Global, entry: &Entry) -> Result<Entry, Fail> {
+pub(crate) fn copied(alloc: Global, entry: &Entry) -> Result<Entry, Fail> {
     let copy = match entry {
         Entry::Putting {
             rank,
@@ -72,7 +72,7 @@ fn plain_copy(entry: &Entry) -> Result<Entry, Fail> {
 
 /// The entry with one change, by which it is no step where it was one: a call of another number, a unit that was not put,
 /// another charge, another end; an end in place of exhaustion, and a Finish in place of a put.
-pub fn changed(entry: &Entry) -> Result<Entry, Fail> {
+pub(crate) fn changed(entry: &Entry) -> Result<Entry, Fail> {
     let changed = match entry {
         Entry::Asked { rank, call, types } => Entry::Asked {
             rank: *rank,

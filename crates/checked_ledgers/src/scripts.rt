@@ -14,19 +14,19 @@ const STEPS: u32 = 400;
 
 /// Fixed pseudo-random numbers, by a linear congruence.
 #[derive(Drop)]
-pub struct Words {
+pub(crate) struct Words {
     state: u64,
 }
 
 impl Words {
-    pub fn new(seed: u64) -> Words {
+    pub(crate) fn new(seed: u64) -> Words {
         Words {
             state: seed.wrapping_mul(0x9e37_79b9_7f4a_7c15).wrapping_add(1),
         }
     }
 
     // The next number, below 2^31.
-    pub fn next(&mut self) -> u32 {
+    pub(crate) fn next(&mut self) -> u32 {
         self.state = self
             .state
             .wrapping_mul(0x5851_f42d_4c95_7f2d)
@@ -80,7 +80,7 @@ fn delivery(words: &mut Words, servers: u32) -> Event {
 
 /// The world after a script of this number, in which most events are tried in vain: those are refused and change nothing.
 /// The last events are a Finish, if the rank is ready for it, and deliveries.
-pub fn driven(alloc: Global, config: Config, number: u64) -> Result<World, Fail>
+pub(crate) fn driven(alloc: Global, config: Config, number: u64) -> Result<World, Fail>
     requires { config.ranks ≡ 1 }
 {
     let mut world = World::new(alloc, config)?;

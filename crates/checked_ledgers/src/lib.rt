@@ -1,0 +1,15 @@
+//! Ledgers through the checker of ledgers.
+//!
+//! It holds tests alone. Small ledgers are legal, and each with one entry changed, dropped or added is illegal at a stated
+//! place. Each run of one rank and up to three servers that is driven by a fixed pseudo-random script leaves a legal ledger,
+//! and one that differs from it in one entry is illegal at that entry.
+#![tactic(auto)]
+
+#[cfg(test)]
+mod changes;
+#[cfg(test)]
+mod driven;
+#[cfg(test)]
+mod mutants;
+#[cfg(test)]
+mod scripts;
