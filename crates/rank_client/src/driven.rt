@@ -81,6 +81,27 @@ fn note_of(number: u64, server: u32) -> UnitNote {
     }
 }
 
+fn grant(request: u64, note: UnitNote) -> Message {
+    Message::Grant { request, note }
+}
+
+fn bytes(alloc: Global, request: u64, bytes: &[u8]) -> Result<Message, Fail> {
+    let body = Payload::copy(alloc, bytes)?;
+    Ok(Message::Bytes { request, body })
+}
+
+// A common part of four bytes.
+fn common_part() -> CommonRef {
+    CommonRef {
+        batch: BatchId {
+            rank: Rank(0),
+            number: 0,
+        },
+        server: Server(0),
+        length: 4,
+    }
+}
+
 #[test]
 fn a_put_is_accepted_by_its_targets_home(rt: HostRuntime) -> Result<(), Fail> {
     let mut client = client(&rt, rt.alloc(), 2)?;
@@ -172,157 +193,86 @@ fn an_end_is_told_again_without_a_letter(rt: HostRuntime) -> Result<(), Fail> {
 
 #[test]
 fn a_put_awaits_the_server_that_was_asked(rt: HostRuntime) -> Result<(), Fail> {
-    let alloc = rt.alloc();
-    let end = End::Exhausted;
     let last = (1 << 48) - 1;
-    let mut client = client(&rt, alloc, 2)?;
+    let mut client = client(&rt, rt.alloc(), 2)?;
     assert!(rt; !expects(&client, 1, 1, Message::Accepted { request: 0 }));
-    begin(&rt, &mut client, put(alloc, Target::Only(Rank(1)))?);
+    begin(&rt, &mut client, put(rt.alloc(), Target::Only(Rank(1)))?);
+    // Who says that the put is accepted, with which stamp, and to which request.
     let rows = [
-        (1, 1, Message::Accepted { request: 0 }, true),
-        (
-            1,
-            last,
-            Message::Full {
-                request: 0,
-                charge: 64,
-            },
-            true,
-        ),
-        (1, 1, Message::Ended { request: 0, end }, true),
-        (0, 1, Message::Accepted { request: 0 }, false),
-        (1, 1, Message::Accepted { request: 1 }, false),
-        (1, last + 1, Message::Accepted { request: 0 }, false),
-        (1, 1, Message::Nothing { request: 0 }, false),
-        (
-            1,
-            1,
-            Message::Grant {
-                request: 0,
-                note: note_of(0, 1),
-            },
-            false,
-        ),
-        (1, 1, Message::Finish, false),
+        (1, 1, 0, true),
+        (1, last, 0, true),
+        (0, 1, 0, false),
+        (1, 1, 1, false),
+        (1, last + 1, 0, false),
     ];
-    for (from, stamp, message, awaited) in rows {
+    for (from, stamp, request, awaited) in rows {
+        let message = Message::Accepted { request };
         assert_eq!(rt; expects(&client, from, stamp, message), awaited);
     }
     Ok(())
 }
 
 #[test]
-fn a_reserve_and_a_fetch_await_their_answers(rt: HostRuntime) -> Result<(), Fail> {
-    let alloc = rt.alloc();
+fn a_put_awaits_its_answers(rt: HostRuntime) -> Result<(), Fail> {
+    let request = 0;
+    let charge = 64;
+    let end = End::Exhausted;
+    let mut client = client(&rt, rt.alloc(), 2)?;
+    begin(&rt, &mut client, put(rt.alloc(), Target::Only(Rank(1)))?);
+    assert!(rt; expects(&client, 1, 1, Message::Full { request, charge }));
+    assert!(rt; expects(&client, 1, 1, Message::Ended { request, end }));
+    assert!(rt; !expects(&client, 1, 1, Message::Nothing { request }));
+    assert!(rt; !expects(&client, 1, 1, grant(request, note_of(0, 1))));
+    assert!(rt; !expects(&client, 1, 1, Message::Finish));
+    Ok(())
+}
+
+#[test]
+fn a_reserve_awaits_its_answers(rt: HostRuntime) -> Result<(), Fail> {
     let end = End::NoMoreWork;
-    let shared = UnitNote {
-        common: Some(CommonRef {
-            batch: BatchId {
-                rank: Rank(0),
-                number: 0,
-            },
-            server: Server(0),
-            length: 4,
-        }),
-        ..note_of(7, 0)
-    };
-    let mut client = client(&rt, alloc, 1)?;
+    let mut client = client(&rt, rt.alloc(), 1)?;
     begin(&rt, &mut client, reserve());
+    // The request of a grant, and the server and the common part of its unit.
     let rows = [
-        (
-            Message::Grant {
-                request: 0,
-                note: note_of(7, 0),
-            },
-            true,
-        ),
-        (Message::Ended { request: 0, end }, true),
-        (
-            Message::Grant {
-                request: 1,
-                note: note_of(7, 0),
-            },
-            false,
-        ),
-        (
-            Message::Grant {
-                request: 0,
-                note: note_of(7, 1),
-            },
-            false,
-        ),
-        (
-            Message::Grant {
-                request: 0,
-                note: shared,
-            },
-            false,
-        ),
-        (Message::Accepted { request: 0 }, false),
+        (0, 0, false, true),
+        (1, 0, false, false),
+        (0, 1, false, false),
+        (0, 0, true, false),
     ];
-    for (message, awaited) in rows {
-        assert_eq!(rt; expects(&client, 0, 1, message), awaited);
+    for (request, server, common, awaited) in rows {
+        let mut note = note_of(7, server);
+        if common {
+            note.common = Some(common_part());
+        }
+        assert_eq!(rt; expects(&client, 0, 1, grant(request, note)), awaited);
     }
-    let note = note_of(7, 0);
-    hear(&rt, &mut client, 0, Message::Grant { request: 0, note });
-    begin(&rt, &mut client, Call::Fetch { id: note.id });
-    let four = Payload::copy(alloc, b"unit")?;
-    let three = Payload::copy(alloc, b"uni")?;
-    let again = Payload::copy(alloc, b"unit")?;
-    assert!(rt;
-        expects(
-            &client,
-            0,
-            1,
-            Message::Bytes {
-                request: 1,
-                body: four
-            }
-        )
-    );
-    assert!(rt;
-        !expects(
-            &client,
-            0,
-            1,
-            Message::Bytes {
-                request: 1,
-                body: three
-            }
-        )
-    );
-    hear(
-        &rt,
-        &mut client,
-        0,
-        Message::Bytes {
-            request: 1,
-            body: again,
-        },
-    );
-    // The same unit is not granted again.
+    assert!(rt; expects(&client, 0, 1, Message::Ended { request: 0, end }));
+    assert!(rt; !expects(&client, 0, 1, Message::Accepted { request: 0 }));
+    Ok(())
+}
+
+#[test]
+fn a_fetch_awaits_as_many_bytes_as_its_note_says(rt: HostRuntime) -> Result<(), Fail> {
+    let mut client = client(&rt, rt.alloc(), 1)?;
     begin(&rt, &mut client, reserve());
-    assert!(rt;
-        !expects(
-            &client,
-            0,
-            1,
-            Message::Grant {
-                request: 2,
-                note: note_of(7, 0)
-            }
-        )
-    );
-    assert!(rt;
-        expects(
-            &client,
-            0,
-            1,
-            Message::Grant {
-                request: 2,
-                note: note_of(8, 0)
-            }
-        )
-    );
+    let note = note_of(7, 0);
+    hear(&rt, &mut client, 0, grant(0, note));
+    begin(&rt, &mut client, Call::Fetch { id: note.id });
+    assert!(rt; expects(&client, 0, 1, bytes(rt.alloc(), 1, b"unit")?));
+    assert!(rt; !expects(&client, 0, 1, bytes(rt.alloc(), 1, b"uni")?));
+    Ok(())
+}
+
+#[test]
+fn a_unit_that_was_fetched_is_not_granted_again(rt: HostRuntime) -> Result<(), Fail> {
+    let mut client = client(&rt, rt.alloc(), 1)?;
+    begin(&rt, &mut client, reserve());
+    let note = note_of(7, 0);
+    hear(&rt, &mut client, 0, grant(0, note));
+    begin(&rt, &mut client, Call::Fetch { id: note.id });
+    hear(&rt, &mut client, 0, bytes(rt.alloc(), 1, b"unit")?);
+    begin(&rt, &mut client, reserve());
+    assert!(rt; !expects(&client, 0, 1, grant(2, note)));
+    assert!(rt; expects(&client, 0, 1, grant(2, note_of(8, 0))));
     Ok(())
 }
