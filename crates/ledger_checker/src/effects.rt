@@ -8,6 +8,7 @@ ghost use Rattle.bag_ledger.specs.Bag.{rank_at, unit_of, putting, keeping};
 ghost use Rattle.bag_ledger.specs.Step.{legal, step};
 ghost use Rattle.bag_ledger.specs.Steps.{after, begun, ended, declined_by, kept, moved, new_part, own_fetched, shared, taken, unpromised, with_part, with_rank};
 ghost use Rattle.bag_tables.specs.Changes.{rank_changed, part_changed};
+ghost use Rattle.ledger_checker.specs.Calls.{begins_call};
 ghost use Rattle.ledger_checker.specs.Room.{HasRoom};
 
 use crate::machines::Machine;
@@ -303,13 +304,10 @@ impl Machine {
         self.change(rank, RankChange::Puts(unit))
     }
 
-    // Takes the step of this entry, which is legal.
-    fn follow(&mut self, entry: &Entry) -> Result<(), NoMemory>
-        requires limit { self.old.limit ≤ 2 ^ 30 }
+    // Takes the step of this entry, which is legal and by which a rank begins a call.
+    fn follow_call(&mut self, entry: &Entry) -> Result<(), NoMemory>
         requires calls { All (λ r. r.next + 1 < 2 ^ 64) self.old.ranks }
-        requires accepted { All (λ p. p.accepted + 1 < 2 ^ 64) self.old.parts }
-        requires fetched { All (λ p. p.fetched + 1 < 2 ^ 64) self.old.parts }
-        requires legal { IsTrue (legal self.old entry.now) }
+        requires begins { begins_call entry.now ≡ true }
         ensures { OnOk result (self.new ≡ after self.old entry.now) }
     {
         match entry {
@@ -322,21 +320,45 @@ impl Machine {
                 answer,
                 body,
             } => { self.put_copy(*rank, *call, *kind, *prio, *target, *answer, body) }
+            Entry::Keeping { rank, call, common } => self.keep(*rank, *call, common),
+            Entry::Closing { rank, call } => { self.begin(*rank, Status::Closing { call: *call }) }
+            Entry::Asked { rank, call, types } => self.ask(*rank, *call, types),
+            Entry::Tried { rank, call, types } => self.try_for(*rank, *call, types),
+            Entry::Fetching { rank, call, id } => {
+                let (call, id, own) = (*call, *id, false);
+                self.begin(*rank, Status::Fetching { call, id, own })
+            }
+            Entry::Counting { rank, call, kind } => {
+                let (call, kind) = (*call, *kind);
+                self.begin(*rank, Status::Counting { call, kind })
+            }
+            Entry::Done { rank, .. } => self.call_done(*rank),
+            Entry::Finished { rank, .. } => self.begin(*rank, Status::Finished),
+            _ => unreachable!(),
+        }
+    }
+
+    // Takes the step of this entry, which is legal.
+    fn follow(&mut self, entry: &Entry) -> Result<(), NoMemory>
+        requires limit { self.old.limit ≤ 2 ^ 30 }
+        requires calls { All (λ r. r.next + 1 < 2 ^ 64) self.old.ranks }
+        requires accepted { All (λ p. p.accepted + 1 < 2 ^ 64) self.old.parts }
+        requires fetched { All (λ p. p.fetched + 1 < 2 ^ 64) self.old.parts }
+        requires legal { IsTrue (legal self.old entry.now) }
+        ensures { OnOk result (self.new ≡ after self.old entry.now) }
+    {
+        match entry {
             Entry::Refused { server, id, .. } => {
                 self.change(id.rank, RankChange::Declined(*server))
             }
             Entry::Accepted { server, id } => self.accept(*server, *id),
             Entry::Rejected { rank, .. } => self.end(*rank),
-            Entry::Keeping { rank, call, common } => self.keep(*rank, *call, common),
             Entry::Kept { server, batch } => self.hold(*server, *batch),
-            Entry::Closing { rank, call } => { self.begin(*rank, Status::Closing { call: *call }) }
             Entry::Closed { batch, .. } => self.close(*batch),
             Entry::Freed { batch, .. } => {
                 self.change_part(*batch, PartChange::Freed);
                 Ok(())
             }
-            Entry::Asked { rank, call, types } => self.ask(*rank, *call, types),
-            Entry::Tried { rank, call, types } => self.try_for(*rank, *call, types),
             Entry::Granted {
                 server,
                 rank,
@@ -347,16 +369,6 @@ impl Machine {
                 self.change(*rank, RankChange::Declined(*server))
             }
             Entry::NoCurrent { rank, .. } => self.end(*rank),
-            Entry::Fetching { rank, call, id } => {
-                self.begin(
-                    *rank,
-                    Status::Fetching {
-                        call: *call,
-                        id: *id,
-                        own: false,
-                    },
-                )
-            }
             Entry::Fetched { rank, id, .. } => self.give(*rank, *id),
             Entry::CommonFetched { rank, batch, .. } => self.give_common(*rank, *batch),
             Entry::Promised { server, id, length } => self.promise_room(*server, *id, *length),
@@ -366,23 +378,13 @@ impl Machine {
                 self.withdraw(*id);
                 Ok(())
             }
-            Entry::Counting { rank, call, kind } => {
-                self.begin(
-                    *rank,
-                    Status::Counting {
-                        call: *call,
-                        kind: *kind,
-                    },
-                )
-            }
             Entry::Counted { rank, .. } => self.end(*rank),
-            Entry::Done { rank, .. } => self.call_done(*rank),
             Entry::Exhausted => {
                 self.exhausted = true;
                 Ok(())
             }
             Entry::Over { rank, end, .. } => self.change(*rank, RankChange::Told(*end)),
-            Entry::Finished { rank, .. } => self.begin(*rank, Status::Finished),
+            _ => self.follow_call(entry),
         }
     }
 

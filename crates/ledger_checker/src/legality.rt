@@ -413,12 +413,6 @@ impl Machine {
 
 // Counts and ends.
 impl Machine {
-    fn is_home(&self, server: Server, rank: Rank) -> bool
-        ensures { result ≡ (is_server self.now server && (server.0 == (rank.0 % self.now.servers))) }
-    {
-        self.is_server(server) && server.0 == rank.0 % self.servers()
-    }
-
     fn counts(&self, r: &RankState, server: Server, rank: Rank, call: u64, info: Info) -> bool
         ensures { result ≡ has (counting r.now.status) (λ c. (c.0 == call) && is_server self.now server && (server.0 == (rank.0 % self.now.servers)) && same_info info (info_of self.now server c.1)) }
     {
@@ -426,7 +420,8 @@ impl Machine {
             None => false,
             Some((pending, kind)) => {
                 same_number(pending, call)
-                    && self.is_home(server, rank)
+                    && self.is_server(server)
+                    && server.0 == rank.0 % self.servers()
                     && same_info(info, self.info(server, kind))
             }
         }
