@@ -24,9 +24,9 @@ use Rattle.bag_ledger.specs.declared.entries.Said.{Said}
 use Rattle.bag_ledger.specs.declared.states.UnitPlace.TheVariants.{Spent}
 use Rattle.bag_ledger.specs.Bag.{Bag, empty, start}
 use Rattle.bag_ledger.specs.Runs.{IsRun, calls, calls_from}
-use Rattle.core_world.specs.Inline.{IsEnd, IsStart, Run, finish_answer, zeroth}
-use Rattle.core_world.specs.Left.{IsLeft}
-use Rattle.core_world.proofs.Lefts.{nothing_left}
+use Rattle.inline_world.specs.Inline.{IsEnd, IsStart, Run, finish_answer, zeroth}
+use Rattle.inline_world.specs.Left.{IsLeft}
+use Rattle.inline_world.proofs.Lefts.{nothing_left}
 use Rattle.puzzle_app.specs.declared.jobs.Job.{Job}
 use Rattle.puzzle_app.specs.declared.outcomes.PuzzleOutcome.{PuzzleOutcome}
 use Rattle.puzzle_app.specs.declared.outcomes.Settings.{Settings}

@@ -1,12 +1,4 @@
-pub mod Answers
 pub mod Applied
-pub mod Begun
 pub mod Fields
-pub mod Inline
-pub mod Inside
-pub mod Known
-pub mod Left
-pub mod Pairs
-pub mod Rounds
 pub mod Seen
 pub mod Stage

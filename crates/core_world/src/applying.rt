@@ -43,9 +43,11 @@ impl World {
         }
     }
 
-    // Carries out an event that is enabled, in a world that has not failed, and tells the answer of the call that it answers, if
-    // there is one.
-    pub(crate) fn carry_out(&mut self, event: Event) -> Result<Option<Answer>, Trouble>
+    /// Carries out an event that is enabled, in a world that has not failed, and tells the answer of the call that it answers, if
+    /// there is one (`event_answer`). It is for callers that know that there is such an event: unlike `apply` it does not look. It
+    /// answers `TooLong` exactly where the event's stamp would reach `2^48` and `Memory` for want of memory alone; then the world
+    /// has failed, and what stands is said by `Stops`.
+    pub fn carry_out(&mut self, event: Event) -> Result<Option<Answer>, Trouble>
         requires whole { self.old.trouble ≡ None }
         requires enabled { IsEnabled self.old.world event }
         ensures happened { OnOk result (happens self.old.world event ≡ Some self.new.world) }

@@ -3,9 +3,8 @@
 ghost use Rattle.std.specs.Prelude.{◌≡◌, ◌<◌, ◌∷◌, ◌↔◌, List, true, IfOk, IsSome, IsTrue, length};
 ghost use Rattle.adlb_unit.specs.declared.letters.Letter.{Letter};
 ghost use Rattle.core_run.specs.Runs.{transcript};
-ghost use Rattle.core_run.specs.World.{client_of, handle, is_within, pool_of, start};
+ghost use Rattle.core_run.specs.World.{client_of, handle, is_within, pool_of, rank_named, start};
 ghost use Rattle.core_world.specs.Applied.{IsEnabled};
-ghost use Rattle.core_world.specs.Inline.{zeroth};
 ghost use Rattle.core_world.specs.Seen.{under_way};
 ghost use Rattle.core_world.specs.Stage.{IsWhole};
 
@@ -82,7 +81,7 @@ impl Stage {
     pub(crate) fn into_parts(self) -> (Ledger, Vec<Said>)
         requires { self.config.ranks ≡ 1 }
         ensures ledger { result.0 ≡ self.ledger }
-        ensures transcript { result.1.items ≡ transcript self zeroth }
+        ensures transcript { result.1.items ≡ transcript self (rank_named 0) }
     {
         let mut ranks = self.ranks;
         let Some(client) = ranks.pop() else {

@@ -2,8 +2,7 @@
 
 ghost use Rattle.std.specs.Prelude.{◌≡◌, ◌<◌, IfOk, length};
 ghost use Rattle.core_run.specs.Runs.{transcript};
-ghost use Rattle.core_run.specs.World.{pool_of};
-ghost use Rattle.core_world.specs.Inline.{zeroth};
+ghost use Rattle.core_run.specs.World.{pool_of, rank_named};
 ghost use Rattle.core_world.specs.Seen.{new_world, under_way};
 ghost use Rattle.server_core.specs.Left.{left_of};
 
@@ -85,11 +84,11 @@ impl World {
         self.stage.server_at(server).left()
     }
 
-    // The ledger and the calls of the only rank with their answers.
-    pub(crate) fn into_parts(self) -> (Ledger, Vec<Said>)
+    /// The ledger, and the calls of the only rank with their answers, where there is one rank.
+    pub fn into_parts(self) -> (Ledger, Vec<Said>)
         requires { self.world.config.ranks ≡ 1 }
         ensures ledger { result.0 ≡ self.world.ledger }
-        ensures transcript { result.1.items ≡ transcript self.world zeroth }
+        ensures transcript { result.1.items ≡ transcript self.world (rank_named 0) }
     {
         self.stage.into_parts()
     }

@@ -1,0 +1,17 @@
+//! A run of one rank and one server in line: each letter is handled inside the call that sends it, so its calls return.
+//!
+//! `InlineWorld` stands on a world of `core_world`, of one rank and one server. `specs/Inline.antt` is what contracts see of it and
+//! what holds of it after every sequence of calls, `specs/Left.antt` says which units are left at the end, and `specs/Rounds.antt`
+//! what stands before, between and after the events of one call.
+#![tactic(auto)]
+
+mod answers;
+mod inline;
+mod laws;
+mod pairs;
+mod runs;
+#[cfg(test)]
+mod tests;
+
+pub use inline::InlineWorld;
+pub use laws::left_laws;
