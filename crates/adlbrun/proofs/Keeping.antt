@@ -6,7 +6,7 @@ use Rattle.adlb_threads.specs.Reports.{Reported}
 use Rattle.adlb_unit.specs.declared.notes.Trouble.{Trouble}
 use Rattle.adlb_unit.specs.declared.notes.Trouble.TheVariants as troubles
 use Rattle.adlb_unit.specs.declared.notes.Trouble.TheVariants.{TooLong}
-use Rattle.bag_balance.proofs.Whole.{balanced}
+use Rattle.balance_law.proofs.Whole.{balanced}
 use Rattle.bag_ledger.specs.declared.entries.Call.TheVariants as calls_to
 use Rattle.puzzle_app.specs.Jobs.{AreJobs, puzzles}
 use Rattle.puzzle_app.specs.Report.{AreWhole, made_in}
@@ -18,15 +18,15 @@ use Rattle.adlbrun.specs.Ends.{fault_by}
 use Rattle.adlbrun.specs.Input.{IsRunFault}
 use Rattle.adlb_unit.specs.declared.configs.Config.{Config}
 use Rattle.adlb_unit.specs.declared.names.Rank.{Rank}
-use Rattle.bag_balance.specs.Orderly.{finish}
+use Rattle.balance_law.specs.Orderly.{finish}
 use Rattle.bag_ledger.specs.declared.entries.Entry.{Entry}
 use Rattle.bag_ledger.specs.declared.entries.Said.{Said}
 use Rattle.bag_ledger.specs.declared.states.UnitPlace.TheVariants.{Spent}
 use Rattle.bag_ledger.specs.Bag.{Bag, empty, start}
 use Rattle.bag_ledger.specs.Runs.{IsRun, calls, calls_from}
-use Rattle.inline_world.specs.Inline.{IsEnd, IsStart, Run, finish_answer, zeroth}
-use Rattle.inline_world.specs.Left.{IsLeft}
-use Rattle.inline_world.proofs.Lefts.{nothing_left}
+use Rattle.core_inline.specs.Inline.{IsEnd, IsStart, Run, finish_answer, zeroth}
+use Rattle.core_inline.specs.Left.{IsLeft}
+use Rattle.core_inline.proofs.Lefts.{nothing_left}
 use Rattle.puzzle_app.specs.declared.jobs.Job.{Job}
 use Rattle.puzzle_app.specs.declared.outcomes.PuzzleOutcome.{PuzzleOutcome}
 use Rattle.puzzle_app.specs.declared.outcomes.Settings.{Settings}

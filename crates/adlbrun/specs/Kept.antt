@@ -8,7 +8,7 @@ use Rattle.bag_ledger.specs.declared.entries.Said.{Said}
 use Rattle.bag_ledger.specs.declared.states.UnitPlace.TheVariants.{Spent}
 use Rattle.bag_ledger.specs.Bag.{Bag, start}
 use Rattle.bag_ledger.specs.Runs.{IsRun, calls}
-use Rattle.inline_world.specs.Inline.{Run}
+use Rattle.core_inline.specs.Inline.{Run}
 use Rattle.puzzle_app.specs.declared.jobs.Job.{Job}
 use Rattle.puzzle_app.specs.declared.outcomes.PuzzleOutcome.{PuzzleOutcome}
 use Rattle.puzzle_app.specs.declared.outcomes.Settings.{Settings}

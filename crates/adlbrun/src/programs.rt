@@ -1,7 +1,7 @@
 //! The program of one rank over one server, from its jobs to its report.
 
 ghost use Rattle.std.specs.Prelude.{◌≡◌, ℕ, List, [], None, true, false, IfOk, IfErr, OnOk};
-ghost use Rattle.inline_world.specs.Inline.{IsEnd};
+ghost use Rattle.core_inline.specs.Inline.{IsEnd};
 ghost use Rattle.puzzle_app.specs.Follows.{Follows};
 ghost use Rattle.puzzle_app.specs.Jobs.{AreJobs};
 ghost use Rattle.rank_client.specs.Calls.{has_finished};
@@ -13,7 +13,7 @@ use crate::ends::RunFault;
 use adlb_threads::Report;
 use adlb_unit::{Config, NoMemory, Rank, Trouble};
 use bag_ledger::{Ledger, Said};
-use inline_world::InlineWorld;
+use core_inline::InlineWorld;
 use merge_history::History;
 use puzzle_app::{Jobs, PuzzleOutcome, PuzzleProgram, Settings};
 use rank_client::RankProgram;

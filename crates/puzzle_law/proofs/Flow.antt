@@ -9,9 +9,9 @@ use Rattle.bag_ledger.specs.declared.entries.Answer.{Answer}
 use Rattle.bag_ledger.specs.declared.entries.Answer.TheVariants as answers
 use Rattle.bag_ledger.specs.declared.entries.Call.TheVariants as calls_to
 use Rattle.bag_ledger.specs.declared.entries.Said.{Said}
-use Rattle.bag_balance.specs.Balanced.{IsEndedWell}
-use Rattle.bag_balance.specs.Orderly.{finish}
-use Rattle.bag_balance.specs.Parcels.{Parcel, got, granted_note, parcel_got, parcel_sent, sent}
+use Rattle.balance_law.specs.Balanced.{IsEndedWell}
+use Rattle.balance_law.specs.Orderly.{finish}
+use Rattle.balance_law.specs.Parcels.{Parcel, got, granted_note, parcel_got, parcel_sent, sent}
 use Rattle.sudoku_law.specs.Grid.{Cells}
 use Rattle.puzzle_app.specs.Books.{Books, Goes, going, holding, shut, received, brought, said_of}
 use Rattle.puzzle_app.specs.Bodies.{board_body, solution_body}

@@ -5,7 +5,7 @@ use Rattle.bag_ledger.specs.declared.entries.Entry.{Entry}
 use Rattle.bag_ledger.specs.declared.states.UnitPlace.TheVariants.{Spent}
 use Rattle.bag_ledger.specs.Bag.{Bag, start}
 use Rattle.bag_ledger.specs.Runs.{IsRun}
-use Rattle.bag_balance.specs.Balanced.{AreOrderly, IsBalanced}
+use Rattle.balance_law.specs.Balanced.{AreOrderly, IsBalanced}
 use Rattle.puzzle_app.specs.declared.jobs.Job.{Job}
 use Rattle.puzzle_app.specs.declared.outcomes.PuzzleOutcome.{PuzzleOutcome}
 use Rattle.puzzle_app.specs.declared.outcomes.Settings.{Settings}

@@ -6,10 +6,10 @@ use Rattle.bag_ledger.specs.declared.entries.Answer.{Answer}
 use Rattle.bag_ledger.specs.declared.entries.Answer.TheVariants as answers
 use Rattle.bag_ledger.specs.declared.entries.Entry.{Entry}
 use Rattle.bag_ledger.specs.declared.entries.Said.{Said}
-use Rattle.bag_balance.specs.Balanced.{AreOrderly}
-use Rattle.bag_balance.specs.Orderly.{IsNext, IsOrderly, finish}
-use Rattle.bag_balance.specs.Orderly.{Goes as GoesOn}
-use Rattle.bag_balance.specs.Parcels.{granted_note}
+use Rattle.balance_law.specs.Balanced.{AreOrderly}
+use Rattle.balance_law.specs.Orderly.{IsNext, IsOrderly, finish}
+use Rattle.balance_law.specs.Orderly.{Goes as GoesOn}
+use Rattle.balance_law.specs.Parcels.{granted_note}
 use Rattle.puzzle_app.specs.Books.{Books, Goes, going, shut}
 use Rattle.puzzle_app.specs.Follows.{roots_of}
 use Rattle.puzzle_app.specs.Made.{fetched_unit, put_of}

@@ -11,8 +11,8 @@ use Rattle.adlb_unit.specs.declared.names.Rank.{Rank}
 use Rattle.bag_ledger.specs.declared.entries.Entry.{Entry}
 use Rattle.bag_ledger.specs.Bag.{Bag}
 use Rattle.bag_ledger.specs.Runs.{calls}
-use Rattle.bag_balance.specs.Balanced.{IsBalanced, over_ranks}
-use Rattle.bag_balance.specs.Parcels.{got, sent}
+use Rattle.balance_law.specs.Balanced.{IsBalanced, over_ranks}
+use Rattle.balance_law.specs.Parcels.{got, sent}
 use Rattle.sudoku_law.specs.Grid.{Cells}
 use Rattle.puzzle_app.specs.Books.{Goes, going, shut}
 use Rattle.puzzle_app.specs.Follows.{AreOvers, roots_of}

@@ -4,7 +4,7 @@ use Rattle.std.proofs.lemmas.List.Sums.{sum_by-append, sum_by-cons}
 use Rattle.adlb_unit.specs.declared.configs.Config.{Config}
 use Rattle.bag_ledger.specs.declared.entries.Entry.{Entry}
 use Rattle.bag_ledger.specs.Bag.{Bag}
-use Rattle.bag_balance.specs.Balanced.{IsBalanced}
+use Rattle.balance_law.specs.Balanced.{IsBalanced}
 use Rattle.sudoku_law.specs.Grid.{Cells, IsGrid}
 use Rattle.puzzle_app.specs.Jobs.{puzzles}
 use Rattle.puzzle_app.specs.Made.{child_of, is_board, is_solution, made_by, roots_from}

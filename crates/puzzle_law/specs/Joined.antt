@@ -5,7 +5,7 @@ use Rattle.adlb_unit.specs.declared.names.Rank.{Rank}
 use Rattle.bag_ledger.specs.declared.entries.Entry.{Entry}
 use Rattle.bag_ledger.specs.declared.entries.Said.{Said}
 use Rattle.bag_ledger.specs.Runs.{calls}
-use Rattle.bag_balance.specs.Orderly.{finish}
+use Rattle.balance_law.specs.Orderly.{finish}
 use Rattle.puzzle_app.specs.declared.jobs.Job.{Job}
 use Rattle.puzzle_app.specs.declared.outcomes.PuzzleOutcome.{PuzzleOutcome}
 use Rattle.puzzle_app.specs.declared.outcomes.Settings.{Settings}

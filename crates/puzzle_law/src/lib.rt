@@ -17,7 +17,7 @@ ghost use Rattle.puzzle_app.specs.Report.{AreWhole};
 ghost use Rattle.puzzle_law.specs.Joined.{IsPuzzleRun};
 ghost use Rattle.sudoku_law.specs.Grid.{IsGrid};
 
-use bag_balance::balance_laws;
+use balance_law::balance_laws;
 
 /// The joining of ledger, programs and report, for every configuration. In a legal run in which each rank
 /// ran its puzzle program and then finished, the outcomes together hold exactly what the jobs are to give (`whole`), and

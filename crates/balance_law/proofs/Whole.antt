@@ -1,0 +1,230 @@
+-- What is so at the end of a run of orderly ranks.
+use Rattle.std.proofs.Common.{◌≡◌, ℕ, ◌+◌, ◌<◌, inl, inr, List, [], ◌∷◌, ◌++◌, length, All, count_by, cond, Option, None, refl, sym, ap, ◌∙◌, subst, arith}
+use Rattle.std.specs.Prelude.{sum_by, if◌then◌else◌}
+use Rattle.std.proofs.lemmas.List.{length-replicate}
+use Rattle.std.proofs.lemmas.List.Elements.{All-nil, All-cons, All-append}
+use Rattle.std.proofs.lemmas.List.Sums.{sum_by-cons}
+use Rattle.adlb_unit.specs.declared.configs.Config.{Config}
+use Rattle.adlb_unit.specs.declared.names.Rank.{Rank}
+use Rattle.adlb_unit.specs.declared.notes.UnitNote.{UnitNote}
+use Rattle.bag_ledger.specs.declared.entries.Entry.{Entry}
+use Rattle.bag_ledger.specs.declared.entries.Said.{Said}
+use Rattle.bag_ledger.specs.declared.states.RankState.{RankState}
+use Rattle.bag_ledger.specs.declared.states.Placed.{Placed}
+use Rattle.bag_ledger.specs.declared.states.UnitPlace.{UnitPlace}
+use Rattle.bag_ledger.specs.declared.states.UnitPlace.TheVariants.{Free, Travelling, Pinned, Spent}
+use Rattle.bag_ledger.specs.Bag.{Bag, start, fresh}
+use Rattle.bag_ledger.specs.Steps.{Is, after}
+use Rattle.bag_ledger.specs.Runs.{IsRun, says, calls}
+use Rattle.bag_ledger.proofs.Accepted.{fresh_at}
+use Rattle.balance_law.specs.Balanced.{over_ranks, IsEndedWell, AreOrderly, IsBalanced}
+use Rattle.balance_law.specs.Parcels.{Parcel, sent, got}
+use Rattle.balance_law.proofs.Paths.{IsPath, of_rank, along, path_of, calls_along, over_same, over_along}
+use Rattle.balance_law.proofs.Deeds.{accepted, granted, fetched, parcel_of}
+use Rattle.balance_law.proofs.Seen.{place_within, all_within, ranks_stay}
+use Rattle.balance_law.proofs.Shifts.{is_loose, is_pinned, is_left, lies, standing, left_stands, pinned_stands}
+use Rattle.balance_law.proofs.Tallies.{IsTally, holding}
+use Rattle.balance_law.proofs.Calling.{each, IsCalling, orderly_none}
+use Rattle.balance_law.proofs.Going.{IsGoing, held_after, going_next, there_is}
+
+-- What each rank sent and got along the path.
+
+pub record IsCounted (b : Bag) (es : List Entry) (rank : Rank) (held : Option UnitNote) : Type 0 where
+  pub sends : sent (along says b es rank) ≡ along accepted b es rank
+  pub gets : got held (along says b es rank) ≡ along fetched b es rank
+  pub even : length (along fetched b es rank) ≡ holding held + length (along granted b es rank)
+  pub ended : All (λ s. IsEndedWell s.call s.answer) (along says b es rank)
+
+sent_none : sent [] ≡ []
+unfolding sent
+sent_none = refl
+
+got_none : (held : Option UnitNote) → got held [] ≡ []
+unfolding got
+got_none held = refl
+
+-- the path went on to its end
+pub record IsGone (n : ℕ) (b last : Bag) (es : List Entry) (held : Rank → Option UnitNote) : Type 0 where
+  pub held_then : Rank → Option UnitNote
+  pub going : IsGoing n last [] held_then
+  pub counted : (rank : Rank) → rank.0 < n → IsCounted b es rank (held rank)
+
+-- a rank holds nothing at the end
+none_held : (n : ℕ) (b : Bag) (held : Rank → Option UnitNote) (rank : Rank) → rank.0 < n → IsGoing n b [] held → held rank ≡ None
+none_held n b held rank below going =
+    let r = there_is b.ranks rank.0 (rw going.long below) in
+    by_case r.0 (going.calling rank r.0 r.1)
+  where
+    by_case : (r : RankState) → IsCalling n b rank r (held rank) [] → held rank ≡ None
+    by_case r (inl u) = absurd (orderly_none n (held rank) u.orderly)
+    by_case r (inr t) = t.nothing
+
+counted_next : (b : Bag) (e : Entry) (es : List Entry) (rank : Rank) (held : Rank → Option UnitNote) → IsTally (held rank) (of_rank rank (says b e)) (of_rank rank (accepted b e)) (of_rank rank (granted b e)) (of_rank rank (fetched b e))
+    → IsCounted (after b e) es rank (held_after b e held rank) → IsCounted b (e ∷ es) rank (held rank)
+counted_next b e es rank held t c = record {
+  sends = t.sends (along says (after b e) es rank) ∙ ap (λ (ps : List Parcel). of_rank rank (accepted b e) ++ ps) c.sends;
+  gets = t.gets (along says (after b e) es rank) ∙ ap (λ (ps : List Parcel). of_rank rank (fetched b e) ++ ps) c.gets;
+  even =
+      let x = long_parts (of_rank rank (fetched b e)) (along fetched (after b e) es rank) in
+      let y = long_parts (of_rank rank (granted b e)) (along granted (after b e) es rank) in
+      let z = t.even in
+      let w = c.even in
+      omega (arith, x, y, z, w);
+  ended = All-append (λ s. IsEndedWell s.call s.answer) (of_rank rank (says b e)) (along says (after b e) es rank) t.ended c.ended;
+}
+  where
+    long_parts : (xs ys : List Parcel) → length (xs ++ ys) ≡ length xs + length ys
+    long_parts [] ys = omega arith
+    long_parts (x ∷ xs) ys = let h = long_parts xs ys in omega (arith, h)
+
+pub gone : (n : ℕ) (b last : Bag) (es : List Entry) (held : Rank → Option UnitNote) → 0 < n → IsPath b es last → IsGoing n b es held → IsGone n b last es held
+gone n b last [] held some path going = record {
+  held_then = held;
+  going = subst (λ (x : Bag). IsGoing n x [] held) path going;
+  counted = λ rank below.
+      let none = none_held n b held rank below going in
+      record { sends = sent_none; gets = got_none (held rank); even = rw none refl; ended = All-nil (λ (s : Said). IsEndedWell s.call s.answer) };
+}
+gone n b last (e ∷ es) held some path going =
+    let s = going_next n b last e es held some path going in
+    let rest = gone n (after b e) last es (held_after b e held) some path.1 s.going in
+    record { held_then = rest.held_then; going = rest.going; counted = λ rank below. counted_next b e es rank held (s.tally rank below) (rest.counted rank below) }
+
+-- The balances, along the path.
+
+pub left_balance : (f : Parcel → ℕ) (n : ℕ) (b last : Bag) (es : List Entry) → length b.ranks ≡ n → IsPath b es last
+    → standing is_left f last + over_ranks n (λ rank. sum_by f (along fetched b es rank)) ≡ standing is_left f b + over_ranks n (λ rank. sum_by f (along accepted b es rank))
+left_balance f n b last [] long path = rw path refl
+left_balance f n b last (e ∷ es) long path =
+    let within = all_within b e n long path.0 in
+    let rest = left_balance f n (after b e) last es (ranks_stay b e path.0 ∙ long) path.1 in
+    let law = left_stands f b e path.0 in
+    let gives = over_along f n fetched b e es within.2 in
+    let accepts = over_along f n accepted b e es within.0 in
+    omega (arith, rest, law, gives, accepts)
+
+pub pinned_balance : (f : Parcel → ℕ) (n : ℕ) (b last : Bag) (es : List Entry) → length b.ranks ≡ n → IsPath b es last
+    → standing is_pinned f last + over_ranks n (λ rank. sum_by f (along fetched b es rank)) ≡ standing is_pinned f b + over_ranks n (λ rank. sum_by f (along granted b es rank))
+pinned_balance f n b last [] long path = rw path refl
+pinned_balance f n b last (e ∷ es) long path =
+    let within = all_within b e n long path.0 in
+    let rest = pinned_balance f n (after b e) last es (ranks_stay b e path.0 ∙ long) path.1 in
+    let law = pinned_stands f b e path.0 in
+    let gives = over_along f n fetched b e es within.2 in
+    let grants = over_along f n granted b e es within.1 in
+    omega (arith, rest, law, gives, grants)
+
+-- At the end.
+
+sum_each : (ps : List Parcel) → sum_by each ps ≡ length ps
+sum_each [] = refl
+sum_each (p ∷ ps) = let h = sum_each ps in rw (sum_by-cons each p ps) (omega (arith, h))
+
+-- where no unit is loose and none is pinned, each is spent
+all_spent : (us : List Placed) → sum_by (lies is_loose each) us ≡ 0 → sum_by (lies is_pinned each) us ≡ 0 → All (λ u. u.place ≡ Spent) us
+all_spent [] loose pinned = All-nil (λ (u : Placed). u.place ≡ Spent)
+all_spent (u ∷ us) loose pinned =
+    let l : lies is_loose each u + sum_by (lies is_loose each) us ≡ 0 = sym (sum_by-cons (lies is_loose each) u us) ∙ loose in
+    let p : lies is_pinned each u + sum_by (lies is_pinned each) us ≡ 0 = sym (sum_by-cons (lies is_pinned each) u us) ∙ pinned in
+    All-cons (λ (u : Placed). u.place ≡ Spent) u us (by_place u.place (omega (arith, l)) (omega (arith, p))) (all_spent us (omega (arith, l)) (omega (arith, p)))
+  where
+    by_place : (place : UnitPlace) → (if is_loose place then each (parcel_of u.unit) else 0) ≡ 0 → (if is_pinned place then each (parcel_of u.unit) else 0) ≡ 0 → place ≡ Spent
+    by_place (Free server) loose pinned = absurd (omega (arith, loose))
+    by_place (Travelling to) loose pinned = absurd (omega (arith, loose))
+    by_place (Pinned server rank) loose pinned = absurd (omega (arith, pinned))
+    by_place Spent loose pinned = refl
+
+none_left : (f : Parcel → ℕ) (us : List Placed) → sum_by (lies is_loose each) us ≡ 0 → sum_by (lies is_pinned each) us ≡ 0 → sum_by (lies is_left f) us ≡ 0
+none_left f [] loose pinned = refl
+none_left f (u ∷ us) loose pinned =
+    let l : lies is_loose each u + sum_by (lies is_loose each) us ≡ 0 = sym (sum_by-cons (lies is_loose each) u us) ∙ loose in
+    let p : lies is_pinned each u + sum_by (lies is_pinned each) us ≡ 0 = sym (sum_by-cons (lies is_pinned each) u us) ∙ pinned in
+    let rest = none_left f us (omega (arith, l)) (omega (arith, p)) in
+    let first = by_place u.place (f (parcel_of u.unit)) (omega (arith, l)) (omega (arith, p)) in
+    rw (sum_by-cons (lies is_left f) u us) (omega (arith, rest, first))
+  where
+    by_place : (place : UnitPlace) (m : ℕ) → (if is_loose place then each (parcel_of u.unit) else 0) ≡ 0 → (if is_pinned place then each (parcel_of u.unit) else 0) ≡ 0 → (if is_left place then m else 0) ≡ 0
+    by_place (Free server) m loose pinned = absurd (omega (arith, loose))
+    by_place (Travelling to) m loose pinned = absurd (omega (arith, loose))
+    by_place (Pinned server rank) m loose pinned = absurd (omega (arith, pinned))
+    by_place Spent m loose pinned = refl
+
+-- no unit is loose: each rank was told the end
+none_loose : (n : ℕ) (last : Bag) (held : Rank → Option UnitNote) → 0 < n → IsGoing n last [] held → standing is_loose each last ≡ 0
+none_loose n last held some going =
+    let r = there_is last.ranks 0 (rw going.long some) in
+    by_case r.0 (going.calling (record { 0 = 0 }) r.0 r.1)
+  where
+    by_case : (r : RankState) → IsCalling n last (record { 0 = 0 }) r (held (record { 0 = 0 })) [] → standing is_loose each last ≡ 0
+    by_case r (inl u) = absurd (orderly_none n (held (record { 0 = 0 })) u.orderly)
+    by_case r (inr t) = going.nothing_loose t.marked
+
+-- At the start.
+
+pub start_long : (config : Config) → length (start config).ranks ≡ config.ranks
+start_long config = length-replicate config.ranks fresh
+
+below_start : (config : Config) (rank : Rank) (r : RankState) → Is (start config) rank r → rank.0 < config.ranks
+below_start config rank r there =
+    let long = start_long config in
+    let below = place_within (start config).ranks rank.0 r there in
+    omega (arith, long, below)
+
+start_going : (config : Config) (last : Bag) (ledger : List Entry) → IsRun (start config) ledger last → AreOrderly config ledger → IsGoing config.ranks (start config) ledger (λ rank. None)
+start_going config last ledger run orderly = record {
+  calling = λ rank r there. inl (rw (fresh_at config.ranks rank.0 r there) (record {
+    no_end = refl;
+    unfinished = refl;
+    orderly = rw (← calls_along (start config) last ledger rank run) (orderly rank (below_start config rank r there));
+    holds = tt;
+    asks = λ ex. absurd (cc);
+  }));
+  unshared = λ rank r there. rw (fresh_at config.ranks rank.0 r there) (refl, refl);
+  clean = All-nil _;
+  nothing_loose = λ ex. refl;
+  undone = refl;
+  long = start_long config;
+}
+
+pub balanced : (config : Config) (ledger : List Entry) (last : Bag) → 0 < config.ranks → IsRun (start config) ledger last → AreOrderly config ledger → IsBalanced config ledger last
+balanced config ledger last some run orderly = record {
+  spent = all_spent last.units loose pinned;
+  same = λ test.
+      let f : Parcel → ℕ = λ p. cond (test p) 1 0 in
+      let balance = left_balance f n b last ledger long path in
+      let none = none_left f last.units loose pinned in
+      let sends = over_same n (λ rank. count_by test (sent (calls config ledger rank))) (λ rank. sum_by f (along accepted b ledger rank))
+      (λ rank below. ap (λ (said : List Said). sum_by f (sent said)) (calls_along b last ledger rank run) ∙ ap (sum_by f) (whole.counted rank below).sends) in
+      let gets = over_same n (λ rank. count_by test (got None (calls config ledger rank))) (λ rank. sum_by f (along fetched b ledger rank))
+      (λ rank below. ap (λ (said : List Said). sum_by f (got None said)) (calls_along b last ledger rank run) ∙ ap (sum_by f) (whole.counted rank below).gets) in
+      omega (arith, balance, none, sends, gets);
+  ended = λ rank below. rw (calls_along b last ledger rank run) (whole.counted rank below).ended;
+}
+  where
+    n : ℕ
+    n = config.ranks
+
+    b : Bag
+    b = start config
+
+    long : length (start config).ranks ≡ config.ranks
+    long = start_long config
+
+    path : IsPath (start config) ledger last
+    path = path_of (start config) last ledger run
+
+    whole : IsGone config.ranks (start config) last ledger (λ rank. None)
+    whole = gone config.ranks (start config) last ledger (λ rank. None) some path (start_going config last ledger run orderly)
+
+    loose : standing is_loose each last ≡ 0
+    loose = none_loose config.ranks last whole.held_then some whole.going
+
+    pinned : standing is_pinned each last ≡ 0
+    pinned =
+        let balance = pinned_balance each config.ranks (start config) last ledger long path in
+        let even = over_same config.ranks (λ rank. sum_by each (along fetched (start config) ledger rank)) (λ rank. sum_by each (along granted (start config) ledger rank)) (λ rank below.
+        let x = sum_each (along fetched (start config) ledger rank) in
+        let y = sum_each (along granted (start config) ledger rank) in
+        let z = (whole.counted rank below).even in
+        omega (arith, x, y, z)) in
+        omega (arith, balance, even)

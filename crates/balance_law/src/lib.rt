@@ -1,0 +1,20 @@
+//! What every legal run conserves: in a run of orderly ranks each unit that was put is fetched once, and nothing is left.
+//!
+//! It speaks of definitions alone and has no code. `specs/Parcels.antt` says what the calls of a rank send and get,
+//! `specs/Orderly.antt` which ranks are orderly, and `specs/Balanced.antt` what is so at the end.
+#![tactic(auto)]
+
+ghost use Rattle.std.specs.Prelude.{◌<◌, List};
+ghost use Rattle.adlb_unit.specs.declared.configs.Config.{Config};
+ghost use Rattle.bag_ledger.specs.declared.entries.Entry.{Entry};
+ghost use Rattle.bag_ledger.specs.Bag.{Bag, start};
+ghost use Rattle.bag_ledger.specs.Runs.{IsRun};
+ghost use Rattle.balance_law.specs.Balanced.{AreOrderly, IsBalanced};
+
+/// In a legal run, for every configuration, in which each rank is orderly and has finished: each accepted
+/// unit was fetched, once, and whoever fetched it got what was put; no put was told an end, and each rank was told, at a
+/// reserve, that all work is used up.
+pub fn balance_laws()
+    ensures balanced { (config : Config) (ledger : List Entry) (last : Bag) →
+        0 < config.ranks → IsRun (start config) ledger last → AreOrderly config ledger → IsBalanced config ledger last }
+{}

@@ -1,0 +1,8 @@
+use Rattle.core_inline.proofs.inline.InlineWorld.finish_inline.Goals as goal
+
+pub invariant_of-self : goal.invariant_of-self
+invariant_of-self c = record {
+  one_rank = c.finish.ensures.holds.one_rank;
+  late = λ stamp too_long. (c.finish.ensures.holds.late stamp too_long).0;
+  short = c.finish.ensures.holds.short;
+}

@@ -1,0 +1,13 @@
+use Rattle.std.proofs.Common.{subst}
+use Rattle.rank_client.specs.Calls.{Aims}
+use Rattle.core_inline.proofs.inline.InlineWorldAdlb.put.Goals as goal
+
+pub invariant_of-self : goal.invariant_of-self
+invariant_of-self c = record {
+  one_rank = c.call.ensures.holds.one_rank;
+  late = λ stamp too_long. (c.call.ensures.holds.late stamp too_long).0;
+  short = c.call.ensures.holds.short;
+}
+
+pub call-requires-clause-can : goal.call-requires-clause-can
+call-requires-clause-can c = (c.requires.body, subst (λ n. Aims c.args.target n) c.args.self.now.one_rank c.requires.target)

@@ -1,0 +1,29 @@
+-- The fields of a run in line.
+use Rattle.std.specs.Prelude.{◌≡◌, ◌<◌, ◌≤◌, ◌^◌, false, length, take, None}
+use Rattle.rank_client.specs.Calls.{has_finished}
+use Rattle.server_core.specs.Left.{left_of}
+use Rattle.core_inline.specs.declared.runs.InlineRun.TheInside.{Inside}
+use Rattle.core_inline.specs.Begun.{begun_in}
+use Rattle.core_inline.specs.Inline.{IsInline, Run}
+use Rattle.core_inline.specs.Pairs.{IsReady, rank_in, server_in}
+use Rattle.core_inline.specs.Rounds.{is_ended}
+
+abbrev pub run_of : Inside → Run
+run_of i = record {
+  config = i.world.world.config;
+  ledger = i.world.world.ledger;
+  transcript = take i.answered (rank_in i.world).transcript;
+  left = left_of (server_in i.world);
+  failed = i.world.trouble;
+  begun = begun_in i.world.world.config i.world.world.ledger (take i.answered (rank_in i.world).transcript);
+  finished = i.finished;
+  ended = is_ended (server_in i.world);
+}
+
+-- what holds of a world, and, while nothing failed, which state the next call finds
+pub record IsInside (i : Inside) : Type 0 where
+  pub inline : IsInline (run_of i)
+  pub answered : i.answered ≤ length (rank_in i.world).transcript
+  pub ready : i.world.trouble ≡ None → has_finished (take i.answered (rank_in i.world).transcript) ≡ false → IsReady i.world
+  pub all : i.world.trouble ≡ None → i.answered ≡ length (rank_in i.world).transcript
+  pub short : i.answered < 2 ^ 48

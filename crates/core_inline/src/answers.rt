@@ -1,0 +1,62 @@
+//! The answers of a rank's calls, as each call tells them.
+
+ghost use Rattle.std.specs.Prelude.{◌≡◌, None, Some, Err, IfOk, IfErr, true};
+ghost use Rattle.core_inline.specs.Answers.{answered, answers_fetch, answers_put, answers_reserve, troubled};
+ghost use Rattle.rank_client.specs.Calls.{end_answer, end_trouble, fetch_answer, fetch_trouble, put_answer, put_trouble};
+
+use adlb_unit::{End, Handle, Payload, Trouble};
+use bag_ledger::Answer;
+use rank_client::{EndFault, PutFault};
+
+// What a put tells.
+pub(crate) fn put_result(answer: Result<Answer, Trouble>) -> Result<(), PutFault>
+    requires { IfOk answer (λ a. answers_put a ≡ true) }
+    ensures answer { put_answer result ≡ answered answer }
+    ensures trouble { put_trouble result ≡ troubled answer }
+{
+    match answer {
+        Ok(Answer::Fine) => Ok(()),
+        Ok(Answer::Rejected) => Err(PutFault::Rejected),
+        Ok(Answer::Ended(End::NoMoreWork)) => Err(PutFault::NoMoreWork),
+        Ok(Answer::Ended(End::Exhausted)) => Err(PutFault::Exhausted),
+        Ok(_) => unreachable!(),
+        Err(Trouble::Memory) => Err(PutFault::Memory),
+        Err(Trouble::TooLong { stamp }) => Err(PutFault::TooLong { stamp }),
+    }
+}
+
+// What a reserve tells.
+pub(crate) fn reserve_result(answer: Result<Answer, Trouble>) -> Result<Handle, EndFault>
+    requires { IfOk answer (λ a. answers_reserve a ≡ true) }
+    ensures answer { end_answer result ≡ answered answer }
+    ensures trouble { end_trouble result ≡ troubled answer }
+{
+    match answer {
+        Ok(Answer::Granted(note)) => Ok(Handle::of(note)),
+        Ok(Answer::Ended(End::NoMoreWork)) => Err(EndFault::NoMoreWork),
+        Ok(Answer::Ended(End::Exhausted)) => Err(EndFault::Exhausted),
+        Ok(_) => unreachable!(),
+        Err(Trouble::Memory) => Err(EndFault::Memory),
+        Err(Trouble::TooLong { stamp }) => Err(EndFault::TooLong { stamp }),
+    }
+}
+
+// What a fetch tells. A refusal hands the handle back.
+pub(crate) fn fetch_result(
+    handle: Handle,
+    answer: Result<Answer, Trouble>,
+) -> Result<Payload, (Handle, Trouble)>
+    requires { IfOk answer (λ a. answers_fetch a ≡ true) }
+    ensures answer { fetch_answer result ≡ answered answer }
+    ensures trouble { fetch_trouble result ≡ troubled answer }
+    ensures back { IfErr result (λ e. e.0 ≡ handle) }
+{
+    match answer {
+        Ok(Answer::Body(body)) => {
+            let _ = handle.spend();
+            Ok(body)
+        }
+        Ok(_) => unreachable!(),
+        Err(trouble) => Err((handle, trouble)),
+    }
+}

@@ -1,0 +1,143 @@
+//! A run of one rank and one server, without threads.
+
+ghost use Rattle.std.specs.Prelude.{◌≡◌, ◌<◌, ◌≤◌, ◌^◌, ◌↔◌, ℕ, length, None, Some, Err, true, false, IfOk, IfErr, OnOk};
+ghost use Rattle.adlb_unit.specs.declared.notes.Trouble.{Trouble};
+ghost use Rattle.bag_ledger.specs.declared.entries.Call.{Call};
+ghost use Rattle.rank_client.specs.Calls.{Began, Repeats, has_finished, plus};
+ghost use Rattle.core_inline.specs.Inline.{seat_of, IsEnd, IsInline, IsStart, finish_answer};
+
+use crate::answers::{fetch_result, put_result, reserve_result};
+use crate::runs::InlineRun;
+use adlb_unit::{Handle, NoMemory, Payload, Rank, Target, Trouble, Types, WorkType};
+use bag_ledger::{Call, Ledger, Said};
+use rank_client::{Adlb, EndFault, PutFault};
+use server_core::LeftUnit;
+use std::alloc::Global;
+
+/// A run of one rank and one server. It is the link of its rank: each letter is handled inside the call that sends it, so each
+/// call returns. What it was, contracts see as its `run` (`Run`), of which `IsInline` holds after every sequence of calls. A
+/// world that answered `Memory` or `TooLong` has failed, and answers the same to every later call.
+#[derive(Drop)]
+pub struct InlineWorld {
+    run: InlineRun,
+    pub ghost one_rank: { run.config.ranks ≡ 1 },
+    pub ghost late: { (stamp : ℕ) → run.failed ≡ Some (Trouble.TooLong stamp) → 2 ^ 48 ≤ stamp },
+    ghost short: { length run.transcript < 2 ^ 48 },
+}
+
+impl InlineWorld {
+    /// A world at the start, whose server takes `limit` bytes, from 64 to `2^30`. It fails for want of memory alone.
+    pub fn new(alloc: Global, limit: u64) -> Result<InlineWorld, NoMemory>
+        requires least { 64 ≤ limit }
+        requires most { limit ≤ 2 ^ 30 }
+        ensures { IfOk result (λ world. IsStart limit world.run) }
+    {
+        Ok(InlineWorld {
+            run: InlineRun::new(alloc, limit)?,
+        })
+    }
+
+    /// The entries so far, in the order of the events. They are a legal run, in which the calls of the rank are its transcript
+    /// (`IsInline`).
+    pub fn ledger(&self) -> &Ledger
+        ensures entries { result.now ≡ self.now.run.ledger }
+        ensures holds { IsInline self.now.run }
+    {
+        self.run.ledger()
+    }
+
+    /// The rank finishes, and the server hears of it. It is called where the transcript holds no Finish. Where nothing failed,
+    /// Finish comes to the transcript; what fails is told by `end`.
+    pub fn finish_inline(&mut self)
+        requires running { has_finished self.old.run.transcript ≡ false }
+        ensures finished { self.new.run.finished ≡ true }
+        ensures says { self.new.run.transcript ≡ plus self.old.run.transcript Call.Finish (finish_answer self.new.run.failed) }
+        ensures repeats { Repeats self.old.run.failed self.new.run.failed }
+        ensures began { Began self.old.run.failed self.old.run.begun Call.Finish self.new.run.failed self.new.run.begun }
+        ensures config { self.new.run.config ≡ self.old.run.config }
+        ensures heard { self.new.run.failed ≡ None → self.new.run.ended ≡ true }
+        ensures holds { IsInline self.new.run }
+    {
+        self.run.finish();
+    }
+
+    /// What stands at the end: the ledger, the calls of the rank with their answers, and the units that are left, in arrival
+    /// order, after `finish_inline` was called. It answers `TooLong` exactly where a call of this world, `finish_inline` among them,
+    /// met it; `Memory` where a call met that, or where there is none for the list of what is left.
+    pub fn end(self) -> Result<(Ledger, Vec<Said>, Vec<LeftUnit>), Trouble>
+        requires finished { self.run.finished ≡ true }
+        ensures whole { OnOk result (self.run.failed ≡ None) }
+        ensures ledger { IfOk result (λ parts. parts.0 ≡ self.run.ledger) }
+        ensures transcript { IfOk result (λ parts. parts.1.items ≡ self.run.transcript) }
+        ensures left { IfOk result (λ parts. parts.2.items ≡ self.run.left) }
+
+        // The ledger is a legal run that holds the rank's calls, of which Finish is one, and after it the units of the bag are left.
+        ensures ended { IfOk result (λ parts. IsEnd self.run parts.0 parts.1.items parts.2.items) }
+        ensures has_finish { IfOk result (λ parts. has_finished parts.1.items ≡ true) }
+
+        // When it fails.
+        ensures too_long { (n : ℕ) → (result ≡ Err (Trouble.TooLong n)) ↔ (self.run.failed ≡ Some (Trouble.TooLong n)) }
+        ensures memory { self.run.failed ≡ Some Trouble.Memory → result ≡ Err Trouble.Memory }
+    {
+        self.run.end()
+    }
+}
+
+impl Adlb for InlineWorld {
+    ghost seat = { λ world. seat_of world.run };
+
+    ghost transcript = { λ world. world.run.transcript };
+
+    ghost batch = { λ world. false };
+
+    ghost failed = { λ world. world.run.failed };
+
+    ghost begun = { λ world. world.run.begun };
+
+    fn put(
+        &mut self,
+        kind: WorkType,
+        prio: i32,
+        target: Target,
+        answer: Option<Rank>,
+        body: Payload,
+    ) -> Result<(), PutFault> {
+        put_result(
+            self.run.call(Call::Put {
+                kind,
+                prio,
+                target,
+                answer,
+                body,
+            }),
+        )
+    }
+
+    fn reserve(&mut self, types: &Types) -> Result<Handle, EndFault> {
+        reserve_result(
+            self.run.call(Call::Reserve {
+                types: types.twin(),
+            }),
+        )
+    }
+
+    fn get_reserved(&mut self, handle: Handle) -> Result<Payload, (Handle, Trouble)> {
+        let id = handle.note().id;
+        fetch_result(handle, self.run.call(Call::Fetch { id }))
+    }
+
+    fn leave(&mut self, handle: Handle) {
+        let _ = handle.spend();
+    }
+
+    fn finish(self) {
+        let mut world = self;
+        world.finish_inline();
+    }
+
+    fn transcript(&self) -> &[Said] {
+        self.run.transcript()
+    }
+
+    ghost short = { λ world. world.short };
+}

@@ -1,0 +1,136 @@
+//! A run of one rank and one server, call by call.
+
+ghost use Rattle.std.specs.Prelude.{◌≡◌, ◌<◌, ◌≤◌, ◌^◌, ◌↔◌, ◌++◌, ◌∷◌, [], ℕ, None, Some, Err, true, false, IfOk, IfErr, OnOk};
+ghost use Rattle.adlb_unit.specs.declared.notes.Trouble.{Trouble};
+ghost use Rattle.bag_ledger.specs.declared.entries.Call.{Call};
+ghost use Rattle.rank_client.specs.Calls.{Began, Repeats, TellsAgain, end_told, has_finished, is_finish, plus};
+ghost use Rattle.core_inline.specs.Answers.{CanCall, IsAnswer, answered, answers_call, heeds_end, troubled};
+ghost use Rattle.core_inline.specs.Inline.{IsEnd, IsInline, IsStart, finish_answer};
+
+use crate::pairs::{exchange, finish};
+use adlb_unit::{Config, NoMemory, Rank, Server, Trouble};
+use bag_ledger::{Answer, Call, Ledger, Said};
+use core_world::World;
+use server_core::LeftUnit;
+use std::alloc::Global;
+use std::marker::Model;
+
+// A run in line: a world of one rank and one server, how many calls were answered, and whether the rank's finish was called.
+#[derive(Drop)]
+pub(crate) struct InlineRun {
+    world: World,
+    answered: usize,
+    finished: bool,
+}
+
+impl Model for InlineRun {
+    ghost use Rattle.core_inline.specs.Inline.{Run};
+
+    ghost Value = { Run };
+
+    ghost use Rattle.core_inline.specs.Inside.{run_of, IsInside};
+
+    ghost view = { run_of };
+
+    ghost invariant = { IsInside };
+}
+
+impl InlineRun {
+    // A run at the start.
+    pub(crate) fn new(alloc: Global, limit: u64) -> Result<InlineRun, NoMemory>
+        requires least { 64 ≤ limit }
+        requires most { limit ≤ 2 ^ 30 }
+        ensures start { IfOk result (λ run. IsStart limit run) }
+        ensures holds { IfOk result IsInline }
+    {
+        let Ok(config) = Config::new(1, 1, limit) else {
+            unreachable!()
+        };
+        Ok(InlineRun {
+            world: World::new(alloc, config)?,
+            answered: 0,
+            finished: false,
+        })
+    }
+
+    // One call of the rank, from its beginning to its answer.
+    pub(crate) fn call(&mut self, call: Call) -> Result<Answer, Trouble>
+        requires running { has_finished self.old.transcript ≡ false }
+        requires can { CanCall self.old.transcript call }
+        requires going { is_finish call ≡ false }
+        ensures says { self.new.transcript ≡ plus self.old.transcript call (answered result) }
+        ensures kind { IfOk result (λ a. answers_call call a ≡ true) }
+        ensures known { IfOk result (λ a. IsAnswer self.old.transcript call a) }
+        ensures told { heeds_end call ≡ true → TellsAgain (end_told self.old.transcript) (answered result) }
+        ensures failed { self.new.failed ≡ troubled result }
+        ensures repeats { Repeats self.old.failed (troubled result) }
+        ensures began { Began self.old.failed self.old.begun call self.new.failed self.new.begun }
+        ensures config { self.new.config ≡ self.old.config }
+        ensures holds { IsInline self.new }
+    {
+        if let Some(met) = self.world.trouble() {
+            return Err(met);
+        }
+        let answer = exchange(&mut self.world, call)?;
+        self.answered += 1;
+        Ok(answer)
+    }
+
+    // The rank finishes, and the server hears of it.
+    pub(crate) fn finish(&mut self)
+        requires running { has_finished self.old.transcript ≡ false }
+        ensures finished { self.new.finished ≡ true }
+        ensures says { self.new.transcript ≡ plus self.old.transcript Call.Finish (finish_answer self.new.failed) }
+        ensures repeats { Repeats self.old.failed self.new.failed }
+        ensures began { Began self.old.failed self.old.begun Call.Finish self.new.failed self.new.begun }
+        ensures config { self.new.config ≡ self.old.config }
+        ensures heard { self.new.failed ≡ None → self.new.ended ≡ true }
+        ensures holds { IsInline self.new }
+    {
+        self.finished = true;
+        if self.world.trouble().is_some() {
+            return;
+        }
+        match finish(&mut self.world) {
+            Ok(()) => self.answered += 1,
+            Err(_) => {}
+        }
+    }
+
+    // What stands at the end.
+    pub(crate) fn end(self) -> Result<(Ledger, Vec<Said>, Vec<LeftUnit>), Trouble>
+        requires finished { self.finished ≡ true }
+        ensures whole { OnOk result (self.failed ≡ None) }
+        ensures ledger { IfOk result (λ parts. parts.0 ≡ self.ledger) }
+        ensures transcript { IfOk result (λ parts. parts.1.items ≡ self.transcript) }
+        ensures left { IfOk result (λ parts. parts.2.items ≡ self.left) }
+        ensures ended { IfOk result (λ parts. IsEnd self parts.0 parts.1.items parts.2.items) }
+        ensures has_finish { IfOk result (λ parts. has_finished parts.1.items ≡ true) }
+        ensures too_long { (n : ℕ) → (result ≡ Err (Trouble.TooLong n)) ↔ (self.failed ≡ Some (Trouble.TooLong n)) }
+        ensures memory { self.failed ≡ Some Trouble.Memory → result ≡ Err Trouble.Memory }
+    {
+        if let Some(trouble) = self.world.trouble() {
+            return Err(trouble);
+        }
+        let Ok(left) = self.world.left(Server(0)) else {
+            return Err(Trouble::Memory);
+        };
+        let (ledger, transcript) = self.world.into_parts();
+        Ok((ledger, transcript, left))
+    }
+
+    // The entries so far.
+    pub(crate) fn ledger(&self) -> &Ledger
+        ensures entries { result.now ≡ self.now.ledger }
+        ensures holds { IsInline self.now }
+    {
+        self.world.ledger()
+    }
+
+    // The calls with their answers so far.
+    pub(crate) fn transcript(&self) -> &[Said]
+        ensures { result.now ≡ self.now.transcript }
+    {
+        &self.world.transcript(Rank(0))[..self.answered]
+    }
+}

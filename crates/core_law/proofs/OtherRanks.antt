@@ -1,0 +1,167 @@
+-- A client stands for its rank after a step that tells of another.
+use Rattle.std.proofs.Common.{◌≡◌, ◌≢◌, ℕ, zero, suc, ◌==◌, Bool, true, false, List, [], ◌∷◌, ◌++◌, Option, Some, None, refl, sym, ap, ◌∙◌, subst, slice_get}
+use Rattle.std.specs.Prelude.{option_and_then}
+use Rattle.std.proofs.lemmas.Bool.{eq-eqb}
+use Rattle.std.proofs.lemmas.List.Elements.{All-weaker}
+use Rattle.adlb_unit.specs.declared.messages.Message.{Message}
+use Rattle.adlb_unit.specs.declared.names.CommonRef.{CommonRef}
+use Rattle.adlb_unit.specs.declared.names.Rank.{Rank}
+use Rattle.adlb_unit.specs.declared.names.Server.{Server}
+use Rattle.adlb_unit.specs.declared.names.UnitId.{UnitId}
+use Rattle.adlb_unit.specs.declared.names.BatchId.{BatchId}
+use Rattle.adlb_unit.specs.declared.notes.End.{End}
+use Rattle.adlb_unit.specs.declared.notes.End.TheVariants as ends_by
+use Rattle.adlb_unit.specs.declared.notes.UnitNote.{UnitNote}
+use Rattle.adlb_unit.specs.declared.units.Unit.{Unit}
+use Rattle.bag_ledger.specs.declared.entries.Entry.{Entry}
+use Rattle.bag_ledger.specs.declared.entries.Entry.TheVariants as enters
+use Rattle.bag_ledger.specs.declared.states.Part.{Part}
+use Rattle.bag_ledger.specs.declared.states.Placed.{Placed as Lodged}
+use Rattle.bag_ledger.specs.declared.states.Promise.{Promise}
+use Rattle.bag_ledger.specs.declared.states.RankState.{RankState}
+use Rattle.bag_ledger.specs.declared.states.UnitPlace.{UnitPlace}
+use Rattle.bag_ledger.specs.declared.states.UnitPlace.TheVariants.{Free, Pinned, Spent, Travelling}
+use Rattle.bag_ledger.specs.Bag.{Bag, keeping, putting, rank_at, same_unit, unit_of}
+use Rattle.bag_ledger.specs.Steps.{Steps, after, change_at, kept, moved, shared, taken, with_rank}
+use Rattle.bag_ledger.proofs.Lookups.{find_before}
+use Rattle.bag_ledger.proofs.Moves.{moved_other}
+use Rattle.bag_ledger.proofs.Tests.{same_unit_is, some_is}
+use Rattle.rank_client.specs.Agreement.{Agrees, IsCaused, IsHeld, holds, rank_of}
+use Rattle.rank_client.specs.State.{State as Client}
+use Rattle.core_law.specs.Others.{ClientsStay, teller, tells_of}
+
+-- What a bag keeps of a rank.
+record Leaves (me : Rank) (b next : Bag) : Type 0 where
+  rank : rank_at next me ≡ rank_at b me
+  servers : next.servers ≡ b.servers
+  done : b.done ≡ true → next.done ≡ true
+  exhausted : b.exhausted ≡ true → next.exhausted ≡ true
+  held : (note : UnitNote) → IsHeld b me note → IsHeld next me note
+
+still_caused : (b next : Bag) (o : Option End) → (b.done ≡ true → next.done ≡ true) → (b.exhausted ≡ true → next.exhausted ≡ true) → IsCaused b o → IsCaused next o
+still_caused b next None done exhausted is = is
+still_caused b next (Some ends_by.NoMoreWork) done exhausted is = done is
+still_caused b next (Some ends_by.Exhausted) done exhausted is = exhausted is
+
+stands_after : (b next : Bag) (s : Client) (coming : Option Message) → Leaves s.me b next → Agrees s coming b → Agrees s coming next
+stands_after b next s coming l a = record {
+  rank = l.rank ∙ a.rank;
+  servers = l.servers ∙ a.servers;
+  caused = still_caused b next (rank_of s s.finished coming).end l.done l.exhausted a.caused;
+  held = All-weaker (IsHeld b s.me) (IsHeld next s.me) l.held (holds s coming) a.held;
+}
+
+-- Changes.
+
+changed_other : {X : Type 0} (f : X → X) (place other : ℕ) (xs : List X) → other ≢ place → slice_get (change_at f place xs) other ≡ slice_get xs other
+changed_other f place other [] differs = refl
+changed_other f zero zero (x ∷ xs) differs = absurd (differs refl)
+changed_other f zero (suc other) (x ∷ xs) differs = refl
+changed_other f (suc place) zero (x ∷ xs) differs = refl
+changed_other f (suc place) (suc other) (x ∷ xs) differs = changed_other f place other xs (λ e. differs (ap suc e))
+
+-- another rank changes after that
+then_rank : (me other : Rank) (f : RankState → RankState) (b c : Bag) → me.0 ≢ other.0 → Leaves me b c → Leaves me b (with_rank other f c)
+then_rank me other f b c differs l = record {
+  rank = changed_other f other.0 me.0 c.ranks differs ∙ l.rank;
+  servers = l.servers;
+  done = l.done;
+  exhausted = l.exhausted;
+  held = l.held;
+}
+
+-- neither ranks nor units change
+aside : (me : Rank) (b : Bag) (parts : List Part) (promises : List Promise) → Leaves me b (record b { parts = parts; promises = promises })
+aside me b parts promises = record { rank = refl; servers = refl; done = λ is. is; exhausted = λ is. is; held = λ note is. is }
+
+-- a unit comes
+added : (me : Rank) (b : Bag) (u : Lodged) (parts : List Part) → Leaves me b (record b { units = b.units ++ u ∷ []; parts = parts })
+added me b u parts = record {
+  rank = refl;
+  servers = refl;
+  done = λ is. is;
+  exhausted = λ is. is;
+  held = λ note is. (is.0, (find_before (λ (v : Lodged). same_unit v.unit.id note.id) b.units (u ∷ []) is.0 is.1.0, is.1.1));
+}
+
+-- a unit that is not the rank's is moved
+goes : (me : Rank) (b : Bag) (id : UnitId) (place : UnitPlace) (u : Lodged) (promises : List Promise) → unit_of b id ≡ Some u → ((server : Server) → u.place ≡ Pinned server me → ⊥) → Leaves me b (record (moved id place b) { promises = promises })
+goes me b id place u promises there apart = record { rank = refl; servers = refl; done = λ is. is; exhausted = λ is. is; held = held }
+  where
+    held : (note : UnitNote) → IsHeld b me note → IsHeld (record (moved id place b) { promises = promises }) me note
+    held note is = by_test (same_unit id note.id) refl
+      where
+        by_test : (t : Bool) → same_unit id note.id ≡ t → IsHeld (record (moved id place b) { promises = promises }) me note
+        by_test true same =
+            let here : unit_of b note.id ≡ Some u = ap (λ i. unit_of b i) (sym (same_unit_is id note.id same)) ∙ there in
+            let one : u ≡ is.0 = some_is (sym here ∙ is.1.0) in
+            absurd (apart note.server (ap (λ (v : Lodged). v.place) one ∙ is.1.1))
+        by_test false differs = (is.0, (moved_other b id note.id place differs ∙ is.1.0, is.1.1))
+
+free_apart : (me : Rank) (at server : Server) (u : Lodged) → u.place ≡ Free at → u.place ≡ Pinned server me → ⊥
+free_apart me at server u free pinned = let both : Free at ≡ Pinned server me = sym free ∙ pinned in absurd (cc)
+
+travelling_apart : (me : Rank) (to server : Server) (u : Lodged) → u.place ≡ Travelling to → u.place ≡ Pinned server me → ⊥
+travelling_apart me to server u on_way pinned = let both : Travelling to ≡ Pinned server me = sym on_way ∙ pinned in absurd (cc)
+
+pinned_apart : (me other : Rank) (at server : Server) (u : Lodged) → me.0 ≢ other.0 → u.place ≡ Pinned at other → u.place ≡ Pinned server me → ⊥
+pinned_apart me other at server u differs one two =
+    let both : Pinned at other ≡ Pinned server me = sym one ∙ two in
+    let same : other ≡ me = cc in
+    differs (ap (λ (r : Rank). r.0) (sym same))
+
+unit_taken : (me : Rank) (b : Bag) (server : Server) (o : Option Unit) → Leaves me b (taken server o b)
+unit_taken me b server None = aside me b b.parts b.promises
+unit_taken me b server (Some u) = by_common u.common
+  where
+    by_common : (common : Option CommonRef) → Leaves me b (shared common (record b { units = b.units ++ record { unit = u; place = Free server } ∷ [] }))
+    by_common None = added me b (record { unit = u; place = Free server }) b.parts
+    by_common (Some c) = added me b (record { unit = u; place = Free server }) (shared (Some c) b).parts
+
+part_kept : (me : Rank) (b : Bag) (server : Server) (batch : BatchId) (o : Option (ℕ × List ℕ)) → me.0 ≢ batch.rank.0 → Leaves me b (kept server batch o b)
+part_kept me b server batch None differs = aside me b b.parts b.promises
+part_kept me b server batch (Some k) differs = then_rank me batch.rank _ b _ differs (aside me b _ b.promises)
+
+-- An entry that does not tell of the rank.
+
+same : (me : Rank) (b : Bag) → Leaves me b b
+same me b = aside me b b.parts b.promises
+
+apart : (me other : Rank) → tells_of me (Some other) ≡ false → me.0 ≢ other.0
+apart me other is e = let yes_is : (other.0 == me.0) ≡ true = eq-eqb other.0 me.0 (sym e) in absurd (cc)
+
+entry_leaves : (me : Rank) (b : Bag) (e : Entry) → Steps b e (after b e) → tells_of me (teller e) ≡ false → Leaves me b (after b e)
+entry_leaves me b (enters.Putting rank call kind prio target answer body) s is = then_rank me rank _ b b (apart me rank is) (same me b)
+entry_leaves me b (enters.Refused server id used) s is = then_rank me id.rank _ b b (apart me id.rank is) (same me b)
+entry_leaves me b (enters.Accepted server id) s is = then_rank me id.rank _ b _ (apart me id.rank is) (unit_taken me b server (option_and_then (λ (r : RankState). putting r.status) (rank_at b id.rank)))
+entry_leaves me b (enters.Rejected rank call) s is = then_rank me rank _ b b (apart me rank is) (same me b)
+entry_leaves me b (enters.Keeping rank call common) s is = then_rank me rank _ b b (apart me rank is) (same me b)
+entry_leaves me b (enters.Kept server batch) s is = part_kept me b server batch (option_and_then (λ (r : RankState). keeping r.status) (rank_at b batch.rank)) (apart me batch.rank is)
+entry_leaves me b (enters.Closing rank call) s is = then_rank me rank _ b b (apart me rank is) (same me b)
+entry_leaves me b (enters.Closed server batch) s is = then_rank me batch.rank _ b _ (apart me batch.rank is) (aside me b _ b.promises)
+entry_leaves me b (enters.Freed server batch) s is = aside me b _ b.promises
+entry_leaves me b (enters.Asked rank call types) s is = then_rank me rank _ b b (apart me rank is) (same me b)
+entry_leaves me b (enters.Tried rank call types) s is = then_rank me rank _ b b (apart me rank is) (same me b)
+entry_leaves me b (enters.Granted server rank call id) s is =
+    then_rank me rank _ b _ (apart me rank is) (goes me b id (Pinned server rank) s.1.2 b.promises s.1.6.0 (λ at. free_apart me server at s.1.2 s.1.6.1))
+entry_leaves me b (enters.Looked server rank call) s is = then_rank me rank _ b b (apart me rank is) (same me b)
+entry_leaves me b (enters.NoCurrent rank call) s is = then_rank me rank _ b b (apart me rank is) (same me b)
+entry_leaves me b (enters.Fetching rank call id) s is = then_rank me rank _ b b (apart me rank is) (same me b)
+entry_leaves me b (enters.Fetched server rank id) s is =
+    then_rank me rank _ b _ (apart me rank is) (goes me b id Spent s.1.2 b.promises s.1.6.0 (λ at. pinned_apart me rank server at s.1.2 (apart me rank is) s.1.6.1))
+entry_leaves me b (enters.CommonFetched server rank batch) s is = then_rank me rank _ b _ (apart me rank is) (aside me b _ b.promises)
+entry_leaves me b (enters.Promised server id n) s is = aside me b b.parts _
+entry_leaves me b (enters.Left server to id) s is = goes me b id (Travelling to) s.1.0 b.promises s.1.2.0 (λ at. free_apart me server at s.1.0 s.1.2.1)
+entry_leaves me b (enters.Arrived server id) s is = goes me b id (Free server) s.1.0 _ s.1.1.0 (λ at. travelling_apart me server at s.1.0 s.1.1.1)
+entry_leaves me b (enters.Withdrawn server id) s is = aside me b b.parts _
+entry_leaves me b (enters.Counting rank call kind) s is = then_rank me rank _ b b (apart me rank is) (same me b)
+entry_leaves me b (enters.Counted server rank call info) s is = then_rank me rank _ b b (apart me rank is) (same me b)
+entry_leaves me b (enters.Done rank call) s is = then_rank me rank _ b _ (apart me rank is) (record { rank = refl; servers = refl; done = λ is. refl; exhausted = λ is. is; held = λ note is. is })
+entry_leaves me b enters.Exhausted s is = record { rank = refl; servers = refl; done = λ is. is; exhausted = λ is. refl; held = λ note is. is }
+entry_leaves me b (enters.Over rank call end) s is = then_rank me rank _ b b (apart me rank is) (same me b)
+entry_leaves me b (enters.Finished rank call) s is = then_rank me rank _ b b (apart me rank is) (same me b)
+
+pub clients_stay : ClientsStay
+clients_stay b next e s coming step is a =
+    let now : Agrees s coming (after b e) = stands_after b (after b e) s coming (entry_leaves s.me b e (step.0, step.1, refl) is) a in
+    subst (λ (n : Bag). Agrees s coming n) (sym step.2) now

@@ -1,0 +1,87 @@
+-- Sums over lists and over all links, where one element is set or some letters are sent.
+use Rattle.std.proofs.Common.{◌≡◌, ◌<◌, ℕ, zero, suc, ◌+◌, ◌-◌, true, false, List, [], ◌∷◌, ◌++◌, length, set, get_or, ◌∙◌, arith, inl, inr, ltb}
+use Rattle.std.proofs.lemmas.List.{length-set, get_or-set_same, get_or-set_other}
+use Rattle.std.proofs.lemmas.Bool.Decides.{nat_tests}
+use Rattle.std.proofs.lemmas.Bool.{ltb-true, cases_eq}
+use Rattle.adlb_unit.specs.declared.actors.Actor.{Actor}
+use Rattle.adlb_unit.specs.declared.actors.Actor.TheVariants as by
+use Rattle.adlb_unit.specs.declared.configs.Config.{Config}
+use Rattle.adlb_unit.specs.declared.letters.Letter.{Letter}
+use Rattle.adlb_unit.specs.declared.letters.Sending.{Sending}
+use Rattle.server_core.specs.State.{place_of}
+use Rattle.core_run.specs.World.{Links, actors, is_within, link, post, put_link, row}
+use Rattle.core_law.specs.Measures.{Weights, actor, link_weight, links_weight, row_weight, sends_weight, weigh, weigh_at}
+
+pub weigh-append : {X : Type 0} (f : X → ℕ) (xs ys : List X) → weigh f (xs ++ ys) ≡ weigh f xs + weigh f ys
+weigh-append f [] ys = omega arith
+weigh-append f (x ∷ xs) ys = let h = weigh-append f xs ys in omega arith
+
+-- one element is set
+pub weigh_at-set : {X : Type 0} (f : ℕ → X → ℕ) (xs : List X) (i : ℕ) (y d : X) → i < length xs → weigh_at f (set xs i y) + f i (get_or xs i d) ≡ weigh_at f xs + f i y
+weigh_at-set f [] i y d l = absurd (omega arith)
+weigh_at-set f (x ∷ xs) zero y d l = omega arith
+weigh_at-set f (x ∷ xs) (suc i) y d l = let h = weigh_at-set (λ k. f (suc k)) xs i y d (omega arith) in omega arith
+
+-- there is a list from each of so many actors to each
+pub record IsSquare (n : ℕ) (links : Links) : Type 0 where
+  pub rows : length links ≡ n
+  pub each : (a : ℕ) → a < n → length (row links a) ≡ n
+
+pub place_actor : (config : Config) (a : Actor) → is_within config a ≡ true → actor config (place_of config a) ≡ a
+place_actor config (by.Rank r) h = rw h
+place_actor config (by.Server s) h =
+    let no : ltb (config.ranks + s.0) config.ranks ≡ false = grind (arith, nat_tests) in
+    let same : config.ranks + s.0 - config.ranks ≡ s.0 = omega arith in
+    rw (no, same)
+
+pub place_below : (config : Config) (a : Actor) → is_within config a ≡ true → place_of config a < actors config
+place_below config (by.Rank r) h = let l = ltb-true r.0 config.ranks h in omega arith
+place_below config (by.Server s) h = let l = ltb-true s.0 config.servers h in omega arith
+
+pub square_put : (n : ℕ) (links : Links) (a b : ℕ) (x : List Letter) → a < n → b < n → IsSquare n links → IsSquare n (put_link links a b x)
+square_put n links a b x la lb sq =
+    record {
+      rows = length-set links a (set (row links a) b x) ∙ sq.rows;
+      each = λ k l. elim (cases_eq k a) [
+        | inl same ↦
+            let in' : a < length links = let e = sq.rows in omega arith in
+            rw (same, get_or-set_same links a (set (row links a) b x) [] in', length-set (row links a) b x) (sq.each a la)
+        | inr differs ↦ rw (get_or-set_other links a k (set (row links a) b x) [] differs) (sq.each k l)
+      ];
+    }
+
+-- one link is set
+pub put_weight : (config : Config) (m : Weights) (n : ℕ) (links : Links) (a b : ℕ) (x : List Letter) → a < n → b < n → IsSquare n links → links_weight config m (put_link links a b x) + link_weight config m a b (link links a b) ≡ links_weight config m links + link_weight config m a b x
+put_weight config m n links a b x la lb sq =
+    let rows = sq.rows in
+    let wide = sq.each a la in
+    let outer = weigh_at-set (row_weight config m) links a (set (row links a) b x) [] (omega arith) in
+    let inner = weigh_at-set (link_weight config m a) (row links a) b x [] (omega arith) in
+    omega arith
+
+-- the actors to which letters go are of the configuration
+abbrev pub AreWithin : Config → List Sending → Type 0
+AreWithin config [] = Unit {0}
+AreWithin config (x ∷ sends) = (is_within config x.to ≡ true) × AreWithin config sends
+
+pub square_post : (config : Config) (links : Links) (a : ℕ) (sends : List Sending) → a < actors config → AreWithin config sends → IsSquare (actors config) links → IsSquare (actors config) (post config links a sends)
+unfolding post
+square_post config links a [] l are sq = sq
+square_post config links a (x ∷ sends) l are sq =
+    square_post config (put_link links a (place_of config x.to) (link links a (place_of config x.to) ++ x.letter ∷ [])) a sends l are.1
+    (square_put (actors config) links a (place_of config x.to) (link links a (place_of config x.to) ++ x.letter ∷ []) l (place_below config x.to are.0) sq)
+
+pub post_weight : (config : Config) (m : Weights) (links : Links) (a : ℕ) (sends : List Sending) → a < actors config → AreWithin config sends → IsSquare (actors config) links → links_weight config m (post config links a sends) ≡ links_weight config m links + sends_weight m (actor config a) sends
+unfolding post
+post_weight config m links a [] l are sq = omega arith
+post_weight config m links a (s ∷ sends) l are sq =
+    let b = place_of config s.to in
+    let x = link links a b ++ s.letter ∷ [] in
+    let in' = place_below config s.to are.0 in
+    let rest = post_weight config m (put_link links a b x) a sends l are.1 (square_put (actors config) links a b x l in' sq) in
+    let one = put_weight config m (actors config) links a b x l in' sq in
+    let f : Letter → ℕ = λ k. m.letter (actor config a) (actor config b) k.message in
+    let more = weigh-append f (link links a b) (s.letter ∷ []) in
+    let who = place_actor config s.to are.0 in
+    let same : m.letter (actor config a) (actor config b) s.letter.message ≡ m.letter (actor config a) s.to s.letter.message = rw who in
+    omega arith

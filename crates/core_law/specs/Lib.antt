@@ -1,0 +1,6 @@
+pub mod Among
+pub mod Letters
+pub mod Lines
+pub mod Measures
+pub mod Others
+pub mod Own

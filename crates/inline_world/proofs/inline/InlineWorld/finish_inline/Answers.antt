@@ -1,8 +1,0 @@
-use Rattle.inline_world.proofs.inline.InlineWorld.finish_inline.Goals as goal
-
-pub invariant_of-self : goal.invariant_of-self
-invariant_of-self c = record {
-  one_rank = c.finish.ensures.holds.one_rank;
-  late = λ stamp too_long. (c.finish.ensures.holds.late stamp too_long).0;
-  short = c.finish.ensures.holds.short;
-}
