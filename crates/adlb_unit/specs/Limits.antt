@@ -1,14 +1,32 @@
 -- The limits of a run's numbers.
-use Rattle.std.specs.Prelude.{◌≡◌, ◌≤◌, ◌^◌, ℕ}
+use Rattle.std.specs.Prelude.{◌≡◌, ◌≤◌, ◌<◌, ◌^◌, ℕ, List, length}
 use Rattle.adlb_unit.specs.declared.configs.ConfigFault.{ConfigFault}
 use Rattle.adlb_unit.specs.declared.configs.ConfigFault.TheVariants.{Ranks, Servers, Limit}
 
+-- stamps are below this number
+abbrev pub stamp_limit : ℕ
+stamp_limit = 2 ^ 48
+
+-- a unit's own bytes, the ranks and the servers of a run, and the types of a list are at most so many
+abbrev pub body_limit : ℕ
+body_limit = 2 ^ 20
+
+abbrev pub rank_limit : ℕ
+rank_limit = 32
+
+abbrev pub server_limit : ℕ
+server_limit = 8
+
+abbrev pub type_limit : ℕ
+type_limit = 16
+
 abbrev pub InRanks : ℕ → Type 0
-InRanks ranks = (1 ≤ ranks) × (ranks ≤ 32)
+InRanks ranks = (1 ≤ ranks) × (ranks ≤ rank_limit)
 
 abbrev pub InServers : ℕ → Type 0
-InServers servers = (1 ≤ servers) × (servers ≤ 8)
+InServers servers = (1 ≤ servers) × (servers ≤ server_limit)
 
+-- of the bytes that a server takes
 abbrev pub InLimit : ℕ → Type 0
 InLimit limit = (64 ≤ limit) × (limit ≤ 2 ^ 30)
 

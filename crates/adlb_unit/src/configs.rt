@@ -1,9 +1,10 @@
 //! How many ranks and servers there are, and how many bytes a server takes.
 
-ghost use Rattle.std.specs.Prelude.{ℕ, ◌≡◌, ◌<◌, ◌+◌, ◌%◌, ◌↔◌, IfOk};
+ghost use Rattle.std.specs.Prelude.{ℕ, ◌≡◌, ◌<◌, ◌+◌, ◌%◌, ◌↔◌, IfOk, IsTrue};
 ghost use Rattle.adlb_unit.specs.Limits.{InRanks, InServers, InLimit, Refuses};
 
-use crate::names::{Rank, Server};
+use crate::limits::{RANK_LIMIT, SERVER_LIMIT};
+use crate::names::{Rank, Server, Target};
 use thiserror::Error;
 
 /// Which number of a configuration is outside its limits.
@@ -29,6 +30,8 @@ pub struct Config {
 }
 
 impl Config {
+    ghost use Rattle.adlb_unit.specs.Targets.{home};
+
     /// A configuration of these numbers. It refuses the first of them that is outside its limits (`Refuses`).
     pub fn new(ranks: u32, servers: u32, limit: u64) -> Result<Config, ConfigFault>
         ensures ranks { IfOk result (λ c. c.ranks ≡ ranks) }
@@ -36,10 +39,10 @@ impl Config {
         ensures limit { IfOk result (λ c. c.limit ≡ limit) }
         ensures refused { (fault : ConfigFault) → (result ≡ Err fault) ↔ Refuses ranks servers limit fault }
     {
-        if ranks < 1 || ranks > 32 {
+        if ranks < 1 || ranks > RANK_LIMIT {
             return Err(ConfigFault::Ranks { given: ranks });
         }
-        if servers < 1 || servers > 8 {
+        if servers < 1 || servers > SERVER_LIMIT {
             return Err(ConfigFault::Servers { given: servers });
         }
         if limit < 64 || limit > 1 << 30 {
@@ -52,9 +55,9 @@ impl Config {
         })
     }
 
-    /// The home of a rank: the server of the rank's number modulo the number of servers.
+    /// The home of a rank (`home`): the server of the rank's number modulo the number of servers.
     pub fn home(&self, rank: Rank) -> Server
-        ensures home { result.0 ≡ rank.0 % self.now.servers }
+        ensures home { result ≡ home self.now rank }
         ensures there { result.0 < self.now.servers }
     {
         Server(rank.0 % self.servers)
@@ -70,6 +73,21 @@ impl Config {
             Server(0)
         } else {
             Server(server.0 + 1)
+        }
+    }
+}
+
+impl Config {
+    ghost use Rattle.adlb_unit.specs.Targets.{Aims, in_ranks};
+
+    /// A rank that the target names is one of the run's (`Aims`, and as a test `in_ranks`).
+    pub fn has_target(&self, target: Target) -> bool
+        ensures aims { IsTrue result ↔ Aims target self.now.ranks }
+        ensures test { result ≡ in_ranks self.now target }
+    {
+        match target {
+            Target::Any => true,
+            Target::Only(rank) | Target::Soft(rank) => rank.0 < self.ranks,
         }
     }
 }

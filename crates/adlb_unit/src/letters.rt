@@ -24,7 +24,7 @@ pub struct Sending {
 }
 
 impl Letter {
-    /// An equal letter. It fails for want of memory alone.
+    /// An equal letter. Its only error is `NoMemory`.
     pub fn twin(&self, alloc: Global) -> Result<Letter, NoMemory>
         ensures { IfOk result (λ l. l ≡ self.now) }
     {

@@ -1,19 +1,23 @@
 //! Units of work, who puts them and which of them a rank may get, and the letters in which ranks and servers speak of
 //! them.
 //!
-//! It stands on nothing else of the workspace. `specs/Permit.antt` says which units are permitted to a rank,
-//! `specs/Held.antt` what a payload's bytes are, `specs/Limits.antt` what a configuration allows, `specs/Kinds.antt`
-//! who sends which message, and `specs/Totals.antt` how many bytes a fetch gives.
+//! It stands on nothing else of the workspace. `specs/Permit.antt` says which units are permitted to a rank and which
+//! suit it better, `specs/Targets.antt` which targets a run has and where its ranks are at home, `specs/Ids.antt` when
+//! ids are equal, `specs/Limits.antt` how great a run's numbers may be, `specs/Links.antt` how letters are stamped and
+//! placed, `specs/Kinds.antt` who sends which message, `specs/Infos.antt` what is told of free units, `specs/Held.antt`
+//! what a payload's bytes are, and `specs/Totals.antt` how many bytes a fetch gives.
 #![tactic(auto)]
 
 mod actors;
 mod configs;
 mod handles;
 mod letters;
+mod limits;
 mod messages;
 mod names;
 mod notes;
 mod payloads;
+mod running_out;
 mod sending;
 mod tokens;
 mod units;
@@ -23,10 +27,12 @@ pub use actors::Actor;
 pub use configs::{Config, ConfigFault};
 pub use handles::Handle;
 pub use letters::{Letter, Sending};
+pub use limits::{BODY_LIMIT, RANK_LIMIT, SERVER_LIMIT, STAMP_LIMIT, TYPE_LIMIT, limits_as_stated};
 pub use messages::{Message, Why};
 pub use names::{BatchId, CommonRef, NoMemory, Rank, Server, Target, UnitId, WorkType};
 pub use notes::{End, Info, Trouble, UnitNote};
 pub use payloads::Payload;
+pub use running_out::or_no_memory;
 pub use tokens::{AskedList, Token};
 pub use units::Unit;
-pub use wanted::{Types, TypesFault, permits};
+pub use wanted::{Types, TypesFault, class_for, permits};

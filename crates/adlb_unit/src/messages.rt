@@ -189,7 +189,7 @@ pub enum Message {
 }
 
 impl Message {
-    /// An equal message, which shares its bytes. It fails for want of memory alone.
+    /// An equal message, which shares its bytes. Its only error is `NoMemory`.
     pub fn twin(&self, alloc: Global) -> Result<Message, NoMemory>
         ensures { IfOk result (λ m. m ≡ self.now) }
     {

@@ -3,7 +3,7 @@
 use std::error::Error;
 use std::fmt;
 
-/// Want of memory. It is the one answer that no clause ties to a cause.
+/// Allocation failed. Contracts never say when: any call that allocates may answer it.
 #[derive(Clone, Copy, Debug, PartialEq, Eq)]
 pub struct NoMemory;
 
@@ -27,11 +27,12 @@ pub struct Server(pub u32);
 #[derive(Clone, Copy, Debug, PartialEq, Eq, PartialOrd, Ord)]
 pub struct WorkType(pub u32);
 
-/// Whom a unit is for: any rank, or one alone.
+/// Whom a unit is for: any rank alike, one rank alone, or any rank but best this one.
 #[derive(Clone, Copy, Debug, PartialEq, Eq)]
 pub enum Target {
     Any,
     Only(Rank),
+    Soft(Rank),
 }
 
 /// A unit, by the rank that put it and the number of that rank's call.

@@ -31,7 +31,7 @@ pub enum End {
     Exhausted,
 }
 
-/// Why a run stops without an answer: want of memory, or a stamp past the last one that is given.
+/// Why a run stops without an answer: memory ran out, or a stamp past the last one that is given.
 #[derive(Clone, Copy, Debug, PartialEq, Eq)]
 pub enum Trouble {
     Memory,

@@ -3,6 +3,7 @@
 ghost use Rattle.std.specs.Prelude.{◌≡◌, ◌↔◌, [], IfOk, IsTrue, length};
 
 use crate::names::NoMemory;
+use crate::running_out::or_no_memory;
 use std::alloc::Global;
 use std::marker::Model;
 use std::sync::Arc;
@@ -30,14 +31,12 @@ impl Model for Payload {
 }
 
 impl Payload {
-    /// A payload with a copy of these bytes, which its twins will share. It fails for want of memory alone.
+    /// A payload with a copy of these bytes, which its twins will share. Its only error is `NoMemory`.
     pub fn copy(alloc: Global, bytes: &[u8]) -> Result<Payload, NoMemory>
         ensures { IfOk result (λ p. p ≡ bytes.now) }
     {
-        match Vec::from_slice(alloc, bytes) {
-            Ok(held) => Payload::from_vec(held).share(alloc),
-            Err(_) => Err(NoMemory),
-        }
+        let held = or_no_memory(Vec::from_slice(alloc, bytes))?;
+        Payload::from_vec(held).share(alloc)
     }
 
     /// A payload of these bytes. It takes no memory, and is not shared yet.
@@ -49,17 +48,14 @@ impl Payload {
         }
     }
 
-    /// The same payload, whose twins will share its bytes. It fails for want of memory alone.
+    /// This payload, whose twins will share its bytes. Its only error is `NoMemory`.
     pub fn share(self, alloc: Global) -> Result<Payload, NoMemory>
         ensures { IfOk result (λ p. p ≡ self) }
     {
         match self.held {
-            Held::Own(bytes) => match Arc::new(alloc, bytes) {
-                Ok(arc) => Ok(Payload {
-                    held: Held::Shared(arc),
-                }),
-                Err(_) => Err(NoMemory),
-            },
+            Held::Own(bytes) => Ok(Payload {
+                held: Held::Shared(or_no_memory(Arc::new(alloc, bytes))?),
+            }),
             Held::Shared(arc) => Ok(Payload {
                 held: Held::Shared(arc),
             }),
@@ -90,18 +86,15 @@ impl Payload {
         self.bytes().is_empty()
     }
 
-    /// An equal payload. It fails for want of memory alone.
+    /// An equal payload. Its only error is `NoMemory`.
     pub fn twin(&self, alloc: Global) -> Result<Payload, NoMemory>
         ensures { IfOk result (λ p. p ≡ self.now) }
     {
         match &self.held {
             Held::Own(bytes) => Payload::copy(alloc, bytes.as_slice()),
-            Held::Shared(arc) => match Arc::try_clone(arc) {
-                Ok(arc) => Ok(Payload {
-                    held: Held::Shared(arc),
-                }),
-                Err(_) => Err(NoMemory),
-            },
+            Held::Shared(arc) => Ok(Payload {
+                held: Held::Shared(or_no_memory(Arc::try_clone(arc))?),
+            }),
         }
     }
 }

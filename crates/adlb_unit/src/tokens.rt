@@ -1,8 +1,11 @@
 //! The token that goes round the ring of servers to find out whether all work is used up.
 
 ghost use Rattle.std.specs.Prelude.{◌≡◌, ◌<◌, ◌≤◌, ◌++◌, ◌∷◌, [], IfOk, length};
+ghost use Rattle.adlb_unit.specs.Limits.{rank_limit};
 
+use crate::limits::RANK_LIMIT;
 use crate::names::{NoMemory, Rank};
+use crate::running_out::or_no_memory;
 use crate::wanted::Types;
 use std::alloc::Global;
 use std::marker::Model;
@@ -19,28 +22,27 @@ impl Model for AskedList {
     ghost use Rattle.std.specs.Vec.{vec_capacity};
     ghost use Rattle.adlb_unit.specs.declared.names.Rank.{Rank};
     ghost use Rattle.adlb_unit.specs.declared.names.WorkType.{WorkType};
+    ghost use Rattle.adlb_unit.specs.Limits.{rank_limit};
 
     ghost Value = { List (Rank × Option (List WorkType)) };
 
     ghost view = { λ a. a.pairs.items };
 
-    ghost invariant = { λ a. (length a.pairs.items ≤ 32) × (32 ≤ vec_capacity a.pairs) };
+    ghost invariant = { λ a. (length a.pairs.items ≤ rank_limit) × (rank_limit ≤ vec_capacity a.pairs) };
 }
 
 impl AskedList {
-    /// An empty list. It fails for want of memory alone.
+    /// An empty list. Its only error is `NoMemory`.
     pub fn new(alloc: Global) -> Result<AskedList, NoMemory>
         ensures { IfOk result (λ a. a ≡ []) }
     {
-        match Vec::with_capacity(alloc, 32) {
-            Ok(pairs) => Ok(AskedList { pairs }),
-            Err(_) => Err(NoMemory),
-        }
+        let pairs = or_no_memory(Vec::with_capacity(alloc, RANK_LIMIT as usize))?;
+        Ok(AskedList { pairs })
     }
 
     /// Puts a pair last. The list has fewer than 32.
     pub fn push(&mut self, rank: Rank, types: Types)
-        requires { length self.old < 32 }
+        requires { length self.old < rank_limit }
         ensures { self.new ≡ self.old ++ (rank, types) ∷ [] }
     {
         self.pairs.push_reserved((rank, types));
@@ -56,12 +58,12 @@ impl AskedList {
     /// The pairs, in the order in which they came: at most 32.
     pub fn pairs(&self) -> &[(Rank, Types)]
         ensures pairs { result.now ≡ self.now }
-        ensures few { length self.now ≤ 32 }
+        ensures few { length self.now ≤ rank_limit }
     {
         self.pairs.as_slice()
     }
 
-    /// An equal list. It fails for want of memory alone.
+    /// An equal list. Its only error is `NoMemory`.
     pub fn twin(&self, alloc: Global) -> Result<AskedList, NoMemory>
         ensures { IfOk result (λ a. a ≡ self.now) }
     {
@@ -82,7 +84,7 @@ pub struct Token {
 }
 
 impl Token {
-    /// An equal token. It fails for want of memory alone.
+    /// An equal token. Its only error is `NoMemory`.
     pub fn twin(&self, alloc: Global) -> Result<Token, NoMemory>
         ensures { IfOk result (λ t. t ≡ self.now) }
     {

@@ -20,7 +20,7 @@ pub struct Unit {
 }
 
 impl Unit {
-    /// An equal unit. It fails for want of memory alone.
+    /// An equal unit. Its only error is `NoMemory`.
     pub fn twin(&self, alloc: Global) -> Result<Unit, NoMemory>
         ensures { IfOk result (λ u. u ≡ self.now) }
     {

@@ -1,8 +1,10 @@
 //! Lists of wanted types, and what is permitted.
 
 ghost use Rattle.std.specs.Prelude.{ℕ, ◌≡◌, ◌<◌, ◌≤◌, ◌↔◌, IsTrue, IfOk, MatchOption, length, Some, None, []};
-ghost use Rattle.adlb_unit.specs.Permit.{HasKind, Permits, has_kind, permitted};
+ghost use Rattle.adlb_unit.specs.Limits.{type_limit};
+ghost use Rattle.adlb_unit.specs.Permit.{HasKind, Permits, class_for, has_kind, permitted};
 
+use crate::limits::TYPE_LIMIT;
 use crate::names::{Rank, Target, WorkType};
 use std::marker::Model;
 use thiserror::Error;
@@ -16,23 +18,24 @@ pub enum TypesFault {
     TooMany { count: u64 },
 }
 
-/// Any type, or a list of 1 to 16 types, held in place. It is seen as nothing for any, else as the list.
+/// Any type, or a list of 1 to 16 types, held in place. It is seen as `None` for any, otherwise as the list.
 #[derive(Debug, Drop)]
 pub struct Types {
     any: bool,
-    kinds: [WorkType; 16],
+    kinds: [WorkType; TYPE_LIMIT],
     count: usize,
 }
 
 impl Model for Types {
     ghost use Rattle.std.specs.Prelude.{◌≤◌, ◌<◌, Option, List, take, Some, None, if◌then◌else◌};
     ghost use Rattle.adlb_unit.specs.declared.names.WorkType.{WorkType};
+    ghost use Rattle.adlb_unit.specs.Limits.{type_limit};
 
     ghost Value = { Option (List WorkType) };
 
     ghost view = { λ t. if t.any then None else Some (take t.count t.kinds) };
 
-    ghost invariant = { λ t. (0 < t.count) × (t.count ≤ 16) };
+    ghost invariant = { λ t. (0 < t.count) × (t.count ≤ type_limit) };
 }
 
 impl Types {
@@ -42,27 +45,27 @@ impl Types {
     {
         Types {
             any: true,
-            kinds: [WorkType(0); 16],
+            kinds: [WorkType(0); TYPE_LIMIT],
             count: 1,
         }
     }
 
-    /// The listed types are wanted: from 1 to 16 of them. `Empty` exactly where none is listed, `TooMany` exactly where more
+    /// The listed types are wanted: from 1 to 16 of them. `Empty` exactly when none is listed, `TooMany` exactly when more
     /// than 16 are, with their number.
     pub fn list(kinds: &[WorkType]) -> Result<Types, TypesFault>
         ensures listed { IfOk result (λ t. t ≡ Some kinds.now) }
         ensures empty { (result ≡ Err TypesFault.Empty) ↔ (kinds.now ≡ []) }
-        ensures too_many { (n : ℕ) → (result ≡ Err (TypesFault.TooMany n)) ↔ ((16 < length kinds.now) × (n ≡ length kinds.now)) }
+        ensures too_many { (n : ℕ) → (result ≡ Err (TypesFault.TooMany n)) ↔ ((type_limit < length kinds.now) × (n ≡ length kinds.now)) }
     {
         if kinds.is_empty() {
             return Err(TypesFault::Empty);
         }
-        if kinds.len() > 16 {
+        if kinds.len() > TYPE_LIMIT {
             return Err(TypesFault::TooMany {
                 count: kinds.len() as u64,
             });
         }
-        let mut held = [WorkType(0); 16];
+        let mut held = [WorkType(0); TYPE_LIMIT];
         held[..kinds.len()].copy_from_slice(kinds);
         Ok(Types {
             any: false,
@@ -71,7 +74,7 @@ impl Types {
         })
     }
 
-    /// The same types.
+    /// Equal types.
     pub fn twin(&self) -> Types
         ensures { result ≡ self.now }
     {
@@ -82,7 +85,7 @@ impl Types {
         }
     }
 
-    /// The list, or None where any type is wanted.
+    /// The list, or `None` if any type is wanted.
     pub fn kinds(&self) -> Option<&[WorkType]>
         ensures { MatchOption result (self.now ≡ None) (λ k. self.now ≡ Some k.now) }
     {
@@ -92,7 +95,7 @@ impl Types {
         Some(&self.kinds[..self.count])
     }
 
-    /// The type is wanted: any is, or it stands in the list (`HasKind`; `has_kind` is the same as a test).
+    /// The type is wanted: any is, or it stands in the list (`HasKind`, and as a test `has_kind`).
     pub fn has(&self, kind: WorkType) -> bool
         ensures wanted { IsTrue result ↔ HasKind self.now kind }
         ensures test { result ≡ has_kind self.now kind }
@@ -101,17 +104,27 @@ impl Types {
     }
 }
 
-/// A unit of this type and target is permitted to a rank that wants these types: the type is wanted, and the target is any or
-/// the rank (`Permits`; `permitted` is the same as a test).
+/// The class of a target for an asking rank (`class_for`), the nearest first: 0 for this rank alone, 1 for this rank before
+/// others, 2 for any, 3 for another rank before this one, and 4 for another rank alone.
+pub fn class_for(rank: Rank, target: Target) -> u8
+    ensures { result ≡ class_for rank target }
+{
+    match target {
+        Target::Only(only) if only == rank => 0,
+        Target::Only(_) => 4,
+        Target::Soft(first) if first == rank => 1,
+        Target::Soft(_) => 3,
+        Target::Any => 2,
+    }
+}
+
+/// A unit of this type and target is permitted to a rank that wants these types: the type is wanted, and the target is not
+/// another rank alone (`Permits`, and as a test `permitted`).
 pub fn permits(rank: Rank, types: &Types, kind: WorkType, target: Target) -> bool
     ensures permits { IsTrue result ↔ Permits rank types.now kind target }
     ensures test { result ≡ permitted rank types.now kind target }
 {
-    let at_rank = match target {
-        Target::Any => true,
-        Target::Only(only) => only == rank,
-    };
-    at_rank && types.has(kind)
+    class_for(rank, target) < 4 && types.has(kind)
 }
 
 #[cfg(test)]
@@ -131,6 +144,20 @@ mod tests {
     }
 
     #[test]
+    fn classes_of_targets(rt: HostRuntime) {
+        let rows = [
+            (Target::Only(Rank(3)), 0),
+            (Target::Soft(Rank(3)), 1),
+            (Target::Any, 2),
+            (Target::Soft(Rank(2)), 3),
+            (Target::Only(Rank(2)), 4),
+        ];
+        for (target, class) in rows {
+            assert_eq!(rt; class_for(Rank(3), target), class);
+        }
+    }
+
+    #[test]
     fn permits_by_type_and_target(rt: HostRuntime) {
         let listed = Types::list(&[WorkType(1), WorkType(4)]).expect(&rt, "two types");
         let rows = [
@@ -138,6 +165,9 @@ mod tests {
             (&listed, 2, Target::Any, false),
             (&listed, 1, Target::Only(Rank(3)), true),
             (&listed, 1, Target::Only(Rank(2)), false),
+            (&listed, 1, Target::Soft(Rank(3)), true),
+            (&listed, 1, Target::Soft(Rank(2)), true),
+            (&listed, 2, Target::Soft(Rank(3)), false),
         ];
         for (types, kind, target, wanted) in rows {
             assert_eq!(rt; permits(Rank(3), types, WorkType(kind), target), wanted);

@@ -10,7 +10,8 @@ use Rattle.adlb_unit.specs.declared.names.Rank.{Rank}
 use Rattle.adlb_unit.specs.declared.names.Server.{Server}
 use Rattle.adlb_unit.specs.declared.names.WorkType.{WorkType}
 use Rattle.adlb_unit.specs.declared.names.Target.{Target}
-use Rattle.adlb_unit.specs.declared.names.Target.TheVariants.{Any, Only}
+use Rattle.adlb_unit.specs.declared.names.Target.TheVariants.{Any, Only, Soft}
+use Rattle.adlb_unit.proofs.Permitted.{for_only, for_soft}
 use Rattle.adlb_unit.specs.Permit.{is_for, permitted}
 use Rattle.bag_ledger.specs.declared.states.Placed.{Placed}
 use Rattle.bag_ledger.specs.declared.states.UnitPlace.{UnitPlace}
@@ -91,7 +92,8 @@ shelves_are server rank kind u = by_place u.place refl
   where
     by_target : (at : Server) (target : Target) → u.place ≡ Free at → u.unit.target ≡ target → on_shelves server rank kind u ≡ (is_free_at server u.place && (is_for u.unit.target rank && (kind.0 == u.unit.kind.0)))
     by_target at Any is also = rw (is, also) (grind (arith, nat_tests))
-    by_target at (Only only) is also = rw (is, also) (grind (arith, nat_tests))
+    by_target at (Only only) is also = rw (is, also, for_only rank only) (grind (arith, nat_tests))
+    by_target at (Soft first) is also = rw (is, also, for_soft rank first) (grind (arith, nat_tests))
 
     by_place : (place : UnitPlace) → u.place ≡ place → on_shelves server rank kind u ≡ (is_free_at server u.place && (is_for u.unit.target rank && (kind.0 == u.unit.kind.0)))
     by_place (Free at) is = by_target at u.unit.target is refl
@@ -104,7 +106,8 @@ targets_are server rank u = by_place u.place refl
   where
     by_aim : (at : Server) (target : Target) → u.place ≡ Free at → u.unit.target ≡ target → at_targets server rank u ≡ (is_free_at server u.place && (is_for u.unit.target rank && true))
     by_aim at Any is also = rw (is, also) (grind (arith, nat_tests))
-    by_aim at (Only only) is also = rw (is, also) (grind (arith, nat_tests))
+    by_aim at (Only only) is also = rw (is, also, for_only rank only) (grind (arith, nat_tests))
+    by_aim at (Soft first) is also = rw (is, also, for_soft rank first) (grind (arith, nat_tests))
 
     by_place : (place : UnitPlace) → u.place ≡ place → at_targets server rank u ≡ (is_free_at server u.place && (is_for u.unit.target rank && true))
     by_place (Free at) is = by_aim at u.unit.target is refl

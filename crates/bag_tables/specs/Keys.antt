@@ -6,16 +6,17 @@ use Rattle.std.specs.declared.cmp.Ordering.{Ordering}
 use Rattle.std.specs.declared.cmp.Reverse.{Reverse}
 use Rattle.adlb_unit.specs.declared.names.Server.{Server}
 use Rattle.adlb_unit.specs.declared.names.Target.{Target}
-use Rattle.adlb_unit.specs.declared.names.Target.TheVariants.{Any, Only}
+use Rattle.adlb_unit.specs.declared.names.Target.TheVariants.{Any, Only, Soft}
 use Rattle.adlb_unit.specs.declared.units.Unit.{Unit}
 use Rattle.bag_ledger.specs.declared.states.Placed.{Placed}
 use Rattle.bag_ledger.specs.declared.states.UnitPlace.{UnitPlace}
 use Rattle.bag_ledger.specs.declared.states.UnitPlace.TheVariants.{Free}
 
--- the rank that a target names
+-- the rank that a target names alone
 abbrev pub only_of : Target → Option ℕ
 only_of Any = None
 only_of (Only rank) = Some rank.0
+only_of (Soft rank) = None
 
 -- server, type and target; server and target; server and type; server, type and priority
 abbrev pub shelf_of : Server → Unit → ℕ × ℕ × Option ℕ

@@ -10,12 +10,12 @@ use adlb_unit::{Info, NoMemory, Rank, Server, Target, Types, Unit, WorkType};
 use std::alloc::Global;
 use std::cmp::Reverse;
 
-// The rank that a target names.
+// The rank that a target names alone.
 fn only_of(target: Target) -> Option<u32>
     ensures { result ≡ only_of target }
 {
     match target {
-        Target::Any => None,
+        Target::Any | Target::Soft(_) => None,
         Target::Only(rank) => Some(rank.0),
     }
 }

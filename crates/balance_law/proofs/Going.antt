@@ -1,5 +1,5 @@
 -- What holds of a run of orderly ranks while it goes on, entry by entry.
-use Rattle.std.proofs.Common.{◌≡◌, ℕ, zero, suc, ◌<◌, ◌⊎◌, inl, inr, Bool, true, false, ◌&&◌, List, [], ◌∷◌, ◌++◌, length, All, Option, Some, None, refl, sym, ap, ◌∙◌, subst, arith, slice_get, eqb}
+use Rattle.std.proofs.Common.{◌≡◌, ℕ, zero, suc, ◌<◌, ◌⊎◌, inl, inr, Bool, true, false, ◌&&◌, List, [], ◌∷◌, ◌++◌, length, All, Option, Some, None, refl, sym, ap, ◌∙◌, subst, arith, slice_get}
 use Rattle.std.specs.Prelude.{sum_by, option_and_then}
 use Rattle.std.specs.List.{list_any}
 use Rattle.std.proofs.lemmas.Bool.{or_parts, eq-eqb}
@@ -15,7 +15,8 @@ use Rattle.adlb_unit.specs.declared.names.CommonRef.{CommonRef}
 use Rattle.adlb_unit.specs.declared.names.WorkType.{WorkType}
 use Rattle.adlb_unit.specs.declared.notes.UnitNote.{UnitNote}
 use Rattle.adlb_unit.specs.declared.units.Unit.{Unit}
-use Rattle.adlb_unit.specs.Permit.{permitted}
+use Rattle.adlb_unit.proofs.Permitted.{for_only, for_soft}
+use Rattle.adlb_unit.specs.Permit.{is_for, permitted}
 use Rattle.bag_ledger.specs.declared.entries.Entry.{Entry}
 use Rattle.bag_ledger.specs.declared.entries.Entry.TheVariants.{Accepted, Kept, Done, Exhausted}
 use Rattle.bag_ledger.specs.declared.entries.Call.TheVariants as calls_to
@@ -218,9 +219,13 @@ one_loose n u some still clean none = by_place u.place refl
         let h : true ≡ false = rw (free, is) at (none (record { 0 = 0 }) some) in
         absurd (cc)
     by_target (targets.Only rank) server free is aimed =
-        let h : (eqb rank.0 rank.0 && true) ≡ false = rw (free, is) at (none rank aimed) in
-        let e : eqb rank.0 rank.0 ≡ true = eq-eqb rank.0 rank.0 refl in
+        let h : (is_for (targets.Only rank) rank && true) ≡ false = rw (free, is) at (none rank aimed) in
+        let e : is_for (targets.Only rank) rank ≡ true = for_only rank rank ∙ eq-eqb rank.0 rank.0 refl in
         let f : true ≡ false = rw e at h in
+        absurd (cc)
+    by_target (targets.Soft rank) server free is aimed =
+        let h : (is_for (targets.Soft rank) rank && true) ≡ false = rw (free, is) at (none rank aimed) in
+        let f : true ≡ false = rw (for_soft rank rank) at h in
         absurd (cc)
 
     by_place : (place : UnitPlace) → u.place ≡ place → lies is_loose each u ≡ 0

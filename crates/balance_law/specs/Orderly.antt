@@ -1,7 +1,7 @@
 -- A rank that puts, reserves units of any type and fetches each unit that it is granted, until it is told an end, and then finishes.
 use Rattle.std.specs.Prelude.{ℕ, ◌≡◌, ◌<◌, List, [], ◌∷◌, Option, Some, None}
 use Rattle.adlb_unit.specs.declared.names.Target.{Target}
-use Rattle.adlb_unit.specs.declared.names.Target.TheVariants.{Any, Only}
+use Rattle.adlb_unit.specs.declared.names.Target.TheVariants.{Any, Only, Soft}
 use Rattle.adlb_unit.specs.declared.notes.UnitNote.{UnitNote}
 use Rattle.bag_ledger.specs.declared.entries.Answer.{Answer}
 use Rattle.bag_ledger.specs.declared.entries.Answer.TheVariants as answers
@@ -14,6 +14,7 @@ use Rattle.balance_law.specs.Parcels.{granted_note}
 abbrev pub IsAimed : ℕ → Target → Type 0
 IsAimed ranks Any = Unit {0}
 IsAimed ranks (Only rank) = rank.0 < ranks
+IsAimed ranks (Soft rank) = rank.0 < ranks
 
 -- where the unit of this note was granted, the next call fetches it; else it puts or reserves
 abbrev pub IsNext : ℕ → Option UnitNote → Call → Type 0

@@ -11,7 +11,7 @@ use Rattle.adlb_unit.specs.declared.messages.Message.TheVariants as tells
 use Rattle.adlb_unit.specs.declared.names.Rank.{Rank}
 use Rattle.adlb_unit.specs.declared.names.Server.{Server}
 use Rattle.adlb_unit.specs.declared.names.Target.{Target}
-use Rattle.adlb_unit.specs.declared.names.Target.TheVariants.{Any, Only}
+use Rattle.adlb_unit.specs.declared.names.Target.TheVariants.{Any, Only, Soft}
 use Rattle.adlb_unit.specs.declared.names.UnitId.{UnitId}
 use Rattle.adlb_unit.specs.declared.names.WorkType.{WorkType}
 use Rattle.adlb_unit.specs.declared.notes.End.{End}
@@ -68,6 +68,7 @@ new_id units id next lower is = by_found (find (of_id id) units) refl
 first_is : (c : Client) (target : Target) → c.config.servers ≡ 1 → first_asked c target ≡ first_server
 first_is c Any one = let named : ℕ → Server = λ k. record { 0 = k } in ap named (mod_one ((c.me.0 % c.config.servers) + c.puts) c.config.servers one)
 first_is c (Only rank) one = let named : ℕ → Server = λ k. record { 0 = k } in ap named (mod_one rank.0 c.config.servers one)
+first_is c (Soft rank) one = let named : ℕ → Server = λ k. record { 0 = k } in ap named (mod_one rank.0 c.config.servers one)
 
 home_is : (config : Config) (rank : Rank) → config.servers ≡ 1 → home config rank ≡ first_server
 home_is config rank one = let named : ℕ → Server = λ k. record { 0 = k } in ap named (mod_one rank.0 config.servers one)
@@ -75,6 +76,7 @@ home_is config rank one = let named : ℕ → Server = λ k. record { 0 = k } in
 aims_in : (config : Config) (target : Target) → config.ranks ≡ 1 → Aims target 1 → in_ranks config target ≡ true
 aims_in config Any one aims = refl
 aims_in config (Only rank) one aims = ap (nat_lt rank.0) one ∙ lt-ltb rank.0 1 aims
+aims_in config (Soft rank) one aims = ap (nat_lt rank.0) one ∙ lt-ltb rank.0 1 aims
 
 module _ (c : Client) (s : Host) (ledger : List Entry) (i : IsIdle c s ledger) where
   module _ (kind : WorkType) (prio : ℤ) (target : Target) (answer : Option Rank) (body : List ℕ) (size : length body ≤ 2 ^ 20) (aims : Aims target 1) where

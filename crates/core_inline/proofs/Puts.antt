@@ -11,7 +11,7 @@ use Rattle.adlb_unit.specs.declared.messages.Message.TheVariants as tells
 use Rattle.adlb_unit.specs.declared.names.Rank.{Rank}
 use Rattle.adlb_unit.specs.declared.names.Server.{Server}
 use Rattle.adlb_unit.specs.declared.names.Target.{Target}
-use Rattle.adlb_unit.specs.declared.names.Target.TheVariants.{Any, Only}
+use Rattle.adlb_unit.specs.declared.names.Target.TheVariants.{Any, Only, Soft}
 use Rattle.adlb_unit.specs.declared.names.UnitId.{UnitId}
 use Rattle.adlb_unit.specs.declared.units.Unit.{Unit}
 use Rattle.bag_ledger.specs.declared.entries.Answer.TheVariants as answers
@@ -59,6 +59,7 @@ absent id units none =
 aims_in : (config : Config) (target : Target) → config.ranks ≡ 1 → Aims target 1 → in_ranks config target ≡ true
 aims_in config Any one aims = refl
 aims_in config (Only rank) one aims = ap (nat_lt rank.0) one ∙ lt-ltb rank.0 1 aims
+aims_in config (Soft rank) one aims = ap (nat_lt rank.0) one ∙ lt-ltb rank.0 1 aims
 
 -- a put that is answered so neither grants nor fetches
 accepted_plain : (unit : Unit) → IsPlain (record { call = call_of unit; answer = answers.Fine })

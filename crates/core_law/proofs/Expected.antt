@@ -19,7 +19,7 @@ use Rattle.bag_ledger.specs.declared.states.Promise.{Promise as Room}
 use Rattle.adlb_unit.specs.declared.units.Unit.{Unit}
 use Rattle.adlb_unit.specs.declared.notes.UnitNote.{UnitNote}
 use Rattle.adlb_unit.specs.declared.names.WorkType.{WorkType}
-use Rattle.adlb_unit.specs.declared.names.Target.TheVariants.{Any, Only}
+use Rattle.adlb_unit.specs.declared.names.Target.TheVariants.{Any, Only, Soft}
 use Rattle.adlb_unit.specs.declared.names.Target.{Target}
 use Rattle.std.specs.List.{list_any, list_all}
 use Rattle.std.specs.Option.{option_map}
@@ -68,6 +68,7 @@ none_any test (x ∷ xs) none = let parts = none_passes test x xs none in rw par
 aims_same : (config : Config) (target : Target) → rank_aims config target ≡ true → server_aims config target ≡ true
 aims_same config Any is = refl
 aims_same config (Only rank) is = is
+aims_same config (Soft rank) is = is
 
 put_expected : (c : Client) (unit : Unit) (first : Server) (tried : ℕ) (b : Bag) (t : Pool) → Waits c (waits_for.Put unit first tried) b → Agrees b t → t.config ≡ c.config → expects_put t c.me unit ≡ true
 put_expected c unit first tried b t w m same =

@@ -20,7 +20,7 @@ use Rattle.adlb_unit.specs.declared.messages.Message.TheVariants as tells
 use Rattle.adlb_unit.specs.declared.names.Rank.{Rank}
 use Rattle.adlb_unit.specs.declared.names.Server.{Server}
 use Rattle.adlb_unit.specs.declared.names.Target.{Target}
-use Rattle.adlb_unit.specs.declared.names.Target.TheVariants.{Any, Only}
+use Rattle.adlb_unit.specs.declared.names.Target.TheVariants.{Any, Only, Soft}
 use Rattle.adlb_unit.specs.declared.names.UnitId.{UnitId}
 use Rattle.adlb_unit.specs.declared.names.WorkType.{WorkType}
 use Rattle.adlb_unit.specs.declared.notes.End.{End}
@@ -160,6 +160,7 @@ Opens run me s o = OnSome o (λ z. Began run me s (made z))
 first_within : (s : Client) (target : Target) → (first_server s target).0 < s.config.servers
 first_within s Any = let some : 0 < s.config.servers = s.config.servers_within.0 in mod_below _ s.config.servers some
 first_within s (Only rank) = let some : 0 < s.config.servers = s.config.servers_within.0 in mod_below rank.0 s.config.servers some
+first_within s (Soft rank) = let some : 0 < s.config.servers = s.config.servers_within.0 in mod_below rank.0 s.config.servers some
 
 first_is : (s : Client) (target : Target) → first_server s target ≡ behind s.config (first_server s target) 0
 first_is s target =

@@ -2,7 +2,7 @@
 use Rattle.std.specs.Prelude.{ℕ, ◌≡◌, ◌<◌, ◌⊎◌, List, [], ◌∷◌, ◌++◌, Option, Some, None, Bool, true, false, Result, Ok, Err, MatchOption, Contains}
 use Rattle.std.specs.List.{list_any}
 use Rattle.adlb_unit.specs.declared.names.Target.{Target}
-use Rattle.adlb_unit.specs.declared.names.Target.TheVariants.{Any, Only}
+use Rattle.adlb_unit.specs.declared.names.Target.TheVariants.{Any, Only, Soft}
 use Rattle.adlb_unit.specs.declared.names.UnitId.{UnitId}
 use Rattle.adlb_unit.specs.declared.notes.End.{End}
 use Rattle.adlb_unit.specs.declared.notes.End.TheVariants as ends_by
@@ -104,6 +104,7 @@ end_told (s ∷ said) = end_of s.answer (end_told said)
 abbrev pub Aims : Target → ℕ → Type 0
 Aims Any ranks = Unit {0}
 Aims (Only rank) ranks = rank.0 < ranks
+Aims (Soft rank) ranks = rank.0 < ranks
 
 -- after an end was told, a call that is answered tells it again
 abbrev pub TellsAgain : Option End → Option Answer → Type 0

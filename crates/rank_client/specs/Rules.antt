@@ -7,7 +7,7 @@ use Rattle.adlb_unit.specs.declared.messages.Message.TheVariants as tells
 use Rattle.adlb_unit.specs.declared.names.Rank.{Rank}
 use Rattle.adlb_unit.specs.declared.names.Server.{Server}
 use Rattle.adlb_unit.specs.declared.names.Target.{Target}
-use Rattle.adlb_unit.specs.declared.names.Target.TheVariants.{Any, Only}
+use Rattle.adlb_unit.specs.declared.names.Target.TheVariants.{Any, Only, Soft}
 use Rattle.adlb_unit.specs.declared.names.UnitId.{UnitId}
 use Rattle.adlb_unit.specs.declared.names.WorkType.{WorkType}
 use Rattle.adlb_unit.specs.declared.notes.End.{End}
@@ -68,10 +68,12 @@ over s entry call end =
 abbrev pub first_server : State → Target → Server
 first_server s Any = behind s.config (home s.config s.me) s.puts
 first_server s (Only rank) = home s.config rank
+first_server s (Soft rank) = home s.config rank
 
 abbrev pub in_ranks : Config → Target → Bool
 in_ranks config Any = true
 in_ranks config (Only rank) = nat_lt rank.0 config.ranks
+in_ranks config (Soft rank) = nat_lt rank.0 config.ranks
 
 -- the call that puts the unit, and the entry that begins it
 abbrev pub call_of : Unit → Call

@@ -136,7 +136,7 @@ impl ClientCore {
     {
         match target {
             Target::Any => true,
-            Target::Only(rank) => rank.0 < self.config.ranks,
+            Target::Only(rank) | Target::Soft(rank) => rank.0 < self.config.ranks,
         }
     }
 
@@ -187,7 +187,7 @@ impl ClientCore {
     {
         match target {
             Target::Any => behind(&self.config, self.config.home(self.me), self.puts),
-            Target::Only(rank) => self.config.home(rank),
+            Target::Only(rank) | Target::Soft(rank) => self.config.home(rank),
         }
     }
 }

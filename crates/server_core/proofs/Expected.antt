@@ -12,7 +12,7 @@ use Rattle.adlb_unit.specs.declared.messages.Message.{Message}
 use Rattle.adlb_unit.specs.declared.messages.Message.TheVariants as tells
 use Rattle.adlb_unit.specs.declared.names.Rank.{Rank}
 use Rattle.adlb_unit.specs.declared.names.Target.{Target}
-use Rattle.adlb_unit.specs.declared.names.Target.TheVariants.{Any as Anyone, Only}
+use Rattle.adlb_unit.specs.declared.names.Target.TheVariants.{Any as Anyone, Only, Soft}
 use Rattle.adlb_unit.specs.declared.names.UnitId.{UnitId}
 use Rattle.adlb_unit.specs.declared.units.Unit.{Unit}
 use Rattle.bag_ledger.proofs.Tests.{same_rank_is}
@@ -84,10 +84,12 @@ none_passes test xs none k d within =
 aims : (target : Target) (s : State) → in_ranks s.config target ≡ true → Aims target s.config.ranks
 aims Anyone s in_run = tt
 aims (Only rank) s in_run = ltb-true rank.0 s.config.ranks in_run
+aims (Soft rank) s in_run = ltb-true rank.0 s.config.ranks in_run
 
 aims_from : (target : Target) (s : State) → Aims target s.config.ranks → in_ranks s.config target ≡ true
 aims_from Anyone s aims = refl
 aims_from (Only rank) s aims = lt-ltb rank.0 s.config.ranks aims
+aims_from (Soft rank) s aims = lt-ltb rank.0 s.config.ranks aims
 
 apart : (a b : UnitId) → same_id a b ≡ false → a ≢ b
 apart a b differs same = let is : same_id a b ≡ true = same_is a b same in cc

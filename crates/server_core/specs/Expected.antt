@@ -7,7 +7,7 @@ use Rattle.adlb_unit.specs.declared.messages.Message.{Message}
 use Rattle.adlb_unit.specs.declared.messages.Message.TheVariants as tells
 use Rattle.adlb_unit.specs.declared.names.Rank.{Rank}
 use Rattle.adlb_unit.specs.declared.names.Target.{Target}
-use Rattle.adlb_unit.specs.declared.names.Target.TheVariants.{Any, Only}
+use Rattle.adlb_unit.specs.declared.names.Target.TheVariants.{Any, Only, Soft}
 use Rattle.adlb_unit.specs.declared.units.Unit.{Unit}
 use Rattle.work_queue.specs.Queue.{HasNoPromise, HasNoUnit, HasPinned}
 use Rattle.server_core.specs.Rules.{is_finished}
@@ -19,6 +19,7 @@ use Rattle.server_core.specs.declared.standings.Standing.TheVariants.{Running}
 abbrev pub Aims : Target → ℕ → Type 0
 Aims Any ranks = Prim.Unit {0}
 Aims (Only rank) ranks = rank.0 < ranks
+Aims (Soft rank) ranks = rank.0 < ranks
 
 -- the unit is the sender's; no unit and no promise of its id is here; its body is no longer than it may be; its target is any or a
 -- rank of the run

@@ -8,7 +8,7 @@ use Rattle.adlb_unit.specs.declared.messages.Message.{Message}
 use Rattle.adlb_unit.specs.declared.messages.Message.TheVariants as tells
 use Rattle.adlb_unit.specs.declared.names.Rank.{Rank}
 use Rattle.adlb_unit.specs.declared.names.Target.{Target}
-use Rattle.adlb_unit.specs.declared.names.Target.TheVariants.{Any, Only}
+use Rattle.adlb_unit.specs.declared.names.Target.TheVariants.{Any, Only, Soft}
 use Rattle.adlb_unit.specs.declared.names.UnitId.{UnitId}
 use Rattle.adlb_unit.specs.declared.names.WorkType.{WorkType}
 use Rattle.adlb_unit.specs.declared.notes.End.{End}
@@ -51,6 +51,7 @@ end_call s from request end = record {
 abbrev pub in_ranks : Config → Target → Bool
 in_ranks config Any = true
 in_ranks config (Only rank) = nat_lt rank.0 config.ranks
+in_ranks config (Soft rank) = nat_lt rank.0 config.ranks
 
 abbrev pub has_unit : UnitId → List Placed → Bool
 has_unit id units = list_any (λ p. same_id (id_of p) id) units

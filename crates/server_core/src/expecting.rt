@@ -64,7 +64,7 @@ impl ServerState {
     {
         match target {
             Target::Any => true,
-            Target::Only(rank) => rank.0 < self.config.ranks,
+            Target::Only(rank) | Target::Soft(rank) => rank.0 < self.config.ranks,
         }
     }
 

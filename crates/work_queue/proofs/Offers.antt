@@ -1,15 +1,16 @@
 -- The tests of the best unit, and what they say.
-use Rattle.std.proofs.Common.{◌≡◌, ◌<ℤ◌, ◌⊎◌, ◌==◌, ℤ, ℕ, List, [], ◌∷◌, Bool, true, false, ◌&&◌, ◌||◌, not, Option, Some, None, is_none, int_lt, refl, ap, arith, inl, inr, eqb, Contains}
+use Rattle.std.proofs.Common.{◌≡◌, ◌<◌, ◌<ℤ◌, ◌⊎◌, ◌==◌, ℤ, ℕ, List, [], ◌∷◌, Bool, true, false, ◌&&◌, ◌||◌, Option, Some, None, is_none, int_lt, refl, ap, ◌∙◌, arith, inl, inr, eqb, nat_lt, Contains}
 use Rattle.std.specs.List.{list_any}
 use Rattle.std.proofs.lemmas.Bool.{and_parts, and_from, eqb-true, eq-eqb, or_cases, or_left, or_right, false≢true, true≢false}
+use Rattle.std.proofs.lemmas.Bool.Decides.{nat_tests}
 use Rattle.std.proofs.lemmas.Int.{ints}
 use Rattle.slab.proofs.SlabLemmas.{Contains-cons, Contains-cons_cases}
 use Rattle.adlb_unit.specs.declared.names.Rank.{Rank}
 use Rattle.adlb_unit.specs.declared.names.Target.{Target}
-use Rattle.adlb_unit.specs.declared.names.Target.TheVariants.{Any, Only}
+use Rattle.adlb_unit.proofs.Permitted.{is_for_is, is_is_for}
 use Rattle.adlb_unit.specs.declared.names.WorkType.{WorkType}
-use Rattle.adlb_unit.specs.Permit.{HasKind, IsFor, Permits, has_kind, is_for, permitted}
-use Rattle.work_queue.specs.Best.{ByPriority, ByTarget, IsOffered, is_own, offered, same}
+use Rattle.adlb_unit.specs.Permit.{HasKind, Permits, has_kind, is_for, permitted}
+use Rattle.work_queue.specs.Best.{ByClass, ByPriority, IsOffered, offered}
 use Rattle.work_queue.specs.declared.placing.Placed.{Placed}
 
 kind_listed : (kinds : List WorkType) (kind : WorkType) → list_any (λ k. k.0 == kind.0) kinds ≡ true → Contains kinds kind
@@ -34,14 +35,6 @@ is_has_kind : (types : Option (List WorkType)) (kind : WorkType) → HasKind typ
 is_has_kind None kind has = refl
 is_has_kind (Some kinds) kind has = listed_kind kinds kind has
 
-is_for_is : (target : Target) (rank : Rank) → is_for target rank ≡ true → IsFor target rank
-is_for_is Any rank test = tt
-is_for_is (Only only) rank test = let wrapped : ℕ → Rank = λ n. record { 0 = n } in ap wrapped (eqb-true only.0 rank.0 test)
-
-is_is_for : (target : Target) (rank : Rank) → IsFor target rank → is_for target rank ≡ true
-is_is_for Any rank for = refl
-is_is_for (Only only) rank for = eq-eqb only.0 rank.0 (ap (λ r. r.0) for)
-
 pub free_is : (pin : Option Rank) → is_none pin ≡ true → pin ≡ None
 free_is None test = refl
 free_is (Some rank) test = absurd (false≢true test)
@@ -64,54 +57,37 @@ offered_is rank types p test =
 pub is_offered : (rank : Rank) (types : Option (List WorkType)) (p : Placed) → IsOffered rank types p → offered rank types p ≡ true
 is_offered rank types p is = and_from (is_none p.pin) (permitted rank types p.unit.kind p.unit.target) (rw is.0 refl) (is_permitted rank types p.unit.kind p.unit.target is.1)
 
--- the test that a later unit, of target u and priority b, is strictly better than one of target t and priority a
-abbrev pub passes : Target → Target → ℤ → ℤ → Bool
-passes t u a b = (is_own u && not (is_own t)) || (same (is_own u) (is_own t) && int_lt a b)
-
-not_higher : (a b : ℤ) (rest : Type 0) → rest → int_lt a b ≡ false → ByPriority a b rest
-not_higher a b rest first test = by_order (cases a b test)
-  where
-    cases : (a b : ℤ) → int_lt a b ≡ false → (b <ℤ a) ⊎ (a ≡ b)
-    cases a b test = grind (arith, ints)
-
-    by_order : (b <ℤ a) ⊎ (a ≡ b) → ByPriority a b rest
-    by_order (inl lower) = inl lower
-    by_order (inr tie) = inr (tie, first)
+-- the test that a later unit, of class b and priority y, is strictly better than one of class a and priority x
+abbrev pub passes : ℕ → ℕ → ℤ → ℤ → Bool
+passes a b x y = nat_lt b a || ((b == a) && int_lt x y)
 
 -- where it is not, the earlier unit comes first
-pub stays_first : (t u : Target) (a b : ℤ) (rest : Type 0) → rest → passes t u a b ≡ false → ByTarget t u (ByPriority a b rest)
-stays_first Any Any a b rest first test = not_higher a b rest first test
-stays_first (Only r) (Only s) a b rest first test = not_higher a b rest first test
-stays_first (Only r) Any a b rest first test = tt
-stays_first Any (Only s) a b rest first test = absurd (true≢false test)
+pub stays_first : (a b : ℕ) (x y : ℤ) (rest : Type 0) → rest → passes a b x y ≡ false → ByClass a b (ByPriority x y rest)
+stays_first a b x y rest first test = by_order (cases a b x y test)
+  where
+    cases : (a b : ℕ) (x y : ℤ) → passes a b x y ≡ false → (a < b) ⊎ ((a ≡ b) × ((y <ℤ x) ⊎ (x ≡ y)))
+    cases a b x y test = grind (arith, ints, nat_tests)
 
-higher : (a b : ℤ) → int_lt a b ≡ true → a <ℤ b
-higher a b test = grind (arith, ints)
+    by_order : (a < b) ⊎ ((a ≡ b) × ((y <ℤ x) ⊎ (x ≡ y))) → ByClass a b (ByPriority x y rest)
+    by_order (inl lower) = inl lower
+    by_order (inr (e, inl higher)) = inr (e, inl higher)
+    by_order (inr (e, inr tie)) = inr (e, inr (tie, first))
 
 -- where it is, the later unit comes first, whatever their places
-pub passes_is : (t u : Target) (a b : ℤ) → passes t u a b ≡ true → ByTarget u t (a <ℤ b)
-passes_is Any Any a b test = higher a b test
-passes_is (Only r) (Only s) a b test = higher a b test
-passes_is (Only r) Any a b test = absurd (false≢true test)
-passes_is Any (Only s) a b test = tt
+pub passes_is : (a b : ℕ) (x y : ℤ) → passes a b x y ≡ true → (b < a) ⊎ ((b ≡ a) × (x <ℤ y))
+passes_is a b x y test = grind (arith, ints, nat_tests)
 
-above : (a b c : ℤ) (rest last : Type 0) → a <ℤ b → ByPriority a c rest → ByPriority b c last
-above a b c rest last up (inl down) = inl (let h : c <ℤ b = omega (arith, ints) in h)
-above a b c rest last up (inr tie) = inl (let h : c <ℤ b = omega (arith, ints, tie.0) in h)
+above : (x y z : ℤ) (rest last : Type 0) → x <ℤ y → ByPriority x z rest → ByPriority y z last
+above x y z rest last up (inl down) = inl (let h : z <ℤ y = omega (arith, ints) in h)
+above x y z rest last up (inr tie) = inl (let h : z <ℤ y = omega (arith, ints, tie.0) in h)
 
 -- and so before all that the earlier unit came before
-pub passes_all : (t u s : Target) (a b c : ℤ) (rest last : Type 0) → ByTarget u t (a <ℤ b) → ByTarget t s (ByPriority a c rest) → ByTarget u s (ByPriority b c last)
-passes_all Any Any Any a b c rest last up before = above a b c rest last up before
-passes_all (Only r) (Only o) (Only e) a b c rest last up before = above a b c rest last up before
-passes_all Any (Only o) (Only e) a b c rest last up before = absurd before
-passes_all (Only r) Any (Only e) a b c rest last up before = absurd up
-passes_all Any Any (Only e) a b c rest last up before = absurd before
-passes_all (Only r) Any Any a b c rest last up before = absurd up
-passes_all Any (Only o) Any a b c rest last up before = tt
-passes_all (Only r) (Only o) Any a b c rest last up before = tt
+pub passes_all : (a b c : ℕ) (x y z : ℤ) (rest last : Type 0) → (b < a) ⊎ ((b ≡ a) × (x <ℤ y)) → ByClass a c (ByPriority x z rest) → ByClass b c (ByPriority y z last)
+passes_all a b c x y z rest last (inl lower) (inl first) = inl (omega arith)
+passes_all a b c x y z rest last (inl lower) (inr tie) = inl (omega (arith, tie.0))
+passes_all a b c x y z rest last (inr even) (inl first) = inl (omega (arith, even.0))
+passes_all a b c x y z rest last (inr even) (inr tie) = inr (even.0 ∙ tie.0, above x y z rest last even.1 tie.1)
 
-pub passes_one : (t u : Target) (a b : ℤ) (last : Type 0) → ByTarget u t (a <ℤ b) → ByTarget u t (ByPriority b a last)
-passes_one Any Any a b last up = inl up
-passes_one (Only r) (Only o) a b last up = inl up
-passes_one (Only r) Any a b last up = absurd up
-passes_one Any (Only o) a b last up = tt
+pub passes_one : (a b : ℕ) (x y : ℤ) (last : Type 0) → (b < a) ⊎ ((b ≡ a) × (x <ℤ y)) → ByClass b a (ByPriority y x last)
+passes_one a b x y last (inl lower) = inl lower
+passes_one a b x y last (inr even) = inr (even.0, inl even.1)

@@ -1,5 +1,5 @@
 -- The unit that goes first among those that can be moved.
-use Rattle.std.proofs.Common.{◌≡◌, ◌<◌, ◌⊎◌, ◌<ℤ◌, ℤ, int_le, true, false, not, List, Option, Some, None, Any, fold, refl, sym, ap, ◌∙◌, subst, inl, inr, is_none, arith}
+use Rattle.std.proofs.Common.{◌≡◌, ◌<◌, ◌⊎◌, ◌<ℤ◌, ℤ, int_le, true, false, List, Option, Some, None, Any, fold, refl, sym, ap, ◌∙◌, subst, inl, inr, is_none, arith}
 use Rattle.std.proofs.lemmas.Bool.{and_parts, and_from, false≢true}
 use Rattle.std.proofs.lemmas.Int.{ints}
 use Rattle.std.proofs.lemmas.Option.{get_or_from_slice_get, slice_get_within}
@@ -7,24 +7,24 @@ use Rattle.adlb_unit.specs.declared.names.Target.{Target}
 use Rattle.adlb_unit.specs.declared.names.Target.TheVariants as aim
 use Rattle.work_queue.proofs.Leading.{Found, IsOrder, IsPick, Leads, found_all, none_may, some_may}
 use Rattle.work_queue.proofs.Offers.{free_is}
-use Rattle.work_queue.specs.Best.{is_own}
-use Rattle.work_queue.specs.Push.{GoesBefore, IsFirstToPush, IsMovable, candidate, goes_first, movable, pick_to_push}
+use Rattle.work_queue.specs.Push.{GoesBefore, IsFirstToPush, IsMovable, candidate, goes_first, is_any, movable, pick_to_push}
 use Rattle.work_queue.specs.Queue.{HasFree}
 use Rattle.work_queue.specs.declared.placing.Placed.{Placed}
 use Rattle.work_queue.specs.declared.pushing.Candidate.{Candidate}
 
-any_is : (target : Target) → not (is_own target) ≡ true → target ≡ aim.Any
+any_is : (target : Target) → is_any target ≡ true → target ≡ aim.Any
 any_is aim.Any test = refl
 any_is (aim.Only rank) test = absurd (false≢true test)
+any_is (aim.Soft rank) test = absurd (false≢true test)
 
 -- the test tells the units that can be moved
 pub movable_is : (p : Placed) → movable p ≡ true → IsMovable p
 movable_is p test =
-    let parts = and_parts (is_none p.pin) (not (is_own p.unit.target)) test in
+    let parts = and_parts (is_none p.pin) (is_any p.unit.target) test in
     (free_is p.pin parts.0, any_is p.unit.target parts.1)
 
 pub is_movable : (p : Placed) → IsMovable p → movable p ≡ true
-is_movable p is = and_from (is_none p.pin) (not (is_own p.unit.target)) (rw is.0 refl) (rw is.1 refl)
+is_movable p is = and_from (is_none p.pin) (is_any p.unit.target) (rw is.0 refl) (rw is.1 refl)
 
 not_lower : (a b : ℤ) → int_le b a ≡ false → a <ℤ b
 not_lower a b test = grind (arith, ints)

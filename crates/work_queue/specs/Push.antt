@@ -1,10 +1,10 @@
 -- The free unit that is pushed first.
-use Rattle.std.specs.Prelude.{◌≡◌, ◌≢◌, ◌⊎◌, ◌<◌, ◌<ℤ◌, ℕ, List, length, Bool, ◌&&◌, not, fold, Option, Some, None, if◌then◌else◌, is_none, int_le}
+use Rattle.std.specs.Prelude.{◌≡◌, ◌≢◌, ◌⊎◌, ◌<◌, ◌<ℤ◌, ℕ, List, length, Bool, true, false, ◌&&◌, fold, Option, Some, None, if◌then◌else◌, is_none, int_le}
 use Rattle.std.specs.List.{slice_get}
 use Rattle.std.specs.Option.{option_map}
+use Rattle.adlb_unit.specs.declared.names.Target.{Target}
 use Rattle.adlb_unit.specs.declared.names.Target.TheVariants.{Any}
 use Rattle.adlb_unit.specs.declared.names.UnitId.{UnitId}
-use Rattle.work_queue.specs.Best.{is_own}
 use Rattle.work_queue.specs.Queue.{id_of, size_of}
 use Rattle.work_queue.specs.declared.placing.Placed.{Placed}
 use Rattle.work_queue.specs.declared.pushing.Candidate.{Candidate}
@@ -13,7 +13,7 @@ use Rattle.work_queue.specs.declared.pushing.Candidate.{Candidate}
 abbrev pub IsMovable : Placed → Type 0
 IsMovable p = (p.pin ≡ None) × (p.unit.target ≡ Any)
 
--- p at its place goes before q at another: by the lower priority, and else by the later arrival
+-- p at its place goes before q at another: by the lower priority, otherwise by the later arrival
 abbrev pub GoesBefore : ℕ → Placed → ℕ → Placed → Type 0
 GoesBefore place p other q = (p.unit.prio <ℤ q.unit.prio) ⊎ ((p.unit.prio ≡ q.unit.prio) × (other < place))
 
@@ -30,11 +30,16 @@ pub record IsFirstToPush (units : List Placed) (is : UnitId × ℕ) : Type 0 whe
   pub is_movable : IsMovable unit
   pub is_first : (other : ℕ) (q : Placed) → slice_get units other ≡ Some q → other ≢ place → IsMovable q → GoesBefore place unit other q
 
--- The same by going over the list, as tests.
+-- By going over the list, as tests.
+
+-- the target is any
+abbrev pub is_any : Target → Bool
+is_any Any = true
+is_any _ = false
 
 -- the unit is free and for any rank
 abbrev pub movable : Placed → Bool
-movable p = is_none p.pin && not (is_own p.unit.target)
+movable p = is_none p.pin && is_any p.unit.target
 
 -- what counts of a unit
 abbrev pub candidate : Placed → Candidate

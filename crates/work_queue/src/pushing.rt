@@ -24,7 +24,7 @@ fn is_movable(placed: &Placed) -> bool
 {
     let for_any = match placed.unit.target {
         Target::Any => true,
-        Target::Only(_) => false,
+        Target::Only(_) | Target::Soft(_) => false,
     };
     placed.pin.is_none() && for_any
 }

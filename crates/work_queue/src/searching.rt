@@ -30,7 +30,7 @@ pub(crate) fn consider(
     if !is_offered(placed, rank, types) {
         return best;
     }
-    let rated = rate(placed);
+    let rated = rate(placed, rank);
     match best {
         None => Some(rated),
         Some(first) => Some(better_of(first, rated)),
