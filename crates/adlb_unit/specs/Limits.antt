@@ -7,7 +7,7 @@ use Rattle.adlb_unit.specs.declared.configs.ConfigFault.TheVariants.{Ranks, Serv
 abbrev pub stamp_limit : ℕ
 stamp_limit = 2 ^ 48
 
--- a unit's own bytes, the ranks and the servers of a run, and the types of a list are at most so many
+-- the most of a unit's own bytes, of a run's ranks and servers, and of a list's types
 abbrev pub body_limit : ℕ
 body_limit = 2 ^ 20
 

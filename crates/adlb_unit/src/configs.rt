@@ -63,7 +63,7 @@ impl Config {
         Server(rank.0 % self.servers)
     }
 
-    /// The server after this one in ring order: the next number, and 0 after the last. The server is one of this run's.
+    /// The server after this one in ring order: the next number, and 0 after the last. The server is in the run.
     pub fn next(&self, server: Server) -> Server
         requires { server.0 < self.now.servers }
         ensures ring { result.0 ≡ (server.0 + 1) % self.now.servers }
@@ -80,7 +80,7 @@ impl Config {
 impl Config {
     ghost use Rattle.adlb_unit.specs.Targets.{Aims, in_ranks};
 
-    /// A rank that the target names is one of the run's (`Aims`, and as a test `in_ranks`).
+    /// A rank that the target names is in the run (`Aims`, and as a test `in_ranks`).
     pub fn has_target(&self, target: Target) -> bool
         ensures aims { IsTrue result ↔ Aims target self.now.ranks }
         ensures test { result ≡ in_ranks self.now target }

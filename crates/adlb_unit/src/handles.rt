@@ -20,14 +20,14 @@ impl Model for Handle {
 }
 
 impl Handle {
-    /// The handle of a unit with this note. It is for who grants a unit.
+    /// The handle of a unit with this note. For the side that grants.
     pub fn of(note: UnitNote) -> Handle
         ensures { result ≡ note }
     {
         Handle { note }
     }
 
-    /// The note, with the handle used up. It is for who fetches the unit or leaves it.
+    /// The note, with the handle used up. For the side that fetches the unit or leaves it.
     pub fn spend(self) -> UnitNote
         ensures { result ≡ self }
     {

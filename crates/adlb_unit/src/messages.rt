@@ -53,7 +53,7 @@ pub enum Message {
         request: u64,
         common: Payload,
     },
-    /// The batch is over, and so many of its units were accepted.
+    /// The batch is over, and `accepted` of its units were accepted.
     CloseBatch {
         request: u64,
         batch: BatchId,
@@ -78,7 +78,7 @@ pub enum Message {
     Accepted {
         request: u64,
     },
-    /// There is no room beside so many bytes.
+    /// There is no room: `charge` bytes are taken.
     Full {
         request: u64,
         charge: u64,
@@ -181,7 +181,7 @@ pub enum Message {
     Exhaust,
     /// No rank waits any more, and none runs.
     Shutdown,
-    /// The run stops, and so many ranks never started.
+    /// The run stops, and `absent` ranks never started.
     Abort {
         trouble: Trouble,
         absent: u32,
@@ -219,7 +219,7 @@ impl Message {
         })
     }
 
-    // The same of a message that carries neither bytes nor a token.
+    // An equal message, if it carries neither bytes nor a token.
     fn plain_twin(&self) -> Message
         requires { is_heavy self.now ≡ false }
         ensures { result ≡ self.now }
@@ -261,7 +261,7 @@ impl Message {
         }
     }
 
-    // The same where no rank says it.
+    // An equal message, if besides no rank says it.
     fn plain_answer(&self) -> Message
         requires light { is_heavy self.now ≡ false }
         requires server { is_of_rank self.now ≡ false }
@@ -293,7 +293,7 @@ impl Message {
         }
     }
 
-    // The same where a server says it to a server.
+    // An equal message, if besides a server says it to a server.
     fn plain_between(&self) -> Message
         requires light { is_heavy self.now ≡ false }
         requires server { is_of_rank self.now ≡ false }
@@ -331,7 +331,7 @@ impl Message {
         }
     }
 
-    // The same of what servers say of a push, of the ring and of the end.
+    // An equal message, if servers say it of a push, of the ring or of the end.
     fn plain_push(&self) -> Message
         requires light { is_heavy self.now ≡ false }
         requires server { is_of_rank self.now ≡ false }

@@ -1,6 +1,7 @@
 //! A put of one unit.
 
-ghost use Rattle.std.specs.Prelude.{◌≡◌, ◌<◌, ◌≤◌, ◌^◌, ◌↔◌, ℕ, Ok, IfOk, OnErr, length};
+ghost use Rattle.std.specs.Prelude.{◌≡◌, ◌<◌, ◌≤◌, ◌↔◌, ℕ, Ok, IfOk, OnErr, length};
+ghost use Rattle.adlb_unit.specs.Limits.{body_limit, stamp_limit};
 ghost use Rattle.work_queue.specs.Queue.{HasNoPromise, HasNoUnit, Overfills, charge_of};
 ghost use Rattle.put_path.specs.Put.{IsPut};
 
@@ -17,13 +18,13 @@ pub enum PutStep {
 }
 
 /// Puts the unit into the queue (`IsPut`). Its id is new to the queue's units and promises, and its body has at
-/// most 2^20 bytes. `Full` comes exactly where the body would go beyond the limit (`Overfills`), whether there
-/// is memory or not. It fails for want of memory alone, and the queue is then as it was.
+/// most 2^20 bytes. `Full` comes exactly when the body would go beyond the limit (`Overfills`), whether there is
+/// memory or not. Its only error is `NoMemory`; the queue is then as it was.
 pub fn put(queue: &mut WorkQueue, unit: Unit) -> Result<PutStep, NoMemory>
     requires new { HasNoUnit unit.id queue.old.units }
     requires unpromised { HasNoPromise unit.id queue.old.promises }
-    requires size { length unit.body ≤ 2 ^ 20 }
-    requires room { queue.old.arrivals < 2 ^ 48 }
+    requires size { length unit.body ≤ body_limit }
+    requires room { queue.old.arrivals < stamp_limit }
 
     ensures put { IfOk result (λ step. IsPut queue.old unit step queue.new) }
     ensures full { (n : ℕ) → (result ≡ Ok (PutStep.Full n)) ↔ (Overfills queue.old unit × (n ≡ charge_of queue.old)) }

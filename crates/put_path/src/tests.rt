@@ -8,7 +8,7 @@ use std::alloc::Global;
 use std::test::Fail;
 use work_queue::WorkQueue;
 
-// Puts a unit of so many bytes, whose id has this number, where that is new.
+// Puts a unit of `size` bytes, whose id has this number, if that is new.
 fn put_new(
     alloc: Global,
     queue: &mut WorkQueue,

@@ -1,5 +1,5 @@
 -- A queue with one unit more.
-use Rattle.std.proofs.Common.{◌≡◌, ◌≢◌, ◌≤◌, ◌^◌, ℕ, ◌+◌, List, [], ◌∷◌, ◌++◌, length, get_or, Some, None, refl, sym, ap, ◌∙◌, All, sum_by, arith, IsSome, is_some, true}
+use Rattle.std.proofs.Common.{◌≡◌, ◌≢◌, ◌<◌, ◌≤◌, ◌^◌, ℕ, ◌+◌, List, [], ◌∷◌, ◌++◌, length, get_or, Some, None, refl, sym, ap, ◌∙◌, All, sum_by, arith, IsSome, is_some, true}
 use Rattle.std.specs.Vec.{vec_capacity, vec_len}
 use Rattle.std.proofs.lemmas.List.Elements.{All-push, All-weaker, filter_map-append}
 use Rattle.std.proofs.lemmas.List.Quantifiers.{all_pairs_push}
@@ -38,7 +38,7 @@ pub record Comes (w v : Inside) (key : ℕ) (unit : Unit) : Type 0 where
   pub updates : Updates w.slots v.slots key (Some (record { unit = unit; pin = None }))
   pub order : v.order.items ≡ w.order.items ++ key ∷ []
   pub fresh : HasNoUnit unit.id (units_at w.slots w.order.items)
-  pub small : length unit.body ≤ 2 ^ 20
+  pub small : length unit.body < 2 ^ 32
   pub once : HasDistinctPromises v.rooms
   pub apart : HasApartPromises (units_at w.slots w.order.items) v.rooms
   pub unpromised : HasNoPromise unit.id v.rooms

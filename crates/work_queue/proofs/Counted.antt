@@ -8,7 +8,8 @@ use Rattle.std.proofs.lemmas.List.Elements.{All-cons, All-head, All-tail, All-we
 use Rattle.std.proofs.lemmas.List.Sums.{fold_push, sum_by-cons, sum_by_push}
 use Rattle.adlb_unit.specs.declared.names.WorkType.{WorkType}
 use Rattle.adlb_unit.specs.declared.notes.Info.{Info}
-use Rattle.work_queue.specs.Counts.{count_unit, counts_of, info_of_prios, info_with, is_counted, prios_of}
+use Rattle.adlb_unit.specs.Infos.{info_of_prios}
+use Rattle.work_queue.specs.Counts.{count_unit, counts_of, info_with, is_counted, prios_of}
 use Rattle.work_queue.specs.declared.placing.Placed.{Placed}
 
 abbrev told : ℕ → ℤ → ℕ → Info
@@ -44,7 +45,7 @@ below_top t p test = grind (arith, ints)
 at_top : (t p : ℤ) → int_lt p t ≡ false → int_le t p ≡ true
 at_top t p test = grind (arith, ints)
 
--- of the priorities q, qs and p, where the highest is m
+-- of the priorities q, qs and p, if the highest is m
 info_to : (q : ℤ) (qs : List ℤ) (p m : ℤ) (n : ℕ) → int_max (fold int_max q qs) p ≡ m → count_by (int_le m) (q ∷ qs) + cond (int_le m p) 1 0 ≡ n → info_of_prios (q ∷ (qs ++ p ∷ [])) ≡ told (length (q ∷ qs) + 1) m n
 info_to q qs p m n top at =
     let highest : fold int_max q (qs ++ p ∷ []) ≡ m = fold_push int_max q qs p ∙ top in

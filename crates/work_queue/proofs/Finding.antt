@@ -6,7 +6,7 @@ use Rattle.std.proofs.lemmas.List.Elements.{filter_map-append}
 use Rattle.std.proofs.lemmas.List.Folds.{find-append}
 use Rattle.adlb_unit.specs.declared.names.UnitId.{UnitId}
 use Rattle.slab.specs.Slab.{Slab, get}
-use Rattle.work_queue.proofs.SameId.{differs_is, same_is}
+use Rattle.adlb_unit.proofs.Same.{same_unit_from, unit_differs}
 use Rattle.work_queue.proofs.Units.{units_one}
 use Rattle.work_queue.specs.Queue.{id_of, is_unit}
 use Rattle.work_queue.specs.Units.{HasId, units_at}
@@ -40,11 +40,11 @@ module _ (test : Placed → Bool) (slots : Slab Placed) (order : List ℕ) where
   pub nowhere : (i : ℕ) → length order ≤ i → find test (units_at slots (take i order)) ≡ None → find test (units_at slots order) ≡ None
   nowhere i past none = ap (λ o. find test (units_at slots o)) (sym (take_all i order past)) ∙ none
 
--- the unit of an id, where it is the one under the key, and where it is not
+-- the unit of an id, if it is the one under the key, and if it is not
 pub found_one : (id : UnitId) (o : Option Placed) → HasId id o → find (is_unit id) (option_to_list o) ≡ o
 found_one id None has = absurd has
-found_one id (Some p) has = ap (λ t. cond t (Some p) None) (same_is (id_of p) id has)
+found_one id (Some p) has = ap (λ t. cond t (Some p) None) (same_unit_from (id_of p) id has)
 
 pub missed_one : (id : UnitId) (o : Option Placed) → (HasId id o → ⊥) → find (is_unit id) (option_to_list o) ≡ None
 missed_one id None misses = refl
-missed_one id (Some p) misses = ap (λ t. cond t (Some p) None) (differs_is (id_of p) id misses)
+missed_one id (Some p) misses = ap (λ t. cond t (Some p) None) (unit_differs (id_of p) id misses)

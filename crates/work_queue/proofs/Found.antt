@@ -33,7 +33,7 @@ module _ (w : Inside) (place key : ℕ) (p : Placed) (id : UnitId) (sound : IsSo
       let key_in : Contains w.order.items key = rw at.key_is at (Contains-get_or w.order.items place 0 at.within) in
       unit_listed w.slots w.order.items key p at.found key_in
 
-  pub small_found : length p.unit.body ≤ 2 ^ 20
+  pub small_found : IsSmall p
   small_found =
       let P : Placed → Type 0 = λ q. IsSmall q in
       All-contains P (units_at w.slots w.order.items) p sound.small listed

@@ -6,30 +6,23 @@ use Rattle.std.proofs.lemmas.List.Elements.{All-head, All-tail, All-weaker, All-
 use Rattle.std.proofs.lemmas.List.Sums.{sum_by-cons}
 use Rattle.adlb_unit.specs.declared.names.Rank.{Rank}
 use Rattle.adlb_unit.specs.declared.names.UnitId.{UnitId}
+use Rattle.adlb_unit.specs.Ids.{same_unit}
+use Rattle.adlb_unit.proofs.Same.{same_unit_from, unit_differs}
+pub use Rattle.adlb_unit.proofs.Same.{same_unit_from as same_is, same_unit_is as is_same, unit_differs as differs_is}
 use Rattle.work_queue.proofs.Named as named
-use Rattle.work_queue.proofs.SameId as test
-use Rattle.work_queue.specs.Queue.{HasDistinctIds, IsSmall, has_other_id, id_of, pinned_by, same_id, size_of}
+use Rattle.work_queue.specs.Queue.{HasDistinctIds, IsSmall, has_other_id, id_of, pinned_by, size_of}
 use Rattle.work_queue.specs.declared.placing.Placed.{Placed}
-
-pub same_is : (a b : UnitId) → a ≡ b → same_id a b ≡ true
-same_is = test.same_is
-
-pub is_same : (a b : UnitId) → same_id a b ≡ true → a ≡ b
-is_same = test.is_same
-
-pub differs_is : (a b : UnitId) → a ≢ b → same_id a b ≡ false
-differs_is = test.differs_is
 
 -- a unit of another id stays as it is
 pub other_stays : (id : UnitId) (rank : Rank) (q : Placed) → id_of q ≢ id → pinned_by id rank q ≡ q
-other_stays id rank q differs = ap (λ t. cond t (record q { pin = Some rank }) q) (differs_is (id_of q) id differs)
+other_stays id rank q differs = ap (λ t. cond t (record q { pin = Some rank }) q) (unit_differs (id_of q) id differs)
 
 pub this_pinned : (id : UnitId) (rank : Rank) (p : Placed) → id_of p ≡ id → pinned_by id rank p ≡ record p { pin = Some rank }
-this_pinned id rank p e = ap (λ t. cond t (record p { pin = Some rank }) p) (same_is (id_of p) id e)
+this_pinned id rank p e = ap (λ t. cond t (record p { pin = Some rank }) p) (same_unit_from (id_of p) id e)
 
 -- a pin changes nothing else of a unit
 pub unit_pinned : (id : UnitId) (rank : Rank) (q : Placed) → (pinned_by id rank q).unit ≡ q.unit
-unit_pinned id rank q = by_test (same_id (id_of q) id)
+unit_pinned id rank q = by_test (same_unit (id_of q) id)
   where
     by_test : (t : Bool) → (cond t (record q { pin = Some rank }) q).unit ≡ q.unit
     by_test true = refl
@@ -60,7 +53,7 @@ filter_at = named.filter_at id_of
 pub only_one : (units : List Placed) (k : ℕ) (d p : Placed) → HasDistinctIds units → Contains units p → k < length units → id_of (get_or units k d) ≡ id_of p → get_or units k d ≡ p
 only_one = named.only_one id_of
 
--- ids stay distinct where units are pinned
+-- ids stay distinct when units are pinned
 pub distinct_pinned : (id : UnitId) (rank : Rank) (units : List Placed) → HasDistinctIds units → HasDistinctIds (map (pinned_by id rank) units)
 distinct_pinned id rank units distinct i j d before within same =
     let long : length (map (pinned_by id rank) units) ≡ length units = length-map units (pinned_by id rank) in

@@ -15,9 +15,11 @@ use Rattle.adlb_unit.specs.declared.names.UnitId.{UnitId}
 use Rattle.adlb_unit.specs.declared.names.WorkType.{WorkType}
 use Rattle.adlb_unit.specs.declared.units.Unit.{Unit}
 use Rattle.slab.proofs.SlabLemmas.{Contains-cons, Contains-cons_cases}
-use Rattle.work_queue.proofs.Ids.{differs_is, distinct_pinned, filter_at, map_at, other_stays, same_is, this_pinned, unit_pinned}
+use Rattle.adlb_unit.specs.Ids.{same_unit}
+use Rattle.adlb_unit.proofs.Same.{same_unit_from, unit_differs}
+use Rattle.work_queue.proofs.Ids.{distinct_pinned, filter_at, map_at, other_stays, this_pinned, unit_pinned}
 use Rattle.work_queue.specs.Best.{IsBest}
-use Rattle.work_queue.specs.Queue.{HasDistinctIds, HasFree, HasPinned, Queue, has_other_id, id_of, pinned_by, same_id, with_pin, without}
+use Rattle.work_queue.specs.Queue.{HasDistinctIds, HasFree, HasPinned, Queue, has_other_id, id_of, pinned_by, with_pin, without}
 use Rattle.work_queue.specs.declared.placing.Placed.{Placed}
 
 pub split_at : (units : List Placed) (p : Placed) → Contains units p → (front : List Placed) × (back : List Placed) × (units ≡ front ++ p ∷ back)
@@ -64,9 +66,9 @@ body_pinned id rank q = ap (λ u. u.body) (unit_pinned id rank q)
 -- what stays of the list when the unit is taken does not tell whether it was pinned before
 pub filter-map_pinned : (id : UnitId) (rank : Rank) (units : List Placed) → filter (has_other_id id) (map (pinned_by id rank) units) ≡ filter (has_other_id id) units
 filter-map_pinned id rank [] = refl
-filter-map_pinned id rank (q ∷ units) = by_test (same_id (id_of q) id) refl (filter-map_pinned id rank units)
+filter-map_pinned id rank (q ∷ units) = by_test (same_unit (id_of q) id) refl (filter-map_pinned id rank units)
   where
-    by_test : (t : Bool) → same_id (id_of q) id ≡ t → filter (has_other_id id) (map (pinned_by id rank) units) ≡ filter (has_other_id id) units → filter (has_other_id id) (cond t (record q { pin = Some rank }) q ∷ map (pinned_by id rank) units) ≡ filter (has_other_id id) (q ∷ units)
+    by_test : (t : Bool) → same_unit (id_of q) id ≡ t → filter (has_other_id id) (map (pinned_by id rank) units) ≡ filter (has_other_id id) units → filter (has_other_id id) (cond t (record q { pin = Some rank }) q ∷ map (pinned_by id rank) units) ≡ filter (has_other_id id) (q ∷ units)
     by_test true test rest = rw (test, rest) refl
     by_test false test rest = rw (test, rest) refl
 
@@ -82,9 +84,9 @@ pub id_gone : (id : UnitId) (units : List Placed) → All (λ q. id_of q ≢ id)
 id_gone id units =
     let T : Placed → Type 0 = λ q. has_other_id id q ≡ true in
     let D : Placed → Type 0 = λ q. id_of q ≢ id in
-    All-weaker T D (λ q test same. both_ways (same_id (id_of q) id) (not-true (same_id (id_of q) id) test) (same_is (id_of q) id same)) (filter (has_other_id id) units) (filter_passes (has_other_id id) units)
+    All-weaker T D (λ q test same. both_ways (same_unit (id_of q) id) (not-true (same_unit (id_of q) id) test) (same_unit_from (id_of q) id same)) (filter (has_other_id id) units) (filter_passes (has_other_id id) units)
 
--- ids stay distinct where a unit is taken, and where one of a new id is added
+-- ids stay distinct when a unit is taken, and when one of a new id is added
 pub distinct_left : (id : UnitId) (units : List Placed) → HasDistinctIds units → HasDistinctIds (filter (has_other_id id) units)
 distinct_left id units distinct = AllPairs-filter (λ a b. id_of a ≢ id_of b) (has_other_id id) units distinct
 
@@ -133,14 +135,14 @@ listed_later false q p rest there = there
 contains_left : (id : UnitId) (units : List Placed) (p : Placed) → Contains units p → has_other_id id p ≡ true → Contains (filter (has_other_id id) units) p
 contains_left id [] p there passes = absurd (omega (arith, there.1))
 contains_left id (q ∷ units) p there passes = elim (Contains-cons_cases q p units there) [
-  | inl same ↦ rw (ap (λ u. same_id (id_of u) id) same ∙ not-true (same_id (id_of p) id) passes) (0, omega arith, same)
+  | inl same ↦ rw (ap (λ u. same_unit (id_of u) id) same ∙ not-true (same_unit (id_of p) id) passes) (0, omega arith, same)
   | inr later ↦ listed_later (has_other_id id q) q p (filter (has_other_id id) units) (contains_left id units p later passes)
 ]
 
--- a unit of another id stays where one is taken, and as it is where one is pinned
+-- a unit of another id stays when one is taken, and as it is when one is pinned
 pub any_left : (P : Placed → Type 0) (id : UnitId) (units : List Placed) → Any (λ p. P p × (id_of p ≢ id)) units → Any P (filter (has_other_id id) units)
 any_left P id units has =
-    let there = contains_left id units has.1 (has.0, has.2, has.3) (not_from_false (same_id (id_of has.1) id) (differs_is (id_of has.1) id has.4.1)) in
+    let there = contains_left id units has.1 (has.0, has.2, has.3) (not_from_false (same_unit (id_of has.1) id) (unit_differs (id_of has.1) id has.4.1)) in
     (there.0, has.1, there.1, there.2, has.4.0)
 
 pub any_pinned : (P : Placed → Type 0) (id : UnitId) (rank : Rank) (units : List Placed) → Any (λ p. P p × (id_of p ≢ id)) units → Any P (map (pinned_by id rank) units)

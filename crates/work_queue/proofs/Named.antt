@@ -5,22 +5,22 @@ use Rattle.std.proofs.lemmas.Bool.{both_ways, cases_order}
 use Rattle.std.proofs.lemmas.List.{drop_more, get_or_append_left, get_or_at, get_or-append-add, get_or_default, length-append, take-append-drop}
 use Rattle.std.proofs.lemmas.List.Elements.{All-head, All-tail, filter-append}
 use Rattle.adlb_unit.specs.declared.names.UnitId.{UnitId}
+use Rattle.adlb_unit.specs.Ids.{same_unit}
+use Rattle.adlb_unit.proofs.Same.{same_unit_from, same_unit_is, unit_differs}
 use Rattle.work_queue.proofs.Searched.{find_first, find_none}
-use Rattle.work_queue.proofs.SameId.{differs_is, is_same, same_is}
-use Rattle.work_queue.specs.Queue.{same_id}
 
 module _ {X : Type 0} (name : X → UnitId) where
   abbrev pub is_of : UnitId → X → Bool
-  is_of id x = same_id (name x) id
+  is_of id x = same_unit (name x) id
 
   abbrev pub is_not_of : UnitId → X → Bool
-  is_not_of id x = not (same_id (name x) id)
+  is_not_of id x = not (same_unit (name x) id)
 
   pub filter_others : (id : UnitId) (xs : List X) → All (λ x. name x ≢ id) xs → filter (is_not_of id) xs ≡ xs
   filter_others id [] others = refl
   filter_others id (x ∷ xs) others =
       let P : X → Type 0 = λ y. name y ≢ id in
-      rw (differs_is (name x) id (All-head P x xs others), filter_others id xs (All-tail P x xs others)) refl
+      rw (unit_differs (name x) id (All-head P x xs others), filter_others id xs (All-tail P x xs others)) refl
 
   -- the elements on both sides of one have other ids
   pub others_before : (front back : List X) (x : X) (id : UnitId) → AllPairs (λ a b. name a ≢ name b) (front ++ x ∷ back) → name x ≡ id → All (λ y. name y ≢ id) front
@@ -40,7 +40,7 @@ module _ {X : Type 0} (name : X → UnitId) where
   pub filter_at : (front back : List X) (x : X) (id : UnitId) → AllPairs (λ a b. name a ≢ name b) (front ++ x ∷ back) → name x ≡ id → filter (is_not_of id) (front ++ x ∷ back) ≡ front ++ back
   filter_at front back x id distinct is =
       filter-append (is_not_of id) front (x ∷ back)
-      ∙ rw (filter_others id front (others_before front back x id distinct is), same_is (name x) id is, filter_others id back (others_after front back x id distinct is)) refl
+      ∙ rw (filter_others id front (others_before front back x id distinct is), same_unit_from (name x) id is, filter_others id back (others_after front back x id distinct is)) refl
 
   pub remove_is : (xs : List X) (i : ℕ) (x : X) (id : UnitId) → AllPairs (λ a b. name a ≢ name b) xs → i < length xs → x ≡ get_or xs i x → name x ≡ id → remove xs i ≡ filter (is_not_of id) xs
   remove_is xs i x id distinct within read is =
@@ -65,11 +65,11 @@ module _ {X : Type 0} (name : X → UnitId) where
   pub find_listed : (xs : List X) (x : X) (id : UnitId) → find (is_of id) xs ≡ Some x → Contains xs x × (name x ≡ id)
   find_listed xs x id found =
       let first = find_first (is_of id) xs x found in
-      ((first.place, first.within, first.read), is_same (name x) id first.passes)
+      ((first.place, first.within, first.read), same_unit_is (name x) id first.passes)
 
   -- where nothing is found, no element has the id
   pub find_nothing : (xs : List X) (id : UnitId) → find (is_of id) xs ≡ None → All (λ x. name x ≢ id) xs
-  find_nothing xs id none k d within same = both_ways (is_of id (get_or xs k d)) (find_none (is_of id) xs none k d within) (same_is (name (get_or xs k d)) id same)
+  find_nothing xs id none k d within same = both_ways (is_of id (get_or xs k d)) (find_none (is_of id) xs none k d within) (same_unit_from (name (get_or xs k d)) id same)
 
   -- so what holds of the one of an id holds of some element of that id, and the other way
   module _ (P : X → Type 0) (xs : List X) (id : UnitId) (distinct : AllPairs (λ a b. name a ≢ name b) xs) where

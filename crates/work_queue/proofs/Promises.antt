@@ -7,9 +7,10 @@ use Rattle.std.proofs.lemmas.List.Edits.{length-remove}
 use Rattle.std.proofs.lemmas.List.Sums.{sum_by-remove}
 use Rattle.std.proofs.lemmas.Option.{none-some, same_Some}
 use Rattle.adlb_unit.specs.declared.names.UnitId.{UnitId}
+use Rattle.adlb_unit.specs.Ids.{same_unit}
+use Rattle.adlb_unit.proofs.Same.{same_unit_from}
 use Rattle.work_queue.proofs.Named.{only_one, remove_is}
-use Rattle.work_queue.proofs.SameId.{same_is}
-use Rattle.work_queue.specs.Queue.{HasApartPromises, HasDistinctPromises, HasNoPromise, HasNoUnit, HasRoom, Promise, is_for_other, promised, same_id}
+use Rattle.work_queue.specs.Queue.{HasApartPromises, HasDistinctPromises, HasNoPromise, HasNoUnit, HasRoom, Promise, is_for_other, promised}
 use Rattle.work_queue.specs.declared.placing.Placed.{Placed}
 
 abbrev pub promised_id : Promise → UnitId
@@ -60,4 +61,4 @@ pub none_left : (id : UnitId) (promises : List Promise) → HasNoPromise id (fil
 none_left id promises =
     let T : Promise → Type 0 = λ p. is_for_other id p ≡ true in
     let D : Promise → Type 0 = λ p. p.id ≢ id in
-    All-weaker T D (λ p test same. both_ways (same_id p.id id) (not-true (same_id p.id id) test) (same_is p.id id same)) (filter (is_for_other id) promises) (filter_passes (is_for_other id) promises)
+    All-weaker T D (λ p test same. both_ways (same_unit p.id id) (not-true (same_unit p.id id) test) (same_unit_from p.id id same)) (filter (is_for_other id) promises) (filter_passes (is_for_other id) promises)

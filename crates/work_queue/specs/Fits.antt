@@ -22,7 +22,7 @@ pub record IsFirstFit (asked : List (Rank × Option (List WorkType))) (units : L
   pub is_asked : IsAsked asked unit
   pub is_first : (other : ℕ) (q : Placed) → other < place → slice_get units other ≡ Some q → IsAsked asked q → ⊥
 
--- the same as a test
+-- as a test
 abbrev pub asked_for : List (Rank × Option (List WorkType)) → Placed → Bool
 asked_for asked p = is_none p.pin && list_any (λ (a : Rank × Option (List WorkType)). permitted a.0 a.1 p.unit.kind p.unit.target) asked
 

@@ -53,7 +53,7 @@ goes_first later first = int_le later.prio first.prio
 abbrev pub lower : Candidate → Candidate → Candidate
 lower first later = if goes_first later first then later else first
 
--- the one of what was found before and this unit that goes first, where the unit can be moved
+-- the one of what was found before and this unit that goes first, if the unit can be moved
 abbrev pub pick_to_push : Option Candidate → Placed → Option Candidate
 pick_to_push None p = if movable p then Some (candidate p) else None
 pick_to_push (Some first) p = if movable p then Some (lower first (candidate p)) else Some first

@@ -44,7 +44,7 @@ fn with_one_more(info: Info, prio: i32) -> Info
     }
 }
 
-// What was counted before, and the unit under the key, where it counts.
+// What was counted before, and the unit under the key, if it counts.
 pub(crate) fn count_one(slots: &Slab<Placed>, key: usize, kind: WorkType, info: Info) -> Info
     requires free { info.free + 1 < 2 ^ 64 }
     requires at_top { info.at_top ≤ info.free }

@@ -24,7 +24,7 @@ fn is_permitted(placed: &Placed, asked: &[(Rank, Types)]) -> bool
     false
 }
 
-// The id of the unit under the key, where it is free and permitted to one of the requests.
+// The id of the unit under the key, if it is free and permitted to one of the requests.
 pub(crate) fn fit_at(slots: &Slab<Placed>, key: usize, asked: &[(Rank, Types)]) -> Option<UnitId>
     ensures { result ≡ option_map id_of (find (asked_for asked.now) (option_to_list (get slots.now key))) }
 {

@@ -8,7 +8,7 @@ use crate::placing::Placed;
 use slab::Slab;
 use std::alloc::AllocError;
 
-// Makes room for so many more units, so that they come without more memory. No unit changes.
+// Makes room for `more` units, so that they come without more memory. No unit changes.
 pub(crate) fn make_room(
     slots: &mut Slab<Placed>,
     order: &mut Vec<usize>,

@@ -6,8 +6,8 @@ ghost use Rattle.work_queue.specs.Queue.{Exceeds, charge_of, with_common, withou
 use crate::queues::WorkQueue;
 use thiserror::Error;
 
-/// There is no room: the queue's charge is `charge` bytes, and so many more would go beyond its limit
-/// (`Exceeds`).
+/// There is no room: the queue's charge is `charge` bytes, and those that were asked for would go beyond its
+/// limit (`Exceeds`).
 #[derive(Clone, Copy, Debug, PartialEq, Eq, Error)]
 #[error("the queue is full at {charge} bytes")]
 pub struct Full {
@@ -15,7 +15,7 @@ pub struct Full {
 }
 
 impl WorkQueue {
-    /// Takes `n` bytes for a common part (`with_common`). `Full` exactly where so much would go beyond the
+    /// Takes `n` bytes for a common part (`with_common`). `Full` exactly when `n` bytes more would go beyond the
     /// limit (`Exceeds`); the queue is then as it was.
     pub fn hold(&mut self, n: u32) -> Result<(), Full>
         ensures held { OnOk result (self.new ≡ with_common self.old n) }
@@ -32,7 +32,7 @@ impl WorkQueue {
         Ok(())
     }
 
-    /// Gives `n` bytes of common parts back, of which so many are held (`without_common`).
+    /// Gives back `n` of the bytes that are held for common parts (`without_common`).
     pub fn release(&mut self, n: u32)
         requires { n ≤ self.old.common }
         ensures { self.new ≡ without_common self.old n }

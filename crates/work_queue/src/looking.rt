@@ -33,7 +33,7 @@ impl WorkQueue {
         }
     }
 
-    /// The rank to which the unit of this id is pinned (`HasPinned`); none exactly where no pinned unit has
+    /// The rank to which the unit of this id is pinned (`HasPinned`). `None` exactly when no pinned unit has
     /// this id.
     pub fn pinned_to(&self, id: UnitId) -> Option<Rank>
         ensures { (rank : Rank) → (result ≡ Some rank) ↔ HasPinned id rank self.now.units }
@@ -56,9 +56,9 @@ impl WorkQueue {
         (placed.facts(), placed.unit.target)
     }
 
-    /// The free unit for any rank that is pushed first (`IsFirstToPush`), the one of lowest priority and of
-    /// these the latest arrival, with its length in bytes. There is none exactly where no free unit is for any
-    /// rank (`IsMovable`).
+    /// The free unit of target any that is pushed first (`IsFirstToPush`), the one of lowest priority and of
+    /// these the latest arrival, with its length in bytes. `None` exactly when no free unit has target any
+    /// (`IsMovable`).
     pub fn first_to_push(&self) -> Option<(UnitId, u32)>
         ensures first { IfSome result (IsFirstToPush self.now.units) }
         ensures some { IsSome result ↔ Any IsMovable self.now.units }
@@ -76,7 +76,7 @@ impl WorkQueue {
     }
 
     /// The first free unit in arrival order that is permitted to one of the requests, each a rank with the
-    /// types that it wants (`IsFirstFit`). There is none exactly where no free unit is permitted to any of them
+    /// types that it wants (`IsFirstFit`). `None` exactly when no free unit is permitted to any of them
     /// (`IsAsked`).
     pub fn fits(&self, asked: &[(Rank, Types)]) -> Option<UnitId>
         ensures first { IfSome result (IsFirstFit asked.now self.now.units) }

@@ -1,7 +1,8 @@
 //! A unit in its place, and what is told of it.
 
-ghost use Rattle.std.specs.Prelude.{◌≡◌, ◌^◌, ◌≤◌, length};
+ghost use Rattle.std.specs.Prelude.{◌≡◌};
 ghost use Rattle.work_queue.specs.Facts.{facts_of};
+ghost use Rattle.work_queue.specs.Queue.{IsSmall};
 
 use adlb_unit::{CommonRef, Rank, Unit, UnitId, WorkType};
 
@@ -15,7 +16,7 @@ pub struct Placed {
 }
 
 /// What a rank is told of a unit before it fetches the body: all but the target, and of the body the length
-/// in bytes, at most 2^20.
+/// in bytes.
 #[derive(Clone, Copy, Debug, PartialEq, Eq)]
 pub struct UnitFacts {
     pub id: UnitId,
@@ -29,7 +30,7 @@ pub struct UnitFacts {
 impl Placed {
     // What a rank is told of the unit.
     pub(crate) fn facts(&self) -> UnitFacts
-        requires { length self.now.unit.body ≤ 2 ^ 20 }
+        requires { IsSmall self.now }
         ensures { result ≡ facts_of self.now }
     {
         UnitFacts {

@@ -1,6 +1,7 @@
 //! Room that is promised to a unit on its way, so that it comes without fail.
 
-ghost use Rattle.std.specs.Prelude.{◌≡◌, ◌<◌, ◌≤◌, ◌^◌, ◌↔◌, ℕ, Some, Err, OnOk, OnErr, length};
+ghost use Rattle.std.specs.Prelude.{◌≡◌, ◌<◌, ◌↔◌, ℕ, Some, Err, OnOk, OnErr, length};
+ghost use Rattle.adlb_unit.specs.Limits.{stamp_limit};
 ghost use Rattle.work_queue.specs.Queue.{Exceeds, HasNoPromise, HasNoUnit, HasPromise, HasRoom, charge_of, with_arrival, with_promise, without_promise};
 
 use crate::growth::make_room;
@@ -11,8 +12,8 @@ use adlb_unit::{Unit, UnitId};
 impl WorkQueue {
     /// Promises room of `n` bytes to the unit of this id, which is neither here nor promised room
     /// (`with_promise`), and makes all growth that its arrival needs. At a refusal the queue is as it was: it
-    /// gives `AddFault::Full` exactly where so much would go beyond the limit (`Exceeds`), whether there is
-    /// memory or not, and else `AddFault::Memory`.
+    /// gives `AddFault::Full` exactly when `n` bytes more would go beyond the limit (`Exceeds`), whether there
+    /// is memory or not, otherwise `AddFault::Memory`.
     pub fn promise(&mut self, id: UnitId, n: u32) -> Result<(), AddFault>
         requires new { HasNoUnit id self.old.units }
         requires unpromised { HasNoPromise id self.old.promises }
@@ -37,11 +38,10 @@ impl WorkQueue {
     }
 
     /// The promised unit comes: it stands last, free, and its promise is gone (`with_arrival`). As much room
-    /// as its body has bytes was promised to it, and the body has at most 2^20 bytes.
+    /// as its body has bytes was promised to it.
     pub fn arrive(&mut self, unit: Unit)
         requires promised { HasRoom unit.id (length unit.body) self.old.promises }
-        requires size { length unit.body ≤ 2 ^ 20 }
-        requires room { self.old.arrivals < 2 ^ 48 }
+        requires room { self.old.arrivals < stamp_limit }
 
         ensures { self.new ≡ with_arrival self.old unit }
     {
@@ -60,7 +60,7 @@ impl WorkQueue {
         self.charge -= u64::from(length);
     }
 
-    /// The bytes that are promised to the unit of this id (`HasRoom`); none exactly where there is no promise
+    /// The bytes that are promised to the unit of this id (`HasRoom`). `None` exactly when there is no promise
     /// of this id.
     pub fn promised(&self, id: UnitId) -> Option<u32>
         ensures { (n : ℕ) → (result ≡ Some n) ↔ HasRoom id n self.now.promises }

@@ -1,6 +1,6 @@
 //! Which unit is pushed first.
 
-ghost use Rattle.std.specs.Prelude.{◌≡◌, ◌≤◌, ◌^◌, IfSome, fold, length};
+ghost use Rattle.std.specs.Prelude.{◌≡◌, IfSome, fold};
 ghost use Rattle.std.specs.Option.{option_to_list};
 ghost use Rattle.slab.specs.Slab.{get};
 ghost use Rattle.work_queue.specs.Push.{candidate, lower, movable, pick_to_push};
@@ -10,7 +10,7 @@ use crate::placing::Placed;
 use adlb_unit::{Target, UnitId};
 use slab::Slab;
 
-// What counts of a unit where the first to push is sought, and its length, which is told.
+// What counts of a unit when the first to push is sought, and its length, which is told.
 #[derive(Clone, Copy, Debug, PartialEq, Eq)]
 pub struct Candidate {
     pub id: UnitId,
@@ -30,7 +30,7 @@ fn is_movable(placed: &Placed) -> bool
 }
 
 fn candidate_of(placed: &Placed) -> Candidate
-    requires { length placed.now.unit.body ≤ 2 ^ 20 }
+    requires { IsSmall placed.now }
     ensures { result ≡ candidate placed.now }
 {
     Candidate {
@@ -51,7 +51,7 @@ fn lower_of(first: Candidate, later: Candidate) -> Candidate
     }
 }
 
-// The one of what was found before and the unit under the key that goes first, where that can be moved.
+// The one of what was found before and the unit under the key that goes first, if that can be moved.
 pub(crate) fn consider_push(
     slots: &Slab<Placed>,
     key: usize,

@@ -1,8 +1,9 @@
 //! The queue of one server's units.
 
-ghost use Rattle.std.specs.Prelude.{◌≡◌, ◌≢◌, ◌<◌, ◌≤◌, ◌+◌, ◌^◌, ◌↔◌, ◌++◌, ◌∷◌, [], ℕ, All, Any, List, length, IsTrue, IfOk, IfErr, OnOk, OnErr, IfSome, IfNone, IsSome, IsNone, Some, None, Ok, Err, Option};
+ghost use Rattle.std.specs.Prelude.{◌≡◌, ◌≢◌, ◌<◌, ◌≤◌, ◌+◌, ◌↔◌, ◌++◌, ◌∷◌, [], ℕ, All, Any, List, length, IsTrue, IfOk, IfErr, OnOk, OnErr, IfSome, IfNone, IsSome, IsNone, Some, None, Ok, Err, Option};
 ghost use Rattle.std.specs.List.{slice_get};
 ghost use Rattle.std.specs.Option.{option_map};
+ghost use Rattle.adlb_unit.specs.Limits.{body_limit, stamp_limit};
 ghost use Rattle.work_queue.specs.Best.{IsBest, IsOffered, best_of};
 ghost use Rattle.work_queue.specs.Facts.{facts_of};
 ghost use Rattle.work_queue.specs.Queue.{Queue, Promise, HasApartPromises, HasDistinctIds, HasDistinctPromises, HasFree, HasPinned, HasUnit, IsSmall, Overfills, charge_of, id_of, seen, with_pin, with_unit, without};
@@ -24,7 +25,7 @@ pub enum AddFault {
     /// The queue's charge is `charge` bytes, and the unit's body would go beyond its limit (`Overfills`).
     #[error("the queue is full at {charge} bytes")]
     Full { charge: u64 },
-    /// Want of memory, which no clause ties to a cause.
+    /// Allocation failed. Contracts never say when.
     #[error("out of memory")]
     Memory,
 }
@@ -77,7 +78,7 @@ impl WorkQueue {
 
     /// The bytes that the bodies of the queue's units, its promises and its common parts take together
     /// (`charge_of`). They are never more than the limit. Besides, it tells what is so of each queue: no two
-    /// units have the same id, no body has more than 2^20 bytes, no two promises are of the same id, and no
+    /// units have the same id, each body has fewer than 2^32 bytes, no two promises are of the same id, and no
     /// unit has the id of a promise.
     pub fn charge(&self) -> u64
         ensures exact { result ≡ charge_of self.now }
@@ -99,13 +100,13 @@ impl WorkQueue {
 
     /// Puts a free unit last (`with_unit`). Its id is new to the queue's units and promises, and its body has
     /// at most 2^20 bytes. At a refusal the queue is as it was, and the unit comes back: with
-    /// `AddFault::Full` exactly where the body would go beyond the limit (`Overfills`), whether there is
-    /// memory or not, and else with `AddFault::Memory`.
+    /// `AddFault::Full` exactly when the body would go beyond the limit (`Overfills`), whether there is
+    /// memory or not, otherwise with `AddFault::Memory`.
     pub fn add(&mut self, unit: Unit) -> Result<(), (Unit, AddFault)>
         requires new { All (λ p. id_of p ≢ unit.id) self.old.units }
         requires unpromised { All (λ (p : Promise). p.id ≢ unit.id) self.old.promises }
-        requires size { length unit.body ≤ 2 ^ 20 }
-        requires room { self.old.arrivals < 2 ^ 48 }
+        requires size { length unit.body ≤ body_limit }
+        requires room { self.old.arrivals < stamp_limit }
 
         ensures added { OnOk result (self.new ≡ with_unit self.old unit) }
         ensures full { (n : ℕ) → (result ≡ Err (unit, AddFault.Full n)) ↔ (Overfills self.old unit × (n ≡ charge_of self.old)) }
@@ -128,9 +129,9 @@ impl WorkQueue {
         Ok(())
     }
 
-    /// The best free unit that is permitted to the rank (`IsBest`): one for that rank alone before one for
-    /// any, then the higher priority, then the earlier arrival. There is none exactly where no free unit is
-    /// permitted (`IsOffered`).
+    /// The best free unit that is permitted to the rank (`IsBest`): one for this rank alone comes before one
+    /// for this rank before others, then one for any, then one for another rank before this one; of these the
+    /// higher priority, then the earlier arrival. `None` exactly when no free unit is permitted (`IsOffered`).
     pub fn best(&self, rank: Rank, types: &Types) -> Option<UnitId>
         ensures best { IfSome result (IsBest rank types.now self.now.units) }
         ensures some { IsSome result ↔ Any (IsOffered rank types.now) self.now.units }
@@ -193,8 +194,8 @@ impl WorkQueue {
         unit
     }
 
-    /// The unit at this place of the arrival order, counted from 0, with its pin. There is none exactly where
-    /// there is no such place.
+    /// The unit at this place of the arrival order, counted from 0, with its pin. `None` exactly when there is
+    /// no such place.
     pub fn unit_at(&self, place: u64) -> Option<(UnitId, Option<Rank>)>
         ensures at { result ≡ option_map seen (slice_get self.now.units place) }
         ensures none { IsNone result ↔ (length self.now.units ≤ place) }

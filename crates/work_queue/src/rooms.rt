@@ -7,7 +7,7 @@ use adlb_unit::UnitId;
 use std::alloc::{AllocError, Global};
 use std::marker::Model;
 
-// Room of so many bytes for the unit of this id.
+// Room of `length` bytes for the unit of this id.
 #[derive(Drop)]
 struct Room {
     id: UnitId,
@@ -54,7 +54,7 @@ impl Rooms {
         self.kept.len()
     }
 
-    // Adds a promise last. It fails for want of memory alone.
+    // Adds a promise last. Its only error is that allocation failed.
     pub(crate) fn add(&mut self, id: UnitId, n: u32) -> Result<(), AllocError>
         ensures added { OnOk result (self.new ≡ self.old ++ record { id = id; length = n } ∷ []) }
         ensures err { OnErr result (self.new ≡ self.old) }

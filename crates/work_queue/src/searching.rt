@@ -14,7 +14,7 @@ use crate::rating::{Rated, better_of, is_offered, rate};
 use adlb_unit::{Rank, Types, Unit, UnitId};
 use slab::Slab;
 
-// The better of what was found before and the unit under the key, where that is offered.
+// The better of what was found before and the unit under the key, if that is offered.
 pub(crate) fn consider(
     slots: &Slab<Placed>,
     key: usize,

@@ -1,4 +1,4 @@
-//! Tests of values that were found by hand, and that the calls succeed where there is memory.
+//! Tests of values that were found by hand, and that the calls succeed when there is memory.
 
 ghost use Rattle.std.specs.Prelude.{◌≡◌, ◌≢◌, ◌≤◌, ◌<◌, ◌+◌, ◌^◌, [], All, IfOk, IsTrue, length};
 ghost use Rattle.work_queue.specs.Queue.{HasNoPromise, HasNoUnit, id_of};
@@ -8,7 +8,7 @@ use adlb_unit::{Payload, Rank, Target, Types, Unit, UnitId, WorkType};
 use std::alloc::Global;
 use std::test::Fail;
 
-// A unit with a body of so many bytes, each 7.
+// A unit with a body of `size` bytes, each 7.
 fn unit(
     alloc: Global,
     number: u64,
@@ -138,6 +138,37 @@ fn gives_the_best_unit_first(rt: HostRuntime) -> Result<(), Fail> {
     Ok(())
 }
 
+// Pins the best unit for the rank to it, and gives the unit's id.
+fn pin_best(queue: &mut WorkQueue, rank: Rank) -> Option<UnitId> {
+    let best = queue.best(rank, &Types::any())?;
+    queue.pin(best, rank);
+    Some(best)
+}
+
+// In arrival order: any with priority 9, and of rank 1 with 5, of rank 0 alone with 0, of rank 0 with 1.
+#[test]
+fn soft_units_prefer_their_rank(rt: HostRuntime) -> Result<(), Fail> {
+    let alloc = rt.alloc();
+    let rows = [
+        (5, 9, Target::Any),
+        (5, 5, Target::Soft(Rank(1))),
+        (5, 0, Target::Only(Rank(0))),
+        (5, 1, Target::Soft(Rank(0))),
+    ];
+    let orders = [
+        (Rank(0), [Some(2), Some(3), Some(0), Some(1)]),
+        (Rank(1), [Some(1), Some(0), Some(3), None]),
+    ];
+    for (rank, order) in orders {
+        let mut queue = filled(alloc, &rows)?;
+        assert_eq!(rt; queue.first_to_push(), Some((number(0), 3)));
+        for given in order {
+            assert_eq!(rt; pin_best(&mut queue, rank), given.map(number));
+        }
+    }
+    Ok(())
+}
+
 #[test]
 fn shows_units_in_arrival_order(rt: HostRuntime) -> Result<(), Fail> {
     let alloc = rt.alloc();
@@ -204,7 +235,7 @@ fn a_promised_unit_comes_after_later_ones(rt: HostRuntime) -> Result<(), Fail> {
     Ok(())
 }
 
-// Takes the promise back, and the unit away, where they are there.
+// Takes the promise back and the unit away, if they are there.
 fn clear(queue: &mut WorkQueue, promised: UnitId, free: UnitId) -> u64 {
     if let Some(_length) = queue.promised(promised) {
         queue.withdraw(promised);

@@ -7,7 +7,7 @@ use Rattle.work_queue.specs.declared.queues.AddFault.TheVariants as refused
 use Rattle.put_path.specs.declared.putting.PutStep.TheVariants as step
 use Rattle.put_path.proofs.putting.put.Goals as goal
 
--- the body would not go beyond the limit, where the unit was added
+-- the body would not go beyond the limit, if the unit was added
 pub returns-in-Ok-clause-put : goal.returns-in-Ok-clause-put
 returns-in-Ok-clause-put c =
     let q = c.args.queue.now in
@@ -38,7 +38,7 @@ abbrev fault_in : Result (Unit {0}) (Piece × AddFault) → AddFault
 fault_in (Ok done) = refused.Memory
 fault_in (Err back) = back.1
 
--- want of memory is not a full queue
+-- a lack of memory is not a full queue
 memory_differs : (r : Result (Unit {0}) (Piece × AddFault)) (u v : Piece) (f : AddFault) (n : ℕ) → r ≡ Err (u, f) → f ≡ refused.Memory → r ≡ Err (v, refused.Full n) → ⊥
 memory_differs r u v f n failed memory full = let same : refused.Memory ≡ refused.Full n = sym memory ∙ ap fault_in (sym failed ∙ full) in absurd (cc (same))
 

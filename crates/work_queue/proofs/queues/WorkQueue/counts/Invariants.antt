@@ -1,5 +1,6 @@
 use Rattle.std.proofs.Common.{◌≡◌, ◌≤◌, [], fold, take}
-use Rattle.work_queue.specs.Counts.{count_unit, info_of_prios}
+use Rattle.adlb_unit.specs.Infos.{info_of_prios}
+use Rattle.work_queue.specs.Counts.{count_unit}
 use Rattle.work_queue.specs.Units.{units_at}
 use Rattle.work_queue.proofs.queues.WorkQueue.counts.Given as goal
 

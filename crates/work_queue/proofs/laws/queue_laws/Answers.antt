@@ -1,0 +1,14 @@
+use Rattle.work_queue.proofs.Walks.{best_walk, no_best, no_push, push_walk}
+use Rattle.work_queue.proofs.laws.queue_laws.Goals as goal
+
+pub returns-clause-best : goal.returns-clause-best
+returns-clause-best c = best_walk
+
+pub returns-clause-no_best : goal.returns-clause-no_best
+returns-clause-no_best c = no_best
+
+pub returns-clause-push : goal.returns-clause-push
+returns-clause-push c = push_walk
+
+pub returns-clause-no_push : goal.returns-clause-no_push
+returns-clause-no_push c = no_push
