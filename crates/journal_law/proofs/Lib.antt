@@ -1,0 +1,5 @@
+pub mod Compose
+pub mod Examples
+pub mod Growing
+pub mod Lists
+pub mod Once

@@ -1,0 +1,5 @@
+pub mod Journals
+pub mod Lists
+pub mod Machines
+pub mod Orders
+pub mod Runs
