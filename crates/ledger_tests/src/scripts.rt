@@ -42,7 +42,7 @@ fn call(alloc: Global, words: &mut Words) -> Result<Call, Fail> {
         0 | 1 => Call::Put {
             kind: WorkType(word / 4 % 3),
             prio: 0,
-            target: Target::Any,
+            target: target(word / 12),
             answer: None,
             body: body(alloc, words)?,
         },
@@ -59,6 +59,15 @@ fn call(alloc: Global, words: &mut Words) -> Result<Call, Fail> {
     Ok(call)
 }
 
+// Any rank alike, or the only rank before others.
+fn target(word: u32) -> Target {
+    if word % 2 == 0 {
+        Target::Any
+    } else {
+        Target::Soft(Rank(0))
+    }
+}
+
 // Up to 59 bytes.
 fn body(alloc: Global, words: &mut Words) -> Result<Payload, Fail> {
     let length = words.next() % 60;
@@ -66,7 +75,7 @@ fn body(alloc: Global, words: &mut Words) -> Result<Payload, Fail> {
     Ok(Payload::from_vec(bytes))
 }
 
-// A list of letters between the rank and one of so many servers.
+// A list of letters between the rank and one of `servers` servers.
 fn delivery(words: &mut Words, servers: u32) -> Event {
     let word = words.next();
     let rank = Actor::Rank(Rank(0));
