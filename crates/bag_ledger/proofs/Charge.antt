@@ -17,19 +17,15 @@ use Rattle.bag_ledger.specs.declared.states.Promise.{Promise}
 use Rattle.bag_ledger.specs.declared.states.UnitPlace.{UnitPlace}
 use Rattle.bag_ledger.specs.declared.states.UnitPlace.TheVariants.{Free, Travelling, Pinned, Spent}
 use Rattle.bag_ledger.specs.Bag.{Bag, empty, rank_at, same_unit, same_batch, unit_of, promise_of, is_travelling, unit_charge, part_charge, promise_charge, charge, putting, keeping}
-use Rattle.bag_ledger.specs.Steps.{Fits, Stands, Legal, after, with_part, moved, unpromised, shared, taken}
-use Rattle.bag_ledger.specs.Runs.{IsRun}
+use Rattle.bag_ledger.specs.Steps.{Fits, Stands, LegalWhere, after, with_part, moved, unpromised, shared, taken}
+use Rattle.bag_ledger.specs.Runs.{IsRunWhere}
+use Rattle.bag_ledger.specs.Words.{IsTracked}
 use Rattle.bag_ledger.proofs.Tests.{some_is, same_server_is, same_unit_is}
 use Rattle.bag_ledger.proofs.Lookups.{find_before, find_appended, sum_changed, sum_lowered, sum_filtered}
 use Rattle.bag_ledger.proofs.Moves.{moved_here, moved_keeps, moved_is, unpromised_other, unpromised_is}
 
 abbrev pub IsWithin : Bag → Type 0
 IsWithin b = (server : Server) → charge b server ≤ b.limit
-
--- each promise is of a unit's length, and each unit that travels is promised where it goes
-pub record IsTracked (b : Bag) : Type 0 where
-  pub measured : (id : UnitId) (p : Promise) → promise_of b id ≡ Some p → (u : Placed) × (unit_of b id ≡ Some u) × (length u.unit.body ≡ p.length)
-  pub promised : (id : UnitId) (u : Placed) (to : Server) → Stands b id u (Travelling to) → (p : Promise) × (promise_of b id ≡ Some p) × (p.server ≡ to)
 
 -- Words of a step.
 
@@ -80,25 +76,25 @@ within_arrived b server id u stands tracked is s =
     let freed : promise_charge s p.0 ≡ unit_charge s (record u { place = Free server }) = rw (p.2, ← long) refl in
     omega (arith, sum_changed (unit_charge s) (λ u. record u { place = Free server }) (λ u. same_unit u.unit.id id) b.units u stands.0, gone, less, freed, is s)
 
-step_within : (b : Bag) (e : Entry) → Legal b e → IsTracked b → IsWithin b → IsWithin (after b e)
-step_within b (Accepted server id) l tracked is =
+step_within : (found : Bag → Bool) (b : Bag) (e : Entry) → LegalWhere found b e → IsTracked b → IsWithin b → IsWithin (after b e)
+step_within found b (Accepted server id) l tracked is =
     let put = unit_put (λ r. putting r.status) (rank_at b id.rank) l.0 l.1 l.2 (rw l.3 refl) in
     let IsKept : Option Unit → Type 0 = λ o. IsWithin (taken server o b) in
     subst IsKept (sym put) (within_taken b server l.1 l.7 is)
-step_within b (Kept server batch) l tracked is =
+step_within found b (Kept server batch) l tracked is =
     let kept = unit_put (λ r. keeping r.status) (rank_at b batch.rank) l.0 (batch.number, l.1) l.2 (rw l.3 refl) in
     rw kept (λ s. omega (arith, sum_by_push (part_charge s) b.parts (record { batch = batch; server = server; common = l.1; accepted = 0; fetched = 0; closed = false; freed = false }), room b server (length l.1) l.6 is s ((server.0 == s.0) && true) (λ e. same_server_is server s (and_parts (server.0 == s.0) true e).0)))
-step_within b (Closed server batch) l tracked is = within_part b batch (λ p. record p { closed = true }) (λ s p. omega arith) is
-step_within b (Freed server batch) l tracked is = within_part b batch (λ p. record p { freed = true }) freed_lower is
-step_within b (Granted server rank call id) l tracked is = within_moved b id (Pinned server rank) l.2 l.6.0 (λ s. omega (arith, charge_at s l.2 (Free server) l.6.1)) is
-step_within b (Fetched server rank id) l tracked is = within_moved b id Spent l.2 l.6.0 (λ s. omega arith) is
-step_within b (CommonFetched server rank batch) l tracked is = within_part b batch (λ p. record p { fetched = p.fetched + 1 }) (λ s p. omega arith) is
-step_within b (Promised server id n) l tracked is =
+step_within found b (Closed server batch) l tracked is = within_part b batch (λ p. record p { closed = true }) (λ s p. omega arith) is
+step_within found b (Freed server batch) l tracked is = within_part b batch (λ p. record p { freed = true }) freed_lower is
+step_within found b (Granted server rank call id) l tracked is = within_moved b id (Pinned server rank) l.2 l.6.0 (λ s. omega (arith, charge_at s l.2 (Free server) l.6.1)) is
+step_within found b (Fetched server rank id) l tracked is = within_moved b id Spent l.2 l.6.0 (λ s. omega arith) is
+step_within found b (CommonFetched server rank batch) l tracked is = within_part b batch (λ p. record p { fetched = p.fetched + 1 }) (λ s p. omega arith) is
+step_within found b (Promised server id n) l tracked is =
     λ s. omega (arith, sum_by_push (promise_charge s) b.promises (record { server = server; id = id; length = n }), room b server n l.7 is s (server.0 == s.0) (same_server_is server s))
-step_within b (Left server to id) l tracked is = within_moved b id (Travelling to) l.0 l.2.0 (λ s. omega arith) is
-step_within b (Arrived server id) l tracked is = within_arrived b server id l.0 l.1 tracked is
-step_within b (Withdrawn server id) l tracked is = λ s. omega (arith, sum_filtered (promise_charge s) (λ p. same_unit p.id id) b.promises l.1 l.5, is s)
-step_within b _ l tracked is = is
+step_within found b (Left server to id) l tracked is = within_moved b id (Travelling to) l.0 l.2.0 (λ s. omega arith) is
+step_within found b (Arrived server id) l tracked is = within_arrived b server id l.0 l.1 tracked is
+step_within found b (Withdrawn server id) l tracked is = λ s. omega (arith, sum_filtered (promise_charge s) (λ p. same_unit p.id id) b.promises l.1 l.5, is s)
+step_within found b _ l tracked is = is
 
 -- The tracking.
 
@@ -156,34 +152,34 @@ tracked_promised b server id n u there long is = record {
     by_case x p (inl e) = is.measured x p e
     by_case x p (inr c) = (u, rw (← same_unit_is id x c.0) there, long ∙ ap (λ (q : Promise). q.length) c.1)
 
-pub step_tracked : (b : Bag) (e : Entry) → Legal b e → IsTracked b → IsTracked (after b e)
-step_tracked b (Accepted server id) l is =
+pub step_tracked : (found : Bag → Bool) (b : Bag) (e : Entry) → LegalWhere found b e → IsTracked b → IsTracked (after b e)
+step_tracked found b (Accepted server id) l is =
     let put = unit_put (λ r. putting r.status) (rank_at b id.rank) l.0 l.1 l.2 (rw l.3 refl) in
     let tracked : IsTracked (taken server (option_and_then (λ r. putting r.status) (rank_at b id.rank)) b) = rw put (tracked_taken b server l.1 is) in
     record { measured = tracked.measured; promised = tracked.promised }
-step_tracked b (Kept server batch) l is =
+step_tracked found b (Kept server batch) l is =
     let kept = unit_put (λ r. keeping r.status) (rank_at b batch.rank) l.0 (batch.number, l.1) l.2 (rw l.3 refl) in
     rw kept (record { measured = is.measured; promised = is.promised })
-step_tracked b (Granted server rank call id) l is =
+step_tracked found b (Granted server rank call id) l is =
     let tracked = tracked_moved b id (Pinned server rank) l.2 l.6.0 (λ to e. absurd (cc)) is in
     record { measured = tracked.measured; promised = tracked.promised }
-step_tracked b (Fetched server rank id) l is =
+step_tracked found b (Fetched server rank id) l is =
     let tracked = tracked_moved b id Spent l.2 l.6.0 (λ to e. absurd (cc)) is in
     record { measured = tracked.measured; promised = tracked.promised }
-step_tracked b (Promised server id n) l is = tracked_promised b server id n l.0 l.1 l.2 is
-step_tracked b (Left server to id) l is =
+step_tracked found b (Promised server id n) l is = tracked_promised b server id n l.0 l.1 l.2 is
+step_tracked found b (Left server to id) l is =
     tracked_moved b id (Travelling to) l.0 l.2.0 (λ s e. let same : to ≡ s = cc in (l.1, l.5, l.6 ∙ same)) is
-step_tracked b (Arrived server id) l is =
+step_tracked found b (Arrived server id) l is =
     let tracked = tracked_moved b id (Free server) l.0 l.1.0 (λ to e. absurd (cc)) is in
     tracked_unpromised (moved id (Free server) b) id (record l.0 { place = Free server }) (moved_here b id (Free server) l.0 l.1.0) refl tracked
-step_tracked b (Withdrawn server id) l is = tracked_unpromised b id l.0 l.2 l.3 is
-step_tracked b _ l is = record { measured = is.measured; promised = is.promised }
+step_tracked found b (Withdrawn server id) l is = tracked_unpromised b id l.0 l.2 l.3 is
+step_tracked found b _ l is = record { measured = is.measured; promised = is.promised }
 
-pub run_within : (b last : Bag) (es : List Entry) → IsRun b es last → IsTracked b → IsWithin b → IsWithin last
-run_within b last [] run tracked is = rw (← run) is
-run_within b last (e ∷ es) run tracked is =
+pub run_within : (found : Bag → Bool) (b last : Bag) (es : List Entry) → IsRunWhere found b es last → IsTracked b → IsWithin b → IsWithin last
+run_within found b last [] run tracked is = rw (← run) is
+run_within found b last (e ∷ es) run tracked is =
     let next : run.0 ≡ after b e = run.1.2 in
-    run_within run.0 last es run.2 (rw next (step_tracked b e run.1.1 tracked)) (rw next (step_within b e run.1.1 tracked is))
+    run_within found run.0 last es run.2 (rw next (step_tracked found b e run.1.1 tracked)) (rw next (step_within found b e run.1.1 tracked is))
 
 pub start_within : (ranks servers limit : ℕ) → IsWithin (empty ranks servers limit)
 start_within ranks servers limit s = omega arith

@@ -1,5 +1,5 @@
 -- Small ledgers, written out.
-use Rattle.std.proofs.Common.{ℕ, pos, List, ◌∷◌, [], Some, None, replicate}
+use Rattle.std.proofs.Common.{ℕ, pos, negsuc, List, ◌∷◌, [], Some, None, replicate}
 use Rattle.adlb_unit.specs.declared.names.Rank.{Rank}
 use Rattle.adlb_unit.specs.declared.names.Server.{Server}
 use Rattle.adlb_unit.specs.declared.names.WorkType.{WorkType}
@@ -9,7 +9,7 @@ use Rattle.adlb_unit.specs.declared.names.Target.TheVariants.{Any}
 use Rattle.adlb_unit.specs.declared.notes.Info.{Info}
 use Rattle.adlb_unit.specs.declared.notes.End.TheVariants as ends_by
 use Rattle.bag_ledger.specs.declared.entries.Entry.{Entry}
-use Rattle.bag_ledger.specs.declared.entries.Entry.TheVariants.{Putting, Refused, Accepted, Rejected, Keeping, Kept, Closing, Closed, Freed, Asked, Tried, Granted, Looked, NoCurrent, Fetching, Fetched, CommonFetched, Promised, Left, Arrived, Withdrawn, Counting, Counted, Done, Exhausted, Over}
+use Rattle.bag_ledger.specs.declared.entries.Entry.TheVariants.{Putting, Refused, Accepted, Rejected, Keeping, Kept, Closing, Closed, Freed, Asked, Tried, Granted, Looked, NoCurrent, Fetching, Fetched, CommonFetched, Promised, Left, Arrived, Withdrawn, Counting, Counted, Done, Exhausted, Over, Finished}
 
 abbrev pub rank : ℕ → Rank
 rank n = record { 0 = n }
@@ -94,3 +94,39 @@ cancelled_push =
     put 0 0 (bytes 60) ∷ Accepted (server 0) (unit 0 0) ∷ Promised (server 1) (unit 0 0) 60 ∷ Asked (rank 0) 1 None
     ∷ Granted (server 0) (rank 0) 1 (unit 0 0) ∷ Withdrawn (server 1) (unit 0 0) ∷ put 1 0 (bytes 65)
     ∷ Refused (server 1) (unit 1 0) 0 ∷ Refused (server 0) (unit 1 0) 60 ∷ Rejected (rank 1) 0 ∷ []
+
+-- each server refuses the common part of a batch, which is rejected; limit 64
+abbrev pub refused_batch : List Entry
+refused_batch =
+    Keeping (rank 0) 0 (bytes 65) ∷ Refused (server 0) (unit 0 0) 0 ∷ Refused (server 1) (unit 0 0) 0 ∷ Rejected (rank 0) 0 ∷ []
+
+-- a batch with no unit is freed as soon as it is closed
+abbrev pub empty_batch : List Entry
+empty_batch =
+    Keeping (rank 0) 0 (120 ∷ 121 ∷ []) ∷ Kept (server 0) (batch 0 0) ∷ Closing (rank 0) 1 ∷ Closed (server 0) (batch 0 0)
+    ∷ Freed (server 0) (batch 0 0) ∷ Asked (rank 0) 2 None ∷ []
+
+-- a unit has no room at one server, and has room at the next; limit 64
+abbrev pub full_at_first : List Entry
+full_at_first =
+    put 0 0 (bytes 56) ∷ Accepted (server 0) (unit 0 0) ∷ put 0 1 (bytes 9) ∷ Refused (server 0) (unit 0 1) 56
+    ∷ Accepted (server 1) (unit 0 1) ∷ []
+
+-- three free units of type 1, two of them of priority 7
+abbrev pub two_of_three : Info
+two_of_three = record { free = 3; top = Some (pos 7); at_top = 2 }
+
+-- units of two types and several priorities are counted
+abbrev pub several_priorities : List Entry
+several_priorities =
+    Putting (rank 0) 0 (kind 1) (pos 7) Any None [] ∷ Accepted (server 0) (unit 0 0)
+    ∷ Putting (rank 0) 1 (kind 1) (negsuc 1) Any None [] ∷ Accepted (server 0) (unit 0 1)
+    ∷ Putting (rank 0) 2 (kind 2) (pos 9) Any None [] ∷ Accepted (server 0) (unit 0 2)
+    ∷ Putting (rank 0) 3 (kind 1) (pos 7) Any None [] ∷ Accepted (server 0) (unit 0 3)
+    ∷ Counting (rank 0) 4 (kind 1) ∷ Counted (server 0) (rank 0) 4 two_of_three ∷ []
+
+-- a rank works the unit that it put, and leaves
+abbrev pub worked_alone : List Entry
+worked_alone =
+    put 0 0 (97 ∷ 98 ∷ []) ∷ Accepted (server 0) (unit 0 0) ∷ Asked (rank 0) 1 None ∷ Granted (server 0) (rank 0) 1 (unit 0 0)
+    ∷ Fetching (rank 0) 2 (unit 0 0) ∷ Fetched (server 0) (rank 0) (unit 0 0) ∷ Finished (rank 0) 3 ∷ []

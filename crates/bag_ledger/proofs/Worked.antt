@@ -3,7 +3,7 @@ use Rattle.std.proofs.Common.{◌≡◌, ℕ, pos, List, ◌∷◌, [], Some, No
 use Rattle.std.specs.Prelude.{insert, remove}
 use Rattle.adlb_unit.specs.declared.names.Target.TheVariants.{Any}
 use Rattle.adlb_unit.specs.declared.notes.End.TheVariants as ends_by
-use Rattle.bag_ledger.specs.declared.entries.Entry.TheVariants.{Granted, Exhausted}
+use Rattle.bag_ledger.specs.declared.entries.Entry.TheVariants.{Closing, Granted, Exhausted}
 use Rattle.bag_ledger.specs.declared.entries.Call.{Call}
 use Rattle.bag_ledger.specs.declared.entries.Call.TheVariants as calls_to
 use Rattle.bag_ledger.specs.declared.entries.Answer.{Answer}
@@ -11,7 +11,7 @@ use Rattle.bag_ledger.specs.declared.entries.Answer.TheVariants as answers
 use Rattle.bag_ledger.specs.declared.entries.Said.{Said}
 use Rattle.bag_ledger.specs.Bag.{Bag, empty}
 use Rattle.bag_ledger.specs.Runs.{first_illegal, calls_from}
-use Rattle.bag_ledger.proofs.Examples.{rank, server, kind, unit, batch, two_free, full_servers, got_elsewhere, pushed, tries, granted_once, batch_of_two, done_called, cancelled_push}
+use Rattle.bag_ledger.proofs.Examples.{rank, server, kind, unit, batch, bytes, two_free, full_servers, got_elsewhere, pushed, tries, granted_once, batch_of_two, done_called, cancelled_push, refused_batch, empty_batch, full_at_first, several_priorities, worked_alone}
 
 -- ranks and servers with so much room that the limit does not matter
 abbrev pub roomy : ℕ → ℕ → Bag
@@ -85,3 +85,46 @@ calls_after_done : calls_from (roomy 1 3) tries (rank 0) ≡
     says (calls_to.Try None) answers.NoCurrent ∷ says calls_to.SetDone answers.Fine
     ∷ says (calls_to.Try None) (answers.Ended ends_by.NoMoreWork) ∷ puts [] (answers.Ended ends_by.NoMoreWork) ∷ []
 calls_after_done = refl
+
+refused_batch_legal : first_illegal (empty 1 2 64) 0 refused_batch ≡ None
+refused_batch_legal = refl
+
+-- a batch that was rejected is not going on
+rejected_then_closing : first_illegal (empty 1 2 64) 0 (refused_batch ++ Closing (rank 0) 1 ∷ []) ≡ Some 4
+rejected_then_closing = refl
+
+empty_batch_legal : first_illegal (roomy 1 1) 0 empty_batch ≡ None
+empty_batch_legal = refl
+
+-- nothing comes between Closed and Freed of an empty batch
+empty_batch_unfreed : first_illegal (roomy 1 1) 0 (remove empty_batch 4) ≡ Some 4
+empty_batch_unfreed = refl
+
+full_at_first_legal : first_illegal (empty 1 2 64) 0 full_at_first ≡ None
+full_at_first_legal = refl
+
+several_priorities_legal : first_illegal (roomy 1 1) 0 several_priorities ≡ None
+several_priorities_legal = refl
+
+worked_alone_legal : first_illegal (roomy 1 1) 0 worked_alone ≡ None
+worked_alone_legal = refl
+
+calls_of_a_rejected_batch : calls_from (empty 1 2 64) refused_batch (rank 0) ≡ says (calls_to.BeginBatch (bytes 65)) answers.Rejected ∷ []
+calls_of_a_rejected_batch = refl
+
+calls_of_a_rejected_put : calls_from (empty 1 3 64) full_servers (rank 0) ≡
+    puts (bytes 56) answers.Fine ∷ puts (bytes 56) answers.Fine ∷ puts (bytes 56) answers.Fine ∷ puts (bytes 9) answers.Rejected ∷ []
+calls_of_a_rejected_put = refl
+
+calls_of_an_empty_batch : calls_from (roomy 1 1) empty_batch (rank 0) ≡
+    says (calls_to.BeginBatch (120 ∷ 121 ∷ [])) answers.Fine ∷ says calls_to.EndBatch answers.Fine ∷ []
+calls_of_an_empty_batch = refl
+
+calls_of_a_put_at_the_next : calls_from (empty 1 2 64) full_at_first (rank 0) ≡ puts (bytes 56) answers.Fine ∷ puts (bytes 9) answers.Fine ∷ []
+calls_of_a_put_at_the_next = refl
+
+calls_of_a_fetch_and_a_finish : calls_from (roomy 1 1) worked_alone (rank 0) ≡
+    puts (97 ∷ 98 ∷ []) answers.Fine
+    ∷ says (calls_to.Reserve None) (answers.Granted (record { id = unit 0 0; kind = kind 1; prio = pos 0; answer = None; server = server 0; common = None; length = 2 }))
+    ∷ says (calls_to.Fetch (unit 0 0)) (answers.Body (97 ∷ 98 ∷ [])) ∷ says calls_to.Finish answers.Fine ∷ []
+calls_of_a_fetch_and_a_finish = refl

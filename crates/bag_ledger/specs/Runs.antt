@@ -1,5 +1,5 @@
 -- Legal runs, and the calls of a rank in them.
-use Rattle.std.specs.Prelude.{ℕ, ◌+◌, ◌≡◌, ◌==◌, List, [], ◌∷◌, ◌++◌, length, take, Option, Some, None, if◌then◌else◌, slice_get, option_and_then, option_map}
+use Rattle.std.specs.Prelude.{ℕ, Bool, ◌+◌, ◌≡◌, ◌==◌, List, [], ◌∷◌, ◌++◌, length, take, Option, Some, None, if◌then◌else◌, slice_get, option_and_then, option_map}
 use Rattle.adlb_unit.specs.declared.configs.Config.{Config}
 use Rattle.adlb_unit.specs.declared.names.Rank.{Rank}
 use Rattle.adlb_unit.specs.declared.names.Server.{Server}
@@ -16,14 +16,17 @@ use Rattle.bag_ledger.specs.declared.entries.Answer.TheVariants as answers
 use Rattle.bag_ledger.specs.declared.entries.Said.{Said}
 use Rattle.bag_ledger.specs.declared.states.Status.{Status}
 use Rattle.bag_ledger.specs.declared.states.Status.TheVariants as does
-use Rattle.bag_ledger.specs.Bag.{Bag, start, rank_at, unit_of, part_of}
-use Rattle.bag_ledger.specs.Steps.{Steps}
+use Rattle.bag_ledger.specs.Bag.{Bag, start, rank_at, unit_of, part_of, settled}
+use Rattle.bag_ledger.specs.Steps.{Steps, StepsWhere, after}
 use Rattle.bag_ledger.specs.Step.{step}
 
 -- the entries, in order, are steps from the first bag to the last
+abbrev pub IsRunWhere : (Bag → Bool) → Bag → List Entry → Bag → Type 0
+IsRunWhere found b [] last = b ≡ last
+IsRunWhere found b (e ∷ es) last = (next : Bag) × StepsWhere found b e next × IsRunWhere found next es last
+
 abbrev pub IsRun : Bag → List Entry → Bag → Type 0
-IsRun b [] last = b ≡ last
-IsRun b (e ∷ es) last = (next : Bag) × Steps b e next × IsRun next es last
+IsRun = IsRunWhere settled
 
 -- a ledger is a legal run where its entries, in order, are steps from the start
 abbrev pub IsLegal : Config → List Entry → Type 0
@@ -107,14 +110,10 @@ abbrev pub said_by : Rank → Option (Rank × Said) → List Said
 said_by rank None = []
 said_by rank (Some (by, said)) = if by.0 == rank.0 then said ∷ [] else []
 
--- the answered calls of the rank in the steps from b, in order
-abbrev pub calls_after : (Bag → List Said) → Option Bag → List Said
-calls_after later None = []
-calls_after later (Some next) = later next
-
+-- the answered calls of the rank in the entries from b, in order
 abbrev pub calls_from : Bag → List Entry → Rank → List Said
 calls_from b [] rank = []
-calls_from b (e ∷ es) rank = said_by rank (says b e) ++ calls_after (λ next. calls_from next es rank) (step b e)
+calls_from b (e ∷ es) rank = said_by rank (says b e) ++ calls_from (after b e) es rank
 
 -- the calls of a rank in a ledger
 abbrev pub calls : Config → List Entry → Rank → List Said

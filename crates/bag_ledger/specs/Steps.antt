@@ -57,91 +57,95 @@ abbrev pub has_cause : Bag → End → Bool
 has_cause b ends_by.NoMoreWork = b.done
 has_cause b ends_by.Exhausted = b.exhausted
 
--- where each entry is legal, but for parts that are due
-abbrev pub Legal : Bag → Entry → Type 0
+-- where each entry is legal, but for parts that are due; exhaustion is found where the test `found` passes
+abbrev pub LegalWhere : (Bag → Bool) → Bag → Entry → Type 0
 -- the rank runs, and the call has its next number
-Legal b (Putting rank call kind prio target answer body) = (r : RankState) × Begins b rank call r
+LegalWhere found b (Putting rank call kind prio target answer body) = (r : RankState) × Begins b rank call r
 -- the rank of the id brings it; the server has not refused this call; what it is charged with is `used`, and the length goes over
 -- the limit
-Legal b (Refused server id used) =
+LegalWhere found b (Refused server id used) =
     (r : RankState) × (n : ℕ) × Is b id.rank r × (offer r.status ≡ Some (id.number, n)) × IsServer b server
     × IsFalse (has_declined r server) × (used ≡ charge b server) × (b.limit < used + n)
 -- the rank of the id puts this unit; the server has not refused this call; it fits
-Legal b (Accepted server id) =
+LegalWhere found b (Accepted server id) =
     (r : RankState) × (u : Unit) × Is b id.rank r × (r.status ≡ does.Putting u) × (u.id ≡ id) × IsServer b server
     × IsFalse (has_declined r server) × Fits b server (length u.body)
 -- the rank brings something in this call; each server has refused it
-Legal b (Rejected rank call) =
+LegalWhere found b (Rejected rank call) =
     (r : RankState) × (n : ℕ) × Is b rank r × (offer r.status ≡ Some (call, n)) × IsTrue (all_declined b r)
 -- the rank runs, the call has its next number, and no batch is going on
-Legal b (Keeping rank call common) = (r : RankState) × Begins b rank call r × (r.batch ≡ None)
+LegalWhere found b (Keeping rank call common) = (r : RankState) × Begins b rank call r × (r.batch ≡ None)
 -- the rank of the batch begins it; the server has not refused this call; the common part fits
-Legal b (Kept server batch) =
+LegalWhere found b (Kept server batch) =
     (r : RankState) × (common : List ℕ) × Is b batch.rank r × (r.status ≡ does.Keeping batch.number common) × IsServer b server
     × IsFalse (has_declined r server) × Fits b server (length common)
 -- the rank runs, the call has its next number, and a batch is going on
-Legal b (Closing rank call) = (r : RankState) × (common : CommonRef) × Begins b rank call r × (r.batch ≡ Some common)
+LegalWhere found b (Closing rank call) = (r : RankState) × (common : CommonRef) × Begins b rank call r × (r.batch ≡ Some common)
 -- the rank of the batch ends it, and the server keeps its part
-Legal b (Closed server batch) =
+LegalWhere found b (Closed server batch) =
     (r : RankState) × (call : ℕ) × (common : CommonRef) × (p : Part) × Is b batch.rank r × (r.status ≡ does.Closing call)
     × (r.batch ≡ Some common) × (common.batch ≡ batch) × Keeps b server batch p
 -- the server keeps the part, which is due
-Legal b (Freed server batch) = (p : Part) × Keeps b server batch p × IsTrue (is_due p)
+LegalWhere found b (Freed server batch) = (p : Part) × Keeps b server batch p × IsTrue (is_due p)
 -- the rank runs, and the call has its next number
-Legal b (Asked rank call types) = (r : RankState) × Begins b rank call r
-Legal b (Tried rank call types) = (r : RankState) × Begins b rank call r
+LegalWhere found b (Asked rank call types) = (r : RankState) × Begins b rank call r
+LegalWhere found b (Tried rank call types) = (r : RankState) × Begins b rank call r
 -- the rank asks or tries in this call; the unit is free at the server and permitted
-Legal b (Granted server rank call id) =
+LegalWhere found b (Granted server rank call id) =
     (r : RankState) × (types : Option (List WorkType)) × (u : Placed) × Is b rank r × (wish r.status ≡ Some (call, types))
     × IsServer b server × Stands b id u (Free server) × IsTrue (permitted rank types u.unit.kind u.unit.target)
 -- the rank tries in this call; no unit free at the server is permitted
-Legal b (Looked server rank call) =
+LegalWhere found b (Looked server rank call) =
     (r : RankState) × (types : Option (List WorkType)) × Is b rank r × (r.status ≡ does.Trying call types) × IsServer b server
     × IsFalse (has_fit_at b server rank types)
 -- the rank tries in this call; each server has looked
-Legal b (NoCurrent rank call) =
+LegalWhere found b (NoCurrent rank call) =
     (r : RankState) × (types : Option (List WorkType)) × Is b rank r × (r.status ≡ does.Trying call types) × IsTrue (all_declined b r)
 -- the rank runs, and the call has its next number; the unit is pinned to the rank
-Legal b (Fetching rank call id) =
+LegalWhere found b (Fetching rank call id) =
     (r : RankState) × (u : Placed) × (server : Server) × Begins b rank call r × Stands b id u (Pinned server rank)
 -- the rank fetches the unit, and its own bytes have not come; it is pinned to the rank at the server
-Legal b (Fetched server rank id) =
+LegalWhere found b (Fetched server rank id) =
     (r : RankState) × (call : ℕ) × (u : Placed) × Is b rank r × (r.status ≡ does.Fetching call id false) × IsServer b server
     × Stands b id u (Pinned server rank)
 -- the rank fetches a unit of the batch, and its own bytes have come; the server keeps the part
-Legal b (CommonFetched server rank batch) =
+LegalWhere found b (CommonFetched server rank batch) =
     (r : RankState) × (call : ℕ) × (id : UnitId) × (u : Placed) × (common : CommonRef) × (p : Part) × Is b rank r
     × (r.status ≡ does.Fetching call id true) × (unit_of b id ≡ Some u) × (u.unit.common ≡ Some common) × (common.batch ≡ batch)
     × Keeps b server batch p
 -- the unit has this length, is free or pinned elsewhere or spent, and has no promise; the length fits
-Legal b (Promised server id n) =
+LegalWhere found b (Promised server id n) =
     (u : Placed) × (unit_of b id ≡ Some u) × (length u.unit.body ≡ n) × IsServer b server × IsFalse (is_travelling u.place)
     × IsFalse (is_placed_at server u.place) × (promise_of b id ≡ None) × Fits b server n
 -- the unit is free at the server, and promised at `to`
-Legal b (Left server to id) =
+LegalWhere found b (Left server to id) =
     (u : Placed) × (p : Promise) × Stands b id u (Free server) × IsServer b server × IsServer b to × (promise_of b id ≡ Some p)
     × (p.server ≡ to)
 -- the unit travels to the server
-Legal b (Arrived server id) = (u : Placed) × Stands b id u (Travelling server) × IsServer b server
+LegalWhere found b (Arrived server id) = (u : Placed) × Stands b id u (Travelling server) × IsServer b server
 -- the unit is promised at the server, and does not travel
-Legal b (Withdrawn server id) =
+LegalWhere found b (Withdrawn server id) =
     (u : Placed) × (p : Promise) × (unit_of b id ≡ Some u) × IsFalse (is_travelling u.place) × IsServer b server
     × (promise_of b id ≡ Some p) × (p.server ≡ server)
 -- the rank runs, and the call has its next number
-Legal b (Counting rank call kind) = (r : RankState) × Begins b rank call r
+LegalWhere found b (Counting rank call kind) = (r : RankState) × Begins b rank call r
 -- the rank counts in this call; the server is its home, and tells of the units free there
-Legal b (Counted server rank call info) =
+LegalWhere found b (Counted server rank call info) =
     (r : RankState) × (kind : WorkType) × Is b rank r × (r.status ≡ does.Counting call kind) × IsHome b server rank
     × (info ≡ info_of b server kind)
 -- the rank runs, and the call has its next number
-Legal b (Done rank call) = (r : RankState) × Begins b rank call r
--- the bag is settled, which was not found before
-Legal b Exhausted = IsTrue (settled b) × IsFalse b.exhausted
+LegalWhere found b (Done rank call) = (r : RankState) × Begins b rank call r
+-- the test passes, and exhaustion was not found before
+LegalWhere found b Exhausted = IsTrue (found b) × IsFalse b.exhausted
 -- the rank brings or wants something in this call, and the end has its cause
-Legal b (Over rank call end) =
+LegalWhere found b (Over rank call end) =
     (r : RankState) × Is b rank r × (open_call r.status ≡ Some call) × IsTrue (has_cause b end)
 -- the rank runs, the call has its next number, and no batch is going on
-Legal b (Finished rank call) = (r : RankState) × Begins b rank call r × (r.batch ≡ None)
+LegalWhere found b (Finished rank call) = (r : RankState) × Begins b rank call r × (r.batch ≡ None)
+
+-- exhaustion is found where the bag is settled
+abbrev pub Legal : Bag → Entry → Type 0
+Legal = LegalWhere settled
 
 -- Words of the effects.
 
@@ -261,5 +265,8 @@ abbrev pub in_turn : Bag → Entry → Bool
 in_turn b e = is_freeing e || not (has_due b)
 
 -- the entry is legal, and next is the bag after it
+abbrev pub StepsWhere : (Bag → Bool) → Bag → Entry → Bag → Type 0
+StepsWhere found b e next = IsTrue (in_turn b e) × LegalWhere found b e × (next ≡ after b e)
+
 abbrev pub Steps : Bag → Entry → Bag → Type 0
-Steps b e next = IsTrue (in_turn b e) × Legal b e × (next ≡ after b e)
+Steps = StepsWhere settled

@@ -1,5 +1,5 @@
--- Words of the laws: what an entry does to a unit or to a call, and what `settled` says.
-use Rattle.std.specs.Prelude.{ℕ, ◌≡◌, Bool, true, false, ◌&&◌, ◌==◌, [], IsTrue, IsFalse}
+-- Words of the laws: what an entry does to a unit or to a call, what `settled` says, and where promises stand.
+use Rattle.std.specs.Prelude.{ℕ, ◌≡◌, Bool, true, false, ◌&&◌, ◌==◌, [], length, Some, IsTrue, IsFalse}
 use Rattle.std.specs.List.{list_any}
 use Rattle.adlb_unit.specs.declared.names.Rank.{Rank}
 use Rattle.adlb_unit.specs.declared.names.Server.{Server}
@@ -8,9 +8,12 @@ use Rattle.adlb_unit.specs.declared.notes.End.{End}
 use Rattle.adlb_unit.specs.declared.notes.End.TheVariants as ends_by
 use Rattle.bag_ledger.specs.declared.entries.Entry.{Entry}
 use Rattle.bag_ledger.specs.declared.entries.Entry.TheVariants.{Putting, Refused, Accepted, Granted, Looked, Fetched, Done, Exhausted}
+use Rattle.bag_ledger.specs.declared.states.Placed.{Placed}
+use Rattle.bag_ledger.specs.declared.states.Promise.{Promise}
 use Rattle.bag_ledger.specs.declared.states.RankState.{RankState}
-use Rattle.bag_ledger.specs.Bag.{Bag, same_unit, is_travelling, is_asking, is_asking_or_finished, has_fit}
-use Rattle.bag_ledger.specs.Steps.{Is}
+use Rattle.bag_ledger.specs.declared.states.UnitPlace.TheVariants.{Travelling}
+use Rattle.bag_ledger.specs.Bag.{Bag, same_unit, unit_of, promise_of, is_travelling, is_asking, is_asking_or_finished, has_fit}
+use Rattle.bag_ledger.specs.Steps.{Is, Stands}
 
 -- the entry puts the unit, accepts it, grants it, or gives its own bytes
 abbrev pub puts : UnitId → Entry → Bool
@@ -51,3 +54,8 @@ IsSettled b =
     × ((rank : Rank) × (r : RankState) × Is b rank r × IsTrue (is_asking r.status))
     × (b.promises ≡ []) × IsFalse (list_any (λ u. is_travelling u.place) b.units)
     × ((rank : Rank) (r : RankState) → Is b rank r → IsFalse (has_fit b.units rank r.status))
+
+-- each promise is of a unit of that length, and each unit that travels is promised where it goes
+pub record IsTracked (b : Bag) : Type 0 where
+  pub measured : (id : UnitId) (p : Promise) → promise_of b id ≡ Some p → (u : Placed) × (unit_of b id ≡ Some u) × (length u.unit.body ≡ p.length)
+  pub promised : (id : UnitId) (u : Placed) (to : Server) → Stands b id u (Travelling to) → (p : Promise) × (promise_of b id ≡ Some p) × (p.server ≡ to)

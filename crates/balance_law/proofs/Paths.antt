@@ -10,7 +10,6 @@ use Rattle.bag_ledger.specs.declared.entries.Said.{Said}
 use Rattle.bag_ledger.specs.Bag.{Bag}
 use Rattle.bag_ledger.specs.Steps.{Legal, after}
 use Rattle.bag_ledger.specs.Runs.{IsRun, says, said_by, calls_from}
-use Rattle.bag_ledger.proofs.Bridge.{row_is}
 use Rattle.balance_law.specs.Balanced.{over_ranks}
 
 -- the entries, in order, are legal, each in the bag after those before it
@@ -39,12 +38,10 @@ said_of rank None = refl
 said_of rank (Some (by, s)) = refl
 
 -- the calls of a rank are what the entries say
-pub calls_along : (b last : Bag) (es : List Entry) (rank : Rank) → IsRun b es last → calls_from b es rank ≡ along says b es rank
-calls_along b last [] rank run = refl
-calls_along b last (e ∷ es) rank run =
-    let next : run.0 ≡ after b e = run.1.2 in
-    let rest : calls_from run.0 es rank ≡ along says (after b e) es rank = calls_along run.0 last es rank run.2 ∙ ap (λ (x : Bag). along says x es rank) next in
-    rw (row_is b run.0 e run.1, rest, said_of rank (says b e)) refl
+pub calls_along : (b : Bag) (es : List Entry) (rank : Rank) → calls_from b es rank ≡ along says b es rank
+calls_along b [] rank = refl
+calls_along b (e ∷ es) rank =
+    rw (calls_along (after b e) es rank, said_of rank (says b e)) refl
 
 -- what is of one rank, weighed and summed over the ranks
 

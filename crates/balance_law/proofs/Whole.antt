@@ -175,7 +175,7 @@ start_going config last ledger run orderly = record {
   calling = λ rank r there. inl (rw (fresh_at config.ranks rank.0 r there) (record {
     no_end = refl;
     unfinished = refl;
-    orderly = rw (← calls_along (start config) last ledger rank run) (orderly rank (below_start config rank r there));
+    orderly = rw (← calls_along (start config) ledger rank) (orderly rank (below_start config rank r there));
     holds = tt;
     asks = λ ex. absurd (cc);
   }));
@@ -194,11 +194,11 @@ balanced config ledger last some run orderly = record {
       let balance = left_balance f n b last ledger long path in
       let none = none_left f last.units loose pinned in
       let sends = over_same n (λ rank. count_by test (sent (calls config ledger rank))) (λ rank. sum_by f (along accepted b ledger rank))
-      (λ rank below. ap (λ (said : List Said). sum_by f (sent said)) (calls_along b last ledger rank run) ∙ ap (sum_by f) (whole.counted rank below).sends) in
+      (λ rank below. ap (λ (said : List Said). sum_by f (sent said)) (calls_along b ledger rank) ∙ ap (sum_by f) (whole.counted rank below).sends) in
       let gets = over_same n (λ rank. count_by test (got None (calls config ledger rank))) (λ rank. sum_by f (along fetched b ledger rank))
-      (λ rank below. ap (λ (said : List Said). sum_by f (got None said)) (calls_along b last ledger rank run) ∙ ap (sum_by f) (whole.counted rank below).gets) in
+      (λ rank below. ap (λ (said : List Said). sum_by f (got None said)) (calls_along b ledger rank) ∙ ap (sum_by f) (whole.counted rank below).gets) in
       omega (arith, balance, none, sends, gets);
-  ended = λ rank below. rw (calls_along b last ledger rank run) (whole.counted rank below).ended;
+  ended = λ rank below. rw (calls_along b ledger rank) (whole.counted rank below).ended;
 }
   where
     n : ℕ

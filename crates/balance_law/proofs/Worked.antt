@@ -1,11 +1,13 @@
 -- Small ledgers, computed: what orderly ranks send and get, and which ranks are not orderly.
-use Rattle.std.proofs.Common.{◌≡◌, ℕ, zero, suc, ◌<◌, pos, true, List, ◌∷◌, [], count_by, Some, None, refl, arith}
+use Rattle.std.proofs.Common.{◌≡◌, ℕ, zero, suc, ◌<◌, pos, true, List, ◌∷◌, [], count_by, drop, Some, None, refl, arith}
 use Rattle.adlb_unit.specs.declared.configs.Config.{Config}
 use Rattle.adlb_unit.specs.declared.names.Rank.{Rank}
 use Rattle.adlb_unit.specs.declared.names.Server.{Server}
 use Rattle.adlb_unit.specs.declared.names.Target.TheVariants.{Any, Only}
 use Rattle.adlb_unit.specs.declared.names.UnitId.{UnitId}
 use Rattle.adlb_unit.specs.declared.notes.End.TheVariants as ends_by
+use Rattle.bag_ledger.specs.declared.entries.Answer.TheVariants as answers
+use Rattle.bag_ledger.specs.declared.entries.Call.TheVariants as calls_to
 use Rattle.bag_ledger.specs.declared.entries.Entry.{Entry}
 use Rattle.bag_ledger.specs.declared.entries.Entry.TheVariants.{Putting, Accepted, Asked, Granted, Fetching, Fetched, Done, Exhausted, Over, Finished}
 use Rattle.bag_ledger.specs.declared.entries.Said.{Said}
@@ -13,7 +15,7 @@ use Rattle.bag_ledger.specs.Bag.{Bag, empty}
 use Rattle.bag_ledger.specs.Runs.{first_illegal, calls_from}
 use Rattle.bag_ledger.proofs.Legal.{run_from}
 use Rattle.balance_law.specs.Balanced.{over_ranks, AreOrderly, IsBalanced}
-use Rattle.balance_law.specs.Orderly.{IsOrderly}
+use Rattle.balance_law.specs.Orderly.{IsOrderly, finish}
 use Rattle.balance_law.specs.Parcels.{Parcel, sent, got}
 use Rattle.balance_law.proofs.Whole.{balanced}
 
@@ -77,6 +79,11 @@ orderly_first = (tt, (refl, refl))
 orderly_second : IsOrderly 2 None (said_in orderly 1)
 unfolding orderly IsOrderly
 orderly_second = (refl, (refl, (refl, refl)))
+
+-- the reserve that is told an end is told that all work is used up, and not that no more work comes
+orderly_told : drop 2 (said_in orderly 1) ≡ record { call = calls_to.Reserve None; answer = answers.Ended ends_by.Exhausted } ∷ finish ∷ []
+unfolding orderly
+orderly_told = refl
 
 -- so the law is not empty: it holds of this ledger
 two_by_two : Config

@@ -31,7 +31,7 @@ use Rattle.core_inline.specs.Answers.{IsAnswer, answers_call}
 use Rattle.core_inline.specs.Inline.{IsTold, zeroth}
 use Rattle.core_inline.specs.Known.{AreHeld, AreKnown}
 use Rattle.core_inline.specs.Rounds.{IsBeginning, IsIdle, IsServing, Sends, first_server, pending_call, with_call}
-use Rattle.core_inline.proofs.Heard.{IsKept, none_due, same_step}
+use Rattle.core_inline.proofs.Heard.{IsKept, none_due}
 use Rattle.core_inline.proofs.Idle.{IsLike, calls_grown, joint_after, rank_in, told_pending}
 use Rattle.core_inline.proofs.Known.{IsPlain, held_said, known_later, known_said}
 use Rattle.core_inline.proofs.Served.{IsAsked}
@@ -58,7 +58,7 @@ module _ (c : Client) (s : Host) (ledger : List Entry) (call : Call) (i : IsIdle
       ap (λ t. cond t opened None) free ∙ ap (option_map made) is
 
   pub follows : (x : Made) → begin c call ≡ Some x → Follows c None i.last x
-  follows x is = begins same_step c call x i.last is i.rank (none_due i.last i.joint.no_parts)
+  follows x is = begins c call x i.last is i.rank (none_due i.last i.joint.no_parts)
 
   pub rank_runs : rank_at i.last zeroth ≡ Some (running c)
   rank_runs = rank_in c s ledger c.transcript i.last None i.joint i.rank ∙ ap (λ p. Some (in_call c p None)) i.idle
@@ -140,7 +140,7 @@ module _ (c : Client) (s : Host) (ledger : List Entry) (call : Call) (i : IsIdle
           last = two.0;
           legal = run_joined (start c.config) i.last two.0 ledger (entry ∷ []) i.joint.legal one;
           more = [];
-          calls_are = calls_grown c.config ledger (entry ∷ []) i.last c.transcript [] i.joint.legal i.joint.calls_are (silent same_step i.last two.0 entry zeroth two.1 first.silent_it);
+          calls_are = calls_grown c.config ledger (entry ∷ []) i.last c.transcript [] i.joint.legal i.joint.calls_are (silent i.last two.0 entry zeroth two.1 first.silent_it);
           rank = f (running c);
           there = ap (λ v. rank_at v zeroth) middle ∙ rank_changes f;
           open_call = sym first.pending;

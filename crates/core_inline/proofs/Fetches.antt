@@ -43,7 +43,7 @@ use Rattle.work_queue.specs.declared.placing.Placed.{Placed}
 use Rattle.core_inline.specs.Inline.{zeroth}
 use Rattle.core_inline.specs.Known.{AreHeld, AreKnown, IsNoted}
 use Rattle.core_inline.specs.Rounds.{IsServing, by_rank, pending_call, with_call}
-use Rattle.core_inline.proofs.Heard.{hearing, same_step}
+use Rattle.core_inline.proofs.Heard.{hearing}
 use Rattle.core_inline.proofs.Idle.{rank_in}
 use Rattle.core_inline.proofs.Known.{known_fetched}
 use Rattle.core_inline.proofs.Lefts.{found_passes}
@@ -128,7 +128,7 @@ module _ (c : Client) (s : Host) (ledger : List Entry) (letter : Letter) (b : Ba
       let told : says b e ≡ Some (zeroth, said) =
       ap (λ o. option_and_then (λ (v : Lodged). option_and_then (answered b zeroth) (own_answer v.unit.common v.unit.body)) o) noted.1 ∙ ap (λ k. option_and_then (answered b zeroth) (own_answer k body)) plain
       ∙ says_it b fetching (calls_to.Fetch note.id) (answers.Body body) rank_fetches refl in
-      let calls_are : calls_from b x.entries zeroth ≡ said ∷ [] = ap (λ l. calls_from b l zeroth) entries ∙ saying same_step b one.0 e zeroth said one.1 told in
+      let calls_are : calls_from b x.entries zeroth ≡ said ∷ [] = ap (λ l. calls_from b l zeroth) entries ∙ saying b one.0 e zeroth said one.1 told in
       let m : Message = tells.Bytes request body in
       let comes : c.transcript ++ said ∷ [] ≡ said_with c c.pending (Some reply.message) = sym (ap (λ (v : Message). said_with c c.pending (Some v)) reply_is ∙ ap (λ p. said_with c p (Some m)) pending) in
       let caused : IsCaused b c.end = rw (asked.joint.going, pending) at asked.rank.caused in

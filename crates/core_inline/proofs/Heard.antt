@@ -11,7 +11,6 @@ use Rattle.bag_ledger.specs.declared.entries.Entry.{Entry}
 use Rattle.bag_ledger.specs.declared.entries.Said.{Said}
 use Rattle.bag_ledger.specs.Bag.{Bag, has_due}
 use Rattle.bag_ledger.specs.Runs.{IsRun}
-use Rattle.bag_ledger.proofs.Bridge.{row_is, is_row}
 use Rattle.rank_client.specs.declared.pendings.Pending.TheVariants as waits_for
 use Rattle.rank_client.specs.Agreement.{Agrees as IsRankOf, Follows, said as said_with}
 use Rattle.rank_client.specs.Calls.{TellsAgain, end_of, end_told, has_finished, is_finish}
@@ -19,7 +18,6 @@ use Rattle.rank_client.specs.Rules.{Response, answer_call}
 use Rattle.rank_client.specs.State.{State as Client}
 use Rattle.rank_client.specs.Step.{Made, hear, letter_stamp, made, ticked, told_trouble}
 use Rattle.rank_client.proofs.Awaited.{hear_is}
-use Rattle.rank_client.proofs.Entries.{IsSame}
 use Rattle.rank_client.proofs.Hears.{hears}
 use Rattle.rank_client.proofs.Transcripts.{finished_more, first_end, told_more}
 use Rattle.server_core.specs.Agreement.{Agrees as IsServerOf, IsAlone}
@@ -29,9 +27,6 @@ use Rattle.core_inline.specs.Inline.{IsTold}
 use Rattle.core_inline.specs.Known.{AreHeld, AreKnown}
 use Rattle.core_inline.specs.Rounds.{IsHearing, IsIdle, IsJoint, first_server, pending_call, with_call}
 use Rattle.core_inline.proofs.Idle.{IsLike, joint_after}
-
-pub same_step : IsSame
-same_step b next e = (row_is b next e, is_row b next e)
 
 pub none_due : (b : Bag) → b.parts ≡ [] → has_due b ≡ false
 none_due b none = rw none refl
@@ -83,7 +78,7 @@ module _ (c : Client) (s : Host) (ledger : List Entry) (letter : Letter) (call :
     (coming : IsComing c s ledger letter call answer b notes) (heard : IsHeard c letter call answer notes x)
     (kept : (next : Bag) → IsRun b x.entries next → IsKept b next s) (unexhausted : x.state.end ≡ None → s.exhausted ≡ false) where
   follows : Follows c (Some letter.message) b x
-  follows = hears same_step c first_server letter x b heard.hears coming.rank (none_due b coming.joint.no_parts)
+  follows = hears c first_server letter x b heard.hears coming.rank (none_due b coming.joint.no_parts)
 
   idle_after : IsIdle x.state s (ledger ++ x.entries)
   idle_after =

@@ -42,7 +42,7 @@ use Rattle.work_queue.specs.declared.placing.Placed.{Placed}
 use Rattle.core_inline.specs.Inline.{zeroth}
 use Rattle.core_inline.specs.Known.{AreHeld, AreKnown}
 use Rattle.core_inline.specs.Rounds.{IsServing, by_rank, pending_call, with_call}
-use Rattle.core_inline.proofs.Heard.{hearing, same_step}
+use Rattle.core_inline.proofs.Heard.{hearing}
 use Rattle.core_inline.proofs.Idle.{rank_in}
 use Rattle.core_inline.proofs.Known.{IsPlain, held_said, known_added, known_said}
 use Rattle.core_inline.proofs.Replies.{accepted_heard, full_heard, mod_one}
@@ -117,7 +117,7 @@ module _ (c : Client) (s : Host) (ledger : List Entry) (letter : Letter) (b : Ba
       let one : IsRun b (e ∷ []) next = subst (λ (l : List Entry). IsRun b l next) entries run in
       let is : next ≡ with_rank zeroth ended (record b { units = b.units ++ u ∷ [] }) = next_is b next e one ∙ accepted_next in
       let told : says b e ≡ Some (zeroth, said) = ap (λ r. answered b r answers.Fine) sender ∙ says_it b (putting c unit first 0) (call_of unit) answers.Fine rank_puts refl in
-      let calls_are : calls_from b x.entries zeroth ≡ said ∷ [] = ap (λ l. calls_from b l zeroth) entries ∙ saying same_step b one.0 e zeroth said one.1 told in
+      let calls_are : calls_from b x.entries zeroth ≡ said ∷ [] = ap (λ l. calls_from b l zeroth) entries ∙ saying b one.0 e zeroth said one.1 told in
       let m : Message = tells.Accepted unit.id.number in
       let comes : c.transcript ++ said ∷ [] ≡ said_with c c.pending (Some reply.message) = sym (ap (λ (v : Message). said_with c c.pending (Some v)) reply_is ∙ ap (λ p. said_with c p (Some m)) pending) in
       let in_it : in_call c c.pending (Some reply.message) ≡ running c = ap (λ (v : Message). in_call c c.pending (Some v)) reply_is ∙ ap (λ p. in_call c p (Some m)) pending in
@@ -189,7 +189,7 @@ module _ (c : Client) (s : Host) (ledger : List Entry) (letter : Letter) (b : Ba
       let said : Said = record { call = call_of unit; answer = answers.Rejected } in
       let one : IsRun b (e ∷ []) next = subst (λ (l : List Entry). IsRun b l next) entries run in
       let is : next ≡ with_rank zeroth (declined_by s.me) b = next_is b next e one ∙ full_next in
-      let calls_are : calls_from b x.entries zeroth ≡ [] = ap (λ l. calls_from b l zeroth) entries ∙ silent same_step b one.0 e zeroth one.1 refl in
+      let calls_are : calls_from b x.entries zeroth ≡ [] = ap (λ l. calls_from b l zeroth) entries ∙ silent b one.0 e zeroth one.1 refl in
       let m : Message = tells.Full unit.id.number charge in
       let comes : c.transcript ++ [] ≡ said_with c c.pending (Some reply.message) =
       append-nil c.transcript ∙ sym (ap (λ (v : Message). said_with c c.pending (Some v)) reply_is ∙ ap (λ p. said_with c p (Some m)) pending) in

@@ -43,7 +43,7 @@ use Rattle.work_queue.specs.declared.placing.Placed.{Placed}
 use Rattle.core_inline.specs.Inline.{IsTold, zeroth}
 use Rattle.core_inline.specs.Known.{AreHeld, AreKnown, is_untaken}
 use Rattle.core_inline.specs.Rounds.{IsServing, by_rank, pending_call, with_call}
-use Rattle.core_inline.proofs.Heard.{hearing, same_step}
+use Rattle.core_inline.proofs.Heard.{hearing}
 use Rattle.core_inline.proofs.Idle.{calls_grown, rank_in}
 use Rattle.core_inline.proofs.Known.{IsPlain, held_granted, held_said, known_granted, known_said}
 use Rattle.core_inline.proofs.Replies.{ended_heard, granted_heard}
@@ -99,7 +99,7 @@ module _ (c : Client) (s : Host) (ledger : List Entry) (letter : Letter) (b : Ba
         let one : IsRun b (e ∷ []) next = subst (λ (l : List Entry). IsRun b l next) entries run in
         let is : next ≡ with_rank zeroth ended (moved p.unit.id (Pinned s.me zeroth) b) = next_is b next e one in
         let told : says b e ≡ Some (zeroth, said) = ap (λ o. option_and_then (λ (v : Lodged). answered b zeroth (answers.Granted (note_of s.me v.unit))) o) found ∙ says_it b (record (running c) { status = does.Asking request types }) (calls_to.Reserve types) (answers.Granted note) rank_asks refl in
-        let calls_are : calls_from b x.entries zeroth ≡ said ∷ [] = ap (λ l. calls_from b l zeroth) entries ∙ saying same_step b one.0 e zeroth said one.1 told in
+        let calls_are : calls_from b x.entries zeroth ≡ said ∷ [] = ap (λ l. calls_from b l zeroth) entries ∙ saying b one.0 e zeroth said one.1 told in
         let m : Message = tells.Grant request note in
         let comes : c.transcript ++ said ∷ [] ≡ said_with c c.pending (Some reply.message) = sym (ap (λ (v : Message). said_with c c.pending (Some v)) reply_is ∙ ap (λ p. said_with c p (Some m)) pending) in
         let in_it : in_call c c.pending (Some reply.message) ≡ running c = ap (λ (v : Message). in_call c c.pending (Some v)) reply_is ∙ ap (λ p. in_call c p (Some m)) pending in
@@ -190,7 +190,7 @@ module _ (c : Client) (s : Host) (ledger : List Entry) (letter : Letter) (b : Ba
       let rank_then : rank_at two.0 zeroth ≡ Some asks = ap (λ v. rank_at v zeroth) middle ∙ rank_asks in
       let is : next ≡ with_rank zeroth (λ r. ended (record r { end = Some ends_by.Exhausted })) two.0 = next_is two.0 next second two.2 in
       let told : says two.0 second ≡ Some (zeroth, said) = says_it two.0 asks (calls_to.Reserve types) (answers.Ended ends_by.Exhausted) rank_then refl in
-      let calls_are : calls_from b x.entries zeroth ≡ said ∷ [] = ap (λ l. calls_from b l zeroth) entries ∙ then_saying same_step b two.0 two.2.0 first second zeroth said two.1 two.2.1 refl told in
+      let calls_are : calls_from b x.entries zeroth ≡ said ∷ [] = ap (λ l. calls_from b l zeroth) entries ∙ then_saying b two.0 two.2.0 first second zeroth said two.1 two.2.1 refl told in
       let m : Message = tells.Ended request ends_by.Exhausted in
       let comes : c.transcript ++ said ∷ [] ≡ said_with c c.pending (Some reply.message) = sym (ap (λ (v : Message). said_with c c.pending (Some v)) reply_is ∙ ap (λ p. said_with c p (Some m)) pending) in
       let in_it : in_call c c.pending (Some reply.message) ≡ record (running c) { end = Some ends_by.Exhausted } = ap (λ (v : Message). in_call c c.pending (Some v)) reply_is ∙ ap (λ p. in_call c p (Some m)) pending in
@@ -228,7 +228,7 @@ module _ (c : Client) (s : Host) (ledger : List Entry) (letter : Letter) (b : Ba
         last = two.0;
         legal = run_joined _ b two.0 ledger (enters.Exhausted ∷ []) asked.joint.legal one;
         more = [];
-        calls_are = calls_grown c.config ledger (enters.Exhausted ∷ []) b c.transcript [] asked.joint.legal asked.joint.calls_are (silent same_step b two.0 enters.Exhausted zeroth two.1 refl);
+        calls_are = calls_grown c.config ledger (enters.Exhausted ∷ []) b c.transcript [] asked.joint.legal asked.joint.calls_are (silent b two.0 enters.Exhausted zeroth two.1 refl);
         rank = record (running c) { status = does.Asking request types };
         there = ap (λ v. rank_at v zeroth) two.1.2 ∙ rank_asks;
         open_call = refl;

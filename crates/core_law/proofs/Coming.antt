@@ -29,10 +29,9 @@ use Rattle.bag_ledger.specs.declared.states.Status.TheVariants as does
 use Rattle.bag_ledger.specs.declared.states.UnitPlace.{UnitPlace}
 use Rattle.bag_ledger.specs.declared.states.UnitPlace.TheVariants.{Free, Pinned, Spent}
 use Rattle.bag_ledger.specs.Bag.{Bag, putting, rank_at, same_unit, unit_of}
-use Rattle.bag_ledger.specs.Runs.{IsRun, calls_after, calls_from, note_of, said_by, says}
+use Rattle.bag_ledger.specs.Runs.{IsRun, calls_from, note_of, said_by, says}
 use Rattle.bag_ledger.specs.Runs as runs
-use Rattle.bag_ledger.specs.Steps.{Steps, after, declined_by, ended, moved, own_fetched, shared, taken, with_rank}
-use Rattle.bag_ledger.proofs.Bridge.{row_is}
+use Rattle.bag_ledger.specs.Steps.{Legal, after, declined_by, ended, moved, own_fetched, shared, taken, with_rank}
 use Rattle.bag_ledger.proofs.Lookups.{find_appended, find_before}
 use Rattle.bag_ledger.proofs.Moves.{moved_here, moved_is, moved_other}
 use Rattle.bag_ledger.proofs.Tests.{same_unit_is, some_is}
@@ -105,18 +104,14 @@ pub record Comes (c : Client) (p : Pending) (a : Message) (b next : Bag) (es : L
 
 -- One entry.
 
-single : (b next : Bag) (e : Entry) → IsRun b (e ∷ []) next → Steps b e (after b e) × (next ≡ after b e)
-single b next e run = ((run.1.0, run.1.1, refl), sym run.2 ∙ run.1.2)
+single : (b next : Bag) (e : Entry) → IsRun b (e ∷ []) next → Legal b e × (next ≡ after b e)
+single b next e run = (run.1.1, sym run.2 ∙ run.1.2)
 
-one_call : (b : Bag) (e : Entry) (rank : Rank) (s : Said) → Steps b e (after b e) → says b e ≡ Some (rank, s) → calls_from b (e ∷ []) rank ≡ s ∷ []
-one_call b e rank s step is =
-    let more : calls_from b (e ∷ []) rank ≡ said_by rank (says b e) ++ [] = ap (λ o. said_by rank (says b e) ++ calls_after (λ n. calls_from n [] rank) o) (row_is b (after b e) e step) in
-    more ∙ ap (λ o. said_by rank o ++ []) is ∙ rw (eq-eqb rank.0 rank.0 refl) refl
+one_call : (b : Bag) (e : Entry) (rank : Rank) (s : Said) → says b e ≡ Some (rank, s) → calls_from b (e ∷ []) rank ≡ s ∷ []
+one_call b e rank s is = ap (λ o. said_by rank o ++ []) is ∙ rw (eq-eqb rank.0 rank.0 refl) refl
 
-no_call : (b : Bag) (e : Entry) (rank : Rank) → Steps b e (after b e) → says b e ≡ None → calls_from b (e ∷ []) rank ≡ []
-no_call b e rank step is =
-    let more : calls_from b (e ∷ []) rank ≡ said_by rank (says b e) ++ [] = ap (λ o. said_by rank (says b e) ++ calls_after (λ n. calls_from n [] rank) o) (row_is b (after b e) e step) in
-    more ∙ ap (λ o. said_by rank o ++ []) is
+no_call : (b : Bag) (e : Entry) (rank : Rank) → says b e ≡ None → calls_from b (e ∷ []) rank ≡ []
+no_call b e rank is = ap (λ o. said_by rank o ++ []) is
 
 rank_changed : (b : Bag) (rank : Rank) (f : RankState → RankState) (r : RankState) → rank_at b rank ≡ Some r → rank_at (with_rank rank f b) rank ≡ Some (f r)
 rank_changed b rank f r at = changed_here f rank.0 b.ranks r at
@@ -143,13 +138,13 @@ over_comes c p b next request end w e run =
     let e' = enters.Over c.me request end in
     let s = single b next e' run in
     let told : says b e' ≡ Some (c.me, record { call = e.call; answer = answers.Ended end }) = rw (w.rank, e.calls) refl in
-    let cause = s.0.1.3 in
+    let cause = s.0.3 in
     rw s.1 (record {
       rank = rank_changed b c.me (overs end) (in_call c p None) w.rank ∙ ap Some e.rank;
       servers = w.servers;
       caused = rw e.end_is cause;
       held = rw e.notes w.held;
-      said = e.said ∙ ap (λ l. c.transcript ++ l) (sym (one_call b e' c.me (record { call = e.call; answer = answers.Ended end }) s.0 told));
+      said = e.said ∙ ap (λ l. c.transcript ++ l) (sym (one_call b e' c.me (record { call = e.call; answer = answers.Ended end }) told));
       plain = plain_same b (with_rank c.me (overs end) b) refl w.plain;
       below = below_same b (with_rank c.me (overs end) b) c.me (offered p None) (offered p (Some (tells.Ended request end))) c.next c.next refl (let z = e.none in omega arith) w.below;
       knows = rw e.notes (knows_same b (with_rank c.me (overs end) b) c.transcript (c.handles ++ note_coming p None) refl refl w.knows);
@@ -183,7 +178,7 @@ refused_comes c unit first tried me b next used w is run =
       servers = w.servers;
       caused = w.caused;
       held = w.held;
-      said = sym (append-nil c.transcript) ∙ ap (λ l. c.transcript ++ l) (sym (no_call b e c.me s.0 none));
+      said = sym (append-nil c.transcript) ∙ ap (λ l. c.transcript ++ l) (sym (no_call b e c.me none));
       plain = plain_same b (with_rank c.me (declined_by me) b) refl w.plain;
       below = below_same b (with_rank c.me (declined_by me) b) c.me 1 1 c.next c.next refl (omega arith) w.below;
       knows = knows_same b (with_rank c.me (declined_by me) b) c.transcript (c.handles ++ []) refl refl w.knows;
@@ -232,7 +227,7 @@ accepted_comes c unit first tried me b next w run =
       servers = w.servers;
       caused = w.caused;
       held = held_added b u c.me (c.handles ++ []) w.held;
-      said = ap (λ l. c.transcript ++ l) (sym (one_call b e c.me said_so s.0 told));
+      said = ap (λ l. c.transcript ++ l) (sym (one_call b e c.me said_so told));
       plain = plain_same (with_lodged b u) d refl (plain_added b u offer.plain w.plain);
       below = below_same (with_lodged b u) d c.me 0 0 c.next c.next refl (omega arith) (below_added b u c.me c.next offer.call w.below);
       knows = knows_same (with_lodged b u) d c.transcript (c.handles ++ []) refl refl (knows_added b u c.transcript (c.handles ++ []) w.knows);
@@ -299,7 +294,7 @@ granted_comes c request types me work u b next w there same free run =
       servers = w.servers;
       caused = w.caused;
       held = All-push (IsHeld d c.me) c.handles note left here;
-      said = ap (λ l. c.transcript ++ l) (sym (one_call b e c.me said_so s.0 told));
+      said = ap (λ l. c.transcript ++ l) (sym (one_call b e c.me said_so told));
       plain = plain_same moved_bag d refl (plain_moved b id (Pinned me c.me) u there w.plain);
       below = below_same moved_bag d c.me 0 0 c.next c.next refl (omega arith) (below_moved b id (Pinned me c.me) u c.me 0 c.next there w.below);
       knows = granted_knows c.transcript c.handles note d (knows_same moved_bag d c.transcript (c.handles ++ []) refl refl (knows_moved b id (Pinned me c.me) u c.transcript (c.handles ++ []) there refl w.knows)) (record u { place = Pinned me c.me }, moved_here b id (Pinned me c.me) u there, ap (λ (k : Unit). length k.body) (sym same));
@@ -334,7 +329,7 @@ fetched_comes c request note me work u b next w there same run =
       servers = w.servers;
       caused = w.caused;
       held = All-same (IsHeld d c.me) (c.handles ++ []) c.handles (append-nil c.handles) left;
-      said = ap (λ l. c.transcript ++ l) (sym (one_call b e c.me said_so s.0 told));
+      said = ap (λ l. c.transcript ++ l) (sym (one_call b e c.me said_so told));
       plain = plain_same moved_bag d refl (plain_moved b id Spent u there w.plain);
       below = below_same moved_bag d c.me 0 0 c.next c.next refl (omega arith) (below_moved b id Spent u c.me 0 c.next there w.below);
       knows = knows_more d c.transcript c.transcript (c.handles ++ note ∷ []) (c.handles ++ []) (λ i is. inl is) (All-same (Contains (c.handles ++ note ∷ [])) (c.handles ++ []) c.handles (append-nil c.handles) (notes_in c.handles (note ∷ []))) (knows_same moved_bag d c.transcript (c.handles ++ note ∷ []) refl refl (knows_moved b id Spent u c.transcript (c.handles ++ note ∷ []) there refl w.knows));
@@ -355,7 +350,6 @@ exhausted_comes c request types to b next w run =
     let over : Entry = enters.Over c.me to ends_by.Exhausted in
     let mid : Bag = record b { exhausted = true } in
     let is : run.0 ≡ mid = run.1.2 in
-    let step : Steps b enters.Exhausted mid = (run.1.0, run.1.1, refl) in
     let later : IsRun mid (over ∷ []) next = subst (λ (m : Bag). IsRun m (over ∷ []) next) is run.2 in
     let waits : Waits c p mid = record {
       rank = w.rank;
@@ -368,14 +362,12 @@ exhausted_comes c request types to b next w run =
       call = w.call;
     } in
     let comes = over_comes c p mid next to ends_by.Exhausted waits (reserve_ended c request types to ends_by.Exhausted) later in
-    let first : calls_from b (enters.Exhausted ∷ over ∷ []) c.me ≡ calls_from mid (over ∷ []) c.me =
-    ap (λ o. calls_after (λ n. calls_from n (over ∷ []) c.me) o) (row_is b mid enters.Exhausted step) in
     record {
       rank = comes.rank;
       servers = comes.servers;
       caused = comes.caused;
       held = comes.held;
-      said = comes.said ∙ ap (λ l. c.transcript ++ l) (sym first);
+      said = comes.said;
       plain = comes.plain;
       below = comes.below;
       knows = comes.knows;

@@ -1,5 +1,5 @@
 -- A step that does not tell of a rank adds no call of it.
-use Rattle.std.proofs.Common.{◌≡◌, false, [], ◌∷◌, ◌++◌, Option, Some, None, refl, ap, ◌∙◌}
+use Rattle.std.proofs.Common.{◌≡◌, false, [], ◌∷◌, ◌++◌, Option, Some, None, refl, sym, ap, ◌∙◌}
 use Rattle.std.specs.Prelude.{option_and_then}
 use Rattle.std.specs.Option.{option_map}
 use Rattle.adlb_unit.specs.declared.names.BatchId.{BatchId}
@@ -14,8 +14,8 @@ use Rattle.bag_ledger.specs.declared.entries.Said.{Said}
 use Rattle.bag_ledger.specs.declared.states.Placed.{Placed as Lodged}
 use Rattle.bag_ledger.specs.declared.states.RankState.{RankState}
 use Rattle.bag_ledger.specs.Bag.{Bag, rank_at, unit_of}
-use Rattle.bag_ledger.specs.Runs.{answered, call_of, calls_after, calls_from, common_answer, note_of, own_answer, said_by, says}
-use Rattle.bag_ledger.proofs.Bridge.{row_is}
+use Rattle.bag_ledger.specs.Runs.{answered, call_of, calls_from, common_answer, note_of, own_answer, said_by, says}
+use Rattle.bag_ledger.specs.Steps.{after}
 use Rattle.core_law.specs.Others.{CallsStay, teller, tells_of}
 
 -- what another rank says
@@ -67,5 +67,4 @@ entry_silent me b _ is = refl
 
 pub calls_stay : CallsStay
 calls_stay b next e es rank step is =
-    let more : calls_from b (e ∷ es) rank ≡ said_by rank (says b e) ++ calls_from next es rank = ap (λ o. said_by rank (says b e) ++ calls_after (λ n. calls_from n es rank) o) (row_is b next e step) in
-    more ∙ ap (λ l. l ++ calls_from next es rank) (entry_silent rank b e is)
+    ap (λ l. l ++ calls_from (after b e) es rank) (entry_silent rank b e is) ∙ ap (λ n. calls_from n es rank) (sym step.2)

@@ -31,7 +31,7 @@ use Rattle.rank_client.specs.Agreement.{Agrees, Follows, IsCaused, IsHeld, runni
 use Rattle.rank_client.specs.Rules.{Response, Saying, entry_of, fetch, fetched, finish, held, in_ranks, is_free, is_idle, open_call, over, put, reserve, unit_put}
 use Rattle.rank_client.specs.State.{State}
 use Rattle.rank_client.specs.Step.{Made, begin, call_stamp, made, post, ticked}
-use Rattle.rank_client.proofs.Entries.{IsSame, rank_changed, saying, same_unit_is, silent, some_is, step_of, then_saying}
+use Rattle.rank_client.proofs.Entries.{rank_changed, saying, same_unit_is, silent, some_is, step_of, then_saying}
 
 -- What is sent does not matter here.
 
@@ -111,11 +111,11 @@ free_agrees s b nothing going rank servers caused held = record {
 }
 
 -- A call to which an end was told before.
-over_follows : IsSame → (s : State) (b : Bag) (entry : Entry) (call : Call) (end : End) (f : RankState → RankState) (status : Status) →
+over_follows : (s : State) (b : Bag) (entry : Entry) (call : Call) (end : End) (f : RankState → RankState) (status : Status) →
     IsFree s b → s.end ≡ Some end → Steps b entry (with_rank s.me f b) → says b entry ≡ None
     → f (running s) ≡ record (running s) { status = status; next = s.next + 1 } → bag.open_call status ≡ Some s.next → runs.call_of status ≡ Some call
     → Follows s None b (bare (over s entry call end))
-over_follows same s b entry call end f status free told step silent begun opens calls =
+over_follows s b entry call end f status free told step silent begun opens calls =
     let middle : Bag = with_rank s.me f b in
     let now : rank_at middle s.me ≡ Some (record (running s) { status = status; next = s.next + 1 }) = rank_changed b s.me f (running s) free.rank ∙ ap Some begun in
     let over : Entry = enters.Over s.me s.next end in
@@ -128,15 +128,15 @@ over_follows same s b entry call end f status free told step silent begun opens 
       last,
       (middle, step, (last, stops, refl)),
       free_agrees _ last refl free.going (rw told runs) free.servers free.caused free.held,
-      ap (λ said. s.transcript ++ said) (sym (then_saying same b middle last entry over s.me (record { call = call; answer = answers.Ended end }) step stops silent told_so)),
+      ap (λ said. s.transcript ++ said) (sym (then_saying b middle last entry over s.me (record { call = call; answer = answers.Ended end }) step stops silent told_so)),
     )
 
 -- A call that goes to a server.
-waits_follows : IsSame → (s : State) (b : Bag) (entry : Entry) (f : RankState → RankState) (x : Made) →
+waits_follows : (s : State) (b : Bag) (entry : Entry) (f : RankState → RankState) (x : Made) →
     IsFree s b → Steps b entry (with_rank s.me f b) → says b entry ≡ None → x.entries ≡ entry ∷ [] → x.state.transcript ≡ s.transcript
     → Agrees x.state None (with_rank s.me f b) → Follows s None b x
-waits_follows same s b entry f x free step quiet entries transcript agrees =
-    (with_rank s.me f b, rw entries (with_rank s.me f b, step, refl), agrees, transcript ∙ sym (ap (λ said. s.transcript ++ said) (ap (λ es. calls_from b es s.me) entries ∙ silent same b (with_rank s.me f b) entry s.me step quiet) ∙ append-nil s.transcript))
+waits_follows s b entry f x free step quiet entries transcript agrees =
+    (with_rank s.me f b, rw entries (with_rank s.me f b, step, refl), agrees, transcript ∙ sym (ap (λ said. s.transcript ++ said) (ap (λ es. calls_from b es s.me) entries ∙ silent b (with_rank s.me f b) entry s.me step quiet) ∙ append-nil s.transcript))
 
 -- what Putting makes of the rank
 abbrev puts : State → WorkType → ℤ → Target → Option Rank → List ℕ → RankState → RankState
@@ -149,14 +149,14 @@ putting_steps s b kind prio target answer body free =
     let legal : Legal b (entry_of (unit_put s kind prio target answer body)) = (running s, (free.rank, refl, refl)) in
     step_of b (entry_of (unit_put s kind prio target answer body)) free.none legal
 
-put_follows : IsSame → (s : State) (b : Bag) (kind : WorkType) (prio : ℤ) (target : Target) (answer : Option Rank) (body : List ℕ) (end : Option End) → IsFree s b → s.end ≡ end
+put_follows : (s : State) (b : Bag) (kind : WorkType) (prio : ℤ) (target : Target) (answer : Option Rank) (body : List ℕ) (end : Option End) → IsFree s b → s.end ≡ end
     → Follows s None b (bare (put s (unit_put s kind prio target answer body) end))
-put_follows same s b kind prio target answer body (Some end) free told =
-    over_follows same (record s { puts = s.puts + 1 }) b (entry_of (unit_put s kind prio target answer body)) (calls_to.Put kind prio target answer body) end (puts s kind prio target answer body) (does.Putting (unit_put s kind prio target answer body))
+put_follows s b kind prio target answer body (Some end) free told =
+    over_follows (record s { puts = s.puts + 1 }) b (entry_of (unit_put s kind prio target answer body)) (calls_to.Put kind prio target answer body) end (puts s kind prio target answer body) (does.Putting (unit_put s kind prio target answer body))
     (record { rank = free.rank; servers = free.servers; caused = free.caused; held = free.held; none = free.none; going = free.going })
     told (putting_steps s b kind prio target answer body free) refl refl refl refl
-put_follows same s b kind prio target answer body None free told =
-    waits_follows same s b (entry_of (unit_put s kind prio target answer body)) (puts s kind prio target answer body)
+put_follows s b kind prio target answer body None free told =
+    waits_follows s b (entry_of (unit_put s kind prio target answer body)) (puts s kind prio target answer body)
     (bare (put s (unit_put s kind prio target answer body) None)) free
     (putting_steps s b kind prio target answer body free) refl refl refl
     (record {
@@ -171,12 +171,12 @@ asking_steps s b types free =
     let legal : Legal b (enters.Asked s.me s.next types) = (running s, (free.rank, refl, refl)) in
     step_of b (enters.Asked s.me s.next types) free.none legal
 
-reserve_follows : IsSame → (s : State) (b : Bag) (types : Option (List WorkType)) (end : Option End) → IsFree s b → s.end ≡ end → Follows s None b (bare (reserve s types end))
-reserve_follows same s b types (Some end) free told =
-    over_follows same s b (enters.Asked s.me s.next types) (calls_to.Reserve types) end (begun (does.Asking s.next types)) (does.Asking s.next types) free
+reserve_follows : (s : State) (b : Bag) (types : Option (List WorkType)) (end : Option End) → IsFree s b → s.end ≡ end → Follows s None b (bare (reserve s types end))
+reserve_follows s b types (Some end) free told =
+    over_follows s b (enters.Asked s.me s.next types) (calls_to.Reserve types) end (begun (does.Asking s.next types)) (does.Asking s.next types) free
     told (asking_steps s b types free) refl refl refl refl
-reserve_follows same s b types None free told =
-    waits_follows same s b (enters.Asked s.me s.next types) (begun (does.Asking s.next types)) (bare (reserve s types None)) free
+reserve_follows s b types None free told =
+    waits_follows s b (enters.Asked s.me s.next types) (begun (does.Asking s.next types)) (bare (reserve s types None)) free
     (asking_steps s b types free) refl refl refl
     (record {
       rank = rw free.going (rank_changed b s.me (begun (does.Asking s.next types)) (running s) free.rank);
@@ -196,13 +196,13 @@ found_is P id (n ∷ notes) note e all = by_test (found_is P id notes note) (sam
         rw (← here) (same_unit_is n.id id is, All-head P n notes all)
     by_test rest false is found = rest (rw is at found) (All-tail P n notes all)
 
-fetch_follows : IsSame → (s : State) (b : Bag) (id : UnitId) (note : Option UnitNote) → IsFree s b → held s id ≡ note → LawOf s.transcript s.me b (fetch s id note)
-fetch_follows same s b id None free is = tt
-fetch_follows same s b id (Some note) free is =
+fetch_follows : (s : State) (b : Bag) (id : UnitId) (note : Option UnitNote) → IsFree s b → held s id ≡ note → LawOf s.transcript s.me b (fetch s id note)
+fetch_follows s b id None free is = tt
+fetch_follows s b id (Some note) free is =
     let it = found_is (IsHeld b s.me) id s.handles note is free.held in
     let there : Stands b id it.1.0 (Pinned note.server s.me) = subst (λ (i : UnitId). Stands b i it.1.0 (Pinned note.server s.me)) it.0 it.1.1 in
     let legal : Legal b (enters.Fetching s.me s.next id) = (running s, it.1.0, note.server, (free.rank, refl, refl), there) in
-    waits_follows same s b (enters.Fetching s.me s.next id) (begun (does.Fetching s.next id false)) (bare (fetched s id note)) free
+    waits_follows s b (enters.Fetching s.me s.next id) (begun (does.Fetching s.next id false)) (bare (fetched s id note)) free
     (step_of b (enters.Fetching s.me s.next id) free.none legal) refl refl refl
     (record {
       rank = rw (free.going, it.0) (rank_changed b s.me (begun (does.Fetching s.next id false)) (running s) free.rank);
@@ -211,8 +211,8 @@ fetch_follows same s b id (Some note) free is =
       held = All-push (IsHeld b s.me) (filter (λ n. not (same_unit n.id id)) s.handles) note (All-filter (λ n. not (same_unit n.id id)) (IsHeld b s.me) s.handles free.held) it.1;
     })
 
-finish_follows : IsSame → (s : State) (b : Bag) → IsFree s b → s.batch ≡ None → Follows s None b (bare (finish s))
-finish_follows same s b free alone =
+finish_follows : (s : State) (b : Bag) → IsFree s b → s.batch ≡ None → Follows s None b (bare (finish s))
+finish_follows s b free alone =
     let legal : Legal b (enters.Finished s.me s.next) = (running s, (free.rank, refl, refl), alone) in
     let step : Steps b (enters.Finished s.me s.next) (with_rank s.me (begun does.Finished) b) = step_of b (enters.Finished s.me s.next) free.none legal in (
       with_rank s.me (begun does.Finished) b,
@@ -223,43 +223,43 @@ finish_follows same s b free alone =
         caused = free.caused;
         held = All-same (IsHeld b s.me) _ s.handles (append-nil s.handles) free.held;
       },
-      ap (λ said. s.transcript ++ said) (sym (saying same b _ (enters.Finished s.me s.next) s.me (record { call = calls_to.Finish; answer = answers.Fine }) step refl)),
+      ap (λ said. s.transcript ++ said) (sym (saying b _ (enters.Finished s.me s.next) s.me (record { call = calls_to.Finish; answer = answers.Fine }) step refl)),
     )
 
 none_is : {X : Type 0} (o : Option X) → is_none o ≡ true → o ≡ None
 none_is None e = refl
 none_is (Some x) e = absurd (cc)
 
-opens : IsSame → (s : State) (b : Bag) (call : Call) → IsFree s b → LawOf s.transcript s.me b (open_call s call)
-opens same s b (calls_to.Put kind prio target answer body) free = by_test (nat_le (length body) (2 ^ 20) && in_ranks s.config target)
+opens : (s : State) (b : Bag) (call : Call) → IsFree s b → LawOf s.transcript s.me b (open_call s call)
+opens s b (calls_to.Put kind prio target answer body) free = by_test (nat_le (length body) (2 ^ 20) && in_ranks s.config target)
   where
     by_test : (t : Bool) → LawOf s.transcript s.me b (if t then Some (put s (unit_put s kind prio target answer body) s.end) else None)
-    by_test true = put_follows same s b kind prio target answer body s.end free refl
+    by_test true = put_follows s b kind prio target answer body s.end free refl
     by_test false = tt
-opens same s b (calls_to.Reserve types) free = by_test (s.config.servers == 1)
+opens s b (calls_to.Reserve types) free = by_test (s.config.servers == 1)
   where
     by_test : (t : Bool) → LawOf s.transcript s.me b (if t then Some (reserve s types s.end) else None)
-    by_test true = reserve_follows same s b types s.end free refl
+    by_test true = reserve_follows s b types s.end free refl
     by_test false = tt
-opens same s b (calls_to.Try types) free = tt
-opens same s b (calls_to.Fetch id) free = fetch_follows same s b id (held s id) free refl
-opens same s b (calls_to.BeginBatch common) free = tt
-opens same s b calls_to.EndBatch free = tt
-opens same s b calls_to.SetDone free = tt
-opens same s b (calls_to.Count kind) free = tt
-opens same s b calls_to.Finish free = by_test (is_none s.batch) refl
+opens s b (calls_to.Try types) free = tt
+opens s b (calls_to.Fetch id) free = fetch_follows s b id (held s id) free refl
+opens s b (calls_to.BeginBatch common) free = tt
+opens s b calls_to.EndBatch free = tt
+opens s b calls_to.SetDone free = tt
+opens s b (calls_to.Count kind) free = tt
+opens s b calls_to.Finish free = by_test (is_none s.batch) refl
   where
     by_test : (t : Bool) → is_none s.batch ≡ t → LawOf s.transcript s.me b (if t then Some (finish s) else None)
-    by_test true alone = finish_follows same s b free (none_is s.batch alone)
+    by_test true alone = finish_follows s b free (none_is s.batch alone)
     by_test false alone = tt
 
 -- the law of a call
-pub begins : IsSame → (s : State) (call : Call) (x : Made) (b : Bag) → begin s call ≡ Some x → Agrees s None b → IsFalse (has_due b) → Follows s None b x
-begins same s call x b is a none = by_test (is_free s) refl is
+pub begins : (s : State) (call : Call) (x : Made) (b : Bag) → begin s call ≡ Some x → Agrees s None b → IsFalse (has_due b) → Follows s None b x
+begins s call x b is a none = by_test (is_free s) refl is
   where
     by_test : (t : Bool) → is_free s ≡ t → (if t then option_map made (open_call (ticked s (call_stamp s)) call) else None) ≡ Some x → Follows s None b x
     by_test true free made_is =
         let now = free_of s b free a none in
         law_of_made s.transcript s.me b (open_call (ticked s (call_stamp s)) call) x
-        (opens same (ticked s (call_stamp s)) b call (record { rank = now.rank; servers = now.servers; caused = now.caused; held = now.held; none = now.none; going = now.going })) made_is
+        (opens (ticked s (call_stamp s)) b call (record { rank = now.rank; servers = now.servers; caused = now.caused; held = now.held; none = now.none; going = now.going })) made_is
     by_test false free made_is = absurd (cc)

@@ -1,5 +1,5 @@
 -- What one entry of a rank makes of its state in the bag, and what it says of it.
-use Rattle.std.proofs.Common.{◌≡◌, ℕ, zero, suc, ◌↔◌, List, [], ◌∷◌, ◌++◌, Some, None, Bool, true, false, refl, ap, ◌∙◌, append-nil, ◌==◌}
+use Rattle.std.proofs.Common.{◌≡◌, ℕ, zero, suc, List, [], ◌∷◌, ◌++◌, Some, None, Bool, true, false, refl, sym, ap, ◌∙◌, append-nil, ◌==◌}
 use Rattle.std.specs.Prelude.{slice_get, IsTrue, IsFalse, ◌||◌, not}
 use Rattle.std.proofs.lemmas.Bool.{and_parts, eq-eqb, eqb-true}
 use Rattle.adlb_unit.specs.declared.names.Rank.{Rank}
@@ -8,13 +8,8 @@ use Rattle.bag_ledger.specs.declared.entries.Entry.{Entry}
 use Rattle.bag_ledger.specs.declared.entries.Said.{Said}
 use Rattle.bag_ledger.specs.declared.states.RankState.{RankState}
 use Rattle.bag_ledger.specs.Bag.{Bag, rank_at, has_due, same_unit}
-use Rattle.bag_ledger.specs.Runs.{calls_from, calls_after, said_by, says}
-use Rattle.bag_ledger.specs.Step.{step}
+use Rattle.bag_ledger.specs.Runs.{calls_from, said_by, says}
 use Rattle.bag_ledger.specs.Steps.{Steps, Legal, after, change_at, is_freeing, with_rank}
-
--- the function is the relation
-abbrev pub IsSame : Type 0
-IsSame = (b next : Bag) (e : Entry) → Steps b e next ↔ (step b e ≡ Some next)
 
 pub some_is : {X : Type 0} {x y : X} → Some x ≡ Some y → x ≡ y
 some_is e = cc
@@ -42,8 +37,8 @@ step_of b e none legal = (at (is_freeing e), legal, refl)
     at true = refl
     at false = rw none refl
 
-pub calls_more : IsSame → (b next : Bag) (e : Entry) (es : List Entry) (rank : Rank) → Steps b e next → calls_from b (e ∷ es) rank ≡ said_by rank (says b e) ++ calls_from next es rank
-calls_more same b next e es rank s = ap (λ o. said_by rank (says b e) ++ calls_after (λ n. calls_from n es rank) o) ((same b next e).0 s)
+pub calls_more : (b next : Bag) (e : Entry) (es : List Entry) (rank : Rank) → Steps b e next → calls_from b (e ∷ es) rank ≡ said_by rank (says b e) ++ calls_from next es rank
+calls_more b next e es rank s = ap (λ n. said_by rank (says b e) ++ calls_from n es rank) (sym s.2)
 
 same_number : (n : ℕ) → (n == n) ≡ true
 same_number n = eq-eqb n n refl
@@ -52,14 +47,14 @@ said_once : (rank : Rank) (s : Said) → said_by rank (Some (rank, s)) ≡ s ∷
 said_once rank s = rw (same_number rank.0) refl
 
 -- one entry that ends no call
-pub silent : IsSame → (b next : Bag) (e : Entry) (rank : Rank) → Steps b e next → says b e ≡ None → calls_from b (e ∷ []) rank ≡ []
-silent same b next e rank s none = calls_more same b next e [] rank s ∙ ap (λ o. said_by rank o ++ []) none
+pub silent : (b next : Bag) (e : Entry) (rank : Rank) → Steps b e next → says b e ≡ None → calls_from b (e ∷ []) rank ≡ []
+silent b next e rank s none = calls_more b next e [] rank s ∙ ap (λ o. said_by rank o ++ []) none
 
 -- one entry that ends a call of the rank
-pub saying : IsSame → (b next : Bag) (e : Entry) (rank : Rank) (said : Said) → Steps b e next → says b e ≡ Some (rank, said) → calls_from b (e ∷ []) rank ≡ said ∷ []
-saying same b next e rank said s is = calls_more same b next e [] rank s ∙ ap (λ o. said_by rank o ++ []) is ∙ append-nil (said_by rank (Some (rank, said))) ∙ said_once rank said
+pub saying : (b next : Bag) (e : Entry) (rank : Rank) (said : Said) → Steps b e next → says b e ≡ Some (rank, said) → calls_from b (e ∷ []) rank ≡ said ∷ []
+saying b next e rank said s is = calls_more b next e [] rank s ∙ ap (λ o. said_by rank o ++ []) is ∙ append-nil (said_by rank (Some (rank, said))) ∙ said_once rank said
 
 -- an entry that ends no call, and one that ends a call of the rank
-pub then_saying : IsSame → (b next last : Bag) (e f : Entry) (rank : Rank) (said : Said) → Steps b e next → Steps next f last → says b e ≡ None → says next f ≡ Some (rank, said) → calls_from b (e ∷ f ∷ []) rank ≡ said ∷ []
-then_saying same b next last e f rank said s t none is =
-    calls_more same b next e (f ∷ []) rank s ∙ ap (λ o. said_by rank o ++ calls_from next (f ∷ []) rank) none ∙ saying same next last f rank said t is
+pub then_saying : (b next last : Bag) (e f : Entry) (rank : Rank) (said : Said) → Steps b e next → Steps next f last → says b e ≡ None → says next f ≡ Some (rank, said) → calls_from b (e ∷ f ∷ []) rank ≡ said ∷ []
+then_saying b next last e f rank said s t none is =
+    calls_more b next e (f ∷ []) rank s ∙ ap (λ o. said_by rank o ++ calls_from next (f ∷ []) rank) none ∙ saying next last f rank said t is

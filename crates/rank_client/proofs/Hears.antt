@@ -27,7 +27,7 @@ use Rattle.rank_client.specs.Rules.{answer_call, asked, call_of, ends, expects_n
 use Rattle.rank_client.specs.State.{State, home}
 use Rattle.rank_client.specs.Step.{Made, hear, letter_stamp, made, ticked}
 use Rattle.rank_client.proofs.Begins.{Holds, LawOf, bare, free_agrees, law_of_made}
-use Rattle.rank_client.proofs.Entries.{IsSame, rank_changed, saying, step_of}
+use Rattle.rank_client.proofs.Entries.{rank_changed, saying, step_of}
 use Rattle.rank_client.proofs.Ring.{all_asked}
 
 -- this call is pending, and this answer to it comes back
@@ -56,15 +56,15 @@ alone s b held = All-same (IsHeld b s.me) s.handles _ (sym (append-nil s.handles
 
 -- Put.
 
-refusal : IsSame → (s : State) (b : Bag) (unit : Unit) (first : Server) (tried to charge : ℕ) (t : Bool) → nat_lt (tried + 1) s.config.servers ≡ t
+refusal : (s : State) (b : Bag) (unit : Unit) (first : Server) (tried to charge : ℕ) (t : Bool) → nat_lt (tried + 1) s.config.servers ≡ t
     → Awaits s b (waits_for.Put unit first tried) (tells.Full to charge) → Holds s.transcript s.me b (bare (refused s unit first tried t))
-refusal same s b unit first tried to charge true more a = (
+refusal s b unit first tried to charge true more a = (
   b,
   refl,
   record { rank = rw a.going a.rank; servers = a.servers; caused = rw a.going a.caused; held = a.held },
   sym (append-nil s.transcript),
 )
-refusal same s b unit first tried to charge false more a =
+refusal s b unit first tried to charge false more a =
     let entry : Entry = enters.Rejected s.me unit.id.number in
     let enough : s.config.servers ≤ tried + 1 = ltb-false (tried + 1) s.config.servers more in
     let all = all_asked s.config first (tried + 1) b (putting s unit first (tried + 1)) a.servers enough refl in
@@ -74,27 +74,27 @@ refusal same s b unit first tried to charge false more a =
       with_rank s.me ended b,
       (with_rank s.me ended b, step, refl),
       free_agrees _ (with_rank s.me ended b) refl a.going (rank_changed b s.me ended (putting s unit first (tried + 1)) a.rank) a.servers a.caused (alone s b a.held),
-      ap (λ said. s.transcript ++ said) (sym (saying same b (with_rank s.me ended b) entry s.me (record { call = call_of unit; answer = answers.Rejected }) step told)),
+      ap (λ said. s.transcript ++ said) (sym (saying b (with_rank s.me ended b) entry s.me (record { call = call_of unit; answer = answers.Rejected }) step told)),
     )
 
-put_heard : IsSame → (s : State) (b : Bag) (unit : Unit) (first : Server) (tried : ℕ) (from : Server) (m : Message) → Awaits s b (waits_for.Put unit first tried) m
+put_heard : (s : State) (b : Bag) (unit : Unit) (first : Server) (tried : ℕ) (from : Server) (m : Message) → Awaits s b (waits_for.Put unit first tried) m
     → LawOf (said s (waits_for.Put unit first tried) (Some m)) s.me b (answer_call s (waits_for.Put unit first tried) from m)
-put_heard same s b unit first tried from (tells.Accepted to) a = by_test (is_for unit.id.number (asked s first tried) from to)
+put_heard s b unit first tried from (tells.Accepted to) a = by_test (is_for unit.id.number (asked s first tried) from to)
   where
     by_test : (t : Bool) → LawOf (said s (waits_for.Put unit first tried) (Some (tells.Accepted to))) s.me b (if t then Some (ends s [] (call_of unit) answers.Fine) else None)
     by_test true = heard s s b (call_of unit) answers.Fine a.rank a.servers a.caused (alone s b a.held) a.going refl refl refl
     by_test false = tt
-put_heard same s b unit first tried from (tells.Full to charge) a = by_test (is_for unit.id.number (asked s first tried) from to)
+put_heard s b unit first tried from (tells.Full to charge) a = by_test (is_for unit.id.number (asked s first tried) from to)
   where
     by_test : (t : Bool) → LawOf s.transcript s.me b (if t then Some (refused s unit first tried (nat_lt (tried + 1) s.config.servers)) else None)
-    by_test true = refusal same s b unit first tried to charge (nat_lt (tried + 1) s.config.servers) refl a
+    by_test true = refusal s b unit first tried to charge (nat_lt (tried + 1) s.config.servers) refl a
     by_test false = tt
-put_heard same s b unit first tried from (tells.Ended to end) a = by_test (is_for unit.id.number (asked s first tried) from to)
+put_heard s b unit first tried from (tells.Ended to end) a = by_test (is_for unit.id.number (asked s first tried) from to)
   where
     by_test : (t : Bool) → LawOf (said s (waits_for.Put unit first tried) (Some (tells.Ended to end))) s.me b (if t then Some (ends (record s { end = Some end }) [] (call_of unit) (answers.Ended end)) else None)
     by_test true = heard s (record s { end = Some end }) b (call_of unit) (answers.Ended end) a.rank a.servers a.caused (alone s b a.held) a.going refl refl refl
     by_test false = tt
-put_heard same s b unit first tried from _ a = tt
+put_heard s b unit first tried from _ a = tt
 
 -- Reserve.
 
@@ -123,15 +123,15 @@ fetch_heard s b request note from (tells.Bytes to body) a = by_test (is_for requ
     by_test false = tt
 fetch_heard s b request note from _ a = tt
 
-call_heard : IsSame → (s : State) (b : Bag) (p : Pending) (from : Server) (m : Message) → Awaits s b p m → LawOf (said s p (Some m)) s.me b (answer_call s p from m)
-call_heard same s b waits_for.Nothing from m a = tt
-call_heard same s b (waits_for.Put unit first tried) from m a = put_heard same s b unit first tried from m a
-call_heard same s b (waits_for.Reserve request types) from m a = reserve_heard s b request types from m a
-call_heard same s b (waits_for.Fetch request note) from m a = fetch_heard s b request note from m a
+call_heard : (s : State) (b : Bag) (p : Pending) (from : Server) (m : Message) → Awaits s b p m → LawOf (said s p (Some m)) s.me b (answer_call s p from m)
+call_heard s b waits_for.Nothing from m a = tt
+call_heard s b (waits_for.Put unit first tried) from m a = put_heard s b unit first tried from m a
+call_heard s b (waits_for.Reserve request types) from m a = reserve_heard s b request types from m a
+call_heard s b (waits_for.Fetch request note) from m a = fetch_heard s b request note from m a
 
 -- the same where the event has its stamp
-later_heard : IsSame → (s : State) (stamp : ℕ) (b : Bag) (p : Pending) (from : Server) (m : Message) → Awaits s b p m → LawOf (said s p (Some m)) s.me b (answer_call (ticked s stamp) p from m)
-later_heard same s stamp b p from m a = rw (said_ticked s stamp p m) (call_heard same (ticked s stamp) b p from m (record { rank = a.rank; servers = a.servers; caused = a.caused; held = a.held; none = a.none; going = a.going }))
+later_heard : (s : State) (stamp : ℕ) (b : Bag) (p : Pending) (from : Server) (m : Message) → Awaits s b p m → LawOf (said s p (Some m)) s.me b (answer_call (ticked s stamp) p from m)
+later_heard s stamp b p from m a = rw (said_ticked s stamp p m) (call_heard (ticked s stamp) b p from m (record { rank = a.rank; servers = a.servers; caused = a.caused; held = a.held; none = a.none; going = a.going }))
   where
     said_ticked : (s : State) (stamp : ℕ) (p : Pending) (m : Message) → said s p (Some m) ≡ said (ticked s stamp) p (Some m)
     said_ticked s stamp waits_for.Nothing m = refl
@@ -140,8 +140,8 @@ later_heard same s stamp b p from m a = rw (said_ticked s stamp p m) (call_heard
     said_ticked s stamp (waits_for.Fetch request note) m = refl
 
 -- the law of a letter
-pub hears : IsSame → (s : State) (from : Server) (letter : Letter) (x : Made) (b : Bag) → hear s from letter ≡ Some x → Agrees s (Some letter.message) b → IsFalse (has_due b) → Follows s (Some letter.message) b x
-hears same s from letter x b is a none = by_test (not s.finished && nat_lt letter.stamp (2 ^ 48)) refl is
+pub hears : (s : State) (from : Server) (letter : Letter) (x : Made) (b : Bag) → hear s from letter ≡ Some x → Agrees s (Some letter.message) b → IsFalse (has_due b) → Follows s (Some letter.message) b x
+hears s from letter x b is a none = by_test (not s.finished && nat_lt letter.stamp (2 ^ 48)) refl is
   where
     by_test : (t : Bool) → (not s.finished && nat_lt letter.stamp (2 ^ 48)) ≡ t → (if t then option_map made (answer_call (ticked s (letter_stamp s letter)) s.pending from letter.message) else None) ≡ Some x → Follows s (Some letter.message) b x
     by_test true may made_is =
@@ -154,5 +154,5 @@ hears same s from letter x b is a none = by_test (not s.finished && nat_lt lette
           none = none;
           going = going;
         } in
-        law_of_made (said s s.pending (Some letter.message)) s.me b (answer_call (ticked s (letter_stamp s letter)) s.pending from letter.message) x (later_heard same s (letter_stamp s letter) b s.pending from letter.message awaits) made_is
+        law_of_made (said s s.pending (Some letter.message)) s.me b (answer_call (ticked s (letter_stamp s letter)) s.pending from letter.message) x (later_heard s (letter_stamp s letter) b s.pending from letter.message awaits) made_is
     by_test false may made_is = absurd (cc)

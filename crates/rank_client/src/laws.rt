@@ -11,8 +11,6 @@ ghost use Rattle.rank_client.specs.Granted.{GrantsComeFirst};
 ghost use Rattle.rank_client.specs.State.{State};
 ghost use Rattle.rank_client.specs.Step.{Made, begin, hear};
 
-use bag_ledger::bag_laws;
-
 /// From a bag for whose rank the client stands, and in which no part is due, the entries of a step are steps of the bag, and the
 /// client stands for its rank afterwards. Its transcript is then what the ledger says of this rank. And exactly the letters
 /// that are expected have a step (`ExpectedAreHeard`), and a rank holds, fetches and fetched no unit that was not granted
@@ -24,6 +22,4 @@ pub fn client_laws()
         hear s from letter ≡ Some x → Agrees s (Some letter.message) b → IsFalse (has_due b) → Follows s (Some letter.message) b x }
     ensures expected_are_heard { ExpectedAreHeard }
     ensures grants_come_first { GrantsComeFirst }
-{
-    bag_laws();
-}
+{}

@@ -1,5 +1,5 @@
 use Rattle.std.proofs.Common.{◌≡◌, ◌<◌, ◌∷◌, arith}
-use Rattle.bag_ledger.specs.Bag.{start}
+use Rattle.bag_ledger.specs.Bag.{settled, start}
 use Rattle.bag_ledger.proofs.Charge.{run_within, start_within, start_tracked}
 use Rattle.bag_ledger.specs.declared.entries.Entry.TheVariants.{Rejected, NoCurrent, Over}
 use Rattle.bag_ledger.proofs.Fixed.{run_limit, run_servers}
@@ -11,7 +11,7 @@ use Rattle.bag_ledger.proofs.laws.run_laws.Goals as goal
 
 pub returns-clause-within_limit : goal.returns-clause-within_limit
 returns-clause-within_limit c = λ config ledger last run server.
-    let is = run_within (start config) last ledger run (start_tracked config.ranks config.servers config.limit) (start_within config.ranks config.servers config.limit) server in
+    let is = run_within settled (start config) last ledger run (start_tracked config.ranks config.servers config.limit) (start_within config.ranks config.servers config.limit) server in
     omega (arith, is, run_limit (start config) last ledger run)
 
 pub returns-clause-put_once : goal.returns-clause-put_once

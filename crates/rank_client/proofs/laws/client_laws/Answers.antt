@@ -5,10 +5,10 @@ use Rattle.rank_client.proofs.Hears.{hears}
 use Rattle.rank_client.proofs.laws.client_laws.Goals as goal
 
 pub returns-clause-begun : goal.returns-clause-begun
-returns-clause-begun c = begins c.bag_laws.ensures.same_step
+returns-clause-begun c = begins
 
 pub returns-clause-heard : goal.returns-clause-heard
-returns-clause-heard c = hears c.bag_laws.ensures.same_step
+returns-clause-heard c = hears
 
 pub returns-clause-expected_are_heard : goal.returns-clause-expected_are_heard
 returns-clause-expected_are_heard c = expected_are_heard
