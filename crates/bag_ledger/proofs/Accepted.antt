@@ -4,15 +4,17 @@ use Rattle.std.specs.Prelude.{option_and_then}
 use Rattle.std.proofs.lemmas.Bool.{false_from_ne_true}
 use Rattle.adlb_unit.specs.declared.names.UnitId.{UnitId}
 use Rattle.adlb_unit.specs.declared.units.Unit.{Unit}
+use Rattle.adlb_unit.specs.Ids.{same_unit}
+use Rattle.adlb_unit.proofs.Same.{same_unit_is}
 use Rattle.bag_ledger.specs.declared.entries.Entry.{Entry}
 use Rattle.bag_ledger.specs.declared.entries.Entry.TheVariants.{Putting, Accepted}
 use Rattle.bag_ledger.specs.declared.states.RankState.{RankState}
 use Rattle.bag_ledger.specs.declared.states.Status.TheVariants as does
-use Rattle.bag_ledger.specs.Bag.{Bag, empty, fresh, same_unit, rank_at, putting}
+use Rattle.bag_ledger.specs.Bag.{Bag, empty, fresh, rank_at, putting}
 use Rattle.bag_ledger.specs.Steps.{Legal, after, change_at, begun, ended}
 use Rattle.bag_ledger.specs.Runs.{IsRun}
 use Rattle.bag_ledger.specs.Words.{puts, accepts}
-use Rattle.bag_ledger.proofs.Tests.{some_is, same_unit_is}
+use Rattle.bag_ledger.proofs.Tests.{some_is}
 use Rattle.bag_ledger.proofs.Turns.{IsTurn, turn, taken_ranks, changed_here, changed_is, changed_keeps}
 use Rattle.bag_ledger.proofs.Once.{at_most_once}
 

@@ -8,6 +8,8 @@ use Rattle.adlb_unit.specs.declared.names.UnitId.{UnitId}
 use Rattle.adlb_unit.specs.declared.names.BatchId.{BatchId}
 use Rattle.adlb_unit.specs.declared.names.CommonRef.{CommonRef}
 use Rattle.adlb_unit.specs.declared.units.Unit.{Unit}
+use Rattle.adlb_unit.specs.Ids.{same_batch, same_unit}
+use Rattle.adlb_unit.proofs.Same.{same_unit_is}
 use Rattle.bag_ledger.specs.declared.entries.Entry.{Entry}
 use Rattle.bag_ledger.specs.declared.entries.Entry.TheVariants.{Accepted, Kept, Closed, Freed, Granted, Fetched, CommonFetched, Promised, Left, Arrived, Withdrawn}
 use Rattle.bag_ledger.specs.declared.states.RankState.{RankState}
@@ -16,11 +18,11 @@ use Rattle.bag_ledger.specs.declared.states.Part.{Part}
 use Rattle.bag_ledger.specs.declared.states.Promise.{Promise}
 use Rattle.bag_ledger.specs.declared.states.UnitPlace.{UnitPlace}
 use Rattle.bag_ledger.specs.declared.states.UnitPlace.TheVariants.{Free, Travelling, Pinned, Spent}
-use Rattle.bag_ledger.specs.Bag.{Bag, empty, rank_at, same_unit, same_batch, unit_of, promise_of, is_travelling, unit_charge, part_charge, promise_charge, charge, putting, keeping}
+use Rattle.bag_ledger.specs.Bag.{Bag, empty, rank_at, unit_of, promise_of, is_travelling, unit_charge, part_charge, promise_charge, charge, putting, keeping}
 use Rattle.bag_ledger.specs.Steps.{Fits, Stands, LegalWhere, after, with_part, moved, unpromised, shared, taken}
 use Rattle.bag_ledger.specs.Runs.{IsRunWhere}
 use Rattle.bag_ledger.specs.Words.{IsTracked}
-use Rattle.bag_ledger.proofs.Tests.{some_is, same_server_is, same_unit_is}
+use Rattle.bag_ledger.proofs.Tests.{some_is, same_server_is}
 use Rattle.bag_ledger.proofs.Lookups.{find_before, find_appended, sum_changed, sum_lowered, sum_filtered}
 use Rattle.bag_ledger.proofs.Moves.{moved_here, moved_keeps, moved_is, unpromised_other, unpromised_is}
 

@@ -5,11 +5,12 @@ use Rattle.adlb_unit.specs.declared.names.Rank.{Rank}
 use Rattle.adlb_unit.specs.declared.names.Server.{Server}
 use Rattle.adlb_unit.specs.declared.names.UnitId.{UnitId}
 use Rattle.adlb_unit.specs.declared.names.BatchId.{BatchId}
+use Rattle.adlb_unit.proofs.Same.{same_unit_from, same_unit_is}
 use Rattle.bag_ledger.specs.declared.entries.Entry.TheVariants.{Fetching, Fetched, CommonFetched}
 use Rattle.bag_ledger.specs.declared.states.Status.TheVariants as does
 use Rattle.bag_ledger.specs.Bag.{Bag}
 use Rattle.bag_ledger.specs.Step.{anything}
-use Rattle.bag_ledger.proofs.Tests.{IsTest, has_is, three, same_number, same_unit_is, same_unit_from, pinned_is, pinned_to_is, fetching_is, is_of_is, is_of_from, begins_is, begins_from, server_is, server_from, keeps_is, keeps_from}
+use Rattle.bag_ledger.proofs.Tests.{IsTest, has_is, three, same_number, pinned_is, pinned_to_is, fetching_is, is_of_is, is_of_from, begins_is, begins_from, server_is, server_from, keeps_is, keeps_from}
 
 pub fetching_test : (b : Bag) (rank : Rank) (call : ℕ) (id : UnitId) → IsTest b (Fetching rank call id)
 fetching_test b rank call id = (

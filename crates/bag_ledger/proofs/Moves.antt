@@ -1,12 +1,14 @@
 -- What a step leaves of the units and the promises that look-ups find.
 use Rattle.std.proofs.Common.{◌≡◌, ◌⊎◌, inl, inr, Bool, true, false, Some, None, refl, sym, ◌∙◌}
 use Rattle.adlb_unit.specs.declared.names.UnitId.{UnitId}
+use Rattle.adlb_unit.specs.Ids.{same_unit}
+use Rattle.adlb_unit.proofs.Same.{same_unit_is}
 use Rattle.bag_ledger.specs.declared.states.Placed.{Placed}
 use Rattle.bag_ledger.specs.declared.states.Promise.{Promise}
 use Rattle.bag_ledger.specs.declared.states.UnitPlace.{UnitPlace}
-use Rattle.bag_ledger.specs.Bag.{Bag, same_unit, unit_of, promise_of}
+use Rattle.bag_ledger.specs.Bag.{Bag, unit_of, promise_of}
 use Rattle.bag_ledger.specs.Steps.{moved, unpromised}
-use Rattle.bag_ledger.proofs.Tests.{some_is, same_unit_is}
+use Rattle.bag_ledger.proofs.Tests.{some_is}
 use Rattle.bag_ledger.proofs.Lookups.{find_changed, find_other, find_filtered, find_unfiltered}
 
 -- an id that is the one is not the other

@@ -6,10 +6,11 @@ use Rattle.adlb_unit.specs.declared.names.Server.{Server}
 use Rattle.adlb_unit.specs.declared.names.WorkType.{WorkType}
 use Rattle.adlb_unit.specs.declared.names.Target.{Target}
 use Rattle.adlb_unit.specs.declared.names.UnitId.{UnitId}
+use Rattle.adlb_unit.proofs.Same.{same_unit_from, same_unit_is}
 use Rattle.bag_ledger.specs.declared.entries.Entry.TheVariants.{Putting, Refused, Accepted, Rejected}
 use Rattle.bag_ledger.specs.Bag.{Bag, charge}
 use Rattle.bag_ledger.specs.Step.{anything}
-use Rattle.bag_ledger.proofs.Tests.{IsTest, has_is, four, same_unit_is, same_unit_from, same_number, putting_is, begins_is, begins_from, server_is, server_from}
+use Rattle.bag_ledger.proofs.Tests.{IsTest, has_is, four, same_number, putting_is, begins_is, begins_from, server_is, server_from}
 
 pub putting_test : (b : Bag) (rank : Rank) (call : ℕ) (kind : WorkType) (prio : ℤ) (target : Target) (answer : Option Rank) (body : List ℕ) → IsTest b (Putting rank call kind prio target answer body)
 putting_test b rank call kind prio target answer body =

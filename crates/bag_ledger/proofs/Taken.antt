@@ -5,16 +5,18 @@ use Rattle.adlb_unit.specs.declared.names.Server.{Server}
 use Rattle.adlb_unit.specs.declared.names.UnitId.{UnitId}
 use Rattle.adlb_unit.specs.declared.names.CommonRef.{CommonRef}
 use Rattle.adlb_unit.specs.declared.units.Unit.{Unit}
+use Rattle.adlb_unit.specs.Ids.{same_unit}
+use Rattle.adlb_unit.proofs.Same.{same_unit_is}
 use Rattle.bag_ledger.specs.declared.entries.Entry.{Entry}
 use Rattle.bag_ledger.specs.declared.entries.Entry.TheVariants.{Accepted, Kept, Granted, Fetched, Left, Arrived}
 use Rattle.bag_ledger.specs.declared.states.Placed.{Placed}
 use Rattle.bag_ledger.specs.declared.states.UnitPlace.{UnitPlace}
 use Rattle.bag_ledger.specs.declared.states.UnitPlace.TheVariants.{Free, Travelling, Pinned, Spent}
-use Rattle.bag_ledger.specs.Bag.{Bag, rank_at, same_unit, unit_of, putting, keeping}
+use Rattle.bag_ledger.specs.Bag.{Bag, rank_at, unit_of, putting, keeping}
 use Rattle.bag_ledger.specs.Steps.{Legal, after, moved, shared, taken}
 use Rattle.bag_ledger.specs.Runs.{IsRun}
 use Rattle.bag_ledger.specs.Words.{grants, fetches}
-use Rattle.bag_ledger.proofs.Tests.{some_is, same_unit_is}
+use Rattle.bag_ledger.proofs.Tests.{some_is}
 use Rattle.bag_ledger.proofs.Lookups.{find_before}
 use Rattle.bag_ledger.proofs.Moves.{moved_here, moved_other}
 use Rattle.bag_ledger.proofs.Charge.{unit_put}

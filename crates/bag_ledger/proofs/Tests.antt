@@ -11,6 +11,7 @@ use Rattle.adlb_unit.specs.declared.names.BatchId.{BatchId}
 use Rattle.adlb_unit.specs.declared.names.CommonRef.{CommonRef}
 use Rattle.adlb_unit.specs.declared.notes.Info.{Info}
 use Rattle.adlb_unit.specs.declared.units.Unit.{Unit}
+use Rattle.adlb_unit.proofs.Same.{same_batch_is, same_batch_from}
 use Rattle.bag_ledger.specs.declared.entries.Entry.{Entry}
 use Rattle.bag_ledger.specs.declared.states.RankState.{RankState}
 use Rattle.bag_ledger.specs.declared.states.Part.{Part}
@@ -18,7 +19,7 @@ use Rattle.bag_ledger.specs.declared.states.UnitPlace.{UnitPlace}
 use Rattle.bag_ledger.specs.declared.states.UnitPlace.TheVariants.{Free, Travelling, Pinned}
 use Rattle.bag_ledger.specs.declared.states.Status.{Status}
 use Rattle.bag_ledger.specs.declared.states.Status.TheVariants as does
-use Rattle.bag_ledger.specs.Bag.{Bag, rank_at, same_unit, same_batch, part_of, is_free_at, putting, keeping}
+use Rattle.bag_ledger.specs.Bag.{Bag, rank_at, part_of, is_free_at, putting, keeping}
 use Rattle.bag_ledger.specs.Steps.{Begins, IsServer, Keeps, Legal}
 use Rattle.bag_ledger.specs.Step.{has, is_running, is_closing, trying, fetching, counting, is_pinned_to, is_pinned, is_travelling_to, same_top, same_info, begins, is_server, keeps, is_of, legal}
 
@@ -69,26 +70,6 @@ same_server_is a b e = let is : a.0 ≡ b.0 = eqb-true a.0 b.0 e in rw (← is) 
 
 pub same_server_from : (a b : Server) → a ≡ b → (a.0 == b.0) ≡ true
 same_server_from a b e = eq-eqb a.0 b.0 (ap (λ (s : Server). s.0) e)
-
-pub same_unit_is : (a b : UnitId) → same_unit a b ≡ true → a ≡ b
-same_unit_is a b e =
-    let s = and_parts (a.rank.0 == b.rank.0) (a.number == b.number) e in
-    let ranks : a.rank.0 ≡ b.rank.0 = eqb-true a.rank.0 b.rank.0 s.0 in
-    let numbers : a.number ≡ b.number = eqb-true a.number b.number s.1 in
-    rw (← ranks, ← numbers) refl
-
-pub same_unit_from : (a b : UnitId) → a ≡ b → same_unit a b ≡ true
-same_unit_from a b e = rw (e, same_number b.rank.0, same_number b.number) refl
-
-pub same_batch_is : (a b : BatchId) → same_batch a b ≡ true → a ≡ b
-same_batch_is a b e =
-    let s = and_parts (a.rank.0 == b.rank.0) (a.number == b.number) e in
-    let ranks : a.rank.0 ≡ b.rank.0 = eqb-true a.rank.0 b.rank.0 s.0 in
-    let numbers : a.number ≡ b.number = eqb-true a.number b.number s.1 in
-    rw (← ranks, ← numbers) refl
-
-pub same_batch_from : (a b : BatchId) → a ≡ b → same_batch a b ≡ true
-same_batch_from a b e = rw (e, same_number b.rank.0, same_number b.number) refl
 
 pub is_of_is : (batch : BatchId) (common : Option CommonRef) → is_of batch common ≡ true → (c : CommonRef) × (common ≡ Some c) × (c.batch ≡ batch)
 is_of_is batch None e = absurd (cc)

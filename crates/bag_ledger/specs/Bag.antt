@@ -1,7 +1,6 @@
 -- The bag: what it keeps, and what is read off it.
-use Rattle.std.specs.Prelude.{ℕ, ◌+◌, ◌==◌, ℤ, int_le, Bool, true, false, ◌&&◌, not, List, [], ◌∷◌, length, map, filter, find, fold, replicate, sum_by, count_by, Option, Some, None, if◌then◌else◌, slice_get}
+use Rattle.std.specs.Prelude.{ℕ, ◌+◌, ◌==◌, Bool, true, false, ◌&&◌, not, List, [], ◌∷◌, length, map, filter, find, replicate, sum_by, Option, Some, None, if◌then◌else◌, slice_get}
 use Rattle.std.specs.List.{list_any, list_all, range_with_len}
-use Rattle.std.specs.Int.{int_max}
 use Rattle.adlb_unit.specs.declared.configs.Config.{Config}
 use Rattle.adlb_unit.specs.declared.names.Rank.{Rank}
 use Rattle.adlb_unit.specs.declared.names.Server.{Server}
@@ -10,6 +9,8 @@ use Rattle.adlb_unit.specs.declared.names.UnitId.{UnitId}
 use Rattle.adlb_unit.specs.declared.names.BatchId.{BatchId}
 use Rattle.adlb_unit.specs.declared.notes.Info.{Info}
 use Rattle.adlb_unit.specs.declared.units.Unit.{Unit}
+use Rattle.adlb_unit.specs.Ids.{same_batch, same_unit}
+use Rattle.adlb_unit.specs.Infos.{info_of_prios}
 use Rattle.adlb_unit.specs.Permit.{permitted}
 use Rattle.bag_ledger.specs.declared.states.RankState.{RankState}
 use Rattle.bag_ledger.specs.declared.states.Placed.{Placed}
@@ -54,13 +55,6 @@ abbrev pub start : Config → Bag
 start config = empty config.ranks config.servers config.limit
 
 -- Look-ups.
-
--- the ids are the same
-abbrev pub same_unit : UnitId → UnitId → Bool
-same_unit a b = (a.rank.0 == b.rank.0) && (a.number == b.number)
-
-abbrev pub same_batch : BatchId → BatchId → Bool
-same_batch a b = (a.rank.0 == b.rank.0) && (a.number == b.number)
 
 -- the state of the rank, if there is such a rank
 abbrev pub rank_at : Bag → Rank → Option RankState
@@ -200,15 +194,6 @@ settled b =
     && (length b.promises == 0) && not (list_any (λ u. is_travelling u.place) b.units) && none_fits b.units 0 b.ranks
 
 -- What is counted.
-
--- of units with these priorities: how many, the highest priority, and how many have it
-abbrev pub info_of_prios : List ℤ → Info
-info_of_prios [] = record { free = 0; top = None; at_top = 0 }
-info_of_prios (p ∷ ps) = record {
-  free = length (p ∷ ps);
-  top = Some (fold int_max p ps);
-  at_top = count_by (int_le (fold int_max p ps)) (p ∷ ps);
-}
 
 -- the units of the type that are free at the server
 abbrev pub free_of_kind : Bag → Server → WorkType → List Placed

@@ -1,5 +1,5 @@
 -- One step of the bag as a function, which computes: `legal` is `Legal` as a test, row for row.
-use Rattle.std.specs.Prelude.{ℕ, ◌+◌, ◌%◌, ◌==◌, nat_le, nat_lt, ℤ, Bool, true, false, ◌&&◌, not, List, length, Option, Some, None, is_none, if◌then◌else◌}
+use Rattle.std.specs.Prelude.{ℕ, ◌+◌, ◌==◌, nat_le, nat_lt, ℤ, Bool, true, false, ◌&&◌, not, List, length, Option, Some, None, is_none, if◌then◌else◌}
 use Rattle.std.specs.Ordering.{int_eq}
 use Rattle.adlb_unit.specs.declared.names.Rank.{Rank}
 use Rattle.adlb_unit.specs.declared.names.Server.{Server}
@@ -9,6 +9,8 @@ use Rattle.adlb_unit.specs.declared.names.BatchId.{BatchId}
 use Rattle.adlb_unit.specs.declared.names.CommonRef.{CommonRef}
 use Rattle.adlb_unit.specs.declared.notes.Info.{Info}
 use Rattle.adlb_unit.specs.Permit.{permitted}
+use Rattle.adlb_unit.specs.Targets.{home_of}
+use Rattle.adlb_unit.specs.Ids.{same_batch, same_unit}
 use Rattle.bag_ledger.specs.declared.entries.Entry.{Entry}
 use Rattle.bag_ledger.specs.declared.entries.Entry.TheVariants.{Putting, Refused, Accepted, Rejected, Keeping, Kept, Closing, Closed, Freed, Asked, Tried, Granted, Looked, NoCurrent, Fetching, Fetched, CommonFetched, Promised, Left, Arrived, Withdrawn, Counting, Counted, Done, Exhausted, Over, Finished}
 use Rattle.bag_ledger.specs.declared.states.RankState.{RankState}
@@ -17,7 +19,7 @@ use Rattle.bag_ledger.specs.declared.states.UnitPlace.{UnitPlace}
 use Rattle.bag_ledger.specs.declared.states.UnitPlace.TheVariants.{Pinned, Travelling}
 use Rattle.bag_ledger.specs.declared.states.Status.{Status}
 use Rattle.bag_ledger.specs.declared.states.Status.TheVariants as does
-use Rattle.bag_ledger.specs.Bag.{Bag, rank_at, same_unit, same_batch, unit_of, part_of, promise_of, is_free_at, is_placed_at, is_travelling, charge, putting, keeping, offer, wish, open_call, has_declined, all_declined, is_due, has_fit_at, settled, info_of}
+use Rattle.bag_ledger.specs.Bag.{Bag, rank_at, unit_of, part_of, promise_of, is_free_at, is_placed_at, is_travelling, charge, putting, keeping, offer, wish, open_call, has_declined, all_declined, is_due, has_fit_at, settled, info_of}
 use Rattle.bag_ledger.specs.Steps.{has_cause, in_turn, after}
 
 -- the value is there and passes the test
@@ -140,7 +142,7 @@ legal b (Withdrawn server id) =
 legal b (Counting rank call kind) = begins b rank call anything
 legal b (Counted server rank call info) =
     has (rank_at b rank) (λ r. has (counting r.status) (λ c. (c.0 == call) && is_server b server
-    && (server.0 == (rank.0 % b.servers)) && same_info info (info_of b server c.1)))
+    && (server.0 == home_of b.servers rank) && same_info info (info_of b server c.1)))
 legal b (Done rank call) = begins b rank call anything
 legal b Exhausted = settled b && not b.exhausted
 legal b (Over rank call end) = has (rank_at b rank) (λ r. has (open_call r.status) (λ c. c == call)) && has_cause b end

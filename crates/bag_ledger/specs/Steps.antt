@@ -1,5 +1,5 @@
 -- One step of the bag: where each entry is legal, and what it changes.
-use Rattle.std.specs.Prelude.{ℕ, zero, suc, ◌+◌, ◌%◌, ◌<◌, ◌≤◌, ◌≡◌, Bool, true, false, ◌||◌, not, List, [], ◌∷◌, ◌++◌, length, filter, Option, Some, None, IsTrue, IsFalse, option_and_then, if◌then◌else◌}
+use Rattle.std.specs.Prelude.{ℕ, zero, suc, ◌+◌, ◌<◌, ◌≤◌, ◌≡◌, Bool, true, false, ◌||◌, not, List, [], ◌∷◌, ◌++◌, length, filter, Option, Some, None, IsTrue, IsFalse, option_and_then, if◌then◌else◌}
 use Rattle.adlb_unit.specs.declared.names.Rank.{Rank}
 use Rattle.adlb_unit.specs.declared.names.Server.{Server}
 use Rattle.adlb_unit.specs.declared.names.WorkType.{WorkType}
@@ -10,6 +10,8 @@ use Rattle.adlb_unit.specs.declared.notes.End.{End}
 use Rattle.adlb_unit.specs.declared.notes.End.TheVariants as ends_by
 use Rattle.adlb_unit.specs.declared.units.Unit.{Unit}
 use Rattle.adlb_unit.specs.Permit.{permitted}
+use Rattle.adlb_unit.specs.Targets.{home_of}
+use Rattle.adlb_unit.specs.Ids.{same_batch, same_unit}
 use Rattle.bag_ledger.specs.declared.entries.Entry.{Entry}
 use Rattle.bag_ledger.specs.declared.entries.Entry.TheVariants.{Putting, Refused, Accepted, Rejected, Keeping, Kept, Closing, Closed, Freed, Asked, Tried, Granted, Looked, NoCurrent, Fetching, Fetched, CommonFetched, Promised, Left, Arrived, Withdrawn, Counting, Counted, Done, Exhausted, Over, Finished}
 use Rattle.bag_ledger.specs.declared.states.RankState.{RankState}
@@ -20,7 +22,7 @@ use Rattle.bag_ledger.specs.declared.states.UnitPlace.{UnitPlace}
 use Rattle.bag_ledger.specs.declared.states.UnitPlace.TheVariants.{Free, Travelling, Pinned, Spent}
 use Rattle.bag_ledger.specs.declared.states.Status.{Status}
 use Rattle.bag_ledger.specs.declared.states.Status.TheVariants as does
-use Rattle.bag_ledger.specs.Bag.{Bag, rank_at, same_unit, same_batch, unit_of, part_of, promise_of, is_placed_at, is_travelling, charge, putting, keeping, offer, wish, open_call, has_declined, all_declined, is_due, has_due, has_fit_at, settled, info_of}
+use Rattle.bag_ledger.specs.Bag.{Bag, rank_at, unit_of, part_of, promise_of, is_placed_at, is_travelling, charge, putting, keeping, offer, wish, open_call, has_declined, all_declined, is_due, has_due, has_fit_at, settled, info_of}
 
 -- Words of the conditions.
 
@@ -36,9 +38,9 @@ Begins b rank call r = Is b rank r × (r.status ≡ does.Running) × (r.next ≡
 abbrev pub IsServer : Bag → Server → Type 0
 IsServer b server = server.0 < b.servers
 
--- the home of a rank is its number modulo the number of servers
+-- the server is the home of the rank
 abbrev pub IsHome : Bag → Server → Rank → Type 0
-IsHome b server rank = IsServer b server × (server.0 ≡ rank.0 % b.servers)
+IsHome b server rank = IsServer b server × (server.0 ≡ home_of b.servers rank)
 
 -- the server takes so many bytes within its limit
 abbrev pub Fits : Bag → Server → ℕ → Type 0

@@ -6,13 +6,14 @@ use Rattle.adlb_unit.specs.declared.names.Server.{Server}
 use Rattle.adlb_unit.specs.declared.names.UnitId.{UnitId}
 use Rattle.adlb_unit.specs.declared.notes.End.{End}
 use Rattle.adlb_unit.specs.declared.notes.End.TheVariants as ends_by
+use Rattle.adlb_unit.specs.Ids.{same_unit}
 use Rattle.bag_ledger.specs.declared.entries.Entry.{Entry}
 use Rattle.bag_ledger.specs.declared.entries.Entry.TheVariants.{Putting, Refused, Accepted, Granted, Looked, Fetched, Done, Exhausted}
 use Rattle.bag_ledger.specs.declared.states.Placed.{Placed}
 use Rattle.bag_ledger.specs.declared.states.Promise.{Promise}
 use Rattle.bag_ledger.specs.declared.states.RankState.{RankState}
 use Rattle.bag_ledger.specs.declared.states.UnitPlace.TheVariants.{Travelling}
-use Rattle.bag_ledger.specs.Bag.{Bag, same_unit, unit_of, promise_of, is_travelling, is_asking, is_asking_or_finished, has_fit}
+use Rattle.bag_ledger.specs.Bag.{Bag, unit_of, promise_of, is_travelling, is_asking, is_asking_or_finished, has_fit}
 use Rattle.bag_ledger.specs.Steps.{Is, Stands}
 
 -- the entry puts the unit, accepts it, grants it, or gives its own bytes

@@ -13,10 +13,11 @@ use Rattle.std.proofs.lemmas.List.Elements.{All-head, All-tail, All-cons}
 use Rattle.adlb_unit.specs.declared.names.Server.{Server}
 use Rattle.adlb_unit.specs.declared.names.WorkType.{WorkType}
 use Rattle.adlb_unit.specs.declared.notes.Info.{Info}
+use Rattle.adlb_unit.specs.Infos.{info_of_prios}
 use Rattle.bag_ledger.specs.declared.states.Placed.{Placed}
 use Rattle.bag_ledger.specs.declared.states.UnitPlace.{UnitPlace}
 use Rattle.bag_ledger.specs.declared.states.UnitPlace.TheVariants.{Free, Travelling, Pinned, Spent}
-use Rattle.bag_ledger.specs.Bag.{info_of_prios, is_free_at}
+use Rattle.bag_ledger.specs.Bag.{is_free_at}
 use Rattle.bag_tables.specs.declared.counts.FreeCounts.{FreeCounts}
 use Rattle.bag_tables.specs.Keys.{by_kind, by_prio, free_key, kind_of, prio_of}
 use Rattle.bag_tables.specs.Tallies.{count_of, one_at}

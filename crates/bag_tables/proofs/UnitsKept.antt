@@ -5,10 +5,10 @@ use Rattle.std.specs.Option.{option_or}
 use Rattle.adlb_unit.specs.declared.names.Server.{Server}
 use Rattle.adlb_unit.specs.declared.names.UnitId.{UnitId}
 use Rattle.adlb_unit.specs.declared.units.Unit.{Unit}
+use Rattle.adlb_unit.specs.Ids.{same_unit}
 use Rattle.bag_ledger.specs.declared.states.Placed.{Placed}
 use Rattle.bag_ledger.specs.declared.states.UnitPlace.{UnitPlace}
 use Rattle.bag_ledger.specs.declared.states.UnitPlace.TheVariants.{Free, Travelling, Pinned, Spent}
-use Rattle.bag_ledger.specs.Bag.{same_unit}
 use Rattle.bag_ledger.specs.Steps.{change_at}
 use Rattle.bag_tables.specs.declared.places.Places.{Places}
 use Rattle.bag_tables.specs.declared.charges.Charges.{Charges}

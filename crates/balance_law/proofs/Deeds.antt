@@ -8,6 +8,8 @@ use Rattle.adlb_unit.specs.declared.names.CommonRef.{CommonRef}
 use Rattle.adlb_unit.specs.declared.notes.End.{End}
 use Rattle.adlb_unit.specs.declared.notes.UnitNote.{UnitNote}
 use Rattle.adlb_unit.specs.declared.units.Unit.{Unit}
+use Rattle.adlb_unit.specs.Ids.{same_unit}
+use Rattle.adlb_unit.proofs.Same.{same_unit_is}
 use Rattle.bag_ledger.specs.declared.entries.Entry.{Entry}
 use Rattle.bag_ledger.specs.declared.entries.Entry.TheVariants.{Putting, Refused, Accepted, Rejected, Keeping, Kept, Closing, Closed, Asked, Tried, Granted, Looked, NoCurrent, Fetching, Fetched, CommonFetched, Counting, Counted, Done, Over, Finished}
 use Rattle.bag_ledger.specs.declared.entries.Call.{Call}
@@ -19,10 +21,10 @@ use Rattle.bag_ledger.specs.declared.states.Placed.{Placed}
 use Rattle.bag_ledger.specs.declared.states.UnitPlace.TheVariants.{Free, Pinned}
 use Rattle.bag_ledger.specs.declared.states.Status.{Status}
 use Rattle.bag_ledger.specs.declared.states.Status.TheVariants as does
-use Rattle.bag_ledger.specs.Bag.{Bag, rank_at, same_unit, unit_of, putting, keeping, offer, wish, open_call, is_asking}
+use Rattle.bag_ledger.specs.Bag.{Bag, rank_at, unit_of, putting, keeping, offer, wish, open_call, is_asking}
 use Rattle.bag_ledger.specs.Steps.{Is, Legal, after, change_at, begun, ended, declined_by, own_fetched, has_cause}
 use Rattle.bag_ledger.specs.Runs.{says, answered, call_of, note_of}
-use Rattle.bag_ledger.proofs.Tests.{some_is, same_unit_is}
+use Rattle.bag_ledger.proofs.Tests.{some_is}
 use Rattle.bag_ledger.proofs.Moves.{moved_here}
 use Rattle.bag_ledger.proofs.Charge.{unit_put}
 use Rattle.bag_ledger.proofs.Turns.{taken_ranks}

@@ -17,6 +17,7 @@ use Rattle.adlb_unit.specs.declared.notes.UnitNote.{UnitNote}
 use Rattle.adlb_unit.specs.declared.units.Unit.{Unit}
 use Rattle.adlb_unit.proofs.Permitted.{for_only, for_soft}
 use Rattle.adlb_unit.specs.Permit.{is_for, permitted}
+use Rattle.adlb_unit.specs.Ids.{same_unit}
 use Rattle.bag_ledger.specs.declared.entries.Entry.{Entry}
 use Rattle.bag_ledger.specs.declared.entries.Entry.TheVariants.{Accepted, Kept, Done, Exhausted}
 use Rattle.bag_ledger.specs.declared.entries.Call.TheVariants as calls_to
@@ -27,7 +28,7 @@ use Rattle.bag_ledger.specs.declared.states.UnitPlace.{UnitPlace}
 use Rattle.bag_ledger.specs.declared.states.UnitPlace.TheVariants.{Free, Travelling, Pinned, Spent}
 use Rattle.bag_ledger.specs.declared.states.Status.{Status}
 use Rattle.bag_ledger.specs.declared.states.Status.TheVariants as does
-use Rattle.bag_ledger.specs.Bag.{Bag, rank_at, same_unit, is_asking, is_asking_or_finished, is_free, is_travelling, has_fit, putting, keeping}
+use Rattle.bag_ledger.specs.Bag.{Bag, rank_at, is_asking, is_asking_or_finished, is_free, is_travelling, has_fit, putting, keeping}
 use Rattle.bag_ledger.specs.Steps.{Is, Legal, after, change_first, shared, taken, kept}
 use Rattle.bag_ledger.specs.Runs.{says, call_of}
 use Rattle.bag_ledger.specs.Words.{IsSettled}

@@ -7,6 +7,8 @@ use Rattle.adlb_unit.specs.declared.names.Server.{Server}
 use Rattle.adlb_unit.specs.declared.names.UnitId.{UnitId}
 use Rattle.adlb_unit.specs.declared.names.CommonRef.{CommonRef}
 use Rattle.adlb_unit.specs.declared.units.Unit.{Unit}
+use Rattle.adlb_unit.specs.Ids.{same_unit}
+use Rattle.adlb_unit.proofs.Same.{same_unit_is}
 use Rattle.bag_ledger.specs.declared.entries.Entry.{Entry}
 use Rattle.bag_ledger.specs.declared.entries.Entry.TheVariants.{Accepted, Kept, Granted, Fetched, Left, Arrived}
 use Rattle.bag_ledger.specs.declared.states.RankState.{RankState}
@@ -14,9 +16,9 @@ use Rattle.bag_ledger.specs.declared.states.Placed.{Placed}
 use Rattle.bag_ledger.specs.declared.states.UnitPlace.{UnitPlace}
 use Rattle.bag_ledger.specs.declared.states.UnitPlace.TheVariants.{Free, Travelling, Pinned, Spent}
 use Rattle.bag_ledger.specs.declared.states.Status.TheVariants as does
-use Rattle.bag_ledger.specs.Bag.{Bag, rank_at, same_unit, unit_of, putting, keeping}
+use Rattle.bag_ledger.specs.Bag.{Bag, rank_at, unit_of, putting, keeping}
 use Rattle.bag_ledger.specs.Steps.{Is, Legal, after, moved, shared, taken}
-use Rattle.bag_ledger.proofs.Tests.{some_is, same_unit_is}
+use Rattle.bag_ledger.proofs.Tests.{some_is}
 use Rattle.bag_ledger.proofs.Lookups.{find_before, sum_changed}
 use Rattle.bag_ledger.proofs.Moves.{moved_other}
 use Rattle.bag_ledger.proofs.Charge.{unit_put}

@@ -5,6 +5,7 @@ use Rattle.adlb_unit.specs.declared.names.Rank.{Rank}
 use Rattle.adlb_unit.specs.declared.names.UnitId.{UnitId}
 use Rattle.adlb_unit.specs.declared.notes.UnitNote.{UnitNote}
 use Rattle.adlb_unit.specs.declared.units.Unit.{Unit}
+use Rattle.adlb_unit.specs.Ids.{same_unit}
 use Rattle.bag_ledger.specs.declared.entries.Entry.{Entry}
 use Rattle.bag_ledger.specs.declared.entries.Call.{Call}
 use Rattle.bag_ledger.specs.declared.entries.Call.TheVariants as calls_to
@@ -14,7 +15,7 @@ use Rattle.bag_ledger.specs.declared.entries.Said.{Said}
 use Rattle.bag_ledger.specs.declared.states.Placed.{Placed}
 use Rattle.bag_ledger.specs.declared.states.Status.{Status}
 use Rattle.bag_ledger.specs.declared.states.UnitPlace.TheVariants.{Pinned}
-use Rattle.bag_ledger.specs.Bag.{Bag, unit_of, same_unit}
+use Rattle.bag_ledger.specs.Bag.{Bag, unit_of}
 use Rattle.bag_ledger.specs.Runs.{note_of}
 use Rattle.bag_ledger.proofs.Tests.{some_is, same_number}
 use Rattle.balance_law.specs.Balanced.{IsEndedWell}

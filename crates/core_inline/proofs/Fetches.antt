@@ -11,6 +11,7 @@ use Rattle.adlb_unit.specs.Totals.{total_of}
 use Rattle.adlb_unit.specs.declared.names.Rank.{Rank}
 use Rattle.adlb_unit.specs.declared.names.Server.{Server}
 use Rattle.adlb_unit.specs.declared.notes.UnitNote.{UnitNote}
+use Rattle.adlb_unit.specs.Ids.{same_unit}
 use Rattle.bag_ledger.specs.declared.entries.Answer.TheVariants as answers
 use Rattle.bag_ledger.specs.declared.entries.Call.TheVariants as calls_to
 use Rattle.bag_ledger.specs.declared.entries.Entry.{Entry}
@@ -21,7 +22,7 @@ use Rattle.bag_ledger.specs.declared.states.RankState.{RankState}
 use Rattle.bag_ledger.specs.declared.states.Status.TheVariants as does
 use Rattle.bag_ledger.specs.declared.states.UnitPlace.{UnitPlace}
 use Rattle.bag_ledger.specs.declared.states.UnitPlace.TheVariants.{Pinned, Spent}
-use Rattle.bag_ledger.specs.Bag.{Bag, is_placed_at, rank_at, same_unit}
+use Rattle.bag_ledger.specs.Bag.{Bag, is_placed_at, rank_at}
 use Rattle.bag_ledger.specs.Runs.{IsRun, answered, calls_from, own_answer, says}
 use Rattle.bag_ledger.specs.Steps.{after, ended, moved, own_fetched, with_rank}
 use Rattle.bag_ledger.proofs.Tests.{same_number, same_server_is, some_is}

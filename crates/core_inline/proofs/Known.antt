@@ -6,18 +6,20 @@ use Rattle.std.proofs.lemmas.List.Folds.{find-append}
 use Rattle.adlb_unit.specs.declared.names.Server.{Server}
 use Rattle.adlb_unit.specs.declared.names.UnitId.{UnitId}
 use Rattle.adlb_unit.specs.declared.notes.UnitNote.{UnitNote}
+use Rattle.adlb_unit.specs.Ids.{same_unit}
+use Rattle.adlb_unit.proofs.Same.{same_unit_is}
 use Rattle.bag_ledger.specs.declared.entries.Answer.TheVariants as answers
 use Rattle.bag_ledger.specs.declared.entries.Call.TheVariants as calls_to
 use Rattle.bag_ledger.specs.declared.entries.Said.{Said}
 use Rattle.bag_ledger.specs.declared.states.Placed.{Placed}
 use Rattle.bag_ledger.specs.declared.states.UnitPlace.{UnitPlace}
 use Rattle.bag_ledger.specs.declared.states.UnitPlace.TheVariants.{Free, Pinned, Spent}
-use Rattle.bag_ledger.specs.Bag.{is_free, same_unit}
+use Rattle.bag_ledger.specs.Bag.{is_free}
 use Rattle.bag_ledger.specs.Runs.{note_of}
 use Rattle.bag_ledger.specs.Steps.{change_first}
 use Rattle.bag_ledger.proofs.Lookups.{find_changed, find_other, find_before, find_unfiltered}
 use Rattle.bag_ledger.proofs.Moves.{apart}
-use Rattle.bag_ledger.proofs.Tests.{same_number, same_unit_is, some_is}
+use Rattle.bag_ledger.proofs.Tests.{same_number, some_is}
 use Rattle.rank_client.specs.Calls.{fetches, granted, grants, is_fetched, is_granted}
 use Rattle.rank_client.proofs.Begins.{found_is}
 use Rattle.rank_client.proofs.Transcripts.{fetched_more, granted_more}

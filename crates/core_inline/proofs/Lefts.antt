@@ -6,10 +6,11 @@ use Rattle.std.specs.Option.{option_map}
 use Rattle.adlb_unit.specs.declared.names.Rank.{Rank}
 use Rattle.adlb_unit.specs.declared.names.Server.{Server}
 use Rattle.adlb_unit.specs.declared.names.UnitId.{UnitId}
+use Rattle.adlb_unit.specs.Ids.{same_unit}
 use Rattle.bag_ledger.specs.declared.states.Placed.{Placed as Lodged}
 use Rattle.bag_ledger.specs.declared.states.UnitPlace.{UnitPlace}
 use Rattle.bag_ledger.specs.declared.states.UnitPlace.TheVariants.{Free, Travelling, Pinned, Spent}
-use Rattle.bag_ledger.specs.Bag.{Bag, same_unit, unit_of}
+use Rattle.bag_ledger.specs.Bag.{Bag, unit_of}
 use Rattle.bag_ledger.proofs.Tests.{same_number, same_server_is, some_is}
 use Rattle.server_core.specs.declared.states.LeftUnit.{LeftUnit}
 use Rattle.server_core.proofs.Finds.{find_is}

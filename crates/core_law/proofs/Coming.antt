@@ -17,6 +17,8 @@ use Rattle.adlb_unit.specs.declared.notes.End.{End}
 use Rattle.adlb_unit.specs.declared.notes.End.TheVariants as ends_by
 use Rattle.adlb_unit.specs.declared.notes.UnitNote.{UnitNote}
 use Rattle.adlb_unit.specs.declared.units.Unit.{Unit}
+use Rattle.adlb_unit.specs.Ids.{same_unit}
+use Rattle.adlb_unit.proofs.Same.{same_unit_is}
 use Rattle.bag_ledger.specs.declared.entries.Answer.TheVariants as answers
 use Rattle.bag_ledger.specs.declared.entries.Call.{Call}
 use Rattle.bag_ledger.specs.declared.entries.Call.TheVariants as calls_to
@@ -28,13 +30,13 @@ use Rattle.bag_ledger.specs.declared.states.RankState.{RankState}
 use Rattle.bag_ledger.specs.declared.states.Status.TheVariants as does
 use Rattle.bag_ledger.specs.declared.states.UnitPlace.{UnitPlace}
 use Rattle.bag_ledger.specs.declared.states.UnitPlace.TheVariants.{Free, Pinned, Spent}
-use Rattle.bag_ledger.specs.Bag.{Bag, putting, rank_at, same_unit, unit_of}
+use Rattle.bag_ledger.specs.Bag.{Bag, putting, rank_at, unit_of}
 use Rattle.bag_ledger.specs.Runs.{IsRun, calls_from, note_of, said_by, says}
 use Rattle.bag_ledger.specs.Runs as runs
 use Rattle.bag_ledger.specs.Steps.{Legal, after, declined_by, ended, moved, own_fetched, shared, taken, with_rank}
 use Rattle.bag_ledger.proofs.Lookups.{find_appended, find_before}
 use Rattle.bag_ledger.proofs.Moves.{moved_here, moved_is, moved_other}
-use Rattle.bag_ledger.proofs.Tests.{same_unit_is, some_is}
+use Rattle.bag_ledger.proofs.Tests.{some_is}
 use Rattle.bag_ledger.proofs.Turns.{changed_here}
 use Rattle.rank_client.specs.declared.pendings.Pending.{Pending}
 use Rattle.rank_client.specs.declared.pendings.Pending.TheVariants as waits_for

@@ -9,14 +9,15 @@ use Rattle.adlb_unit.specs.declared.names.Rank.{Rank}
 use Rattle.adlb_unit.specs.declared.names.Server.{Server}
 use Rattle.adlb_unit.specs.declared.names.UnitId.{UnitId}
 use Rattle.adlb_unit.specs.declared.units.Unit.{Unit as Work}
-use Rattle.bag_ledger.specs.Bag.{Bag, same_unit, unit_charge, unit_of}
+use Rattle.adlb_unit.specs.Ids.{same_unit}
+use Rattle.adlb_unit.proofs.Same.{same_unit_is}
+use Rattle.bag_ledger.specs.Bag.{Bag, unit_charge, unit_of}
 use Rattle.bag_ledger.specs.Steps.{moved}
 use Rattle.bag_ledger.specs.declared.states.Placed.{Placed as Lodged}
 use Rattle.bag_ledger.specs.declared.states.UnitPlace.{UnitPlace}
 use Rattle.bag_ledger.specs.declared.states.UnitPlace.TheVariants.{Free, Pinned, Spent}
 use Rattle.bag_ledger.proofs.Lookups.{sum_changed}
 use Rattle.bag_ledger.proofs.Moves.{moved_here, moved_other}
-use Rattle.bag_ledger.proofs.Tests.{same_unit_is}
 use Rattle.work_queue.specs.declared.placing.Placed.{Placed}
 use Rattle.server_core.specs.Agreement.{Agrees, HoldsUnits, of_id, pin_at, slot_of}
 use Rattle.server_core.specs.Rules.{unit_with}

@@ -1,9 +1,11 @@
 -- Small runs, by computation.
-use Rattle.std.proofs.Common.{◌≡◌, ℕ, pos, List, [], ◌∷◌, Option, Some, None, refl, replicate, length, arith}
+use Rattle.std.proofs.Common.{◌≡◌, ℕ, ◌-◌, ◌^◌, pos, List, map, [], ◌∷◌, Option, Some, None, refl, replicate, length, arith}
+use Rattle.std.specs.Prelude.{option_and_then}
 use Rattle.std.specs.Option.{option_map}
 use Rattle.adlb_unit.specs.declared.actors.Actor.{Actor}
 use Rattle.adlb_unit.specs.declared.actors.Actor.TheVariants as by
 use Rattle.adlb_unit.specs.declared.configs.Config.{Config}
+use Rattle.adlb_unit.specs.declared.letters.Letter.{Letter}
 use Rattle.adlb_unit.specs.declared.names.Target.TheVariants.{Any}
 use Rattle.adlb_unit.specs.declared.names.UnitId.{UnitId}
 use Rattle.adlb_unit.specs.declared.notes.End.TheVariants as ends_by
@@ -14,7 +16,7 @@ use Rattle.bag_ledger.specs.declared.entries.Entry.TheVariants as enters
 use Rattle.rank_client.specs.Calls.{is_fetched, is_granted}
 use Rattle.core_run.specs.declared.events.Event.{Event}
 use Rattle.core_run.specs.declared.events.Event.TheVariants as occurs
-use Rattle.core_run.specs.World.{World, start, post, rank_named, server_named}
+use Rattle.core_run.specs.World.{World, happens, start, post, rank_named, server_named}
 use Rattle.core_run.specs.Runs.{run, transcript}
 use Rattle.bag_ledger.specs.Runs.{calls}
 
@@ -125,3 +127,17 @@ transcript_is_behind = refl
 ledger_is_ahead : told_after two_servers (put ∷ ask 0 ∷ []) ≡ Some 1
 unfolding two_servers rank server put ask told_after post
 ledger_is_ahead = refl
+
+-- that no letter is stuck holds of stamps that are given: the put of this world bears the last of them, or one past it
+put_stamped : ℕ → Option (List Entry)
+put_stamped stamp =
+    option_and_then (λ (w : World). option_map (λ (x : World). x.ledger) (happens (record w { links = map (λ row. map (λ letters. map (λ (l : Letter). record l { stamp = stamp }) letters) row) w.links }) (ask 0)))
+    (run (start one_server) (put ∷ []))
+
+last_stamp_is_handled : put_stamped (2 ^ 48 - 1) ≡ Some (putting 0 ∷ enters.Accepted (server_named 0) (unit 0) ∷ [])
+unfolding one_server rank server unit put putting ask put_stamped post
+last_stamp_is_handled = refl
+
+stuck_past_the_stamps : put_stamped (2 ^ 48) ≡ None
+unfolding one_server rank server put ask put_stamped post
+stuck_past_the_stamps = refl

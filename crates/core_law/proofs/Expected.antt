@@ -6,6 +6,7 @@ use Rattle.core_law.proofs.RankShapes.{asked_busy}
 use Rattle.core_law.proofs.Fifo.{front_beside, front_held, part_le}
 use Rattle.server_core.proofs.Once.{none_passes}
 use Rattle.server_core.proofs.Finds.{find_is, there_find}
+use Rattle.adlb_unit.specs.Ids.{same_unit}
 use Rattle.bag_ledger.specs.declared.states.Status.TheVariants as does_in
 use Rattle.server_core.specs.declared.standings.Standing.TheVariants as does
 use Rattle.server_core.specs.declared.standings.Standing.{Standing}
@@ -33,7 +34,7 @@ use Rattle.adlb_unit.specs.declared.messages.Message.{Message}
 use Rattle.adlb_unit.specs.declared.messages.Message.TheVariants as tells
 use Rattle.adlb_unit.specs.declared.names.Rank.{Rank}
 use Rattle.adlb_unit.specs.declared.names.Server.{Server}
-use Rattle.bag_ledger.specs.Bag.{Bag, rank_at, promise_of, same_unit, unit_of}
+use Rattle.bag_ledger.specs.Bag.{Bag, rank_at, promise_of, unit_of}
 use Rattle.std.specs.Prelude.{option_and_then, nat_le, nat_lt}
 use Rattle.std.proofs.lemmas.List.Elements.{All-contains, Contains-push}
 use Rattle.core_run.specs.declared.events.Event.{Event}

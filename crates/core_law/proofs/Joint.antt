@@ -1,6 +1,6 @@
 -- With one rank: the ledger is a run to a bag for whose rank the client stands, and with which each server agrees.
 use Rattle.adlb_unit.specs.declared.names.UnitId.{UnitId}
-use Rattle.bag_ledger.proofs.Tests.{same_unit_is}
+use Rattle.adlb_unit.proofs.Same.{same_unit_is}
 use Rattle.std.proofs.lemmas.List.Elements.{All-contains, Contains-push}
 use Rattle.core_law.proofs.Taken.{IsLast}
 use Rattle.core_law.proofs.Gone.{IsFetching, IsGone, Knows}

@@ -13,6 +13,8 @@ use Rattle.adlb_unit.specs.declared.notes.End.{End}
 use Rattle.adlb_unit.specs.declared.notes.End.TheVariants as ends_by
 use Rattle.adlb_unit.specs.declared.notes.UnitNote.{UnitNote}
 use Rattle.adlb_unit.specs.declared.units.Unit.{Unit}
+use Rattle.adlb_unit.specs.Ids.{same_unit}
+use Rattle.adlb_unit.proofs.Same.{same_unit_is}
 use Rattle.bag_ledger.specs.declared.entries.Entry.{Entry}
 use Rattle.bag_ledger.specs.declared.entries.Entry.TheVariants as enters
 use Rattle.bag_ledger.specs.declared.states.Part.{Part}
@@ -21,11 +23,11 @@ use Rattle.bag_ledger.specs.declared.states.Promise.{Promise}
 use Rattle.bag_ledger.specs.declared.states.RankState.{RankState}
 use Rattle.bag_ledger.specs.declared.states.UnitPlace.{UnitPlace}
 use Rattle.bag_ledger.specs.declared.states.UnitPlace.TheVariants.{Free, Pinned, Spent, Travelling}
-use Rattle.bag_ledger.specs.Bag.{Bag, keeping, putting, rank_at, same_unit, unit_of}
+use Rattle.bag_ledger.specs.Bag.{Bag, keeping, putting, rank_at, unit_of}
 use Rattle.bag_ledger.specs.Steps.{Steps, after, change_at, kept, moved, shared, taken, with_rank}
 use Rattle.bag_ledger.proofs.Lookups.{find_before}
 use Rattle.bag_ledger.proofs.Moves.{moved_other}
-use Rattle.bag_ledger.proofs.Tests.{same_unit_is, some_is}
+use Rattle.bag_ledger.proofs.Tests.{some_is}
 use Rattle.rank_client.specs.Agreement.{Agrees, IsCaused, IsHeld, holds, rank_of}
 use Rattle.rank_client.specs.State.{State as Client}
 use Rattle.core_law.specs.Others.{ClientsStay, teller, tells_of}

@@ -9,13 +9,14 @@ use Rattle.adlb_unit.specs.declared.names.Server.{Server}
 use Rattle.adlb_unit.specs.declared.names.BatchId.{BatchId}
 use Rattle.adlb_unit.specs.declared.names.CommonRef.{CommonRef}
 use Rattle.adlb_unit.specs.declared.units.Unit.{Unit}
+use Rattle.adlb_unit.specs.Ids.{same_batch}
 use Rattle.bag_ledger.specs.declared.entries.Entry.{Entry}
 use Rattle.bag_ledger.specs.declared.entries.Entry.TheVariants.{Putting, Refused, Accepted, Rejected, Keeping, Kept, Closing, Closed, Freed, Asked, Tried, Granted, Looked, NoCurrent, Fetching, Fetched, CommonFetched, Counting, Counted, Done, Over, Finished}
 use Rattle.bag_ledger.specs.declared.states.RankState.{RankState}
 use Rattle.bag_ledger.specs.declared.states.Part.{Part}
 use Rattle.bag_ledger.specs.declared.states.UnitPlace.TheVariants.{Pinned, Spent}
 use Rattle.bag_ledger.specs.declared.states.Status.TheVariants as does
-use Rattle.bag_ledger.specs.Bag.{Bag, start, fresh, rank_at, unit_of, same_batch, putting, keeping}
+use Rattle.bag_ledger.specs.Bag.{Bag, start, fresh, rank_at, unit_of, putting, keeping}
 use Rattle.bag_ledger.specs.Steps.{after, begun, change_at, change_first, declined_by, ended, kept, moved, own_fetched, shared, taken, with_part, with_rank}
 use Rattle.ledger_checker.specs.Room.{HasRoom}
 

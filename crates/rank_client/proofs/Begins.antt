@@ -10,6 +10,7 @@ use Rattle.adlb_unit.specs.declared.names.UnitId.{UnitId}
 use Rattle.adlb_unit.specs.declared.names.WorkType.{WorkType}
 use Rattle.adlb_unit.specs.declared.notes.End.{End}
 use Rattle.adlb_unit.specs.declared.notes.UnitNote.{UnitNote}
+use Rattle.adlb_unit.specs.Ids.{same_unit}
 use Rattle.bag_ledger.specs.declared.entries.Answer.TheVariants as answers
 use Rattle.bag_ledger.specs.declared.entries.Call.{Call}
 use Rattle.bag_ledger.specs.declared.entries.Call.TheVariants as calls_to
@@ -20,7 +21,7 @@ use Rattle.bag_ledger.specs.declared.states.RankState.{RankState}
 use Rattle.bag_ledger.specs.declared.states.Status.{Status}
 use Rattle.bag_ledger.specs.declared.states.Status.TheVariants as does
 use Rattle.bag_ledger.specs.declared.states.UnitPlace.TheVariants.{Pinned}
-use Rattle.bag_ledger.specs.Bag.{Bag, has_due, rank_at, same_unit}
+use Rattle.bag_ledger.specs.Bag.{Bag, has_due, rank_at}
 use Rattle.bag_ledger.specs.Bag as bag
 use Rattle.bag_ledger.specs.Runs.{IsRun, calls_from, says}
 use Rattle.bag_ledger.specs.Runs as runs

@@ -7,13 +7,13 @@ use Rattle.adlb_unit.specs.declared.configs.Config.{Config}
 use Rattle.adlb_unit.specs.declared.messages.Message.TheVariants as tells
 use Rattle.adlb_unit.specs.declared.names.UnitId.{UnitId}
 use Rattle.adlb_unit.specs.declared.notes.UnitNote.{UnitNote}
+use Rattle.adlb_unit.specs.Ids.{same_unit}
 use Rattle.bag_ledger.specs.declared.entries.Entry.TheVariants as enters
 use Rattle.bag_ledger.specs.declared.entries.Said.{Said}
 use Rattle.rank_client.specs.declared.pendings.Pending.{Pending}
 use Rattle.rank_client.specs.declared.pendings.Pending.TheVariants as waits_for
 use Rattle.rank_client.specs.declared.rooms.Room.{Room}
 use Rattle.rank_client.specs.declared.steps.ClientStep.{ClientStep}
-use Rattle.bag_ledger.specs.Bag.{same_unit}
 use Rattle.rank_client.specs.Inside.{HasRoom, IsFresh, IsSound, awaited, gives}
 use Rattle.rank_client.specs.Rules.{asks, fetched, held}
 use Rattle.rank_client.specs.State.{State}

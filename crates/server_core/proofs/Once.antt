@@ -5,10 +5,10 @@ use Rattle.std.proofs.lemmas.Bool.{false_from_ne_true, or_cases}
 use Rattle.std.proofs.lemmas.List.{get_or_default}
 use Rattle.std.proofs.lemmas.List.Folds.{find-append}
 use Rattle.adlb_unit.specs.declared.names.UnitId.{UnitId}
-use Rattle.bag_ledger.specs.Bag.{same_unit}
+use Rattle.adlb_unit.specs.Ids.{same_unit}
+use Rattle.adlb_unit.proofs.Same.{same_unit_from, same_unit_is}
 use Rattle.bag_ledger.specs.Steps.{change_first}
 use Rattle.bag_ledger.specs.declared.states.Placed.{Placed as Lodged}
-use Rattle.bag_ledger.proofs.Tests.{same_unit_from, same_unit_is}
 use Rattle.work_queue.proofs.Ids.{same_is}
 use Rattle.work_queue.specs.Queue.{id_of, same_id}
 use Rattle.work_queue.specs.declared.placing.Placed.{Placed}

@@ -8,14 +8,16 @@ use Rattle.adlb_unit.specs.declared.names.Rank.{Rank}
 use Rattle.adlb_unit.specs.declared.names.Server.{Server}
 use Rattle.adlb_unit.specs.declared.names.UnitId.{UnitId}
 use Rattle.adlb_unit.specs.declared.units.Unit.{Unit as Work}
-use Rattle.bag_ledger.specs.Bag.{same_unit, unit_charge}
+use Rattle.adlb_unit.specs.Ids.{same_unit}
+use Rattle.adlb_unit.proofs.Same.{same_unit_is}
+use Rattle.bag_ledger.specs.Bag.{unit_charge}
 use Rattle.bag_ledger.specs.Steps.{change_first}
 use Rattle.bag_ledger.specs.declared.states.Placed.{Placed as Lodged}
 use Rattle.bag_ledger.specs.declared.states.UnitPlace.{UnitPlace}
 use Rattle.bag_ledger.specs.declared.states.UnitPlace.TheVariants.{Free, Pinned, Spent}
 use Rattle.bag_ledger.proofs.Lookups.{find_changed, find_filtered, find_other, find_unfiltered, sum_changed}
 use Rattle.bag_ledger.proofs.Moves.{apart}
-use Rattle.bag_ledger.proofs.Tests.{same_number, same_unit_is}
+use Rattle.bag_ledger.proofs.Tests.{same_number}
 use Rattle.work_queue.proofs.Ids.{distinct_pinned, sizes_pinned}
 use Rattle.work_queue.proofs.Lists.{distinct_added, distinct_left, sum_by-others}
 use Rattle.work_queue.specs.Queue.{has_other_id, id_of, pinned_by, same_id, size_of}

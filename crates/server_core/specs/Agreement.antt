@@ -12,7 +12,8 @@ use Rattle.adlb_unit.specs.declared.names.CommonRef.{CommonRef}
 use Rattle.adlb_unit.specs.declared.names.Rank.{Rank}
 use Rattle.adlb_unit.specs.declared.names.Server.{Server}
 use Rattle.adlb_unit.specs.declared.names.UnitId.{UnitId}
-use Rattle.bag_ledger.specs.Bag.{Bag, has_declined, has_due, is_placed_at, part_charge, part_of, promise_charge, promise_of, rank_at, same_unit, start as empty_bag, unit_charge, unit_of}
+use Rattle.adlb_unit.specs.Ids.{same_unit}
+use Rattle.bag_ledger.specs.Bag.{Bag, has_declined, has_due, is_placed_at, part_charge, part_of, promise_charge, promise_of, rank_at, start as empty_bag, unit_charge, unit_of}
 use Rattle.bag_ledger.specs.Runs.{IsRun}
 use Rattle.bag_ledger.specs.declared.states.Part.{Part}
 use Rattle.bag_ledger.specs.declared.states.Placed.{Placed as Lodged}

@@ -1,7 +1,7 @@
 //! A link of one rank, which keeps its own units.
 
 ghost use Rattle.std.specs.Prelude.{◌≡◌, ◌<◌, ◌≤◌, ◌^◌, ◌++◌, ◌∷◌, [], length, Some, None, Err, false, true, OnOk, OnErr, IfErr};
-ghost use Rattle.bag_ledger.specs.Bag.{same_unit};
+ghost use Rattle.adlb_unit.specs.Ids.{same_unit};
 ghost use Rattle.rank_client.specs.Calls.{end_answer, end_of, end_told, end_trouble, fetches, grants, is_fetched, is_granted, put_answer, put_trouble};
 
 use adlb_unit::{
