@@ -42,10 +42,6 @@ abbrev pub event_answer : World → Event → Option Answer
 event_answer w (occurs.Call rank call) = option_and_then (λ x. x.answer) (begin (client_of w rank) call)
 event_answer w (occurs.Deliver from to) = front_answer w from to (under_way w from to)
 
--- it is past the last stamp that is given
-abbrev pub IsLate : World → Event → Type 0
-IsLate w event = 2 ^ 48 ≤ event_stamp w event
-
 -- there is such an event now
 abbrev pub IsEnabled : World → Event → Type 0
 IsEnabled w event = IsSome (happens w event)
