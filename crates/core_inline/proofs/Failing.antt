@@ -11,11 +11,11 @@ use Rattle.bag_ledger.specs.declared.entries.Call.{Call}
 use Rattle.bag_ledger.specs.declared.entries.Call.TheVariants as calls_to
 use Rattle.bag_ledger.specs.declared.entries.Entry.{Entry}
 use Rattle.bag_ledger.specs.declared.entries.Said.{Said}
-use Rattle.rank_client.specs.State.{State as Client}
+use Rattle.rank_client.specs.State.{ClientModel}
 use Rattle.rank_client.specs.Step.{call_stamp}
 use Rattle.rank_client.specs.Agreement.{running as running_rank}
 use Rattle.rank_client.proofs.Entries.{some_is}
-use Rattle.server_core.specs.State.{State as Host}
+use Rattle.server_core.specs.State.{ServerModel}
 use Rattle.server_core.specs.Step.{next_stamp}
 use Rattle.core_run.specs.declared.events.Event.{Event}
 use Rattle.core_run.specs.Runs.{transcript}
@@ -103,7 +103,7 @@ failed config said more call w after entries stamp trouble now p before then few
 -- What the ledger tells after a front of an event's entries.
 
 -- a call that is answered, and whose answer did not come back
-told_answered : (said : List Said) (call : Call) (answer : Answer) (c : Client) (s : Host) (ledger : List Entry) → IsAnswered said call answer c s ledger → IsTold c.config ledger said (Some call)
+told_answered : (said : List Said) (call : Call) (answer : Answer) (c : ClientModel) (s : ServerModel) (ledger : List Entry) → IsAnswered said call answer c s ledger → IsTold c.config ledger said (Some call)
 told_answered said call answer c s ledger done = record {
   last = done.idle.last;
   legal = done.idle.joint.legal;
@@ -118,7 +118,7 @@ some_front : (entries entered rest : List Entry) (e : Entry) → entries ≡ ent
 some_front entries entered rest e is = (omega (arith, ap length is, length-append entered (e ∷ rest)), ap (take (length entered)) is ∙ take-append_seam entered (e ∷ rest))
 
 -- of the entries of a rank's beginning
-pub told_beginning : (c : Client) (s : Host) (ledger : List Entry) (call : Call) (b : IsBeginning c s ledger call) (entered rest : List Entry) → b.x.entries ≡ entered ++ rest
+pub told_beginning : (c : ClientModel) (s : ServerModel) (ledger : List Entry) (call : Call) (b : IsBeginning c s ledger call) (entered rest : List Entry) → b.x.entries ≡ entered ++ rest
     → (entered ≡ []) ⊎ (call_stamp c < 2 ^ 48) → IsToldOf c.config c.transcript call (ledger ++ entered)
 told_beginning c s ledger call b [] rest all in_time = (None, subst (λ (l : List Entry). IsTold c.config l c.transcript None) (sym (append-nil ledger)) b.before, inl refl)
 told_beginning c s ledger call b (e ∷ entered) (r ∷ rest) all in_time =
@@ -141,7 +141,7 @@ told_beginning c s ledger call b (e ∷ entered) [] all in_time = (Some call, su
         subst (λ (g : Config). IsTold g (ledger ++ b.x.entries) c.transcript (Some call)) b.same (subst (λ (l : List Said). IsTold b.x.state.config (ledger ++ b.x.entries) l (Some call)) sent.same there)
 
 -- of those of the server's step
-pub told_serving : (c : Client) (s : Host) (ledger : List Entry) (letter : Letter) (v : IsServing c s ledger letter) (entered rest : List Entry) → v.x.entries ≡ entered ++ rest
+pub told_serving : (c : ClientModel) (s : ServerModel) (ledger : List Entry) (letter : Letter) (v : IsServing c s ledger letter) (entered rest : List Entry) → v.x.entries ≡ entered ++ rest
     → (entered ≡ []) ⊎ (next_stamp s letter < 2 ^ 48) → IsToldOf c.config c.transcript v.call (ledger ++ entered)
 told_serving c s ledger letter v entered (r ∷ rest) all in_time =
     let f = some_front v.x.entries entered rest r all in
@@ -155,7 +155,7 @@ told_serving c s ledger letter v entered [] all (inr early) =
     (Some v.call, subst (λ (l : List Entry). IsTold c.config (ledger ++ l) c.transcript (Some v.call)) (all ∙ append-nil entered) there, inr refl)
 
 -- of those of the rank that hears the answer
-pub told_hearing : (c : Client) (s : Host) (ledger : List Entry) (letter : Letter) (h : IsHearing c s ledger letter) (entered rest : List Entry) → h.x.entries ≡ entered ++ rest
+pub told_hearing : (c : ClientModel) (s : ServerModel) (ledger : List Entry) (letter : Letter) (h : IsHearing c s ledger letter) (entered rest : List Entry) → h.x.entries ≡ entered ++ rest
     → IsToldOf c.config c.transcript h.call (ledger ++ entered)
 told_hearing c s ledger letter h [] rest all = (Some h.call, subst (λ (l : List Entry). IsTold c.config l c.transcript (Some h.call)) (sym (append-nil ledger)) h.cut, inr refl)
 told_hearing c s ledger letter h (e ∷ entered) rest all =
@@ -165,7 +165,7 @@ told_hearing c s ledger letter h (e ∷ entered) rest all =
     (Some h.call, subst (λ (l : List Entry). IsTold c.config (ledger ++ l) c.transcript (Some h.call)) whole (subst (λ (g : Config). IsTold g (ledger ++ h.x.entries) c.transcript (Some h.call)) h.same told), inr refl)
 
 -- of the one of the rank that finishes
-pub told_finishing : (c : Client) (s : Host) (ledger : List Entry) (f : IsFinishing c s ledger) (entered rest : List Entry) → f.x.entries ≡ entered ++ rest → IsToldOf c.config c.transcript calls_to.Finish (ledger ++ entered)
+pub told_finishing : (c : ClientModel) (s : ServerModel) (ledger : List Entry) (f : IsFinishing c s ledger) (entered rest : List Entry) → f.x.entries ≡ entered ++ rest → IsToldOf c.config c.transcript calls_to.Finish (ledger ++ entered)
 told_finishing c s ledger f [] rest all = (None, subst (λ (l : List Entry). IsTold c.config l c.transcript None) (sym (append-nil ledger)) f.before, inl refl)
 told_finishing c s ledger f (e ∷ entered) rest all =
     let none : rest ≡ [] = none_left rest (omega (arith, ap length f.entries, ap length all, length-append (e ∷ entered) rest)) in

@@ -13,10 +13,10 @@ use Rattle.bag_ledger.specs.Bag.{Bag, same_unit, unit_of}
 use Rattle.bag_ledger.proofs.Tests.{same_number, same_server_is, some_is}
 use Rattle.server_core.specs.declared.states.LeftUnit.{LeftUnit}
 use Rattle.server_core.proofs.Finds.{find_is}
-use Rattle.server_core.specs.Agreement.{Agrees, IsAlone, of_id, slot_of, stays}
+use Rattle.server_core.specs.Agreement.{ServerAgrees, IsAlone, of_id, slot_of, stays}
 use Rattle.server_core.specs.Left.{left_of as left_list, left_unit}
 use Rattle.server_core.specs.Rules.{unit_with}
-use Rattle.server_core.specs.State.{State}
+use Rattle.server_core.specs.State.{ServerModel}
 use Rattle.work_queue.specs.Queue.{HasDistinctIds, id_of, same_id}
 use Rattle.work_queue.specs.declared.placing.Placed.{Placed}
 use Rattle.std.proofs.lemmas.Bool.{and_parts}
@@ -86,7 +86,7 @@ distinct_left me (p ∷ units) distinct i j d before inside =
     let second = get_or-map (left_unit me) (p ∷ units) j p d (omega (arith, long, inside)) in
     λ same. distinct i j p before (omega (arith, long, inside)) (sym (ap (λ (l : LeftUnit). l.id) first) ∙ same ∙ ap (λ (l : LeftUnit). l.id) second)
 
-pub left_is : (b : Bag) (s : State) → Agrees b s → IsAlone b s → IsLeft b (left_list s)
+pub left_is : (b : Bag) (s : ServerModel) → ServerAgrees b s → IsAlone b s → IsLeft b (left_list s)
 left_is b s agrees alone = record {
   each = λ id. find_left s.me id s.queue.units ∙ ap (option_map (left_unit s.me)) (agrees.units.each id) ∙ by_found id (find (of_id id) b.units) refl;
   distinct = distinct_left s.me s.queue.units agrees.units.distinct;

@@ -14,8 +14,8 @@ use Rattle.bag_ledger.specs.declared.entries.Call.TheVariants as calls_to
 use Rattle.bag_ledger.specs.declared.entries.Entry.TheVariants as enters
 use Rattle.rank_client.specs.declared.pendings.Pending.TheVariants as waits_for
 use Rattle.rank_client.specs.Calls.{is_fetched, is_granted}
-use Rattle.rank_client.specs.Rules.{Response, answer_call, asked, call_of, ends, expects_note, is_for, refused}
-use Rattle.rank_client.specs.State.{State as Client, home}
+use Rattle.rank_client.specs.Rules.{ClientResponse, answer_call, asked, call_of, ends, expects_note, is_for, refused}
+use Rattle.rank_client.specs.State.{ClientModel, home}
 use Rattle.rank_client.specs.Step.{letter_stamp, made, ticked}
 use Rattle.rank_client.proofs.Transcripts.{first_end}
 use Rattle.core_inline.specs.Rounds.{first_server}
@@ -32,12 +32,12 @@ first_none (Some end) = refl
 is_for_it : (request : ℕ) (at : Server) → at.0 ≡ 0 → is_for request at first_server request ≡ true
 is_for_it request at zeroth = and_from _ _ (eq-eqb request request refl) (eq-eqb 0 at.0 (sym zeroth))
 
-module _ (c : Client) (letter : Letter) (going : c.finished ≡ false) (stamp : letter.stamp < 2 ^ 48) (one : c.config.servers ≡ 1) where
+module _ (c : ClientModel) (letter : Letter) (going : c.finished ≡ false) (stamp : letter.stamp < 2 ^ 48) (one : c.config.servers ≡ 1) where
   pub accepted_heard : (unit : Unit) (first : Server) → c.pending ≡ waits_for.Put unit first 0 → letter.message ≡ tells.Accepted unit.id.number
       → IsHeard c letter (call_of unit) answers.Fine c.handles (made (ends (ticked c (letter_stamp c letter)) [] (call_of unit) answers.Fine))
   accepted_heard unit first pending message =
-      let t : Client = ticked c (letter_stamp c letter) in
-      let r : Response = ends t [] (call_of unit) answers.Fine in
+      let t : ClientModel = ticked c (letter_stamp c letter) in
+      let r : ClientResponse = ends t [] (call_of unit) answers.Fine in
       let expected : is_for unit.id.number (asked t first 0) first_server unit.id.number ≡ true = is_for_it unit.id.number (asked t first 0) (mod_one (first.0 + 0) c.config.servers one) in
       let is : answer_call t c.pending first_server letter.message ≡ Some r =
       ap (λ m. answer_call t c.pending first_server m) message ∙ ap (λ p. answer_call t p first_server (tells.Accepted unit.id.number)) pending ∙ ap (λ v. cond v (Some r) None) expected in
@@ -58,8 +58,8 @@ module _ (c : Client) (letter : Letter) (going : c.finished ≡ false) (stamp : 
   pub full_heard : (unit : Unit) (first : Server) (charge : ℕ) → c.pending ≡ waits_for.Put unit first 0 → letter.message ≡ tells.Full unit.id.number charge
       → IsHeard c letter (call_of unit) answers.Rejected c.handles (made (ends (ticked c (letter_stamp c letter)) (enters.Rejected c.me unit.id.number ∷ []) (call_of unit) answers.Rejected))
   full_heard unit first charge pending message =
-      let t : Client = ticked c (letter_stamp c letter) in
-      let r : Response = ends t (enters.Rejected c.me unit.id.number ∷ []) (call_of unit) answers.Rejected in
+      let t : ClientModel = ticked c (letter_stamp c letter) in
+      let r : ClientResponse = ends t (enters.Rejected c.me unit.id.number ∷ []) (call_of unit) answers.Rejected in
       let expected : is_for unit.id.number (asked t first 0) first_server unit.id.number ≡ true = is_for_it unit.id.number (asked t first 0) (mod_one (first.0 + 0) c.config.servers one) in
       let last : nat_lt (0 + 1) c.config.servers ≡ false = rw one refl in
       let is : answer_call t c.pending first_server letter.message ≡ Some r =
@@ -84,8 +84,8 @@ module _ (c : Client) (letter : Letter) (going : c.finished ≡ false) (stamp : 
       → IsHeard c letter (calls_to.Reserve types) (answers.Granted note) (c.handles ++ note ∷ [])
       (made (ends (record (ticked c (letter_stamp c letter)) { handles = c.handles ++ note ∷ [] }) [] (calls_to.Reserve types) (answers.Granted note)))
   granted_heard request types note pending message server common ungranted unfetched =
-      let t : Client = ticked c (letter_stamp c letter) in
-      let r : Response = ends (record t { handles = c.handles ++ note ∷ [] }) [] (calls_to.Reserve types) (answers.Granted note) in
+      let t : ClientModel = ticked c (letter_stamp c letter) in
+      let r : ClientResponse = ends (record t { handles = c.handles ++ note ∷ [] }) [] (calls_to.Reserve types) (answers.Granted note) in
       let for : is_for request (home t.config t.me) first_server request ≡ true = is_for_it request (home t.config t.me) (mod_one c.me.0 c.config.servers one) in
       let within : nat_lt note.server.0 c.config.servers ≡ true = rw (server, one) refl in
       let plain : is_none note.common ≡ true = rw common refl in
@@ -110,8 +110,8 @@ module _ (c : Client) (letter : Letter) (going : c.finished ≡ false) (stamp : 
   pub ended_heard : (request : ℕ) (types : Option (List WorkType)) (end : End) → c.pending ≡ waits_for.Reserve request types → letter.message ≡ tells.Ended request end → c.end ≡ None
       → IsHeard c letter (calls_to.Reserve types) (answers.Ended end) c.handles (made (ends (record (ticked c (letter_stamp c letter)) { end = Some end }) [] (calls_to.Reserve types) (answers.Ended end)))
   ended_heard request types end pending message untold =
-      let t : Client = ticked c (letter_stamp c letter) in
-      let r : Response = ends (record t { end = Some end }) [] (calls_to.Reserve types) (answers.Ended end) in
+      let t : ClientModel = ticked c (letter_stamp c letter) in
+      let r : ClientResponse = ends (record t { end = Some end }) [] (calls_to.Reserve types) (answers.Ended end) in
       let expected : is_for request (home t.config t.me) first_server request ≡ true = is_for_it request (home t.config t.me) (mod_one c.me.0 c.config.servers one) in
       let is : answer_call t c.pending first_server letter.message ≡ Some r =
       ap (λ m. answer_call t c.pending first_server m) message ∙ ap (λ p. answer_call t p first_server (tells.Ended request end)) pending ∙ ap (λ v. cond v (Some r) None) expected in
@@ -132,8 +132,8 @@ module _ (c : Client) (letter : Letter) (going : c.finished ≡ false) (stamp : 
   pub bytes_heard : (request : ℕ) (note : UnitNote) (body : List ℕ) → c.pending ≡ waits_for.Fetch request note → letter.message ≡ tells.Bytes request body → note.server ≡ first_server → length body ≡ note.length
       → IsHeard c letter (calls_to.Fetch note.id) (answers.Body body) c.handles (made (ends (ticked c (letter_stamp c letter)) [] (calls_to.Fetch note.id) (answers.Body body)))
   bytes_heard request note body pending message server long =
-      let t : Client = ticked c (letter_stamp c letter) in
-      let r : Response = ends t [] (calls_to.Fetch note.id) (answers.Body body) in
+      let t : ClientModel = ticked c (letter_stamp c letter) in
+      let r : ClientResponse = ends t [] (calls_to.Fetch note.id) (answers.Body body) in
       let for : is_for request note.server first_server request ≡ true = is_for_it request note.server (ap (λ (s : Server). s.0) server) in
       let expected : (is_for request note.server first_server request && (length body == note.length)) ≡ true = and_from _ _ for (eq-eqb (length body) note.length long) in
       let is : answer_call t c.pending first_server letter.message ≡ Some r =

@@ -26,8 +26,8 @@ use Rattle.bag_ledger.specs.Steps.{Steps, after, change_at, kept, moved, shared,
 use Rattle.bag_ledger.proofs.Lookups.{find_before}
 use Rattle.bag_ledger.proofs.Moves.{moved_other}
 use Rattle.bag_ledger.proofs.Tests.{same_unit_is, some_is}
-use Rattle.rank_client.specs.Agreement.{Agrees, IsCaused, IsHeld, holds, rank_of}
-use Rattle.rank_client.specs.State.{State as Client}
+use Rattle.rank_client.specs.Agreement.{ClientAgrees, IsCaused, IsHeld, holds, rank_of}
+use Rattle.rank_client.specs.State.{ClientModel}
 use Rattle.core_law.specs.Others.{ClientsStay, teller, tells_of}
 
 -- What a bag keeps of a rank.
@@ -43,7 +43,7 @@ still_caused b next None done exhausted is = is
 still_caused b next (Some ends_by.NoMoreWork) done exhausted is = done is
 still_caused b next (Some ends_by.Exhausted) done exhausted is = exhausted is
 
-stands_after : (b next : Bag) (s : Client) (coming : Option Message) → Leaves s.me b next → Agrees s coming b → Agrees s coming next
+stands_after : (b next : Bag) (s : ClientModel) (coming : Option Message) → Leaves s.me b next → ClientAgrees s coming b → ClientAgrees s coming next
 stands_after b next s coming l a = record {
   rank = l.rank ∙ a.rank;
   servers = l.servers ∙ a.servers;
@@ -163,5 +163,5 @@ entry_leaves me b (enters.Finished rank call) s is = then_rank me rank _ b b (ap
 
 pub clients_stay : ClientsStay
 clients_stay b next e s coming step is a =
-    let now : Agrees s coming (after b e) = stands_after b (after b e) s coming (entry_leaves s.me b e (step.0, step.1, refl) is) a in
-    subst (λ (n : Bag). Agrees s coming n) (sym step.2) now
+    let now : ClientAgrees s coming (after b e) = stands_after b (after b e) s coming (entry_leaves s.me b e (step.0, step.1, refl) is) a in
+    subst (λ (n : Bag). ClientAgrees s coming n) (sym step.2) now

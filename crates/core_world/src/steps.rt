@@ -8,9 +8,9 @@ ghost use Rattle.core_world.specs.Applied.{Causes, IsBetween, IsEnabled, IsHalf,
 ghost use Rattle.core_world.specs.Seen.{under_way};
 ghost use Rattle.core_world.specs.Stage.{IsWhole, with_client, with_server};
 ghost use Rattle.rank_client.specs.Inside.{gives};
-ghost use Rattle.rank_client.specs.State.{State as Client};
+ghost use Rattle.rank_client.specs.State.{ClientModel};
 ghost use Rattle.rank_client.specs.Step.{begin, call_stamp, hear, letter_stamp};
-ghost use Rattle.server_core.specs.State.{State as Pool, place_of};
+ghost use Rattle.server_core.specs.State.{ServerModel, place_of};
 ghost use Rattle.server_core.specs.Step.{next_stamp, serve};
 
 use crate::links::place_of;
@@ -121,7 +121,8 @@ impl Stage {
         requires there { rank.0 < self.old.config.ranks }
         requires whole { (client_of self.old rank).trouble ≡ None }
         requires ready { IsSome (begin (client_of self.old rank) call) }
-        ensures begun { IfOk result (λ x. (s : Client) × (begin (client_of self.old rank) call ≡ Some (gives s x)) × (self.new ≡ with_client self.old rank s)) }
+        ensures begun { IfOk result (λ x. (s : ClientModel) × (begin (client_of self.old rank) call ≡ Some (gives s x))
+            × (self.new ≡ with_client self.old rank s)) }
         ensures stamp { OnOk result (call_stamp (client_of self.old rank) < 2 ^ 48) }
         ensures cause { IfErr result (Causes (call_stamp (client_of self.old rank))) }
         ensures failed { IfErr result (λ trouble. self.new ≡ with_client self.old rank (record (client_of self.old rank) { trouble = Some trouble })) }
@@ -140,7 +141,8 @@ impl Stage {
         requires there { rank.0 < self.old.config.ranks }
         requires whole { (client_of self.old rank).trouble ≡ None }
         requires expected { IsSome (hear (client_of self.old rank) from letter) }
-        ensures heard { IfOk result (λ x. (s : Client) × (hear (client_of self.old rank) from letter ≡ Some (gives s x)) × (self.new ≡ with_client self.old rank s)) }
+        ensures heard { IfOk result (λ x. (s : ClientModel) × (hear (client_of self.old rank) from letter ≡ Some (gives s x))
+            × (self.new ≡ with_client self.old rank s)) }
         ensures stamp { OnOk result (letter_stamp (client_of self.old rank) letter < 2 ^ 48) }
         ensures cause { IfErr result (Causes (letter_stamp (client_of self.old rank) letter)) }
         ensures failed { IfErr result (λ trouble. self.new ≡ with_client self.old rank (record (client_of self.old rank) { trouble = Some trouble })) }
@@ -154,11 +156,12 @@ impl Stage {
         requires there { server.0 < self.old.config.servers }
         requires whole { (pool_of self.old server).trouble ≡ None }
         requires expected { IsSome (serve (pool_of self.old server) from letter) }
-        ensures served { IfOk result (λ x. (s : Pool) × (serve (pool_of self.old server) from letter ≡ Some (record { state = s; sends = x.sends.items; entries = x.entries.items }))
+        ensures served { IfOk result (λ x. (s : ServerModel)
+            × (serve (pool_of self.old server) from letter ≡ Some (record { state = s; sends = x.sends.items; entries = x.entries.items }))
             × (self.new ≡ with_server self.old server s)) }
         ensures stamp { OnOk result (next_stamp (pool_of self.old server) letter < 2 ^ 48) }
         ensures cause { IfErr result (Causes (next_stamp (pool_of self.old server) letter)) }
-        ensures failed { IfErr result (λ trouble. (s : Pool) × (self.new ≡ with_server self.old server s)) }
+        ensures failed { IfErr result (λ trouble. (s : ServerModel) × (self.new ≡ with_server self.old server s)) }
     {
         let server = &mut self.servers[server.0 as usize];
         server.step(from, letter)
@@ -167,7 +170,8 @@ impl Stage {
     // The front letter of the list, which has one.
     fn take(&mut self, from: Actor, to: Actor) -> Letter
         requires { under_way self.old from to ≢ [] }
-        ensures { (rest : List Letter) × (under_way self.old from to ≡ result ∷ rest) × (self.new ≡ record self.old { links = taken self.old from to rest }) }
+        ensures { (rest : List Letter) × (under_way self.old from to ≡ result ∷ rest)
+            × (self.new ≡ record self.old { links = taken self.old from to rest }) }
     {
         let from = place_of(&self.config, from);
         let to = place_of(&self.config, to);

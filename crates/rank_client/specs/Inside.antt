@@ -7,10 +7,10 @@ use Rattle.rank_client.specs.declared.pendings.Pending.{Pending}
 use Rattle.rank_client.specs.declared.pendings.Pending.TheVariants as waits_for
 use Rattle.rank_client.specs.declared.rooms.Room.{Room}
 use Rattle.rank_client.specs.declared.steps.ClientStep.{ClientStep}
-use Rattle.rank_client.specs.State.{State}
+use Rattle.rank_client.specs.State.{ClientModel}
 use Rattle.rank_client.specs.Step.{Made}
 
-abbrev pub state_of : Inside → State
+abbrev pub state_of : Inside → ClientModel
 state_of i = record {
   config = i.config;
   me = i.me;
@@ -28,11 +28,11 @@ state_of i = record {
 }
 
 -- the client with what the step sends, enters and answers
-abbrev pub gives : State → ClientStep → Made
+abbrev pub gives : ClientModel → ClientStep → Made
 gives s x = record { state = s; sends = x.sends.items; entries = x.entries.items; answer = x.answer }
 
 -- each call, each put and each letter to a server took an event
-pub record IsSound (s : State) : Type 0 where
+pub record IsSound (s : ClientModel) : Type 0 where
   pub me : s.me.0 < s.config.ranks
   pub servers : length s.sent ≡ s.config.servers
   pub sent : All (λ n. n ≤ s.clock) s.sent
@@ -71,7 +71,7 @@ pub record IsInside (i : Inside) : Type 0 where
   pub finish : i.finished ≡ false → CanFinish i
 
 -- in an event in which no call has begun or ended, and no letter was sent
-pub record IsFresh (s : State) : Type 0 where
+pub record IsFresh (s : ClientModel) : Type 0 where
   pub sent : All (λ n. n < s.clock) s.sent
   pub next : s.next < s.clock
   pub puts : s.puts < s.clock

@@ -9,7 +9,7 @@ ghost use Rattle.bag_ledger.specs.Bag.{same_unit};
 ghost use Rattle.rank_client.specs.Calls.{is_finish};
 ghost use Rattle.rank_client.specs.Inside.{HasRoom, IsFresh, gives};
 ghost use Rattle.rank_client.specs.Rules.{asks, call_of, entry_of, farewell, fetched, finish, first_server, held, in_ranks, is_free, open_call, over, put, reserve, unit_of};
-ghost use Rattle.rank_client.specs.State.{State, home};
+ghost use Rattle.rank_client.specs.State.{ClientModel, home};
 ghost use Rattle.rank_client.specs.Step.{Made, begin, call_stamp, call_trouble, made, post, ticked};
 
 use crate::clients::{ClientCore, behind, write};

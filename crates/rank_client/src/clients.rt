@@ -3,7 +3,7 @@
 ghost use Rattle.std.specs.Prelude.{◌≡◌, ◌<◌, ◌≤◌, ◌+◌, ◌^◌, ◌∷◌, ◌++◌, [], false, length, map, IfOk, slice_index_or, slice_set};
 ghost use Rattle.std.specs.Vec.{vec_len, vec_capacity};
 ghost use Rattle.rank_client.specs.Calls.{plus};
-ghost use Rattle.rank_client.specs.State.{State, behind, start};
+ghost use Rattle.rank_client.specs.State.{ClientModel, behind, start};
 ghost use Rattle.rank_client.specs.Step.{sending};
 
 use crate::pendings::Pending;
@@ -38,9 +38,9 @@ pub struct ClientCore {
 }
 
 impl Model for ClientCore {
-    ghost use Rattle.rank_client.specs.State.{State};
+    ghost use Rattle.rank_client.specs.State.{ClientModel};
 
-    ghost Value = { State };
+    ghost Value = { ClientModel };
 
     ghost use Rattle.rank_client.specs.Inside.{state_of, IsInside};
 

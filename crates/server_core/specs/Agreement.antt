@@ -25,7 +25,7 @@ use Rattle.bag_ledger.specs.declared.states.UnitPlace.TheVariants.{Free, Travell
 use Rattle.work_queue.specs.Queue.{HasDistinctIds, Promise, Queue, promised, same_id, size_of}
 use Rattle.work_queue.specs.declared.placing.Placed.{Placed}
 use Rattle.server_core.specs.Rules.{unit_with}
-use Rattle.server_core.specs.State.{State, start}
+use Rattle.server_core.specs.State.{ServerModel, start}
 use Rattle.server_core.specs.Step.{Served, serve}
 use Rattle.server_core.specs.declared.standings.Standing.{Standing}
 use Rattle.server_core.specs.declared.standings.Standing.TheVariants.{Running, Parked, Finished}
@@ -79,7 +79,8 @@ pub record Matches (b : Bag) (config : Config) (me : Server) (queue : Queue) (st
   pub room : sum_by (promise_charge me) b.promises ≡ sum_by promised queue.promises
   pub parts : sum_by (part_charge me) b.parts ≡ queue.common
   -- of each rank whose home this is
-  pub ranks : (rank : Rank) (r : RankState) → rank_at b rank ≡ Some r → (rank.0 % config.servers) ≡ me.0 → IsAs (slice_index_or standings rank.0 Running) r.status
+  pub ranks : (rank : Rank) (r : RankState) → rank_at b rank ≡ Some r → (rank.0 % config.servers) ≡ me.0
+      → IsAs (slice_index_or standings rank.0 Running) r.status
   -- what the server knows is so; server 0 finds exhaustion, so it knows of it
   pub done : is_done ≡ true → b.done ≡ true
   pub exhausted : is_exhausted ≡ true → b.exhausted ≡ true
@@ -88,8 +89,8 @@ pub record Matches (b : Bag) (config : Config) (me : Server) (queue : Queue) (st
   pub settled : has_due b ≡ false
 
 -- the bag agrees with the server
-abbrev pub Agrees : Bag → State → Type 0
-Agrees b s = Matches b s.config s.me s.queue s.ranks s.done s.exhausted
+abbrev pub ServerAgrees : Bag → ServerModel → Type 0
+ServerAgrees b s = Matches b s.config s.me s.queue s.ranks s.done s.exhausted
 
 abbrev pub is_spent : UnitPlace → Bool
 is_spent Spent = true
@@ -106,7 +107,7 @@ pub record IsOnly (b : Bag) (config : Config) (me : Server) (standings : List St
   pub here : list_all (stays me) b.units ≡ true
   pub no_room : b.promises ≡ []
 
-abbrev pub IsAlone : Bag → State → Type 0
+abbrev pub IsAlone : Bag → ServerModel → Type 0
 IsAlone b s = IsOnly b s.config s.me s.ranks
 
 -- the part of the batch, if there is one, is not closed
@@ -125,7 +126,7 @@ IsCalled b me from r tells.Finish = r.status ≡ is_at.Finished
 IsCalled b me from r _ = ⊥
 
 -- the call of the letter is pending
-abbrev pub IsPending : Bag → State → Actor → Message → Type 0
+abbrev pub IsPending : Bag → ServerModel → Actor → Message → Type 0
 IsPending b s (by.Rank from) message = (r : RankState) × (rank_at b from ≡ Some r) × IsCalled b s.me from r message
 IsPending b s (by.Server from) message = ⊥
 
@@ -133,11 +134,13 @@ IsPending b s (by.Server from) message = ⊥
 -- the bag in order, and the bag agrees afterwards
 abbrev pub StepsAreLegal : Type 0
 StepsAreLegal =
-    (b : Bag) (s : State) (from : Actor) (letter : Letter) (x : Served) → Agrees b s → IsAlone b s → IsPending b s from letter.message → serve s from letter ≡ Some x
-    → (next : Bag) × IsRun b x.entries next × Agrees next x.state × IsAlone next x.state
+    (b : Bag) (s : ServerModel) (from : Actor) (letter : Letter) (x : Served) → ServerAgrees b s → IsAlone b s
+    → IsPending b s from letter.message → serve s from letter ≡ Some x
+    → (next : Bag) × IsRun b x.entries next × ServerAgrees next x.state × IsAlone next x.state
 
 -- at the start of a run the bag agrees with each server, and with one rank and one server nothing else is there
 abbrev pub StartAgrees : Type 0
 StartAgrees =
     (config : Config) (me : Server) → me.0 < config.servers
-    → Agrees (empty_bag config) (start config me) × (config.ranks ≡ 1 → config.servers ≡ 1 → IsAlone (empty_bag config) (start config me))
+    → ServerAgrees (empty_bag config) (start config me) × (config.ranks ≡ 1 → config.servers ≡ 1
+    → IsAlone (empty_bag config) (start config me))

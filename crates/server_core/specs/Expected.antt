@@ -11,7 +11,7 @@ use Rattle.adlb_unit.specs.declared.names.Target.TheVariants.{Any, Only, Soft}
 use Rattle.adlb_unit.specs.declared.units.Unit.{Unit}
 use Rattle.work_queue.specs.Queue.{HasNoPromise, HasNoUnit, HasPinned}
 use Rattle.server_core.specs.Rules.{is_finished}
-use Rattle.server_core.specs.State.{State, standing}
+use Rattle.server_core.specs.State.{ServerModel, standing}
 use Rattle.server_core.specs.Step.{serve}
 use Rattle.server_core.specs.declared.standings.Standing.TheVariants.{Running}
 
@@ -23,7 +23,7 @@ Aims (Soft rank) ranks = rank.0 < ranks
 
 -- the unit is the sender's; no unit and no promise of its id is here; its body is no longer than it may be; its target is any or a
 -- rank of the run
-pub record IsNew (s : State) (from : Rank) (unit : Unit) : Type 0 where
+pub record IsNew (s : ServerModel) (from : Rank) (unit : Unit) : Type 0 where
   pub sender : unit.id.rank ≡ from
   pub new : HasNoUnit unit.id s.queue.units
   pub unpromised : HasNoPromise unit.id s.queue.promises
@@ -31,15 +31,15 @@ pub record IsNew (s : State) (from : Rank) (unit : Unit) : Type 0 where
   pub target : Aims unit.target s.config.ranks
 
 -- the server is the rank's home
-abbrev pub IsHome : State → Rank → Type 0
+abbrev pub IsHome : ServerModel → Rank → Type 0
 IsHome s rank = rank.0 % s.config.servers ≡ s.me.0
 
 -- the rank runs, as far as its home knows
-abbrev pub Runs : State → Rank → Type 0
+abbrev pub Runs : ServerModel → Rank → Type 0
 Runs s rank = standing s rank ≡ Running
 
 -- a rank's letter that says this is awaited, one row a letter; so far no other letter is
-abbrev pub IsAwaited : State → Rank → Message → Type 0
+abbrev pub IsAwaited : ServerModel → Rank → Message → Type 0
 IsAwaited s from (tells.Put unit) = IsNew s from unit
 -- the sender's home is here, and it runs
 IsAwaited s from (tells.Reserve request types) = IsHome s from × Runs s from
@@ -50,10 +50,10 @@ IsAwaited s from tells.Finish = (is_finished s from ≡ false) × (IsHome s from
 IsAwaited s from _ = ⊥
 
 -- beside each row: the sender is a rank of the run, and the stamp one that is given
-abbrev pub IsExpected : State → Actor → Letter → Type 0
+abbrev pub IsExpected : ServerModel → Actor → Letter → Type 0
 IsExpected s (by.Rank from) letter = (from.0 < s.config.ranks) × (letter.stamp < 2 ^ 48) × IsAwaited s from letter.message
 IsExpected s (by.Server from) letter = ⊥
 
 -- the law: exactly the letters that are expected have a step
 abbrev pub ExpectedHaveSteps : Type 0
-ExpectedHaveSteps = (s : State) (from : Actor) (letter : Letter) → IsSome (serve s from letter) ↔ IsExpected s from letter
+ExpectedHaveSteps = (s : ServerModel) (from : Actor) (letter : Letter) → IsSome (serve s from letter) ↔ IsExpected s from letter

@@ -8,7 +8,7 @@ ghost use Rattle.server_core.specs.Rules.{Saying, is_running};
 ghost use Rattle.server_core.specs.Left.{left_of};
 ghost use Rattle.server_core.specs.Expected.{IsHome, Runs};
 ghost use Rattle.server_core.specs.Quiet.{IsQuiet};
-ghost use Rattle.server_core.specs.State.{State, is_home, standing, start};
+ghost use Rattle.server_core.specs.State.{ServerModel, is_home, standing, start};
 ghost use Rattle.server_core.specs.Step.{counted, posted, ticked};
 
 use crate::outgoing::Outgoing;
@@ -45,9 +45,9 @@ pub struct ServerState {
 }
 
 impl Model for ServerState {
-    ghost use Rattle.server_core.specs.State.{State};
+    ghost use Rattle.server_core.specs.State.{ServerModel};
 
-    ghost Value = { State };
+    ghost Value = { ServerModel };
 
     ghost use Rattle.server_core.specs.Inside.{state_of, IsInside};
 

@@ -6,7 +6,7 @@ use Rattle.std.proofs.lemmas.List.Elements.{All-pop}
 use Rattle.rank_client.specs.declared.pendings.Pending.{Pending}
 use Rattle.rank_client.specs.Inside.{HasRoom, IsFresh, awaited, state_of}
 use Rattle.rank_client.specs.Rules.{answer_call}
-use Rattle.rank_client.specs.State.{State}
+use Rattle.rank_client.specs.State.{ClientModel}
 use Rattle.rank_client.specs.Step.{made}
 use Rattle.rank_client.proofs.Awaited.{refused_next, retried_sound, retry_gives}
 use Rattle.rank_client.proofs.clients.ClientCore.hear_put.Goals as goal
@@ -34,8 +34,8 @@ invariant_of-self-then-tried-self c =
 
 pub returns-in-Some-clause-ok : goal.returns-in-Some-clause-ok
 returns-in-Some-clause-ok c =
-    let now : State = state_of c.self.inside in
-    let expected = subst (λ (s : State). IsSome (answer_call s s.pending c.args.from c.args.message)) (sym c.self.view_is) c.requires.expected in
+    let now : ClientModel = state_of c.self.inside in
+    let expected = subst (λ (s : ClientModel). IsSome (answer_call s s.pending c.args.from c.args.message)) (sym c.self.view_is) c.requires.expected in
     let pending = sym c.replace.ensures.value ∙ c.in-Put.is in
     let room = subst (λ (p : Pending). HasRoom c.self.inside.config (vec_len c.self.inside.handles) (vec_capacity c.self.inside.handles) c.self.inside.room p) pending c.self.invariant.room in
     let B : List ℕ → Type 0 = λ body. body ≡ c.in-Put.unit.body in
@@ -44,4 +44,4 @@ returns-in-Some-clause-ok c =
     let rule = refused_next now c.self.inside.pending c.in-Put.unit c.in-Put.first c.in-Put.tried c.args.from c.args.message c.in-Full.request c.in-Full.charge pending c.in-Full.is c.if-tried-self.true expected in
     let gave = retry_gives now c.in-Put.unit c.unit_with-next.result c.in-Put.first c.behind-to.result c.in-Put.tried c.write.result c.push_reserved-in-Full.new.self.items c.offer.inside.sends.items c.new-entries.result.items c.write.new.sent.items
     c.behind-to.ensures.behind same c.write.ensures.counted c.write.ensures.letter c.offer.invariant.1 c.push_reserved-in-Full.ensures.items c.new-entries.ensures.items in
-    ap (λ (s : State). option_map made (answer_call s s.pending c.args.from c.args.message)) (sym c.self.view_is) ∙ ap (λ o. option_map made o) rule ∙ ap Some gave
+    ap (λ (s : ClientModel). option_map made (answer_call s s.pending c.args.from c.args.message)) (sym c.self.view_is) ∙ ap (λ o. option_map made o) rule ∙ ap Some gave
