@@ -5,9 +5,10 @@ use Rattle.std.specs.List.{list_any}
 use Rattle.std.specs.Option.{option_or}
 use Rattle.std.proofs.lemmas.Bool.Decides.{nat_tests}
 use Rattle.std.proofs.lemmas.List.Sums.{sum_by_push, sum_by-cons}
+use Rattle.adlb_unit.specs.Ids.{same_batch}
 use Rattle.adlb_unit.specs.declared.names.BatchId.{BatchId}
 use Rattle.bag_ledger.specs.declared.states.Part.{Part}
-use Rattle.bag_ledger.specs.Bag.{same_batch, is_due}
+use Rattle.bag_ledger.specs.Bag.{is_due}
 use Rattle.bag_ledger.specs.Steps.{change_at}
 use Rattle.bag_tables.specs.declared.changes.PartChange.{PartChange}
 use Rattle.bag_tables.specs.declared.changes.PartChange.TheVariants.{Closed, Freed, Accepted, Fetched}

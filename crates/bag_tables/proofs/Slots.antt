@@ -5,10 +5,11 @@ use Rattle.std.specs.List.{list_all}
 use Rattle.std.specs.Option.{option_or}
 use Rattle.std.proofs.lemmas.List.Sums.{sum_by_push, sum_by-cons}
 use Rattle.std.proofs.Math.Dec.{eqb-suc-zero}
+use Rattle.adlb_unit.specs.Ids.{same_unit}
 use Rattle.adlb_unit.specs.declared.names.Server.{Server}
 use Rattle.adlb_unit.specs.declared.names.UnitId.{UnitId}
 use Rattle.bag_ledger.specs.declared.states.Promise.{Promise}
-use Rattle.bag_ledger.specs.Bag.{same_unit, promise_charge}
+use Rattle.bag_ledger.specs.Bag.{promise_charge}
 use Rattle.bag_ledger.specs.Steps.{change_at}
 use Rattle.bag_ledger.proofs.Tests.{some_is, same_unit_is}
 use Rattle.bag_tables.specs.declared.places.Places.{Places}

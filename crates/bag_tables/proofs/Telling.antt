@@ -10,13 +10,14 @@ use Rattle.std.proofs.lemmas.Bool.Decides.{nat_tests, Decides-int_eq}
 use Rattle.std.proofs.lemmas.Int.{ints, fold-int_max_bounds, fold-int_max_reached}
 use Rattle.std.proofs.lemmas.List.Sums.{sum_by-cons, get_or-le-sum_by}
 use Rattle.std.proofs.lemmas.List.Elements.{All-head, All-tail, All-cons}
+use Rattle.adlb_unit.specs.Infos.{info_of_prios}
 use Rattle.adlb_unit.specs.declared.names.Server.{Server}
 use Rattle.adlb_unit.specs.declared.names.WorkType.{WorkType}
 use Rattle.adlb_unit.specs.declared.notes.Info.{Info}
 use Rattle.bag_ledger.specs.declared.states.Placed.{Placed}
 use Rattle.bag_ledger.specs.declared.states.UnitPlace.{UnitPlace}
 use Rattle.bag_ledger.specs.declared.states.UnitPlace.TheVariants.{Free, Travelling, Pinned, Spent}
-use Rattle.bag_ledger.specs.Bag.{info_of_prios, is_free_at}
+use Rattle.bag_ledger.specs.Bag.{is_free_at}
 use Rattle.bag_tables.specs.declared.counts.FreeCounts.{FreeCounts}
 use Rattle.bag_tables.specs.Keys.{by_kind, by_prio, free_key, kind_of, prio_of}
 use Rattle.bag_tables.specs.Tallies.{count_of, one_at}

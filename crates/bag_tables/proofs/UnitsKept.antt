@@ -2,13 +2,13 @@
 use Rattle.std.proofs.Common.{◌≡◌, ◌∙◌, sym, ◌==◌, ◌&&◌, ℕ, ◌+◌, ◌<◌, ◌≤◌, ◌^◌, List, [], ◌∷◌, ◌++◌, length, slice_index_or, Some, None, refl, arith}
 use Rattle.std.specs.Prelude.{if◌then◌else◌, position, Result, Ok, Err, OnOk, OnErr}
 use Rattle.std.specs.Option.{option_or}
+use Rattle.adlb_unit.specs.Ids.{same_unit}
 use Rattle.adlb_unit.specs.declared.names.Server.{Server}
 use Rattle.adlb_unit.specs.declared.names.UnitId.{UnitId}
 use Rattle.adlb_unit.specs.declared.units.Unit.{Unit}
 use Rattle.bag_ledger.specs.declared.states.Placed.{Placed}
 use Rattle.bag_ledger.specs.declared.states.UnitPlace.{UnitPlace}
 use Rattle.bag_ledger.specs.declared.states.UnitPlace.TheVariants.{Free, Travelling, Pinned, Spent}
-use Rattle.bag_ledger.specs.Bag.{same_unit}
 use Rattle.bag_ledger.specs.Steps.{change_at}
 use Rattle.bag_tables.specs.declared.places.Places.{Places}
 use Rattle.bag_tables.specs.declared.charges.Charges.{Charges}

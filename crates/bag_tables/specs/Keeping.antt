@@ -1,5 +1,6 @@
 -- What the tables keep beside their lists.
 use Rattle.std.specs.Prelude.{ℕ, ◌≡◌, List, length, count_by, position, Option, Some, None, if◌then◌else◌}
+use Rattle.adlb_unit.specs.Ids.{same_unit, same_batch}
 use Rattle.adlb_unit.specs.declared.names.Server.{Server}
 use Rattle.adlb_unit.specs.declared.names.UnitId.{UnitId}
 use Rattle.adlb_unit.specs.declared.names.BatchId.{BatchId}
@@ -7,7 +8,7 @@ use Rattle.bag_ledger.specs.declared.states.Placed.{Placed}
 use Rattle.bag_ledger.specs.declared.states.Part.{Part}
 use Rattle.bag_ledger.specs.declared.states.UnitPlace.{UnitPlace}
 use Rattle.bag_ledger.specs.declared.states.UnitPlace.TheVariants.{Free, Pinned}
-use Rattle.bag_ledger.specs.Bag.{same_unit, same_batch, unit_charge, part_charge, is_due}
+use Rattle.bag_ledger.specs.Bag.{unit_charge, part_charge, is_due}
 use Rattle.bag_tables.specs.declared.places.Places.{Places}
 use Rattle.bag_tables.specs.declared.charges.Charges.{Charges}
 use Rattle.bag_tables.specs.declared.counts.FreeCounts.{FreeCounts}

@@ -2,7 +2,8 @@
 
 ghost use Rattle.std.specs.Prelude.{◌≡◌, ◌+◌, ◌<◌, ◌≤◌, ◌^◌, ◌++◌, ◌∷◌, [], All, OnOk, MatchOption, None, Some, length, find, sum_by, count_by, if◌then◌else◌};
 ghost use Rattle.std.specs.List.{list_any};
-ghost use Rattle.bag_ledger.specs.Bag.{same_batch, part_charge, is_due};
+ghost use Rattle.adlb_unit.specs.Ids.{same_batch};
+ghost use Rattle.bag_ledger.specs.Bag.{part_charge, is_due};
 ghost use Rattle.bag_ledger.specs.Steps.{change_at, change_first};
 ghost use Rattle.bag_tables.specs.Changes.{part_changed};
 ghost use Rattle.bag_tables.specs.Charges.{IsSummed};

@@ -2,7 +2,8 @@
 
 ghost use Rattle.std.specs.Prelude.{◌≡◌, ◌==◌, ◌+◌, ◌<◌, ◌++◌, ◌∷◌, [], OnOk, MatchOption, None, Some, filter, not, is_none, length, find, sum_by};
 ghost use Rattle.std.specs.List.{list_all};
-ghost use Rattle.bag_ledger.specs.Bag.{same_unit, promise_charge};
+ghost use Rattle.adlb_unit.specs.Ids.{same_unit};
+ghost use Rattle.bag_ledger.specs.Bag.{promise_charge};
 
 use crate::charges::{Charges, left_of};
 use crate::places::Places;

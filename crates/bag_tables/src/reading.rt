@@ -1,8 +1,9 @@
 //! What is read off ids, ranks, places and parts: the definitions of these names as code.
 
 ghost use Rattle.std.specs.Prelude.{◌≡◌, ◌==◌, ◌&&◌, ◌+◌, IsTrue, nat_lt};
+ghost use Rattle.adlb_unit.specs.Ids.{same_unit, same_batch};
 ghost use Rattle.adlb_unit.specs.declared.names.Server.{Server};
-ghost use Rattle.bag_ledger.specs.Bag.{same_unit, same_batch, offer, wish, open_call, is_free, is_free_at, is_placed_at, is_travelling, is_due, is_asking, is_asking_or_finished};
+ghost use Rattle.bag_ledger.specs.Bag.{offer, wish, open_call, is_free, is_free_at, is_placed_at, is_travelling, is_due, is_asking, is_asking_or_finished};
 ghost use Rattle.bag_ledger.specs.Step.{is_running, is_closing, trying, counting, fetching, is_pinned_to, is_pinned, is_travelling_to, is_of, same_info, same_top};
 
 use adlb_unit::{BatchId, CommonRef, Info, Rank, Server, Types, UnitId, WorkType};

@@ -2,8 +2,10 @@
 
 ghost use Rattle.std.specs.Prelude.{◌≡◌, ◌==◌, ◌&&◌, ◌+◌, ◌<◌, ◌++◌, ◌∷◌, [], IfOk, OnOk, OnErr, MatchOption, None, Some, length, map, filter, find, sum_by};
 ghost use Rattle.std.specs.List.{list_any};
+ghost use Rattle.adlb_unit.specs.Infos.{info_of_prios};
+ghost use Rattle.adlb_unit.specs.Ids.{same_unit};
 ghost use Rattle.adlb_unit.specs.Permit.{permitted};
-ghost use Rattle.bag_ledger.specs.Bag.{same_unit, unit_charge, is_free, is_free_at, is_travelling, info_of_prios};
+ghost use Rattle.bag_ledger.specs.Bag.{unit_charge, is_free, is_free_at, is_travelling};
 ghost use Rattle.bag_ledger.specs.Steps.{change_at, change_first};
 ghost use Rattle.bag_ledger.specs.declared.states.Placed.{Placed};
 ghost use Rattle.bag_ledger.specs.declared.states.UnitPlace.TheVariants.{Free};

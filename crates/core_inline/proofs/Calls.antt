@@ -3,6 +3,8 @@ use Rattle.std.proofs.Common.{◌≡◌, ℕ, ◌+◌, ◌%◌, ◌<◌, ◌≤�
 use Rattle.std.specs.Prelude.{nat_le, nat_lt, ◌==◌, if◌then◌else◌}
 use Rattle.std.proofs.lemmas.Bool.{and_from, le-leb, lt-ltb}
 use Rattle.std.proofs.lemmas.List.Elements.{All-contains, All-filter}
+use Rattle.adlb_unit.specs.Targets.{Aims, in_ranks, home}
+use Rattle.adlb_unit.specs.Ids.{same_unit}
 use Rattle.adlb_unit.specs.declared.actors.Actor.TheVariants as by
 use Rattle.adlb_unit.specs.declared.configs.Config.{Config}
 use Rattle.adlb_unit.specs.declared.letters.Letter.{Letter}
@@ -25,15 +27,16 @@ use Rattle.bag_ledger.specs.declared.entries.Entry.TheVariants as enters
 use Rattle.bag_ledger.specs.declared.states.Placed.{Placed as Lodged}
 use Rattle.bag_ledger.specs.declared.states.RankState.{RankState}
 use Rattle.bag_ledger.specs.declared.states.Status.TheVariants as does
-use Rattle.bag_ledger.specs.Bag.{Bag, same_unit}
+use Rattle.bag_ledger.specs.Bag.{Bag}
 use Rattle.bag_ledger.specs.Steps.{begun}
 use Rattle.bag_ledger.proofs.Tests.{same_unit_is, some_is}
 use Rattle.rank_client.specs.declared.pendings.Pending.TheVariants as waits_for
-use Rattle.rank_client.specs.Calls.{Aims, fetches, granted, is_fetched, is_finish}
-use Rattle.rank_client.specs.Rules.{ClientResponse, asks, entry_of, fetch, fetched, first_server as first_asked, in_ranks, open_call, over, put, reserve, unit_put}
-use Rattle.rank_client.specs.State.{ClientModel, home}
+use Rattle.rank_client.specs.Calls.{fetches, granted, is_fetched, is_finish}
+use Rattle.rank_client.specs.Rules.{ClientResponse, asks, entry_of, fetch, fetched, first_server as first_asked, open_call, over, put, reserve, unit_put}
+use Rattle.rank_client.specs.State.{ClientModel}
 use Rattle.rank_client.specs.Step.{Made, call_stamp, made, posted, ticked}
 use Rattle.rank_client.proofs.Begins.{found_is}
+use Rattle.server_core.proofs.Expected.{aims_from}
 use Rattle.server_core.specs.Agreement.{of_id}
 use Rattle.server_core.specs.State.{ServerModel}
 use Rattle.server_core.proofs.Finds.{find_is}
@@ -73,17 +76,12 @@ first_is c (Soft rank) one = let named : ℕ → Server = λ k. record { 0 = k }
 home_is : (config : Config) (rank : Rank) → config.servers ≡ 1 → home config rank ≡ first_server
 home_is config rank one = let named : ℕ → Server = λ k. record { 0 = k } in ap named (mod_one rank.0 config.servers one)
 
-aims_in : (config : Config) (target : Target) → config.ranks ≡ 1 → Aims target 1 → in_ranks config target ≡ true
-aims_in config Any one aims = refl
-aims_in config (Only rank) one aims = ap (nat_lt rank.0) one ∙ lt-ltb rank.0 1 aims
-aims_in config (Soft rank) one aims = ap (nat_lt rank.0) one ∙ lt-ltb rank.0 1 aims
-
 module _ (c : ClientModel) (s : ServerModel) (ledger : List Entry) (i : IsIdle c s ledger) where
   module _ (kind : WorkType) (prio : ℤ) (target : Target) (answer : Option Rank) (body : List ℕ) (size : length body ≤ 2 ^ 20) (aims : Aims target 1) where
     put_opens : open_call (ticked c (call_stamp c)) (calls_to.Put kind prio target answer body) ≡ Some (put (ticked c (call_stamp c)) (unit_put c kind prio target answer body) c.end)
     put_opens =
         let t : ClientModel = ticked c (call_stamp c) in
-        let may : (nat_le (length body) (2 ^ 20) && in_ranks c.config target) ≡ true = and_from _ _ (le-leb (length body) (2 ^ 20) size) (aims_in c.config target i.joint.one_rank aims) in
+        let may : (nat_le (length body) (2 ^ 20) && in_ranks c.config target) ≡ true = and_from _ _ (le-leb (length body) (2 ^ 20) size) (aims_from c.config target (subst (λ n. Aims target n) (sym i.joint.one_rank) aims)) in
         ap (λ v. cond v (Some (put t (unit_put c kind prio target answer body) c.end)) None) may
 
     put_beginning : IsBeginning c s ledger (calls_to.Put kind prio target answer body)

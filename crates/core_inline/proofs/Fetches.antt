@@ -3,6 +3,7 @@ use Rattle.std.proofs.Common.{◌≡◌, inl, ℕ, ◌==◌, ◌&&◌, ◌||◌,
 use Rattle.std.specs.Prelude.{option_and_then}
 use Rattle.std.specs.Option.{option_map}
 use Rattle.std.proofs.lemmas.List.Elements.{All-contains}
+use Rattle.adlb_unit.specs.Ids.{same_unit}
 use Rattle.adlb_unit.specs.declared.configs.Config.{Config}
 use Rattle.adlb_unit.specs.declared.letters.Letter.{Letter}
 use Rattle.adlb_unit.specs.declared.messages.Message.{Message}
@@ -21,7 +22,7 @@ use Rattle.bag_ledger.specs.declared.states.RankState.{RankState}
 use Rattle.bag_ledger.specs.declared.states.Status.TheVariants as does
 use Rattle.bag_ledger.specs.declared.states.UnitPlace.{UnitPlace}
 use Rattle.bag_ledger.specs.declared.states.UnitPlace.TheVariants.{Pinned, Spent}
-use Rattle.bag_ledger.specs.Bag.{Bag, is_placed_at, rank_at, same_unit}
+use Rattle.bag_ledger.specs.Bag.{Bag, is_placed_at, rank_at}
 use Rattle.bag_ledger.specs.Runs.{IsRun, answered, calls_from, own_answer, says}
 use Rattle.bag_ledger.specs.Steps.{after, ended, moved, own_fetched, with_rank}
 use Rattle.bag_ledger.proofs.Tests.{same_number, same_server_is, some_is}
@@ -38,7 +39,7 @@ use Rattle.server_core.specs.State.{ServerModel}
 use Rattle.server_core.specs.Step.{Served, next_stamp, posted, serve, served, ticked}
 use Rattle.server_core.proofs.Calm.{calm_fetched}
 use Rattle.server_core.proofs.Finds.{find_is}
-use Rattle.work_queue.specs.Queue.{id_of, same_id}
+use Rattle.work_queue.specs.Queue.{id_of}
 use Rattle.work_queue.specs.declared.placing.Placed.{Placed}
 use Rattle.core_inline.specs.Inline.{zeroth}
 use Rattle.core_inline.specs.Known.{AreHeld, AreKnown, IsNoted}
@@ -105,7 +106,7 @@ module _ (c : ClientModel) (s : ServerModel) (ledger : List Entry) (letter : Let
   responds =
       let t : ServerModel = ticked s (next_stamp s letter) in
       let p : Placed = record { unit = noted.0.unit; pin = Some zeroth } in
-      let found : find (is_pinned_as note.id zeroth) s.queue.units ≡ Some p = find_narrower (λ q. same_id (id_of q) note.id) (λ q. is_pin q.pin zeroth) s.queue.units p slot refl in
+      let found : find (is_pinned_as note.id zeroth) s.queue.units ≡ Some p = find_narrower (λ q. same_unit (id_of q) note.id) (λ q. is_pin q.pin zeroth) s.queue.units p slot refl in
       ap (respond t zeroth) message ∙ ap (fetch t zeroth request note.id) found
 
   fetched_plain : (body : List ℕ) (n : UnitNote) → answers.Body body ≡ answers.Granted n → ⊥

@@ -3,6 +3,7 @@ use Rattle.std.proofs.Common.{◌≡◌, ◌⊎◌, inl, inr, ℕ, ◌<◌, ◌�
 use Rattle.std.proofs.lemmas.Bool.{or_from, or_parts}
 use Rattle.std.proofs.lemmas.List.Elements.{All-push, All-weaker, All-cons, All-head, All-tail, Contains-push_cases}
 use Rattle.std.proofs.lemmas.List.Folds.{find-append}
+use Rattle.adlb_unit.specs.Ids.{same_unit}
 use Rattle.adlb_unit.specs.declared.names.Server.{Server}
 use Rattle.adlb_unit.specs.declared.names.UnitId.{UnitId}
 use Rattle.adlb_unit.specs.declared.notes.UnitNote.{UnitNote}
@@ -12,7 +13,7 @@ use Rattle.bag_ledger.specs.declared.entries.Said.{Said}
 use Rattle.bag_ledger.specs.declared.states.Placed.{Placed}
 use Rattle.bag_ledger.specs.declared.states.UnitPlace.{UnitPlace}
 use Rattle.bag_ledger.specs.declared.states.UnitPlace.TheVariants.{Free, Pinned, Spent}
-use Rattle.bag_ledger.specs.Bag.{is_free, same_unit}
+use Rattle.bag_ledger.specs.Bag.{is_free}
 use Rattle.bag_ledger.specs.Runs.{note_of}
 use Rattle.bag_ledger.specs.Steps.{change_first}
 use Rattle.bag_ledger.proofs.Lookups.{find_changed, find_other, find_before, find_unfiltered}

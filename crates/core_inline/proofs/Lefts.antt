@@ -3,13 +3,14 @@ use Rattle.std.proofs.Common.{◌≡◌, ◌≢◌, Bool, true, false, cond, ◌
 use Rattle.std.specs.Prelude.{option_and_then}
 use Rattle.std.specs.List.{AllPairs, list_all}
 use Rattle.std.specs.Option.{option_map}
+use Rattle.adlb_unit.specs.Ids.{same_unit}
 use Rattle.adlb_unit.specs.declared.names.Rank.{Rank}
 use Rattle.adlb_unit.specs.declared.names.Server.{Server}
 use Rattle.adlb_unit.specs.declared.names.UnitId.{UnitId}
 use Rattle.bag_ledger.specs.declared.states.Placed.{Placed as Lodged}
 use Rattle.bag_ledger.specs.declared.states.UnitPlace.{UnitPlace}
 use Rattle.bag_ledger.specs.declared.states.UnitPlace.TheVariants.{Free, Travelling, Pinned, Spent}
-use Rattle.bag_ledger.specs.Bag.{Bag, same_unit, unit_of}
+use Rattle.bag_ledger.specs.Bag.{Bag, unit_of}
 use Rattle.bag_ledger.proofs.Tests.{same_number, same_server_is, some_is}
 use Rattle.server_core.specs.declared.states.LeftUnit.{LeftUnit}
 use Rattle.server_core.proofs.Finds.{find_is}
@@ -17,7 +18,7 @@ use Rattle.server_core.specs.Agreement.{ServerAgrees, IsAlone, of_id, slot_of, s
 use Rattle.server_core.specs.Left.{left_of as left_list, left_unit}
 use Rattle.server_core.specs.Rules.{unit_with}
 use Rattle.server_core.specs.State.{ServerModel}
-use Rattle.work_queue.specs.Queue.{HasDistinctIds, id_of, same_id}
+use Rattle.work_queue.specs.Queue.{HasDistinctIds, id_of}
 use Rattle.work_queue.specs.declared.placing.Placed.{Placed}
 use Rattle.std.proofs.lemmas.Bool.{and_parts}
 use Rattle.std.proofs.lemmas.List.{get_or-map, length-map}
@@ -72,9 +73,9 @@ found_passes test which (v ∷ units) u all found = by_test (and_parts (test v) 
 
 find_left : (me : Server) (id : UnitId) (units : List Placed) → left_with id (map (left_unit me) units) ≡ option_map (left_unit me) (unit_with id units)
 find_left me id [] = refl
-find_left me id (p ∷ units) = by_test (same_id (id_of p) id) refl (find_left me id units)
+find_left me id (p ∷ units) = by_test (same_unit (id_of p) id) refl (find_left me id units)
   where
-    by_test : (t : Bool) → same_id (id_of p) id ≡ t → left_with id (map (left_unit me) units) ≡ option_map (left_unit me) (unit_with id units) → left_with id (map (left_unit me) (p ∷ units)) ≡ option_map (left_unit me) (unit_with id (p ∷ units))
+    by_test : (t : Bool) → same_unit (id_of p) id ≡ t → left_with id (map (left_unit me) units) ≡ option_map (left_unit me) (unit_with id units) → left_with id (map (left_unit me) (p ∷ units)) ≡ option_map (left_unit me) (unit_with id (p ∷ units))
     by_test true is rest = rw is refl
     by_test false is rest = rw is rest
 

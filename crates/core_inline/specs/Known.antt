@@ -1,11 +1,12 @@
 -- What the rank was told of the units of the bag.
 use Rattle.std.specs.Prelude.{ℕ, ◌≡◌, ◌<◌, Bool, true, false, List, find, Option, None, Some, All}
+use Rattle.adlb_unit.specs.Ids.{same_unit}
 use Rattle.adlb_unit.specs.declared.names.UnitId.{UnitId}
 use Rattle.adlb_unit.specs.declared.notes.UnitNote.{UnitNote}
 use Rattle.bag_ledger.specs.declared.entries.Said.{Said}
 use Rattle.bag_ledger.specs.declared.states.Placed.{Placed}
 use Rattle.bag_ledger.specs.declared.states.UnitPlace.TheVariants.{Pinned}
-use Rattle.bag_ledger.specs.Bag.{is_free, same_unit}
+use Rattle.bag_ledger.specs.Bag.{is_free}
 use Rattle.bag_ledger.specs.Runs.{note_of}
 use Rattle.rank_client.specs.Calls.{granted, is_fetched, is_granted}
 use Rattle.server_core.specs.Agreement.{of_id}

@@ -1,11 +1,12 @@
 -- What is left of the units at the end of a run.
 use Rattle.std.specs.Prelude.{◌≡◌, ◌≢◌, List, find, Option, None, Some, option_and_then}
 use Rattle.std.specs.List.{AllPairs}
+use Rattle.adlb_unit.specs.Ids.{same_unit}
 use Rattle.adlb_unit.specs.declared.names.UnitId.{UnitId}
 use Rattle.bag_ledger.specs.declared.states.Placed.{Placed}
 use Rattle.bag_ledger.specs.declared.states.UnitPlace.{UnitPlace}
 use Rattle.bag_ledger.specs.declared.states.UnitPlace.TheVariants.{Free, Travelling, Pinned, Spent}
-use Rattle.bag_ledger.specs.Bag.{Bag, same_unit, unit_of}
+use Rattle.bag_ledger.specs.Bag.{Bag, unit_of}
 use Rattle.server_core.specs.declared.states.LeftUnit.{LeftUnit}
 
 -- a unit that is free or pinned is left at its server, with its pin; one that travels or is spent is not left

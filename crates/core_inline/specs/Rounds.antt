@@ -1,5 +1,6 @@
 -- One call of the only rank, from its beginning to its answer: what stands before, between and after its events.
-use Rattle.std.specs.Prelude.{ℕ, ◌+◌, ◌*◌, ◌^◌, ◌≡◌, ◌⊎◌, ◌<◌, ◌≤◌, Bool, true, false, ◌&&◌, slice_index_or, List, [], ◌∷◌, ◌++◌, length, take, Option, None, Some}
+use Rattle.std.specs.Prelude.{ℕ, ◌+◌, ◌*◌, ◌≡◌, ◌⊎◌, ◌<◌, ◌≤◌, Bool, true, false, ◌&&◌, slice_index_or, List, [], ◌∷◌, ◌++◌, length, take, Option, None, Some}
+use Rattle.adlb_unit.specs.Limits.{stamp_limit}
 use Rattle.adlb_unit.specs.declared.actors.Actor.{Actor}
 use Rattle.adlb_unit.specs.declared.actors.Actor.TheVariants as by
 use Rattle.adlb_unit.specs.declared.configs.Config.{Config}
@@ -132,7 +133,7 @@ pub record IsServing (c : ClientModel) (s : ServerModel) (ledger : List Entry) (
   pub reply : Letter
   pub sends : Sends x.sends by_rank reply
   pub stamped : reply.stamp ≡ next_stamp s letter
-  pub hearing : next_stamp s letter < 2 ^ 48 → IsHearing c x.state (ledger ++ x.entries) reply
+  pub hearing : next_stamp s letter < stamp_limit → IsHearing c x.state (ledger ++ x.entries) reply
   pub cut : (n : ℕ) → n < length x.entries → IsTold c.config (ledger ++ take n x.entries) c.transcript (Some call)
   pub before : IsTold c.config ledger c.transcript (Some call)
   pub few : next_stamp s letter ≤ 3 * length c.transcript + 3
@@ -151,7 +152,7 @@ pub record IsSent (c : ClientModel) (call : Call) (x : Made) (s : ServerModel) (
   pub sends : Sends x.sends (by.Server first_server) letter
   pub pending : pending_call x.state.pending ≡ Some call
   pub same : x.state.transcript ≡ c.transcript
-  pub serving : call_stamp c < 2 ^ 48 → IsServing x.state s ledger letter
+  pub serving : call_stamp c < stamp_limit → IsServing x.state s ledger letter
 
 -- The rank begins a call.
 pub record IsBeginning (c : ClientModel) (s : ServerModel) (ledger : List Entry) (call : Call) : Type 0 where
@@ -180,7 +181,7 @@ pub record IsFinishing (c : ClientModel) (s : ServerModel) (ledger : List Entry)
   pub letter : Letter
   pub sends : Sends x.sends (by.Server first_server) letter
   pub y : Served
-  pub serves : call_stamp c < 2 ^ 48 → serve s by_rank letter ≡ Some y
+  pub serves : call_stamp c < stamp_limit → serve s by_rank letter ≡ Some y
   pub silent : y.entries ≡ []
   pub before : IsTold c.config ledger c.transcript None
   pub cut : IsTold c.config (ledger ++ x.entries) c.transcript (Some calls_to.Finish)
@@ -199,7 +200,7 @@ pub record IsFailed (config : Config) (said : List Said) (call : Call) (trouble 
   pub begun : Option Call
   pub told : IsTold config ledger said begun
   pub began : (begun ≡ None) ⊎ (begun ≡ Some call)
-  pub late : (stamp : ℕ) → trouble ≡ TooLong stamp → (2 ^ 48 ≤ stamp) × (stamp ≤ 3 * length said + 3)
+  pub late : (stamp : ℕ) → trouble ≡ TooLong stamp → (stamp_limit ≤ stamp) × (stamp ≤ 3 * length said + 3)
 
 -- the rank has finished, and the ledger tells so
 pub record IsFinished (config : Config) (said : List Said) (c : ClientModel) (s : ServerModel) (ledger : List Entry) : Type 0 where
@@ -207,4 +208,4 @@ pub record IsFinished (config : Config) (said : List Said) (c : ClientModel) (s 
   pub told : IsTold config ledger c.transcript None
   pub left : IsLeft told.last (left_of s)
   pub heard : is_ended s ≡ true
-  pub short : length c.transcript < 2 ^ 48
+  pub short : length c.transcript < stamp_limit

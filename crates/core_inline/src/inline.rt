@@ -1,6 +1,7 @@
 //! A run of one rank and one server, without threads.
 
 ghost use Rattle.std.specs.Prelude.{◌≡◌, ◌<◌, ◌≤◌, ◌^◌, ◌↔◌, ℕ, length, None, Some, Err, true, false, IfOk, IfErr, OnOk};
+ghost use Rattle.adlb_unit.specs.Limits.{stamp_limit};
 ghost use Rattle.adlb_unit.specs.declared.notes.Trouble.{Trouble};
 ghost use Rattle.bag_ledger.specs.declared.entries.Call.{Call};
 ghost use Rattle.rank_client.specs.Calls.{Began, Repeats, has_finished, plus};
@@ -21,8 +22,8 @@ use std::alloc::Global;
 pub struct InlineWorld {
     run: InlineRun,
     pub ghost one_rank: { run.config.ranks ≡ 1 },
-    pub ghost late: { (stamp : ℕ) → run.failed ≡ Some (Trouble.TooLong stamp) → 2 ^ 48 ≤ stamp },
-    ghost short: { length run.transcript < 2 ^ 48 },
+    pub ghost late: { (stamp : ℕ) → run.failed ≡ Some (Trouble.TooLong stamp) → stamp_limit ≤ stamp },
+    ghost short: { length run.transcript < stamp_limit },
 }
 
 impl InlineWorld {

@@ -1,5 +1,6 @@
 -- Which letters of a rank's call are under way.
 use Rattle.std.specs.Prelude.{◌≡◌, ◌==◌, Bool, true, false, ◌&&◌, length, Option, None, Some}
+use Rattle.adlb_unit.specs.Targets.{home}
 use Rattle.adlb_unit.specs.declared.actors.Actor.{Actor}
 use Rattle.adlb_unit.specs.declared.actors.Actor.TheVariants as by
 use Rattle.adlb_unit.specs.declared.messages.Message.{Message}
@@ -8,7 +9,7 @@ use Rattle.adlb_unit.specs.declared.names.Server.{Server}
 use Rattle.rank_client.specs.declared.pendings.Pending.{Pending}
 use Rattle.rank_client.specs.declared.pendings.Pending.TheVariants as waits_for
 use Rattle.rank_client.specs.Rules.{asked, expects_note, is_for}
-use Rattle.rank_client.specs.State.{ClientModel, home}
+use Rattle.rank_client.specs.State.{ClientModel}
 use Rattle.core_law.specs.Letters.{is_request}
 
 -- this letter to this server is the one that the call has sent last

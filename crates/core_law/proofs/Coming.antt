@@ -7,6 +7,7 @@ use Rattle.std.proofs.lemmas.Bool.{eq-eqb}
 use Rattle.std.proofs.lemmas.List.Elements.{All-push, All-same, All-weaker}
 use Rattle.std.proofs.lemmas.List.{get_or_append_left, length-append}
 use Rattle.std.proofs.lemmas.List.FromFn.{map-range_with_len_more}
+use Rattle.adlb_unit.specs.Ids.{same_unit}
 use Rattle.adlb_unit.specs.declared.messages.Message.{Message}
 use Rattle.adlb_unit.specs.declared.messages.Message.TheVariants as tells
 use Rattle.adlb_unit.specs.declared.names.Rank.{Rank}
@@ -28,7 +29,7 @@ use Rattle.bag_ledger.specs.declared.states.RankState.{RankState}
 use Rattle.bag_ledger.specs.declared.states.Status.TheVariants as does
 use Rattle.bag_ledger.specs.declared.states.UnitPlace.{UnitPlace}
 use Rattle.bag_ledger.specs.declared.states.UnitPlace.TheVariants.{Free, Pinned, Spent}
-use Rattle.bag_ledger.specs.Bag.{Bag, putting, rank_at, same_unit, unit_of}
+use Rattle.bag_ledger.specs.Bag.{Bag, putting, rank_at, unit_of}
 use Rattle.bag_ledger.specs.Runs.{IsRun, calls_after, calls_from, note_of, said_by, says}
 use Rattle.bag_ledger.specs.Runs as runs
 use Rattle.bag_ledger.specs.Steps.{Steps, after, declined_by, ended, moved, own_fetched, shared, taken, with_rank}

@@ -5,11 +5,12 @@ use Rattle.std.specs.Option.{option_map, option_or}
 use Rattle.std.proofs.lemmas.Bool.{eqb-true, false_from_ne_true}
 use Rattle.std.proofs.lemmas.List.Folds.{find-append}
 use Rattle.std.proofs.lemmas.List.Sums.{sum_by_push}
+use Rattle.adlb_unit.specs.Ids.{same_unit}
 use Rattle.adlb_unit.specs.declared.names.Rank.{Rank}
 use Rattle.adlb_unit.specs.declared.names.Server.{Server}
 use Rattle.adlb_unit.specs.declared.names.UnitId.{UnitId}
 use Rattle.adlb_unit.specs.declared.units.Unit.{Unit as Work}
-use Rattle.bag_ledger.specs.Bag.{Bag, same_unit, unit_charge, unit_of}
+use Rattle.bag_ledger.specs.Bag.{Bag, unit_charge, unit_of}
 use Rattle.bag_ledger.specs.Steps.{moved}
 use Rattle.bag_ledger.specs.declared.states.Placed.{Placed as Lodged}
 use Rattle.bag_ledger.specs.declared.states.UnitPlace.{UnitPlace}

@@ -10,16 +10,18 @@ use Rattle.bag_ledger.specs.declared.states.Status.TheVariants as does_in
 use Rattle.server_core.specs.declared.standings.Standing.TheVariants as does
 use Rattle.server_core.specs.declared.standings.Standing.{Standing}
 use Rattle.work_queue.specs.declared.placing.Placed.{Placed}
-use Rattle.work_queue.specs.Queue.{id_of, same_id}
+use Rattle.work_queue.specs.Queue.{id_of}
 use Rattle.bag_ledger.specs.declared.states.UnitPlace.TheVariants.{Pinned}
 use Rattle.bag_ledger.specs.declared.states.Status.{Status}
 use Rattle.bag_ledger.specs.declared.states.RankState.{RankState}
 use Rattle.bag_ledger.specs.declared.states.Placed.{Placed as Lodged}
 use Rattle.bag_ledger.specs.declared.states.Promise.{Promise as Room}
+use Rattle.adlb_unit.specs.Links.{place_of}
+use Rattle.adlb_unit.specs.Targets.{in_ranks}
+use Rattle.adlb_unit.specs.Ids.{same_unit}
 use Rattle.adlb_unit.specs.declared.units.Unit.{Unit}
 use Rattle.adlb_unit.specs.declared.notes.UnitNote.{UnitNote}
 use Rattle.adlb_unit.specs.declared.names.WorkType.{WorkType}
-use Rattle.adlb_unit.specs.declared.names.Target.TheVariants.{Any, Only, Soft}
 use Rattle.adlb_unit.specs.declared.names.Target.{Target}
 use Rattle.std.specs.List.{list_any, list_all}
 use Rattle.std.specs.Option.{option_map}
@@ -33,20 +35,20 @@ use Rattle.adlb_unit.specs.declared.messages.Message.{Message}
 use Rattle.adlb_unit.specs.declared.messages.Message.TheVariants as tells
 use Rattle.adlb_unit.specs.declared.names.Rank.{Rank}
 use Rattle.adlb_unit.specs.declared.names.Server.{Server}
-use Rattle.bag_ledger.specs.Bag.{Bag, rank_at, promise_of, same_unit, unit_of}
+use Rattle.bag_ledger.specs.Bag.{Bag, rank_at, promise_of, unit_of}
 use Rattle.std.specs.Prelude.{option_and_then, nat_le, nat_lt}
 use Rattle.std.proofs.lemmas.List.Elements.{All-contains, Contains-push}
 use Rattle.core_run.specs.declared.events.Event.{Event}
 use Rattle.core_run.specs.Runs.{Runs, run, NoneIsStuck}
-use Rattle.rank_client.specs.Rules.{in_ranks as rank_aims, is_idle, ClientResponse, answer_call}
-use Rattle.server_core.specs.Rules.{respond, in_ranks as server_aims, expects_finish, expects_put, expects_reserve, has_promise, has_unit, is_finished, is_pinned_as, is_running, unit_with, ServerResponse, best_unit, fetch, fetched, finish, is_over, put, reserve}
+use Rattle.rank_client.specs.Rules.{is_idle, ClientResponse, answer_call}
+use Rattle.server_core.specs.Rules.{respond, expects_finish, expects_put, expects_reserve, has_promise, has_unit, is_finished, is_pinned_as, is_running, unit_with, ServerResponse, best_unit, fetch, fetched, finish, is_over, put, reserve}
 use Rattle.server_core.specs.Step.{next_stamp, ticked, Served, after_event, serve, served}
 use Rattle.rank_client.specs.declared.pendings.Pending.{Pending}
 use Rattle.rank_client.specs.declared.pendings.Pending.TheVariants as waits_for
 use Rattle.rank_client.specs.Agreement.{IsHeld, in_call, rank_of}
 use Rattle.rank_client.specs.State.{ClientModel}
 use Rattle.server_core.specs.Agreement.{ServerAgrees, StartAgrees, IsAs, room_at, room_for, slot_of}
-use Rattle.server_core.specs.State.{ServerModel, is_home, standing, place_of}
+use Rattle.server_core.specs.State.{ServerModel, is_home, standing}
 use Rattle.server_core.specs.Step.{Served}
 use Rattle.core_law.proofs.Asked.{IsOfCall, IsAsked, awaits}
 use Rattle.core_law.specs.Letters.{finishes, is_request, one_letter, is_parked, call_letter, finish_handled, finish_letter, fits_link, is_finish, kinds, one, parked_as}
@@ -65,23 +67,18 @@ none_any : {X : Type 0} (test : X → Bool) (xs : List X) → find test xs ≡ N
 none_any test [] none = refl
 none_any test (x ∷ xs) none = let parts = none_passes test x xs none in rw parts.0 (none_any test xs parts.1)
 
-aims_same : (config : Config) (target : Target) → rank_aims config target ≡ true → server_aims config target ≡ true
-aims_same config Any is = refl
-aims_same config (Only rank) is = is
-aims_same config (Soft rank) is = is
-
 put_expected : (c : ClientModel) (unit : Unit) (first : Server) (tried : ℕ) (b : Bag) (t : ServerModel) → Waits c (waits_for.Put unit first tried) b → ServerAgrees b t → t.config ≡ c.config → expects_put t c.me unit ≡ true
 put_expected c unit first tried b t w m same =
     let offer = w.call.0 in
     let fresh : unit_of b unit.id ≡ None = none_yet b c.me c.next unit w.below offer.rank offer.call in
     let absent : unit_with unit.id t.queue.units ≡ None = m.units.each unit.id ∙ ap (λ o. option_and_then (slot_of t.me) o) fresh in
-    let none : has_unit unit.id t.queue.units ≡ false = none_any (λ p. same_id (id_of p) unit.id) t.queue.units absent in
+    let none : has_unit unit.id t.queue.units ≡ false = none_any (λ p. same_unit (id_of p) unit.id) t.queue.units absent in
     let unpromised : promise_of b unit.id ≡ None = ap (λ (all : List Room). find (λ p. same_unit p.id unit.id) all) (w.knows).no_room in
     let no_room : room_for unit.id t.queue.promises ≡ None = m.promises unit.id ∙ ap (λ o. option_and_then (room_at t.me) o) unpromised in
-    let free : has_promise unit.id t.queue.promises ≡ false = none_any (λ p. same_id p.id unit.id) t.queue.promises no_room in
+    let free : has_promise unit.id t.queue.promises ≡ false = none_any (λ p. same_unit p.id unit.id) t.queue.promises no_room in
     let sender : (unit.id.rank.0 == c.me.0) ≡ true = eq-eqb unit.id.rank.0 c.me.0 (ap (λ (r : Rank). r.0) offer.rank) in
     let small : nat_le (length unit.body) (2 ^ 20) ≡ true = le-leb (length unit.body) (2 ^ 20) offer.size in
-    let aims : server_aims t.config unit.target ≡ true = ap (λ k. server_aims k unit.target) same ∙ aims_same c.config unit.target offer.target in
+    let aims : in_ranks t.config unit.target ≡ true = ap (λ k. in_ranks k unit.target) same ∙ offer.target in
     and_from _ _ (and_from _ _ (and_from _ _ (and_from _ _ sender (not_from_false (has_unit unit.id t.queue.units) none)) (not_from_false (has_promise unit.id t.queue.promises) free)) small) aims
 
 -- a rank that asks, and is not known to wait, runs
@@ -116,8 +113,8 @@ fetch_expected c request note b t w m at =
     let slot : slot_of t.me u ≡ Some (record { unit = u.unit; pin = Some c.me }) = ap (λ k. slot_of t.me (record { unit = u.unit; place = k })) place ∙ pinned_at_self t.me c.me u.unit in
     let p : Placed = record { unit = u.unit; pin = Some c.me } in
     let there : unit_with note.id t.queue.units ≡ Some p = m.units.each note.id ∙ ap (λ o. option_and_then (slot_of t.me) o) held.1.0 ∙ slot in
-    let found = find_is (λ q. same_id (id_of q) note.id) t.queue.units p there in
-    there_find (is_pinned_as note.id c.me) t.queue.units p found.1 (and_from (same_id (id_of p) note.id) (c.me.0 == c.me.0) found.0 (eq-eqb c.me.0 c.me.0 refl))
+    let found = find_is (λ q. same_unit (id_of q) note.id) t.queue.units p there in
+    there_find (is_pinned_as note.id c.me) t.queue.units p found.1 (and_from (same_unit (id_of p) note.id) (c.me.0 == c.me.0) found.0 (eq-eqb c.me.0 c.me.0 refl))
 
 -- nothing else is known of a rank whose Finish was not handled
 finish_expected : (t : ServerModel) (b : Bag) (r : RankState) → ServerAgrees b t → rank_at b zeroth ≡ Some r → r.status ≡ does_in.Finished → is_finished t zeroth ≡ false → (get_or t.ranks 0 does.Running ≡ does.Finished → ⊥) → expects_finish t zeroth ≡ true

@@ -10,6 +10,8 @@ use Rattle.std.proofs.lemmas.Bool.{and_parts, eqb-true, leb-true, ltb-true, not-
 use Rattle.std.proofs.lemmas.List.Elements.{All-filter, All-push, All-weaker, filter_passes, All-head, All-tail, All-contains_itself, All-same}
 use Rattle.std.proofs.lemmas.Nat.{mod_below}
 use Rattle.std.proofs.Math.Nat.{mod-eq_of_lt}
+use Rattle.adlb_unit.specs.Targets.{in_ranks, home}
+use Rattle.adlb_unit.specs.Ids.{same_unit}
 use Rattle.adlb_unit.specs.declared.actors.Actor.{Actor}
 use Rattle.adlb_unit.specs.declared.actors.Actor.TheVariants as by
 use Rattle.adlb_unit.specs.declared.configs.Config.{Config}
@@ -31,13 +33,13 @@ use Rattle.bag_ledger.specs.declared.entries.Call.{Call}
 use Rattle.bag_ledger.specs.declared.entries.Call.TheVariants as calls_to
 use Rattle.bag_ledger.specs.declared.entries.Entry.{Entry}
 use Rattle.bag_ledger.specs.declared.states.RankState.{RankState}
-use Rattle.bag_ledger.specs.Bag.{Bag, same_unit}
+use Rattle.bag_ledger.specs.Bag.{Bag}
 use Rattle.bag_ledger.specs.Steps.{after, with_rank}
 use Rattle.bag_ledger.proofs.Tests.{same_unit_is, some_is}
 use Rattle.rank_client.specs.declared.pendings.Pending.{Pending}
 use Rattle.rank_client.specs.declared.pendings.Pending.TheVariants as waits_for
-use Rattle.rank_client.specs.Rules.{ClientResponse, Saying, answer_call, asked, call_of, ends, expects_note, farewell, fetch, finish, first_server, hear_fetch, hear_put, hear_reserve, held, in_ranks, is_for, is_free, is_idle, open_call, put, refused, reserve, unit_put}
-use Rattle.rank_client.specs.State.{ClientModel, behind, home}
+use Rattle.rank_client.specs.Rules.{ClientResponse, Saying, answer_call, asked, call_of, ends, expects_note, farewell, fetch, finish, first_server, hear_fetch, hear_put, hear_reserve, held, is_for, is_free, is_idle, open_call, put, refused, reserve, unit_put}
+use Rattle.rank_client.specs.State.{ClientModel, behind}
 use Rattle.rank_client.specs.Step.{Made, begin, call_stamp, hear, letter_stamp, made, ticked}
 use Rattle.core_law.proofs.Asked.{IsAsked}
 use Rattle.adlb_unit.specs.Kinds.{is_to_rank}

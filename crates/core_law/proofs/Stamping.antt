@@ -4,6 +4,8 @@ use Rattle.std.specs.Prelude.{◌==◌, is_none, nat_le, nat_lt}
 use Rattle.std.specs.Option.{option_map}
 use Rattle.std.proofs.lemmas.Bool.{ltb-true}
 use Rattle.std.proofs.lemmas.List.{length-set}
+use Rattle.adlb_unit.specs.Links.{place_of}
+use Rattle.adlb_unit.specs.Targets.{in_ranks, home}
 use Rattle.adlb_unit.specs.declared.actors.Actor.{Actor}
 use Rattle.adlb_unit.specs.declared.actors.Actor.TheVariants as by
 use Rattle.adlb_unit.specs.declared.configs.Config.{Config}
@@ -24,11 +26,11 @@ use Rattle.bag_ledger.proofs.Tests.{some_is}
 use Rattle.work_queue.specs.declared.placing.Placed.{Placed}
 use Rattle.rank_client.specs.declared.pendings.Pending.{Pending}
 use Rattle.rank_client.specs.declared.pendings.Pending.TheVariants as waits_for
-use Rattle.rank_client.specs.Rules.{ClientResponse, Saying as Request, answer_call, asked, expects_note, fetch, finish, held, in_ranks, is_for, is_free, open_call, put, refused, reserve, unit_put}
-use Rattle.rank_client.specs.State.{ClientModel, home}
+use Rattle.rank_client.specs.Rules.{ClientResponse, Saying as Request, answer_call, asked, expects_note, fetch, finish, held, is_for, is_free, open_call, put, refused, reserve, unit_put}
+use Rattle.rank_client.specs.State.{ClientModel}
 use Rattle.rank_client.specs.Step.{Made, begin, call_stamp, hear, letter_stamp, made, post as post_requests, posted as request_posted, ticked as tick}
 use Rattle.server_core.specs.Rules.{ServerResponse, Saying as Answer, best_unit, expects_finish, expects_put, expects_reserve, fetch as fetch_at, finish as finish_at, is_over, is_pinned_as, put as put_at, reserve as reserve_at, respond}
-use Rattle.server_core.specs.State.{ServerModel, place_of}
+use Rattle.server_core.specs.State.{ServerModel}
 use Rattle.server_core.specs.Step.{Served, after_event, next_stamp, post as post_answers, serve, served, ticked, told, waiting_from}
 use Rattle.core_law.specs.Lines.{rank_sent, server_sent}
 use Rattle.core_law.specs.Own.{IsPool}

@@ -1,11 +1,12 @@
 -- Letters on a link stand in line: by their places, and by their stamps.
 use Rattle.std.specs.Prelude.{ℕ, ◌+◌, ◌≡◌, ◌<◌, ◌≤◌, List, [], ◌∷◌, slice_index_or}
+use Rattle.adlb_unit.specs.Links.{place_of}
 use Rattle.adlb_unit.specs.declared.actors.Actor.{Actor}
 use Rattle.adlb_unit.specs.declared.actors.Actor.TheVariants as by
 use Rattle.adlb_unit.specs.declared.configs.Config.{Config}
 use Rattle.adlb_unit.specs.declared.letters.Letter.{Letter}
 use Rattle.rank_client.specs.State.{ClientModel}
-use Rattle.server_core.specs.State.{ServerModel, place_of}
+use Rattle.server_core.specs.State.{ServerModel}
 use Rattle.core_run.specs.World.{World, client_of, link, pool_of}
 
 -- their places follow one another, from the first to before the next

@@ -1,14 +1,15 @@
 -- What holds of each actor's own state at every moment of a run.
-use Rattle.std.specs.Prelude.{◌≡◌, ◌<◌, ◌≤◌, ◌^◌, ◌+◌, true, false, length, None, All, ℕ, slice_index_or}
+use Rattle.std.specs.Prelude.{◌≡◌, ◌<◌, ◌≤◌, ◌+◌, true, false, length, None, All, ℕ, slice_index_or}
+use Rattle.adlb_unit.specs.Limits.{body_limit}
+use Rattle.adlb_unit.specs.Targets.{in_ranks}
+use Rattle.adlb_unit.specs.Ids.{same_unit}
 use Rattle.adlb_unit.specs.declared.configs.Config.{Config}
 use Rattle.adlb_unit.specs.declared.names.Rank.{Rank}
 use Rattle.adlb_unit.specs.declared.names.Server.{Server}
 use Rattle.adlb_unit.specs.declared.notes.UnitNote.{UnitNote}
 use Rattle.adlb_unit.specs.declared.units.Unit.{Unit}
-use Rattle.bag_ledger.specs.Bag.{same_unit}
 use Rattle.rank_client.specs.declared.pendings.Pending.{Pending}
 use Rattle.rank_client.specs.declared.pendings.Pending.TheVariants as waits_for
-use Rattle.rank_client.specs.Rules.{in_ranks}
 use Rattle.rank_client.specs.State.{ClientModel}
 use Rattle.server_core.specs.declared.standings.Standing.TheVariants as does
 use Rattle.server_core.specs.State.{ServerModel}
@@ -20,7 +21,7 @@ pub record IsOffer (s : ClientModel) (unit : Unit) : Type 0 where
   pub call : unit.id.number + 1 ≡ s.next
   -- so far there are no batches
   pub plain : unit.common ≡ None
-  pub size : length unit.body ≤ 2 ^ 20
+  pub size : length unit.body ≤ body_limit
   pub target : in_ranks s.config unit.target ≡ true
 
 -- the note of a unit that was granted: its server is one of the run, and (so far) it has no common part

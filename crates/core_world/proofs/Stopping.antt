@@ -2,6 +2,7 @@
 use Rattle.std.proofs.Common.{◌≡◌, ℕ, zero, suc, Bool, true, false, ◌&&◌, cond, List, [], ◌∷◌, ◌++◌, get_or, set, Option, Some, None, inl, refl, sym, ap, ◌∙◌, subst, append-nil}
 use Rattle.std.specs.Prelude.{IsSome, nat_lt}
 use Rattle.std.specs.Option.{option_map}
+use Rattle.adlb_unit.specs.Links.{place_of}
 use Rattle.adlb_unit.specs.declared.actors.Actor.{Actor}
 use Rattle.adlb_unit.specs.declared.actors.Actor.TheVariants as by
 use Rattle.adlb_unit.specs.declared.letters.Letter.{Letter}
@@ -14,7 +15,6 @@ use Rattle.bag_ledger.specs.declared.entries.Call.{Call}
 use Rattle.rank_client.specs.State.{ClientModel, start as new_client}
 use Rattle.server_core.specs.State.{ServerModel}
 use Rattle.rank_client.specs.Step.{Made, begin, hear, letter_stamp}
-use Rattle.server_core.specs.State.{place_of}
 use Rattle.server_core.specs.Step.{Served, next_stamp, serve}
 use Rattle.core_run.specs.declared.events.Event.{Event}
 use Rattle.core_run.specs.declared.events.Event.TheVariants as occurs

@@ -1,6 +1,7 @@
 //! Events, applied one by one.
 
-ghost use Rattle.std.specs.Prelude.{◌≡◌, ◌<◌, ◌≤◌, ◌^◌, ◌↔◌, ℕ, None, Some, Err, IfErr, IfOk, OnOk, length};
+ghost use Rattle.std.specs.Prelude.{◌≡◌, ◌<◌, ◌≤◌, ◌↔◌, ℕ, None, Some, Err, IfErr, IfOk, OnOk, length};
+ghost use Rattle.adlb_unit.specs.Limits.{stamp_limit};
 ghost use Rattle.adlb_unit.specs.declared.notes.Trouble.{Trouble};
 ghost use Rattle.core_run.specs.declared.events.Event.{Event};
 ghost use Rattle.core_run.specs.Runs.{run};
@@ -26,7 +27,7 @@ impl World {
         ensures not_enabled { (given : Event) → (result ≡ Err (ApplyFault.NotEnabled given)) ↔
             ((self.old.trouble ≡ None) × (happens self.old.world event ≡ None) × (given ≡ event)) }
         ensures too_long { self.old.trouble ≡ None → (stamp : ℕ) → (result ≡ Err (ApplyFault.TooLong stamp)) ↔
-            (IsEnabled self.old.world event × (2 ^ 48 ≤ stamp) × (stamp ≡ event_stamp self.old.world event)) }
+            (IsEnabled self.old.world event × (stamp_limit ≤ stamp) × (stamp ≡ event_stamp self.old.world event)) }
         ensures failed { (trouble : Trouble) → self.old.trouble ≡ Some trouble → result ≡ Err (fault_of trouble) }
 
         ensures config { self.new.world.config ≡ self.old.world.config }
@@ -52,7 +53,7 @@ impl World {
         requires enabled { IsEnabled self.old.world event }
         ensures happened { OnOk result (happens self.old.world event ≡ Some self.new.world) }
         ensures told { IfOk result (λ answer. answer ≡ event_answer self.old.world event) }
-        ensures stamp { OnOk result (event_stamp self.old.world event < 2 ^ 48) }
+        ensures stamp { OnOk result (event_stamp self.old.world event < stamp_limit) }
         ensures goes_on { OnOk result (self.new.trouble ≡ None) }
         ensures failed { IfErr result (λ trouble. self.new.trouble ≡ Some trouble) }
         ensures stops { IfErr result (λ trouble. Stops self.old.world event trouble self.new.world) }

@@ -1,6 +1,8 @@
 //! One event after another.
 
-ghost use Rattle.std.specs.Prelude.{◌≡◌, ◌≢◌, ◌<◌, ◌^◌, ◌∷◌, ◌++◌, [], List, IfOk, IfErr, OnOk, IsSome, None, Some};
+ghost use Rattle.std.specs.Prelude.{◌≡◌, ◌≢◌, ◌<◌, ◌∷◌, ◌++◌, [], List, IfOk, IfErr, OnOk, IsSome, None, Some};
+ghost use Rattle.adlb_unit.specs.Limits.{stamp_limit};
+ghost use Rattle.adlb_unit.specs.Links.{place_of};
 ghost use Rattle.adlb_unit.specs.declared.letters.Letter.{Letter};
 ghost use Rattle.adlb_unit.specs.declared.notes.Trouble.{Trouble};
 ghost use Rattle.core_run.specs.World.{client_of, happens, pool_of, post, taken};
@@ -10,7 +12,7 @@ ghost use Rattle.core_world.specs.Stage.{IsWhole, with_client, with_server};
 ghost use Rattle.rank_client.specs.Inside.{gives};
 ghost use Rattle.rank_client.specs.State.{ClientModel};
 ghost use Rattle.rank_client.specs.Step.{begin, call_stamp, hear, letter_stamp};
-ghost use Rattle.server_core.specs.State.{ServerModel, place_of};
+ghost use Rattle.server_core.specs.State.{ServerModel};
 ghost use Rattle.server_core.specs.Step.{next_stamp, serve};
 
 use crate::links::place_of;
@@ -28,7 +30,7 @@ impl Stage {
         requires whole { IsWhole self.old }
         ensures happened { OnOk result (happens self.old event ≡ Some self.new) }
         ensures told { IfOk result (λ answer. answer ≡ event_answer self.old event) }
-        ensures stamp { OnOk result (event_stamp self.old event < 2 ^ 48) }
+        ensures stamp { OnOk result (event_stamp self.old event < stamp_limit) }
         ensures whole { OnOk result (IsWhole self.new) }
         ensures stops { IfErr result (λ trouble. Stops self.old event trouble self.new) }
     {
@@ -44,7 +46,7 @@ impl Stage {
         requires whole { IsWhole self.old }
         ensures happened { OnOk result (happens self.old (Event.Deliver from to) ≡ Some self.new) }
         ensures told { IfOk result (λ answer. answer ≡ event_answer self.old (Event.Deliver from to)) }
-        ensures stamp { OnOk result (event_stamp self.old (Event.Deliver from to) < 2 ^ 48) }
+        ensures stamp { OnOk result (event_stamp self.old (Event.Deliver from to) < stamp_limit) }
         ensures whole { OnOk result (IsWhole self.new) }
         ensures stops { IfErr result (λ trouble. Stops self.old (Event.Deliver from to) trouble self.new) }
     {
@@ -63,7 +65,7 @@ impl Stage {
         requires whole { IsWhole self.old }
         ensures happened { OnOk result (happens self.old (Event.Call rank call) ≡ Some self.new) }
         ensures told { IfOk result (λ answer. answer ≡ event_answer self.old (Event.Call rank call)) }
-        ensures stamp { OnOk result (event_stamp self.old (Event.Call rank call) < 2 ^ 48) }
+        ensures stamp { OnOk result (event_stamp self.old (Event.Call rank call) < stamp_limit) }
         ensures whole { OnOk result (IsWhole self.new) }
         ensures stops { IfErr result (λ trouble. Stops self.old (Event.Call rank call) trouble self.new) }
     {
@@ -83,7 +85,7 @@ impl Stage {
         requires whole { IsWhole self.old }
         ensures happened { OnOk result (happens self.old (Event.Deliver (Actor.Server from) (Actor.Rank to)) ≡ Some self.new) }
         ensures told { IfOk result (λ answer. answer ≡ event_answer self.old (Event.Deliver (Actor.Server from) (Actor.Rank to))) }
-        ensures stamp { OnOk result (event_stamp self.old (Event.Deliver (Actor.Server from) (Actor.Rank to)) < 2 ^ 48) }
+        ensures stamp { OnOk result (event_stamp self.old (Event.Deliver (Actor.Server from) (Actor.Rank to)) < stamp_limit) }
         ensures whole { OnOk result (IsWhole self.new) }
         ensures stops { IfErr result (λ trouble. Stops self.old (Event.Deliver (Actor.Server from) (Actor.Rank to)) trouble self.new) }
     {
@@ -104,7 +106,7 @@ impl Stage {
         requires whole { IsWhole self.old }
         ensures happened { OnOk result (happens self.old (Event.Deliver from (Actor.Server to)) ≡ Some self.new) }
         ensures told { IfOk result (λ answer. answer ≡ event_answer self.old (Event.Deliver from (Actor.Server to))) }
-        ensures stamp { OnOk result (event_stamp self.old (Event.Deliver from (Actor.Server to)) < 2 ^ 48) }
+        ensures stamp { OnOk result (event_stamp self.old (Event.Deliver from (Actor.Server to)) < stamp_limit) }
         ensures whole { OnOk result (IsWhole self.new) }
         ensures stops { IfErr result (λ trouble. Stops self.old (Event.Deliver from (Actor.Server to)) trouble self.new) }
     {
@@ -123,7 +125,7 @@ impl Stage {
         requires ready { IsSome (begin (client_of self.old rank) call) }
         ensures begun { IfOk result (λ x. (s : ClientModel) × (begin (client_of self.old rank) call ≡ Some (gives s x))
             × (self.new ≡ with_client self.old rank s)) }
-        ensures stamp { OnOk result (call_stamp (client_of self.old rank) < 2 ^ 48) }
+        ensures stamp { OnOk result (call_stamp (client_of self.old rank) < stamp_limit) }
         ensures cause { IfErr result (Causes (call_stamp (client_of self.old rank))) }
         ensures failed { IfErr result (λ trouble. self.new ≡ with_client self.old rank (record (client_of self.old rank) { trouble = Some trouble })) }
     {
@@ -143,7 +145,7 @@ impl Stage {
         requires expected { IsSome (hear (client_of self.old rank) from letter) }
         ensures heard { IfOk result (λ x. (s : ClientModel) × (hear (client_of self.old rank) from letter ≡ Some (gives s x))
             × (self.new ≡ with_client self.old rank s)) }
-        ensures stamp { OnOk result (letter_stamp (client_of self.old rank) letter < 2 ^ 48) }
+        ensures stamp { OnOk result (letter_stamp (client_of self.old rank) letter < stamp_limit) }
         ensures cause { IfErr result (Causes (letter_stamp (client_of self.old rank) letter)) }
         ensures failed { IfErr result (λ trouble. self.new ≡ with_client self.old rank (record (client_of self.old rank) { trouble = Some trouble })) }
     {
@@ -159,7 +161,7 @@ impl Stage {
         ensures served { IfOk result (λ x. (s : ServerModel)
             × (serve (pool_of self.old server) from letter ≡ Some (record { state = s; sends = x.sends.items; entries = x.entries.items }))
             × (self.new ≡ with_server self.old server s)) }
-        ensures stamp { OnOk result (next_stamp (pool_of self.old server) letter < 2 ^ 48) }
+        ensures stamp { OnOk result (next_stamp (pool_of self.old server) letter < stamp_limit) }
         ensures cause { IfErr result (Causes (next_stamp (pool_of self.old server) letter)) }
         ensures failed { IfErr result (λ trouble. (s : ServerModel) × (self.new ≡ with_server self.old server s)) }
     {

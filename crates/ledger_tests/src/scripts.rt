@@ -42,7 +42,7 @@ fn call(alloc: Global, words: &mut Words) -> Result<Call, Fail> {
         0 | 1 => Call::Put {
             kind: WorkType(word / 4 % 3),
             prio: 0,
-            target: Target::Any,
+            target: target(word / 12),
             answer: None,
             body: body(alloc, words)?,
         },
@@ -57,6 +57,15 @@ fn call(alloc: Global, words: &mut Words) -> Result<Call, Fail> {
         },
     };
     Ok(call)
+}
+
+// A target that rank 0 may have.
+fn target(word: u32) -> Target {
+    match word % 3 {
+        0 => Target::Any,
+        1 => Target::Only(Rank(0)),
+        _ => Target::Soft(Rank(0)),
+    }
 }
 
 // Up to 59 bytes.

@@ -6,6 +6,9 @@ use Rattle.std.specs.Prelude.{if◌then◌else◌, IsSome, nat_le, nat_lt, slice
 use Rattle.std.specs.Option.{option_map}
 use Rattle.std.proofs.lemmas.Bool.{and_parts, leb-true, lt-ltb, ltb-true, not-true}
 use Rattle.std.proofs.lemmas.List.Elements.{All-push, All-same, All-set}
+use Rattle.adlb_unit.specs.Links.{sending}
+use Rattle.adlb_unit.specs.Targets.{home}
+use Rattle.adlb_unit.specs.declared.actors.Actor.TheVariants as by
 use Rattle.adlb_unit.specs.declared.letters.Letter.{Letter}
 use Rattle.adlb_unit.specs.declared.letters.Sending.{Sending}
 use Rattle.adlb_unit.specs.declared.messages.Message.{Message}
@@ -23,8 +26,8 @@ use Rattle.rank_client.specs.declared.pendings.Pending.{Pending}
 use Rattle.rank_client.specs.declared.pendings.Pending.TheVariants as waits_for
 use Rattle.rank_client.specs.Inside.{IsFresh, IsSound}
 use Rattle.rank_client.specs.Rules.{ClientResponse, answer_call, asked, ends, expects_note, is_for, refused}
-use Rattle.rank_client.specs.State.{ClientModel, behind, home}
-use Rattle.rank_client.specs.Step.{hear, letter_stamp, letter_trouble, made, sending, ticked, told_trouble}
+use Rattle.rank_client.specs.State.{ClientModel, behind}
+use Rattle.rank_client.specs.Step.{hear, letter_stamp, letter_trouble, made, ticked, told_trouble}
 use Rattle.rank_client.proofs.Insides.{first_letter}
 
 -- the note of a grant that is awaited names a server
@@ -60,7 +63,7 @@ refused_next s p unit first tried from m to charge p_is m_is more some =
 -- the unit goes to the next server
 pub retry_gives : (s : ClientModel) (unit next : Unit) (first to : Server) (tried : ℕ) (letter : Sending) (sends before : List Sending) (entries : List Entry) (sent : List ℕ)
     → to ≡ behind s.config first (tried + 1) → next ≡ unit → sent ≡ slice_set s.sent to.0 (slice_index_or s.sent to.0 0 + 1)
-    → letter ≡ sending s.clock (slice_index_or s.sent to.0 0) (record { to = to; message = tells.Put next }) → before ≡ [] → sends ≡ before ++ letter ∷ [] → entries ≡ []
+    → letter ≡ sending s.clock (slice_index_or s.sent to.0 0) (by.Server to) (tells.Put next) → before ≡ [] → sends ≡ before ++ letter ∷ [] → entries ≡ []
     → made (refused s unit first tried true) ≡ record { state = record s { pending = waits_for.Put unit first (tried + 1); sent = sent }; sends = sends; entries = entries; answer = None }
 retry_gives s unit next first to tried letter sends before entries sent to_is next_is sent_is letter_is before_is sends_is entries_is =
     rw (sends_is, entries_is, before_is, letter_is, sent_is, next_is, to_is) refl

@@ -4,6 +4,8 @@ use Rattle.std.specs.Prelude.{if◌then◌else◌, ◌==◌, IsFalse, All, is_no
 use Rattle.std.specs.Option.{option_map}
 use Rattle.std.proofs.lemmas.Bool.{and_parts, not-true}
 use Rattle.std.proofs.lemmas.List.Elements.{All-push, All-filter, All-same, All-head, All-tail}
+use Rattle.adlb_unit.specs.Targets.{in_ranks}
+use Rattle.adlb_unit.specs.Ids.{same_unit}
 use Rattle.adlb_unit.specs.declared.names.Rank.{Rank}
 use Rattle.adlb_unit.specs.declared.names.Target.{Target}
 use Rattle.adlb_unit.specs.declared.names.UnitId.{UnitId}
@@ -20,7 +22,7 @@ use Rattle.bag_ledger.specs.declared.states.RankState.{RankState}
 use Rattle.bag_ledger.specs.declared.states.Status.{Status}
 use Rattle.bag_ledger.specs.declared.states.Status.TheVariants as does
 use Rattle.bag_ledger.specs.declared.states.UnitPlace.TheVariants.{Pinned}
-use Rattle.bag_ledger.specs.Bag.{Bag, has_due, rank_at, same_unit}
+use Rattle.bag_ledger.specs.Bag.{Bag, has_due, rank_at}
 use Rattle.bag_ledger.specs.Bag as bag
 use Rattle.bag_ledger.specs.Runs.{IsRun, calls_from, says}
 use Rattle.bag_ledger.specs.Runs as runs
@@ -28,7 +30,7 @@ use Rattle.bag_ledger.specs.Steps.{Legal, Stands, Steps, after, begun, ended, wi
 use Rattle.rank_client.specs.declared.pendings.Pending.{Pending}
 use Rattle.rank_client.specs.declared.pendings.Pending.TheVariants as waits_for
 use Rattle.rank_client.specs.Agreement.{ClientAgrees, Follows, IsCaused, IsHeld, running}
-use Rattle.rank_client.specs.Rules.{ClientResponse, Saying, entry_of, fetch, fetched, finish, held, in_ranks, is_free, is_idle, open_call, over, put, reserve, unit_put}
+use Rattle.rank_client.specs.Rules.{ClientResponse, Saying, entry_of, fetch, fetched, finish, held, is_free, is_idle, open_call, over, put, reserve, unit_put}
 use Rattle.rank_client.specs.State.{ClientModel}
 use Rattle.rank_client.specs.Step.{Made, begin, call_stamp, made, post, ticked}
 use Rattle.rank_client.proofs.Entries.{IsSame, rank_changed, saying, same_unit_is, silent, some_is, step_of, then_saying}

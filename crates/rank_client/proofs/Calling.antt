@@ -2,6 +2,7 @@
 use Rattle.std.proofs.Common.{◌≡◌, ◌^◌, ℕ, List, length, Option, Some, None, Result, Ok, Err, Bool, true, false, ◌&&◌, ℤ, ap, refl, ◌∙◌}
 use Rattle.std.specs.Prelude.{if◌then◌else◌, IfOk, IsSome, nat_le}
 use Rattle.std.specs.Option.{option_map}
+use Rattle.adlb_unit.specs.Targets.{in_ranks}
 use Rattle.adlb_unit.specs.declared.names.NoMemory.{NoMemory}
 use Rattle.adlb_unit.specs.declared.names.Rank.{Rank}
 use Rattle.adlb_unit.specs.declared.names.Target.{Target}
@@ -11,7 +12,7 @@ use Rattle.bag_ledger.specs.declared.entries.Call.{Call}
 use Rattle.bag_ledger.specs.declared.entries.Call.TheVariants as calls_to
 use Rattle.rank_client.specs.declared.steps.ClientStep.{ClientStep}
 use Rattle.rank_client.specs.Inside.{gives}
-use Rattle.rank_client.specs.Rules.{in_ranks, open_call, put, unit_of, unit_put}
+use Rattle.rank_client.specs.Rules.{open_call, put, unit_of, unit_put}
 use Rattle.rank_client.specs.State.{ClientModel}
 use Rattle.rank_client.specs.Step.{made}
 use Rattle.rank_client.proofs.Entries.{some_is}

@@ -3,6 +3,7 @@ use Rattle.std.proofs.Common.{◌≡◌, ◌↔◌, ◌==◌, ◌^◌, ℕ, Bool
 use Rattle.std.specs.Prelude.{nat_lt, is_none}
 use Rattle.std.specs.Option.{option_map}
 use Rattle.std.proofs.lemmas.Bool.{and_from, and_parts, eq-eqb, eqb-true, lt-ltb, ltb-true, not-true, not_from_false}
+use Rattle.adlb_unit.specs.Targets.{home}
 use Rattle.adlb_unit.specs.declared.messages.Message.{Message}
 use Rattle.adlb_unit.specs.declared.messages.Message.TheVariants as tells
 use Rattle.adlb_unit.specs.declared.names.CommonRef.{CommonRef}
@@ -16,7 +17,7 @@ use Rattle.rank_client.specs.declared.pendings.Pending.TheVariants as waits_for
 use Rattle.rank_client.specs.Calls.{is_fetched, is_granted}
 use Rattle.rank_client.specs.Expected.{AnswersFetch, AnswersPut, AnswersReserve, ExpectedAreHeard, IsAwaited, IsFor, IsNewNote}
 use Rattle.rank_client.specs.Rules.{ClientResponse, answer_call, asked, expects_note, hear_fetch, hear_put, hear_reserve, is_for}
-use Rattle.rank_client.specs.State.{ClientModel, home}
+use Rattle.rank_client.specs.State.{ClientModel}
 use Rattle.rank_client.specs.Step.{letter_stamp, made, ticked}
 
 -- Options.

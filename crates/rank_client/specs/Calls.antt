@@ -1,8 +1,7 @@
 -- What a call answers, and what it adds to a transcript.
-use Rattle.std.specs.Prelude.{ℕ, ◌≡◌, ◌<◌, ◌⊎◌, List, [], ◌∷◌, ◌++◌, Option, Some, None, Bool, true, false, Result, Ok, Err, MatchOption, Contains}
+use Rattle.std.specs.Prelude.{ℕ, ◌≡◌, ◌⊎◌, List, [], ◌∷◌, ◌++◌, Option, Some, None, Bool, true, false, Result, Ok, Err, MatchOption, Contains}
 use Rattle.std.specs.List.{list_any}
-use Rattle.adlb_unit.specs.declared.names.Target.{Target}
-use Rattle.adlb_unit.specs.declared.names.Target.TheVariants.{Any, Only, Soft}
+use Rattle.adlb_unit.specs.Ids.{same_unit}
 use Rattle.adlb_unit.specs.declared.names.UnitId.{UnitId}
 use Rattle.adlb_unit.specs.declared.notes.End.{End}
 use Rattle.adlb_unit.specs.declared.notes.End.TheVariants as ends_by
@@ -14,7 +13,6 @@ use Rattle.bag_ledger.specs.declared.entries.Call.TheVariants as calls_to
 use Rattle.bag_ledger.specs.declared.entries.Answer.{Answer}
 use Rattle.bag_ledger.specs.declared.entries.Answer.TheVariants as answers
 use Rattle.bag_ledger.specs.declared.entries.Said.{Said}
-use Rattle.bag_ledger.specs.Bag.{same_unit}
 use Rattle.rank_client.specs.declared.faults.PutFault.{PutFault}
 use Rattle.rank_client.specs.declared.faults.PutFault.TheVariants as put_faults
 use Rattle.rank_client.specs.declared.faults.EndFault.{EndFault}
@@ -99,12 +97,6 @@ end_told [] = None
 end_told (s ∷ said) = end_of s.answer (end_told said)
 
 -- Words of the conditions and of what a call leaves.
-
--- the target is any or a rank of so many
-abbrev pub Aims : Target → ℕ → Type 0
-Aims Any ranks = Unit {0}
-Aims (Only rank) ranks = rank.0 < ranks
-Aims (Soft rank) ranks = rank.0 < ranks
 
 -- after an end was told, a call that is answered tells it again
 abbrev pub TellsAgain : Option End → Option Answer → Type 0

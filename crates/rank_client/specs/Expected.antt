@@ -1,5 +1,7 @@
 -- Which letters a client expects.
-use Rattle.std.specs.Prelude.{◌≡◌, ◌<◌, ◌^◌, ◌↔◌, ℕ, false, None, length, IsSome}
+use Rattle.std.specs.Prelude.{◌≡◌, ◌<◌, ◌↔◌, ℕ, false, None, length, IsSome}
+use Rattle.adlb_unit.specs.Limits.{stamp_limit}
+use Rattle.adlb_unit.specs.Targets.{home}
 use Rattle.adlb_unit.specs.declared.letters.Letter.{Letter}
 use Rattle.adlb_unit.specs.declared.messages.Message.{Message}
 use Rattle.adlb_unit.specs.declared.messages.Message.TheVariants as tells
@@ -9,7 +11,7 @@ use Rattle.rank_client.specs.declared.pendings.Pending.{Pending}
 use Rattle.rank_client.specs.declared.pendings.Pending.TheVariants as waits_for
 use Rattle.rank_client.specs.Calls.{is_fetched, is_granted}
 use Rattle.rank_client.specs.Rules.{asked}
-use Rattle.rank_client.specs.State.{ClientModel, home}
+use Rattle.rank_client.specs.State.{ClientModel}
 use Rattle.rank_client.specs.Step.{hear}
 
 -- the answer to this request comes from the server that was asked
@@ -52,7 +54,7 @@ IsAwaited s (waits_for.Fetch request note) from message = AnswersFetch request n
 -- beside it: the rank has not finished, and the stamp is one that is given
 pub record IsExpected (s : ClientModel) (from : Server) (letter : Letter) : Type 0 where
   pub going : s.finished ≡ false
-  pub stamp : letter.stamp < 2 ^ 48
+  pub stamp : letter.stamp < stamp_limit
   pub awaited : IsAwaited s s.pending from letter.message
 
 -- the law: exactly the letters that are expected have a step

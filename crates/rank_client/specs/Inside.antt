@@ -1,6 +1,7 @@
 -- The fields of a client.
-use Rattle.std.specs.Prelude.{◌≡◌, ℕ, ◌+◌, ◌<◌, ◌≤◌, ◌^◌, [], length, Bool, true, false, All}
+use Rattle.std.specs.Prelude.{◌≡◌, ℕ, ◌+◌, ◌<◌, ◌≤◌, [], length, Bool, true, false, All}
 use Rattle.std.specs.Vec.{vec_len, vec_capacity}
+use Rattle.adlb_unit.specs.Limits.{stamp_limit}
 use Rattle.adlb_unit.specs.declared.configs.Config.{Config}
 use Rattle.rank_client.specs.declared.clients.ClientCore.TheInside.{Inside}
 use Rattle.rank_client.specs.declared.pendings.Pending.{Pending}
@@ -39,7 +40,7 @@ pub record IsSound (s : ClientModel) : Type 0 where
   pub next : s.next ≤ s.clock
   pub puts : s.puts ≤ s.clock
   pub said : length s.transcript ≤ s.clock
-  pub clock : s.clock < 2 ^ 48
+  pub clock : s.clock < stamp_limit
   pub notes : All (λ n. n.server.0 < s.config.servers) s.handles
 
 -- how many more calls the transcript has room for: Finish, and the pending one

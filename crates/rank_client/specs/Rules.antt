@@ -1,6 +1,9 @@
 -- What a rank does with a call, and with a letter that answers it, one rule each.
-use Rattle.std.specs.Prelude.{ℕ, ◌+◌, ◌^◌, ◌==◌, nat_le, nat_lt, Bool, true, false, ◌&&◌, not, ℤ, List, [], ◌∷◌, ◌++◌, length, map, filter, find, Option, None, Some, is_none, if◌then◌else◌}
+use Rattle.std.specs.Prelude.{ℕ, ◌+◌, ◌==◌, nat_le, nat_lt, Bool, true, false, ◌&&◌, not, ℤ, List, [], ◌∷◌, ◌++◌, length, map, filter, find, Option, None, Some, is_none, if◌then◌else◌}
 use Rattle.std.specs.List.{range_with_len}
+use Rattle.adlb_unit.specs.Targets.{home, in_ranks}
+use Rattle.adlb_unit.specs.Ids.{same_unit}
+use Rattle.adlb_unit.specs.Limits.{body_limit}
 use Rattle.adlb_unit.specs.declared.configs.Config.{Config}
 use Rattle.adlb_unit.specs.declared.messages.Message.{Message}
 use Rattle.adlb_unit.specs.declared.messages.Message.TheVariants as tells
@@ -19,11 +22,10 @@ use Rattle.bag_ledger.specs.declared.entries.Call.{Call}
 use Rattle.bag_ledger.specs.declared.entries.Call.TheVariants as calls_to
 use Rattle.bag_ledger.specs.declared.entries.Entry.{Entry}
 use Rattle.bag_ledger.specs.declared.entries.Entry.TheVariants as enters
-use Rattle.bag_ledger.specs.Bag.{same_unit}
 use Rattle.rank_client.specs.declared.pendings.Pending.{Pending}
 use Rattle.rank_client.specs.declared.pendings.Pending.TheVariants as waits_for
 use Rattle.rank_client.specs.Calls.{is_fetched, is_granted, plus}
-use Rattle.rank_client.specs.State.{ClientModel, behind, home}
+use Rattle.rank_client.specs.State.{ClientModel, behind}
 
 -- a message to a server
 pub record Saying : Type 0 where
@@ -64,16 +66,11 @@ over s entry call end =
 
 -- Put.
 
--- the home of a named target, else the server that is as many places behind the rank's home as it put before
+-- the home of the rank that the target names; for any, the server that is as many places behind the rank's home as it put before
 abbrev pub first_server : ClientModel → Target → Server
 first_server s Any = behind s.config (home s.config s.me) s.puts
 first_server s (Only rank) = home s.config rank
 first_server s (Soft rank) = home s.config rank
-
-abbrev pub in_ranks : Config → Target → Bool
-in_ranks config Any = true
-in_ranks config (Only rank) = nat_lt rank.0 config.ranks
-in_ranks config (Soft rank) = nat_lt rank.0 config.ranks
 
 -- the call that puts the unit, and the entry that begins it
 abbrev pub call_of : Unit → Call
@@ -154,7 +151,7 @@ is_free s = is_idle s.pending && not s.finished
 -- the rule of a call; nothing where the rank is not ready for it. So far a rank reserves with one server alone.
 abbrev pub open_call : ClientModel → Call → Option ClientResponse
 open_call s (calls_to.Put kind prio target answer body) =
-    if nat_le (length body) (2 ^ 20) && in_ranks s.config target
+    if nat_le (length body) body_limit && in_ranks s.config target
     then Some (put s (unit_put s kind prio target answer body) s.end) else None
 open_call s (calls_to.Reserve types) = if s.config.servers == 1 then Some (reserve s types s.end) else None
 open_call s (calls_to.Fetch id) = fetch s id (held s id)

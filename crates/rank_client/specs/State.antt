@@ -52,10 +52,6 @@ start config me = record {
   trouble = None;
 }
 
--- the home of a rank
-abbrev pub home : Config → Rank → Server
-home config rank = record { 0 = rank.0 % config.servers }
-
 -- the server that is so many places behind this one in ring order
 abbrev pub behind : Config → Server → ℕ → Server
 behind config server places = record { 0 = (server.0 + places) % config.servers }

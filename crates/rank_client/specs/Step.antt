@@ -1,6 +1,8 @@
 -- One step of a rank: the rule of its call or letter, and the stamps and places of what it sends.
-use Rattle.std.specs.Prelude.{ℕ, ◌+◌, ◌^◌, max, nat_lt, nat_le, ◌&&◌, not, List, [], ◌∷◌, ◌++◌, slice_index_or, slice_set, Option, None, Some, if◌then◌else◌}
+use Rattle.std.specs.Prelude.{ℕ, ◌+◌, nat_lt, nat_le, ◌&&◌, not, List, [], ◌∷◌, ◌++◌, slice_index_or, slice_set, Option, None, Some, if◌then◌else◌}
 use Rattle.std.specs.Option.{option_map}
+use Rattle.adlb_unit.specs.Limits.{stamp_limit}
+use Rattle.adlb_unit.specs.Links.{sending, stamp_after}
 use Rattle.adlb_unit.specs.declared.actors.Actor.TheVariants as by
 use Rattle.adlb_unit.specs.declared.letters.Letter.{Letter}
 use Rattle.adlb_unit.specs.declared.letters.Sending.{Sending}
@@ -29,7 +31,7 @@ abbrev pub call_stamp : ClientModel → ℕ
 call_stamp s = s.clock + 1
 
 abbrev pub letter_stamp : ClientModel → Letter → ℕ
-letter_stamp s letter = max s.clock letter.stamp + 1
+letter_stamp s letter = stamp_after s.clock letter
 
 abbrev pub ticked : ClientModel → ℕ → ClientModel
 ticked s stamp = record s { clock = stamp }
@@ -41,11 +43,8 @@ sent_to s to = slice_index_or s.sent to.0 0
 abbrev pub counted : ClientModel → Server → ClientModel
 counted s to = record s { sent = slice_set s.sent to.0 (sent_to s to + 1) }
 
-abbrev pub sending : ℕ → ℕ → Saying → Sending
-sending stamp place x = record { to = by.Server x.to; letter = record { stamp = stamp; place = place; message = x.message } }
-
 abbrev pub posted : ClientModel → Saying → Sending
-posted s x = sending s.clock (sent_to s x.to) x
+posted s x = sending s.clock (sent_to s x.to) (by.Server x.to) x.message
 
 abbrev pub post : Made → List Saying → Made
 post x [] = x
@@ -64,7 +63,7 @@ begin s call = if is_free s then option_map made (open_call (ticked s (call_stam
 -- as the pending call awaits it
 abbrev pub hear : ClientModel → Server → Letter → Option Made
 hear s from letter =
-    if not s.finished && nat_lt letter.stamp (2 ^ 48)
+    if not s.finished && nat_lt letter.stamp stamp_limit
     then option_map made (answer_call (ticked s (letter_stamp s letter)) s.pending from letter.message)
     else None
 
@@ -72,7 +71,7 @@ hear s from letter =
 
 -- a stamp past the last one that is given
 abbrev pub late : ℕ → Option Trouble
-late stamp = if nat_le (2 ^ 48) stamp then Some (troubles.TooLong stamp) else None
+late stamp = if nat_le stamp_limit stamp then Some (troubles.TooLong stamp) else None
 
 -- a server that has failed says so
 abbrev pub told_trouble : Message → Option Trouble

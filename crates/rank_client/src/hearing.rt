@@ -12,7 +12,7 @@ use crate::clients::{ClientCore, behind, write};
 use crate::pendings::Pending;
 use crate::rooms::Offer;
 use crate::steps::ClientStep;
-use adlb_unit::{Letter, Message, Payload, Server, Trouble, Unit};
+use adlb_unit::{Letter, Message, Payload, STAMP_LIMIT, Server, Trouble, Unit};
 use bag_ledger::{Answer, Call, Entry, Said};
 use std::mem;
 
@@ -38,7 +38,7 @@ impl ClientCore {
             return Err(self.fail(trouble));
         }
         let stamp = self.clock.max(letter.stamp) + 1;
-        if stamp >= 1 << 48 {
+        if stamp >= STAMP_LIMIT {
             return Err(self.fail(Trouble::TooLong { stamp }));
         }
         self.clock = stamp;

@@ -4,11 +4,12 @@ use Rattle.std.specs.Prelude.{option_and_then}
 use Rattle.std.specs.List.{list_any}
 use Rattle.std.proofs.lemmas.Bool.{ltb-false, ltb-true}
 use Rattle.std.proofs.lemmas.List.Sums.{sum_by-cons}
+use Rattle.adlb_unit.specs.Ids.{same_batch}
 use Rattle.adlb_unit.specs.declared.names.CommonRef.{CommonRef}
 use Rattle.adlb_unit.specs.declared.names.Rank.{Rank}
 use Rattle.adlb_unit.specs.declared.notes.End.{End}
 use Rattle.adlb_unit.specs.declared.units.Unit.{Unit as Work}
-use Rattle.bag_ledger.specs.Bag.{Bag, charge, has_declined, offer, is_due, open_call, part_charge, putting, rank_at, same_batch, unit_of}
+use Rattle.bag_ledger.specs.Bag.{Bag, charge, has_declined, offer, is_due, open_call, part_charge, putting, rank_at, unit_of}
 use Rattle.bag_ledger.specs.Steps.{Steps, after, change_first, ended, has_cause, shared, taken, with_rank}
 use Rattle.bag_ledger.specs.declared.entries.Entry.TheVariants as enters
 use Rattle.bag_ledger.specs.declared.states.Part.{Part}

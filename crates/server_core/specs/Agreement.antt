@@ -1,7 +1,9 @@
 -- Which part of the bag a server stands for.
-use Rattle.std.specs.Prelude.{◌≡◌, ◌<◌, ◌%◌, ◌==◌, Bool, true, false, ◌||◌, List, [], ◌∷◌, length, find, Option, None, Some, sum_by, slice_index_or, option_and_then, if◌then◌else◌}
+use Rattle.std.specs.Prelude.{◌≡◌, ◌<◌, ◌==◌, Bool, true, false, ◌||◌, List, [], ◌∷◌, length, find, Option, None, Some, sum_by, slice_index_or, option_and_then, if◌then◌else◌}
 use Rattle.std.specs.List.{list_all}
 use Rattle.std.specs.Option.{option_map}
+use Rattle.adlb_unit.specs.Ids.{same_unit}
+use Rattle.adlb_unit.specs.Targets.{home_of}
 use Rattle.adlb_unit.specs.declared.actors.Actor.{Actor}
 use Rattle.adlb_unit.specs.declared.actors.Actor.TheVariants as by
 use Rattle.adlb_unit.specs.declared.configs.Config.{Config}
@@ -12,7 +14,7 @@ use Rattle.adlb_unit.specs.declared.names.CommonRef.{CommonRef}
 use Rattle.adlb_unit.specs.declared.names.Rank.{Rank}
 use Rattle.adlb_unit.specs.declared.names.Server.{Server}
 use Rattle.adlb_unit.specs.declared.names.UnitId.{UnitId}
-use Rattle.bag_ledger.specs.Bag.{Bag, has_declined, has_due, is_placed_at, part_charge, part_of, promise_charge, promise_of, rank_at, same_unit, start as empty_bag, unit_charge, unit_of}
+use Rattle.bag_ledger.specs.Bag.{Bag, has_declined, has_due, is_placed_at, part_charge, part_of, promise_charge, promise_of, rank_at, start as empty_bag, unit_charge, unit_of}
 use Rattle.bag_ledger.specs.Runs.{IsRun}
 use Rattle.bag_ledger.specs.declared.states.Part.{Part}
 use Rattle.bag_ledger.specs.declared.states.Placed.{Placed as Lodged}
@@ -22,7 +24,7 @@ use Rattle.bag_ledger.specs.declared.states.Status.{Status}
 use Rattle.bag_ledger.specs.declared.states.Status.TheVariants as is_at
 use Rattle.bag_ledger.specs.declared.states.UnitPlace.{UnitPlace}
 use Rattle.bag_ledger.specs.declared.states.UnitPlace.TheVariants.{Free, Travelling, Pinned, Spent}
-use Rattle.work_queue.specs.Queue.{HasDistinctIds, Promise, Queue, promised, same_id, size_of}
+use Rattle.work_queue.specs.Queue.{HasDistinctIds, Promise, Queue, promised, size_of}
 use Rattle.work_queue.specs.declared.placing.Placed.{Placed}
 use Rattle.server_core.specs.Rules.{unit_with}
 use Rattle.server_core.specs.State.{ServerModel, start}
@@ -61,7 +63,7 @@ abbrev pub room_at : Server → Room → Option Promise
 room_at me p = if p.server.0 == me.0 then Some (record { id = p.id; length = p.length }) else None
 
 abbrev pub room_for : UnitId → List Promise → Option Promise
-room_for id promises = find (λ p. same_id p.id id) promises
+room_for id promises = find (λ p. same_unit p.id id) promises
 
 -- what a rank does, as far as its home knows: a rank that waits asks; one whose letter is on its way runs still
 abbrev pub IsAs : Standing → Status → Type 0
@@ -79,7 +81,7 @@ pub record Matches (b : Bag) (config : Config) (me : Server) (queue : Queue) (st
   pub room : sum_by (promise_charge me) b.promises ≡ sum_by promised queue.promises
   pub parts : sum_by (part_charge me) b.parts ≡ queue.common
   -- of each rank whose home this is
-  pub ranks : (rank : Rank) (r : RankState) → rank_at b rank ≡ Some r → (rank.0 % config.servers) ≡ me.0
+  pub ranks : (rank : Rank) (r : RankState) → rank_at b rank ≡ Some r → home_of config.servers rank ≡ me.0
       → IsAs (slice_index_or standings rank.0 Running) r.status
   -- what the server knows is so; server 0 finds exhaustion, so it knows of it
   pub done : is_done ≡ true → b.done ≡ true

@@ -1,5 +1,6 @@
 -- The fields of a server.
-use Rattle.std.specs.Prelude.{◌≡◌, ◌⊎◌, ◌+◌, ◌<◌, ◌≤◌, ◌^◌, [], ◌∷◌, length, true, All}
+use Rattle.std.specs.Prelude.{◌≡◌, ◌⊎◌, ◌+◌, ◌<◌, ◌≤◌, [], ◌∷◌, length, true, All}
+use Rattle.adlb_unit.specs.Limits.{stamp_limit}
 use Rattle.server_core.specs.declared.standings.Standing.TheVariants.{Running, Finished}
 use Rattle.server_core.specs.declared.states.ServerState.TheInside.{Inside}
 use Rattle.server_core.specs.State.{ServerModel}
@@ -36,7 +37,7 @@ pub record IsSound (s : ServerModel) : Type 0 where
   pub arrivals : s.queue.arrivals ≤ s.clock
   pub activity : s.activity ≤ s.clock
   pub sent : All (λ n. n ≤ s.clock) s.sent
-  pub clock : s.clock < 2 ^ 48
+  pub clock : s.clock < stamp_limit
 
 abbrev pub IsInside : Inside → Type 0
 IsInside i = IsSound (state_of i)

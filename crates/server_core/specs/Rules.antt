@@ -1,14 +1,14 @@
 -- What a server does with a letter, one rule a letter.
-use Rattle.std.specs.Prelude.{ℕ, ◌+◌, ◌^◌, ◌==◌, nat_le, nat_lt, Bool, true, false, ◌&&◌, not, List, [], ◌∷◌, length, find, slice_set, slice_index_or, Option, None, Some, if◌then◌else◌, option_and_then}
+use Rattle.std.specs.Prelude.{ℕ, ◌+◌, ◌==◌, nat_le, nat_lt, Bool, true, false, ◌&&◌, not, List, [], ◌∷◌, length, find, slice_set, slice_index_or, Option, None, Some, if◌then◌else◌, option_and_then}
 use Rattle.std.specs.List.{list_any}
+use Rattle.adlb_unit.specs.Ids.{same_unit}
+use Rattle.adlb_unit.specs.Limits.{body_limit}
+use Rattle.adlb_unit.specs.Targets.{in_ranks}
 use Rattle.adlb_unit.specs.declared.actors.Actor.{Actor}
 use Rattle.adlb_unit.specs.declared.actors.Actor.TheVariants as by
-use Rattle.adlb_unit.specs.declared.configs.Config.{Config}
 use Rattle.adlb_unit.specs.declared.messages.Message.{Message}
 use Rattle.adlb_unit.specs.declared.messages.Message.TheVariants as tells
 use Rattle.adlb_unit.specs.declared.names.Rank.{Rank}
-use Rattle.adlb_unit.specs.declared.names.Target.{Target}
-use Rattle.adlb_unit.specs.declared.names.Target.TheVariants.{Any, Only, Soft}
 use Rattle.adlb_unit.specs.declared.names.UnitId.{UnitId}
 use Rattle.adlb_unit.specs.declared.names.WorkType.{WorkType}
 use Rattle.adlb_unit.specs.declared.notes.End.{End}
@@ -18,7 +18,7 @@ use Rattle.bag_ledger.specs.declared.entries.Entry.{Entry}
 use Rattle.bag_ledger.specs.declared.entries.Entry.TheVariants as enters
 use Rattle.bag_ledger.specs.Runs.{note_of}
 use Rattle.work_queue.specs.Best.{best_of}
-use Rattle.work_queue.specs.Queue.{Queue, Promise, charge_of, id_of, same_id, with_pin, with_unit, without}
+use Rattle.work_queue.specs.Queue.{Queue, Promise, charge_of, id_of, with_pin, with_unit, without}
 use Rattle.work_queue.specs.declared.placing.Placed.{Placed}
 use Rattle.server_core.specs.declared.standings.Standing.{Standing}
 use Rattle.server_core.specs.declared.standings.Standing.TheVariants as does
@@ -48,23 +48,18 @@ end_call s from request end = record {
 
 -- Put.
 
-abbrev pub in_ranks : Config → Target → Bool
-in_ranks config Any = true
-in_ranks config (Only rank) = nat_lt rank.0 config.ranks
-in_ranks config (Soft rank) = nat_lt rank.0 config.ranks
-
 abbrev pub has_unit : UnitId → List Placed → Bool
-has_unit id units = list_any (λ p. same_id (id_of p) id) units
+has_unit id units = list_any (λ p. same_unit (id_of p) id) units
 
 abbrev pub has_promise : UnitId → List Promise → Bool
-has_promise id promises = list_any (λ p. same_id p.id id) promises
+has_promise id promises = list_any (λ p. same_unit p.id id) promises
 
--- the unit is the sender's; no unit and no promise of its id is here; its body has at most 2^20 bytes; its target is one of the
--- ranks
+-- the unit is the sender's; no unit and no promise of its id is here; its body is no longer than it may be; a rank that its target
+-- names is one of the run
 abbrev pub expects_put : ServerModel → Rank → Unit → Bool
 expects_put s from unit =
     (unit.id.rank.0 == from.0) && not (has_unit unit.id s.queue.units) && not (has_promise unit.id s.queue.promises)
-    && nat_le (length unit.body) (2 ^ 20) && in_ranks s.config unit.target
+    && nat_le (length unit.body) body_limit && in_ranks s.config unit.target
 
 -- there is no room for the unit
 abbrev pub is_over : Queue → Unit → Bool
@@ -99,7 +94,7 @@ abbrev pub expects_reserve : ServerModel → Rank → Bool
 expects_reserve s from = is_home s from && is_running (standing s from)
 
 abbrev pub unit_with : UnitId → List Placed → Option Placed
-unit_with id units = find (λ p. same_id (id_of p) id) units
+unit_with id units = find (λ p. same_unit (id_of p) id) units
 
 -- the best free unit that is permitted to the rank
 abbrev pub best_unit : Rank → Option (List WorkType) → List Placed → Option Placed
@@ -135,7 +130,7 @@ is_pin None rank = false
 is_pin (Some to) rank = to.0 == rank.0
 
 abbrev pub is_pinned_as : UnitId → Rank → Placed → Bool
-is_pinned_as id rank p = same_id (id_of p) id && is_pin p.pin rank
+is_pinned_as id rank p = same_unit (id_of p) id && is_pin p.pin rank
 
 -- the unit is gone, and its bytes are sent
 abbrev pub fetched : ServerModel → Rank → ℕ → UnitId → Placed → ServerResponse

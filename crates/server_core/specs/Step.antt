@@ -1,7 +1,9 @@
 -- One step of a server: the rule of its letter, what follows each event, and the stamps and places of what it sends.
-use Rattle.std.specs.Prelude.{ℕ, ◌+◌, ◌^◌, ◌==◌, max, nat_lt, Bool, true, false, ◌&&◌, ◌||◌, not, List, [], ◌∷◌, ◌++◌, map, slice_index_or, slice_set, Option, None, is_some, if◌then◌else◌}
+use Rattle.std.specs.Prelude.{ℕ, ◌+◌, ◌==◌, nat_lt, Bool, true, false, ◌&&◌, ◌||◌, not, List, [], ◌∷◌, ◌++◌, map, slice_index_or, slice_set, Option, None, is_some, if◌then◌else◌}
 use Rattle.std.specs.List.{list_any}
 use Rattle.std.specs.Option.{option_map}
+use Rattle.adlb_unit.specs.Limits.{stamp_limit}
+use Rattle.adlb_unit.specs.Links.{place_of, sending, stamp_after}
 use Rattle.adlb_unit.specs.declared.actors.Actor.{Actor}
 use Rattle.adlb_unit.specs.declared.actors.Actor.TheVariants as by
 use Rattle.adlb_unit.specs.declared.letters.Letter.{Letter}
@@ -16,7 +18,7 @@ use Rattle.bag_ledger.specs.declared.entries.Entry.TheVariants as enters
 use Rattle.server_core.specs.declared.standings.Standing.{Standing}
 use Rattle.server_core.specs.declared.standings.Standing.TheVariants as does
 use Rattle.server_core.specs.Rules.{ServerResponse, Saying, best_unit, is_running, respond, to_rank}
-use Rattle.server_core.specs.State.{ServerModel, place_of}
+use Rattle.server_core.specs.State.{ServerModel}
 
 -- what a letter makes of the server, the letters that it sends, and its entries
 pub record Served : Type 0 where
@@ -26,9 +28,9 @@ pub record Served : Type 0 where
 
 -- Stamps and places.
 
--- one more than the greater of the last stamp and the letter's
+-- the stamp of the event that handles the letter
 abbrev pub next_stamp : ServerModel → Letter → ℕ
-next_stamp s letter = max s.clock letter.stamp + 1
+next_stamp s letter = stamp_after s.clock letter
 
 -- the event has its stamp
 abbrev pub ticked : ServerModel → ℕ → ServerModel
@@ -42,7 +44,7 @@ abbrev pub counted : ServerModel → Actor → ServerModel
 counted s to = record s { sent = slice_set s.sent (place_of s.config to) (sent_to s to + 1) }
 
 abbrev pub posted : ServerModel → Saying → Sending
-posted s x = record { to = x.to; letter = record { stamp = s.clock; place = sent_to s x.to; message = x.message } }
+posted s x = sending s.clock (sent_to s x.to) x.to x.message
 
 abbrev pub post : Served → List Saying → Served
 post x [] = x
@@ -107,7 +109,7 @@ after_event x = if (x.state.config.servers == 1) && is_quiet x.state then verdic
 -- nothing where the letter is not expected: from a rank of this run, with a stamp that was given, as its rule says
 abbrev pub serve : ServerModel → Actor → Letter → Option Served
 serve s (by.Rank from) letter =
-    if nat_lt from.0 s.config.ranks && nat_lt letter.stamp (2 ^ 48)
+    if nat_lt from.0 s.config.ranks && nat_lt letter.stamp stamp_limit
     then option_map (λ x. after_event (served x)) (respond (ticked s (next_stamp s letter)) from letter.message)
     else None
 serve s (by.Server from) letter = None

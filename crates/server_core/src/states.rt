@@ -1,7 +1,8 @@
 //! What a server keeps.
 
-ghost use Rattle.std.specs.Prelude.{◌≡◌, ◌<◌, ◌+◌, ◌^◌, ◌∷◌, [], ◌↔◌, length, map, All, IfOk, IsTrue, slice_index_or};
+ghost use Rattle.std.specs.Prelude.{◌≡◌, ◌<◌, ◌+◌, ◌∷◌, [], ◌↔◌, length, map, All, IfOk, IsTrue, slice_index_or};
 ghost use Rattle.std.specs.Vec.{vec_len};
+ghost use Rattle.adlb_unit.specs.Limits.{stamp_limit};
 ghost use Rattle.server_core.specs.Inside.{IsFresh, IsSettled};
 ghost use Rattle.server_core.specs.Out.{Out};
 ghost use Rattle.server_core.specs.Rules.{Saying, is_running};
@@ -161,7 +162,7 @@ impl ServerState {
     // The event has this stamp.
     pub(crate) fn tick(&mut self, stamp: u64)
         requires rises { self.old.clock < stamp }
-        requires within { stamp < 2 ^ 48 }
+        requires within { stamp < stamp_limit }
         ensures ticked { self.new ≡ ticked self.old stamp }
         ensures fresh { IsFresh self.new }
         ensures settled { IsSettled self.new }

@@ -1,6 +1,6 @@
 use Rattle.std.proofs.Common.{◌≡◌, ◌∙◌, not, true, false, ap, sym, arith}
 use Rattle.std.proofs.lemmas.List.Filters.{FiltersInPlace-more_no, FiltersInPlace-more_set}
-use Rattle.bag_ledger.specs.Bag.{same_unit}
+use Rattle.adlb_unit.specs.Ids.{same_unit}
 use Rattle.rank_client.proofs.calls.drop_note.Goals as goal
 
 pub loop-at-preserved-then-eq : goal.loop-at-preserved-then-eq

@@ -1,5 +1,5 @@
 use Rattle.std.proofs.Common.{◌∙◌}
-use Rattle.bag_ledger.specs.Bag.{same_batch}
+use Rattle.adlb_unit.specs.Ids.{same_batch}
 use Rattle.bag_tables.proofs.Finding.{searched}
 use Rattle.bag_tables.proofs.parts.Parts.place_of.Goals as goal
 

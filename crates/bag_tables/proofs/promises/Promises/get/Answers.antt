@@ -1,5 +1,5 @@
 use Rattle.std.proofs.Common.{◌∙◌, sym, ap, find}
-use Rattle.bag_ledger.specs.Bag.{same_unit}
+use Rattle.adlb_unit.specs.Ids.{same_unit}
 use Rattle.bag_tables.proofs.Slots.{slot_found, slot_absent}
 use Rattle.bag_tables.proofs.promises.Promises.get.Goals as goal
 

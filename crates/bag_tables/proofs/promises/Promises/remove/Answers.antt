@@ -1,6 +1,6 @@
 use Rattle.std.proofs.Common.{◌≡◌, ◌∙◌, sym, ap, arith, filter, not, Some, None, Option, slice_index_or}
+use Rattle.adlb_unit.specs.Ids.{same_unit}
 use Rattle.bag_ledger.specs.declared.states.Promise.{Promise}
-use Rattle.bag_ledger.specs.Bag.{same_unit}
 use Rattle.bag_tables.proofs.Changing.{set_changes}
 use Rattle.bag_tables.proofs.Slots.{charge_fits, slot_found, slot_absent, absent_stays, promises_removed}
 use Rattle.bag_tables.proofs.promises.Promises.remove.Goals as goal

@@ -1,5 +1,5 @@
 use Rattle.std.proofs.Common.{◌∙◌}
-use Rattle.bag_ledger.specs.Bag.{same_unit}
+use Rattle.adlb_unit.specs.Ids.{same_unit}
 use Rattle.bag_tables.proofs.Finding.{searched}
 use Rattle.bag_tables.proofs.units.Units.place_of.Goals as goal
 
