@@ -46,7 +46,7 @@ part_weight k p = part_charge (record { 0 = k }) p
 abbrev pub part_size : Part → ℕ
 part_size p = length p.common
 
--- the same of common parts, of which so many are due
+-- of these common parts, of which `due` are due, the places give the first of each batch, and the charges are the sums
 pub record PartsAreKept (places : Places) (charges : Charges) (due : ℕ) (parts : List Part) : Type 0 where
   pub placed : (batch : BatchId) → place_at places batch.rank.0 batch.number ≡ position (λ p. same_batch p.batch batch) parts
   pub charged : IsSummed part_weight part_size charges parts

@@ -140,7 +140,7 @@ impl FreeCounts {
             || self.shelves.count((server.0, kind.0, Some(rank.0))) > 0
     }
 
-    // The same of the types of a list.
+    // Some unit of one of these types, for any rank or for this one, is free at the server.
     fn has_fit_among(&self, server: Server, rank: Rank, kinds: &[WorkType]) -> bool
         ensures { result ≡ list_any (shows_fit_of self.now server rank) kinds.now }
     {

@@ -9,28 +9,28 @@ ghost use Rattle.bag_ledger.specs.Step.{is_running, is_closing, trying, counting
 use adlb_unit::{BatchId, CommonRef, Info, Rank, Server, Types, UnitId, WorkType};
 use bag_ledger::{Part, RankState, Status, UnitPlace};
 
-/// The ids are the same.
+/// The ids are equal.
 pub fn same_unit(a: UnitId, b: UnitId) -> bool
     ensures { result ≡ same_unit a b }
 {
     a.rank.0 == b.rank.0 && a.number == b.number
 }
 
-/// The batches are the same.
+/// The batches are equal.
 pub fn same_batch(a: BatchId, b: BatchId) -> bool
     ensures { result ≡ same_batch a b }
 {
     a.rank.0 == b.rank.0 && a.number == b.number
 }
 
-/// The numbers are the same.
+/// The numbers are equal.
 pub fn same_number(a: u64, b: u64) -> bool
     ensures { result ≡ (a == b) }
 {
     a == b
 }
 
-/// The servers are the same.
+/// The servers are equal.
 pub fn same_server(a: Server, b: Server) -> bool
     ensures { result ≡ (a.0 == b.0) }
 {
@@ -204,7 +204,7 @@ pub fn is_due(part: &Part) -> bool
     part.closed && !part.freed && part.fetched == part.accepted
 }
 
-// Both tops are the same, or there is none.
+// The tops are equal, or neither is there.
 fn same_top(a: Option<i32>, b: Option<i32>) -> bool
     ensures { result ≡ same_top a b }
 {
@@ -215,7 +215,7 @@ fn same_top(a: Option<i32>, b: Option<i32>) -> bool
     }
 }
 
-/// Both infos tell the same.
+/// Both infos are equal.
 pub fn same_info(a: Info, b: Info) -> bool
     ensures { result ≡ same_info a b }
 {

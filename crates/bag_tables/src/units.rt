@@ -77,7 +77,7 @@ impl Units {
         }
     }
 
-    /// One unit more, free at the server. It fails for want of memory alone.
+    /// One unit more, free at the server. Its only error is `NoMemory`.
     pub fn add(&mut self, unit: Unit, server: Server) -> Result<(), NoMemory>
         ensures { IfOk result (λ _. self.new ≡ self.old ++ record { unit = unit; place = Free server } ∷ []) }
     {
@@ -98,7 +98,7 @@ impl Units {
         Ok(())
     }
 
-    /// The unit of this id, if it was accepted, stands at this place now. It fails for want of memory alone.
+    /// The unit of this id, if it was accepted, stands at this place now. Its only error is `NoMemory`.
     pub fn move_to(&mut self, id: UnitId, place: UnitPlace) -> Result<(), NoMemory>
         ensures { OnOk result (self.new ≡ change_first (λ u. record u { place = place }) (λ u. same_unit u.unit.id id) self.old) }
     {

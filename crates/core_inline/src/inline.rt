@@ -27,7 +27,7 @@ pub struct InlineWorld {
 }
 
 impl InlineWorld {
-    /// A world at the start, whose server takes `limit` bytes, from 64 to `2^30`. It fails for want of memory alone.
+    /// A world at the start, whose server takes `limit` bytes, from 64 to `2^30`. Its only error is `NoMemory`.
     pub fn new(alloc: Global, limit: u64) -> Result<InlineWorld, NoMemory>
         requires least { 64 ≤ limit }
         requires most { limit ≤ 2 ^ 30 }
@@ -38,7 +38,7 @@ impl InlineWorld {
         })
     }
 
-    /// The entries so far, in the order of the events. They are a legal run, in which the calls of the rank are its transcript
+    /// The entries, in the order of the events. They are a legal run, in which the calls of the rank are its transcript
     /// (`IsInline`).
     pub fn ledger(&self) -> &Ledger
         ensures entries { result.now ≡ self.now.run.ledger }

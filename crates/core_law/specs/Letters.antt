@@ -86,7 +86,7 @@ one_letter rank = record {
   rank_due = at_rank rank (λ s. one (not (is_idle s.pending)));
 }
 
--- The same with the number of the call: `next` is the number after it.
+-- Those of one call, by its number: `next` is the number after it.
 
 -- the request that the message makes or answers
 abbrev pub request_of : Message → ℕ
@@ -133,7 +133,7 @@ numbered rank next = record {
   rank_due = at_rank rank (λ s. one (not (is_idle s.pending) && (s.next == next)));
 }
 
--- Kinds: a rank sends requests and Finish to servers, and a server answers to ranks. So far servers send each other nothing.
+-- Kinds: a rank sends requests and Finish to servers, and a server answers to ranks. Servers send each other nothing.
 
 abbrev pub fits_link : Actor → Actor → Message → Bool
 fits_link (by.Rank from) (by.Rank to) m = false

@@ -15,7 +15,7 @@ abbrev pub weigh : {X : Type 0} → (X → ℕ) → List X → ℕ
 weigh f [] = 0
 weigh f (x ∷ xs) = f x + weigh f xs
 
--- the same, where the weight depends on the place
+-- the sum of weights that depend on the place too
 abbrev pub weigh_at : {X : Type 0} → (ℕ → X → ℕ) → List X → ℕ
 weigh_at f [] = 0
 weigh_at f (x ∷ xs) = f zero x + weigh_at (λ i. f (suc i)) xs

@@ -19,12 +19,12 @@ use Rattle.core_run.specs.World.{World, client_of, pool_of}
 pub record IsOffer (s : ClientModel) (unit : Unit) : Type 0 where
   pub rank : unit.id.rank ≡ s.me
   pub call : unit.id.number + 1 ≡ s.next
-  -- so far there are no batches
+  -- there are no batches
   pub plain : unit.common ≡ None
   pub size : length unit.body ≤ body_limit
   pub target : in_ranks s.config unit.target ≡ true
 
--- the note of a unit that was granted: its server is one of the run, and (so far) it has no common part
+-- the note of a unit that was granted: its server is one of the run, and it has no common part
 pub record IsNote (config : Config) (note : UnitNote) : Type 0 where
   pub there : note.server.0 < config.servers
   pub plain : note.common ≡ None

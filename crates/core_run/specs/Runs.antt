@@ -22,7 +22,7 @@ abbrev pub run : World → List Event → Option World
 run w [] = Some w
 run w (e ∷ es) = option_and_then (λ next. run next es) (happens w e)
 
--- the calls of the rank with their answers, so far as it has heard them
+-- the calls of the rank with the answers that it has heard
 abbrev pub transcript : World → Rank → List Said
 transcript w rank = (client_of w rank).transcript
 

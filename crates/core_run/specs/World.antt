@@ -1,4 +1,4 @@
--- A world: every actor's state, the letters that are under way, and the ledger so far; and what happens in it.
+-- A world: every actor's state, the letters that are under way, and the ledger; and what happens in it.
 use Rattle.std.specs.Prelude.{ℕ, ◌+◌, nat_lt, Bool, ◌&&◌, List, [], ◌∷◌, ◌++◌, map, replicate, slice_index_or, slice_set, Option, None, if◌then◌else◌}
 use Rattle.std.specs.List.{list_all, range_with_len}
 use Rattle.std.specs.Option.{option_map}
@@ -29,7 +29,7 @@ pub record World : Type 0 where
   pub servers : List ServerModel
   -- the letters that were sent and not handled, in order
   pub links : Links
-  -- the entries so far, in the order of events
+  -- the entries, in the order of events
   pub ledger : List Entry
 
 abbrev pub rank_named : ℕ → Rank

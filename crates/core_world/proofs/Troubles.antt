@@ -30,11 +30,11 @@ use Rattle.work_queue.specs.declared.placing.Placed.{Placed}
 -- A rank.
 
 -- the step, if there is one, leaves this trouble
-abbrev Leaves : Option Trouble → Option rank_rules.Response → Type 0
+abbrev Leaves : Option Trouble → Option rank_rules.ClientResponse → Type 0
 Leaves trouble None = Prim.Unit {0}
 Leaves trouble (Some x) = x.state.trouble ≡ trouble
 
-leaves_if : (trouble : Option Trouble) (b : Bool) (x : rank_rules.Response) → x.state.trouble ≡ trouble → Leaves trouble (cond b (Some x) None)
+leaves_if : (trouble : Option Trouble) (b : Bool) (x : rank_rules.ClientResponse) → x.state.trouble ≡ trouble → Leaves trouble (cond b (Some x) None)
 leaves_if trouble true x kept = kept
 leaves_if trouble false x kept = tt
 
@@ -90,7 +90,7 @@ post_leaves x [] = refl
 post_leaves x (y ∷ says) =
     post_leaves (record x { state = rank_step.counted x.state y.to; sends = x.sends ++ rank_step.posted x.state y ∷ [] }) says
 
-made_leaves : (trouble : Option Trouble) (o : Option rank_rules.Response) (x : rank_step.Made) → Leaves trouble o → option_map rank_step.made o ≡ Some x → x.state.trouble ≡ trouble
+made_leaves : (trouble : Option Trouble) (o : Option rank_rules.ClientResponse) (x : rank_step.Made) → Leaves trouble o → option_map rank_step.made o ≡ Some x → x.state.trouble ≡ trouble
 made_leaves trouble None x kept is = absurd (cc)
 made_leaves trouble (Some r) x kept is =
     let same : rank_step.made r ≡ x = cc in
@@ -114,11 +114,11 @@ hear_leaves s from letter x is =
 
 -- A server.
 
-abbrev Stays : Option Trouble → Option server_rules.Response → Type 0
+abbrev Stays : Option Trouble → Option server_rules.ServerResponse → Type 0
 Stays trouble None = Prim.Unit {0}
 Stays trouble (Some x) = x.state.trouble ≡ trouble
 
-stays_if : (trouble : Option Trouble) (b : Bool) (x : server_rules.Response) → x.state.trouble ≡ trouble → Stays trouble (cond b (Some x) None)
+stays_if : (trouble : Option Trouble) (b : Bool) (x : server_rules.ServerResponse) → x.state.trouble ≡ trouble → Stays trouble (cond b (Some x) None)
 stays_if trouble true x kept = kept
 stays_if trouble false x kept = tt
 
@@ -168,7 +168,7 @@ event_stays x = by_test _
     by_test true = verdict_stays x (server_step.waiting_from 0 x.state.ranks)
     by_test false = refl
 
-served_stays : (trouble : Option Trouble) (o : Option server_rules.Response) (x : server_step.Served) → Stays trouble o
+served_stays : (trouble : Option Trouble) (o : Option server_rules.ServerResponse) (x : server_step.Served) → Stays trouble o
     → option_map (λ r. server_step.after_event (server_step.served r)) o ≡ Some x → x.state.trouble ≡ trouble
 served_stays trouble None x kept is = absurd (cc)
 served_stays trouble (Some r) x kept is =

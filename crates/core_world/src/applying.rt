@@ -17,7 +17,7 @@ use core_run::Event;
 impl World {
     /// Carries out an event, as `happens` says: a rank begins a call, or an actor handles the front letter of a list. Where there
     /// is no such event now, it answers `NotEnabled` with the event, and nothing has changed; this is tested first. It answers
-    /// `TooLong` exactly where the event is enabled and its stamp would reach `2^48`, and `Memory` for want of memory alone.
+    /// `TooLong` exactly when the event is enabled and its stamp would reach `2^48`; the only other error is `Memory`.
     /// After one of these two the world has failed, and answers the same to every event; what stands then is said by `Stops`.
     pub fn apply(&mut self, event: Event) -> Result<(), ApplyFault>
         ensures applied { OnOk result (Applies self.old event self.new) }
@@ -46,7 +46,7 @@ impl World {
 
     /// Carries out an event that is enabled, in a world that has not failed, and tells the answer of the call that it answers, if
     /// there is one (`event_answer`). It is for callers that know that there is such an event: unlike `apply` it does not look. It
-    /// answers `TooLong` exactly where the event's stamp would reach `2^48` and `Memory` for want of memory alone; then the world
+    /// answers `TooLong` exactly when the event's stamp would reach `2^48`; its only other error is `Memory`. Then the world
     /// has failed, and what stands is said by `Stops`.
     pub fn carry_out(&mut self, event: Event) -> Result<Option<Answer>, Trouble>
         requires whole { self.old.trouble ≡ None }

@@ -24,10 +24,10 @@ use Rattle.bag_ledger.specs.declared.entries.Entry.{Entry}
 use Rattle.bag_ledger.specs.declared.entries.Said.{Said}
 use Rattle.rank_client.specs.declared.pendings.Pending.{Pending}
 use Rattle.rank_client.specs.declared.pendings.Pending.TheVariants as waits_for
-use Rattle.rank_client.specs.Inside.{IsFresh, IsSound}
-use Rattle.rank_client.specs.Rules.{ClientResponse, answer_call, asked, ends, expects_note, is_for, refused}
+use Rattle.rank_client.specs.Inside.{IsFresh, IsSound, Put, is_put, put_of}
+use Rattle.rank_client.specs.Rules.{ClientResponse, answer_call, asked, ends, expects_note, hear_put, is_for, refused}
 use Rattle.rank_client.specs.State.{ClientModel, behind}
-use Rattle.rank_client.specs.Step.{hear, letter_stamp, letter_trouble, made, ticked, told_trouble}
+use Rattle.rank_client.specs.Step.{Made, hear, letter_stamp, letter_trouble, made, ticked, told_trouble}
 use Rattle.rank_client.proofs.Insides.{first_letter}
 
 -- the note of a grant that is awaited names a server
@@ -46,18 +46,33 @@ granted_server s p request types from m to note p_is m_is some =
         ltb-true note.server.0 s.config.servers (and_parts _ _ two).0
     by_test false is some = absurd (cc)
 
--- a refusal before the last server
-pub refused_next : (s : ClientModel) (p : Pending) (unit : Unit) (first : Server) (tried : ℕ) (from : Server) (m : Message) (to charge : ℕ) → p ≡ waits_for.Put unit first tried → m ≡ tells.Full to charge
-    → tried + 1 < s.config.servers → IsSome (answer_call s p from m) → answer_call s p from m ≡ Some (refused s unit first tried true)
-refused_next s p unit first tried from m to charge p_is m_is more some =
-    let test : nat_lt (tried + 1) s.config.servers ≡ true = lt-ltb (tried + 1) s.config.servers more in
-    let here : IsSome (answer_call s (waits_for.Put unit first tried) from (tells.Full to charge)) = subst (λ (q : Pending). IsSome (answer_call s q from (tells.Full to charge))) p_is (subst (λ (x : Message). IsSome (answer_call s p from x)) m_is some) in
-    ap (λ (x : Message). answer_call s p from x) m_is ∙ ap (λ (q : Pending). answer_call s q from (tells.Full to charge)) p_is
-    ∙ by_test (is_for unit.id.number (asked s first tried) from to) here ∙ ap (λ t. Some (refused s unit first tried t)) test
+-- a put that is pending is told by its parts
+pub put_is : (p : Put) (unit : Unit) (first : Server) (tried : ℕ) → waits_for.Put unit first tried ≡ put_of p
+    → record { unit = unit; first = first; tried = tried } ≡ p
+put_is p unit first tried is =
+    let same_unit : unit ≡ p.unit = cc in
+    let same_first : first ≡ p.first = cc in
+    let same_tried : tried ≡ p.tried = cc in
+    let whole : Unit → Server → ℕ → Put = λ u f t. record { unit = u; first = f; tried = t } in
+    ap (λ u. whole u first tried) same_unit ∙ ap (λ f. whole p.unit f tried) same_first ∙ ap (λ t. whole p.unit p.first t) same_tried
+
+-- a letter that a pending put awaits, with this request in it, is heard by its rule
+pub put_heard : (s : ClientModel) (from : Server) (m : Message) (x : Made) (to : ℕ) (rule : Put → ClientResponse)
+    → ((p : Put) → hear_put s p.unit p.first p.tried from m
+    ≡ (if is_for p.unit.id.number (asked s p.first p.tried) from to then Some (rule p) else None))
+    → (pending : Pending) → is_put pending ≡ true → IsSome (answer_call s pending from m)
+    → ((p : Put) → pending ≡ put_of p → made (rule p) ≡ x) → option_map made (answer_call s pending from m) ≡ Some x
+put_heard s from m x to rule is waits_for.Nothing put some gave = absurd (cc)
+put_heard s from m x to rule is (waits_for.Reserve request types) put some gave = absurd (cc)
+put_heard s from m x to rule is (waits_for.Fetch request note) put some gave = absurd (cc)
+put_heard s from m x to rule is (waits_for.Put unit first tried) put some gave =
+    ap (option_map made) (is p) ∙ by_test (is_for unit.id.number (asked s first tried) from to) (subst IsSome (is p) some)
   where
-    by_test : (t : Bool) → IsSome (if t then Some (refused s unit first tried (nat_lt (tried + 1) s.config.servers)) else None)
-        → (if t then Some (refused s unit first tried (nat_lt (tried + 1) s.config.servers)) else None) ≡ Some (refused s unit first tried (nat_lt (tried + 1) s.config.servers))
-    by_test true some = refl
+    p : Put
+    p = record { unit = unit; first = first; tried = tried }
+
+    by_test : (t : Bool) → IsSome (if t then Some (rule p) else None) → option_map made (if t then Some (rule p) else None) ≡ Some x
+    by_test true some = ap Some (gave p refl)
     by_test false some = absurd (cc)
 
 -- the unit goes to the next server

@@ -103,7 +103,7 @@ abbrev pub TellsAgain : Option End → Option Answer → Type 0
 TellsAgain None answer = Unit {0}
 TellsAgain (Some end) answer = MatchOption answer (Unit {0}) (λ a. a ≡ answers.Ended end)
 
--- a link that has failed fails the same way again
+-- a link that has failed fails again with its trouble
 abbrev pub Repeats : Option Trouble → Option Trouble → Type 0
 Repeats None now = Unit {0}
 Repeats (Some trouble) now = now ≡ Some trouble

@@ -26,7 +26,7 @@ AnswersPut request at from (tells.Ended to end) = IsFor request at from to
 AnswersPut request at from _ = ⊥
 
 -- the note names a server of the run; the rank was granted no unit of its id before, and fetched none, which follows
--- (`GrantsComeFirst`); so far the unit has no common part
+-- (`GrantsComeFirst`); the unit has no common part
 pub record IsNewNote (s : ClientModel) (note : UnitNote) : Type 0 where
   pub server : note.server.0 < s.config.servers
   pub ungranted : is_granted note.id s.transcript ≡ false

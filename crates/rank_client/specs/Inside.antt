@@ -3,6 +3,8 @@ use Rattle.std.specs.Prelude.{◌≡◌, ℕ, ◌+◌, ◌<◌, ◌≤◌, [], l
 use Rattle.std.specs.Vec.{vec_len, vec_capacity}
 use Rattle.adlb_unit.specs.Limits.{stamp_limit}
 use Rattle.adlb_unit.specs.declared.configs.Config.{Config}
+use Rattle.adlb_unit.specs.declared.names.Server.{Server}
+use Rattle.adlb_unit.specs.declared.units.Unit.{Unit}
 use Rattle.rank_client.specs.declared.clients.ClientCore.TheInside.{Inside}
 use Rattle.rank_client.specs.declared.pendings.Pending.{Pending}
 use Rattle.rank_client.specs.declared.pendings.Pending.TheVariants as waits_for
@@ -77,6 +79,15 @@ pub record IsFresh (s : ClientModel) : Type 0 where
   pub next : s.next < s.clock
   pub puts : s.puts < s.clock
   pub said : length s.transcript < s.clock
+
+-- a put that is pending
+pub record Put : Type 0 where
+  pub unit : Unit
+  pub first : Server
+  pub tried : ℕ
+
+abbrev pub put_of : Put → Pending
+put_of p = waits_for.Put p.unit p.first p.tried
 
 -- which call is pending
 abbrev pub is_put : Pending → Bool

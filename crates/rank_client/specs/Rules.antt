@@ -148,7 +148,7 @@ is_idle _ = false
 abbrev pub is_free : ClientModel → Bool
 is_free s = is_idle s.pending && not s.finished
 
--- the rule of a call; nothing where the rank is not ready for it. So far a rank reserves with one server alone.
+-- the rule of a call; nothing if the rank is not ready for it. A rank reserves only if there is one server.
 abbrev pub open_call : ClientModel → Call → Option ClientResponse
 open_call s (calls_to.Put kind prio target answer body) =
     if nat_le (length body) body_limit && in_ranks s.config target
@@ -187,7 +187,7 @@ hear_put s unit first tried from (tells.Ended to end) =
     if is_for unit.id.number (asked s first tried) from to then Some (ends (record s { end = Some end }) [] (call_of unit) (answers.Ended end)) else None
 hear_put s unit first tried from _ = None
 
--- the note names a server, its unit was not granted or fetched before, and (so far) it has no common part
+-- the note names a server, its unit was not granted or fetched before, and it has no common part
 abbrev pub expects_note : ClientModel → UnitNote → Bool
 expects_note s note =
     nat_lt note.server.0 s.config.servers && is_none note.common && not (is_granted note.id s.transcript)

@@ -113,7 +113,7 @@ fn farewells(sent: &mut Vec<u64>, stamp: u64, servers: u32, sends: Vec<Sending>)
 
 impl ClientCore {
     /// The rank is ready for this call: no call is pending, it has not finished, and the call's own conditions hold. The body of
-    /// a put has at most `2^20` bytes, and a rank that its target names is one of the run; there is one server at a reserve, so far; a unit that is fetched
+    /// a put has at most `2^20` bytes, and a rank that its target names is one of the run; there is one server at a reserve; a unit that is fetched
     /// is held; no batch is going on at Finish.
     pub fn ready(&self, call: &Call) -> bool
         ensures { IsTrue result ↔ IsSome (begin self.now call.now) }
@@ -390,8 +390,8 @@ impl ClientCore {
 
 impl ClientCore {
     /// Begins a call for which the rank is ready, as `begin` says. All growth of the whole call is made here. A client that has
-    /// failed answers the same again; else `TooLong` comes exactly where the event's stamp would reach `2^48`; and else it fails
-    /// for want of memory alone, and not at Finish, which takes none. After a failure nothing else has changed.
+    /// failed gives its trouble again; otherwise `TooLong` comes exactly when the event's stamp would reach `2^48`. The only other
+    /// error is `Memory`, and never at Finish, which takes none. After a failure nothing else has changed.
     pub fn begin(&mut self, call: Call) -> Result<ClientStep, Trouble>
         requires ready { IsSome (begin self.old call) }
 

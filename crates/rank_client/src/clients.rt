@@ -52,7 +52,7 @@ impl Model for ClientCore {
 }
 
 impl ClientCore {
-    /// A client of this rank at the start of a run. It makes the room for Finish. It fails for want of memory alone.
+    /// A client of this rank at the start of a run. It makes the room for Finish. Its only error is `NoMemory`.
     pub fn new(alloc: Global, config: Config, me: Rank) -> Result<ClientCore, NoMemory>
         requires { me.0 < config.ranks }
         ensures { IfOk result (λ c. c ≡ start config me) }
@@ -86,14 +86,14 @@ impl ClientCore {
         })
     }
 
-    /// The calls with their answers so far.
+    /// The calls with their answers, in order.
     pub fn transcript(&self) -> &[Said]
         ensures { result.now ≡ self.now.transcript }
     {
         self.said.as_slice()
     }
 
-    /// The same, with the client used up.
+    /// The calls with their answers, in order, with the client used up.
     pub fn into_transcript(self) -> Vec<Said>
         ensures { result.items ≡ self.transcript }
     {

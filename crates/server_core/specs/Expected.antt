@@ -32,7 +32,7 @@ IsHome s rank = home_of s.config.servers rank ≡ s.me.0
 abbrev pub Runs : ServerModel → Rank → Type 0
 Runs s rank = standing s rank ≡ Running
 
--- a rank's letter that says this is awaited, one row a letter; so far no other letter is
+-- a rank's letter that says this is awaited, one row a letter; no other letter is
 abbrev pub IsAwaited : ServerModel → Rank → Message → Type 0
 IsAwaited s from (tells.Put unit) = IsNew s from unit
 -- the sender's home is here, and it runs

@@ -58,7 +58,7 @@ impl Model for ServerState {
 }
 
 impl ServerState {
-    /// One of the servers of a run at its start. So far the run has one rank. It fails for want of memory alone.
+    /// One of the servers of a run of one rank, at its start. Its only error is `NoMemory`.
     pub fn new(alloc: Global, config: Config, me: Server) -> Result<ServerState, NoMemory>
         requires one_rank { config.ranks ≡ 1 }
         requires me { me.0 < config.servers }
@@ -116,7 +116,7 @@ impl ServerState {
         true
     }
 
-    /// The units that are here, in arrival order. It fails for want of memory alone.
+    /// The units that are here, in arrival order. Its only error is `NoMemory`.
     pub fn left(&self) -> Result<Vec<LeftUnit>, NoMemory>
         ensures { IfOk result (λ left. left.items ≡ left_of self.now) }
     {

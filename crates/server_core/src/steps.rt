@@ -23,8 +23,8 @@ pub struct Step {
 
 impl ServerState {
     /// Handles a letter, as `serve` says. The server is not broken, and the letter is expected. It fails with `TooLong`
-    /// exactly where the event's stamp would reach `2^48`, which is tested first, and else for want of memory alone;
-    /// then the server is broken, and a Finish letter counts as handled.
+    /// exactly when the event's stamp would reach `2^48`, which is tested first; its only other error is `Memory`. After a
+    /// failure the server is broken, and a Finish letter counts as handled.
     pub fn step(&mut self, from: Actor, letter: Letter) -> Result<Step, Trouble>
         requires whole { self.old.trouble ≡ None }
         requires expected { IsSome (serve self.old from letter) }
