@@ -54,7 +54,7 @@ abbrev pub shows_fit_of : FreeCounts → Server → Rank → WorkType → Bool
 shows_fit_of free server rank kind =
     nat_lt 0 (count_of by_shelf free.shelves (server.0, kind.0, None)) || nat_lt 0 (count_of by_shelf free.shelves (server.0, kind.0, Some rank.0))
 
--- the same of any type, or of those that are listed
+-- a unit of any type, or of one that is listed, is counted at the server that is for any rank or for this one
 abbrev pub shows_fit : FreeCounts → Server → Rank → Option (List WorkType) → Bool
 shows_fit free server rank None =
     nat_lt 0 (count_of by_target free.targets (server.0, None)) || nat_lt 0 (count_of by_target free.targets (server.0, Some rank.0))

@@ -1,5 +1,6 @@
 -- What the tables keep beside their lists.
 use Rattle.std.specs.Prelude.{ℕ, ◌≡◌, List, length, count_by, position, Option, Some, None, if◌then◌else◌}
+use Rattle.adlb_unit.specs.Ids.{same_unit, same_batch}
 use Rattle.adlb_unit.specs.declared.names.Server.{Server}
 use Rattle.adlb_unit.specs.declared.names.UnitId.{UnitId}
 use Rattle.adlb_unit.specs.declared.names.BatchId.{BatchId}
@@ -46,7 +47,7 @@ part_weight k p = part_charge (record { 0 = k }) p
 abbrev pub part_size : Part → ℕ
 part_size p = length p.common
 
--- the same of common parts, of which so many are due
+-- of these common parts, of which `due` are due, the places give the first of each batch, and the charges are the sums
 pub record PartsAreKept (places : Places) (charges : Charges) (due : ℕ) (parts : List Part) : Type 0 where
   pub placed : (batch : BatchId) → place_at places batch.rank.0 batch.number ≡ position (λ p. same_batch p.batch batch) parts
   pub charged : IsSummed part_weight part_size charges parts

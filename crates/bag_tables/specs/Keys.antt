@@ -12,13 +12,13 @@ use Rattle.bag_ledger.specs.declared.states.Placed.{Placed}
 use Rattle.bag_ledger.specs.declared.states.UnitPlace.{UnitPlace}
 use Rattle.bag_ledger.specs.declared.states.UnitPlace.TheVariants.{Free}
 
--- the rank that a target names alone
+-- the one rank that the target lets have the unit; none if each rank may
 abbrev pub only_of : Target → Option ℕ
 only_of Any = None
 only_of (Only rank) = Some rank.0
 only_of (Soft rank) = None
 
--- server, type and target; server and target; server and type; server, type and priority
+-- server, type and that rank; server and that rank; server and type; server, type and priority
 abbrev pub shelf_of : Server → Unit → ℕ × ℕ × Option ℕ
 shelf_of server unit = (server.0, unit.kind.0, only_of unit.target)
 

@@ -10,7 +10,7 @@ use adlb_unit::{Info, NoMemory, Rank, Server, Target, Types, Unit, WorkType};
 use std::alloc::Global;
 use std::cmp::Reverse;
 
-// The rank that a target names alone.
+// The one rank that the target lets have the unit; none if each rank may.
 fn only_of(target: Target) -> Option<u32>
     ensures { result ≡ only_of target }
 {
@@ -47,8 +47,8 @@ fn prio_of(server: Server, unit: &Unit) -> (u32, u32, Option<Reverse<i32>>)
 }
 
 /// How many units are free: by server, type and target; by server and target; by server and type; by server, type and
-/// priority. A target is the rank that it names, if it names one. Priorities stand from the highest on, and before them stands
-/// `None`, from which a search of them begins.
+/// priority. A target counts as the rank that alone may have the unit, or as `None` if each rank may, as with `Any` and `Soft`.
+/// Priorities stand from the highest on, and before them stands `None`, from which a search of them begins.
 #[derive(Drop)]
 pub struct FreeCounts {
     shelves: Tally<(u32, u32, Option<u32>)>,
@@ -140,7 +140,7 @@ impl FreeCounts {
             || self.shelves.count((server.0, kind.0, Some(rank.0))) > 0
     }
 
-    // The same of the types of a list.
+    // Some unit of one of these types, for any rank or for this one, is free at the server.
     fn has_fit_among(&self, server: Server, rank: Rank, kinds: &[WorkType]) -> bool
         ensures { result ≡ list_any (shows_fit_of self.now server rank) kinds.now }
     {

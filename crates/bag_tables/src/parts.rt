@@ -72,7 +72,7 @@ impl Parts {
         }
     }
 
-    /// One part more. It fails for want of memory alone.
+    /// One part more. Its only error is `NoMemory`.
     pub fn add(&mut self, part: Part) -> Result<(), NoMemory>
         ensures { OnOk result (self.new ≡ self.old ++ part ∷ []) }
     {

@@ -31,7 +31,7 @@ impl Places {
         self.held.get(&(rank, number)).copied()
     }
 
-    /// Notes the place of an id, unless the id has one. It fails for want of memory alone.
+    /// Notes the place of an id, unless the id has one. Its only error is `NoMemory`.
     pub fn note(&mut self, rank: u32, number: u64, place: usize) -> Result<(), NoMemory>
         ensures noted { OnOk result ((r n : ℕ) → place_at self.new r n ≡ option_or (place_at self.old r n) (if (rank == r) && (number == n) then Some place else None)) }
         ensures kept { OnErr result ((r n : ℕ) → place_at self.new r n ≡ place_at self.old r n) }

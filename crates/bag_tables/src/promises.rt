@@ -56,7 +56,7 @@ impl Promises {
         }
     }
 
-    /// One promise more, of a unit that has none. It fails for want of memory alone.
+    /// One promise more, of a unit that has none. Its only error is `NoMemory`.
     pub fn add(&mut self, promise: Promise) -> Result<(), NoMemory>
         requires { find (λ p. same_unit p.id promise.id) self.old ≡ None }
         ensures { OnOk result (self.new ≡ self.old ++ promise ∷ []) }

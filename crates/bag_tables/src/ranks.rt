@@ -29,7 +29,7 @@ impl Model for Ranks {
 }
 
 impl Ranks {
-    /// So many ranks at the start of a run. It fails for want of memory alone.
+    /// So many ranks at the start of a run. Its only error is `NoMemory`.
     pub fn new(alloc: Global, count: u32) -> Result<Ranks, NoMemory>
         ensures { IfOk result (λ ranks. ranks ≡ replicate count fresh) }
     {
@@ -51,7 +51,7 @@ impl Ranks {
         self.held.get(rank.0 as usize)
     }
 
-    /// The rank of this number, if there is one, is changed. It fails for want of memory alone.
+    /// The rank of this number, if there is one, is changed. Its only error is `NoMemory`.
     pub fn change(&mut self, rank: Rank, change: RankChange) -> Result<(), NoMemory>
         requires { All (λ r. r.next + 1 < 2 ^ 64) self.old }
         ensures { OnOk result (self.new ≡ change_at (rank_changed change) rank.0 self.old) }

@@ -1,36 +1,36 @@
 //! What is read off ids, ranks, places and parts: the definitions of these names as code.
 
 ghost use Rattle.std.specs.Prelude.{◌≡◌, ◌==◌, ◌&&◌, ◌+◌, IsTrue, nat_lt};
+ghost use Rattle.adlb_unit.specs.Ids.{same_unit, same_batch};
 ghost use Rattle.adlb_unit.specs.declared.names.Server.{Server};
-ghost use Rattle.adlb_unit.specs.Ids.{same_batch, same_unit};
 ghost use Rattle.bag_ledger.specs.Bag.{offer, wish, open_call, is_free, is_free_at, is_placed_at, is_travelling, is_due, is_asking, is_asking_or_finished};
 ghost use Rattle.bag_ledger.specs.Step.{is_running, is_closing, trying, counting, fetching, is_pinned_to, is_pinned, is_travelling_to, is_of, same_info, same_top};
 
 use adlb_unit::{BatchId, CommonRef, Info, Rank, Server, Types, UnitId, WorkType};
 use bag_ledger::{Part, RankState, Status, UnitPlace};
 
-/// The ids are the same.
+/// The ids are equal.
 pub fn same_unit(a: UnitId, b: UnitId) -> bool
     ensures { result ≡ same_unit a b }
 {
     a.rank.0 == b.rank.0 && a.number == b.number
 }
 
-/// The batches are the same.
+/// The batches are equal.
 pub fn same_batch(a: BatchId, b: BatchId) -> bool
     ensures { result ≡ same_batch a b }
 {
     a.rank.0 == b.rank.0 && a.number == b.number
 }
 
-/// The numbers are the same.
+/// The numbers are equal.
 pub fn same_number(a: u64, b: u64) -> bool
     ensures { result ≡ (a == b) }
 {
     a == b
 }
 
-/// The servers are the same.
+/// The servers are equal.
 pub fn same_server(a: Server, b: Server) -> bool
     ensures { result ≡ (a.0 == b.0) }
 {
@@ -204,7 +204,7 @@ pub fn is_due(part: &Part) -> bool
     part.closed && !part.freed && part.fetched == part.accepted
 }
 
-// Both tops are the same, or there is none.
+// The tops are equal, or neither is there.
 fn same_top(a: Option<i32>, b: Option<i32>) -> bool
     ensures { result ≡ same_top a b }
 {
@@ -215,7 +215,7 @@ fn same_top(a: Option<i32>, b: Option<i32>) -> bool
     }
 }
 
-/// Both infos tell the same.
+/// Both infos are equal.
 pub fn same_info(a: Info, b: Info) -> bool
     ensures { result ≡ same_info a b }
 {

@@ -2,9 +2,9 @@
 
 ghost use Rattle.std.specs.Prelude.{◌≡◌, ◌==◌, ◌&&◌, ◌+◌, ◌<◌, ◌++◌, ◌∷◌, [], IfOk, OnOk, OnErr, MatchOption, None, Some, length, map, filter, find, sum_by};
 ghost use Rattle.std.specs.List.{list_any};
-ghost use Rattle.adlb_unit.specs.Permit.{permitted};
 ghost use Rattle.adlb_unit.specs.Infos.{info_of_prios};
 ghost use Rattle.adlb_unit.specs.Ids.{same_unit};
+ghost use Rattle.adlb_unit.specs.Permit.{permitted};
 ghost use Rattle.bag_ledger.specs.Bag.{unit_charge, is_free, is_free_at, is_travelling};
 ghost use Rattle.bag_ledger.specs.Steps.{change_at, change_first};
 ghost use Rattle.bag_ledger.specs.declared.states.Placed.{Placed};
@@ -77,7 +77,7 @@ impl Units {
         }
     }
 
-    /// One unit more, free at the server. It fails for want of memory alone.
+    /// One unit more, free at the server. Its only error is `NoMemory`.
     pub fn add(&mut self, unit: Unit, server: Server) -> Result<(), NoMemory>
         ensures { IfOk result (λ _. self.new ≡ self.old ++ record { unit = unit; place = Free server } ∷ []) }
     {
@@ -98,7 +98,7 @@ impl Units {
         Ok(())
     }
 
-    /// The unit of this id, if it was accepted, stands at this place now. It fails for want of memory alone.
+    /// The unit of this id, if it was accepted, stands at this place now. Its only error is `NoMemory`.
     pub fn move_to(&mut self, id: UnitId, place: UnitPlace) -> Result<(), NoMemory>
         ensures { OnOk result (self.new ≡ change_first (λ u. record u { place = place }) (λ u. same_unit u.unit.id id) self.old) }
     {

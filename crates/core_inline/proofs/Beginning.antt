@@ -20,13 +20,13 @@ use Rattle.bag_ledger.proofs.Legal.{run_joined}
 use Rattle.rank_client.specs.declared.pendings.Pending.TheVariants as waits_for
 use Rattle.rank_client.specs.Agreement.{Follows, in_call, running}
 use Rattle.rank_client.specs.Calls.{end_told, has_finished, is_finish}
-use Rattle.rank_client.specs.Rules.{Response, is_idle, open_call}
-use Rattle.rank_client.specs.State.{State as Client}
+use Rattle.rank_client.specs.Rules.{ClientResponse, is_idle, open_call}
+use Rattle.rank_client.specs.State.{ClientModel}
 use Rattle.rank_client.specs.Step.{Made, begin, call_stamp, made, ticked}
 use Rattle.rank_client.proofs.Begins.{begins}
 use Rattle.rank_client.proofs.Entries.{rank_changed, silent}
 use Rattle.rank_client.proofs.Transcripts.{finished_more, first_end, told_more}
-use Rattle.server_core.specs.State.{State as Host}
+use Rattle.server_core.specs.State.{ServerModel}
 use Rattle.core_inline.specs.Answers.{IsAnswer, answers_call}
 use Rattle.core_inline.specs.Inline.{IsTold, zeroth}
 use Rattle.core_inline.specs.Known.{AreHeld, AreKnown}
@@ -49,9 +49,9 @@ ended_fits said calls_to.SetDone end = tt
 ended_fits said (calls_to.Count kind) end = tt
 ended_fits said calls_to.Finish end = tt
 
-module _ (c : Client) (s : Host) (ledger : List Entry) (call : Call) (i : IsIdle c s ledger) where
+module _ (c : ClientModel) (s : ServerModel) (ledger : List Entry) (call : Call) (i : IsIdle c s ledger) where
   -- the call is begun by its rule
-  pub begin_gives : (r : Response) → open_call (ticked c (call_stamp c)) call ≡ Some r → begin c call ≡ Some (made r)
+  pub begin_gives : (r : ClientResponse) → open_call (ticked c (call_stamp c)) call ≡ Some r → begin c call ≡ Some (made r)
   begin_gives r is =
       let opened : Option Made = option_map made (open_call (ticked c (call_stamp c)) call) in
       let free : (is_idle c.pending && not c.finished) ≡ true = and_from _ _ (ap is_idle i.idle) (not_from_false c.finished i.joint.going) in

@@ -3,6 +3,8 @@ use Rattle.std.proofs.Common.{◌≡◌, ℕ, ◌+◌, ◌%◌, ◌<◌, ◌≤�
 use Rattle.std.specs.Prelude.{nat_le, nat_lt, ◌==◌, if◌then◌else◌}
 use Rattle.std.proofs.lemmas.Bool.{and_from, le-leb, lt-ltb}
 use Rattle.std.proofs.lemmas.List.Elements.{All-contains, All-filter}
+use Rattle.adlb_unit.specs.Targets.{Aims, in_ranks, home}
+use Rattle.adlb_unit.specs.Ids.{same_unit}
 use Rattle.adlb_unit.specs.declared.actors.Actor.TheVariants as by
 use Rattle.adlb_unit.specs.declared.configs.Config.{Config}
 use Rattle.adlb_unit.specs.declared.letters.Letter.{Letter}
@@ -31,13 +33,14 @@ use Rattle.bag_ledger.specs.Bag.{Bag}
 use Rattle.bag_ledger.specs.Steps.{begun}
 use Rattle.bag_ledger.proofs.Tests.{some_is}
 use Rattle.rank_client.specs.declared.pendings.Pending.TheVariants as waits_for
-use Rattle.rank_client.specs.Calls.{Aims, fetches, granted, is_fetched, is_finish}
-use Rattle.rank_client.specs.Rules.{Response, asks, entry_of, fetch, fetched, first_server as first_asked, in_ranks, open_call, over, put, reserve, unit_put}
-use Rattle.rank_client.specs.State.{State as Client, home}
+use Rattle.rank_client.specs.Calls.{fetches, granted, is_fetched, is_finish}
+use Rattle.rank_client.specs.Rules.{ClientResponse, asks, entry_of, fetch, fetched, first_server as first_asked, open_call, over, put, reserve, unit_put}
+use Rattle.rank_client.specs.State.{ClientModel}
 use Rattle.rank_client.specs.Step.{Made, call_stamp, made, posted, ticked}
 use Rattle.rank_client.proofs.Begins.{found_is}
+use Rattle.server_core.proofs.Expected.{aims_from}
 use Rattle.server_core.specs.Agreement.{of_id}
-use Rattle.server_core.specs.State.{State as Host}
+use Rattle.server_core.specs.State.{ServerModel}
 use Rattle.server_core.proofs.Finds.{find_is}
 use Rattle.core_inline.specs.Answers.{CanCall}
 use Rattle.core_inline.specs.Known.{AreKnown, IsNoted, note_with}
@@ -67,7 +70,7 @@ new_id units id next lower is = by_found (find (of_id id) units) refl
 
 -- Put.
 
-first_is : (c : Client) (target : Target) → c.config.servers ≡ 1 → first_asked c target ≡ first_server
+first_is : (c : ClientModel) (target : Target) → c.config.servers ≡ 1 → first_asked c target ≡ first_server
 first_is c Any one = let named : ℕ → Server = λ k. record { 0 = k } in ap named (mod_one ((c.me.0 % c.config.servers) + c.puts) c.config.servers one)
 first_is c (Only rank) one = let named : ℕ → Server = λ k. record { 0 = k } in ap named (mod_one rank.0 c.config.servers one)
 first_is c (Soft rank) one = let named : ℕ → Server = λ k. record { 0 = k } in ap named (mod_one rank.0 c.config.servers one)
@@ -75,17 +78,12 @@ first_is c (Soft rank) one = let named : ℕ → Server = λ k. record { 0 = k }
 home_is : (config : Config) (rank : Rank) → config.servers ≡ 1 → home config rank ≡ first_server
 home_is config rank one = let named : ℕ → Server = λ k. record { 0 = k } in ap named (mod_one rank.0 config.servers one)
 
-aims_in : (config : Config) (target : Target) → config.ranks ≡ 1 → Aims target 1 → in_ranks config target ≡ true
-aims_in config Any one aims = refl
-aims_in config (Only rank) one aims = ap (nat_lt rank.0) one ∙ lt-ltb rank.0 1 aims
-aims_in config (Soft rank) one aims = ap (nat_lt rank.0) one ∙ lt-ltb rank.0 1 aims
-
-module _ (c : Client) (s : Host) (ledger : List Entry) (i : IsIdle c s ledger) where
+module _ (c : ClientModel) (s : ServerModel) (ledger : List Entry) (i : IsIdle c s ledger) where
   module _ (kind : WorkType) (prio : ℤ) (target : Target) (answer : Option Rank) (body : List ℕ) (size : length body ≤ 2 ^ 20) (aims : Aims target 1) where
     put_opens : open_call (ticked c (call_stamp c)) (calls_to.Put kind prio target answer body) ≡ Some (put (ticked c (call_stamp c)) (unit_put c kind prio target answer body) c.end)
     put_opens =
-        let t : Client = ticked c (call_stamp c) in
-        let may : (nat_le (length body) (2 ^ 20) && in_ranks c.config target) ≡ true = and_from _ _ (le-leb (length body) (2 ^ 20) size) (aims_in c.config target i.joint.one_rank aims) in
+        let t : ClientModel = ticked c (call_stamp c) in
+        let may : (nat_le (length body) (2 ^ 20) && in_ranks c.config target) ≡ true = and_from _ _ (le-leb (length body) (2 ^ 20) size) (aims_from c.config target (subst (λ n. Aims target n) (sym i.joint.one_rank) aims)) in
         ap (λ v. cond v (Some (put t (unit_put c kind prio target answer body) c.end)) None) may
 
     put_beginning : IsBeginning c s ledger (calls_to.Put kind prio target answer body)
@@ -95,7 +93,7 @@ module _ (c : Client) (s : Host) (ledger : List Entry) (i : IsIdle c s ledger) w
         by_end (Some end) was_told =
             let call : Call = calls_to.Put kind prio target answer body in
             let unit : Unit = unit_put c kind prio target answer body in
-            let r : Response = over (record (ticked c (call_stamp c)) { puts = c.puts + 1 }) (entry_of unit) call end in
+            let r : ClientResponse = over (record (ticked c (call_stamp c)) { puts = c.puts + 1 }) (entry_of unit) call end in
             let f : RankState → RankState = λ v. begun (does.Putting (record { id = record { rank = c.me; number = c.next }; kind = kind; prio = prio; target = target; answer = answer; common = v.batch; body = body })) v in
             let opens : open_call (ticked c (call_stamp c)) call ≡ Some r = put_opens ∙ ap (λ o. Some (put (ticked c (call_stamp c)) unit o)) was_told in
             let first : IsEntry c s ledger call i (entry_of unit) f = record { after_it = refl; silent_it = refl; pending = refl } in
@@ -117,7 +115,7 @@ module _ (c : Client) (s : Host) (ledger : List Entry) (i : IsIdle c s ledger) w
             let call : Call = calls_to.Put kind prio target answer body in
             let unit : Unit = unit_put c kind prio target answer body in
             let to : Server = first_asked c target in
-            let r : Response = asks (record (ticked c (call_stamp c)) { puts = c.puts + 1 }) (entry_of unit) to (tells.Put unit) (waits_for.Put unit to 0) in
+            let r : ClientResponse = asks (record (ticked c (call_stamp c)) { puts = c.puts + 1 }) (entry_of unit) to (tells.Put unit) (waits_for.Put unit to 0) in
             let x : Made = made r in
             let letter : Letter = (posted r.state (record { to = to; message = tells.Put unit })).letter in
             let f : RankState → RankState = λ v. begun (does.Putting (record { id = record { rank = c.me; number = c.next }; kind = kind; prio = prio; target = target; answer = answer; common = v.batch; body = body })) v in
@@ -151,7 +149,7 @@ module _ (c : Client) (s : Host) (ledger : List Entry) (i : IsIdle c s ledger) w
       by_end (Some end) was_told =
           let call : Call = calls_to.Reserve types in
           let entry : Entry = enters.Asked c.me c.next types in
-          let r : Response = over (ticked c (call_stamp c)) entry call end in
+          let r : ClientResponse = over (ticked c (call_stamp c)) entry call end in
           let f : RankState → RankState = begun (does.Asking c.next types) in
           let opens : open_call (ticked c (call_stamp c)) call ≡ Some r = ap (λ (n : ℕ). if n == 1 then Some (reserve (ticked c (call_stamp c)) types c.end) else None) i.joint.one_server ∙ ap (λ o. Some (reserve (ticked c (call_stamp c)) types o)) was_told in
           let first : IsEntry c s ledger call i entry f = record { after_it = refl; silent_it = refl; pending = refl } in
@@ -173,7 +171,7 @@ module _ (c : Client) (s : Host) (ledger : List Entry) (i : IsIdle c s ledger) w
           let call : Call = calls_to.Reserve types in
           let entry : Entry = enters.Asked c.me c.next types in
           let to : Server = home c.config c.me in
-          let r : Response = asks (ticked c (call_stamp c)) entry to (tells.Reserve c.next types) (waits_for.Reserve c.next types) in
+          let r : ClientResponse = asks (ticked c (call_stamp c)) entry to (tells.Reserve c.next types) (waits_for.Reserve c.next types) in
           let x : Made = made r in
           let letter : Letter = (posted r.state (record { to = to; message = tells.Reserve c.next types })).letter in
           let f : RankState → RankState = begun (does.Asking c.next types) in
@@ -205,7 +203,7 @@ module _ (c : Client) (s : Host) (ledger : List Entry) (i : IsIdle c s ledger) w
       let handles : List UnitNote = filter (λ n. not (same_unit n.id note.id)) c.handles in
       let found : note_with note.id c.handles ≡ Some note = i.held note g unfetched in
       let noted : IsNoted i.last.units note = (found_is (IsNoted i.last.units) note.id c.handles note found i.known.noted).1 in
-      let r : Response = fetched (ticked c (call_stamp c)) note.id note in
+      let r : ClientResponse = fetched (ticked c (call_stamp c)) note.id note in
       let x : Made = made r in
       let letter : Letter = (posted r.state (record { to = note.server; message = tells.Fetch c.next note.id })).letter in
       let f : RankState → RankState = begun (does.Fetching c.next note.id false) in

@@ -13,10 +13,10 @@ use Rattle.bag_ledger.specs.declared.entries.Call.TheVariants as calls_to
 use Rattle.bag_ledger.specs.declared.entries.Entry.{Entry}
 use Rattle.bag_ledger.specs.declared.entries.Said.{Said}
 use Rattle.rank_client.specs.Calls.{is_finish}
-use Rattle.rank_client.specs.State.{State as Client}
+use Rattle.rank_client.specs.State.{ClientModel}
 use Rattle.rank_client.specs.Step.{Made, call_stamp, letter_stamp}
 use Rattle.rank_client.proofs.Entries.{some_is}
-use Rattle.server_core.specs.State.{State as Host}
+use Rattle.server_core.specs.State.{ServerModel}
 use Rattle.server_core.specs.Step.{next_stamp}
 use Rattle.core_run.specs.declared.events.Event.TheVariants as occurs
 use Rattle.core_run.specs.World.{World, after_server, client_of, happens, has_ended, pool_of, taken}
@@ -83,7 +83,7 @@ module _ (w : Seen) (i : IsReady w) (call : Call) (going : is_finish call ≡ fa
             let n = now_is [] (at_pair ∙ begins_silent w.world.config (rank_in w) (server_in w) w.world.ledger i.two.one_rank i.two.one_server call b.x b.begins over.silent) in
             let same : over.answer ≡ a = some_is (sym over.answers_it ∙ sym answer_is ∙ is) in
             let done : IsAnswered (rank_in w).transcript call a b.x.state (server_in w) (w.world.ledger ++ b.x.entries) = subst (λ (k : Answer). IsAnswered (rank_in w).transcript call k b.x.state (server_in w) (w.world.ledger ++ b.x.entries)) same over.done in
-            let clock : (rank_in now).clock ≡ call_stamp (rank_in w) = ap (λ (k : Client). k.clock) n.rank_is ∙ b.clock in
+            let clock : (rank_in now).clock ≡ call_stamp (rank_in w) = ap (λ (k : ClientModel). k.clock) n.rank_is ∙ b.clock in
             (rw (n.rank_is, n.server_is, n.ledger_is) done, n.two, rw clock early)
         by_way (inr sent) =
             let none : None ≡ Some a = sym sent.unanswered ∙ sym answer_is ∙ is in
@@ -101,14 +101,14 @@ module _ (w : Seen) (i : IsReady w) (call : Call) (going : is_finish call ≡ fa
         by_way (inr sent) =
             let n = now_is (sent.letter ∷ []) (at_pair ∙ begins_asking w.world.config (rank_in w) (server_in w) w.world.ledger i.two.one_rank i.two.one_server call b.x sent.letter b.begins sent.sends) in
             let serving : IsServing (rank_in now) (server_in now) now.world.ledger sent.letter = rw (n.rank_is, n.server_is, n.ledger_is) (sent.serving early) in
-            let unhandled : (server_in now).finished ≡ false ∷ [] = ap (λ (h : Host). h.finished) n.server_is ∙ i.idle.joint.unhandled in (
+            let unhandled : (server_in now).finished ≡ false ∷ [] = ap (λ (h : ServerModel). h.finished) n.server_is ∙ i.idle.joint.unhandled in (
               record { letter = sent.letter; two = n.two; serving = serving; unhandled = unhandled },
-              ap (λ (k : Client). pending_call k.pending) n.rank_is ∙ sent.pending,
-              ap (λ (k : Client). k.transcript) n.rank_is ∙ sent.same,
+              ap (λ (k : ClientModel). pending_call k.pending) n.rank_is ∙ sent.pending,
+              ap (λ (k : ClientModel). k.transcript) n.rank_is ∙ sent.same,
             )
 
 -- a server that has not handled the rank's Finish has not ended
-open_server : (s : Host) → s.finished ≡ false ∷ [] → has_ended s ≡ false
+open_server : (s : ServerModel) → s.finished ≡ false ∷ [] → has_ended s ≡ false
 open_server s unhandled = by_test s.shut
   where
     by_test : (t : _) → (t && list_all (λ f. f) s.finished) ≡ false
@@ -190,7 +190,7 @@ module _ (w : Seen) (i : IsReplied w) where
     heard_pair = heard_now.two
 
     pub heard_early : event_stamp w.world to_rank < 2 ^ 48 → (rank_in now).clock < 2 ^ 48
-    heard_early early = rw (ap (λ (k : Client). k.clock) heard_now.rank_is ∙ h.clock ∙ sym told_stamp_is) early
+    heard_early early = rw (ap (λ (k : ClientModel). k.clock) heard_now.rank_is ∙ h.clock ∙ sym told_stamp_is) early
 
     pub heard_answered : (call : Call) (answer : Answer) → pending_call (rank_in w).pending ≡ Some call → Some answer ≡ event_answer w.world to_rank
         → IsAnswered (rank_in w).transcript call answer (rank_in now) (server_in now) now.world.ledger
@@ -261,7 +261,7 @@ module _ (w : Seen) (i : IsReady w) where
         let cut : IsTold w.world.config (w.world.ledger ++ f.x.entries) (rank_in w).transcript (Some calls_to.Finish) = subst (λ (g : Config). IsTold g (w.world.ledger ++ f.x.entries) (rank_in w).transcript (Some calls_to.Finish)) i.two.same f.cut in
         let few : event_stamp now.world to_server ≤ 3 * length (rank_in w).transcript + 3 = rw shut_stamp f.few in
         failed w.world.config (rank_in w).transcript (said ∷ []) calls_to.Finish now.world last_world f.y.entries (event_stamp now.world to_server) trouble last.world p
-        (inr (ap (λ (k : Client). k.transcript) n.rank_is ∙ f.grown)) f.grown few
+        (inr (ap (λ (k : ClientModel). k.transcript) n.rank_is ∙ f.grown)) f.grown few
         (Some calls_to.Finish, subst (λ (l : List Entry). IsTold w.world.config l (rank_in w).transcript (Some calls_to.Finish)) ledger cut, inr refl)
 
     pub shut_finished : (last : Seen) → happens now.world to_server ≡ Some last.world → IsFinished w.world.config (rank_in w).transcript (rank_in last) (server_in last) last.world.ledger

@@ -11,15 +11,17 @@ use Rattle.bag_ledger.specs.declared.entries.Call.{Call}
 use Rattle.bag_ledger.specs.declared.entries.Call.TheVariants as calls_to
 use Rattle.bag_ledger.specs.declared.entries.Entry.{Entry}
 use Rattle.bag_ledger.specs.declared.entries.Said.{Said}
-use Rattle.rank_client.specs.State.{State as Client}
+use Rattle.rank_client.specs.State.{ClientModel}
 use Rattle.rank_client.specs.Step.{call_stamp}
 use Rattle.rank_client.specs.Agreement.{running as running_rank}
-use Rattle.server_core.specs.State.{State as Host}
+use Rattle.rank_client.proofs.Entries.{some_is}
+use Rattle.server_core.specs.State.{ServerModel}
 use Rattle.server_core.specs.Step.{next_stamp}
 use Rattle.core_run.specs.declared.events.Event.{Event}
 use Rattle.core_run.specs.Runs.{transcript}
 use Rattle.core_run.specs.World.{World, happens}
 use Rattle.core_world.specs.Applied.{Stops, event_stamp}
+use Rattle.core_world.proofs.Posting.{none_left}
 use Rattle.core_inline.specs.Inline.{IsTold, zeroth}
 use Rattle.core_inline.specs.Rounds.{IsAnswered, IsBeginning, IsFailed, IsFinishing, IsHearing, IsOver, IsSent, IsServing}
 use Rattle.core_inline.proofs.Beginning.{rank_runs}
@@ -101,7 +103,7 @@ failed config said more call w after entries stamp trouble now p before then few
 -- What the ledger tells after a front of an event's entries.
 
 -- a call that is answered, and whose answer did not come back
-told_answered : (said : List Said) (call : Call) (answer : Answer) (c : Client) (s : Host) (ledger : List Entry) → IsAnswered said call answer c s ledger → IsTold c.config ledger said (Some call)
+told_answered : (said : List Said) (call : Call) (answer : Answer) (c : ClientModel) (s : ServerModel) (ledger : List Entry) → IsAnswered said call answer c s ledger → IsTold c.config ledger said (Some call)
 told_answered said call answer c s ledger done = record {
   last = done.idle.last;
   legal = done.idle.joint.legal;
@@ -116,7 +118,7 @@ some_front : (entries entered rest : List Entry) (e : Entry) → entries ≡ ent
 some_front entries entered rest e is = (omega (arith, ap length is, length-append entered (e ∷ rest)), ap (take (length entered)) is ∙ take-append_seam entered (e ∷ rest))
 
 -- of the entries of a rank's beginning
-pub told_beginning : (c : Client) (s : Host) (ledger : List Entry) (call : Call) (b : IsBeginning c s ledger call) (entered rest : List Entry) → b.x.entries ≡ entered ++ rest
+pub told_beginning : (c : ClientModel) (s : ServerModel) (ledger : List Entry) (call : Call) (b : IsBeginning c s ledger call) (entered rest : List Entry) → b.x.entries ≡ entered ++ rest
     → (entered ≡ []) ⊎ (call_stamp c < 2 ^ 48) → IsToldOf c.config c.transcript call (ledger ++ entered)
 told_beginning c s ledger call b [] rest all in_time = (None, subst (λ (l : List Entry). IsTold c.config l c.transcript None) (sym (append-nil ledger)) b.before, inl refl)
 told_beginning c s ledger call b (e ∷ entered) (r ∷ rest) all in_time =
@@ -134,15 +136,12 @@ told_beginning c s ledger call b (e ∷ entered) [] all in_time = (Some call, su
     by_way (inl over) = subst (λ (g : Config). IsTold g (ledger ++ b.x.entries) c.transcript (Some call)) b.same (told_answered c.transcript call over.answer b.x.state s (ledger ++ b.x.entries) over.done)
     by_way (inr sent) =
         let v = sent.serving early in
-        let call_is : v.call ≡ call = inner v.call (sym v.pending ∙ sent.pending) in
+        let call_is : v.call ≡ call = some_is (sym v.pending ∙ sent.pending) in
         let there : IsTold b.x.state.config (ledger ++ b.x.entries) b.x.state.transcript (Some call) = subst (λ (k : Call). IsTold b.x.state.config (ledger ++ b.x.entries) b.x.state.transcript (Some k)) call_is v.before in
         subst (λ (g : Config). IsTold g (ledger ++ b.x.entries) c.transcript (Some call)) b.same (subst (λ (l : List Said). IsTold b.x.state.config (ledger ++ b.x.entries) l (Some call)) sent.same there)
-      where
-        inner : (k : Call) → Some k ≡ Some call → k ≡ call
-        inner k e = cc
 
 -- of those of the server's step
-pub told_serving : (c : Client) (s : Host) (ledger : List Entry) (letter : Letter) (v : IsServing c s ledger letter) (entered rest : List Entry) → v.x.entries ≡ entered ++ rest
+pub told_serving : (c : ClientModel) (s : ServerModel) (ledger : List Entry) (letter : Letter) (v : IsServing c s ledger letter) (entered rest : List Entry) → v.x.entries ≡ entered ++ rest
     → (entered ≡ []) ⊎ (next_stamp s letter < 2 ^ 48) → IsToldOf c.config c.transcript v.call (ledger ++ entered)
 told_serving c s ledger letter v entered (r ∷ rest) all in_time =
     let f = some_front v.x.entries entered rest r all in
@@ -151,35 +150,24 @@ told_serving c s ledger letter v entered [] all (inl none) =
     (Some v.call, subst (λ (l : List Entry). IsTold c.config l c.transcript (Some v.call)) (sym (append-nil ledger) ∙ ap (λ (l : List Entry). ledger ++ l) (sym none)) v.before, inr refl)
 told_serving c s ledger letter v entered [] all (inr early) =
     let h = v.hearing early in
-    let call_is : h.call ≡ v.call = inner h.call (sym h.pending ∙ v.pending) in
+    let call_is : h.call ≡ v.call = some_is (sym h.pending ∙ v.pending) in
     let there : IsTold c.config (ledger ++ v.x.entries) c.transcript (Some v.call) = subst (λ (k : Call). IsTold c.config (ledger ++ v.x.entries) c.transcript (Some k)) call_is h.cut in
     (Some v.call, subst (λ (l : List Entry). IsTold c.config (ledger ++ l) c.transcript (Some v.call)) (all ∙ append-nil entered) there, inr refl)
-  where
-    inner : (k : Call) → Some k ≡ Some v.call → k ≡ v.call
-    inner k e = cc
 
 -- of those of the rank that hears the answer
-pub told_hearing : (c : Client) (s : Host) (ledger : List Entry) (letter : Letter) (h : IsHearing c s ledger letter) (entered rest : List Entry) → h.x.entries ≡ entered ++ rest
+pub told_hearing : (c : ClientModel) (s : ServerModel) (ledger : List Entry) (letter : Letter) (h : IsHearing c s ledger letter) (entered rest : List Entry) → h.x.entries ≡ entered ++ rest
     → IsToldOf c.config c.transcript h.call (ledger ++ entered)
 told_hearing c s ledger letter h [] rest all = (Some h.call, subst (λ (l : List Entry). IsTold c.config l c.transcript (Some h.call)) (sym (append-nil ledger)) h.cut, inr refl)
 told_hearing c s ledger letter h (e ∷ entered) rest all =
-    let none : rest ≡ [] = inner rest (omega (arith, h.one_entry, ap length all, length-append (e ∷ entered) rest)) in
+    let none : rest ≡ [] = none_left rest (omega (arith, h.one_entry, ap length all, length-append (e ∷ entered) rest)) in
     let whole : h.x.entries ≡ e ∷ entered = all ∙ ap (λ (l : List Entry). (e ∷ entered) ++ l) none ∙ append-nil (e ∷ entered) in
     let told = told_answered c.transcript h.call h.answer h.x.state s (ledger ++ h.x.entries) h.done in
     (Some h.call, subst (λ (l : List Entry). IsTold c.config (ledger ++ l) c.transcript (Some h.call)) whole (subst (λ (g : Config). IsTold g (ledger ++ h.x.entries) c.transcript (Some h.call)) h.same told), inr refl)
-  where
-    inner : (l : List Entry) → length l ≡ 0 → l ≡ []
-    inner [] is = refl
-    inner (x ∷ l) is = absurd (omega (arith, is))
 
 -- of the one of the rank that finishes
-pub told_finishing : (c : Client) (s : Host) (ledger : List Entry) (f : IsFinishing c s ledger) (entered rest : List Entry) → f.x.entries ≡ entered ++ rest → IsToldOf c.config c.transcript calls_to.Finish (ledger ++ entered)
+pub told_finishing : (c : ClientModel) (s : ServerModel) (ledger : List Entry) (f : IsFinishing c s ledger) (entered rest : List Entry) → f.x.entries ≡ entered ++ rest → IsToldOf c.config c.transcript calls_to.Finish (ledger ++ entered)
 told_finishing c s ledger f [] rest all = (None, subst (λ (l : List Entry). IsTold c.config l c.transcript None) (sym (append-nil ledger)) f.before, inl refl)
 told_finishing c s ledger f (e ∷ entered) rest all =
-    let none : rest ≡ [] = inner rest (omega (arith, ap length f.entries, ap length all, length-append (e ∷ entered) rest)) in
+    let none : rest ≡ [] = none_left rest (omega (arith, ap length f.entries, ap length all, length-append (e ∷ entered) rest)) in
     let whole : f.x.entries ≡ e ∷ entered = all ∙ ap (λ (l : List Entry). (e ∷ entered) ++ l) none ∙ append-nil (e ∷ entered) in
     (Some calls_to.Finish, subst (λ (l : List Entry). IsTold c.config (ledger ++ l) c.transcript (Some calls_to.Finish)) whole f.cut, inr refl)
-  where
-    inner : (l : List Entry) → length l ≡ 0 → l ≡ []
-    inner [] is = refl
-    inner (x ∷ l) is = absurd (omega (arith, is))

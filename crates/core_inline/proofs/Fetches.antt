@@ -3,6 +3,7 @@ use Rattle.std.proofs.Common.{◌≡◌, inl, ℕ, ◌==◌, ◌&&◌, ◌||◌,
 use Rattle.std.specs.Prelude.{option_and_then}
 use Rattle.std.specs.Option.{option_map}
 use Rattle.std.proofs.lemmas.List.Elements.{All-contains}
+use Rattle.adlb_unit.specs.Ids.{same_unit}
 use Rattle.adlb_unit.specs.declared.configs.Config.{Config}
 use Rattle.adlb_unit.specs.declared.letters.Letter.{Letter}
 use Rattle.adlb_unit.specs.declared.messages.Message.{Message}
@@ -30,16 +31,16 @@ use Rattle.rank_client.specs.declared.pendings.Pending.TheVariants as waits_for
 use Rattle.rank_client.specs.Agreement.{IsCaused, holds, in_call, note_coming, running, said as said_with}
 use Rattle.rank_client.specs.Calls.{granted}
 use Rattle.rank_client.specs.Rules.{ends}
-use Rattle.rank_client.specs.State.{State as Client}
+use Rattle.rank_client.specs.State.{ClientModel}
 use Rattle.rank_client.specs.Step as client_step
 use Rattle.rank_client.proofs.Entries.{rank_changed, saying}
 use Rattle.server_core.specs.Agreement.{IsAlone, IsPending, is_spent, of_id, slot_of, stays}
-use Rattle.server_core.specs.Rules.{Response, fetch, fetched, is_pin, is_pinned_as, respond, to_rank, unit_with}
-use Rattle.server_core.specs.State.{State as Host}
+use Rattle.server_core.specs.Rules.{ServerResponse, fetch, fetched, is_pin, is_pinned_as, respond, to_rank, unit_with}
+use Rattle.server_core.specs.State.{ServerModel}
 use Rattle.server_core.specs.Step.{Served, next_stamp, posted, serve, served, ticked}
 use Rattle.server_core.proofs.Calm.{calm_fetched}
 use Rattle.server_core.proofs.Finds.{find_is}
-use Rattle.work_queue.specs.Queue.{id_of, same_id}
+use Rattle.work_queue.specs.Queue.{id_of}
 use Rattle.work_queue.specs.declared.placing.Placed.{Placed}
 use Rattle.core_inline.specs.Inline.{zeroth}
 use Rattle.core_inline.specs.Known.{AreHeld, AreKnown, IsNoted}
@@ -64,7 +65,7 @@ find_narrower f g (y ∷ ys) x found passes = by_test (f y) refl found (λ later
     by_test false is found rest = rest found
 
 -- a unit that is noted is at the only server
-pub noted_here : (b : Bag) (s : Host) (note : UnitNote) → IsAlone b s → IsNoted b.units note → note.server ≡ s.me
+pub noted_here : (b : Bag) (s : ServerModel) (note : UnitNote) → IsAlone b s → IsNoted b.units note → note.server ≡ s.me
 noted_here b s note alone noted = by_test (note.server.0 == s.me.0) refl (ap (stays_as s.me) (sym noted.2) ∙ found_passes (stays s.me) (of_id note.id) b.units noted.0 alone.here noted.1)
   where
     stays_as : Server → UnitPlace → Bool
@@ -74,7 +75,7 @@ noted_here b s note alone noted = by_test (note.server.0 == s.me.0) refl (ap (st
     by_test true same is = same_server_is note.server s.me same
     by_test false other is = absurd (cc (ap (λ t. t || false) other, is))
 
-module _ (c : Client) (s : Host) (ledger : List Entry) (letter : Letter) (b : Bag) (asked : IsAsked c s ledger letter b) (request : ℕ) (note : UnitNote)
+module _ (c : ClientModel) (s : ServerModel) (ledger : List Entry) (letter : Letter) (b : Bag) (asked : IsAsked c s ledger letter b) (request : ℕ) (note : UnitNote)
     (pending : c.pending ≡ waits_for.Fetch request note) (message : letter.message ≡ tells.Fetch request note.id) (noted : IsNoted b.units note)
     (others : All (λ n. same_unit note.id n.id ≡ false) c.handles) (only : (n : UnitNote) → granted n c.transcript → n.id ≡ note.id → n ≡ note)
     (held : (said : Said) → ((n : UnitNote) → said.answer ≡ answers.Granted n → ⊥) → said.call ≡ calls_to.Fetch note.id → AreHeld (c.transcript ++ said ∷ []) c.handles) where
@@ -104,9 +105,9 @@ module _ (c : Client) (s : Host) (ledger : List Entry) (letter : Letter) (b : Ba
 
   responds : respond (ticked s (next_stamp s letter)) zeroth letter.message ≡ Some (fetched (ticked s (next_stamp s letter)) zeroth request note.id (record { unit = noted.0.unit; pin = Some zeroth }))
   responds =
-      let t : Host = ticked s (next_stamp s letter) in
+      let t : ServerModel = ticked s (next_stamp s letter) in
       let p : Placed = record { unit = noted.0.unit; pin = Some zeroth } in
-      let found : find (is_pinned_as note.id zeroth) s.queue.units ≡ Some p = find_narrower (λ q. same_id (id_of q) note.id) (λ q. is_pin q.pin zeroth) s.queue.units p slot refl in
+      let found : find (is_pinned_as note.id zeroth) s.queue.units ≡ Some p = find_narrower (λ q. same_unit (id_of q) note.id) (λ q. is_pin q.pin zeroth) s.queue.units p slot refl in
       ap (respond t zeroth) message ∙ ap (fetch t zeroth request note.id) found
 
   fetched_plain : (body : List ℕ) (n : UnitNote) → answers.Body body ≡ answers.Granted n → ⊥
@@ -161,10 +162,10 @@ module _ (c : Client) (s : Host) (ledger : List Entry) (letter : Letter) (b : Ba
 
   pub fetch_serving : IsServing c s ledger letter
   fetch_serving =
-      let t : Host = ticked s (next_stamp s letter) in
+      let t : ServerModel = ticked s (next_stamp s letter) in
       let body : List ℕ = noted.0.unit.body in
       let p : Placed = record { unit = noted.0.unit; pin = Some zeroth } in
-      let y : Response = fetched t zeroth request note.id p in
+      let y : ServerResponse = fetched t zeroth request note.id p in
       let x : Served = served y in
       let reply : Letter = (posted y.state (to_rank zeroth (tells.Bytes request body))).letter in
       let serves : serve s by_rank letter ≡ Some x = serve_gives s letter y one_rank asked.stamp responds ∙ ap Some (calm_fetched t zeroth request note.id p (λ one. inl asked.joint.runs)) in

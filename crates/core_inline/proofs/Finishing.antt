@@ -21,12 +21,12 @@ use Rattle.bag_ledger.proofs.Legal.{run_joined}
 use Rattle.rank_client.specs.Agreement.{running}
 use Rattle.rank_client.specs.Rules.{Saying, answered, farewell}
 use Rattle.rank_client.specs.Rules as client_rules
-use Rattle.rank_client.specs.State.{State as Client}
+use Rattle.rank_client.specs.State.{ClientModel}
 use Rattle.rank_client.specs.Step.{Made, begin, call_stamp, post, posted, ticked as client_ticked}
 use Rattle.server_core.specs.declared.standings.Standing.TheVariants.{Finished}
 use Rattle.server_core.specs.Rules.{expects_finish, finish, is_running, leave, respond}
-use Rattle.server_core.specs.Agreement.{Agrees as IsServerOf, IsAlone}
-use Rattle.server_core.specs.State.{State as Host}
+use Rattle.server_core.specs.Agreement.{ServerAgrees, IsAlone}
+use Rattle.server_core.specs.State.{ServerModel}
 use Rattle.server_core.specs.Step.{Served, after_event, next_stamp, served, ticked, verdict, waiting_from}
 use Rattle.core_inline.specs.Inline.{zeroth}
 use Rattle.core_inline.specs.Rounds.{IsFinishing, IsIdle}
@@ -36,10 +36,10 @@ use Rattle.core_inline.proofs.Lefts.{left_is}
 use Rattle.core_inline.proofs.Served.{serve_gives}
 use Rattle.core_inline.proofs.Steady.{next_is, rank_alone, rank_server}
 
-module _ (c : Client) (s : Host) (ledger : List Entry) (i : IsIdle c s ledger) where
+module _ (c : ClientModel) (s : ServerModel) (ledger : List Entry) (i : IsIdle c s ledger) where
   pub finishing : IsFinishing c s ledger
   finishing =
-      let left : Client = answered (record (client_ticked c (call_stamp c)) { finished = true; next = c.next + 1 }) calls_to.Finish answers.Fine in
+      let left : ClientModel = answered (record (client_ticked c (call_stamp c)) { finished = true; next = c.next + 1 }) calls_to.Finish answers.Fine in
       let entry : Entry = enters.Finished c.me c.next in
       let base : Made = record { state = left; sends = []; entries = entry ∷ []; answer = Some answers.Fine } in
       let x : Made = post base (farewell 0 ∷ []) in
@@ -49,7 +49,7 @@ module _ (c : Client) (s : Host) (ledger : List Entry) (i : IsIdle c s ledger) w
       let begins : begin c calls_to.Finish ≡ Some x = opens ∙ ap (λ n. Some (post base (map farewell (range_with_len 0 n)))) i.joint.one_server in
       let law = follows c s ledger calls_to.Finish i x begins in
       let said : Said = record { call = calls_to.Finish; answer = answers.Fine } in
-      let t : Host = ticked s (next_stamp s letter) in
+      let t : ServerModel = ticked s (next_stamp s letter) in
       let served_it : Served = served (finish t zeroth) in
       let y : Served = record served_it { state = record served_it.state { shut = true } } in
       let legal : IsRun (start c.config) (ledger ++ entry ∷ []) law.0 = run_joined (start c.config) i.last law.0 ledger (entry ∷ []) i.joint.legal law.1 in
@@ -58,7 +58,7 @@ module _ (c : Client) (s : Host) (ledger : List Entry) (i : IsIdle c s ledger) w
       let there : rank_at law.0 zeroth ≡ Some (record (running x.state) { status = does.Finished }) = ap (rank_at law.0) (sym i.joint.me) ∙ law.2.rank in
       let f : RankState → RankState = begun does.Finished in
       let after_is : law.0 ≡ with_rank c.me f i.last = next_is i.last law.0 entry law.1 in
-      let server = subst (λ (v : Bag). IsServerOf v s × IsAlone v s) (sym after_is) (rank_server i.last s c.me f i.joint.runs i.joint.server, rank_alone i.last s c.me f i.joint.alone) in
+      let server = subst (λ (v : Bag). ServerAgrees v s × IsAlone v s) (sym after_is) (rank_server i.last s c.me f i.joint.runs i.joint.server, rank_alone i.last s c.me f i.joint.alone) in
       record {
         x = x;
         begins = begins;
@@ -91,7 +91,7 @@ module _ (c : Client) (s : Host) (ledger : List Entry) (i : IsIdle c s ledger) w
 
       responds : (letter : Letter) → letter.message ≡ tells.Finish → respond (ticked s (next_stamp s letter)) zeroth letter.message ≡ Some (finish (ticked s (next_stamp s letter)) zeroth)
       responds letter is =
-          let t : Host = ticked s (next_stamp s letter) in
+          let t : ServerModel = ticked s (next_stamp s letter) in
           let expected : expects_finish t zeroth ≡ true = rw (i.joint.unhandled, one_server, i.joint.first, i.joint.runs) refl in
           ap (respond t zeroth) is ∙ ap (λ v. cond v (Some (finish t zeroth)) None) expected
 

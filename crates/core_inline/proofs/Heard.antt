@@ -12,16 +12,16 @@ use Rattle.bag_ledger.specs.declared.entries.Said.{Said}
 use Rattle.bag_ledger.specs.Bag.{Bag, has_due}
 use Rattle.bag_ledger.specs.Runs.{IsRun}
 use Rattle.rank_client.specs.declared.pendings.Pending.TheVariants as waits_for
-use Rattle.rank_client.specs.Agreement.{Agrees as IsRankOf, Follows, said as said_with}
+use Rattle.rank_client.specs.Agreement.{ClientAgrees, Follows, said as said_with}
 use Rattle.rank_client.specs.Calls.{TellsAgain, end_of, end_told, has_finished, is_finish}
-use Rattle.rank_client.specs.Rules.{Response, answer_call}
-use Rattle.rank_client.specs.State.{State as Client}
+use Rattle.rank_client.specs.Rules.{ClientResponse, answer_call}
+use Rattle.rank_client.specs.State.{ClientModel}
 use Rattle.rank_client.specs.Step.{Made, hear, letter_stamp, made, ticked, told_trouble}
 use Rattle.rank_client.proofs.Awaited.{hear_is}
 use Rattle.rank_client.proofs.Hears.{hears}
 use Rattle.rank_client.proofs.Transcripts.{finished_more, first_end, told_more}
-use Rattle.server_core.specs.Agreement.{Agrees as IsServerOf, IsAlone}
-use Rattle.server_core.specs.State.{State as Host}
+use Rattle.server_core.specs.Agreement.{ServerAgrees, IsAlone}
+use Rattle.server_core.specs.State.{ServerModel}
 use Rattle.core_inline.specs.Answers.{IsAnswer, answers_call, heeds_end}
 use Rattle.core_inline.specs.Inline.{IsTold}
 use Rattle.core_inline.specs.Known.{AreHeld, AreKnown}
@@ -32,15 +32,15 @@ pub none_due : (b : Bag) → b.parts ≡ [] → has_due b ≡ false
 none_due b none = rw none refl
 
 -- the letter is heard by its rule
-pub hear_gives : (c : Client) (letter : Letter) (r : Response) → c.finished ≡ false → letter.stamp < 2 ^ 48 → answer_call (ticked c (letter_stamp c letter)) c.pending first_server letter.message ≡ Some r → hear c first_server letter ≡ Some (made r)
+pub hear_gives : (c : ClientModel) (letter : Letter) (r : ClientResponse) → c.finished ≡ false → letter.stamp < 2 ^ 48 → answer_call (ticked c (letter_stamp c letter)) c.pending first_server letter.message ≡ Some r → hear c first_server letter ≡ Some (made r)
 hear_gives c letter r going stamp is =
     let some : IsSome (answer_call (ticked c (letter_stamp c letter)) c.pending first_server letter.message) = rw is refl in
     hear_is c first_server letter (record { going = going; stamp = stamp; awaited = some }) ∙ ap (option_map made) is
 
 -- the answer comes back: the ledger has it, and so the bag
-pub record IsComing (c : Client) (s : Host) (ledger : List Entry) (letter : Letter) (call : Call) (answer : Answer) (b : Bag) (notes : List UnitNote) : Type 0 where
+pub record IsComing (c : ClientModel) (s : ServerModel) (ledger : List Entry) (letter : Letter) (call : Call) (answer : Answer) (b : Bag) (notes : List UnitNote) : Type 0 where
   pub joint : IsJoint c s ledger (said_with c c.pending (Some letter.message)) b
-  pub rank : IsRankOf c (Some letter.message) b
+  pub rank : ClientAgrees c (Some letter.message) b
   pub known : AreKnown b.units c.next (with_call c.transcript call answer) notes
   pub held : AreHeld (with_call c.transcript call answer) notes
   pub pending : pending_call c.pending ≡ Some call
@@ -57,7 +57,7 @@ pub record IsComing (c : Client) (s : Host) (ledger : List Entry) (letter : Lett
   pub cut : IsTold c.config ledger c.transcript (Some call)
 
 -- what hearing it makes of the client
-pub record IsHeard (c : Client) (letter : Letter) (call : Call) (answer : Answer) (notes : List UnitNote) (x : Made) : Type 0 where
+pub record IsHeard (c : ClientModel) (letter : Letter) (call : Call) (answer : Answer) (notes : List UnitNote) (x : Made) : Type 0 where
   pub hears : hear c first_server letter ≡ Some x
   pub answers_it : x.answer ≡ Some answer
   pub silent : x.sends ≡ []
@@ -71,10 +71,10 @@ pub record IsHeard (c : Client) (letter : Letter) (call : Call) (answer : Answer
   pub end : x.state.end ≡ first_end c.end (end_of answer None)
 
 -- what the entries leave of the bag for the server
-abbrev pub IsKept : Bag → Bag → Host → Type 0
-IsKept b next s = IsServerOf next s × IsAlone next s × (next.units ≡ b.units) × (next.parts ≡ [])
+abbrev pub IsKept : Bag → Bag → ServerModel → Type 0
+IsKept b next s = ServerAgrees next s × IsAlone next s × (next.units ≡ b.units) × (next.parts ≡ [])
 
-module _ (c : Client) (s : Host) (ledger : List Entry) (letter : Letter) (call : Call) (answer : Answer) (b : Bag) (notes : List UnitNote) (x : Made)
+module _ (c : ClientModel) (s : ServerModel) (ledger : List Entry) (letter : Letter) (call : Call) (answer : Answer) (b : Bag) (notes : List UnitNote) (x : Made)
     (coming : IsComing c s ledger letter call answer b notes) (heard : IsHeard c letter call answer notes x)
     (kept : (next : Bag) → IsRun b x.entries next → IsKept b next s) (unexhausted : x.state.end ≡ None → s.exhausted ≡ false) where
   follows : Follows c (Some letter.message) b x

@@ -10,11 +10,11 @@ use Rattle.bag_ledger.proofs.Calls.{calls_split}
 use Rattle.bag_ledger.proofs.Legal.{run_joined}
 use Rattle.rank_client.specs.declared.pendings.Pending.{Pending}
 use Rattle.rank_client.specs.declared.pendings.Pending.TheVariants as waits_for
-use Rattle.rank_client.specs.Agreement.{Agrees as IsRankOf, in_call, rank_of}
+use Rattle.rank_client.specs.Agreement.{ClientAgrees, in_call, rank_of}
 use Rattle.rank_client.specs.Calls.{end_told, has_finished}
-use Rattle.rank_client.specs.State.{State as Client}
-use Rattle.server_core.specs.Agreement.{Agrees as IsServerOf, IsAlone}
-use Rattle.server_core.specs.State.{State as Host}
+use Rattle.rank_client.specs.State.{ClientModel}
+use Rattle.server_core.specs.Agreement.{ServerAgrees, IsAlone}
+use Rattle.server_core.specs.State.{ServerModel}
 use Rattle.core_inline.specs.Inline.{IsTold, zeroth}
 use Rattle.core_inline.specs.Rounds.{IsJoint, pending_call}
 
@@ -24,7 +24,7 @@ calls_grown config ledger entries b said more run is grows =
     calls_split (start config) b ledger entries zeroth run ∙ ap (λ l. l ++ calls_from b entries zeroth) is ∙ ap (λ l. said ++ l) grows
 
 -- the client is as it was, but for its calls, its clock and what it holds
-pub record IsLike (t c : Client) : Type 0 where
+pub record IsLike (t c : ClientModel) : Type 0 where
   pub config : t.config ≡ c.config
   pub me : t.me ≡ c.me
   pub trouble : t.trouble ≡ c.trouble
@@ -32,9 +32,9 @@ pub record IsLike (t c : Client) : Type 0 where
   pub batch : t.batch ≡ c.batch
 
 -- the rank is idle after entries of its own
-module _ (c t : Client) (s : Host) (ledger entries : List Entry) (said : List Said) (b next : Bag)
-    (joint : IsJoint c s ledger said b) (like : IsLike t c) (run : IsRun b entries next) (rank : IsRankOf t None next)
-    (grown : t.transcript ≡ said ++ calls_from b entries c.me) (server : IsServerOf next s) (alone : IsAlone next s) (no_parts : next.parts ≡ []) where
+module _ (c t : ClientModel) (s : ServerModel) (ledger entries : List Entry) (said : List Said) (b next : Bag)
+    (joint : IsJoint c s ledger said b) (like : IsLike t c) (run : IsRun b entries next) (rank : ClientAgrees t None next)
+    (grown : t.transcript ≡ said ++ calls_from b entries c.me) (server : ServerAgrees next s) (alone : IsAlone next s) (no_parts : next.parts ≡ []) where
   pub joint_after : end_told t.transcript ≡ t.end → has_finished t.transcript ≡ false → IsJoint t s (ledger ++ entries) t.transcript next
   joint_after told unfinished = record {
     same = joint.same ∙ sym like.config;
@@ -62,18 +62,18 @@ module _ (c t : Client) (s : Host) (ledger entries : List Entry) (said : List Sa
 
 -- What the ledger tells while a call is pending.
 
-call_in : (c : Client) (p : Pending) → call_of (in_call c p None).status ≡ pending_call p
+call_in : (c : ClientModel) (p : Pending) → call_of (in_call c p None).status ≡ pending_call p
 call_in c waits_for.Nothing = refl
 call_in c (waits_for.Put unit first tried) = refl
 call_in c (waits_for.Reserve request types) = refl
 call_in c (waits_for.Fetch request note) = refl
 
-pub rank_in : (c : Client) (s : Host) (ledger : List Entry) (said : List Said) (b : Bag) (coming : Option _) → IsJoint c s ledger said b → IsRankOf c coming b → rank_at b zeroth ≡ Some (in_call c c.pending coming)
+pub rank_in : (c : ClientModel) (s : ServerModel) (ledger : List Entry) (said : List Said) (b : Bag) (coming : Option _) → IsJoint c s ledger said b → ClientAgrees c coming b → rank_at b zeroth ≡ Some (in_call c c.pending coming)
 rank_in c s ledger said b coming joint rank =
     ap (rank_at b) (sym joint.me) ∙ rank.rank ∙ ap (λ f. Some (rank_of c f coming)) joint.going
 
 -- the pending call is the one that was begun
-pub told_pending : (c : Client) (s : Host) (ledger : List Entry) (b : Bag) → IsJoint c s ledger c.transcript b → IsRankOf c None b → IsTold c.config ledger c.transcript (pending_call c.pending)
+pub told_pending : (c : ClientModel) (s : ServerModel) (ledger : List Entry) (b : Bag) → IsJoint c s ledger c.transcript b → ClientAgrees c None b → IsTold c.config ledger c.transcript (pending_call c.pending)
 told_pending c s ledger b joint rank = record {
   last = b;
   legal = joint.legal;
@@ -85,7 +85,7 @@ told_pending c s ledger b joint rank = record {
 }
 
 -- it has an answer that did not come back
-pub told_coming : (c : Client) (s : Host) (ledger : List Entry) (said : Said) (b : Bag) (r : RankState) → IsJoint c s ledger (c.transcript ++ said ∷ []) b → rank_at b zeroth ≡ Some r → call_of r.status ≡ None → IsTold c.config ledger c.transcript (Some said.call)
+pub told_coming : (c : ClientModel) (s : ServerModel) (ledger : List Entry) (said : Said) (b : Bag) (r : RankState) → IsJoint c s ledger (c.transcript ++ said ∷ []) b → rank_at b zeroth ≡ Some r → call_of r.status ≡ None → IsTold c.config ledger c.transcript (Some said.call)
 told_coming c s ledger said b r joint there none = record {
   last = b;
   legal = joint.legal;

@@ -10,7 +10,7 @@ use Rattle.bag_ledger.specs.declared.entries.Call.{Call}
 use Rattle.bag_ledger.specs.declared.entries.Call.TheVariants as calls_to
 use Rattle.rank_client.specs.Agreement.{running as running_rank}
 use Rattle.rank_client.specs.Calls.{Began, has_finished, plus}
-use Rattle.server_core.specs.State.{State as Host}
+use Rattle.server_core.specs.State.{ServerModel}
 use Rattle.core_inline.specs.declared.runs.InlineRun.TheInside.{Inside}
 use Rattle.core_inline.specs.Begun.{begun_in}
 use Rattle.core_inline.specs.Inline.{IsTold}
@@ -30,7 +30,7 @@ take_all (suc n) [] is = absurd (omega (arith, is))
 take_all (suc n) (x ∷ xs) is = ap (λ l. x ∷ l) (take_all n xs (omega (arith, is)))
 
 -- a server that has not handled Finish has not ended
-pub not_ended : (s : Host) → s.finished ≡ false ∷ [] → is_ended s ≡ false
+pub not_ended : (s : ServerModel) → s.finished ≡ false ∷ [] → is_ended s ≡ false
 not_ended s unhandled = by_test s.shut
   where
     by_test : (t : Bool) → (t && get_or s.finished 0 false) ≡ false

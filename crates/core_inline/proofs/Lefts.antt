@@ -3,6 +3,7 @@ use Rattle.std.proofs.Common.{◌≡◌, ◌≢◌, Bool, true, false, cond, ◌
 use Rattle.std.specs.Prelude.{option_and_then}
 use Rattle.std.specs.List.{AllPairs, list_all}
 use Rattle.std.specs.Option.{option_map}
+use Rattle.adlb_unit.specs.Ids.{same_unit}
 use Rattle.adlb_unit.specs.declared.names.Rank.{Rank}
 use Rattle.adlb_unit.specs.declared.names.Server.{Server}
 use Rattle.adlb_unit.specs.declared.names.UnitId.{UnitId}
@@ -14,11 +15,11 @@ use Rattle.bag_ledger.specs.Bag.{Bag, unit_of}
 use Rattle.bag_ledger.proofs.Tests.{same_number, same_server_is, some_is}
 use Rattle.server_core.specs.declared.states.LeftUnit.{LeftUnit}
 use Rattle.server_core.proofs.Finds.{find_is}
-use Rattle.server_core.specs.Agreement.{Agrees, IsAlone, of_id, slot_of, stays}
+use Rattle.server_core.specs.Agreement.{ServerAgrees, IsAlone, of_id, slot_of, stays}
 use Rattle.server_core.specs.Left.{left_of as left_list, left_unit}
 use Rattle.server_core.specs.Rules.{unit_with}
-use Rattle.server_core.specs.State.{State}
-use Rattle.work_queue.specs.Queue.{HasDistinctIds, id_of, same_id}
+use Rattle.server_core.specs.State.{ServerModel}
+use Rattle.work_queue.specs.Queue.{HasDistinctIds, id_of}
 use Rattle.work_queue.specs.declared.placing.Placed.{Placed}
 use Rattle.std.proofs.lemmas.Bool.{and_parts}
 use Rattle.std.proofs.lemmas.List.{get_or-map, length-map}
@@ -73,9 +74,9 @@ found_passes test which (v ∷ units) u all found = by_test (and_parts (test v) 
 
 find_left : (me : Server) (id : UnitId) (units : List Placed) → left_with id (map (left_unit me) units) ≡ option_map (left_unit me) (unit_with id units)
 find_left me id [] = refl
-find_left me id (p ∷ units) = by_test (same_id (id_of p) id) refl (find_left me id units)
+find_left me id (p ∷ units) = by_test (same_unit (id_of p) id) refl (find_left me id units)
   where
-    by_test : (t : Bool) → same_id (id_of p) id ≡ t → left_with id (map (left_unit me) units) ≡ option_map (left_unit me) (unit_with id units) → left_with id (map (left_unit me) (p ∷ units)) ≡ option_map (left_unit me) (unit_with id (p ∷ units))
+    by_test : (t : Bool) → same_unit (id_of p) id ≡ t → left_with id (map (left_unit me) units) ≡ option_map (left_unit me) (unit_with id units) → left_with id (map (left_unit me) (p ∷ units)) ≡ option_map (left_unit me) (unit_with id (p ∷ units))
     by_test true is rest = rw is refl
     by_test false is rest = rw is rest
 
@@ -87,7 +88,7 @@ distinct_left me (p ∷ units) distinct i j d before inside =
     let second = get_or-map (left_unit me) (p ∷ units) j p d (omega (arith, long, inside)) in
     λ same. distinct i j p before (omega (arith, long, inside)) (sym (ap (λ (l : LeftUnit). l.id) first) ∙ same ∙ ap (λ (l : LeftUnit). l.id) second)
 
-pub left_is : (b : Bag) (s : State) → Agrees b s → IsAlone b s → IsLeft b (left_list s)
+pub left_is : (b : Bag) (s : ServerModel) → ServerAgrees b s → IsAlone b s → IsLeft b (left_list s)
 left_is b s agrees alone = record {
   each = λ id. find_left s.me id s.queue.units ∙ ap (option_map (left_unit s.me)) (agrees.units.each id) ∙ by_found id (find (of_id id) b.units) refl;
   distinct = distinct_left s.me s.queue.units agrees.units.distinct;

@@ -2,6 +2,7 @@
 use Rattle.std.proofs.Common.{◌≡◌, ℕ, ◌+◌, true, false, ◌&&◌, nat_lt, List, [], ◌∷◌, ◌++◌, cond, None, Some, refl, sym, ap, ◌∙◌, subst}
 use Rattle.std.specs.Prelude.{option_and_then}
 use Rattle.std.specs.Option.{option_map}
+use Rattle.adlb_unit.specs.Links.{place_of}
 use Rattle.adlb_unit.specs.declared.actors.Actor.{Actor}
 use Rattle.adlb_unit.specs.declared.actors.Actor.TheVariants as by
 use Rattle.adlb_unit.specs.declared.configs.Config.{Config}
@@ -9,9 +10,9 @@ use Rattle.adlb_unit.specs.declared.letters.Letter.{Letter}
 use Rattle.adlb_unit.specs.declared.letters.Sending.{Sending}
 use Rattle.bag_ledger.specs.declared.entries.Call.{Call}
 use Rattle.bag_ledger.specs.declared.entries.Entry.{Entry}
-use Rattle.rank_client.specs.State.{State as Client}
+use Rattle.rank_client.specs.State.{ClientModel}
 use Rattle.rank_client.specs.Step.{Made, begin, hear, letter_stamp}
-use Rattle.server_core.specs.State.{State as Host, place_of}
+use Rattle.server_core.specs.State.{ServerModel}
 use Rattle.server_core.specs.Step.{Served, next_stamp, serve}
 use Rattle.core_run.specs.declared.events.Event.{Event}
 use Rattle.core_run.specs.declared.events.Event.TheVariants as occurs
@@ -38,7 +39,7 @@ post_letter config links n sends to letter is =
     let x : Sending = record { to = to; letter = letter } in
     ap (post config links n) is ∙ post_one config links n x [] ∙ post_none config (put_link links n (place_of config to) (link links n (place_of config to) ++ letter ∷ [])) n
 
-module _ (config : Config) (c : Client) (s : Host) (ledger : List Entry) (one_rank : config.ranks ≡ 1) (one_server : config.servers ≡ 1) where
+module _ (config : Config) (c : ClientModel) (s : ServerModel) (ledger : List Entry) (one_rank : config.ranks ≡ 1) (one_server : config.servers ≡ 1) where
   -- the place of the server
   second : config.ranks + 0 ≡ 1
   second = ap (λ n. n + 0) one_rank
@@ -117,13 +118,13 @@ module _ (config : Config) (c : Client) (s : Host) (ledger : List Entry) (one_ra
 
 -- A world that is of this form.
 
-pub record IsNow (now : Seen) (c : Client) (s : Host) (asked told : List Letter) (ledger : List Entry) : Type 0 where
+pub record IsNow (now : Seen) (c : ClientModel) (s : ServerModel) (asked told : List Letter) (ledger : List Entry) : Type 0 where
   pub two : IsPair now asked told
   pub rank_is : rank_in now ≡ c
   pub server_is : server_in now ≡ s
   pub ledger_is : now.world.ledger ≡ ledger
 
-pub made_now : (now : Seen) (config : Config) (c : Client) (s : Host) (asked told : List Letter) (ledger : List Entry) → config.ranks ≡ 1 → config.servers ≡ 1 → c.config ≡ config → now.trouble ≡ None
+pub made_now : (now : Seen) (config : Config) (c : ClientModel) (s : ServerModel) (asked told : List Letter) (ledger : List Entry) → config.ranks ≡ 1 → config.servers ≡ 1 → c.config ≡ config → now.trouble ≡ None
     → now.world ≡ pair config c s asked told ledger → IsNow now c s asked told ledger
 made_now now config c s asked told ledger one_rank one_server same whole is =
     let rank_is : rank_in now ≡ c = ap (λ (v : World). client_of v zeroth) is in
@@ -134,7 +135,7 @@ made_now now config c s asked told ledger one_rank one_server same whole is =
         whole = whole;
         one_rank = ap (λ (g : Config). g.ranks) config_is ∙ one_rank;
         one_server = ap (λ (g : Config). g.servers) config_is ∙ one_server;
-        same = ap (λ (k : Client). k.config) rank_is ∙ same ∙ sym config_is;
+        same = ap (λ (k : ClientModel). k.config) rank_is ∙ same ∙ sym config_is;
         is = subst P (sym is) refl;
       };
       rank_is = rank_is;

@@ -4,6 +4,8 @@ use Rattle.std.specs.Prelude.{nat_le, nat_lt, option_and_then}
 use Rattle.std.proofs.lemmas.Bool.{and_from, eq-eqb, le-leb, lt-ltb, not_from_false}
 use Rattle.std.proofs.lemmas.List.Elements.{All-weaker}
 use Rattle.std.proofs.lemmas.List.Folds.{list_any_none}
+use Rattle.adlb_unit.specs.Ids.{same_unit}
+use Rattle.adlb_unit.specs.Targets.{Aims, in_ranks}
 use Rattle.adlb_unit.specs.declared.configs.Config.{Config}
 use Rattle.adlb_unit.specs.declared.letters.Letter.{Letter}
 use Rattle.adlb_unit.specs.declared.messages.Message.{Message}
@@ -11,7 +13,6 @@ use Rattle.adlb_unit.specs.declared.messages.Message.TheVariants as tells
 use Rattle.adlb_unit.specs.declared.names.Rank.{Rank}
 use Rattle.adlb_unit.specs.declared.names.Server.{Server}
 use Rattle.adlb_unit.specs.declared.names.Target.{Target}
-use Rattle.adlb_unit.specs.declared.names.Target.TheVariants.{Any, Only, Soft}
 use Rattle.adlb_unit.specs.declared.names.UnitId.{UnitId}
 use Rattle.adlb_unit.specs.declared.units.Unit.{Unit}
 use Rattle.bag_ledger.specs.declared.entries.Answer.TheVariants as answers
@@ -26,18 +27,18 @@ use Rattle.bag_ledger.specs.Runs.{IsRun, answered, calls_from, says}
 use Rattle.bag_ledger.specs.Steps.{after, declined_by, ended, shared, taken, with_rank}
 use Rattle.rank_client.specs.declared.pendings.Pending.TheVariants as waits_for
 use Rattle.rank_client.specs.Agreement.{holds, in_call, note_coming, putting, running, said as said_with}
-use Rattle.rank_client.specs.Calls.{Aims}
 use Rattle.rank_client.specs.Rules.{call_of, ends}
-use Rattle.rank_client.specs.State.{State as Client, behind}
+use Rattle.rank_client.specs.State.{ClientModel, behind}
 use Rattle.rank_client.specs.Step as client_step
 use Rattle.rank_client.proofs.Entries.{rank_changed, saying, silent}
+use Rattle.server_core.proofs.Expected.{aims_from}
 use Rattle.server_core.specs.Agreement.{IsPending, of_id, slot_of}
-use Rattle.server_core.specs.Rules.{Response, expects_put, has_promise, has_unit, in_ranks, is_over, put, respond, to_rank, unit_with}
-use Rattle.server_core.specs.State.{State as Host}
+use Rattle.server_core.specs.Rules.{ServerResponse, expects_put, has_promise, has_unit, is_over, put, respond, to_rank, unit_with}
+use Rattle.server_core.specs.State.{ServerModel}
 use Rattle.server_core.specs.Step.{Served, next_stamp, posted, serve, served, ticked}
 use Rattle.server_core.proofs.Calm.{calm_put}
 use Rattle.server_core.proofs.Once.{differs, none_of_id}
-use Rattle.work_queue.specs.Queue.{charge_of, id_of, same_id}
+use Rattle.work_queue.specs.Queue.{charge_of, id_of}
 use Rattle.work_queue.specs.declared.placing.Placed.{Placed}
 use Rattle.core_inline.specs.Inline.{zeroth}
 use Rattle.core_inline.specs.Known.{AreHeld, AreKnown}
@@ -53,13 +54,8 @@ use Rattle.core_inline.proofs.Steady.{kept_none, kept_rank, next_is}
 absent : (id : UnitId) (units : List Placed) → unit_with id units ≡ None → has_unit id units ≡ false
 absent id units none =
     let D : Placed → Type 0 = λ p. id_of p ≢ id in
-    let T : Placed → Type 0 = λ p. same_id (id_of p) id ≡ false in
-    list_any_none (λ p. same_id (id_of p) id) units (All-weaker D T (λ p other. differs (id_of p) id other) units (none_of_id id units none))
-
-aims_in : (config : Config) (target : Target) → config.ranks ≡ 1 → Aims target 1 → in_ranks config target ≡ true
-aims_in config Any one aims = refl
-aims_in config (Only rank) one aims = ap (nat_lt rank.0) one ∙ lt-ltb rank.0 1 aims
-aims_in config (Soft rank) one aims = ap (nat_lt rank.0) one ∙ lt-ltb rank.0 1 aims
+    let T : Placed → Type 0 = λ p. same_unit (id_of p) id ≡ false in
+    list_any_none (λ p. same_unit (id_of p) id) units (All-weaker D T (λ p other. differs (id_of p) id other) units (none_of_id id units none))
 
 -- a put that is answered so neither grants nor fetches
 accepted_plain : (unit : Unit) → IsPlain (record { call = call_of unit; answer = answers.Fine })
@@ -68,7 +64,7 @@ accepted_plain unit = record { grants_none = λ id. refl; fetches_none = λ id. 
 rejected_plain : (unit : Unit) → IsPlain (record { call = call_of unit; answer = answers.Rejected })
 rejected_plain unit = record { grants_none = λ id. refl; fetches_none = λ id. refl; no_note = λ note is. absurd (cc) }
 
-module _ (c : Client) (s : Host) (ledger : List Entry) (letter : Letter) (b : Bag) (asked : IsAsked c s ledger letter b) (unit : Unit) (first : Server)
+module _ (c : ClientModel) (s : ServerModel) (ledger : List Entry) (letter : Letter) (b : Bag) (asked : IsAsked c s ledger letter b) (unit : Unit) (first : Server)
     (pending : c.pending ≡ waits_for.Put unit first 0) (message : letter.message ≡ tells.Put unit) (sender : unit.id.rank ≡ zeroth) (low : unit.id.number < c.next)
     (plain : unit.common ≡ None) (new : find (of_id unit.id) b.units ≡ None) (size : length unit.body ≤ 2 ^ 20) (aims : Aims unit.target 1) (held : AreHeld c.transcript c.handles) (untold : c.end ≡ None) where
   is_pending : pending_call c.pending ≡ Some (call_of unit)
@@ -82,18 +78,18 @@ module _ (c : Client) (s : Host) (ledger : List Entry) (letter : Letter) (b : Ba
 
   expected : expects_put (ticked s (next_stamp s letter)) zeroth unit ≡ true
   expected =
-      let t : Host = ticked s (next_stamp s letter) in
+      let t : ServerModel = ticked s (next_stamp s letter) in
       let no_unit : has_unit unit.id s.queue.units ≡ false = absent unit.id s.queue.units (asked.joint.server.units.each unit.id ∙ ap (λ o. option_and_then (slot_of s.me) o) new) in
       let from_rank : (unit.id.rank.0 == 0) ≡ true = eq-eqb unit.id.rank.0 0 (ap (λ (r : Rank). r.0) sender) in
       let no_promise : not (has_promise unit.id s.queue.promises) ≡ true = ap (λ l. not (has_promise unit.id l)) asked.joint.no_room in
       let small : nat_le (length unit.body) (2 ^ 20) ≡ true = le-leb (length unit.body) (2 ^ 20) size in
-      let for : in_ranks s.config unit.target ≡ true = aims_in s.config unit.target (ap (λ (g : Config). g.ranks) asked.joint.same ∙ asked.joint.one_rank) aims in
+      let for : in_ranks s.config unit.target ≡ true = aims_from s.config unit.target (subst (λ n. Aims unit.target n) (sym (ap (λ (g : Config). g.ranks) asked.joint.same ∙ asked.joint.one_rank)) aims) in
       and_from _ _ (and_from _ _ (and_from _ _ (and_from _ _ from_rank (not_from_false _ no_unit)) no_promise) small) for
 
   serves : (over : Bool) → is_over s.queue unit ≡ over → serve s by_rank letter ≡ Some (served (put (ticked s (next_stamp s letter)) zeroth unit false over))
   serves over is =
-      let t : Host = ticked s (next_stamp s letter) in
-      let y : Response = put t zeroth unit false over in
+      let t : ServerModel = ticked s (next_stamp s letter) in
+      let y : ServerResponse = put t zeroth unit false over in
       let responds : respond t zeroth letter.message ≡ Some y =
       ap (respond t zeroth) message ∙ ap (λ v. cond v (Some (put t zeroth unit s.done (is_over s.queue unit))) None) expected ∙ ap (λ d. Some (put t zeroth unit d (is_over s.queue unit))) asked.joint.undone
       ∙ ap (λ v. Some (put t zeroth unit false v)) is in
@@ -144,8 +140,8 @@ module _ (c : Client) (s : Host) (ledger : List Entry) (letter : Letter) (b : Ba
 
   pub accepted_serving : is_over s.queue unit ≡ false → IsServing c s ledger letter
   accepted_serving fits =
-      let t : Host = ticked s (next_stamp s letter) in
-      let y : Response = put t zeroth unit false false in
+      let t : ServerModel = ticked s (next_stamp s letter) in
+      let y : ServerResponse = put t zeroth unit false false in
       let x : Served = served y in
       let reply : Letter = (posted y.state (to_rank zeroth (tells.Accepted unit.id.number))).letter in
       let like : IsLikeHost x.state s = record { config = refl; me = refl; ranks = refl; finished = refl; promises = refl; done = refl; trouble = refl } in
@@ -218,8 +214,8 @@ module _ (c : Client) (s : Host) (ledger : List Entry) (letter : Letter) (b : Ba
 
   pub rejected_serving : is_over s.queue unit ≡ true → IsServing c s ledger letter
   rejected_serving full =
-      let t : Host = ticked s (next_stamp s letter) in
-      let y : Response = put t zeroth unit false true in
+      let t : ServerModel = ticked s (next_stamp s letter) in
+      let y : ServerResponse = put t zeroth unit false true in
       let x : Served = served y in
       let reply : Letter = (posted y.state (to_rank zeroth (tells.Full unit.id.number (charge_of s.queue)))).letter in
       let like : IsLikeHost x.state s = record { config = refl; me = refl; ranks = refl; finished = refl; promises = refl; done = refl; trouble = refl } in

@@ -28,13 +28,13 @@ use Rattle.bag_ledger.proofs.Legal.{run_joined}
 use Rattle.rank_client.specs.declared.pendings.Pending.TheVariants as waits_for
 use Rattle.rank_client.specs.Agreement.{holds, in_call, note_coming, running, said as said_with}
 use Rattle.rank_client.specs.Rules.{ends}
-use Rattle.rank_client.specs.State.{State as Client}
+use Rattle.rank_client.specs.State.{ClientModel}
 use Rattle.rank_client.specs.Step as client_step
 use Rattle.rank_client.proofs.Entries.{rank_changed, saying, silent, then_saying}
 use Rattle.server_core.specs.declared.standings.Standing.TheVariants.{Parked}
 use Rattle.server_core.specs.Agreement.{IsPending, of_id}
-use Rattle.server_core.specs.Rules.{Response, best_unit, expects_reserve, grant, is_running, park, reserve, respond, to_rank}
-use Rattle.server_core.specs.State.{State as Host}
+use Rattle.server_core.specs.Rules.{ServerResponse, best_unit, expects_reserve, grant, is_running, park, reserve, respond, to_rank}
+use Rattle.server_core.specs.State.{ServerModel}
 use Rattle.server_core.specs.Step.{Served, Waiting, after_event, exhaust, fits, next_stamp, posted, resumed, serve, served, ticked, verdict, waiting_from}
 use Rattle.server_core.proofs.Calm.{calm_grant}
 use Rattle.server_core.proofs.Finds.{find_is}
@@ -50,7 +50,7 @@ use Rattle.core_inline.proofs.Replies.{ended_heard, granted_heard}
 use Rattle.core_inline.proofs.Served.{IsAsked, IsLikeHost, IsReply, coming_from, law, none_again, says_it, serve_gives, told_at_none, told_before}
 use Rattle.core_inline.proofs.Steady.{kept_none, next_is}
 
-module _ (c : Client) (s : Host) (ledger : List Entry) (letter : Letter) (b : Bag) (asked : IsAsked c s ledger letter b) (request : ℕ) (types : Option (List WorkType))
+module _ (c : ClientModel) (s : ServerModel) (ledger : List Entry) (letter : Letter) (b : Bag) (asked : IsAsked c s ledger letter b) (request : ℕ) (types : Option (List WorkType))
     (pending : c.pending ≡ waits_for.Reserve request types) (message : letter.message ≡ tells.Reserve request types) (held : AreHeld c.transcript c.handles) (untold : c.end ≡ None) where
   is_pending : pending_call c.pending ≡ Some (calls_to.Reserve types)
   is_pending = ap pending_call pending
@@ -69,7 +69,7 @@ module _ (c : Client) (s : Host) (ledger : List Entry) (letter : Letter) (b : Ba
 
   responds : (best : Option Placed) → best_unit zeroth types s.queue.units ≡ best → respond (ticked s (next_stamp s letter)) zeroth letter.message ≡ Some (reserve (ticked s (next_stamp s letter)) zeroth request types false false best)
   responds best is =
-      let t : Host = ticked s (next_stamp s letter) in
+      let t : ServerModel = ticked s (next_stamp s letter) in
       let found : Option Placed = best_unit zeroth types s.queue.units in
       ap (respond t zeroth) message ∙ ap (λ v. cond v (Some (reserve t zeroth request types s.done s.exhausted found)) None) expected ∙ ap (λ d. Some (reserve t zeroth request types d s.exhausted found)) asked.joint.undone
       ∙ ap (λ e. Some (reserve t zeroth request types false e found)) (asked.unexhausted untold) ∙ ap (λ o. Some (reserve t zeroth request types false false o)) is
@@ -127,8 +127,8 @@ module _ (c : Client) (s : Host) (ledger : List Entry) (letter : Letter) (b : Ba
 
     granted_serving : best_unit zeroth types s.queue.units ≡ Some p → IsServing c s ledger letter
     granted_serving best =
-        let t : Host = ticked s (next_stamp s letter) in
-        let y : Response = grant t zeroth request p in
+        let t : ServerModel = ticked s (next_stamp s letter) in
+        let y : ServerResponse = grant t zeroth request p in
         let x : Served = served y in
         let note : UnitNote = note_of s.me u.unit in
         let reply : Letter = (posted y.state (to_rank zeroth (tells.Grant request (note_of s.me p.unit)))).letter in
@@ -167,7 +167,7 @@ module _ (c : Client) (s : Host) (ledger : List Entry) (letter : Letter) (b : Ba
   exhausted_is : best_unit zeroth types s.queue.units ≡ None → after_event (served (park (ticked s (next_stamp s letter)) zeroth request types))
       ≡ exhaust (served (park (ticked s (next_stamp s letter)) zeroth request types)) (record { rank = zeroth; request = request; types = types } ∷ []) false
   exhausted_is none =
-      let t : Host = ticked s (next_stamp s letter) in
+      let t : ServerModel = ticked s (next_stamp s letter) in
       let w : Waiting = record { rank = zeroth; request = request; types = types } in
       let x : Served = served (park t zeroth request types) in
       let parked : set s.ranks 0 (Parked request types) ≡ Parked request types ∷ [] = ap (λ ranks. set ranks 0 (Parked request types)) asked.joint.runs in
@@ -238,8 +238,8 @@ module _ (c : Client) (s : Host) (ledger : List Entry) (letter : Letter) (b : Ba
 
   exhausted_serving : best_unit zeroth types s.queue.units ≡ None → IsServing c s ledger letter
   exhausted_serving none =
-      let t : Host = ticked s (next_stamp s letter) in
-      let y : Response = park t zeroth request types in
+      let t : ServerModel = ticked s (next_stamp s letter) in
+      let y : ServerResponse = park t zeroth request types in
       let x : Served = exhaust (served y) (record { rank = zeroth; request = request; types = types } ∷ []) false in
       let reply : Letter = (posted (served y).state (to_rank zeroth (tells.Ended request ends_by.Exhausted))).letter in
       let serves : serve s by_rank letter ≡ Some x = serve_gives s letter y one_rank asked.stamp (responds None none) ∙ ap Some (exhausted_is none) in

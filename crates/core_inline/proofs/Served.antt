@@ -14,13 +14,13 @@ use Rattle.bag_ledger.specs.declared.states.RankState.{RankState}
 use Rattle.bag_ledger.specs.Bag.{Bag, rank_at, start}
 use Rattle.bag_ledger.specs.Runs.{IsRun, answered, call_of, calls, calls_from}
 use Rattle.bag_ledger.proofs.Legal.{run_joined}
-use Rattle.rank_client.specs.Agreement.{Agrees as IsRankOf, IsCaused, IsHeld, holds, in_call, rank_of, said as said_with}
+use Rattle.rank_client.specs.Agreement.{ClientAgrees, IsCaused, IsHeld, holds, in_call, rank_of, said as said_with}
 use Rattle.rank_client.specs.Calls.{TellsAgain, end_told, is_finish}
-use Rattle.rank_client.specs.State.{State as Client}
+use Rattle.rank_client.specs.State.{ClientModel}
 use Rattle.rank_client.specs.Step.{told_trouble}
-use Rattle.server_core.specs.Agreement.{Agrees as IsServerOf, IsAlone, IsPending}
-use Rattle.server_core.specs.Rules.{Response, respond}
-use Rattle.server_core.specs.State.{State as Host}
+use Rattle.server_core.specs.Agreement.{ServerAgrees, IsAlone, IsPending}
+use Rattle.server_core.specs.Rules.{ServerResponse, respond}
+use Rattle.server_core.specs.State.{ServerModel}
 use Rattle.server_core.specs.Step.{Served, after_event, next_stamp, serve, served, ticked}
 use Rattle.server_core.proofs.Whole.{steps_are_legal}
 use Rattle.core_inline.specs.Answers.{IsAnswer, answers_call, heeds_end}
@@ -31,16 +31,16 @@ use Rattle.core_inline.proofs.Heard.{IsComing}
 use Rattle.core_inline.proofs.Idle.{calls_grown, told_pending}
 
 -- the letter is handled by its rule
-pub serve_gives : (s : Host) (letter : Letter) (y : Response) → s.config.ranks ≡ 1 → letter.stamp < 2 ^ 48 → respond (ticked s (next_stamp s letter)) zeroth letter.message ≡ Some y → serve s by_rank letter ≡ Some (after_event (served y))
+pub serve_gives : (s : ServerModel) (letter : Letter) (y : ServerResponse) → s.config.ranks ≡ 1 → letter.stamp < 2 ^ 48 → respond (ticked s (next_stamp s letter)) zeroth letter.message ≡ Some y → serve s by_rank letter ≡ Some (after_event (served y))
 serve_gives s letter y one stamp is =
-    let heard : Option Response = respond (ticked s (next_stamp s letter)) zeroth letter.message in
+    let heard : Option ServerResponse = respond (ticked s (next_stamp s letter)) zeroth letter.message in
     let given : Option Served = option_map (λ z. after_event (served z)) heard in
     ap (λ n. cond (nat_lt 0 n && nat_lt letter.stamp (2 ^ 48)) given None) one ∙ ap (λ t. cond t given None) (lt-ltb letter.stamp (2 ^ 48) stamp) ∙ ap (option_map (λ z. after_event (served z))) is
 
 -- the call has begun, and this letter of it is on its way
-pub record IsAsked (c : Client) (s : Host) (ledger : List Entry) (letter : Letter) (b : Bag) : Type 0 where
+pub record IsAsked (c : ClientModel) (s : ServerModel) (ledger : List Entry) (letter : Letter) (b : Bag) : Type 0 where
   pub joint : IsJoint c s ledger c.transcript b
-  pub rank : IsRankOf c None b
+  pub rank : ClientAgrees c None b
   pub known : AreKnown b.units c.next c.transcript c.handles
   pub unexhausted : c.end ≡ None → s.exhausted ≡ false
   pub stamp : letter.stamp < 2 ^ 48
@@ -50,7 +50,7 @@ pub record IsAsked (c : Client) (s : Host) (ledger : List Entry) (letter : Lette
   pub few : letter.stamp ≤ 3 * length c.transcript + 1
 
 -- the server is as it was, but for its queue, its counts and what it found
-pub record IsLikeHost (t s : Host) : Type 0 where
+pub record IsLikeHost (t s : ServerModel) : Type 0 where
   pub config : t.config ≡ s.config
   pub me : t.me ≡ s.me
   pub ranks : t.ranks ≡ s.ranks
@@ -64,11 +64,11 @@ pub says_it : (b : Bag) (r : RankState) (call : Call) (answer : Answer) → rank
 says_it b r call answer there is = rw (there, is) refl
 
 -- the units of these notes are held
-held_of : (b : Bag) (c : Client) (notes : List UnitNote) → c.me ≡ zeroth → All (IsNoted b.units) notes → All (IsHeld b c.me) notes
+held_of : (b : Bag) (c : ClientModel) (notes : List UnitNote) → c.me ≡ zeroth → All (IsNoted b.units) notes → All (IsHeld b c.me) notes
 held_of b c notes me noted = rw me (All-weaker (IsNoted b.units) (IsHeld b zeroth) (λ n h. (h.0, (h.1, h.2))) notes noted)
 
 -- what the reply is to the rank, and what it leaves
-pub record IsReply (c : Client) (s : Host) (b : Bag) (letter : Letter) (x : Served) (reply : Letter) (call : Call) (answer : Answer) (next : Bag) (more : List Said) (notes : List UnitNote) : Type 0 where
+pub record IsReply (c : ClientModel) (s : ServerModel) (b : Bag) (letter : Letter) (x : Served) (reply : Letter) (call : Call) (answer : Answer) (next : Bag) (more : List Said) (notes : List UnitNote) : Type 0 where
   pub like : IsLikeHost x.state s
   pub stamped : reply.stamp ≡ next_stamp s letter
   pub clock : x.state.clock ≡ next_stamp s letter
@@ -87,9 +87,9 @@ pub record IsReply (c : Client) (s : Host) (b : Bag) (letter : Letter) (x : Serv
   pub again : heeds_end call ≡ true → TellsAgain (end_told c.transcript) (Some answer)
   pub open_call : IsOpen (call_of (in_call c c.pending (Some reply.message)).status) more (Some call)
 
-module _ (c : Client) (s : Host) (ledger : List Entry) (letter : Letter) (b : Bag) (asked : IsAsked c s ledger letter b) where
+module _ (c : ClientModel) (s : ServerModel) (ledger : List Entry) (letter : Letter) (b : Bag) (asked : IsAsked c s ledger letter b) where
   pub coming_from : (x : Served) (reply : Letter) (call : Call) (answer : Answer) (next : Bag) (more : List Said) (notes : List UnitNote)
-      → IsRun b x.entries next → IsServerOf next x.state → IsAlone next x.state → IsReply c s b letter x reply call answer next more notes
+      → IsRun b x.entries next → ServerAgrees next x.state → IsAlone next x.state → IsReply c s b letter x reply call answer next more notes
       → pending_call c.pending ≡ Some call → is_finish call ≡ false → next_stamp s letter < 2 ^ 48
       → IsComing c x.state (ledger ++ x.entries) reply call answer next notes
   coming_from x reply call answer next more notes run server alone is pending no_finish stamp =
@@ -162,5 +162,5 @@ module _ (c : Client) (s : Host) (ledger : List Entry) (letter : Letter) (b : Ba
   none_again untold answer = rw (asked.joint.told ∙ untold) tt
 
   -- the law of the server's step
-  pub law : (x : Served) → IsPending b s by_rank letter.message → serve s by_rank letter ≡ Some x → (next : Bag) × IsRun b x.entries next × IsServerOf next x.state × IsAlone next x.state
+  pub law : (x : Served) → IsPending b s by_rank letter.message → serve s by_rank letter ≡ Some x → (next : Bag) × IsRun b x.entries next × ServerAgrees next x.state × IsAlone next x.state
   law x pending serves = steps_are_legal b s by_rank letter x asked.joint.server asked.joint.alone pending serves

@@ -16,12 +16,12 @@ use Rattle.bag_ledger.specs.Bag as bag
 use Rattle.bag_ledger.specs.Runs.{IsRun, call_of, calls}
 use Rattle.rank_client.specs.Agreement.{IsHeld}
 use Rattle.rank_client.specs.Calls.{granted, has_finished, is_fetched, is_granted}
-use Rattle.rank_client.specs.State.{State as Client}
+use Rattle.rank_client.specs.State.{ClientModel}
 use Rattle.rank_client.specs.State as client
 use Rattle.rank_client.proofs.Transcripts.{none_finished, none_told}
 use Rattle.server_core.specs.declared.standings.Standing.TheVariants.{Running}
 use Rattle.server_core.specs.Left.{left_of}
-use Rattle.server_core.specs.State.{State as Host}
+use Rattle.server_core.specs.State.{ServerModel}
 use Rattle.server_core.specs.State as host
 use Rattle.core_run.specs.World.{World, rank_named, server_named, start}
 use Rattle.server_core.proofs.Starting.{start_agrees}
@@ -151,7 +151,7 @@ module _ (config : Config) (one_rank : config.ranks ≡ 1) (one_server : config.
             };
             whole = λ none. record {
               begun = start_begun;
-              left = subst (λ (h : Host). IsLeft idle.last (left_of h)) (sym n.server_is) (left_is idle.last (host.start config first_server) idle.joint.server idle.joint.alone);
+              left = subst (λ (h : ServerModel). IsLeft idle.last (left_of h)) (sym n.server_is) (left_is idle.last (host.start config first_server) idle.joint.server idle.joint.alone);
               finished = sym none_finished;
               ended = ap is_ended n.server_is;
             };
@@ -160,7 +160,7 @@ module _ (config : Config) (one_rank : config.ranks ≡ 1) (one_server : config.
           };
           answered = omega arith;
           ready = λ none going. record { two = n.two; idle = rw (n.rank_is, n.server_is, n.ledger_is) idle };
-          all = λ none. sym (ap (λ (k : Client). length k.transcript) n.rank_is);
+          all = λ none. sym (ap (λ (k : ClientModel). length k.transcript) n.rank_is);
           short = omega arith;
         }
 

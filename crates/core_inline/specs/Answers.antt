@@ -1,5 +1,7 @@
 -- Which answers a call can have.
 use Rattle.std.specs.Prelude.{◌≡◌, ◌≤◌, ◌^◌, Bool, true, false, List, length, Option, None, Some, Result, Ok, Err}
+use Rattle.adlb_unit.specs.Limits.{body_limit}
+use Rattle.adlb_unit.specs.Targets.{Aims}
 use Rattle.adlb_unit.specs.declared.notes.Trouble.{Trouble}
 use Rattle.adlb_unit.specs.declared.notes.UnitNote.{UnitNote}
 use Rattle.adlb_unit.specs.Totals.{total_of}
@@ -8,7 +10,7 @@ use Rattle.bag_ledger.specs.declared.entries.Answer.TheVariants as answers
 use Rattle.bag_ledger.specs.declared.entries.Call.{Call}
 use Rattle.bag_ledger.specs.declared.entries.Call.TheVariants as calls_to
 use Rattle.bag_ledger.specs.declared.entries.Said.{Said}
-use Rattle.rank_client.specs.Calls.{Aims, granted, is_fetched, is_granted}
+use Rattle.rank_client.specs.Calls.{granted, is_fetched, is_granted}
 
 -- the answer that was given, and the trouble with which the call failed
 abbrev pub answered : Result Answer Trouble → Option Answer
@@ -55,7 +57,7 @@ heeds_end _ = false
 -- the rank can make the call: a put with a body of at most 2^20 bytes for a rank of the run, a reserve, a fetch of a unit that was
 -- granted and not fetched, or Finish
 abbrev pub CanCall : List Said → Call → Type 0
-CanCall said (calls_to.Put kind prio target answer body) = (length body ≤ 2 ^ 20) × Aims target 1
+CanCall said (calls_to.Put kind prio target answer body) = (length body ≤ body_limit) × Aims target 1
 CanCall said (calls_to.Reserve types) = Unit {0}
 CanCall said (calls_to.Fetch id) = (note : UnitNote) × granted note said × (note.id ≡ id) × (is_fetched id said ≡ false)
 CanCall said calls_to.Finish = Unit {0}

@@ -1,5 +1,6 @@
 -- What contracts see of a world of one rank and one server.
-use Rattle.std.specs.Prelude.{ℕ, ◌+◌, ◌*◌, ◌^◌, ◌≡◌, ◌<◌, ◌≤◌, Bool, false, List, [], ◌∷◌, ◌++◌, length, Option, None, Some}
+use Rattle.std.specs.Prelude.{ℕ, ◌+◌, ◌*◌, ◌≡◌, ◌<◌, ◌≤◌, Bool, false, List, [], ◌∷◌, ◌++◌, length, Option, None, Some}
+use Rattle.adlb_unit.specs.Limits.{stamp_limit}
 use Rattle.adlb_unit.specs.declared.configs.Config.{Config}
 use Rattle.adlb_unit.specs.declared.names.Rank.{Rank}
 use Rattle.adlb_unit.specs.declared.notes.Trouble.{Trouble}
@@ -86,9 +87,9 @@ pub record IsInline (run : Run) : Type 0 where
   pub told : IsTold run.config run.ledger run.transcript run.begun
   pub whole : run.failed ≡ None → IsWhole run told.last
   -- each call took a stamp of its own
-  pub short : length run.transcript < 2 ^ 48
+  pub short : length run.transcript < stamp_limit
   -- a stamp that was too long is past the last one, and each call took three events at most
-  pub late : (stamp : ℕ) → run.failed ≡ Some (TooLong stamp) → (2 ^ 48 ≤ stamp) × (stamp ≤ 3 * length run.transcript + 3)
+  pub late : (stamp : ℕ) → run.failed ≡ Some (TooLong stamp) → (stamp_limit ≤ stamp) × (stamp ≤ 3 * length run.transcript + 3)
 
 -- what Finish adds to the transcript: it is answered where nothing failed
 abbrev pub finish_answer : Option Trouble → Option Answer

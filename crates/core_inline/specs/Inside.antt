@@ -1,5 +1,6 @@
 -- The fields of a run in line.
-use Rattle.std.specs.Prelude.{◌≡◌, ◌<◌, ◌≤◌, ◌^◌, false, length, take, None}
+use Rattle.std.specs.Prelude.{◌≡◌, ◌<◌, ◌≤◌, false, length, take, None}
+use Rattle.adlb_unit.specs.Limits.{stamp_limit}
 use Rattle.rank_client.specs.Calls.{has_finished}
 use Rattle.server_core.specs.Left.{left_of}
 use Rattle.core_inline.specs.declared.runs.InlineRun.TheInside.{Inside}
@@ -26,4 +27,4 @@ pub record IsInside (i : Inside) : Type 0 where
   pub answered : i.answered ≤ length (rank_in i.world).transcript
   pub ready : i.world.trouble ≡ None → has_finished (take i.answered (rank_in i.world).transcript) ≡ false → IsReady i.world
   pub all : i.world.trouble ≡ None → i.answered ≡ length (rank_in i.world).transcript
-  pub short : i.answered < 2 ^ 48
+  pub short : i.answered < stamp_limit

@@ -1,6 +1,7 @@
 -- What is left of the units at the end of a run.
 use Rattle.std.specs.Prelude.{◌≡◌, ◌≢◌, List, find, Option, None, Some, option_and_then}
 use Rattle.std.specs.List.{AllPairs}
+use Rattle.adlb_unit.specs.Ids.{same_unit}
 use Rattle.adlb_unit.specs.declared.names.UnitId.{UnitId}
 use Rattle.adlb_unit.specs.Ids.{same_unit}
 use Rattle.bag_ledger.specs.declared.states.Placed.{Placed}

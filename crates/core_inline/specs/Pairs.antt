@@ -3,15 +3,15 @@ use Rattle.std.specs.Prelude.{◌≡◌, false, List, [], ◌∷◌, None}
 use Rattle.adlb_unit.specs.declared.configs.Config.{Config}
 use Rattle.adlb_unit.specs.declared.letters.Letter.{Letter}
 use Rattle.bag_ledger.specs.declared.entries.Entry.{Entry}
-use Rattle.rank_client.specs.State.{State as Client}
-use Rattle.server_core.specs.State.{State as Host}
+use Rattle.rank_client.specs.State.{ClientModel}
+use Rattle.server_core.specs.State.{ServerModel}
 use Rattle.core_run.specs.World.{World, client_of, pool_of}
 use Rattle.core_inline.specs.Inline.{zeroth}
 use Rattle.core_inline.specs.Rounds.{IsHearing, IsIdle, IsServing, first_server}
 use Rattle.core_world.specs.Seen.{Seen}
 
 -- no letters are under way but these: those from the rank to the server, and those from the server to the rank
-abbrev pub pair : Config → Client → Host → List Letter → List Letter → List Entry → World
+abbrev pub pair : Config → ClientModel → ServerModel → List Letter → List Letter → List Entry → World
 pair config c s asked told ledger = record {
   config = config;
   ranks = c ∷ [];
@@ -20,10 +20,10 @@ pair config c s asked told ledger = record {
   ledger = ledger;
 }
 
-abbrev pub rank_in : Seen → Client
+abbrev pub rank_in : Seen → ClientModel
 rank_in w = client_of w.world zeroth
 
-abbrev pub server_in : Seen → Host
+abbrev pub server_in : Seen → ServerModel
 server_in w = pool_of w.world first_server
 
 -- a world of one rank and one server, which has not failed, with these letters under way

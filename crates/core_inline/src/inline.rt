@@ -1,6 +1,7 @@
 //! A run of one rank and one server, without threads.
 
 ghost use Rattle.std.specs.Prelude.{◌≡◌, ◌<◌, ◌≤◌, ◌^◌, ◌↔◌, ℕ, length, None, Some, Err, true, false, IfOk, IfErr, OnOk};
+ghost use Rattle.adlb_unit.specs.Limits.{stamp_limit};
 ghost use Rattle.adlb_unit.specs.declared.notes.Trouble.{Trouble};
 ghost use Rattle.bag_ledger.specs.declared.entries.Call.{Call};
 ghost use Rattle.rank_client.specs.Calls.{Began, Repeats, has_finished, plus};
@@ -21,12 +22,12 @@ use std::alloc::Global;
 pub struct InlineWorld {
     run: InlineRun,
     pub ghost one_rank: { run.config.ranks ≡ 1 },
-    pub ghost late: { (stamp : ℕ) → run.failed ≡ Some (Trouble.TooLong stamp) → 2 ^ 48 ≤ stamp },
-    ghost short: { length run.transcript < 2 ^ 48 },
+    pub ghost late: { (stamp : ℕ) → run.failed ≡ Some (Trouble.TooLong stamp) → stamp_limit ≤ stamp },
+    ghost short: { length run.transcript < stamp_limit },
 }
 
 impl InlineWorld {
-    /// A world at the start, whose server takes `limit` bytes, from 64 to `2^30`. It fails for want of memory alone.
+    /// A world at the start, whose server takes `limit` bytes, from 64 to `2^30`. Its only error is `NoMemory`.
     pub fn new(alloc: Global, limit: u64) -> Result<InlineWorld, NoMemory>
         requires least { 64 ≤ limit }
         requires most { limit ≤ 2 ^ 30 }
@@ -37,7 +38,7 @@ impl InlineWorld {
         })
     }
 
-    /// The entries so far, in the order of the events. They are a legal run, in which the calls of the rank are its transcript
+    /// The entries, in the order of the events. They are a legal run, in which the calls of the rank are its transcript
     /// (`IsInline`).
     pub fn ledger(&self) -> &Ledger
         ensures entries { result.now ≡ self.now.run.ledger }

@@ -1,6 +1,7 @@
 //! One call in a world of one rank and one server, from its beginning to its answer.
 
-ghost use Rattle.std.specs.Prelude.{◌≡◌, ◌<◌, ◌^◌, [], false, IfOk, IfErr, OnOk, Some};
+ghost use Rattle.std.specs.Prelude.{◌≡◌, ◌<◌, [], false, IfOk, IfErr, OnOk, Some};
+ghost use Rattle.adlb_unit.specs.Limits.{stamp_limit};
 ghost use Rattle.bag_ledger.specs.declared.entries.Call.{Call};
 ghost use Rattle.core_inline.specs.Answers.{CanCall};
 ghost use Rattle.core_inline.specs.Pairs.{IsAsked, IsPair, IsReady, IsReplied, rank_in, server_in};
@@ -19,7 +20,7 @@ pub(crate) fn exchange(world: &mut World, call: Call) -> Result<Answer, Trouble>
     requires going { is_finish call ≡ false }
     ensures answered { IfOk result (λ a. IsAnswered (rank_in world.old).transcript call a (rank_in world.new) (server_in world.new) world.new.world.ledger) }
     ensures two { OnOk result (IsPair world.new [] []) }
-    ensures early { OnOk result ((rank_in world.new).clock < 2 ^ 48) }
+    ensures early { OnOk result ((rank_in world.new).clock < stamp_limit) }
     ensures failed { IfErr result (λ t. IsFailed world.old.world.config (rank_in world.old).transcript call t (rank_in world.new).transcript world.new.world.ledger) }
     ensures trouble { IfErr result (λ t. world.new.trouble ≡ Some t) }
     ensures config { world.new.world.config ≡ world.old.world.config }
@@ -36,7 +37,7 @@ fn ask(world: &mut World) -> Result<Answer, Trouble>
     ensures answered { (call : Call) → pending_call (rank_in world.old).pending ≡ Some call →
         IfOk result (λ a. IsAnswered (rank_in world.old).transcript call a (rank_in world.new) (server_in world.new) world.new.world.ledger) }
     ensures two { OnOk result (IsPair world.new [] []) }
-    ensures early { OnOk result ((rank_in world.new).clock < 2 ^ 48) }
+    ensures early { OnOk result ((rank_in world.new).clock < stamp_limit) }
     ensures failed { (call : Call) → pending_call (rank_in world.old).pending ≡ Some call →
         IfErr result (λ t. IsFailed world.old.world.config (rank_in world.old).transcript call t (rank_in world.new).transcript world.new.world.ledger) }
     ensures trouble { IfErr result (λ t. world.new.trouble ≡ Some t) }
@@ -52,7 +53,7 @@ fn hear_reply(world: &mut World) -> Result<Answer, Trouble>
     ensures answered { (call : Call) → pending_call (rank_in world.old).pending ≡ Some call →
         IfOk result (λ a. IsAnswered (rank_in world.old).transcript call a (rank_in world.new) (server_in world.new) world.new.world.ledger) }
     ensures two { OnOk result (IsPair world.new [] []) }
-    ensures early { OnOk result ((rank_in world.new).clock < 2 ^ 48) }
+    ensures early { OnOk result ((rank_in world.new).clock < stamp_limit) }
     ensures failed { (call : Call) → pending_call (rank_in world.old).pending ≡ Some call →
         IfErr result (λ t. IsFailed world.old.world.config (rank_in world.old).transcript call t (rank_in world.new).transcript world.new.world.ledger) }
     ensures trouble { IfErr result (λ t. world.new.trouble ≡ Some t) }

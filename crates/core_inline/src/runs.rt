@@ -119,7 +119,7 @@ impl InlineRun {
         Ok((ledger, transcript, left))
     }
 
-    // The entries so far.
+    // The entries, in the order of the events.
     pub(crate) fn ledger(&self) -> &Ledger
         ensures entries { result.now ≡ self.now.ledger }
         ensures holds { IsInline self.now }
@@ -127,7 +127,7 @@ impl InlineRun {
         self.world.ledger()
     }
 
-    // The calls with their answers so far.
+    // The calls with their answers, in order.
     pub(crate) fn transcript(&self) -> &[Said]
         ensures { result.now ≡ self.now.transcript }
     {

@@ -8,9 +8,9 @@ use Rattle.adlb_unit.specs.declared.letters.Letter.{Letter}
 use Rattle.adlb_unit.specs.declared.names.Rank.{Rank}
 use Rattle.adlb_unit.specs.declared.names.Server.{Server}
 use Rattle.bag_ledger.specs.declared.entries.Call.{Call}
-use Rattle.rank_client.specs.State.{State as Client}
+use Rattle.rank_client.specs.State.{ClientModel}
 use Rattle.rank_client.specs.Step.{Made, begin, hear}
-use Rattle.server_core.specs.State.{State as Pool}
+use Rattle.server_core.specs.State.{ServerModel}
 use Rattle.server_core.specs.Step.{Served, serve}
 use Rattle.core_run.specs.World.{World, client_of, is_within, pool_of, taken}
 use Rattle.core_law.specs.Own.{AreOwn}
@@ -18,21 +18,21 @@ use Rattle.core_law.specs.Measures.{Weights, measure, sends_weight}
 use Rattle.core_law.proofs.Steps.{A_call, A_request, An_answer, Does, IsShaped, rank_weight, server_weight, taken_shaped, taken_weight}
 use Rattle.core_law.proofs.Kept.{AreSent, Arrives, Is, OnSome, answer_within, call_within, on_some, request_within}
 
-abbrev pub ServerLowers : Weights → Server → Pool → Actor → Letter → Served → Type 0
+abbrev pub ServerLowers : Weights → Server → ServerModel → Actor → Letter → Served → Type 0
 ServerLowers m me s from letter x =
     sends_weight m (by.Server me) x.sends + m.server me.0 x.state ≤ m.letter from (by.Server me) letter.message + m.server me.0 s
 
-abbrev pub RankLowers : Weights → Rank → Client → Server → Letter → Made → Type 0
+abbrev pub RankLowers : Weights → Rank → ClientModel → Server → Letter → Made → Type 0
 RankLowers m me s from letter x =
     sends_weight m (by.Rank me) x.sends + m.rank me.0 x.state ≤ m.letter (by.Server from) (by.Rank me) letter.message + m.rank me.0 s
 
-abbrev pub BeginLowers : Weights → Rank → Client → Made → Type 0
+abbrev pub BeginLowers : Weights → Rank → ClientModel → Made → Type 0
 BeginLowers m me s x = sends_weight m (by.Rank me) x.sends + m.rank me.0 x.state ≤ m.rank me.0 s
 
 pub record IsLowering (config : Config) (m : Weights) : Type 0 where
-  pub serve : (me : Server) (s : Pool) (from : Actor) (letter : Letter) → Arrives config me s from → OnSome (serve s from letter) (ServerLowers m me s from letter)
-  pub hear : (me : Rank) (s : Client) (from : Server) (letter : Letter) → Is config me s → OnSome (hear s from letter) (RankLowers m me s from letter)
-  pub begin : (me : Rank) (s : Client) (call : Call) → Is config me s → OnSome (begin s call) (BeginLowers m me s)
+  pub serve : (me : Server) (s : ServerModel) (from : Actor) (letter : Letter) → Arrives config me s from → OnSome (serve s from letter) (ServerLowers m me s from letter)
+  pub hear : (me : Rank) (s : ClientModel) (from : Server) (letter : Letter) → Is config me s → OnSome (hear s from letter) (RankLowers m me s from letter)
+  pub begin : (me : Rank) (s : ClientModel) (call : Call) → Is config me s → OnSome (begin s call) (BeginLowers m me s)
 
 pub lowered : (m : Weights) (w next : World) → IsLowering w.config m → AreSent w.config → IsShaped w → AreOwn w → Does w next → measure m next ≤ measure m w
 lowered m w next law sent shape own (A_call {me = me} {call = call} {x = x} does) =

@@ -7,6 +7,7 @@ use Rattle.std.proofs.lemmas.Bool.{eq-eqb}
 use Rattle.std.proofs.lemmas.List.Elements.{All-push, All-same, All-weaker}
 use Rattle.std.proofs.lemmas.List.{get_or_append_left, length-append}
 use Rattle.std.proofs.lemmas.List.FromFn.{map-range_with_len_more}
+use Rattle.adlb_unit.specs.Ids.{same_unit}
 use Rattle.adlb_unit.specs.declared.messages.Message.{Message}
 use Rattle.adlb_unit.specs.declared.messages.Message.TheVariants as tells
 use Rattle.adlb_unit.specs.declared.names.Rank.{Rank}
@@ -17,7 +18,6 @@ use Rattle.adlb_unit.specs.declared.notes.End.{End}
 use Rattle.adlb_unit.specs.declared.notes.End.TheVariants as ends_by
 use Rattle.adlb_unit.specs.declared.notes.UnitNote.{UnitNote}
 use Rattle.adlb_unit.specs.declared.units.Unit.{Unit}
-use Rattle.adlb_unit.specs.Ids.{same_unit}
 use Rattle.adlb_unit.proofs.Same.{same_unit_is}
 use Rattle.bag_ledger.specs.declared.entries.Answer.TheVariants as answers
 use Rattle.bag_ledger.specs.declared.entries.Call.{Call}
@@ -42,7 +42,7 @@ use Rattle.rank_client.specs.declared.pendings.Pending.{Pending}
 use Rattle.rank_client.specs.declared.pendings.Pending.TheVariants as waits_for
 use Rattle.rank_client.specs.Agreement.{IsCaused, IsHeld, in_call, note_coming, putting as rank_putting, ring_from, running, said}
 use Rattle.rank_client.specs.Rules.{asked, call_of}
-use Rattle.rank_client.specs.State.{State as Client, behind}
+use Rattle.rank_client.specs.State.{ClientModel, behind}
 use Rattle.core_law.specs.Own.{IsCall}
 use Rattle.server_core.proofs.Once.{differs_back}
 use Rattle.core_law.proofs.RankShapes.{offered}
@@ -83,7 +83,7 @@ none_below b rank more next none = λ id u at of. let found : None ≡ Some u = 
 
 -- A rank whose request is under way, and one whose answer is.
 
-pub record Waits (c : Client) (p : Pending) (b : Bag) : Type 0 where
+pub record Waits (c : ClientModel) (p : Pending) (b : Bag) : Type 0 where
   pub rank : rank_at b c.me ≡ Some (in_call c p None)
   pub servers : b.servers ≡ c.config.servers
   pub caused : IsCaused b (in_call c p None).end
@@ -93,7 +93,7 @@ pub record Waits (c : Client) (p : Pending) (b : Bag) : Type 0 where
   pub knows : Knows b c.transcript (c.handles ++ note_coming p None)
   pub call : IsCall c p
 
-pub record Comes (c : Client) (p : Pending) (a : Message) (b next : Bag) (es : List Entry) : Type 0 where
+pub record Comes (c : ClientModel) (p : Pending) (a : Message) (b next : Bag) (es : List Entry) : Type 0 where
   pub rank : rank_at next c.me ≡ Some (in_call c p (Some a))
   pub servers : next.servers ≡ c.config.servers
   pub caused : IsCaused next (in_call c p (Some a)).end
@@ -124,7 +124,7 @@ abbrev pub overs : End → RankState → RankState
 overs end r = ended (record r { end = Some end })
 
 -- a call that an end may answer
-pub record IsEnded (c : Client) (p : Pending) (request : ℕ) (end : End) : Type 0 where
+pub record IsEnded (c : ClientModel) (p : Pending) (request : ℕ) (end : End) : Type 0 where
   pub call : Call
   pub calls : runs.call_of (in_call c p None).status ≡ Some call
   pub rank : overs end (in_call c p None) ≡ in_call c p (Some (tells.Ended request end))
@@ -134,7 +134,7 @@ pub record IsEnded (c : Client) (p : Pending) (request : ℕ) (end : End) : Type
   pub none : offered p (Some (tells.Ended request end)) ≡ 0
   pub fetching : (b : Bag) → IsFetching b p
 
-pub over_comes : (c : Client) (p : Pending) (b next : Bag) (request : ℕ) (end : End) → Waits c p b → IsEnded c p request end → IsRun b (enters.Over c.me request end ∷ []) next
+pub over_comes : (c : ClientModel) (p : Pending) (b next : Bag) (request : ℕ) (end : End) → Waits c p b → IsEnded c p request end → IsRun b (enters.Over c.me request end ∷ []) next
     → Comes c p (tells.Ended request end) b next (enters.Over c.me request end ∷ [])
 over_comes c p b next request end w e run =
     let e' = enters.Over c.me request end in
@@ -153,21 +153,21 @@ over_comes c p b next request end w e run =
       fetching = e.fetching (with_rank c.me (overs end) b);
     })
 
-pub put_ended : (c : Client) (unit : Unit) (first : Server) (tried request : ℕ) (end : End) → IsEnded c (waits_for.Put unit first tried) request end
+pub put_ended : (c : ClientModel) (unit : Unit) (first : Server) (tried request : ℕ) (end : End) → IsEnded c (waits_for.Put unit first tried) request end
 put_ended c unit first tried request end = record { call = call_of unit; calls = refl; rank = refl; end_is = refl; notes = refl; said = refl; none = refl; fetching = λ b. tt }
 
-pub reserve_ended : (c : Client) (request : ℕ) (types : Option (List WorkType)) (to : ℕ) (end : End) → IsEnded c (waits_for.Reserve request types) to end
+pub reserve_ended : (c : ClientModel) (request : ℕ) (types : Option (List WorkType)) (to : ℕ) (end : End) → IsEnded c (waits_for.Reserve request types) to end
 reserve_ended c request types to end = record { call = calls_to.Reserve types; calls = refl; rank = refl; end_is = refl; notes = refl; said = refl; none = refl; fetching = λ b. tt }
 
 -- The unit is refused.
 
-declined_next : (c : Client) (unit : Unit) (first : Server) (tried : ℕ) (me : Server) → me ≡ asked c first tried → declined_by me (rank_putting c unit first tried) ≡ rank_putting c unit first (tried + 1)
+declined_next : (c : ClientModel) (unit : Unit) (first : Server) (tried : ℕ) (me : Server) → me ≡ asked c first tried → declined_by me (rank_putting c unit first tried) ≡ rank_putting c unit first (tried + 1)
 declined_next c unit first tried me is =
     let more : ring_from c.config first (tried + 1) ≡ ring_from c.config first tried ++ behind c.config first tried ∷ [] = map-range_with_len_more (behind c.config first) 0 tried tried (omega arith) in
     let list : ring_from c.config first tried ++ me ∷ [] ≡ ring_from c.config first (tried + 1) = ap (λ s. ring_from c.config first tried ++ s ∷ []) is ∙ sym more in
     ap (λ declined. record (running c) { status = does.Putting unit; declined = declined }) list
 
-pub refused_comes : (c : Client) (unit : Unit) (first : Server) (tried : ℕ) (me : Server) (b next : Bag) (used : ℕ) → Waits c (waits_for.Put unit first tried) b → me ≡ asked c first tried → IsRun b (enters.Refused me unit.id used ∷ []) next
+pub refused_comes : (c : ClientModel) (unit : Unit) (first : Server) (tried : ℕ) (me : Server) (b next : Bag) (used : ℕ) → Waits c (waits_for.Put unit first tried) b → me ≡ asked c first tried → IsRun b (enters.Refused me unit.id used ∷ []) next
     → Comes c (waits_for.Put unit first tried) (tells.Full unit.id.number used) b next (enters.Refused me unit.id used ∷ [])
 refused_comes c unit first tried me b next used w is run =
     let e = enters.Refused me unit.id used in
@@ -211,7 +211,7 @@ below_added b u rank next last all = λ id v at of. by_place id v of (find_appen
 held_added : (b : Bag) (u : Lodged) (rank : Rank) (notes : List UnitNote) → All (IsHeld b rank) notes → All (IsHeld (with_lodged b u) rank) notes
 held_added b u rank notes all = All-weaker (IsHeld b rank) (IsHeld (with_lodged b u) rank) (λ note h. (h.0, (find_before (λ (x : Lodged). same_unit x.unit.id note.id) b.units (u ∷ []) h.0 h.1.0, h.1.1))) notes all
 
-pub accepted_comes : (c : Client) (unit : Unit) (first : Server) (tried : ℕ) (me : Server) (b next : Bag) → Waits c (waits_for.Put unit first tried) b → IsRun b (enters.Accepted me unit.id ∷ []) next
+pub accepted_comes : (c : ClientModel) (unit : Unit) (first : Server) (tried : ℕ) (me : Server) (b next : Bag) → Waits c (waits_for.Put unit first tried) b → IsRun b (enters.Accepted me unit.id ∷ []) next
     → Comes c (waits_for.Put unit first tried) (tells.Accepted unit.id.number) b next (enters.Accepted me unit.id ∷ [])
 accepted_comes c unit first tried me b next w run =
     let e = enters.Accepted me unit.id in
@@ -277,7 +277,7 @@ granted_knows said handles note d k fact = record {
   no_room = k.no_room;
 }
 
-pub granted_comes : (c : Client) (request : ℕ) (types : Option (List WorkType)) (me : Server) (work : Unit) (u : Lodged) (b next : Bag) → Waits c (waits_for.Reserve request types) b → unit_of b work.id ≡ Some u → u.unit ≡ work → u.place ≡ Free me
+pub granted_comes : (c : ClientModel) (request : ℕ) (types : Option (List WorkType)) (me : Server) (work : Unit) (u : Lodged) (b next : Bag) → Waits c (waits_for.Reserve request types) b → unit_of b work.id ≡ Some u → u.unit ≡ work → u.place ≡ Free me
     → IsRun b (enters.Granted me c.me request work.id ∷ []) next → Comes c (waits_for.Reserve request types) (tells.Grant request (note_of me work)) b next (enters.Granted me c.me request work.id ∷ [])
 granted_comes c request types me work u b next w there same free run =
     let id : UnitId = work.id in
@@ -310,7 +310,7 @@ all_front P xs ys all = λ k d within.
     let inside : k < length (xs ++ ys) = omega (arith, length-append xs ys) in
     subst P (get_or_append_left xs ys d k within) (all k d inside)
 
-pub fetched_comes : (c : Client) (request : ℕ) (note : UnitNote) (me : Server) (work : Unit) (u : Lodged) (b next : Bag) → Waits c (waits_for.Fetch request note) b → unit_of b note.id ≡ Some u → u.unit ≡ work
+pub fetched_comes : (c : ClientModel) (request : ℕ) (note : UnitNote) (me : Server) (work : Unit) (u : Lodged) (b next : Bag) → Waits c (waits_for.Fetch request note) b → unit_of b note.id ≡ Some u → u.unit ≡ work
     → IsRun b (enters.Fetched me c.me note.id ∷ []) next → Comes c (waits_for.Fetch request note) (tells.Bytes request work.body) b next (enters.Fetched me c.me note.id ∷ [])
 fetched_comes c request note me work u b next w there same run =
     let id : UnitId = note.id in
@@ -345,7 +345,7 @@ caused_still b None is = is
 caused_still b (Some ends_by.NoMoreWork) is = is
 caused_still b (Some ends_by.Exhausted) is = refl
 
-pub exhausted_comes : (c : Client) (request : ℕ) (types : Option (List WorkType)) (to : ℕ) (b next : Bag) → Waits c (waits_for.Reserve request types) b → IsRun b (enters.Exhausted ∷ enters.Over c.me to ends_by.Exhausted ∷ []) next
+pub exhausted_comes : (c : ClientModel) (request : ℕ) (types : Option (List WorkType)) (to : ℕ) (b next : Bag) → Waits c (waits_for.Reserve request types) b → IsRun b (enters.Exhausted ∷ enters.Over c.me to ends_by.Exhausted ∷ []) next
     → Comes c (waits_for.Reserve request types) (tells.Ended to ends_by.Exhausted) b next (enters.Exhausted ∷ enters.Over c.me to ends_by.Exhausted ∷ [])
 exhausted_comes c request types to b next w run =
     let p : Pending = waits_for.Reserve request types in

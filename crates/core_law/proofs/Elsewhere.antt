@@ -5,11 +5,11 @@ use Rattle.std.specs.Option.{option_map, option_or}
 use Rattle.std.proofs.lemmas.Bool.{eqb-true, false_from_ne_true}
 use Rattle.std.proofs.lemmas.List.Folds.{find-append}
 use Rattle.std.proofs.lemmas.List.Sums.{sum_by_push}
+use Rattle.adlb_unit.specs.Ids.{same_unit}
 use Rattle.adlb_unit.specs.declared.names.Rank.{Rank}
 use Rattle.adlb_unit.specs.declared.names.Server.{Server}
 use Rattle.adlb_unit.specs.declared.names.UnitId.{UnitId}
 use Rattle.adlb_unit.specs.declared.units.Unit.{Unit as Work}
-use Rattle.adlb_unit.specs.Ids.{same_unit}
 use Rattle.adlb_unit.proofs.Same.{same_unit_is}
 use Rattle.bag_ledger.specs.Bag.{Bag, unit_charge, unit_of}
 use Rattle.bag_ledger.specs.Steps.{moved}
@@ -19,9 +19,9 @@ use Rattle.bag_ledger.specs.declared.states.UnitPlace.TheVariants.{Free, Pinned,
 use Rattle.bag_ledger.proofs.Lookups.{sum_changed}
 use Rattle.bag_ledger.proofs.Moves.{moved_here, moved_other}
 use Rattle.work_queue.specs.declared.placing.Placed.{Placed}
-use Rattle.server_core.specs.Agreement.{Agrees, HoldsUnits, of_id, pin_at, slot_of}
+use Rattle.server_core.specs.Agreement.{ServerAgrees, HoldsUnits, of_id, pin_at, slot_of}
 use Rattle.server_core.specs.Rules.{unit_with}
-use Rattle.server_core.specs.State.{State as Pool}
+use Rattle.server_core.specs.State.{ServerModel}
 use Rattle.server_core.proofs.Once.{once_added, once_changed}
 
 -- The unit is not at this server.
@@ -66,7 +66,7 @@ holds_beside all me units u holds new away = record {
     each : (id : UnitId) → unit_with id units ≡ option_and_then (slot_of me) (find (of_id id) (all ++ u ∷ []))
     each id = rw (find-append (of_id id) all (u ∷ [])) (by_found id (find (of_id id) all) (holds.each id))
 
-pub added_elsewhere : (b : Bag) (t : Pool) (u : Lodged) → Agrees b t → unit_of b u.unit.id ≡ None → IsAway t.me u → Agrees (record b { units = b.units ++ u ∷ [] }) t
+pub added_elsewhere : (b : Bag) (t : ServerModel) (u : Lodged) → ServerAgrees b t → unit_of b u.unit.id ≡ None → IsAway t.me u → ServerAgrees (record b { units = b.units ++ u ∷ [] }) t
 added_elsewhere b t u m new away = record {
   servers = m.servers;
   within = m.within;
@@ -110,7 +110,7 @@ holds_through b me units id place u holds found was is = record {
     by_id other true same = subst Same (same_unit_is id other same) here
     by_id other false differs = rw (moved_other b id other place differs) (holds.each other)
 
-pub moved_elsewhere : (b : Bag) (t : Pool) (id : UnitId) (place : UnitPlace) (u : Lodged) → Agrees b t → unit_of b id ≡ Some u → IsAway t.me u → IsAway t.me (record u { place = place }) → Agrees (moved id place b) t
+pub moved_elsewhere : (b : Bag) (t : ServerModel) (id : UnitId) (place : UnitPlace) (u : Lodged) → ServerAgrees b t → unit_of b id ≡ Some u → IsAway t.me u → IsAway t.me (record u { place = place }) → ServerAgrees (moved id place b) t
 moved_elsewhere b t id place u m found was is = record {
   servers = m.servers;
   within = m.within;

@@ -10,7 +10,7 @@ use Rattle.adlb_unit.specs.declared.letters.Letter.{Letter}
 use Rattle.adlb_unit.specs.declared.letters.Sending.{Sending}
 use Rattle.adlb_unit.specs.declared.names.Rank.{Rank}
 use Rattle.adlb_unit.specs.declared.names.Server.{Server}
-use Rattle.rank_client.specs.State.{State as Client, start as new_client}
+use Rattle.rank_client.specs.State.{ClientModel, start as new_client}
 use Rattle.rank_client.specs.Step.{Made, begin, hear}
 use Rattle.server_core.specs.State.{start as new_pool}
 use Rattle.server_core.specs.Step.{Served}
@@ -81,7 +81,7 @@ own_kept w next shape own (A_request {from = from} {me = me} {letter = letter} {
 
 -- To whom a rank writes.
 
-asked_within : (run : Config) (s : Client) (x : Made) → s.config ≡ run → Then s x → AreWithin run x.sends
+asked_within : (run : Config) (s : ClientModel) (x : Made) → s.config ≡ run → Then s x → AreWithin run x.sends
 asked_within run s x same (It_rests h) = rw h.sends tt
 asked_within run s x same (It_asks h) = let n : (h.to).0 < run.servers = let e = ap (λ (c : Config). c.servers) same in let l = h.within in omega arith in rw h.sends (lt-ltb (h.to).0 run.servers n, tt)
 asked_within run s x same (It_leaves h) = all x.sends h.each

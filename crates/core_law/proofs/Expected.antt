@@ -11,16 +11,18 @@ use Rattle.bag_ledger.specs.declared.states.Status.TheVariants as does_in
 use Rattle.server_core.specs.declared.standings.Standing.TheVariants as does
 use Rattle.server_core.specs.declared.standings.Standing.{Standing}
 use Rattle.work_queue.specs.declared.placing.Placed.{Placed}
-use Rattle.work_queue.specs.Queue.{id_of, same_id}
+use Rattle.work_queue.specs.Queue.{id_of}
 use Rattle.bag_ledger.specs.declared.states.UnitPlace.TheVariants.{Pinned}
 use Rattle.bag_ledger.specs.declared.states.Status.{Status}
 use Rattle.bag_ledger.specs.declared.states.RankState.{RankState}
 use Rattle.bag_ledger.specs.declared.states.Placed.{Placed as Lodged}
 use Rattle.bag_ledger.specs.declared.states.Promise.{Promise as Room}
+use Rattle.adlb_unit.specs.Links.{place_of}
+use Rattle.adlb_unit.specs.Targets.{in_ranks}
+use Rattle.adlb_unit.specs.Ids.{same_unit}
 use Rattle.adlb_unit.specs.declared.units.Unit.{Unit}
 use Rattle.adlb_unit.specs.declared.notes.UnitNote.{UnitNote}
 use Rattle.adlb_unit.specs.declared.names.WorkType.{WorkType}
-use Rattle.adlb_unit.specs.declared.names.Target.TheVariants.{Any, Only, Soft}
 use Rattle.adlb_unit.specs.declared.names.Target.{Target}
 use Rattle.std.specs.List.{list_any, list_all}
 use Rattle.std.specs.Option.{option_map}
@@ -39,15 +41,15 @@ use Rattle.std.specs.Prelude.{option_and_then, nat_le, nat_lt}
 use Rattle.std.proofs.lemmas.List.Elements.{All-contains, Contains-push}
 use Rattle.core_run.specs.declared.events.Event.{Event}
 use Rattle.core_run.specs.Runs.{Runs, run, NoneIsStuck}
-use Rattle.rank_client.specs.Rules.{in_ranks as rank_aims, is_idle, Response as Reply, answer_call}
-use Rattle.server_core.specs.Rules.{respond, in_ranks as server_aims, expects_finish, expects_put, expects_reserve, has_promise, has_unit, is_finished, is_pinned_as, is_running, unit_with, Response, best_unit, fetch, fetched, finish, is_over, put, reserve}
+use Rattle.rank_client.specs.Rules.{is_idle, ClientResponse, answer_call}
+use Rattle.server_core.specs.Rules.{respond, expects_finish, expects_put, expects_reserve, has_promise, has_unit, is_finished, is_pinned_as, is_running, unit_with, ServerResponse, best_unit, fetch, fetched, finish, is_over, put, reserve}
 use Rattle.server_core.specs.Step.{next_stamp, ticked, Served, after_event, serve, served}
 use Rattle.rank_client.specs.declared.pendings.Pending.{Pending}
 use Rattle.rank_client.specs.declared.pendings.Pending.TheVariants as waits_for
 use Rattle.rank_client.specs.Agreement.{IsHeld, in_call, rank_of}
-use Rattle.rank_client.specs.State.{State as Client}
-use Rattle.server_core.specs.Agreement.{Agrees, StartAgrees, IsAs, room_at, room_for, slot_of}
-use Rattle.server_core.specs.State.{State as Pool, is_home, standing, place_of}
+use Rattle.rank_client.specs.State.{ClientModel}
+use Rattle.server_core.specs.Agreement.{ServerAgrees, StartAgrees, IsAs, room_at, room_for, slot_of}
+use Rattle.server_core.specs.State.{ServerModel, is_home, standing}
 use Rattle.server_core.specs.Step.{Served}
 use Rattle.core_law.proofs.Asked.{IsOfCall, IsAsked, awaits}
 use Rattle.core_law.specs.Letters.{finishes, is_request, one_letter, is_parked, call_letter, finish_handled, finish_letter, fits_link, is_finish, kinds, one, parked_as}
@@ -66,23 +68,18 @@ none_any : {X : Type 0} (test : X → Bool) (xs : List X) → find test xs ≡ N
 none_any test [] none = refl
 none_any test (x ∷ xs) none = let parts = none_passes test x xs none in rw parts.0 (none_any test xs parts.1)
 
-aims_same : (config : Config) (target : Target) → rank_aims config target ≡ true → server_aims config target ≡ true
-aims_same config Any is = refl
-aims_same config (Only rank) is = is
-aims_same config (Soft rank) is = is
-
-put_expected : (c : Client) (unit : Unit) (first : Server) (tried : ℕ) (b : Bag) (t : Pool) → Waits c (waits_for.Put unit first tried) b → Agrees b t → t.config ≡ c.config → expects_put t c.me unit ≡ true
+put_expected : (c : ClientModel) (unit : Unit) (first : Server) (tried : ℕ) (b : Bag) (t : ServerModel) → Waits c (waits_for.Put unit first tried) b → ServerAgrees b t → t.config ≡ c.config → expects_put t c.me unit ≡ true
 put_expected c unit first tried b t w m same =
     let offer = w.call.0 in
     let fresh : unit_of b unit.id ≡ None = none_yet b c.me c.next unit w.below offer.rank offer.call in
     let absent : unit_with unit.id t.queue.units ≡ None = m.units.each unit.id ∙ ap (λ o. option_and_then (slot_of t.me) o) fresh in
-    let none : has_unit unit.id t.queue.units ≡ false = none_any (λ p. same_id (id_of p) unit.id) t.queue.units absent in
+    let none : has_unit unit.id t.queue.units ≡ false = none_any (λ p. same_unit (id_of p) unit.id) t.queue.units absent in
     let unpromised : promise_of b unit.id ≡ None = ap (λ (all : List Room). find (λ p. same_unit p.id unit.id) all) (w.knows).no_room in
     let no_room : room_for unit.id t.queue.promises ≡ None = m.promises unit.id ∙ ap (λ o. option_and_then (room_at t.me) o) unpromised in
-    let free : has_promise unit.id t.queue.promises ≡ false = none_any (λ p. same_id p.id unit.id) t.queue.promises no_room in
+    let free : has_promise unit.id t.queue.promises ≡ false = none_any (λ p. same_unit p.id unit.id) t.queue.promises no_room in
     let sender : (unit.id.rank.0 == c.me.0) ≡ true = eq-eqb unit.id.rank.0 c.me.0 (ap (λ (r : Rank). r.0) offer.rank) in
     let small : nat_le (length unit.body) (2 ^ 20) ≡ true = le-leb (length unit.body) (2 ^ 20) offer.size in
-    let aims : server_aims t.config unit.target ≡ true = ap (λ k. server_aims k unit.target) same ∙ aims_same c.config unit.target offer.target in
+    let aims : in_ranks t.config unit.target ≡ true = ap (λ k. in_ranks k unit.target) same ∙ offer.target in
     and_from _ _ (and_from _ _ (and_from _ _ (and_from _ _ sender (not_from_false (has_unit unit.id t.queue.units) none)) (not_from_false (has_promise unit.id t.queue.promises) free)) small) aims
 
 -- a rank that asks, and is not known to wait, runs
@@ -97,7 +94,7 @@ finished_runs does.Running status fresh known leaves = refl
 finished_runs (does.Parked q ts) status fresh known leaves = let both : does_in.Asking q ts ≡ does_in.Finished = sym known ∙ leaves in absurd (cc)
 finished_runs does.Finished status fresh known leaves = absurd (fresh refl)
 
-reserve_expected : (c : Client) (request : ℕ) (types : Option (List WorkType)) (b : Bag) (t : Pool) → Waits c (waits_for.Reserve request types) b → Agrees b t → c.me ≡ zeroth → t.config.servers ≡ 1 → is_parked (get_or t.ranks 0 does.Running) ≡ false → expects_reserve t zeroth ≡ true
+reserve_expected : (c : ClientModel) (request : ℕ) (types : Option (List WorkType)) (b : Bag) (t : ServerModel) → Waits c (waits_for.Reserve request types) b → ServerAgrees b t → c.me ≡ zeroth → t.config.servers ≡ 1 → is_parked (get_or t.ranks 0 does.Running) ≡ false → expects_reserve t zeroth ≡ true
 reserve_expected c request types b t w m me single free =
     let here : t.me.0 ≡ 0 = let e = m.within in omega arith in
     let home : is_home t zeroth ≡ true = rw (single, here) refl in
@@ -109,7 +106,7 @@ reserve_expected c request types b t w m me single free =
 pinned_at_self : (me : Server) (rank : Rank) (work : Unit) → slot_of me (record { unit = work; place = Pinned me rank }) ≡ Some (record { unit = work; pin = Some rank })
 pinned_at_self me rank work = ap (λ t. option_map (λ (pin : Option Rank). record { unit = work; pin = pin }) (cond t (Some (Some rank)) None)) (eq-eqb me.0 me.0 refl)
 
-fetch_expected : (c : Client) (request : ℕ) (note : UnitNote) (b : Bag) (t : Pool) → Waits c (waits_for.Fetch request note) b → Agrees b t → t.me ≡ note.server → (p : Placed) × (find (is_pinned_as note.id c.me) t.queue.units ≡ Some p)
+fetch_expected : (c : ClientModel) (request : ℕ) (note : UnitNote) (b : Bag) (t : ServerModel) → Waits c (waits_for.Fetch request note) b → ServerAgrees b t → t.me ≡ note.server → (p : Placed) × (find (is_pinned_as note.id c.me) t.queue.units ≡ Some p)
 fetch_expected c request note b t w m at =
     let held = All-contains (IsHeld b c.me) (c.handles ++ note ∷ []) note w.held (Contains-push c.handles note) in
     let u : Lodged = held.0 in
@@ -117,11 +114,11 @@ fetch_expected c request note b t w m at =
     let slot : slot_of t.me u ≡ Some (record { unit = u.unit; pin = Some c.me }) = ap (λ k. slot_of t.me (record { unit = u.unit; place = k })) place ∙ pinned_at_self t.me c.me u.unit in
     let p : Placed = record { unit = u.unit; pin = Some c.me } in
     let there : unit_with note.id t.queue.units ≡ Some p = m.units.each note.id ∙ ap (λ o. option_and_then (slot_of t.me) o) held.1.0 ∙ slot in
-    let found = find_is (λ q. same_id (id_of q) note.id) t.queue.units p there in
-    there_find (is_pinned_as note.id c.me) t.queue.units p found.1 (and_from (same_id (id_of p) note.id) (c.me.0 == c.me.0) found.0 (eq-eqb c.me.0 c.me.0 refl))
+    let found = find_is (λ q. same_unit (id_of q) note.id) t.queue.units p there in
+    there_find (is_pinned_as note.id c.me) t.queue.units p found.1 (and_from (same_unit (id_of p) note.id) (c.me.0 == c.me.0) found.0 (eq-eqb c.me.0 c.me.0 refl))
 
 -- nothing else is known of a rank whose Finish was not handled
-finish_expected : (t : Pool) (b : Bag) (r : RankState) → Agrees b t → rank_at b zeroth ≡ Some r → r.status ≡ does_in.Finished → is_finished t zeroth ≡ false → (get_or t.ranks 0 does.Running ≡ does.Finished → ⊥) → expects_finish t zeroth ≡ true
+finish_expected : (t : ServerModel) (b : Bag) (r : RankState) → ServerAgrees b t → rank_at b zeroth ≡ Some r → r.status ≡ does_in.Finished → is_finished t zeroth ≡ false → (get_or t.ranks 0 does.Running ≡ does.Finished → ⊥) → expects_finish t zeroth ≡ true
 finish_expected t b r m at leaves fresh stays = and_from (not (is_finished t zeroth)) (cond (is_home t zeroth) (is_running (standing t zeroth)) true) (not_from_false (is_finished t zeroth) fresh) (by_home (is_home t zeroth) refl)
   where
     by_home : (h : Bool) → is_home t zeroth ≡ h → cond h (is_running (standing t zeroth)) true ≡ true
@@ -132,26 +129,26 @@ finish_expected t b r m at leaves fresh stays = and_from (not (is_finished t zer
 
 -- A request at the front of its list.
 
-respond_call : (c : Client) (p : Pending) (b : Bag) (t : Pool) (m : Message) → Waits c p b → Agrees b t → t.config ≡ c.config → c.me ≡ zeroth → IsAsked c p t.me m → is_parked (get_or t.ranks 0 does.Running) ≡ false → (z : Response) × (respond t zeroth m ≡ Some z)
+respond_call : (c : ClientModel) (p : Pending) (b : Bag) (t : ServerModel) (m : Message) → Waits c p b → ServerAgrees b t → t.config ≡ c.config → c.me ≡ zeroth → IsAsked c p t.me m → is_parked (get_or t.ranks 0 does.Running) ≡ false → (z : ServerResponse) × (respond t zeroth m ≡ Some z)
 respond_call c waits_for.Nothing b t m w a same me asked free = absurd asked
 respond_call c (waits_for.Put unit first tried) b t m w a same me asked free =
-    let P : Message → Type 0 = λ k. (z : Response) × (respond t zeroth k ≡ Some z) in
+    let P : Message → Type 0 = λ k. (z : ServerResponse) × (respond t zeroth k ≡ Some z) in
     let expected : expects_put t zeroth unit ≡ true = ap (λ r. expects_put t r unit) (sym me) ∙ put_expected c unit first tried b t w a same in
     subst P (sym asked.0) (put t zeroth unit t.done (is_over t.queue unit), ap (λ k. cond k (Some (put t zeroth unit t.done (is_over t.queue unit))) None) expected)
 respond_call c (waits_for.Reserve request types) b t m w a same me asked free =
-    let P : Message → Type 0 = λ k. (z : Response) × (respond t zeroth k ≡ Some z) in
+    let P : Message → Type 0 = λ k. (z : ServerResponse) × (respond t zeroth k ≡ Some z) in
     let single : t.config.servers ≡ 1 = ap (λ (k : Config). k.servers) same ∙ w.call.1 in
     let expected = reserve_expected c request types b t w a me single free in
     let z = reserve t zeroth request types t.done t.exhausted (best_unit zeroth types t.queue.units) in
     subst P (sym asked.0) (z, ap (λ k. cond k (Some z) None) expected)
 respond_call c (waits_for.Fetch request note) b t m w a same me asked free =
-    let P : Message → Type 0 = λ k. (z : Response) × (respond t zeroth k ≡ Some z) in
+    let P : Message → Type 0 = λ k. (z : ServerResponse) × (respond t zeroth k ≡ Some z) in
     let found = fetch_expected c request note b t w a asked.1 in
     let there : find (is_pinned_as note.id zeroth) t.queue.units ≡ Some found.0 = ap (λ r. find (is_pinned_as note.id r) t.queue.units) (sym me) ∙ found.1 in
     subst P (sym asked.0) (fetched t zeroth request note.id found.0, ap (λ o. fetch t zeroth request note.id o) there)
 
 -- a server has not ended where it has not handled the only Finish
-not_ended : (s : Pool) → length s.finished ≡ 1 → get_or s.finished 0 false ≡ false → has_ended s ≡ false
+not_ended : (s : ServerModel) → length s.finished ≡ 1 → get_or s.finished 0 false ≡ false → has_ended s ≡ false
 not_ended s one fresh =
     let f = only_of s.finished one in
     let is : f.0 ≡ false = ap (λ (all : List Bool). get_or all 0 false) (sym f.1) ∙ fresh in
@@ -185,10 +182,10 @@ fits w from to letter rest well f t front =
     let none = no_kinds w well.kind in
     fits_of (fits_link from to letter.message) (omega arith)
 
-handled_is : (me : Server) (s : Pool) (place : ℕ) → place ≡ me.0 → finish_handled zeroth me place s ≡ one (get_or s.finished 0 false)
+handled_is : (me : Server) (s : ServerModel) (place : ℕ) → place ≡ me.0 → finish_handled zeroth me place s ≡ one (get_or s.finished 0 false)
 handled_is me s place same = ap (λ t. cond t (one (get_or s.finished 0 false)) 0) (eq-eqb place me.0 same)
 
-to_server : (w : World) (c : Client) (b : Bag) (coming : Option Message) (me : Server) (letter : Letter) (rest : List Letter) → IsWell w → w.config.ranks ≡ 1 → IsLawful w c b coming → me.0 < w.config.servers → letter.stamp < 2 ^ 48
+to_server : (w : World) (c : ClientModel) (b : Bag) (coming : Option Message) (me : Server) (letter : Letter) (rest : List Letter) → IsWell w → w.config.ranks ≡ 1 → IsLawful w c b coming → me.0 < w.config.servers → letter.stamp < 2 ^ 48
     → link w.links (place_of w.config (by.Rank zeroth)) (place_of w.config (by.Server me)) ≡ letter ∷ rest → (next : World) × (handle w (by.Rank zeroth) (by.Server me) (letter ∷ rest) ≡ Some next)
 to_server w c b coming me letter rest well only l here small front = by_kind (or_cases (is_request letter.message) (is_finish letter.message) (fits w (by.Rank zeroth) (by.Server me) letter rest well within_rank within_server front))
   where
@@ -199,21 +196,21 @@ to_server w c b coming me letter rest well only l here small front = by_kind (or
     within_server = lt-ltb me.0 w.config.servers here
 
     own : IsClient w.config zeroth c
-    own = subst (λ (k : Client). IsClient w.config zeroth k) l.is (well.own.ranks zeroth (omega arith))
+    own = subst (λ (k : ClientModel). IsClient w.config zeroth k) l.is (well.own.ranks zeroth (omega arith))
 
     pool : IsPool w.config me (pool_of w me)
     pool = well.own.servers me here
 
-    agrees : Agrees b (pool_of w me)
+    agrees : ServerAgrees b (pool_of w me)
     agrees = l.pools me here
 
     inside : 0 < length w.ranks
     inside = let e = (well.shape).ranks in omega arith
 
-    t : Pool
+    t : ServerModel
     t = ticked (pool_of w me) (next_stamp (pool_of w me) letter)
 
-    ticks : Agrees b (ticked (pool_of w me) (next_stamp (pool_of w me) letter))
+    ticks : ServerAgrees b (ticked (pool_of w me) (next_stamp (pool_of w me) letter))
     ticks = record {
       servers = agrees.servers;
       within = agrees.within;
@@ -232,12 +229,12 @@ to_server w c b coming me letter rest well only l here small front = by_kind (or
     -- how often Finish is there
     finishing : finish_letter zeroth me (by.Rank zeroth) (by.Server me) letter.message + one (get_or (pool_of w me).finished 0 false) ≤ one c.finished
     finishing =
-        let all : measure (finishes zeroth me) w ≡ one c.finished = finishes_are w zeroth me inside (well.finish zeroth me here) ∙ ap (λ (s : Client). one s.finished) l.is in
+        let all : measure (finishes zeroth me) w ≡ one c.finished = finishes_are w zeroth me inside (well.finish zeroth me here) ∙ ap (λ (s : ClientModel). one s.finished) l.is in
         let parts = front_beside (finishes zeroth me) w (by.Rank zeroth) (by.Server me) letter rest me well.shape within_rank within_server front here in
         let handled = handled_is me (pool_of w me) me.0 refl in
         omega arith
 
-    answered : get_or (pool_of w me).finished 0 false ≡ false → (z : Response) × (respond t zeroth letter.message ≡ Some z) → (next : World) × (handle w (by.Rank zeroth) (by.Server me) (letter ∷ rest) ≡ Some next)
+    answered : get_or (pool_of w me).finished 0 false ≡ false → (z : ServerResponse) × (respond t zeroth letter.message ≡ Some z) → (next : World) × (handle w (by.Rank zeroth) (by.Server me) (letter ∷ rest) ≡ Some next)
     answered fresh z =
         let x : Served = after_event (served z.0) in
         let ranks : nat_lt 0 (pool_of w me).config.ranks ≡ true = let e = ap (λ (k : Config). k.ranks) pool.config in lt-ltb 0 (pool_of w me).config.ranks (omega arith) in
@@ -277,7 +274,7 @@ to_server w c b coming me letter rest well only l here small front = by_kind (or
         let r : RankState = rank_of c true coming in
         let at : rank_at b zeroth ≡ Some r = ap (λ k. rank_at b k) (sym own.me) ∙ (l.client).rank ∙ ap (λ f. Some (rank_of c f coming)) finished in
         let expected = finish_expected t b r ticks at refl fresh (λ left. never (get_or (pool_of w me).finished 0 false) (pool.left 0 left) fresh) in
-        let P : Message → Type 0 = λ k. (z : Response) × (respond t zeroth k ≡ Some z) in
+        let P : Message → Type 0 = λ k. (z : ServerResponse) × (respond t zeroth k ≡ Some z) in
         answered fresh (subst P (sym m_is) (finish t zeroth, ap (λ k. cond k (Some (finish t zeroth)) None) expected))
       where
         at_most : (k : Bool) → one k ≤ 1
@@ -290,7 +287,7 @@ to_server w c b coming me letter rest well only l here small front = by_kind (or
 
 -- An answer at the front of its list.
 
-awaited_is : (c : Client) (stamp : ℕ) (p : Pending) (from : Server) (m : Message) → awaits c p from m ≡ true → (z : Reply) × (answer_call (tick c stamp) p from m ≡ Some z)
+awaited_is : (c : ClientModel) (stamp : ℕ) (p : Pending) (from : Server) (m : Message) → awaits c p from m ≡ true → (z : ClientResponse) × (answer_call (tick c stamp) p from m ≡ Some z)
 awaited_is c stamp (waits_for.Put unit first tried) from (tells.Accepted to) is = rw is (_, refl)
 awaited_is c stamp (waits_for.Put unit first tried) from (tells.Full to charge) is = rw is (_, refl)
 awaited_is c stamp (waits_for.Put unit first tried) from (tells.Ended to end) is = rw is (_, refl)
@@ -299,18 +296,18 @@ awaited_is c stamp (waits_for.Reserve request types) from (tells.Ended to end) i
 awaited_is c stamp (waits_for.Fetch request note) from (tells.Bytes to body) is = rw is (_, refl)
 awaited_is c stamp _ from _ is = absurd (cc)
 
-awaited_busy : (c : Client) (p : Pending) (from : Server) (m : Message) → awaits c p from m ≡ true → is_idle p ≡ false
+awaited_busy : (c : ClientModel) (p : Pending) (from : Server) (m : Message) → awaits c p from m ≡ true → is_idle p ≡ false
 awaited_busy c waits_for.Nothing from m is = absurd (cc)
 awaited_busy c (waits_for.Put unit first tried) from m is = refl
 awaited_busy c (waits_for.Reserve request types) from m is = refl
 awaited_busy c (waits_for.Fetch request note) from m is = refl
 
-to_rank : (w : World) (c : Client) (b : Bag) (coming : Option Message) (from : Server) (letter : Letter) (rest : List Letter) → IsWell w → w.config.ranks ≡ 1 → IsLawful w c b coming → from.0 < w.config.servers → letter.stamp < 2 ^ 48
+to_rank : (w : World) (c : ClientModel) (b : Bag) (coming : Option Message) (from : Server) (letter : Letter) (rest : List Letter) → IsWell w → w.config.ranks ≡ 1 → IsLawful w c b coming → from.0 < w.config.servers → letter.stamp < 2 ^ 48
     → link w.links (place_of w.config (by.Server from)) (place_of w.config (by.Rank zeroth)) ≡ letter ∷ rest → (next : World) × (handle w (by.Server from) (by.Rank zeroth) (letter ∷ rest) ≡ Some next)
 to_rank w c b coming from letter rest well only l here small front =
     let within_rank : is_within w.config (by.Rank zeroth) ≡ true = lt-ltb 0 w.config.ranks (omega arith) in
     let within_server : is_within w.config (by.Server from) ≡ true = lt-ltb from.0 w.config.servers here in
-    let own : IsClient w.config zeroth c = subst (λ (k : Client). IsClient w.config zeroth k) l.is (well.own.ranks zeroth (omega arith)) in
+    let own : IsClient w.config zeroth c = subst (λ (k : ClientModel). IsClient w.config zeroth k) l.is (well.own.ranks zeroth (omega arith)) in
     let of_call : IsOfCall c coming (by.Server from) (by.Rank zeroth) letter.message = at_front (OfCall c coming) w (by.Server from) (by.Rank zeroth) letter rest l.letters within_server within_rank front in
     let awaited = (of_call (sym own.me)).1 in
     let busy = awaited_busy c c.pending from letter.message awaited in
@@ -325,7 +322,7 @@ to_rank w c b coming from letter rest well only l here small front =
 
 -- Any letter.
 
-handled_here : (w : World) (c : Client) (b : Bag) (coming : Option Message) (from to : Actor) (letter : Letter) (rest : List Letter) → IsWell w → w.config.ranks ≡ 1 → IsLawful w c b coming → is_within w.config from ≡ true → is_within w.config to ≡ true → letter.stamp < 2 ^ 48
+handled_here : (w : World) (c : ClientModel) (b : Bag) (coming : Option Message) (from to : Actor) (letter : Letter) (rest : List Letter) → IsWell w → w.config.ranks ≡ 1 → IsLawful w c b coming → is_within w.config from ≡ true → is_within w.config to ≡ true → letter.stamp < 2 ^ 48
     → link w.links (place_of w.config from) (place_of w.config to) ≡ letter ∷ rest → (next : World) × (handle w from to (letter ∷ rest) ≡ Some next)
 handled_here w c b coming (by.Rank from) (by.Rank to) letter rest well only l f t small front =
     let kind : false ≡ true = fits w (by.Rank from) (by.Rank to) letter rest well f t front in

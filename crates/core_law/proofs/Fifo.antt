@@ -1,4 +1,5 @@
 -- What stands on each link after sendings, in order; and that what stands at the front of a link is a part of the sum.
+use Rattle.adlb_unit.specs.Links.{place_of}
 use Rattle.adlb_unit.specs.declared.names.Server.{Server}
 use Rattle.std.proofs.Common.{◌≡◌, ◌<◌, ◌≤◌, ℕ, zero, suc, ◌+◌, true, false, cond, List, [], ◌∷◌, ◌++◌, length, set, get_or, refl, sym, ap, ◌∙◌, arith, eqb, inl, inr, append_assoc}
 use Rattle.std.proofs.lemmas.List.{get_or-set_same, get_or-set_other, append-nil}
@@ -7,7 +8,7 @@ use Rattle.adlb_unit.specs.declared.actors.Actor.{Actor}
 use Rattle.adlb_unit.specs.declared.configs.Config.{Config}
 use Rattle.adlb_unit.specs.declared.letters.Letter.{Letter}
 use Rattle.adlb_unit.specs.declared.letters.Sending.{Sending}
-use Rattle.server_core.specs.State.{place_of, start as new_pool}
+use Rattle.server_core.specs.State.{start as new_pool}
 use Rattle.core_run.specs.World.{Links, World, actors, is_within, link, post, put_link, row, pool_of}
 use Rattle.core_law.specs.Measures.{IsBalanced, Weights, actor, due, link_weight, measure, row_weight, weigh_at}
 use Rattle.core_law.proofs.Sums.{AreWithin, IsSquare, place_actor, place_below, square_put}

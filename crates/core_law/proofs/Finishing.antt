@@ -11,10 +11,10 @@ use Rattle.adlb_unit.specs.declared.messages.Message.TheVariants as tells
 use Rattle.adlb_unit.specs.declared.names.Rank.{Rank}
 use Rattle.adlb_unit.specs.declared.names.Server.{Server}
 use Rattle.rank_client.specs.Rules.{farewell}
-use Rattle.rank_client.specs.State.{State as Client}
+use Rattle.rank_client.specs.State.{ClientModel}
 use Rattle.rank_client.specs.Step.{Made, begin, hear}
-use Rattle.server_core.specs.Rules.{Response, Saying}
-use Rattle.server_core.specs.State.{State as Pool}
+use Rattle.server_core.specs.Rules.{ServerResponse, Saying}
+use Rattle.server_core.specs.State.{ServerModel}
 use Rattle.server_core.specs.Step.{told, waiting_from}
 use Rattle.core_law.specs.Letters.{finish_handled, finish_letter, finishes, is_finish, is_request, one}
 use Rattle.core_law.specs.Measures.{weigh}
@@ -52,7 +52,7 @@ noted finished from rank inside fresh = by_rank (cases_eq rank from)
         let differs : eqb from rank ≡ false = false_from_ne_true (eqb from rank) (λ e. other (sym (eqb-true from rank e))) in
         rw (differs, get_or-set_other finished from rank true false other) (omega arith)
 
-rule : (config : Config) (rank : Rank) (server me : Server) (s : Pool) (from : Rank) (m : Message) (z : Response) → Arrives config me s (by.Rank from) → Responds s from m z
+rule : (config : Config) (rank : Rank) (server me : Server) (s : ServerModel) (from : Rank) (m : Message) (z : ServerResponse) → Arrives config me s (by.Rank from) → Responds s from m z
     → finish_letter rank server (by.Rank from) (by.Server me) m + finish_handled rank server me.0 s ≡ weigh (λ y. finish_letter rank server (by.Server me) y.to y.message) z.says + finish_handled rank server me.0 z.state
 rule config rank server me s from m z ar (It_answers h) = let none = none_said rank server me z.says in rw (request_no_finish m h.request, h.finished) (omega arith)
 rule config rank server me s from m z ar (It_parks h) = let none = none_said rank server me z.says in rw (h.is, h.finished) (omega arith)
@@ -63,13 +63,13 @@ rule config rank server me s from m z ar (It_finishes h) =
     let at = handled (eqb me.0 server.0) (eqb from.0 rank.0) (one (get_or (set s.finished from.0 true) rank.0 false)) (one (get_or s.finished rank.0 false)) (λ is. note) in
     rw (h.is, h.finished) (omega arith)
 
-telling : (config : Config) (rank : Rank) (server me : Server) (s : Pool) → IsPool config me s
+telling : (config : Config) (rank : Rank) (server me : Server) (s : ServerModel) → IsPool config me s
     → finish_handled rank server me.0 s ≡ weigh (λ y. finish_letter rank server (by.Server me) y.to y.message) (map told (waiting_from 0 s.ranks)) + finish_handled rank server me.0 (exhausted s)
 telling config rank server me s own = let none = none_said rank server me (map told (waiting_from 0 s.ranks)) in omega arith
 
 -- A rank.
 
-heard : (config : Config) (rank me : Rank) (server : Server) (s : Client) (from : Server) (m : Message) (stamp place : ℕ) (x : Made) → Heard config me s m x → RankKeeps (finishes rank server) me s from (record { stamp = stamp; place = place; message = m }) x
+heard : (config : Config) (rank me : Rank) (server : Server) (s : ClientModel) (from : Server) (m : Message) (stamp place : ℕ) (x : Made) → Heard config me s m x → RankKeeps (finishes rank server) me s from (record { stamp = stamp; place = place; message = m }) x
 heard config rank me server s from m stamp place x h = by_after h.after
   where
     by_after : Then s x → RankKeeps (finishes rank server) me s from (record { stamp = stamp; place = place; message = m }) x
@@ -115,7 +115,7 @@ done : (b : Bool) → cond {A = ℕ} b 1 0 ≡ one b + cond {A = ℕ} b 0 0
 done true = refl
 done false = refl
 
-begun : (config : Config) (rank me : Rank) (server : Server) (s : Client) (x : Made) → server.0 < s.config.servers → Began config me s x → BeginKeeps (finishes rank server) me s x
+begun : (config : Config) (rank me : Rank) (server : Server) (s : ClientModel) (x : Made) → server.0 < s.config.servers → Began config me s x → BeginKeeps (finishes rank server) me s x
 begun config rank me server s x there b = by_after b.after
   where
     by_after : Then s x → BeginKeeps (finishes rank server) me s x

@@ -16,7 +16,7 @@ use Rattle.bag_ledger.specs.declared.states.Placed.{Placed as Lodged}
 use Rattle.bag_ledger.specs.Bag.{Bag, rank_at, start as empty_bag, unit_of}
 use Rattle.bag_ledger.specs.Runs.{IsRun, calls, calls_from}
 use Rattle.server_core.specs.declared.standings.Standing.TheVariants as does
-use Rattle.server_core.specs.Rules.{Response, expects_finish, finish, is_running, leave, respond}
+use Rattle.server_core.specs.Rules.{ServerResponse, expects_finish, finish, is_running, leave, respond}
 use Rattle.server_core.specs.Agreement.{IsOpen}
 use Rattle.server_core.specs.State.{is_home}
 use Rattle.server_core.specs.Step.{after_event, next_stamp, served, ticked, verdict, waiting_from}
@@ -27,11 +27,11 @@ use Rattle.std.specs.List.{list_any}
 use Rattle.bag_ledger.proofs.Legal.{run_joined}
 use Rattle.rank_client.specs.declared.pendings.Pending.{Pending}
 use Rattle.rank_client.specs.declared.pendings.Pending.TheVariants as waits_for
-use Rattle.rank_client.specs.Agreement.{Agrees as StandsFor, in_call, rank_of, holds}
+use Rattle.rank_client.specs.Agreement.{ClientAgrees, in_call, rank_of, holds}
 use Rattle.rank_client.specs.Rules.{is_idle}
-use Rattle.rank_client.specs.State.{State as Client}
-use Rattle.server_core.specs.Agreement.{Agrees, IsAlone, IsCalled, IsPending}
-use Rattle.server_core.specs.State.{State as Pool}
+use Rattle.rank_client.specs.State.{ClientModel}
+use Rattle.server_core.specs.Agreement.{ServerAgrees, IsAlone, IsCalled, IsPending}
+use Rattle.server_core.specs.State.{ServerModel}
 use Rattle.server_core.specs.Step.{Served, serve}
 use Rattle.core_law.specs.Among.{KeepsOthers}
 use Rattle.core_law.proofs.Asked.{IsAsked, awaits}
@@ -67,7 +67,7 @@ plain_open : (b : Bag) (common : Option CommonRef) → common ≡ None → IsOpe
 plain_open b None e = tt
 plain_open b (Some c) e = absurd (cc)
 
-called : (c : Client) (p : Pending) (b : Bag) (me : Server) (m : Message) → Waits c p b → IsAsked c p me m → IsCalled b me c.me (in_call c p None) m
+called : (c : ClientModel) (p : Pending) (b : Bag) (me : Server) (m : Message) → Waits c p b → IsAsked c p me m → IsCalled b me c.me (in_call c p None) m
 called c waits_for.Nothing b me m w asked = absurd asked
 called c (waits_for.Put unit first tried) b me m w asked =
     let p : Pending = waits_for.Put unit first tried in
@@ -88,21 +88,21 @@ called c (waits_for.Fetch request note) b me m w asked =
 pub record Entered (w : World) (b : Bag) (me : Server) (x : Served) : Type 0 where
   pub next : Bag
   pub run : IsRun b x.entries next
-  pub agrees : Agrees next x.state
+  pub agrees : ServerAgrees next x.state
   pub others : KeepsOthers b (pool_of w me) next
   pub alone : w.config.servers ≡ 1 → IsAlone next x.state
 
-server_steps : (w : World) (c : Client) (b : Bag) (coming : Option Message) (me : Server) (letter : Letter) (x : Served) → AreLaws → IsWell w → w.config.ranks ≡ 1 → IsLawful w c b coming → me.0 < w.config.servers → IsPending b (pool_of w me) (by.Rank zeroth) letter.message → serve (pool_of w me) (by.Rank zeroth) letter ≡ Some x
+server_steps : (w : World) (c : ClientModel) (b : Bag) (coming : Option Message) (me : Server) (letter : Letter) (x : Served) → AreLaws → IsWell w → w.config.ranks ≡ 1 → IsLawful w c b coming → me.0 < w.config.servers → IsPending b (pool_of w me) (by.Rank zeroth) letter.message → serve (pool_of w me) (by.Rank zeroth) letter ≡ Some x
     → Entered w b me x
 server_steps w c b coming me letter x laws well only l here pending does = by_servers (cases_eq w.config.servers 1)
   where
-    s : Pool
+    s : ServerModel
     s = pool_of w me
 
     own : IsPool w.config me (pool_of w me)
     own = well.own.servers me here
 
-    agrees : Agrees b (pool_of w me)
+    agrees : ServerAgrees b (pool_of w me)
     agrees = l.pools me here
 
     by_servers : (w.config.servers ≡ 1) ⊎ (w.config.servers ≢ 1) → Entered w b me x
@@ -130,15 +130,15 @@ server_steps w c b coming me letter x laws well only l here pending does = by_se
         record { next = step.0; run = step.1; agrees = step.2; others = step.3; alone = λ e. absurd (several e) }
 
 -- each server agrees with the bag afterwards
-pools_after : (w : World) (c : Client) (b : Bag) (coming : Option Message) (me : Server) (links : Links) (x : Served) → IsWell w → IsLawful w c b coming → me.0 < w.config.servers → (v : Entered w b me x)
-    → (server : Server) → server.0 < w.config.servers → Agrees v.next (pool_of (after_server w me links x) server)
+pools_after : (w : World) (c : ClientModel) (b : Bag) (coming : Option Message) (me : Server) (links : Links) (x : Served) → IsWell w → IsLawful w c b coming → me.0 < w.config.servers → (v : Entered w b me x)
+    → (server : Server) → server.0 < w.config.servers → ServerAgrees v.next (pool_of (after_server w me links x) server)
 pools_after w c b coming me links x well l here v server there = by_place (cases_eq server.0 me.0)
   where
-    by_place : (server.0 ≡ me.0) ⊎ (server.0 ≢ me.0) → Agrees v.next (pool_of (after_server w me links x) server)
+    by_place : (server.0 ≡ me.0) ⊎ (server.0 ≢ me.0) → ServerAgrees v.next (pool_of (after_server w me links x) server)
     by_place (inl same) =
         let it : me ≡ server = ap server_named (sym same) in
         let inside : me.0 < length w.servers = let e = (well.shape).servers in omega arith in
-        subst (λ (k : Server). Agrees v.next (pool_of (after_server w me links x) k)) it (rw (pool_there w me links x inside) v.agrees)
+        subst (λ (k : Server). ServerAgrees v.next (pool_of (after_server w me links x) k)) it (rw (pool_there w me links x inside) v.agrees)
     by_place (inr differs) =
         let one = well.own.servers server there in
         let other = well.own.servers me here in
@@ -156,7 +156,7 @@ alone_after w b me links x well here v single =
 pub never : (t : Bool) → t ≡ true → t ≡ false → ⊥
 never t yes_is no_is = absurd (cc)
 
-pub waits_of : (w : World) (c : Client) (b : Bag) → IsLawful w c b None → c.me ≡ zeroth → c.finished ≡ false → IsCall c c.pending → Waits c c.pending b
+pub waits_of : (w : World) (c : ClientModel) (b : Bag) → IsLawful w c b None → c.me ≡ zeroth → c.finished ≡ false → IsCall c c.pending → Waits c c.pending b
 waits_of w c b l me going call = record {
   rank = rw going at (l.client).rank;
   servers = (l.client).servers;
@@ -168,13 +168,13 @@ waits_of w c b l me going call = record {
   call = call;
 }
 
-comes_stands : (c : Client) (a : Message) (b next : Bag) (es : List Entry) → c.finished ≡ false → Comes c c.pending a b next es → StandsFor c (Some a) next
+comes_stands : (c : ClientModel) (a : Message) (b next : Bag) (es : List Entry) → c.finished ≡ false → Comes c c.pending a b next es → ClientAgrees c (Some a) next
 comes_stands c a b next es going comes = record { rank = rw going comes.rank; servers = comes.servers; caused = rw going comes.caused; held = comes.held }
 
-sent_back : (c : Client) (me : Server) (letter : Letter) (sends : List Sending) → awaits c c.pending me letter.message ≡ true → sends ≡ record { to = by.Rank c.me; letter = letter } ∷ [] → Each (λ (y : Sending). OfCall c (Some letter.message) (by.Server me) y.to y.letter) sends
+sent_back : (c : ClientModel) (me : Server) (letter : Letter) (sends : List Sending) → awaits c c.pending me letter.message ≡ true → sends ≡ record { to = by.Rank c.me; letter = letter } ∷ [] → Each (λ (y : Sending). OfCall c (Some letter.message) (by.Server me) y.to y.letter) sends
 sent_back c me letter sends awaited is = rw is ((λ of. (refl, awaited)), tt)
 
-pub request_at : (w next : World) (c : Client) (b : Bag) (me : Server) (letter : Letter) (rest : List Letter) (x : Served) → AreLaws → IsWell w → w.config.ranks ≡ 1 → IsLawful w c b None → IsAsked c c.pending me letter.message → is_request letter.message ≡ true → Serves w (by.Rank zeroth) me letter rest x next → Lawful next
+pub request_at : (w next : World) (c : ClientModel) (b : Bag) (me : Server) (letter : Letter) (rest : List Letter) (x : Served) → AreLaws → IsWell w → w.config.ranks ≡ 1 → IsLawful w c b None → IsAsked c c.pending me letter.message → is_request letter.message ≡ true → Serves w (by.Rank zeroth) me letter rest x next → Lawful next
 request_at w next c b me letter rest x laws well only l asked request does = subst Lawful (sym does.is) (c, v.next, Some answered.letter.message, now)
   where
     to_rank : is_within w.config (by.Rank zeroth) ≡ true
@@ -184,7 +184,7 @@ request_at w next c b me letter rest x laws well only l asked request does = sub
     to_server = lt-ltb me.0 w.config.servers does.here
 
     own : IsClient w.config zeroth c
-    own = subst (λ (s : Client). IsClient w.config zeroth s) l.is (well.own.ranks zeroth (omega arith))
+    own = subst (λ (s : ClientModel). IsClient w.config zeroth s) l.is (well.own.ranks zeroth (omega arith))
 
     pool : IsPool w.config me (pool_of w me)
     pool = well.own.servers me does.here
@@ -283,7 +283,7 @@ entries_of : (x : Served) → IsQuiet x → x.entries ≡ []
 unfolding IsQuiet
 entries_of x q = q.1
 
-finish_quiet : (t : Pool) (from : Rank) → length t.ranks ≡ 1 → from.0 ≡ 0 → t.me.0 < t.config.servers → IsQuiet (after_event (served (finish t from)))
+finish_quiet : (t : ServerModel) (from : Rank) → length t.ranks ≡ 1 → from.0 ≡ 0 → t.me.0 < t.config.servers → IsQuiet (after_event (served (finish t from)))
 unfolding IsQuiet
 finish_quiet t from one first within = by_servers (cases_eq t.config.servers 1)
   where
@@ -303,7 +303,7 @@ finish_quiet t from one first within = by_servers (cases_eq t.config.servers 1)
         ap (λ all. cond ((t.config.servers == 1) && not (list_any is_running all)) (verdict x (waiting_from 0 all)) x) ranks ∙ ap (λ k. cond (k && true) (verdict x []) x) (eq-eqb t.config.servers 1 single) in
         rw shut (refl, refl)
 
-pub finish_at : (w next : World) (c : Client) (b : Bag) (coming : Option Message) (me : Server) (letter : Letter) (rest : List Letter) (x : Served) → AreLaws → IsWell w → w.config.ranks ≡ 1 → IsLawful w c b coming → letter.message ≡ tells.Finish → Serves w (by.Rank zeroth) me letter rest x next → Lawful next
+pub finish_at : (w next : World) (c : ClientModel) (b : Bag) (coming : Option Message) (me : Server) (letter : Letter) (rest : List Letter) (x : Served) → AreLaws → IsWell w → w.config.ranks ≡ 1 → IsLawful w c b coming → letter.message ≡ tells.Finish → Serves w (by.Rank zeroth) me letter rest x next → Lawful next
 finish_at w next c b coming me letter rest x laws well only l is does = subst Lawful (sym does.is) (c, v.next, coming, now)
   where
     to_rank : is_within w.config (by.Rank zeroth) ≡ true
@@ -313,7 +313,7 @@ finish_at w next c b coming me letter rest x laws well only l is does = subst La
     to_server = lt-ltb me.0 w.config.servers does.here
 
     own : IsClient w.config zeroth c
-    own = subst (λ (s : Client). IsClient w.config zeroth s) l.is (well.own.ranks zeroth (omega arith))
+    own = subst (λ (s : ClientModel). IsClient w.config zeroth s) l.is (well.own.ranks zeroth (omega arith))
 
     pool : IsPool w.config me (pool_of w me)
     pool = well.own.servers me does.here
@@ -323,7 +323,7 @@ finish_at w next c b coming me letter rest x laws well only l is does = subst La
 
     finished : c.finished ≡ true
     finished =
-        let all : measure (finishes zeroth me) w ≡ one c.finished = finishes_are w zeroth me inside (well.finish zeroth me does.here) ∙ ap (λ (s : Client). one s.finished) l.is in
+        let all : measure (finishes zeroth me) w ≡ one c.finished = finishes_are w zeroth me inside (well.finish zeroth me does.here) ∙ ap (λ (s : ClientModel). one s.finished) l.is in
         let front = front_held (finishes zeroth me) w (by.Rank zeroth) (by.Server me) letter rest well.shape to_rank to_server does.front in
         let weight : finish_letter zeroth me (by.Rank zeroth) (by.Server me) letter.message ≡ 1 = rw (is, eq-eqb me.0 me.0 refl) refl in
         by_flag c.finished refl (omega arith)
@@ -346,7 +346,7 @@ finish_at w next c b coming me letter rest x laws well only l is does = subst La
     v : Entered w b me x
     v = server_steps w c b coming me letter x laws well only l does.here pending does.does
 
-    t : Pool
+    t : ServerModel
     t = ticked (pool_of w me) (next_stamp (pool_of w me) letter)
 
     quiet : IsQuiet x
@@ -357,7 +357,7 @@ finish_at w next c b coming me letter rest x laws well only l is does = subst La
         let parts = if_is (expects_finish t zeroth) (finish t zeroth) s.response rule in
         let a = l.pools me does.here in
         let still : IsQuiet (after_event (served (finish t zeroth))) = finish_quiet t zeroth (pool.ranks ∙ only) refl (let n = a.within in n) in
-        subst (λ (y : Served). IsQuiet y) s.makes (subst (λ (z : Response). IsQuiet (after_event (served z))) parts.1 still)
+        subst (λ (y : Served). IsQuiet y) s.makes (subst (λ (z : ServerResponse). IsQuiet (after_event (served z))) parts.1 still)
 
     no_sends : x.sends ≡ []
     no_sends = sends_of x quiet
@@ -381,7 +381,7 @@ finish_at w next c b coming me letter rest x laws well only l is does = subst La
     now = record {
       is = l.is;
       run = run_joined (empty_bag w.config) b v.next w.ledger x.entries l.run v.run;
-      client = subst (λ (n : Bag). StandsFor c coming n) same l.client;
+      client = subst (λ (n : Bag). ClientAgrees c coming n) same l.client;
       pools = pools_after w c b coming me (taken w (by.Rank zeroth) (by.Server me) rest) x well l does.here v;
       alone = alone_after w b me (taken w (by.Rank zeroth) (by.Server me) rest) x well does.here v;
       letters = server_on (OfCall c coming) between me x shaped (taken_on (OfCall c coming) w (by.Rank zeroth) (by.Server me) letter rest well.shape l.letters to_rank to_server does.front) does.here within (rw no_sends tt);

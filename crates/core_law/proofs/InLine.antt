@@ -2,6 +2,7 @@
 use Rattle.std.proofs.Common.{◌≡◌, ◌≢◌, ◌≤◌, ◌<◌, ◌⊎◌, inl, inr, ℕ, ◌+◌, Bool, true, false, cond, List, [], ◌∷◌, ◌++◌, length, get_or, replicate, refl, sym, ap, ◌∙◌, subst, arith, eqb}
 use Rattle.std.proofs.lemmas.Bool.{cases_eq, lt-ltb, ltb-true}
 use Rattle.std.proofs.lemmas.List.{length-replicate}
+use Rattle.adlb_unit.specs.Links.{place_of}
 use Rattle.adlb_unit.specs.declared.actors.Actor.{Actor}
 use Rattle.adlb_unit.specs.declared.actors.Actor.TheVariants as by
 use Rattle.adlb_unit.specs.declared.configs.Config.{Config}
@@ -9,9 +10,9 @@ use Rattle.adlb_unit.specs.declared.letters.Letter.{Letter}
 use Rattle.adlb_unit.specs.declared.letters.Sending.{Sending}
 use Rattle.adlb_unit.specs.declared.names.Rank.{Rank}
 use Rattle.adlb_unit.specs.declared.names.Server.{Server}
-use Rattle.rank_client.specs.State.{State as Client}
+use Rattle.rank_client.specs.State.{ClientModel}
 use Rattle.rank_client.specs.Step.{Made}
-use Rattle.server_core.specs.State.{State as Pool, place_of}
+use Rattle.server_core.specs.State.{ServerModel}
 use Rattle.server_core.specs.Step.{Served}
 use Rattle.core_run.specs.declared.events.Event.{Event}
 use Rattle.core_law.specs.Lines.{AreConsecutive, AreStamped, IsInLine, clock_of, rank_sent, sent_by, server_sent}
@@ -135,16 +136,16 @@ rank_lines w me x shape here are line p = record { lines = lines; counted = reco
     ranks k within = by_place (cases_eq k.0 me.0)
       where
         by_place : (k.0 ≡ me.0) ⊎ (k.0 ≢ me.0) → length (client_of (after_rank w me w.links x) k).sent ≡ w.config.servers
-        by_place (inl same) = ap (λ (s : Client). length s.sent) (ap (λ n. client_of (after_rank w me w.links x) (rank_named n)) same ∙ there) ∙ p.counts
-        by_place (inr differs) = ap (λ (s : Client). length s.sent) (client_beside w me k w.links x differs) ∙ (line.counted).ranks k within
+        by_place (inl same) = ap (λ (s : ClientModel). length s.sent) (ap (λ n. client_of (after_rank w me w.links x) (rank_named n)) same ∙ there) ∙ p.counts
+        by_place (inr differs) = ap (λ (s : ClientModel). length s.sent) (client_beside w me k w.links x differs) ∙ (line.counted).ranks k within
 
     comes : (to : Actor) (ls : List Letter) → is_within w.config to ≡ true → LineIn w (by.Rank me) to ls → LineIn (after_rank w me w.links x) (by.Rank me) to (ls ++ letters_for w.config (place_of w.config to) x.sends)
     comes to ls within l =
         let now = line_comes w.config to ls x.sends (rank_sent (client_of w me)) (rank_sent x.state) (client_of w me).clock x.state.clock within p.later p.posted l in
-        subst (λ (s : Client). Line (ls ++ letters_for w.config (place_of w.config to) x.sends) (rank_sent s to) s.clock) (sym there) now
+        subst (λ (s : ClientModel). Line (ls ++ letters_for w.config (place_of w.config to) x.sends) (rank_sent s to) s.clock) (sym there) now
 
     others : (from to : Actor) (ls : List Letter) → place_of w.config from ≢ place_of w.config (by.Rank me) → LineIn w from to ls → LineIn (after_rank w me w.links x) from to ls
-    others (by.Rank k) to ls differs l = subst (λ (s : Client). Line ls (rank_sent s to) s.clock) (sym (client_beside w me k w.links x differs)) l
+    others (by.Rank k) to ls differs l = subst (λ (s : ClientModel). Line ls (rank_sent s to) s.clock) (sym (client_beside w me k w.links x differs)) l
     others (by.Server k) to ls differs l = l
 
     lines : AllLinks (LineIn (after_rank w me w.links x)) (after_rank w me w.links x)
@@ -165,17 +166,17 @@ server_lines w me x shape here are line p = record { lines = lines; counted = re
     servers k within = by_place (cases_eq k.0 me.0)
       where
         by_place : (k.0 ≡ me.0) ⊎ (k.0 ≢ me.0) → length (pool_of (after_server w me w.links x) k).sent ≡ actors w.config
-        by_place (inl same) = ap (λ (s : Pool). length s.sent) (ap (λ n. pool_of (after_server w me w.links x) (server_named n)) same ∙ there) ∙ p.counts
-        by_place (inr differs) = ap (λ (s : Pool). length s.sent) (pool_beside w me k w.links x differs) ∙ (line.counted).servers k within
+        by_place (inl same) = ap (λ (s : ServerModel). length s.sent) (ap (λ n. pool_of (after_server w me w.links x) (server_named n)) same ∙ there) ∙ p.counts
+        by_place (inr differs) = ap (λ (s : ServerModel). length s.sent) (pool_beside w me k w.links x differs) ∙ (line.counted).servers k within
 
     comes : (to : Actor) (ls : List Letter) → is_within w.config to ≡ true → LineIn w (by.Server me) to ls → LineIn (after_server w me w.links x) (by.Server me) to (ls ++ letters_for w.config (place_of w.config to) x.sends)
     comes to ls within l =
         let now = line_comes w.config to ls x.sends (server_sent w.config (pool_of w me)) (server_sent w.config x.state) (pool_of w me).clock x.state.clock within p.later p.posted l in
-        subst (λ (s : Pool). Line (ls ++ letters_for w.config (place_of w.config to) x.sends) (server_sent w.config s to) s.clock) (sym there) now
+        subst (λ (s : ServerModel). Line (ls ++ letters_for w.config (place_of w.config to) x.sends) (server_sent w.config s to) s.clock) (sym there) now
 
     others : (from to : Actor) (ls : List Letter) → place_of w.config from ≢ place_of w.config (by.Server me) → LineIn w from to ls → LineIn (after_server w me w.links x) from to ls
     others (by.Rank k) to ls differs l = l
-    others (by.Server k) to ls differs l = subst (λ (s : Pool). Line ls (server_sent w.config s to) s.clock) (sym (pool_beside w me k w.links x (λ e. differs (ap (λ n. w.config.ranks + n) e)))) l
+    others (by.Server k) to ls differs l = subst (λ (s : ServerModel). Line ls (server_sent w.config s to) s.clock) (sym (pool_beside w me k w.links x (λ e. differs (ap (λ n. w.config.ranks + n) e)))) l
 
     lines : AllLinks (LineIn (after_server w me w.links x)) (after_server w me w.links x)
     lines from to f t = posted_links (LineIn w) (LineIn (after_server w me w.links x)) w (by.Server me) x.sends shape line.lines (lt-ltb me.0 w.config.servers here) are comes others from to f t
@@ -213,15 +214,15 @@ empty_link n a b below =
 
 none_sent : (config : Config) (from to : Actor) → is_within config from ≡ true → 0 ≡ sent_by (start config) from to
 none_sent config (by.Rank from) (by.Rank to) f = refl
-none_sent config (by.Rank from) (by.Server to) f = sym (ap (λ (s : Client). get_or s.sent to.0 0) (client_at config from (ltb-true from.0 config.ranks f)) ∙ same_always config.servers to.0 0)
-none_sent config (by.Server from) to f = sym (ap (λ (s : Pool). get_or s.sent (place_of config to) 0) (pool_at config from (ltb-true from.0 config.servers f)) ∙ same_always (actors config) (place_of config to) 0)
+none_sent config (by.Rank from) (by.Server to) f = sym (ap (λ (s : ClientModel). get_or s.sent to.0 0) (client_at config from (ltb-true from.0 config.ranks f)) ∙ same_always config.servers to.0 0)
+none_sent config (by.Server from) to f = sym (ap (λ (s : ServerModel). get_or s.sent (place_of config to) 0) (pool_at config from (ltb-true from.0 config.servers f)) ∙ same_always (actors config) (place_of config to) 0)
 
 begins_in_line : (config : Config) → AreInLine (start config)
 begins_in_line config = record {
   lines = λ from to f t. subst (λ (ls : List Letter). Line ls (sent_by (start config) from to) (clock_of (start config) from)) (sym (empty_link (actors config) (place_of config from) (place_of config to) (place_below config from f))) (record { first = 0; places = none_sent config from to f; stamps = omega arith });
   counted = record {
-    ranks = λ me within. ap (λ (s : Client). length s.sent) (client_at config me within) ∙ length-replicate config.servers 0;
-    servers = λ me within. ap (λ (s : Pool). length s.sent) (pool_at config me within) ∙ length-replicate (actors config) 0;
+    ranks = λ me within. ap (λ (s : ClientModel). length s.sent) (client_at config me within) ∙ length-replicate config.servers 0;
+    servers = λ me within. ap (λ (s : ServerModel). length s.sent) (pool_at config me within) ∙ length-replicate (actors config) 0;
   };
 }
 

@@ -25,12 +25,12 @@ use Rattle.bag_ledger.specs.Steps.{with_rank}
 use Rattle.bag_ledger.proofs.Calls.{calls_split}
 use Rattle.rank_client.specs.declared.pendings.Pending.{Pending}
 use Rattle.rank_client.specs.declared.pendings.Pending.TheVariants as waits_for
-use Rattle.rank_client.specs.Agreement.{Agrees as StandsFor, IsHeld, Follows, in_call, note_coming, rank_of, said, holds}
+use Rattle.rank_client.specs.Agreement.{ClientAgrees, IsHeld, Follows, in_call, note_coming, rank_of, said, holds}
 use Rattle.rank_client.specs.Rules.{is_idle}
-use Rattle.rank_client.specs.State.{State as Client}
+use Rattle.rank_client.specs.State.{ClientModel}
 use Rattle.rank_client.specs.Step.{Made, begin, hear}
-use Rattle.server_core.specs.Agreement.{Agrees, IsAlone, StepsAreLegal}
-use Rattle.server_core.specs.State.{State as Pool}
+use Rattle.server_core.specs.Agreement.{ServerAgrees, IsAlone, StepsAreLegal}
+use Rattle.server_core.specs.State.{ServerModel}
 use Rattle.core_law.proofs.Asked.{IsOfCall}
 use Rattle.core_law.specs.Letters.{at_rank, call_letter, finishes, one, one_letter}
 use Rattle.core_law.specs.Measures.{IsBalanced, due, measure, weigh_at}
@@ -48,20 +48,20 @@ zeroth = rank_named 0
 
 -- The laws of one step of one actor.
 pub record AreLaws : Type 0 where
-  pub begun : (s : Client) (call : Call) (x : Made) (b : Bag) → begin s call ≡ Some x → StandsFor s None b → IsFalse (has_due b) → Follows s None b x
-  pub heard : (s : Client) (from : Server) (letter : Letter) (x : Made) (b : Bag) → hear s from letter ≡ Some x → StandsFor s (Some letter.message) b → IsFalse (has_due b) → Follows s (Some letter.message) b x
+  pub begun : (s : ClientModel) (call : Call) (x : Made) (b : Bag) → begin s call ≡ Some x → ClientAgrees s None b → IsFalse (has_due b) → Follows s None b x
+  pub heard : (s : ClientModel) (from : Server) (letter : Letter) (x : Made) (b : Bag) → hear s from letter ≡ Some x → ClientAgrees s (Some letter.message) b → IsFalse (has_due b) → Follows s (Some letter.message) b x
   pub served : StepsAreLegal
 
 -- the letters under way are of the call
-abbrev pub OfCall : Client → Option Message → Actor → Actor → Letter → Type 0
+abbrev pub OfCall : ClientModel → Option Message → Actor → Actor → Letter → Type 0
 OfCall c coming from to l = IsOfCall c coming from to l.message
 
 -- what holds at every moment, with the rank's client, the bag, and the answer that comes, if one does
-pub record IsLawful (w : World) (c : Client) (b : Bag) (coming : Option Message) : Type 0 where
+pub record IsLawful (w : World) (c : ClientModel) (b : Bag) (coming : Option Message) : Type 0 where
   pub is : client_of w zeroth ≡ c
   pub run : IsRun (empty_bag w.config) w.ledger b
-  pub client : StandsFor c coming b
-  pub pools : (server : Server) → server.0 < w.config.servers → Agrees b (pool_of w server)
+  pub client : ClientAgrees c coming b
+  pub pools : (server : Server) → server.0 < w.config.servers → ServerAgrees b (pool_of w server)
   pub alone : w.config.servers ≡ 1 → IsAlone b (pool_of w (server_named 0))
   pub letters : OnLinks (OfCall c coming) w
   pub said : said c c.pending coming ≡ calls w.config w.ledger zeroth
@@ -71,7 +71,7 @@ pub record IsLawful (w : World) (c : Client) (b : Bag) (coming : Option Message)
   pub fetching : IsFetching b c.pending
 
 abbrev pub Lawful : World → Type 0
-Lawful w = (c : Client) × (b : Bag) × (coming : Option Message) × IsLawful w c b coming
+Lawful w = (c : ClientModel) × (b : Bag) × (coming : Option Message) × IsLawful w c b coming
 
 -- What is owed for one rank.
 
@@ -93,7 +93,7 @@ pub no_sum : {X : Type 0} (xs : List X) → weigh_at (λ i x. 0) xs ≡ 0
 no_sum [] = refl
 no_sum (x ∷ xs) = let later = no_sum xs in omega arith
 
-pub rank_owed : (w : World) (rank : Rank) (f : Client → ℕ) → rank.0 < length w.ranks → weigh_at (at_rank rank f) w.ranks ≡ f (client_of w rank)
+pub rank_owed : (w : World) (rank : Rank) (f : ClientModel → ℕ) → rank.0 < length w.ranks → weigh_at (at_rank rank f) w.ranks ≡ f (client_of w rank)
 rank_owed w rank f inside =
     weighs_one (λ i. eqb i rank.0) f w.ranks rank.0 _ inside (eq-eqb rank.0 rank.0 refl) (λ i differs. false_from_ne_true (eqb i rank.0) (λ e. differs (eqb-true i rank.0 e)))
 
@@ -115,7 +115,7 @@ finishes_are w rank server inside even =
     omega arith
 
 -- where no letter of the rank is under way, each is what it should be
-pub weighs_nothing : (c : Client) (coming : Option Message) (from to : Actor) (m : Message) → c.me ≡ zeroth → call_letter zeroth from to m ≡ 0 → IsOfCall c coming from to m
+pub weighs_nothing : (c : ClientModel) (coming : Option Message) (from to : Actor) (m : Message) → c.me ≡ zeroth → call_letter zeroth from to m ≡ 0 → IsOfCall c coming from to m
 weighs_nothing c coming (by.Rank from) (by.Server to) m me none =
     λ of request.
     let who : from.0 ≡ 0 = ap (λ (r : Rank). r.0) (of ∙ me) in
@@ -129,13 +129,13 @@ weighs_nothing c coming (by.Server from) (by.Rank to) m me none =
 weighs_nothing c coming (by.Rank from) (by.Rank to) m me none = tt
 weighs_nothing c coming (by.Server from) (by.Server to) m me none = tt
 
-pub none_under_way : (c : Client) (coming : Option Message) (w : World) → IsShaped w → c.me ≡ zeroth → measure (one_letter zeroth) w ≡ 0 → OnLinks (OfCall c coming) w
+pub none_under_way : (c : ClientModel) (coming : Option Message) (w : World) → IsShaped w → c.me ≡ zeroth → measure (one_letter zeroth) w ≡ 0 → OnLinks (OfCall c coming) w
 none_under_way c coming w shape me none =
     weaker (λ from to l. call_letter zeroth from to l.message ≡ 0) (OfCall c coming) w (λ from to l e. weighs_nothing c coming from to l.message me e) (zero_on (one_letter zeroth) w shape none)
 
 -- The entries of a rank leave the servers' agreement.
 
-rank_alone : (b : Bag) (s : Pool) (from : Rank) (f : RankState → RankState) → IsAlone b s → IsAlone (with_rank from f b) s
+rank_alone : (b : Bag) (s : ServerModel) (from : Rank) (f : RankState → RankState) → IsAlone b s → IsAlone (with_rank from f b) s
 rank_alone b s from f alone = record {
   one_server = alone.one_server;
   one_rank = length-change_at f from.0 b.ranks ∙ alone.one_rank;
@@ -147,8 +147,8 @@ rank_alone b s from f alone = record {
 pub record LeavesServers (me : Rank) (b d : Bag) : Type 0 where
   pub units : d.units ≡ b.units
   pub room : d.promises ≡ b.promises
-  pub agrees : (t : Pool) → Agrees b t → IsRunner t.config t.me t.ranks me → Agrees d t
-  pub alone : (t : Pool) → IsAlone b t → IsAlone d t
+  pub agrees : (t : ServerModel) → ServerAgrees b t → IsRunner t.config t.me t.ranks me → ServerAgrees d t
+  pub alone : (t : ServerModel) → IsAlone b t → IsAlone d t
 
 pub run_leaves : (me : Rank) (es : List Entry) (b d : Bag) → Each (ChangesRank me) es → IsRun b es d → LeavesServers me b d
 run_leaves me [] b d each run = subst (λ (n : Bag). LeavesServers me b n) run (record { units = refl; room = refl; agrees = λ t a r. a; alone = λ t a. a })
@@ -159,17 +159,17 @@ run_leaves me (e ∷ es) b d each run =
     record {
       units = later.units ∙ ap (λ (n : Bag). n.units) is;
       room = later.room ∙ ap (λ (n : Bag). n.promises) is;
-      agrees = λ t a r. later.agrees t (subst (λ (n : Bag). Agrees n t) (sym is) (rank_agrees b t me f.0 a r)) r;
+      agrees = λ t a r. later.agrees t (subst (λ (n : Bag). ServerAgrees n t) (sym is) (rank_agrees b t me f.0 a r)) r;
       alone = λ t a. later.alone t (subst (λ (n : Bag). IsAlone n t) (sym is) (rank_alone b t me f.0 a));
     }
 
 -- An idle rank.
 
-idle_rank : (c : Client) (coming : Option Message) (f : Bool) → c.pending ≡ waits_for.Nothing → rank_of c f coming ≡ rank_of c f None
+idle_rank : (c : ClientModel) (coming : Option Message) (f : Bool) → c.pending ≡ waits_for.Nothing → rank_of c f coming ≡ rank_of c f None
 idle_rank c coming true idle = refl
 idle_rank c coming false idle = ap (λ p. in_call c p coming) idle ∙ sym (ap (λ p. in_call c p None) idle)
 
-pub idle_stands : (c : Client) (coming : Option Message) (b : Bag) → c.pending ≡ waits_for.Nothing → StandsFor c coming b → StandsFor c None b
+pub idle_stands : (c : ClientModel) (coming : Option Message) (b : Bag) → c.pending ≡ waits_for.Nothing → ClientAgrees c coming b → ClientAgrees c None b
 idle_stands c coming b idle a =
     let same = idle_rank c coming c.finished idle in
     let notes : note_coming c.pending coming ≡ note_coming c.pending None = ap (λ p. note_coming p coming) idle ∙ sym (ap (λ p. note_coming p None) idle) in
@@ -180,7 +180,7 @@ idle_stands c coming b idle a =
       held = rw notes at a.held;
     }
 
-pub idle_said : (c : Client) (coming : Option Message) → c.pending ≡ waits_for.Nothing → said c c.pending coming ≡ c.transcript
+pub idle_said : (c : ClientModel) (coming : Option Message) → c.pending ≡ waits_for.Nothing → said c c.pending coming ≡ c.transcript
 idle_said c None idle = refl
 idle_said c (Some m) idle = ap (λ p. said c p (Some m)) idle
 
@@ -192,7 +192,7 @@ offered_few (waits_for.Put unit first tried) (Some _) = omega arith
 offered_few (waits_for.Reserve request types) o = omega arith
 offered_few (waits_for.Fetch request note) o = omega arith
 
-pub none_due : (w : World) (c : Client) (b : Bag) (coming : Option Message) → IsLawful w c b coming → has_due b ≡ false
+pub none_due : (w : World) (c : ClientModel) (b : Bag) (coming : Option Message) → IsLawful w c b coming → has_due b ≡ false
 none_due w c b coming l = let some : 0 < w.config.servers = w.config.servers_within.0 in (l.pools (server_named 0) some).settled
 
 -- the calls grow with the ledger
@@ -200,7 +200,7 @@ pub calls_more : (config : Config) (ledger : List Entry) (b : Bag) (es : List En
 calls_more config ledger b es run = calls_split (empty_bag config) b ledger es zeroth run
 
 -- a unit that is fetched is held
-pub fetching_held : (s : Client) (p : Pending) (b : Bag) → All (IsHeld b s.me) (s.handles ++ note_coming p None) → IsFetching b p
+pub fetching_held : (s : ClientModel) (p : Pending) (b : Bag) → All (IsHeld b s.me) (s.handles ++ note_coming p None) → IsFetching b p
 fetching_held s waits_for.Nothing b held = tt
 fetching_held s (waits_for.Put unit first tried) b held = tt
 fetching_held s (waits_for.Reserve request types) b held = tt
@@ -209,7 +209,7 @@ fetching_held s (waits_for.Fetch request note) b held =
     (here.0, here.1.0, ap is_free here.1.1)
 
 -- what an answer grants or brings is not free
-pub last_gone : (s : Client) (p : Pending) (m : Message) (b : Bag) (id : UnitId) → All (IsHeld b s.me) (s.handles ++ note_coming p (Some m)) → IsFetching b p → IsLast p m id → IsGone b id
+pub last_gone : (s : ClientModel) (p : Pending) (m : Message) (b : Bag) (id : UnitId) → All (IsHeld b s.me) (s.handles ++ note_coming p (Some m)) → IsFetching b p → IsLast p m id → IsGone b id
 last_gone s (waits_for.Reserve request types) (tells.Grant to note) b id held fetching last =
     let here = All-contains (IsHeld b s.me) (s.handles ++ note ∷ []) note held (Contains-push s.handles note) in
     subst (λ (i : UnitId). IsGone b i) (same_unit_is note.id id last) (here.0, here.1.0, ap is_free here.1.1)
@@ -217,7 +217,7 @@ last_gone s (waits_for.Fetch request note) (tells.Bytes to body) b id held fetch
 last_gone s _ _ b id held fetching last = absurd last
 
 -- What a rank sends is of its call.
-pub sent_of_call : (s : Client) (x : Made) → x.state.me ≡ s.me → Then s x → Each (λ (y : Sending). OfCall x.state None (by.Rank s.me) y.to y.letter) x.sends
+pub sent_of_call : (s : ClientModel) (x : Made) → x.state.me ≡ s.me → Then s x → Each (λ (y : Sending). OfCall x.state None (by.Rank s.me) y.to y.letter) x.sends
 sent_of_call s x me (It_rests h) = rw h.sends tt
 sent_of_call s x me (It_asks h) = rw h.sends ((λ of request. (refl, h.asked)), tt)
 sent_of_call s x me (It_leaves h) = each_weaker (IsFarewell s.config) (λ (y : Sending). OfCall x.state None (by.Rank s.me) y.to y.letter) (λ y f. rw (f.is, f.message) (λ of request. absurd (cc request))) x.sends h.each

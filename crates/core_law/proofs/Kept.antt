@@ -8,9 +8,9 @@ use Rattle.adlb_unit.specs.declared.letters.Letter.{Letter}
 use Rattle.adlb_unit.specs.declared.names.Rank.{Rank}
 use Rattle.adlb_unit.specs.declared.names.Server.{Server}
 use Rattle.bag_ledger.specs.declared.entries.Call.{Call}
-use Rattle.rank_client.specs.State.{State as Client}
+use Rattle.rank_client.specs.State.{ClientModel}
 use Rattle.rank_client.specs.Step.{Made, begin, hear}
-use Rattle.server_core.specs.State.{State as Pool}
+use Rattle.server_core.specs.State.{ServerModel}
 use Rattle.server_core.specs.Step.{Served, serve}
 use Rattle.core_run.specs.World.{World, client_of, is_within, pool_of, taken}
 use Rattle.core_law.specs.Own.{AreOwn, IsClient, IsPool}
@@ -32,40 +32,40 @@ on_some P None x h e = absurd (cc)
 on_some P (Some y) x h e = let same : y ≡ x = cc in rw (← same) h
 
 -- what the step of a server may use, and that of a rank
-pub record Arrives (config : Config) (me : Server) (s : Pool) (from : Actor) : Type 0 where
+pub record Arrives (config : Config) (me : Server) (s : ServerModel) (from : Actor) : Type 0 where
   pub here : me.0 < config.servers
   pub there : is_within config from ≡ true
   pub own : IsPool config me s
 
-pub record Is (config : Config) (me : Rank) (s : Client) : Type 0 where
+pub record Is (config : Config) (me : Rank) (s : ClientModel) : Type 0 where
   pub here : me.0 < config.ranks
   pub own : IsClient config me s
 
 -- what a step of one actor keeps, with what is sent and taken
-abbrev pub ServerKeeps : Weights → Server → Pool → Actor → Letter → Served → Type 0
+abbrev pub ServerKeeps : Weights → Server → ServerModel → Actor → Letter → Served → Type 0
 ServerKeeps m me s from letter x =
     m.letter from (by.Server me) letter.message + m.server me.0 s + m.server_due me.0 x.state
     ≡ sends_weight m (by.Server me) x.sends + m.server me.0 x.state + m.server_due me.0 s
 
-abbrev pub RankKeeps : Weights → Rank → Client → Server → Letter → Made → Type 0
+abbrev pub RankKeeps : Weights → Rank → ClientModel → Server → Letter → Made → Type 0
 RankKeeps m me s from letter x =
     m.letter (by.Server from) (by.Rank me) letter.message + m.rank me.0 s + m.rank_due me.0 x.state
     ≡ sends_weight m (by.Rank me) x.sends + m.rank me.0 x.state + m.rank_due me.0 s
 
-abbrev pub BeginKeeps : Weights → Rank → Client → Made → Type 0
+abbrev pub BeginKeeps : Weights → Rank → ClientModel → Made → Type 0
 BeginKeeps m me s x = m.rank me.0 s + m.rank_due me.0 x.state ≡ sends_weight m (by.Rank me) x.sends + m.rank me.0 x.state + m.rank_due me.0 s
 
 -- each step of one actor keeps the two sides equal
 pub record IsLaw (config : Config) (m : Weights) : Type 0 where
-  pub serve : (me : Server) (s : Pool) (from : Actor) (letter : Letter) → Arrives config me s from → OnSome (serve s from letter) (ServerKeeps m me s from letter)
-  pub hear : (me : Rank) (s : Client) (from : Server) (letter : Letter) → Is config me s → OnSome (hear s from letter) (RankKeeps m me s from letter)
-  pub begin : (me : Rank) (s : Client) (call : Call) → Is config me s → OnSome (begin s call) (BeginKeeps m me s)
+  pub serve : (me : Server) (s : ServerModel) (from : Actor) (letter : Letter) → Arrives config me s from → OnSome (serve s from letter) (ServerKeeps m me s from letter)
+  pub hear : (me : Rank) (s : ClientModel) (from : Server) (letter : Letter) → Is config me s → OnSome (hear s from letter) (RankKeeps m me s from letter)
+  pub begin : (me : Rank) (s : ClientModel) (call : Call) → Is config me s → OnSome (begin s call) (BeginKeeps m me s)
 
 -- the letters of each step go to actors of the run
 pub record AreSent (config : Config) : Type 0 where
-  pub serve : (me : Server) (s : Pool) (from : Actor) (letter : Letter) → Arrives config me s from → OnSome (serve s from letter) (λ x. AreWithin config x.sends)
-  pub hear : (me : Rank) (s : Client) (from : Server) (letter : Letter) → Is config me s → OnSome (hear s from letter) (λ x. AreWithin config x.sends)
-  pub begin : (me : Rank) (s : Client) (call : Call) → Is config me s → OnSome (begin s call) (λ x. AreWithin config x.sends)
+  pub serve : (me : Server) (s : ServerModel) (from : Actor) (letter : Letter) → Arrives config me s from → OnSome (serve s from letter) (λ x. AreWithin config x.sends)
+  pub hear : (me : Rank) (s : ClientModel) (from : Server) (letter : Letter) → Is config me s → OnSome (hear s from letter) (λ x. AreWithin config x.sends)
+  pub begin : (me : Rank) (s : ClientModel) (call : Call) → Is config me s → OnSome (begin s call) (λ x. AreWithin config x.sends)
 
 pub request_within : (w next : World) (from : Actor) (me : Server) (letter : Letter) (rest : List Letter) (x : Served) → AreSent w.config → AreOwn w → Serves w from me letter rest x next → AreWithin w.config x.sends
 request_within w next from me letter rest x sent own does =

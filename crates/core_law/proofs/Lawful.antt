@@ -30,9 +30,9 @@ use Rattle.server_core.specs.Step.{next_stamp, ticked}
 use Rattle.rank_client.specs.declared.pendings.Pending.{Pending}
 use Rattle.rank_client.specs.declared.pendings.Pending.TheVariants as waits_for
 use Rattle.rank_client.specs.Agreement.{IsHeld, fetch_coming, put_coming, reserve_coming, running, said}
-use Rattle.rank_client.specs.State.{State as Client}
-use Rattle.server_core.specs.Agreement.{Agrees, StartAgrees}
-use Rattle.server_core.specs.State.{State as Pool}
+use Rattle.rank_client.specs.State.{ClientModel}
+use Rattle.server_core.specs.Agreement.{ServerAgrees, StartAgrees}
+use Rattle.server_core.specs.State.{ServerModel}
 use Rattle.server_core.specs.Step.{Served}
 use Rattle.core_law.proofs.Asked.{IsOfCall}
 use Rattle.core_law.specs.Letters.{finishes, is_request, one_letter}
@@ -54,23 +54,23 @@ use Rattle.core_law.proofs.Joint.{AreLaws, IsLawful, Lawful, OfCall, idle_said, 
 pub only_rank : (w : World) (rank : Rank) → w.config.ranks ≡ 1 → rank.0 < w.config.ranks → rank ≡ zeroth
 only_rank w rank only within = let none : rank.0 ≡ 0 = omega arith in ap rank_named none
 
-handled_at : (w next : World) (c : Client) (b : Bag) (coming : Option Message) (me : Server) (letter : Letter) (rest : List Letter) (x : Served) → AreLaws → IsWell w → w.config.ranks ≡ 1 → IsLawful w c b coming → Serves w (by.Rank zeroth) me letter rest x next → Lawful next
+handled_at : (w next : World) (c : ClientModel) (b : Bag) (coming : Option Message) (me : Server) (letter : Letter) (rest : List Letter) (x : Served) → AreLaws → IsWell w → w.config.ranks ≡ 1 → IsLawful w c b coming → Serves w (by.Rank zeroth) me letter rest x next → Lawful next
 handled_at w next c b coming me letter rest x laws well only l does = by_shape shape
   where
-    s : Pool
+    s : ServerModel
     s = pool_of w me
 
     v : Serving (pool_of w me) (by.Rank zeroth) letter x
     v = serves (pool_of w me) (by.Rank zeroth) letter x does.does
 
-    t : Pool
+    t : ServerModel
     t = ticked (pool_of w me) (next_stamp (pool_of w me) letter)
 
     shape : Responds (ticked (pool_of w me) (next_stamp (pool_of w me) letter)) (serves (pool_of w me) (by.Rank zeroth) letter x does.does).rank letter.message (serves (pool_of w me) (by.Rank zeroth) letter x does.does).response
     shape = on_some (Responds t v.rank letter.message) (respond t v.rank letter.message) v.response (responds t v.rank letter.message) v.is
 
     own : IsClient w.config zeroth c
-    own = subst (λ (k : Client). IsClient w.config zeroth k) l.is (well.own.ranks zeroth (omega arith))
+    own = subst (λ (k : ClientModel). IsClient w.config zeroth k) l.is (well.own.ranks zeroth (omega arith))
 
     of_call : IsOfCall c coming (by.Rank zeroth) (by.Server me) letter.message
     of_call = at_front (OfCall c coming) w (by.Rank zeroth) (by.Server me) letter rest l.letters does.there (lt-ltb me.0 w.config.servers does.here) does.front
@@ -163,7 +163,7 @@ ledger_is_legal laws start_agrees config events w only run =
     let same : w.config ≡ config = run_config (start config) w events run in
     (l.1, subst (λ (k : Config). IsRun (empty_bag k) w.ledger l.1) same l.3.run)
 
-pub servers_agree : AreLaws → StartAgrees → (config : Config) (events : List Event) (w : World) → config.ranks ≡ 1 → Runs (start config) events w → (b : Bag) × IsRun (empty_bag config) w.ledger b × ((server : Server) → server.0 < config.servers → Agrees b (pool_of w server))
+pub servers_agree : AreLaws → StartAgrees → (config : Config) (events : List Event) (w : World) → config.ranks ≡ 1 → Runs (start config) events w → (b : Bag) × IsRun (empty_bag config) w.ledger b × ((server : Server) → server.0 < config.servers → ServerAgrees b (pool_of w server))
 servers_agree laws start_agrees config events w only run =
     let l = every_run_lawful config events w laws start_agrees only run in
     let same : w.config ≡ config = run_config (start config) w events run in
@@ -175,7 +175,7 @@ plus_behind : (t : List Said) (call : Call) (o : Option Answer) → IsBehind t (
 plus_behind t call None = ([], sym (append-nil t), omega arith)
 plus_behind t call (Some answer) = (record { call = call; answer = answer } ∷ [], refl, omega arith)
 
-said_behind : (c : Client) (p : Pending) (o : Option Message) → IsBehind c.transcript (said c p o)
+said_behind : (c : ClientModel) (p : Pending) (o : Option Message) → IsBehind c.transcript (said c p o)
 said_behind c p None = ([], sym (append-nil c.transcript), omega arith)
 said_behind c waits_for.Nothing (Some m) = ([], sym (append-nil c.transcript), omega arith)
 said_behind c (waits_for.Put unit first tried) (Some m) = plus_behind c.transcript (call_of unit) (put_coming m)
@@ -188,9 +188,9 @@ ledger_tells laws start_agrees config events w rank only within run =
     let first : rank ≡ zeroth = let none : rank.0 ≡ 0 = omega arith in ap rank_named none in
     subst (λ (r : Rank). Tells w r) (sym first) (tells_of w l.0 l.1 l.2 l.3)
   where
-    tells_of : (w : World) (c : Client) (b : Bag) (coming : Option Message) → IsLawful w c b coming → Tells w zeroth
+    tells_of : (w : World) (c : ClientModel) (b : Bag) (coming : Option Message) → IsLawful w c b coming → Tells w zeroth
     tells_of w c b coming l =
-        let P : Client → Type 0 = λ s. IsBehind s.transcript (calls w.config w.ledger zeroth) × (s.pending ≡ waits_for.Nothing → calls w.config w.ledger zeroth ≡ s.transcript) in
+        let P : ClientModel → Type 0 = λ s. IsBehind s.transcript (calls w.config w.ledger zeroth) × (s.pending ≡ waits_for.Nothing → calls w.config w.ledger zeroth ≡ s.transcript) in
         subst P (sym l.is) (subst (λ (all : List Said). IsBehind c.transcript all) l.said (said_behind c c.pending coming), λ idle. sym l.said ∙ idle_said c coming idle)
 
 -- A run as a relation and as a function.

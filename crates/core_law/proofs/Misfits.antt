@@ -6,12 +6,12 @@ use Rattle.adlb_unit.specs.declared.messages.Message.{Message}
 use Rattle.adlb_unit.specs.declared.names.Rank.{Rank}
 use Rattle.adlb_unit.specs.Kinds.{is_to_rank}
 use Rattle.adlb_unit.specs.declared.names.Server.{Server}
-use Rattle.rank_client.specs.State.{State as Client}
+use Rattle.rank_client.specs.State.{ClientModel}
 use Rattle.rank_client.specs.Step.{Made, begin, hear}
 use Rattle.server_core.specs.declared.standings.Standing.{Standing}
 use Rattle.server_core.specs.declared.standings.Standing.TheVariants as does
-use Rattle.server_core.specs.Rules.{Response}
-use Rattle.server_core.specs.State.{State as Pool}
+use Rattle.server_core.specs.Rules.{ServerResponse}
+use Rattle.server_core.specs.State.{ServerModel}
 use Rattle.server_core.specs.Step.{told, waiting_from}
 use Rattle.core_law.specs.Letters.{kinds, misfit}
 use Rattle.core_law.specs.Measures.{weigh}
@@ -21,7 +21,7 @@ use Rattle.core_law.proofs.RankShapes.{Began, Heard, It_asks, It_leaves, It_rest
 use Rattle.core_law.proofs.ServerLaws.{pool_law}
 use Rattle.core_law.proofs.ServerShapes.{It_answers, It_finishes, It_parks, Responds}
 
-rule : (config : Config) (me : Server) (s : Pool) (from : Rank) (m : Message) (z : Response) → Arrives config me s (by.Rank from) → Responds s from m z
+rule : (config : Config) (me : Server) (s : ServerModel) (from : Rank) (m : Message) (z : ServerResponse) → Arrives config me s (by.Rank from) → Responds s from m z
     → misfit (by.Rank from) (by.Server me) m + 0 ≡ weigh (λ y. misfit (by.Server me) y.to y.message) z.says + 0
 rule config me s from m z ar (It_answers h) = rw (h.request, h.says, h.kind) refl
 rule config me s from m z ar (It_parks h) = rw (h.is, h.says) refl
@@ -33,7 +33,7 @@ all_told me n (does.Running ∷ standings) = all_told me (n + 1) standings
 all_told me n (does.Parked request types ∷ standings) = let later = all_told me (n + 1) standings in omega arith
 all_told me n (does.Finished ∷ standings) = all_told me (n + 1) standings
 
-heard : (config : Config) (me : Rank) (s : Client) (from : Server) (m : Message) (stamp place : ℕ) (x : Made) → is_to_rank m ≡ true → Heard config me s m x → RankKeeps kinds me s from (record { stamp = stamp; place = place; message = m }) x
+heard : (config : Config) (me : Rank) (s : ClientModel) (from : Server) (m : Message) (stamp place : ℕ) (x : Made) → is_to_rank m ≡ true → Heard config me s m x → RankKeeps kinds me s from (record { stamp = stamp; place = place; message = m }) x
 heard config me s from m stamp place x kind h = by_after h.after
   where
     by_after : Then s x → RankKeeps kinds me s from (record { stamp = stamp; place = place; message = m }) x
@@ -41,7 +41,7 @@ heard config me s from m stamp place x kind h = by_after h.after
     by_after (It_asks a) = rw (a.sends, kind, asked_request x.state x.state.pending a.to a.letter.message a.asked) refl
     by_after (It_leaves l) = absurd (cc (l.finished, h.stays))
 
-begun : (config : Config) (me : Rank) (s : Client) (x : Made) → Began config me s x → BeginKeeps kinds me s x
+begun : (config : Config) (me : Rank) (s : ClientModel) (x : Made) → Began config me s x → BeginKeeps kinds me s x
 begun config me s x b = by_after b.after
   where
     by_after : Then s x → BeginKeeps kinds me s x

@@ -20,8 +20,8 @@ use Rattle.bag_ledger.specs.Runs.{calls, calls_from}
 use Rattle.bag_ledger.proofs.Legal.{run_joined}
 use Rattle.rank_client.specs.declared.pendings.Pending.{Pending}
 use Rattle.rank_client.specs.declared.pendings.Pending.TheVariants as waits_for
-use Rattle.rank_client.specs.Agreement.{Agrees as StandsFor, Follows, in_call, running, said, holds, note_coming}
-use Rattle.rank_client.specs.State.{State as Client}
+use Rattle.rank_client.specs.Agreement.{ClientAgrees, Follows, in_call, running, said, holds, note_coming}
+use Rattle.rank_client.specs.State.{ClientModel}
 use Rattle.rank_client.specs.Step.{Made, begin, hear}
 use Rattle.core_law.specs.Letters.{one_letter}
 use Rattle.core_law.specs.Measures.{measure}
@@ -42,19 +42,19 @@ use Rattle.core_law.proofs.Joint.{AreLaws, IsLawful, Lawful, LeavesServers, OfCa
 notes_held : (notes more held : List UnitNote) → All (Contains notes) held → All (Contains (notes ++ more)) held
 notes_held notes more held all = All-weaker (Contains notes) (Contains (notes ++ more)) (λ n there. Contains-append_left notes more n there) held all
 
-pub call_at : (w next : World) (c : Client) (b : Bag) (coming : Option Message) (call : Call) (x : Made) → AreLaws → IsWell w → w.config.ranks ≡ 1 → IsLawful w c b coming → Begins w zeroth call x next → Lawful next
+pub call_at : (w next : World) (c : ClientModel) (b : Bag) (coming : Option Message) (call : Call) (x : Made) → AreLaws → IsWell w → w.config.ranks ≡ 1 → IsLawful w c b coming → Begins w zeroth call x next → Lawful next
 call_at w next c b coming call x laws well only l does = subst Lawful (sym does.is) (x.state, f.0, None, now)
   where
     does_call : begin c call ≡ Some x
     does_call = ap (λ s. begin s call) (sym l.is) ∙ does.does
 
     own : IsClient w.config zeroth c
-    own = subst (λ (s : Client). IsClient w.config zeroth s) l.is (well.own.ranks zeroth does.here)
+    own = subst (λ (s : ClientModel). IsClient w.config zeroth s) l.is (well.own.ranks zeroth does.here)
 
     shape : Began w.config zeroth c x
     shape = on_some (Began w.config zeroth c) (begin c call) x (begins w.config zeroth c call own) does_call
 
-    stands : StandsFor c None b
+    stands : ClientAgrees c None b
     stands = idle_stands c coming b shape.free l.client
 
     f : Follows c None b x
@@ -95,7 +95,7 @@ call_at w next c b coming call x laws well only l does = subst Lawful (sym does.
 
 -- A letter is heard.
 
-answered_busy : (c : Client) (p : Pending) (m : Message) → is_asking_or_finished (in_call c p (Some m)).status ≡ false
+answered_busy : (c : ClientModel) (p : Pending) (m : Message) → is_asking_or_finished (in_call c p (Some m)).status ≡ false
 answered_busy c waits_for.Nothing m = refl
 answered_busy c (waits_for.Put unit first tried) (tells.Full request charge) = refl
 answered_busy c (waits_for.Put unit first tried) (tells.Ended request end) = refl
@@ -104,7 +104,7 @@ answered_busy c (waits_for.Reserve request types) (tells.Ended to end) = refl
 answered_busy c (waits_for.Reserve request types) _ = refl
 answered_busy c (waits_for.Fetch request note) m = refl
 
-pub answer_at : (w next : World) (c : Client) (b : Bag) (coming : Option Message) (from : Server) (letter : Letter) (rest : List Letter) (x : Made) → AreLaws → IsWell w → w.config.ranks ≡ 1 → IsLawful w c b coming → Hears w from zeroth letter rest x next → Lawful next
+pub answer_at : (w next : World) (c : ClientModel) (b : Bag) (coming : Option Message) (from : Server) (letter : Letter) (rest : List Letter) (x : Made) → AreLaws → IsWell w → w.config.ranks ≡ 1 → IsLawful w c b coming → Hears w from zeroth letter rest x next → Lawful next
 answer_at w next c b coming from letter rest x laws well only l does = subst Lawful (sym does.is) (x.state, f.0, None, now)
   where
     m : Message
@@ -114,7 +114,7 @@ answer_at w next c b coming from letter rest x laws well only l does = subst Law
     does_hear = ap (λ s. hear s from letter) (sym l.is) ∙ does.does
 
     own : IsClient w.config zeroth c
-    own = subst (λ (s : Client). IsClient w.config zeroth s) l.is (well.own.ranks zeroth does.here)
+    own = subst (λ (s : ClientModel). IsClient w.config zeroth s) l.is (well.own.ranks zeroth does.here)
 
     shape : Heard w.config zeroth c letter.message x
     shape = on_some (Heard w.config zeroth c letter.message) (hear c from letter) x (hears w.config zeroth c from letter own) does_hear
@@ -128,8 +128,8 @@ answer_at w next c b coming from letter rest x laws well only l does = subst Law
     comes : coming ≡ Some letter.message
     comes = (at_front (OfCall c coming) w (by.Server from) (by.Rank zeroth) letter rest l.letters from_server to_rank does.front (sym own.me)).0
 
-    stands : StandsFor c (Some letter.message) b
-    stands = subst (λ (o : Option Message). StandsFor c o b) comes l.client
+    stands : ClientAgrees c (Some letter.message) b
+    stands = subst (λ (o : Option Message). ClientAgrees c o b) comes l.client
 
     f : Follows c (Some letter.message) b x
     f = laws.heard c from letter x b does_hear stands (none_due w c b coming l)

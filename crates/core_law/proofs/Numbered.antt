@@ -6,12 +6,12 @@ use Rattle.adlb_unit.specs.declared.configs.Config.{Config}
 use Rattle.adlb_unit.specs.declared.messages.Message.{Message}
 use Rattle.adlb_unit.specs.declared.names.Rank.{Rank}
 use Rattle.adlb_unit.specs.declared.names.Server.{Server}
-use Rattle.rank_client.specs.State.{State as Client}
+use Rattle.rank_client.specs.State.{ClientModel}
 use Rattle.rank_client.specs.Step.{Made, begin, hear}
 use Rattle.server_core.specs.declared.standings.Standing.{Standing}
 use Rattle.server_core.specs.declared.standings.Standing.TheVariants as does
-use Rattle.server_core.specs.Rules.{Response, is_running}
-use Rattle.server_core.specs.State.{State as Pool, is_home, standing}
+use Rattle.server_core.specs.Rules.{ServerResponse, is_running}
+use Rattle.server_core.specs.State.{ServerModel, is_home, standing}
 use Rattle.server_core.specs.Step.{resumed, told, waiting_from}
 use Rattle.core_law.specs.Letters.{numbered, numbered_as, numbered_letter, numbered_parked, one, request_of}
 use Rattle.core_law.specs.Measures.{weigh, weigh_at}
@@ -50,7 +50,7 @@ all_told rank next me n f (st ∷ standings) is = by_standing st (is zero st) (a
         omega arith
     by_standing does.Finished here later = omega arith
 
-rule : (config : Config) (rank : Rank) (next : ℕ) (me : Server) (s : Pool) (from : Rank) (m : Message) (z : Response) → Arrives config me s (by.Rank from) → Responds s from m z
+rule : (config : Config) (rank : Rank) (next : ℕ) (me : Server) (s : ServerModel) (from : Rank) (m : Message) (z : ServerResponse) → Arrives config me s (by.Rank from) → Responds s from m z
     → numbered_letter rank next (by.Rank from) (by.Server me) m + numbered_parked rank next me.0 s ≡ weigh (λ y. numbered_letter rank next (by.Server me) y.to y.message) z.says + numbered_parked rank next me.0 z.state
 rule config rank next me s from m z ar (It_answers h) = rw (h.request, h.says, h.ranks, h.number) (omega arith)
 rule config rank next me s from m z ar (It_parks h) =
@@ -70,7 +70,7 @@ rule config rank next me s from m z ar (It_finishes h) = rw (h.is, h.says, h.ran
         omega arith
     by_home false is = refl
 
-telling : (config : Config) (rank : Rank) (next : ℕ) (me : Server) (s : Pool) → IsPool config me s
+telling : (config : Config) (rank : Rank) (next : ℕ) (me : Server) (s : ServerModel) → IsPool config me s
     → numbered_parked rank next me.0 s ≡ weigh (λ y. numbered_letter rank next (by.Server me) y.to y.message) (map told (waiting_from 0 s.ranks)) + numbered_parked rank next me.0 (exhausted s)
 telling config rank next me s own =
     let now = all_told rank next me 0 (numbered_as rank next) s.ranks (λ i st. let e : i ≡ 0 + i = omega arith in ap (λ k. numbered_as rank next k st) e) in
@@ -94,7 +94,7 @@ at_first true true = refl
 at_first true false = refl
 at_first false n = refl
 
-heard : (config : Config) (rank me : Rank) (next : ℕ) (s : Client) (from : Server) (m : Message) (stamp place : ℕ) (x : Made) → Heard config me s m x → RankKeeps (numbered rank next) me s from (record { stamp = stamp; place = place; message = m }) x
+heard : (config : Config) (rank me : Rank) (next : ℕ) (s : ClientModel) (from : Server) (m : Message) (stamp place : ℕ) (x : Made) → Heard config me s m x → RankKeeps (numbered rank next) me s from (record { stamp = stamp; place = place; message = m }) x
 heard config rank me next s from m stamp place x h = by_after h.after
   where
     by_after : Then s x → RankKeeps (numbered rank next) me s from (record { stamp = stamp; place = place; message = m }) x
@@ -104,7 +104,7 @@ heard config rank me next s from m stamp place x h = by_after h.after
         rw (h.busy, a.sends, asked_request x.state x.state.pending a.to a.letter.message a.asked, asked_busy x.state x.state.pending a.to a.letter.message a.asked, h.number, same, h.next) (at_next (eqb me.0 rank.0) (eqb s.next next))
     by_after (It_leaves l) = absurd (cc (l.finished, h.stays))
 
-begun : (config : Config) (rank me : Rank) (next : ℕ) (s : Client) (x : Made) → Began config me s x → BeginKeeps (numbered rank next) me s x
+begun : (config : Config) (rank me : Rank) (next : ℕ) (s : ClientModel) (x : Made) → Began config me s x → BeginKeeps (numbered rank next) me s x
 begun config rank me next s x b = by_after b.after
   where
     by_after : Then s x → BeginKeeps (numbered rank next) me s x

@@ -10,12 +10,12 @@ use Rattle.adlb_unit.specs.declared.messages.Message.TheVariants as tells
 use Rattle.adlb_unit.specs.declared.names.Rank.{Rank}
 use Rattle.adlb_unit.specs.declared.names.Server.{Server}
 use Rattle.rank_client.specs.Rules.{farewell}
-use Rattle.rank_client.specs.State.{State as Client}
+use Rattle.rank_client.specs.State.{ClientModel}
 use Rattle.rank_client.specs.Step.{Made, begin, hear}
 use Rattle.server_core.specs.declared.standings.Standing.{Standing}
 use Rattle.server_core.specs.declared.standings.Standing.TheVariants as does
-use Rattle.server_core.specs.Rules.{Response, is_running}
-use Rattle.server_core.specs.State.{State as Pool, is_home, standing}
+use Rattle.server_core.specs.Rules.{ServerResponse, is_running}
+use Rattle.server_core.specs.State.{ServerModel, is_home, standing}
 use Rattle.server_core.specs.Step.{resumed, told, waiting_from}
 use Rattle.core_law.specs.Letters.{call_letter, call_parked, one, one_letter, parked_as}
 use Rattle.core_law.specs.Measures.{weigh, weigh_at}
@@ -60,7 +60,7 @@ all_told rank me n f (st ∷ standings) is = by_standing st (is zero st) (all_to
         omega arith
     by_standing does.Finished here later = omega arith
 
-rule : (config : Config) (rank : Rank) (me : Server) (s : Pool) (from : Rank) (m : Message) (z : Response) → Arrives config me s (by.Rank from) → Responds s from m z
+rule : (config : Config) (rank : Rank) (me : Server) (s : ServerModel) (from : Rank) (m : Message) (z : ServerResponse) → Arrives config me s (by.Rank from) → Responds s from m z
     → call_letter rank (by.Rank from) (by.Server me) m + call_parked rank me.0 s ≡ weigh (λ y. call_letter rank (by.Server me) y.to y.message) z.says + call_parked rank me.0 z.state
 rule config rank me s from m z ar (It_answers h) = rw (h.request, h.says, h.ranks) (omega arith)
 rule config rank me s from m z ar (It_parks h) =
@@ -80,7 +80,7 @@ rule config rank me s from m z ar (It_finishes h) = rw (h.is, h.says, h.ranks) (
         omega arith
     by_home false is = refl
 
-telling : (config : Config) (rank : Rank) (me : Server) (s : Pool) → IsPool config me s
+telling : (config : Config) (rank : Rank) (me : Server) (s : ServerModel) → IsPool config me s
     → call_parked rank me.0 s ≡ weigh (λ y. call_letter rank (by.Server me) y.to y.message) (map told (waiting_from 0 s.ranks)) + call_parked rank me.0 (exhausted s)
 telling config rank me s own =
     let now = all_told rank me 0 (parked_as rank) s.ranks (λ i st. let e : i ≡ 0 + i = omega arith in ap (λ k. parked_as rank k st) e) in
@@ -106,7 +106,7 @@ at_first : (t : Bool) → 0 + cond t 1 0 ≡ one t + 0 + 0 + cond {A = ℕ} t 0 
 at_first true = refl
 at_first false = refl
 
-heard : (config : Config) (rank me : Rank) (s : Client) (from : Server) (m : Message) (stamp place : ℕ) (x : Made) → Heard config me s m x → RankKeeps (one_letter rank) me s from (record { stamp = stamp; place = place; message = m }) x
+heard : (config : Config) (rank me : Rank) (s : ClientModel) (from : Server) (m : Message) (stamp place : ℕ) (x : Made) → Heard config me s m x → RankKeeps (one_letter rank) me s from (record { stamp = stamp; place = place; message = m }) x
 heard config rank me s from m stamp place x h = by_after h.after
   where
     by_after : Then s x → RankKeeps (one_letter rank) me s from (record { stamp = stamp; place = place; message = m }) x
@@ -114,7 +114,7 @@ heard config rank me s from m stamp place x h = by_after h.after
     by_after (It_asks a) = rw (h.busy, a.sends, asked_request x.state x.state.pending a.to a.letter.message a.asked, asked_busy x.state x.state.pending a.to a.letter.message a.asked) (at_next (eqb me.0 rank.0))
     by_after (It_leaves l) = absurd (cc (l.finished, h.stays))
 
-begun : (config : Config) (rank me : Rank) (s : Client) (x : Made) → Began config me s x → BeginKeeps (one_letter rank) me s x
+begun : (config : Config) (rank me : Rank) (s : ClientModel) (x : Made) → Began config me s x → BeginKeeps (one_letter rank) me s x
 begun config rank me s x b = by_after b.after
   where
     by_after : Then s x → BeginKeeps (one_letter rank) me s x

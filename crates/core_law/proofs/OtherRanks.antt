@@ -3,6 +3,7 @@ use Rattle.std.proofs.Common.{◌≡◌, ◌≢◌, ℕ, zero, suc, ◌==◌, Bo
 use Rattle.std.specs.Prelude.{option_and_then}
 use Rattle.std.proofs.lemmas.Bool.{eq-eqb}
 use Rattle.std.proofs.lemmas.List.Elements.{All-weaker}
+use Rattle.adlb_unit.specs.Ids.{same_unit}
 use Rattle.adlb_unit.specs.declared.messages.Message.{Message}
 use Rattle.adlb_unit.specs.declared.names.CommonRef.{CommonRef}
 use Rattle.adlb_unit.specs.declared.names.Rank.{Rank}
@@ -13,7 +14,6 @@ use Rattle.adlb_unit.specs.declared.notes.End.{End}
 use Rattle.adlb_unit.specs.declared.notes.End.TheVariants as ends_by
 use Rattle.adlb_unit.specs.declared.notes.UnitNote.{UnitNote}
 use Rattle.adlb_unit.specs.declared.units.Unit.{Unit}
-use Rattle.adlb_unit.specs.Ids.{same_unit}
 use Rattle.adlb_unit.proofs.Same.{same_unit_is}
 use Rattle.bag_ledger.specs.declared.entries.Entry.{Entry}
 use Rattle.bag_ledger.specs.declared.entries.Entry.TheVariants as enters
@@ -28,8 +28,8 @@ use Rattle.bag_ledger.specs.Steps.{Steps, after, change_at, kept, moved, shared,
 use Rattle.bag_ledger.proofs.Lookups.{find_before}
 use Rattle.bag_ledger.proofs.Moves.{moved_other}
 use Rattle.bag_ledger.proofs.Tests.{some_is}
-use Rattle.rank_client.specs.Agreement.{Agrees, IsCaused, IsHeld, holds, rank_of}
-use Rattle.rank_client.specs.State.{State as Client}
+use Rattle.rank_client.specs.Agreement.{ClientAgrees, IsCaused, IsHeld, holds, rank_of}
+use Rattle.rank_client.specs.State.{ClientModel}
 use Rattle.core_law.specs.Others.{ClientsStay, teller, tells_of}
 
 -- What a bag keeps of a rank.
@@ -45,7 +45,7 @@ still_caused b next None done exhausted is = is
 still_caused b next (Some ends_by.NoMoreWork) done exhausted is = done is
 still_caused b next (Some ends_by.Exhausted) done exhausted is = exhausted is
 
-stands_after : (b next : Bag) (s : Client) (coming : Option Message) → Leaves s.me b next → Agrees s coming b → Agrees s coming next
+stands_after : (b next : Bag) (s : ClientModel) (coming : Option Message) → Leaves s.me b next → ClientAgrees s coming b → ClientAgrees s coming next
 stands_after b next s coming l a = record {
   rank = l.rank ∙ a.rank;
   servers = l.servers ∙ a.servers;
@@ -165,5 +165,5 @@ entry_leaves me b (enters.Finished rank call) s is = then_rank me rank _ b b (ap
 
 pub clients_stay : ClientsStay
 clients_stay b next e s coming step is a =
-    let now : Agrees s coming (after b e) = stands_after b (after b e) s coming (entry_leaves s.me b e (step.0, step.1, refl) is) a in
-    subst (λ (n : Bag). Agrees s coming n) (sym step.2) now
+    let now : ClientAgrees s coming (after b e) = stands_after b (after b e) s coming (entry_leaves s.me b e (step.0, step.1, refl) is) a in
+    subst (λ (n : Bag). ClientAgrees s coming n) (sym step.2) now

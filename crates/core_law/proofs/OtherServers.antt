@@ -7,17 +7,17 @@ use Rattle.bag_ledger.specs.declared.states.RankState.{RankState}
 use Rattle.bag_ledger.specs.Bag.{Bag}
 use Rattle.bag_ledger.specs.Steps.{after, with_rank}
 use Rattle.bag_ledger.proofs.Tests.{some_is}
-use Rattle.server_core.specs.Agreement.{Agrees}
-use Rattle.server_core.specs.State.{State as Pool}
+use Rattle.server_core.specs.Agreement.{ServerAgrees}
+use Rattle.server_core.specs.State.{ServerModel}
 use Rattle.core_law.specs.Others.{RunsAt, ServersStay, maker}
 use Rattle.server_core.proofs.Entries.{rank_agrees}
 
 -- the rank changes, whose name this is
-changes : (b : Bag) (t : Pool) (made rank : Rank) (f : RankState → RankState) → Some made ≡ Some rank → RunsAt t rank → Agrees b t → Agrees (with_rank made f b) t
+changes : (b : Bag) (t : ServerModel) (made rank : Rank) (f : RankState → RankState) → Some made ≡ Some rank → RunsAt t rank → ServerAgrees b t → ServerAgrees (with_rank made f b) t
 changes b t made rank f is runs a = rank_agrees b t made f a (subst (λ (r : Rank). RunsAt t r) (sym (some_is is)) runs)
 
 -- the problem is called done
-done_agrees : (b : Bag) (t : Pool) → Agrees b t → Agrees (record b { done = true }) t
+done_agrees : (b : Bag) (t : ServerModel) → ServerAgrees b t → ServerAgrees (record b { done = true }) t
 done_agrees b t m = record {
   servers = m.servers;
   within = m.within;
@@ -33,7 +33,7 @@ done_agrees b t m = record {
   settled = m.settled;
 }
 
-entry_agrees : (b : Bag) (e : Entry) (rank : Rank) (t : Pool) → maker e ≡ Some rank → RunsAt t rank → Agrees b t → Agrees (after b e) t
+entry_agrees : (b : Bag) (e : Entry) (rank : Rank) (t : ServerModel) → maker e ≡ Some rank → RunsAt t rank → ServerAgrees b t → ServerAgrees (after b e) t
 entry_agrees b (enters.Putting made call kind prio target answer body) rank t is runs a = changes b t made rank _ is runs a
 entry_agrees b (enters.Rejected made call) rank t is runs a = changes b t made rank _ is runs a
 entry_agrees b (enters.Keeping made call common) rank t is runs a = changes b t made rank _ is runs a
@@ -48,4 +48,4 @@ entry_agrees b (enters.Finished made call) rank t is runs a = changes b t made r
 entry_agrees b _ rank t is runs a = absurd (cc)
 
 pub servers_stay : ServersStay
-servers_stay b next e rank t step is runs a = subst (λ (n : Bag). Agrees n t) (sym step.2) (entry_agrees b e rank t is runs a)
+servers_stay b next e rank t step is runs a = subst (λ (n : Bag). ServerAgrees n t) (sym step.2) (entry_agrees b e rank t is runs a)

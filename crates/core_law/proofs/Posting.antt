@@ -2,6 +2,7 @@
 use Rattle.std.proofs.Common.{◌≡◌, ◌≢◌, ◌≤◌, ◌<◌, ◌⊎◌, inl, inr, ℕ, ◌+◌, Bool, true, false, List, [], ◌∷◌, ◌++◌, length, set, get_or, refl, sym, ap, ◌∙◌, arith, eqb, append-nil}
 use Rattle.std.proofs.lemmas.Bool.{cases_eq, eq-eqb, eqb-true, false_from_ne_true, ltb-true}
 use Rattle.std.proofs.lemmas.List.{get_or-set_other, get_or-set_same, length-set}
+use Rattle.adlb_unit.specs.Links.{place_of}
 use Rattle.adlb_unit.specs.declared.actors.Actor.{Actor}
 use Rattle.adlb_unit.specs.declared.actors.Actor.TheVariants as by
 use Rattle.adlb_unit.specs.declared.configs.Config.{Config}
@@ -10,7 +11,6 @@ use Rattle.adlb_unit.specs.declared.letters.Sending.{Sending}
 use Rattle.rank_client.specs.Rules.{Saying as Request}
 use Rattle.rank_client.specs.Step.{Made, post as post_requests, posted as request_posted}
 use Rattle.server_core.specs.Rules.{Saying as Answer}
-use Rattle.server_core.specs.State.{place_of}
 use Rattle.server_core.specs.Step.{Served, post as post_answers, posted as answer_posted}
 use Rattle.core_law.specs.Lines.{AreConsecutive, AreStamped, rank_sent, server_sent}
 use Rattle.core_run.specs.World.{actors, is_within}

@@ -10,6 +10,8 @@ use Rattle.std.proofs.lemmas.Bool.{and_parts, eqb-true, leb-true, ltb-true, not-
 use Rattle.std.proofs.lemmas.List.Elements.{All-filter, All-push, All-weaker, filter_passes, All-head, All-tail, All-contains_itself, All-same}
 use Rattle.std.proofs.lemmas.Nat.{mod_below}
 use Rattle.std.proofs.Math.Nat.{mod-eq_of_lt}
+use Rattle.adlb_unit.specs.Targets.{in_ranks, home}
+use Rattle.adlb_unit.specs.Ids.{same_unit}
 use Rattle.adlb_unit.specs.declared.actors.Actor.{Actor}
 use Rattle.adlb_unit.specs.declared.actors.Actor.TheVariants as by
 use Rattle.adlb_unit.specs.declared.configs.Config.{Config}
@@ -38,8 +40,8 @@ use Rattle.bag_ledger.specs.Steps.{after, with_rank}
 use Rattle.bag_ledger.proofs.Tests.{some_is}
 use Rattle.rank_client.specs.declared.pendings.Pending.{Pending}
 use Rattle.rank_client.specs.declared.pendings.Pending.TheVariants as waits_for
-use Rattle.rank_client.specs.Rules.{Response, Saying, answer_call, asked, call_of, ends, expects_note, farewell, fetch, finish, first_server, hear_fetch, hear_put, hear_reserve, held, in_ranks, is_for, is_free, is_idle, open_call, put, refused, reserve, unit_put}
-use Rattle.rank_client.specs.State.{State as Client, behind, home}
+use Rattle.rank_client.specs.Rules.{ClientResponse, Saying, answer_call, asked, call_of, ends, expects_note, farewell, fetch, finish, first_server, hear_fetch, hear_put, hear_reserve, held, is_for, is_free, is_idle, open_call, put, refused, reserve, unit_put}
+use Rattle.rank_client.specs.State.{ClientModel, behind}
 use Rattle.rank_client.specs.Step.{Made, begin, call_stamp, hear, letter_stamp, made, ticked}
 use Rattle.core_law.proofs.Asked.{IsAsked}
 use Rattle.adlb_unit.specs.Kinds.{is_to_rank}
@@ -53,12 +55,12 @@ use Rattle.core_law.proofs.UnderWay.{Each, each_weaker}
 
 -- What follows: the rank waits for nothing; it waits for the answer to a letter that it sends; or it leaves.
 
-pub record Resting (s : Client) (x : Made) : Type 0 where
+pub record Resting (s : ClientModel) (x : Made) : Type 0 where
   pub pending : x.state.pending ≡ waits_for.Nothing
   pub finished : x.state.finished ≡ false
   pub sends : x.sends ≡ []
 
-pub record Asking (s : Client) (x : Made) : Type 0 where
+pub record Asking (s : ClientModel) (x : Made) : Type 0 where
   pub to : Server
   pub letter : Letter
   pub asked : IsAsked x.state x.state.pending to letter.message
@@ -73,13 +75,13 @@ pub record IsFarewell (run : Config) (y : Sending) : Type 0 where
   pub within : to.0 < run.servers
   pub message : y.letter.message ≡ tells.Finish
 
-pub record Leaving (s : Client) (x : Made) : Type 0 where
+pub record Leaving (s : ClientModel) (x : Made) : Type 0 where
   pub pending : x.state.pending ≡ waits_for.Nothing
   pub finished : x.state.finished ≡ true
   pub weight : (f : Actor → Message → ℕ) → weigh (λ y. f y.to y.letter.message) x.sends ≡ weigh (λ y. f (by.Server y.to) y.message) (map farewell (range_with_len 0 s.config.servers))
   pub each : Each (IsFarewell s.config) x.sends
 
-pub data Then (s : Client) (x : Made) : Type 0 where
+pub data Then (s : ClientModel) (x : Made) : Type 0 where
   It_rests : (h : Resting s x) → Then s x
   It_asks : (h : Asking s x) → Then s x
   It_leaves : (h : Leaving s x) → Then s x
@@ -94,7 +96,7 @@ offered (waits_for.Put unit first tried) None = 1
 offered (waits_for.Put unit first tried) (Some (tells.Full request charge)) = 1
 offered _ _ = 0
 
-pub record Began (run : Config) (me : Rank) (s : Client) (x : Made) : Type 0 where
+pub record Began (run : Config) (me : Rank) (s : ClientModel) (x : Made) : Type 0 where
   pub free : s.pending ≡ waits_for.Nothing
   pub going : s.finished ≡ false
   pub next : x.state.next ≡ s.next + 1
@@ -104,7 +106,7 @@ pub record Began (run : Config) (me : Rank) (s : Client) (x : Made) : Type 0 whe
   pub notes : All (Contains s.handles) (holds x.state None)
   pub after : Then s x
 
-pub record Heard (run : Config) (me : Rank) (s : Client) (m : Message) (x : Made) : Type 0 where
+pub record Heard (run : Config) (me : Rank) (s : ClientModel) (m : Message) (x : Made) : Type 0 where
   pub kind : is_to_rank m ≡ true
   pub busy : is_idle s.pending ≡ false
   pub number : request_of m + 1 ≡ s.next
@@ -120,19 +122,19 @@ pub record Heard (run : Config) (me : Rank) (s : Client) (m : Message) (x : Made
 
 -- What is known of the letter that was sent.
 
-pub asked_request : (s : Client) (p : Pending) (to : Server) (m : Message) → IsAsked s p to m → is_request m ≡ true
+pub asked_request : (s : ClientModel) (p : Pending) (to : Server) (m : Message) → IsAsked s p to m → is_request m ≡ true
 asked_request s waits_for.Nothing to m a = absurd a
 asked_request s (waits_for.Put unit first tried) to m a = ap is_request a.0
 asked_request s (waits_for.Reserve request types) to m a = ap is_request a.0
 asked_request s (waits_for.Fetch request note) to m a = ap is_request a.0
 
-pub asked_busy : (s : Client) (p : Pending) (to : Server) (m : Message) → IsAsked s p to m → is_idle p ≡ false
+pub asked_busy : (s : ClientModel) (p : Pending) (to : Server) (m : Message) → IsAsked s p to m → is_idle p ≡ false
 asked_busy s waits_for.Nothing to m a = absurd a
 asked_busy s (waits_for.Put unit first tried) to m a = refl
 asked_busy s (waits_for.Reserve request types) to m a = refl
 asked_busy s (waits_for.Fetch request note) to m a = refl
 
-pub asked_number : (s : Client) (p : Pending) (to : Server) (m : Message) → IsCall s p → IsAsked s p to m → request_of m + 1 ≡ s.next
+pub asked_number : (s : ClientModel) (p : Pending) (to : Server) (m : Message) → IsCall s p → IsAsked s p to m → request_of m + 1 ≡ s.next
 asked_number s waits_for.Nothing to m call a = absurd a
 asked_number s (waits_for.Put unit first tried) to m call a = ap (λ k. request_of k + 1) a.0 ∙ call.0.call
 asked_number s (waits_for.Reserve request types) to m call a = ap (λ k. request_of k + 1) a.0 ∙ call.0
@@ -147,7 +149,7 @@ idle_is (waits_for.Fetch request note) e = absurd (cc)
 -- A call begins.
 
 -- a rank that waits for nothing
-record IsReady (run : Config) (me : Rank) (s : Client) : Type 0 where
+record IsReady (run : Config) (me : Rank) (s : ClientModel) : Type 0 where
   free : s.pending ≡ waits_for.Nothing
   going : s.finished ≡ false
   config : s.config ≡ run
@@ -156,15 +158,15 @@ record IsReady (run : Config) (me : Rank) (s : Client) : Type 0 where
   notes : All (IsNote s.config) s.handles
 
 -- it begins nothing, or what a step says
-abbrev Opens : Config → Rank → Client → Option Response → Type 0
+abbrev Opens : Config → Rank → ClientModel → Option ClientResponse → Type 0
 Opens run me s o = OnSome o (λ z. Began run me s (made z))
 
-first_within : (s : Client) (target : Target) → (first_server s target).0 < s.config.servers
+first_within : (s : ClientModel) (target : Target) → (first_server s target).0 < s.config.servers
 first_within s Any = let some : 0 < s.config.servers = s.config.servers_within.0 in mod_below _ s.config.servers some
 first_within s (Only rank) = let some : 0 < s.config.servers = s.config.servers_within.0 in mod_below rank.0 s.config.servers some
 first_within s (Soft rank) = let some : 0 < s.config.servers = s.config.servers_within.0 in mod_below rank.0 s.config.servers some
 
-first_is : (s : Client) (target : Target) → first_server s target ≡ behind s.config (first_server s target) 0
+first_is : (s : ClientModel) (target : Target) → first_server s target ≡ behind s.config (first_server s target) 0
 first_is s target =
     let n = s.config.servers in
     let f = first_server s target in
@@ -172,7 +174,7 @@ first_is s target =
     let whole : (f.0 + 0) % n ≡ f.0 = ap (λ k. k % n) same ∙ mod-eq_of_lt (first_within s target) in
     ap server_named (sym whole)
 
-put_opens : (run : Config) (me : Rank) (s : Client) (kind : WorkType) (prio : ℤ) (target : Target) (answer : Option Rank) (body : List ℕ) (end : Option End) → IsReady run me s → length body ≤ 2 ^ 20 → in_ranks s.config target ≡ true
+put_opens : (run : Config) (me : Rank) (s : ClientModel) (kind : WorkType) (prio : ℤ) (target : Target) (answer : Option Rank) (body : List ℕ) (end : Option End) → IsReady run me s → length body ≤ 2 ^ 20 → in_ranks s.config target ≡ true
     → Began run me s (made (put s (unit_put s kind prio target answer body) end))
 put_opens run me s kind prio target answer body (Some end) r size aim = record {
   free = r.free;
@@ -202,7 +204,7 @@ put_opens run me s kind prio target answer body None r size aim = record {
   after = It_asks (record { to = first_server s target; letter = _; asked = (refl, first_is s target); within = first_within s target; finished = r.going; sends = refl });
 }
 
-reserve_opens : (run : Config) (me : Rank) (s : Client) (types : Option (List WorkType)) (end : Option End) → IsReady run me s → s.config.servers ≡ 1 → Began run me s (made (reserve s types end))
+reserve_opens : (run : Config) (me : Rank) (s : ClientModel) (types : Option (List WorkType)) (end : Option End) → IsReady run me s → s.config.servers ≡ 1 → Began run me s (made (reserve s types end))
 reserve_opens run me s types (Some end) r one = record {
   free = r.free;
   going = r.going;
@@ -242,7 +244,7 @@ found_note config id (n ∷ notes) note e all = by_test (found_note config id no
         rw (← here) (same_unit_is n.id id is, All-head (IsNote config) n notes all)
     by_test rest false is found = rest (rw is at found) (All-tail (IsNote config) n notes all)
 
-fetch_opens : (run : Config) (me : Rank) (s : Client) (id : UnitId) (o : Option UnitNote) → IsReady run me s → held s id ≡ o → Opens run me s (fetch s id o)
+fetch_opens : (run : Config) (me : Rank) (s : ClientModel) (id : UnitId) (o : Option UnitNote) → IsReady run me s → held s id ≡ o → Opens run me s (fetch s id o)
 fetch_opens run me s id None r is = tt
 fetch_opens run me s id (Some note) r is =
     let found = found_note s.config id s.handles note is r.notes in
@@ -273,24 +275,24 @@ farewells (suc n) from servers within P each = (each (server_named from) (omega 
 abbrev Leaves : Config → Actor → Message → Type 0
 Leaves run a m = (to : Server) × (a ≡ by.Server to) × (to.0 < run.servers) × (m ≡ tells.Finish)
 
-finish_opens : (run : Config) (me : Rank) (s : Client) → IsReady run me s → Began run me s (made (finish s))
+finish_opens : (run : Config) (me : Rank) (s : ClientModel) → IsReady run me s → Began run me s (made (finish s))
 finish_opens run me s r =
     let z = finish s in
     let x : Made = record { state = z.state; sends = []; entries = z.entries; answer = z.answer } in
     let state = requests_state z.says x in
-    let pending : (made z).state.pending ≡ waits_for.Nothing = ap (λ (t : Client). t.pending) state in
+    let pending : (made z).state.pending ≡ waits_for.Nothing = ap (λ (t : ClientModel). t.pending) state in
     let all = requests_each (Leaves s.config) z.says x tt (farewells s.config.servers 0 s.config.servers (omega arith) (Leaves s.config) (λ to within. (to, refl, within, refl))) in
     record {
       free = r.free;
       going = r.going;
-      next = ap (λ (t : Client). t.next) state;
+      next = ap (λ (t : ClientModel). t.next) state;
       entries = rw (requests_entries z.says x) (λ b. (_, refl), tt);
       taken = rw state (λ id is. taken_quiet id s.transcript (record { call = calls_to.Finish; answer = answered_by.Fine }) refl is);
       notes = rw state (notes_same s.handles);
       own = rw state (record { config = r.config; me = r.rank; call = tt; rests = λ is. refl; batch = r.batch; notes = r.notes });
       after = It_leaves (record {
         pending = pending;
-        finished = ap (λ (t : Client). t.finished) state;
+        finished = ap (λ (t : ClientModel). t.finished) state;
         weight = λ f. let w = requests_weight f z.says x in w ∙ omega arith;
         each = each_weaker (λ (y : Sending). Leaves s.config y.to y.letter.message) (IsFarewell s.config) (λ y l. record { to = l.0; is = l.1; within = l.2; message = l.3 }) (made z).sends all;
       });
@@ -300,7 +302,7 @@ none_is : {X : Type 0} (o : Option X) → is_none o ≡ true → o ≡ None
 none_is None e = refl
 none_is (Some x) e = absurd (cc)
 
-call_opens : (run : Config) (me : Rank) (s : Client) (call : Call) → IsReady run me s → Opens run me s (open_call s call)
+call_opens : (run : Config) (me : Rank) (s : ClientModel) (call : Call) → IsReady run me s → Opens run me s (open_call s call)
 call_opens run me s (calls_to.Put kind prio target answer body) r = by_test (nat_le (length body) (2 ^ 20) && in_ranks s.config target) refl
   where
     by_test : (t : Bool) → (nat_le (length body) (2 ^ 20) && in_ranks s.config target) ≡ t → Opens run me s (if t then Some (put s (unit_put s kind prio target answer body) s.end) else None)
@@ -326,27 +328,27 @@ call_opens run me s calls_to.Finish r = by_test (is_none s.batch)
     by_test false = tt
 
 -- a step is what its rule says
-made_is : {X : Type 0} (P : X → Type 0) (f : Response → X) (o : Option Response) → OnSome o (λ z. P (f z)) → OnSome (option_map f o) P
+made_is : {X : Type 0} (P : X → Type 0) (f : ClientResponse → X) (o : Option ClientResponse) → OnSome o (λ z. P (f z)) → OnSome (option_map f o) P
 made_is P f None h = tt
 made_is P f (Some z) h = h
 
 -- the event's stamp changes nothing of this
-then_later : (s : Client) (stamp : ℕ) (x : Made) → Then (ticked s stamp) x → Then s x
+then_later : (s : ClientModel) (stamp : ℕ) (x : Made) → Then (ticked s stamp) x → Then s x
 then_later s stamp x (It_rests h) = It_rests (record { pending = h.pending; finished = h.finished; sends = h.sends })
 then_later s stamp x (It_asks h) = It_asks (record { to = h.to; letter = h.letter; asked = h.asked; within = h.within; finished = h.finished; sends = h.sends })
 then_later s stamp x (It_leaves h) = It_leaves (record { pending = h.pending; finished = h.finished; weight = h.weight; each = h.each })
 
-began_later : (run : Config) (me : Rank) (s : Client) (stamp : ℕ) (x : Made) → Began run me (ticked s stamp) x → Began run me s x
+began_later : (run : Config) (me : Rank) (s : ClientModel) (stamp : ℕ) (x : Made) → Began run me (ticked s stamp) x → Began run me s x
 began_later run me s stamp x b = record { free = b.free; going = b.going; next = b.next; own = b.own; entries = b.entries; taken = b.taken; notes = b.notes; after = then_later s stamp x b.after }
 
-pub begins : (run : Config) (me : Rank) (s : Client) (call : Call) → IsClient run me s → OnSome (begin s call) (Began run me s)
+pub begins : (run : Config) (me : Rank) (s : ClientModel) (call : Call) → IsClient run me s → OnSome (begin s call) (Began run me s)
 begins run me s call own = by_test (is_free s) refl
   where
     by_test : (t : Bool) → is_free s ≡ t → OnSome (if t then option_map made (open_call (ticked s (call_stamp s)) call) else None) (Began run me s)
     by_test false is = tt
     by_test true is =
         let tests = and_parts (is_idle s.pending) (not s.finished) is in
-        let t : Client = ticked s (call_stamp s) in
+        let t : ClientModel = ticked s (call_stamp s) in
         let ready : IsReady run me t = record { free = idle_is s.pending tests.0; going = not-true s.finished tests.1; config = own.config; rank = own.me; batch = own.batch; notes = own.notes } in
         let opened = each_some (λ z. Began run me t (made z)) (λ z. Began run me s (made z)) (open_call t call) (λ z b. began_later run me s (call_stamp s) (made z) b) (call_opens run me t call ready) in
         made_is (Began run me s) made (open_call t call) opened
@@ -354,7 +356,7 @@ begins run me s call own = by_test (is_free s) refl
 -- A letter is heard.
 
 -- a rank whose call is pending
-record IsWaiting (run : Config) (me : Rank) (s : Client) (p : Pending) : Type 0 where
+record IsWaiting (run : Config) (me : Rank) (s : ClientModel) (p : Pending) : Type 0 where
   pending : s.pending ≡ p
   going : s.finished ≡ false
   config : s.config ≡ run
@@ -363,11 +365,11 @@ record IsWaiting (run : Config) (me : Rank) (s : Client) (p : Pending) : Type 0 
   batch : s.batch ≡ None
   notes : All (IsNote s.config) s.handles
 
-abbrev Hears : Config → Rank → Client → Message → Option Response → Type 0
+abbrev Hears : Config → Rank → ClientModel → Message → Option ClientResponse → Type 0
 Hears run me s m o = OnSome o (λ z. Heard run me s m (made z))
 
 -- the call has ended
-ended : (run : Config) (me : Rank) (s : Client) (p : Pending) (m : Message) (x : Made) → IsWaiting run me s p → is_to_rank m ≡ true → is_idle p ≡ false → request_of m + 1 ≡ s.next
+ended : (run : Config) (me : Rank) (s : ClientModel) (p : Pending) (m : Message) (x : Made) → IsWaiting run me s p → is_to_rank m ≡ true → is_idle p ≡ false → request_of m + 1 ≡ s.next
     → x.state.pending ≡ waits_for.Nothing → x.state.finished ≡ s.finished → x.state.next ≡ s.next → x.state.config ≡ s.config → x.state.me ≡ s.me → x.state.batch ≡ s.batch
     → All (IsNote s.config) x.state.handles → x.sends ≡ [] → Each (ChangesRank s.me) x.entries
     → AddsTaken s.transcript p m x.state.transcript → All (Contains (s.handles ++ note_coming p (Some m))) x.state.handles → Heard run me s m x
@@ -393,10 +395,10 @@ answers request at from to is = eqb-true to request (and_parts (to == request) (
 number_of : (to request next : ℕ) → to ≡ request → request + 1 ≡ next → to + 1 ≡ next
 number_of to request next is call = omega arith
 
-asked_within : (s : Client) (first : Server) (tried : ℕ) → (asked s first tried).0 < s.config.servers
+asked_within : (s : ClientModel) (first : Server) (tried : ℕ) → (asked s first tried).0 < s.config.servers
 asked_within s first tried = let some : 0 < s.config.servers = s.config.servers_within.0 in mod_below (first.0 + tried) s.config.servers some
 
-refused_heard : (run : Config) (me : Rank) (s : Client) (unit : Unit) (first : Server) (tried to charge : ℕ) (t : Bool) → nat_lt (tried + 1) s.config.servers ≡ t → to ≡ unit.id.number
+refused_heard : (run : Config) (me : Rank) (s : ClientModel) (unit : Unit) (first : Server) (tried to charge : ℕ) (t : Bool) → nat_lt (tried + 1) s.config.servers ≡ t → to ≡ unit.id.number
     → IsWaiting run me s (waits_for.Put unit first tried) → Heard run me s (tells.Full to charge) (made (refused s unit first tried t))
 refused_heard run me s unit first tried to charge true more is w = record {
   kind = refl;
@@ -422,7 +424,7 @@ refused_heard run me s unit first tried to charge true more is w = record {
 refused_heard run me s unit first tried to charge false more is w =
     ended run me s (waits_for.Put unit first tried) (tells.Full to charge) (made (refused s unit first tried false)) w refl refl (number_of to unit.id.number s.next is w.call.0.call) refl refl refl refl refl refl w.notes refl (λ b. (_, refl), tt) (λ id is. inl (taken_quiet id s.transcript (record { call = call_of unit; answer = answered_by.Rejected }) refl is)) (notes_in s.handles [])
 
-put_heard : (run : Config) (me : Rank) (s : Client) (unit : Unit) (first : Server) (tried : ℕ) (from : Server) (m : Message) → IsWaiting run me s (waits_for.Put unit first tried) → Hears run me s m (hear_put s unit first tried from m)
+put_heard : (run : Config) (me : Rank) (s : ClientModel) (unit : Unit) (first : Server) (tried : ℕ) (from : Server) (m : Message) → IsWaiting run me s (waits_for.Put unit first tried) → Hears run me s m (hear_put s unit first tried from m)
 put_heard run me s unit first tried from (tells.Accepted to) w = by_test (is_for unit.id.number (asked s first tried) from to) refl
   where
     by_test : (t : Bool) → is_for unit.id.number (asked s first tried) from to ≡ t → Hears run me s (tells.Accepted to) (if t then Some (ends s [] (call_of unit) answered_by.Fine) else None)
@@ -440,7 +442,7 @@ put_heard run me s unit first tried from (tells.Ended to end) w = by_test (is_fo
     by_test false is = tt
 put_heard run me s unit first tried from _ w = tt
 
-reserve_heard : (run : Config) (me : Rank) (s : Client) (request : ℕ) (types : Option (List WorkType)) (from : Server) (m : Message) → IsWaiting run me s (waits_for.Reserve request types) → Hears run me s m (hear_reserve s request types from m)
+reserve_heard : (run : Config) (me : Rank) (s : ClientModel) (request : ℕ) (types : Option (List WorkType)) (from : Server) (m : Message) → IsWaiting run me s (waits_for.Reserve request types) → Hears run me s m (hear_reserve s request types from m)
 reserve_heard run me s request types from (tells.Grant to note) w = by_test (is_for request (home s.config s.me) from to && expects_note s note) refl
   where
     by_test : (t : Bool) → (is_for request (home s.config s.me) from to && expects_note s note) ≡ t
@@ -465,7 +467,7 @@ reserve_heard run me s request types from (tells.Ended to end) w = by_test (is_f
     by_test false is = tt
 reserve_heard run me s request types from _ w = tt
 
-fetch_heard : (run : Config) (me : Rank) (s : Client) (request : ℕ) (note : UnitNote) (from : Server) (m : Message) → IsWaiting run me s (waits_for.Fetch request note) → Hears run me s m (hear_fetch s request note from m)
+fetch_heard : (run : Config) (me : Rank) (s : ClientModel) (request : ℕ) (note : UnitNote) (from : Server) (m : Message) → IsWaiting run me s (waits_for.Fetch request note) → Hears run me s m (hear_fetch s request note from m)
 fetch_heard run me s request note from (tells.Bytes to body) w = by_test (is_for request note.server from to && (length body == note.length)) refl
   where
     by_test : (t : Bool) → (is_for request note.server from to && (length body == note.length)) ≡ t
@@ -477,22 +479,22 @@ fetch_heard run me s request note from (tells.Bytes to body) w = by_test (is_for
     by_test false is = tt
 fetch_heard run me s request note from _ w = tt
 
-call_heard : (run : Config) (me : Rank) (s : Client) (p : Pending) (from : Server) (m : Message) → IsWaiting run me s p → Hears run me s m (answer_call s p from m)
+call_heard : (run : Config) (me : Rank) (s : ClientModel) (p : Pending) (from : Server) (m : Message) → IsWaiting run me s p → Hears run me s m (answer_call s p from m)
 call_heard run me s waits_for.Nothing from m w = tt
 call_heard run me s (waits_for.Put unit first tried) from m w = put_heard run me s unit first tried from m w
 call_heard run me s (waits_for.Reserve request types) from m w = reserve_heard run me s request types from m w
 call_heard run me s (waits_for.Fetch request note) from m w = fetch_heard run me s request note from m w
 
-call_later : (s : Client) (stamp : ℕ) (p : Pending) → IsCall s p → IsCall (ticked s stamp) p
+call_later : (s : ClientModel) (stamp : ℕ) (p : Pending) → IsCall s p → IsCall (ticked s stamp) p
 call_later s stamp waits_for.Nothing call = call
 call_later s stamp (waits_for.Put unit first tried) call = (record { rank = call.0.rank; call = call.0.call; plain = call.0.plain; size = call.0.size; target = call.0.target }, call.1)
 call_later s stamp (waits_for.Reserve request types) call = call
 call_later s stamp (waits_for.Fetch request note) call = call
 
-heard_later : (run : Config) (me : Rank) (s : Client) (stamp : ℕ) (m : Message) (x : Made) → Heard run me (ticked s stamp) m x → Heard run me s m x
+heard_later : (run : Config) (me : Rank) (s : ClientModel) (stamp : ℕ) (m : Message) (x : Made) → Heard run me (ticked s stamp) m x → Heard run me s m x
 heard_later run me s stamp m x h = record { kind = h.kind; busy = h.busy; number = h.number; going = h.going; next = h.next; own = h.own; entries = h.entries; offers = h.offers; taken = h.taken; notes = h.notes; after = then_later s stamp x h.after; stays = h.stays }
 
-pub hears : (run : Config) (me : Rank) (s : Client) (from : Server) (letter : Letter) → IsClient run me s → OnSome (hear s from letter) (Heard run me s letter.message)
+pub hears : (run : Config) (me : Rank) (s : ClientModel) (from : Server) (letter : Letter) → IsClient run me s → OnSome (hear s from letter) (Heard run me s letter.message)
 hears run me s from letter own = by_test (not s.finished && nat_lt letter.stamp (2 ^ 48)) refl
   where
     by_test : (t : Bool) → (not s.finished && nat_lt letter.stamp (2 ^ 48)) ≡ t → OnSome (if t then option_map made (answer_call (ticked s (letter_stamp s letter)) s.pending from letter.message) else None) (Heard run me s letter.message)
@@ -500,7 +502,7 @@ hears run me s from letter own = by_test (not s.finished && nat_lt letter.stamp 
     by_test true is =
         let tests = and_parts (not s.finished) (nat_lt letter.stamp (2 ^ 48)) is in
         let stamp = letter_stamp s letter in
-        let t : Client = ticked s stamp in
+        let t : ClientModel = ticked s stamp in
         let waits : IsWaiting run me t s.pending = record { pending = refl; going = not-true s.finished tests.0; config = own.config; rank = own.me; call = call_later s stamp s.pending own.call; batch = own.batch; notes = own.notes } in
         let o = answer_call t s.pending from letter.message in
         let each = each_some (λ z. Heard run me t letter.message (made z)) (λ z. Heard run me s letter.message (made z)) o (λ z h. heard_later run me s stamp letter.message (made z) h) (call_heard run me t s.pending from letter.message waits) in

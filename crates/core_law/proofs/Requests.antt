@@ -10,6 +10,7 @@ use Rattle.std.specs.Prelude.{is_none}
 use Rattle.std.proofs.Common.{◌≡◌, ◌≢◌, Contains, get_or, find, ◌⊎◌, inl, inr, ℕ, ◌%◌, ◌==◌, Bool, true, false, cond, ◌&&◌, ◌||◌, not, List, [], ◌∷◌, length, set, get_or, Option, Some, None, refl, sym, ap, ◌∙◌, subst, find, arith, ◌<◌, ◌++◌}
 use Rattle.std.specs.List.{list_any}
 use Rattle.std.proofs.lemmas.Bool.{and_parts, cases_eq, eq-eqb, and_from, false_from_ne_true, lt-ltb}
+use Rattle.adlb_unit.specs.Targets.{home}
 use Rattle.adlb_unit.specs.declared.actors.Actor.TheVariants as by
 use Rattle.adlb_unit.specs.declared.letters.Letter.{Letter}
 use Rattle.adlb_unit.specs.declared.messages.Message.{Message}
@@ -29,12 +30,12 @@ use Rattle.rank_client.specs.declared.pendings.Pending.{Pending}
 use Rattle.rank_client.specs.declared.pendings.Pending.TheVariants as waits_for
 use Rattle.rank_client.specs.Agreement.{in_call}
 use Rattle.rank_client.specs.Rules.{asked, expects_note, is_for}
-use Rattle.rank_client.specs.State.{State as Client, home}
+use Rattle.rank_client.specs.State.{ClientModel}
 use Rattle.server_core.specs.declared.standings.Standing.{Standing}
 use Rattle.server_core.specs.declared.standings.Standing.TheVariants as does
-use Rattle.server_core.specs.Agreement.{Agrees}
-use Rattle.server_core.specs.Rules.{Response, best_unit, expects_put, expects_reserve, fetched, is_over, is_pinned_as, is_running, park, put, reserve, respond, to_rank}
-use Rattle.server_core.specs.State.{State as Pool, is_home, standing}
+use Rattle.server_core.specs.Agreement.{ServerAgrees}
+use Rattle.server_core.specs.Rules.{ServerResponse, best_unit, expects_put, expects_reserve, fetched, is_over, is_pinned_as, is_running, park, put, reserve, respond, to_rank}
+use Rattle.server_core.specs.State.{ServerModel, is_home, standing}
 use Rattle.server_core.specs.Step.{Served, Waiting, after_event, exhaust, fits, next_stamp, over, sent_to, serve, served, ticked, verdict, waiting_from}
 use Rattle.core_law.proofs.Asked.{IsAsked, awaits}
 use Rattle.core_run.specs.World.{rank_named}
@@ -66,17 +67,17 @@ pinned_found id rank units p distinct is =
     q.1.found ∙ ap (λ x. Some x) one
 
 -- one letter goes back, and it is the answer
-pub record Answered (c : Client) (p : Pending) (me : Server) (b next : Bag) (x : Served) : Type 0 where
+pub record Answered (c : ClientModel) (p : Pending) (me : Server) (b next : Bag) (x : Served) : Type 0 where
   pub letter : Letter
   pub sends : x.sends ≡ record { to = by.Rank c.me; letter = letter } ∷ []
   pub comes : Comes c p letter.message b next x.entries
   pub awaited : awaits c p me letter.message ≡ true
 
 -- the rule answers
-abbrev Replies : Client → Pending → Server → Bag → Bag → Response → Type 0
+abbrev Replies : ClientModel → Pending → Server → Bag → Bag → ServerResponse → Type 0
 Replies c p me b next z = (a : Message) × (z.says ≡ to_rank c.me a ∷ []) × Comes c p a b next z.entries × (awaits c p me a ≡ true)
 
-replied : (c : Client) (p : Pending) (me : Server) (b next : Bag) (z : Response) → Replies c p me b next z → Answered c p me b next (served z)
+replied : (c : ClientModel) (p : Pending) (me : Server) (b next : Bag) (z : ServerResponse) → Replies c p me b next z → Answered c p me b next (served z)
 replied c p me b next z r = record {
   letter = record { stamp = z.state.clock; place = sent_to z.state (by.Rank c.me); message = r.0 };
   sends = rw r.1 refl;
@@ -107,18 +108,18 @@ runs_on x one runs = by_servers (cases_eq x.state.config.servers 1)
     by_servers (inr several) = calm x several
 
 -- what a response keeps of the server
-said_ranks : (z : Response) → (served z).state.ranks ≡ z.state.ranks
-said_ranks z = ap (λ (t : Pool). t.ranks) (answers_state z.says (record { state = z.state; sends = []; entries = z.entries }))
+said_ranks : (z : ServerResponse) → (served z).state.ranks ≡ z.state.ranks
+said_ranks z = ap (λ (t : ServerModel). t.ranks) (answers_state z.says (record { state = z.state; sends = []; entries = z.entries }))
 
-said_config : (z : Response) → (served z).state.config ≡ z.state.config
-said_config z = ap (λ (t : Pool). t.config) (answers_state z.says (record { state = z.state; sends = []; entries = z.entries }))
+said_config : (z : ServerResponse) → (served z).state.config ≡ z.state.config
+said_config z = ap (λ (t : ServerModel). t.config) (answers_state z.says (record { state = z.state; sends = []; entries = z.entries }))
 
 -- the only rank runs at its home, as far as the server knows
-pub record IsOne (s : Pool) (c : Client) : Type 0 where
+pub record IsOne (s : ServerModel) (c : ClientModel) : Type 0 where
   pub one : length s.ranks ≡ 1
   pub first : c.me.0 ≡ 0
 
-quiet_reply : (c : Client) (p : Pending) (b next : Bag) (s : Pool) (z : Response) → length s.ranks ≡ 1 → z.state.ranks ≡ s.ranks → z.state.config ≡ s.config → (s.config.servers ≡ 1 → get_or s.ranks 0 does.Running ≡ does.Running)
+quiet_reply : (c : ClientModel) (p : Pending) (b next : Bag) (s : ServerModel) (z : ServerResponse) → length s.ranks ≡ 1 → z.state.ranks ≡ s.ranks → z.state.config ≡ s.config → (s.config.servers ≡ 1 → get_or s.ranks 0 does.Running ≡ does.Running)
     → ((n : Bag) → IsRun b z.entries n → Replies c p s.me b n z) → IsRun b (after_event (served z)).entries next → Answered c p s.me b next (after_event (served z))
 quiet_reply c p b next s z one ranks config runs replies run =
     let same : (served z).state.ranks ≡ s.ranks = said_ranks z ∙ ranks in
@@ -142,7 +143,7 @@ neither false true e = absurd (cc)
 neither false false e = (refl, refl)
 
 -- a free unit was not granted or fetched before
-note_expected : (c : Client) (request : ℕ) (types : Option (List WorkType)) (t : Pool) (work : Unit) (u : Lodged) (b : Bag) → Waits c (waits_for.Reserve request types) b → Agrees b t → t.config ≡ c.config → unit_of b work.id ≡ Some u → u.unit ≡ work → u.place ≡ Free t.me → expects_note c (note_of t.me work) ≡ true
+note_expected : (c : ClientModel) (request : ℕ) (types : Option (List WorkType)) (t : ServerModel) (work : Unit) (u : Lodged) (b : Bag) → Waits c (waits_for.Reserve request types) b → ServerAgrees b t → t.config ≡ c.config → unit_of b work.id ≡ Some u → u.unit ≡ work → u.place ≡ Free t.me → expects_note c (note_of t.me work) ≡ true
 note_expected c request types t work u b w m same there is free =
     let servers : t.config.servers ≡ c.config.servers = ap (λ (k : _). k.servers) same in
     let below : t.me.0 < c.config.servers = let e = m.within in omega arith in
@@ -157,7 +158,7 @@ note_expected c request types t work u b w m same there is free =
     and_from _ _ (and_from _ _ (and_from _ _ (lt-ltb t.me.0 c.config.servers below) (none_from work.common plain)) parts.0) parts.1
 
 -- the bytes are as many as the note says
-bytes_expected : (c : Client) (request : ℕ) (note : UnitNote) (work : Unit) (u : Lodged) (b : Bag) → Waits c (waits_for.Fetch request note) b → unit_of b note.id ≡ Some u → u.unit ≡ work → (length work.body == note.length) ≡ true
+bytes_expected : (c : ClientModel) (request : ℕ) (note : UnitNote) (work : Unit) (u : Lodged) (b : Bag) → Waits c (waits_for.Fetch request note) b → unit_of b note.id ≡ Some u → u.unit ≡ work → (length work.body == note.length) ≡ true
 bytes_expected c request note work u b w there is =
     let fact = All-contains (IsFact b) (c.handles ++ note ∷ []) note (w.knows).facts (Contains-push c.handles note) in
     let one : fact.0 ≡ u = some_is (sym fact.1 ∙ there) in
@@ -165,7 +166,7 @@ bytes_expected c request note work u b w there is =
     eq-eqb (length work.body) note.length (sym long)
 
 -- a rank in another call than a reserve runs at its home, which with one server is this one
-runs_at : (c : Client) (b : Bag) (t : Pool) → Agrees b t → c.me.0 ≡ 0 → t.config.servers ≡ 1 → IsRunner t.config t.me t.ranks c.me → get_or t.ranks 0 does.Running ≡ does.Running
+runs_at : (c : ClientModel) (b : Bag) (t : ServerModel) → ServerAgrees b t → c.me.0 ≡ 0 → t.config.servers ≡ 1 → IsRunner t.config t.me t.ranks c.me → get_or t.ranks 0 does.Running ≡ does.Running
 runs_at c b t m zeroth alone busy =
     let here : t.me.0 ≡ 0 = let e = m.within in omega arith in
     let home : (c.me.0 % t.config.servers) ≡ t.me.0 = rw (zeroth, alone, here) refl in
@@ -173,31 +174,31 @@ runs_at c b t m zeroth alone busy =
 
 -- Put.
 
-put_replies : (c : Client) (unit : Unit) (first : Server) (tried : ℕ) (b : Bag) (t : Pool) (done over : Bool) → Waits c (waits_for.Put unit first tried) b → t.me ≡ asked c first tried → (next : Bag) → IsRun b (put t c.me unit done over).entries next
+put_replies : (c : ClientModel) (unit : Unit) (first : Server) (tried : ℕ) (b : Bag) (t : ServerModel) (done over : Bool) → Waits c (waits_for.Put unit first tried) b → t.me ≡ asked c first tried → (next : Bag) → IsRun b (put t c.me unit done over).entries next
     → Replies c (waits_for.Put unit first tried) t.me b next (put t c.me unit done over)
 put_replies c unit first tried b t true over w at next run = (_, refl, over_comes c (waits_for.Put unit first tried) b next unit.id.number ends_by.NoMoreWork w (put_ended c unit first tried unit.id.number ends_by.NoMoreWork) run, for_self unit.id.number (asked c first tried) t.me at)
 put_replies c unit first tried b t false true w at next run = (_, refl, refused_comes c unit first tried t.me b next (charge_of t.queue) w at run, for_self unit.id.number (asked c first tried) t.me at)
 put_replies c unit first tried b t false false w at next run = (_, refl, accepted_comes c unit first tried t.me b next w run, for_self unit.id.number (asked c first tried) t.me at)
 
-put_config : (t : Pool) (from : Rank) (unit : Unit) (done over : Bool) → ((put t from unit done over).state.ranks ≡ t.ranks) × ((put t from unit done over).state.config ≡ t.config)
+put_config : (t : ServerModel) (from : Rank) (unit : Unit) (done over : Bool) → ((put t from unit done over).state.ranks ≡ t.ranks) × ((put t from unit done over).state.config ≡ t.config)
 put_config t from unit true over = (refl, refl)
 put_config t from unit false true = (refl, refl)
 put_config t from unit false false = (refl, refl)
 
-put_answered : (c : Client) (unit : Unit) (first : Server) (tried : ℕ) (b next : Bag) (t : Pool) (z : Response) → Waits c (waits_for.Put unit first tried) b → Agrees b t → length t.ranks ≡ 1 → c.me.0 ≡ 0 → t.me ≡ asked c first tried → respond t c.me (tells.Put unit) ≡ Some z → IsRun b (after_event (served z)).entries next
+put_answered : (c : ClientModel) (unit : Unit) (first : Server) (tried : ℕ) (b next : Bag) (t : ServerModel) (z : ServerResponse) → Waits c (waits_for.Put unit first tried) b → ServerAgrees b t → length t.ranks ≡ 1 → c.me.0 ≡ 0 → t.me ≡ asked c first tried → respond t c.me (tells.Put unit) ≡ Some z → IsRun b (after_event (served z)).entries next
     → Answered c (waits_for.Put unit first tried) t.me b next (after_event (served z))
 put_answered c unit first tried b next t z w m one zeroth at is run =
     let p : Pending = waits_for.Put unit first tried in
     let parts = if_is (expects_put t c.me unit) (put t c.me unit t.done (is_over t.queue unit)) z is in
     let kept = put_config t c.me unit t.done (is_over t.queue unit) in
     let busy = busy_runner b t c.me (in_call c p None) m w.rank refl in
-    let Q : Response → Type 0 = λ y. IsRun b (after_event (served y)).entries next → Answered c p t.me b next (after_event (served y)) in
+    let Q : ServerResponse → Type 0 = λ y. IsRun b (after_event (served y)).entries next → Answered c p t.me b next (after_event (served y)) in
     subst Q parts.1 (quiet_reply c p b next t (put t c.me unit t.done (is_over t.queue unit)) one kept.0 kept.1 (λ alone. runs_at c b t m zeroth alone busy) (λ n r. put_replies c unit first tried b t t.done (is_over t.queue unit) w at n r)) run
 
 -- Reserve.
 
 -- nothing fits, and the only rank waits: all work is used up
-park_answered : (c : Client) (request : ℕ) (types : Option (List WorkType)) (b next : Bag) (t : Pool) → Waits c (waits_for.Reserve request types) b → length t.ranks ≡ 1 → c.me.0 ≡ 0 → t.config.servers ≡ 1 → t.me ≡ home c.config c.me → t.exhausted ≡ false → best_unit c.me types t.queue.units ≡ None
+park_answered : (c : ClientModel) (request : ℕ) (types : Option (List WorkType)) (b next : Bag) (t : ServerModel) → Waits c (waits_for.Reserve request types) b → length t.ranks ≡ 1 → c.me.0 ≡ 0 → t.config.servers ≡ 1 → t.me ≡ home c.config c.me → t.exhausted ≡ false → best_unit c.me types t.queue.units ≡ None
     → IsRun b (after_event (served (park t c.me request types))).entries next → Answered c (waits_for.Reserve request types) t.me b next (after_event (served (park t c.me request types)))
 park_answered c request types b next t w one zeroth alone at fresh none run =
     let waits : Standing = does.Parked request types in
@@ -218,7 +219,7 @@ park_answered c request types b next t w one zeroth alone at fresh none run =
     let answered : Answered c (waits_for.Reserve request types) t.me b next d = record { letter = _; sends = refl; comes = exhausted_comes c request types request b next w there; awaited = for_self request (home c.config c.me) t.me at } in
     subst (λ (v : Served). Answered c (waits_for.Reserve request types) t.me b next v) (sym last) answered
 
-reserve_given : (c : Client) (request : ℕ) (types : Option (List WorkType)) (b next : Bag) (t : Pool) (done exhausted : Bool) (best : Option Placed) → t.exhausted ≡ exhausted → best_unit c.me types t.queue.units ≡ best → Waits c (waits_for.Reserve request types) b → Agrees b t → length t.ranks ≡ 1 → c.me.0 ≡ 0 → t.config.servers ≡ 1 → t.me ≡ home c.config c.me → t.config ≡ c.config
+reserve_given : (c : ClientModel) (request : ℕ) (types : Option (List WorkType)) (b next : Bag) (t : ServerModel) (done exhausted : Bool) (best : Option Placed) → t.exhausted ≡ exhausted → best_unit c.me types t.queue.units ≡ best → Waits c (waits_for.Reserve request types) b → ServerAgrees b t → length t.ranks ≡ 1 → c.me.0 ≡ 0 → t.config.servers ≡ 1 → t.me ≡ home c.config c.me → t.config ≡ c.config
     → get_or t.ranks 0 does.Running ≡ does.Running → IsRun b (after_event (served (reserve t c.me request types done exhausted best))).entries next → Answered c (waits_for.Reserve request types) t.me b next (after_event (served (reserve t c.me request types done exhausted best)))
 reserve_given c request types b next t true exhausted best is found w m one zeroth alone at same runs run =
     let p : Pending = waits_for.Reserve request types in
@@ -233,31 +234,31 @@ reserve_given c request types b next t false false (Some p) is found w m one zer
     quiet_reply c (waits_for.Reserve request types) b next t (reserve t c.me request types false false (Some p)) one refl refl (λ e. runs) (λ n r. (_, refl, granted_comes c request types t.me p.unit u.0 b n w u.1.found u.1.same place r, and_from (is_for request (home c.config c.me) t.me request) (expects_note c (note_of t.me p.unit)) (for_self request (home c.config c.me) t.me at) (note_expected c request types t p.unit u.0 b w m same u.1.found u.1.same place))) run
 reserve_given c request types b next t false false None is found w m one zeroth alone at same runs run = park_answered c request types b next t w one zeroth alone at is found run
 
-reserve_answered : (c : Client) (request : ℕ) (types : Option (List WorkType)) (b next : Bag) (t : Pool) (z : Response) → Waits c (waits_for.Reserve request types) b → Agrees b t → length t.ranks ≡ 1 → c.me.0 ≡ 0 → t.config.servers ≡ 1 → t.me ≡ home c.config c.me → t.config ≡ c.config → respond t c.me (tells.Reserve request types) ≡ Some z → IsRun b (after_event (served z)).entries next
+reserve_answered : (c : ClientModel) (request : ℕ) (types : Option (List WorkType)) (b next : Bag) (t : ServerModel) (z : ServerResponse) → Waits c (waits_for.Reserve request types) b → ServerAgrees b t → length t.ranks ≡ 1 → c.me.0 ≡ 0 → t.config.servers ≡ 1 → t.me ≡ home c.config c.me → t.config ≡ c.config → respond t c.me (tells.Reserve request types) ≡ Some z → IsRun b (after_event (served z)).entries next
     → Answered c (waits_for.Reserve request types) t.me b next (after_event (served z))
 reserve_answered c request types b next t z w m one zeroth alone at same is run =
     let p : Pending = waits_for.Reserve request types in
     let parts = if_is (expects_reserve t c.me) (reserve t c.me request types t.done t.exhausted (best_unit c.me types t.queue.units)) z is in
     let tests = and_parts (is_home t c.me) (is_running (standing t c.me)) parts.0 in
     let runs : get_or t.ranks 0 does.Running ≡ does.Running = ap (λ n. get_or t.ranks n does.Running) (sym zeroth) ∙ running_is (standing t c.me) tests.1 in
-    let Q : Response → Type 0 = λ y. IsRun b (after_event (served y)).entries next → Answered c p t.me b next (after_event (served y)) in
+    let Q : ServerResponse → Type 0 = λ y. IsRun b (after_event (served y)).entries next → Answered c p t.me b next (after_event (served y)) in
     subst Q parts.1 (λ r. reserve_given c request types b next t t.done t.exhausted (best_unit c.me types t.queue.units) refl refl w m one zeroth alone at same runs r) run
 
 -- Fetch.
 
-fetch_answered : (c : Client) (request : ℕ) (note : UnitNote) (b next : Bag) (t : Pool) (z : Response) → Waits c (waits_for.Fetch request note) b → Agrees b t → length t.ranks ≡ 1 → c.me.0 ≡ 0 → t.me ≡ note.server → respond t c.me (tells.Fetch request note.id) ≡ Some z → IsRun b (after_event (served z)).entries next
+fetch_answered : (c : ClientModel) (request : ℕ) (note : UnitNote) (b next : Bag) (t : ServerModel) (z : ServerResponse) → Waits c (waits_for.Fetch request note) b → ServerAgrees b t → length t.ranks ≡ 1 → c.me.0 ≡ 0 → t.me ≡ note.server → respond t c.me (tells.Fetch request note.id) ≡ Some z → IsRun b (after_event (served z)).entries next
     → Answered c (waits_for.Fetch request note) t.me b next (after_event (served z))
 fetch_answered c request note b next t z w m one zeroth at is run =
     let p : Pending = waits_for.Fetch request note in
     let q = fetch_is t c.me request note.id (find (is_pinned_as note.id c.me) t.queue.units) z is in
     let u = lodged b t note.id q.0 m (pinned_found note.id c.me t.queue.units q.0 m.units.distinct q.1) in
     let busy = busy_runner b t c.me (in_call c p None) m w.rank refl in
-    let Q : Response → Type 0 = λ y. IsRun b (after_event (served y)).entries next → Answered c p t.me b next (after_event (served y)) in
+    let Q : ServerResponse → Type 0 = λ y. IsRun b (after_event (served y)).entries next → Answered c p t.me b next (after_event (served y)) in
     subst Q q.2 (quiet_reply c p b next t (fetched t c.me request note.id q.0) one refl refl (λ alone. runs_at c b t m zeroth alone busy) (λ n r. (_, refl, fetched_comes c request note t.me q.0.unit u.0 b n w u.1.found u.1.same r, and_from (is_for request note.server t.me request) (length (q.0).unit.body == note.length) (for_self request note.server t.me at) (bytes_expected c request note (q.0).unit u.0 b w u.1.found u.1.same)))) run
 
 -- Any request.
 
-by_call : (c : Client) (p : Pending) (b next : Bag) (t : Pool) (m : Message) (z : Response) → Waits c p b → Agrees b t → length t.ranks ≡ 1 → c.me.0 ≡ 0 → t.config ≡ c.config → IsAsked c p t.me m → respond t c.me m ≡ Some z → IsRun b (after_event (served z)).entries next
+by_call : (c : ClientModel) (p : Pending) (b next : Bag) (t : ServerModel) (m : Message) (z : ServerResponse) → Waits c p b → ServerAgrees b t → length t.ranks ≡ 1 → c.me.0 ≡ 0 → t.config ≡ c.config → IsAsked c p t.me m → respond t c.me m ≡ Some z → IsRun b (after_event (served z)).entries next
     → Answered c p t.me b next (after_event (served z))
 by_call c waits_for.Nothing b next t m z w a one zeroth same asked is run = absurd asked
 by_call c (waits_for.Put unit first tried) b next t m z w a one zeroth same asked is run =
@@ -268,15 +269,15 @@ by_call c (waits_for.Reserve request types) b next t m z w a one zeroth same ask
 by_call c (waits_for.Fetch request note) b next t m z w a one zeroth same asked is run =
     fetch_answered c request note b next t z w a one zeroth asked.1 (ap (λ k. respond t c.me k) (sym asked.0) ∙ is) run
 
-pub request_answered : (c : Client) (p : Pending) (b next : Bag) (s : Pool) (letter : Letter) (x : Served) → Waits c p b → Agrees b s → length s.ranks ≡ 1 → c.me.0 ≡ 0 → s.config ≡ c.config → IsAsked c p s.me letter.message → serve s (by.Rank c.me) letter ≡ Some x → IsRun b x.entries next
+pub request_answered : (c : ClientModel) (p : Pending) (b next : Bag) (s : ServerModel) (letter : Letter) (x : Served) → Waits c p b → ServerAgrees b s → length s.ranks ≡ 1 → c.me.0 ≡ 0 → s.config ≡ c.config → IsAsked c p s.me letter.message → serve s (by.Rank c.me) letter ≡ Some x → IsRun b x.entries next
     → Answered c p s.me b next x
 request_answered c p b next s letter x w a one zeroth same asked does run =
     let v = serves s (by.Rank c.me) letter x does in
-    let t : Pool = ticked s (next_stamp s letter) in
+    let t : ServerModel = ticked s (next_stamp s letter) in
     let who : v.rank ≡ c.me = let e = v.by_rank in cc in
     let is : respond t c.me letter.message ≡ Some v.response = ap (λ r. respond t r letter.message) (sym who) ∙ v.is in
     let there : IsRun b (after_event (served v.response)).entries next = subst (λ (y : Served). IsRun b y.entries next) (sym v.makes) run in
-    let here : Agrees b t = record {
+    let here : ServerAgrees b t = record {
       servers = a.servers;
       within = a.within;
       limit = a.limit;

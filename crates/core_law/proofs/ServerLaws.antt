@@ -14,8 +14,8 @@ use Rattle.bag_ledger.specs.declared.entries.Entry.TheVariants as enters
 use Rattle.adlb_unit.specs.declared.names.WorkType.{WorkType}
 use Rattle.server_core.specs.declared.standings.Standing.{Standing}
 use Rattle.server_core.specs.declared.standings.Standing.TheVariants as does
-use Rattle.server_core.specs.Rules.{Response, Saying, respond, leave}
-use Rattle.server_core.specs.State.{State as Pool, is_home}
+use Rattle.server_core.specs.Rules.{ServerResponse, Saying, respond, leave}
+use Rattle.server_core.specs.State.{ServerModel, is_home}
 use Rattle.server_core.specs.Step.{Served, after_event, next_stamp, over, post, resumed, serve, served, ticked, told, waiting_from}
 use Rattle.core_law.specs.Measures.{Weights, sends_weight, weigh}
 use Rattle.core_law.specs.Own.{IsPool}
@@ -27,7 +27,7 @@ use Rattle.core_law.proofs.Sums.{AreWithin}
 use Rattle.core_law.proofs.UnderWay.{Each}
 
 -- the ranks that wait are told
-abbrev pub exhausted : Pool → Pool
+abbrev pub exhausted : ServerModel → ServerModel
 exhausted s = record s { exhausted = true; ranks = map resumed s.ranks }
 
 abbrev pub telling : Served → Served
@@ -35,15 +35,15 @@ telling y = record y { state = exhausted y.state; entries = y.entries ++ enters.
 
 -- what the rule keeps, and what the telling keeps, of weights that see neither stamps nor counts nor whether the server is shut
 pub record IsPoolLaw (config : Config) (m : Weights) : Type 0 where
-  pub due : (place : ℕ) (s : Pool) → m.server_due place s ≡ 0
-  pub ticks : (place stamp : ℕ) (s : Pool) → m.server place (ticked s stamp) ≡ m.server place s
-  pub counts : (place : ℕ) (sent : List ℕ) (s : Pool) → m.server place (record s { sent = sent }) ≡ m.server place s
-  pub shuts : (place : ℕ) (s : Pool) → m.server place (record s { shut = true }) ≡ m.server place s
+  pub due : (place : ℕ) (s : ServerModel) → m.server_due place s ≡ 0
+  pub ticks : (place stamp : ℕ) (s : ServerModel) → m.server place (ticked s stamp) ≡ m.server place s
+  pub counts : (place : ℕ) (sent : List ℕ) (s : ServerModel) → m.server place (record s { sent = sent }) ≡ m.server place s
+  pub shuts : (place : ℕ) (s : ServerModel) → m.server place (record s { shut = true }) ≡ m.server place s
   pub rule :
-      (me : Server) (s : Pool) (from : Rank) (letter : Message) (z : Response) → Arrives config me s (by.Rank from) → Responds s from letter z
+      (me : Server) (s : ServerModel) (from : Rank) (letter : Message) (z : ServerResponse) → Arrives config me s (by.Rank from) → Responds s from letter z
       → m.letter (by.Rank from) (by.Server me) letter + m.server me.0 s ≡ weigh (λ y. m.letter (by.Server me) y.to y.message) z.says + m.server me.0 z.state
   pub tells :
-      (me : Server) (s : Pool) → IsPool config me s
+      (me : Server) (s : ServerModel) → IsPool config me s
       → m.server me.0 s ≡ weigh (λ y. m.letter (by.Server me) y.to y.message) (map told (waiting_from 0 s.ranks)) + m.server me.0 (exhausted s)
 
 -- The server's own state.
@@ -81,7 +81,7 @@ resumed_left does.Finished e = refl
 left_resumed : (ranks : List Standing) (finished : List Bool) → IsLeft ranks finished → IsLeft (map resumed ranks) finished
 left_resumed ranks finished left rank is = left rank (resumed_left (get_or ranks rank does.Running) (sym (resumed_at ranks rank) ∙ is))
 
-pub rule_own : (config : Config) (me : Server) (s : Pool) (from : Rank) (m : Message) (z : Response) → from.0 < config.ranks → IsPool config me s → Responds s from m z → IsPool config me z.state
+pub rule_own : (config : Config) (me : Server) (s : ServerModel) (from : Rank) (m : Message) (z : ServerResponse) → from.0 < config.ranks → IsPool config me s → Responds s from m z → IsPool config me z.state
 rule_own config me s from m z within own (It_answers h) = record {
   config = h.config ∙ own.config;
   me = h.me ∙ own.me;
@@ -120,20 +120,20 @@ after_own config me y x own (It_tells is) =
     rw (is, state) (record { config = own.config; me = own.me; ranks = length-map y.state.ranks resumed ∙ own.ranks; finished = own.finished; left = left_resumed y.state.ranks y.state.finished own.left })
 
 -- what a response says, with its stamps and places
-abbrev bare : Response → Served
+abbrev bare : ServerResponse → Served
 bare z = record { state = z.state; sends = []; entries = z.entries }
 
-pub said_state : (z : Response) → (served z).state ≡ record z.state { sent = (served z).state.sent }
+pub said_state : (z : ServerResponse) → (served z).state ≡ record z.state { sent = (served z).state.sent }
 said_state z = answers_state z.says (bare z)
 
-pub said_own : (config : Config) (me : Server) (z : Response) → IsPool config me z.state → IsPool config me (served z).state
+pub said_own : (config : Config) (me : Server) (z : ServerResponse) → IsPool config me z.state → IsPool config me (served z).state
 said_own config me z own = rw (said_state z) (record { config = own.config; me = own.me; ranks = own.ranks; finished = own.finished; left = own.left })
 
-pub served_own : (config : Config) (me : Server) (s : Pool) (from : Actor) (letter : Letter) (x : Served) → IsPool config me s → serve s from letter ≡ Some x → IsPool config me x.state
+pub served_own : (config : Config) (me : Server) (s : ServerModel) (from : Actor) (letter : Letter) (x : Served) → IsPool config me s → serve s from letter ≡ Some x → IsPool config me x.state
 served_own config me s from letter x own e =
     let v = serves s from letter x e in
     let v_within : v.rank.0 < config.ranks = let same = ap (λ (k : Config). k.ranks) own.config in let h = v.within in omega arith in
-    let t : Pool = ticked s (next_stamp s letter) in
+    let t : ServerModel = ticked s (next_stamp s letter) in
     let ticks : IsPool config me t = record { config = own.config; me = own.me; ranks = own.ranks; finished = own.finished; left = own.left } in
     let rule = on_some (Responds t v.rank letter.message) (respond t v.rank letter.message) v.response (responds t v.rank letter.message) v.is in
     let said = said_own config me v.response (rule_own config me t v.rank letter.message v.response v_within ticks rule) in
@@ -151,7 +151,7 @@ waiting_within config n (does.Parked request types ∷ standings) few = (lt-ltb 
 waiting_within config n (does.Running ∷ standings) few = waiting_within config (n + 1) standings (omega arith)
 waiting_within config n (does.Finished ∷ standings) few = waiting_within config (n + 1) standings (omega arith)
 
-pub rule_within : (config : Config) (s : Pool) (from : Rank) (m : Message) (z : Response) → from.0 < config.ranks → Responds s from m z → Each (λ (y : Saying). Within config y.to y.message) z.says
+pub rule_within : (config : Config) (s : ServerModel) (from : Rank) (m : Message) (z : ServerResponse) → from.0 < config.ranks → Responds s from m z → Each (λ (y : Saying). Within config y.to y.message) z.says
 rule_within config s from m z here (It_answers h) = rw h.says (lt-ltb from.0 config.ranks here, tt)
 rule_within config s from m z here (It_parks h) = rw h.says tt
 rule_within config s from m z here (It_finishes h) = rw h.says tt
@@ -167,10 +167,10 @@ are_within : (config : Config) (sends : List Sending) → Each (λ (d : Sending)
 are_within config [] each = tt
 are_within config (d ∷ sends) each = (each.0, are_within config sends each.1)
 
-pub served_within : (config : Config) (me : Server) (s : Pool) (from : Actor) (letter : Letter) → Arrives config me s from → OnSome (serve s from letter) (λ x. AreWithin config x.sends)
+pub served_within : (config : Config) (me : Server) (s : ServerModel) (from : Actor) (letter : Letter) → Arrives config me s from → OnSome (serve s from letter) (λ x. AreWithin config x.sends)
 served_within config me s from letter ar = all_some (λ x. AreWithin config x.sends) (serve s from letter) (λ x e.
     let v = serves s from letter x e in
-    let t : Pool = ticked s (next_stamp s letter) in
+    let t : ServerModel = ticked s (next_stamp s letter) in
     let own = ar.own in
     let v_within : v.rank.0 < config.ranks = let same = ap (λ (k : Config). k.ranks) own.config in let h = v.within in omega arith in
     let ticks : IsPool config me t = record { config = own.config; me = own.me; ranks = own.ranks; finished = own.finished; left = own.left } in
@@ -197,10 +197,10 @@ after_keeps config m me y x law own (It_tells is) =
     let same : m.server me.0 (post (telling y) says).state ≡ m.server me.0 (exhausted y.state) = ap (m.server me.0) state ∙ law.counts me.0 (post (telling y) says).state.sent (exhausted y.state) in
     rw is (omega arith)
 
-pub pool_law : (config : Config) (m : Weights) → IsPoolLaw config m → (me : Server) (s : Pool) (from : Actor) (letter : Letter) → Arrives config me s from → OnSome (serve s from letter) (ServerKeeps m me s from letter)
+pub pool_law : (config : Config) (m : Weights) → IsPoolLaw config m → (me : Server) (s : ServerModel) (from : Actor) (letter : Letter) → Arrives config me s from → OnSome (serve s from letter) (ServerKeeps m me s from letter)
 pool_law config m law me s from letter ar = all_some (ServerKeeps m me s from letter) (serve s from letter) (λ x e.
     let v = serves s from letter x e in
-    let t : Pool = ticked s (next_stamp s letter) in
+    let t : ServerModel = ticked s (next_stamp s letter) in
     let own = ar.own in
     let v_within : v.rank.0 < config.ranks = let same = ap (λ (k : Config). k.ranks) own.config in let h = v.within in omega arith in
     let ticks : IsPool config me t = record { config = own.config; me = own.me; ranks = own.ranks; finished = own.finished; left = own.left } in

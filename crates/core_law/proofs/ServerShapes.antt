@@ -17,8 +17,8 @@ use Rattle.bag_ledger.specs.declared.entries.Entry.TheVariants as enters
 use Rattle.bag_ledger.proofs.Tests.{some_is}
 use Rattle.work_queue.specs.declared.placing.Placed.{Placed}
 use Rattle.server_core.specs.declared.standings.Standing.TheVariants as does
-use Rattle.server_core.specs.Rules.{Response, best_unit, expects_finish, expects_put, expects_reserve, fetch, finish, is_finished, is_over, is_pinned_as, is_running, leave, put, reserve, respond, to_rank}
-use Rattle.server_core.specs.State.{State as Pool, is_home, standing}
+use Rattle.server_core.specs.Rules.{ServerResponse, best_unit, expects_finish, expects_put, expects_reserve, fetch, finish, is_finished, is_over, is_pinned_as, is_running, leave, put, reserve, respond, to_rank}
+use Rattle.server_core.specs.State.{ServerModel, is_home, standing}
 use Rattle.server_core.specs.Step.{Served, Waiting, after_event, exhaust, fits, is_quiet, next_stamp, over, post, resumed, serve, served, ticked, told, verdict, waiting_from}
 use Rattle.adlb_unit.specs.Kinds.{is_to_rank}
 use Rattle.core_law.specs.Letters.{is_request, request_of}
@@ -26,7 +26,7 @@ use Rattle.core_law.proofs.Kept.{OnSome}
 
 -- The rule of a letter of a rank: the rank is answered; it waits; or that it has finished is noted.
 
-pub record Answering (s : Pool) (from : Rank) (m : Message) (z : Response) : Type 0 where
+pub record Answering (s : ServerModel) (from : Rank) (m : Message) (z : ServerResponse) : Type 0 where
   pub answer : Message
   pub request : is_request m ≡ true
   pub kind : is_to_rank answer ≡ true
@@ -37,7 +37,7 @@ pub record Answering (s : Pool) (from : Rank) (m : Message) (z : Response) : Typ
   pub ranks : z.state.ranks ≡ s.ranks
   pub finished : z.state.finished ≡ s.finished
 
-pub record Parking (s : Pool) (from : Rank) (m : Message) (z : Response) : Type 0 where
+pub record Parking (s : ServerModel) (from : Rank) (m : Message) (z : ServerResponse) : Type 0 where
   pub request : ℕ
   pub types : Option (List WorkType)
   pub is : m ≡ tells.Reserve request types
@@ -48,7 +48,7 @@ pub record Parking (s : Pool) (from : Rank) (m : Message) (z : Response) : Type 
   pub ranks : z.state.ranks ≡ set s.ranks from.0 (does.Parked request types)
   pub finished : z.state.finished ≡ s.finished
 
-pub record Finishing (s : Pool) (from : Rank) (m : Message) (z : Response) : Type 0 where
+pub record Finishing (s : ServerModel) (from : Rank) (m : Message) (z : ServerResponse) : Type 0 where
   pub is : m ≡ tells.Finish
   pub fresh : is_finished s from ≡ false
   pub runs : is_home s from ≡ true → is_running (standing s from) ≡ true
@@ -58,27 +58,27 @@ pub record Finishing (s : Pool) (from : Rank) (m : Message) (z : Response) : Typ
   pub ranks : z.state.ranks ≡ leave s from
   pub finished : z.state.finished ≡ set s.finished from.0 true
 
-pub data Responds (s : Pool) (from : Rank) (m : Message) (z : Response) : Type 0 where
+pub data Responds (s : ServerModel) (from : Rank) (m : Message) (z : ServerResponse) : Type 0 where
   It_answers : (h : Answering s from m z) → Responds s from m z
   It_parks : (h : Parking s from m z) → Responds s from m z
   It_finishes : (h : Finishing s from m z) → Responds s from m z
 
-put_responds : (s : Pool) (from : Rank) (unit : Unit) (done over : Bool) → Responds s from (tells.Put unit) (put s from unit done over)
+put_responds : (s : ServerModel) (from : Rank) (unit : Unit) (done over : Bool) → Responds s from (tells.Put unit) (put s from unit done over)
 put_responds s from unit true over = It_answers (record { answer = _; request = refl; kind = refl; config = refl; me = refl; says = refl; number = refl; ranks = refl; finished = refl })
 put_responds s from unit false true = It_answers (record { answer = _; request = refl; kind = refl; config = refl; me = refl; says = refl; number = refl; ranks = refl; finished = refl })
 put_responds s from unit false false = It_answers (record { answer = _; request = refl; kind = refl; config = refl; me = refl; says = refl; number = refl; ranks = refl; finished = refl })
 
-reserve_responds : (s : Pool) (from : Rank) (request : ℕ) (types : Option (List WorkType)) (done exhausted : Bool) (best : Option Placed) → is_running (standing s from) ≡ true → Responds s from (tells.Reserve request types) (reserve s from request types done exhausted best)
+reserve_responds : (s : ServerModel) (from : Rank) (request : ℕ) (types : Option (List WorkType)) (done exhausted : Bool) (best : Option Placed) → is_running (standing s from) ≡ true → Responds s from (tells.Reserve request types) (reserve s from request types done exhausted best)
 reserve_responds s from request types true exhausted best runs = It_answers (record { answer = _; request = refl; kind = refl; config = refl; me = refl; says = refl; number = refl; ranks = refl; finished = refl })
 reserve_responds s from request types false true best runs = It_answers (record { answer = _; request = refl; kind = refl; config = refl; me = refl; says = refl; number = refl; ranks = refl; finished = refl })
 reserve_responds s from request types false false (Some p) runs = It_answers (record { answer = _; request = refl; kind = refl; config = refl; me = refl; says = refl; number = refl; ranks = refl; finished = refl })
 reserve_responds s from request types false false None runs = It_parks (record { request = request; types = types; is = refl; runs = runs; config = refl; me = refl; says = refl; ranks = refl; finished = refl })
 
-fetch_responds : (s : Pool) (from : Rank) (request : ℕ) (id : UnitId) (o : Option Placed) → OnSome (fetch s from request id o) (Responds s from (tells.Fetch request id))
+fetch_responds : (s : ServerModel) (from : Rank) (request : ℕ) (id : UnitId) (o : Option Placed) → OnSome (fetch s from request id o) (Responds s from (tells.Fetch request id))
 fetch_responds s from request id None = tt
 fetch_responds s from request id (Some p) = It_answers (record { answer = _; request = refl; kind = refl; config = refl; me = refl; says = refl; number = refl; ranks = refl; finished = refl })
 
-pub responds : (s : Pool) (from : Rank) (m : Message) → OnSome (respond s from m) (Responds s from m)
+pub responds : (s : ServerModel) (from : Rank) (m : Message) → OnSome (respond s from m) (Responds s from m)
 responds s from (tells.Put unit) = by_test (expects_put s from unit)
   where
     by_test : (t : Bool) → OnSome (cond t (Some (put s from unit s.done (is_over s.queue unit))) None) (Responds s from (tells.Put unit))
@@ -130,22 +130,22 @@ follows y = by_test ((y.state.config.servers == 1) && is_quiet y.state)
 -- The step.
 
 -- the rule of the letter, in an event that has its stamp, and then what follows
-pub record Serving (s : Pool) (from : Actor) (letter : Letter) (x : Served) : Type 0 where
+pub record Serving (s : ServerModel) (from : Actor) (letter : Letter) (x : Served) : Type 0 where
   pub rank : Rank
   pub by_rank : from ≡ by.Rank rank
   pub within : rank.0 < s.config.ranks
-  pub response : Response
+  pub response : ServerResponse
   pub is : respond (ticked s (next_stamp s letter)) rank letter.message ≡ Some response
   pub makes : after_event (served response) ≡ x
 
-pub serves : (s : Pool) (from : Actor) (letter : Letter) (x : Served) → serve s from letter ≡ Some x → Serving s from letter x
+pub serves : (s : ServerModel) (from : Actor) (letter : Letter) (x : Served) → serve s from letter ≡ Some x → Serving s from letter x
 serves s (by.Server from) letter x e = absurd (cc)
 serves s (by.Rank from) letter x e = by_test (nat_lt from.0 s.config.ranks && nat_lt letter.stamp (2 ^ 48)) refl e
   where
-    given : Option Response
+    given : Option ServerResponse
     given = respond (ticked s (next_stamp s letter)) from letter.message
 
-    by_given : from.0 < s.config.ranks → (o : Option Response) → given ≡ o → option_map (λ z. after_event (served z)) o ≡ Some x → Serving s (by.Rank from) letter x
+    by_given : from.0 < s.config.ranks → (o : Option ServerResponse) → given ≡ o → option_map (λ z. after_event (served z)) o ≡ Some x → Serving s (by.Rank from) letter x
     by_given within None is e = absurd (cc)
     by_given within (Some z) is e = record { rank = from; by_rank = refl; within = within; response = z; is = is; makes = some_is e }
 

@@ -3,6 +3,7 @@ use Rattle.std.proofs.Common.{◌≡◌, ◌<◌, ◌+◌, Bool, true, false, �
 use Rattle.std.specs.Option.{option_map}
 use Rattle.std.proofs.lemmas.List.{length-set}
 use Rattle.std.proofs.lemmas.Bool.{and_parts, ltb-true, lt-ltb}
+use Rattle.adlb_unit.specs.Links.{place_of}
 use Rattle.adlb_unit.specs.declared.actors.Actor.{Actor}
 use Rattle.adlb_unit.specs.declared.actors.Actor.TheVariants as by
 use Rattle.adlb_unit.specs.declared.letters.Letter.{Letter}
@@ -11,7 +12,7 @@ use Rattle.adlb_unit.specs.declared.names.Server.{Server}
 use Rattle.bag_ledger.specs.declared.entries.Call.{Call}
 use Rattle.rank_client.specs.State.{start as new_client}
 use Rattle.rank_client.specs.Step.{Made, begin, hear}
-use Rattle.server_core.specs.State.{start as new_pool, place_of}
+use Rattle.server_core.specs.State.{start as new_pool}
 use Rattle.server_core.specs.Step.{Served, serve}
 use Rattle.core_run.specs.declared.events.Event.{Event}
 use Rattle.core_run.specs.declared.events.Event.TheVariants as occurs

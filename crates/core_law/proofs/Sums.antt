@@ -3,12 +3,12 @@ use Rattle.std.proofs.Common.{◌≡◌, ◌<◌, ℕ, zero, suc, ◌+◌, ◌-�
 use Rattle.std.proofs.lemmas.List.{length-set, get_or-set_same, get_or-set_other}
 use Rattle.std.proofs.lemmas.Bool.Decides.{nat_tests}
 use Rattle.std.proofs.lemmas.Bool.{ltb-true, cases_eq}
+use Rattle.adlb_unit.specs.Links.{place_of}
 use Rattle.adlb_unit.specs.declared.actors.Actor.{Actor}
 use Rattle.adlb_unit.specs.declared.actors.Actor.TheVariants as by
 use Rattle.adlb_unit.specs.declared.configs.Config.{Config}
 use Rattle.adlb_unit.specs.declared.letters.Letter.{Letter}
 use Rattle.adlb_unit.specs.declared.letters.Sending.{Sending}
-use Rattle.server_core.specs.State.{place_of}
 use Rattle.core_run.specs.World.{Links, actors, is_within, link, post, put_link, row}
 use Rattle.core_law.specs.Measures.{Weights, actor, link_weight, links_weight, row_weight, sends_weight, weigh, weigh_at}
 

@@ -1,6 +1,7 @@
 -- What holds of each letter that is under way, along an event.
 use Rattle.std.proofs.Common.{◌≡◌, ◌≢◌, ◌<◌, ◌⊎◌, inl, inr, ℕ, Bool, true, false, cond, List, [], ◌∷◌, ◌++◌, refl, sym, ap, ◌∙◌, subst, arith, eqb}
 use Rattle.std.proofs.lemmas.Bool.{cases_eq, eqb-true, lt-ltb}
+use Rattle.adlb_unit.specs.Links.{place_of}
 use Rattle.adlb_unit.specs.declared.actors.Actor.{Actor}
 use Rattle.adlb_unit.specs.declared.actors.Actor.TheVariants as by
 use Rattle.adlb_unit.specs.declared.configs.Config.{Config}
@@ -9,7 +10,6 @@ use Rattle.adlb_unit.specs.declared.letters.Sending.{Sending}
 use Rattle.adlb_unit.specs.declared.names.Rank.{Rank}
 use Rattle.adlb_unit.specs.declared.names.Server.{Server}
 use Rattle.rank_client.specs.Step.{Made}
-use Rattle.server_core.specs.State.{place_of}
 use Rattle.server_core.specs.Step.{Served}
 use Rattle.core_run.specs.World.{World, actors, after_rank, after_server, is_within, link, post, taken}
 use Rattle.core_law.specs.Measures.{Weights, actor, link_weight, measure, weigh}

@@ -8,8 +8,8 @@ use Rattle.adlb_unit.specs.declared.names.Rank.{Rank}
 use Rattle.adlb_unit.specs.declared.names.Server.{Server}
 use Rattle.adlb_unit.specs.Kinds.{is_of_rank, is_to_rank}
 use Rattle.rank_client.specs.Rules.{is_idle}
-use Rattle.rank_client.specs.State.{State as Client}
-use Rattle.server_core.specs.State.{State as Pool}
+use Rattle.rank_client.specs.State.{ClientModel}
+use Rattle.server_core.specs.State.{ServerModel}
 use Rattle.server_core.specs.declared.standings.Standing.{Standing}
 use Rattle.server_core.specs.declared.standings.Standing.TheVariants as does
 use Rattle.core_law.specs.Measures.{Weights, weigh_at}
@@ -18,14 +18,14 @@ abbrev pub one : Bool → ℕ
 one true = 1
 one false = 0
 
-abbrev pub no_server : ℕ → Pool → ℕ
+abbrev pub no_server : ℕ → ServerModel → ℕ
 no_server place s = 0
 
-abbrev pub no_rank : ℕ → Client → ℕ
+abbrev pub no_rank : ℕ → ClientModel → ℕ
 no_rank place s = 0
 
 -- what is weighed of this rank alone
-abbrev pub at_rank : Rank → (Client → ℕ) → ℕ → Client → ℕ
+abbrev pub at_rank : Rank → (ClientModel → ℕ) → ℕ → ClientModel → ℕ
 at_rank rank f place s = if place == rank.0 then f s else 0
 
 -- Finish: a rank's letter to a server, or that the server handled it, is as often there as the rank has finished.
@@ -39,7 +39,7 @@ finish_letter rank server (by.Rank from) (by.Server to) m = one (is_finish m && 
 finish_letter rank server (by.Rank from) (by.Rank to) m = 0
 finish_letter rank server (by.Server from) to m = 0
 
-abbrev pub finish_handled : Rank → Server → ℕ → Pool → ℕ
+abbrev pub finish_handled : Rank → Server → ℕ → ServerModel → ℕ
 finish_handled rank server place s = if place == server.0 then one (slice_index_or s.finished rank.0 false) else 0
 
 abbrev pub finishes : Rank → Server → Weights
@@ -74,7 +74,7 @@ is_parked does.Finished = false
 abbrev pub parked_as : Rank → ℕ → Standing → ℕ
 parked_as rank place standing = one (is_parked standing && (place == rank.0))
 
-abbrev pub call_parked : Rank → ℕ → Pool → ℕ
+abbrev pub call_parked : Rank → ℕ → ServerModel → ℕ
 call_parked rank place s = weigh_at (parked_as rank) s.ranks
 
 abbrev pub one_letter : Rank → Weights
@@ -86,7 +86,7 @@ one_letter rank = record {
   rank_due = at_rank rank (λ s. one (not (is_idle s.pending)));
 }
 
--- The same with the number of the call: `next` is the number after it.
+-- Those of one call, by its number: `next` is the number after it.
 
 -- the request that the message makes or answers
 abbrev pub request_of : Message → ℕ
@@ -121,7 +121,7 @@ numbered_as rank next place (does.Parked request types) = one ((place == rank.0)
 numbered_as rank next place does.Running = 0
 numbered_as rank next place does.Finished = 0
 
-abbrev pub numbered_parked : Rank → ℕ → ℕ → Pool → ℕ
+abbrev pub numbered_parked : Rank → ℕ → ℕ → ServerModel → ℕ
 numbered_parked rank next place s = weigh_at (numbered_as rank next) s.ranks
 
 abbrev pub numbered : Rank → ℕ → Weights
@@ -133,7 +133,7 @@ numbered rank next = record {
   rank_due = at_rank rank (λ s. one (not (is_idle s.pending) && (s.next == next)));
 }
 
--- Kinds: a rank sends requests and Finish to servers, and a server answers to ranks. So far servers send each other nothing.
+-- Kinds: a rank sends requests and Finish to servers, and a server answers to ranks. Servers send each other nothing.
 
 abbrev pub fits_link : Actor → Actor → Message → Bool
 fits_link (by.Rank from) (by.Rank to) m = false

@@ -1,11 +1,12 @@
 -- Letters on a link stand in line: by their places, and by their stamps.
 use Rattle.std.specs.Prelude.{ℕ, ◌+◌, ◌≡◌, ◌<◌, ◌≤◌, List, [], ◌∷◌, slice_index_or}
+use Rattle.adlb_unit.specs.Links.{place_of}
 use Rattle.adlb_unit.specs.declared.actors.Actor.{Actor}
 use Rattle.adlb_unit.specs.declared.actors.Actor.TheVariants as by
 use Rattle.adlb_unit.specs.declared.configs.Config.{Config}
 use Rattle.adlb_unit.specs.declared.letters.Letter.{Letter}
-use Rattle.rank_client.specs.State.{State as Client}
-use Rattle.server_core.specs.State.{State as Pool, place_of}
+use Rattle.rank_client.specs.State.{ClientModel}
+use Rattle.server_core.specs.State.{ServerModel}
 use Rattle.core_run.specs.World.{World, client_of, link, pool_of}
 
 -- their places follow one another, from the first to before the next
@@ -19,11 +20,11 @@ AreStamped low [] last = low ≤ last
 AreStamped low (l ∷ letters) last = (0 < l.stamp) × (low ≤ l.stamp) × AreStamped l.stamp letters last
 
 -- how many letters the rank, and the server, sent to the actor
-abbrev pub rank_sent : Client → Actor → ℕ
+abbrev pub rank_sent : ClientModel → Actor → ℕ
 rank_sent s (by.Server to) = slice_index_or s.sent to.0 0
 rank_sent s (by.Rank to) = 0
 
-abbrev pub server_sent : Config → Pool → Actor → ℕ
+abbrev pub server_sent : Config → ServerModel → Actor → ℕ
 server_sent config s to = slice_index_or s.sent (place_of config to) 0
 
 -- how many letters went from the one actor to the other

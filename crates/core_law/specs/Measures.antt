@@ -6,8 +6,8 @@ use Rattle.adlb_unit.specs.declared.configs.Config.{Config}
 use Rattle.adlb_unit.specs.declared.letters.Letter.{Letter}
 use Rattle.adlb_unit.specs.declared.letters.Sending.{Sending}
 use Rattle.adlb_unit.specs.declared.messages.Message.{Message}
-use Rattle.rank_client.specs.State.{State as Client}
-use Rattle.server_core.specs.State.{State as Pool}
+use Rattle.rank_client.specs.State.{ClientModel}
+use Rattle.server_core.specs.State.{ServerModel}
 use Rattle.core_run.specs.World.{Links, World, rank_named, server_named}
 
 -- the sum of the weights of a list's elements
@@ -15,7 +15,7 @@ abbrev pub weigh : {X : Type 0} → (X → ℕ) → List X → ℕ
 weigh f [] = 0
 weigh f (x ∷ xs) = f x + weigh f xs
 
--- the same, where the weight depends on the place
+-- the sum of weights that depend on the place too
 abbrev pub weigh_at : {X : Type 0} → (ℕ → X → ℕ) → List X → ℕ
 weigh_at f [] = 0
 weigh_at f (x ∷ xs) = f zero x + weigh_at (λ i. f (suc i)) xs
@@ -23,10 +23,10 @@ weigh_at f (x ∷ xs) = f zero x + weigh_at (λ i. f (suc i)) xs
 -- what letters under way and states hold on one side, and what states are owed on the other
 pub record Weights : Type 0 where
   pub letter : Actor → Actor → Message → ℕ
-  pub server : ℕ → Pool → ℕ
-  pub rank : ℕ → Client → ℕ
-  pub server_due : ℕ → Pool → ℕ
-  pub rank_due : ℕ → Client → ℕ
+  pub server : ℕ → ServerModel → ℕ
+  pub rank : ℕ → ClientModel → ℕ
+  pub server_due : ℕ → ServerModel → ℕ
+  pub rank_due : ℕ → ClientModel → ℕ
 
 -- the actor of this place among all
 abbrev pub actor : Config → ℕ → Actor

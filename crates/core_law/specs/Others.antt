@@ -7,11 +7,11 @@ use Rattle.bag_ledger.specs.declared.entries.Entry.TheVariants as enters
 use Rattle.bag_ledger.specs.Bag.{Bag}
 use Rattle.bag_ledger.specs.Runs.{calls_from}
 use Rattle.bag_ledger.specs.Steps.{Steps}
-use Rattle.rank_client.specs.Agreement.{Agrees}
-use Rattle.rank_client.specs.State.{State as Client}
+use Rattle.rank_client.specs.Agreement.{ClientAgrees}
+use Rattle.rank_client.specs.State.{ClientModel}
 use Rattle.server_core.specs.declared.standings.Standing.TheVariants.{Running}
-use Rattle.server_core.specs.Agreement.{Agrees as ServerAgrees}
-use Rattle.server_core.specs.State.{State as Pool}
+use Rattle.server_core.specs.Agreement.{ServerAgrees}
+use Rattle.server_core.specs.State.{ServerModel}
 
 -- the rank of whose call the entry tells, if it does
 abbrev pub teller : Entry → Option Rank
@@ -50,11 +50,13 @@ tells_of rank (Some other) = other.0 == rank.0
 
 -- the law: a client that stands for its rank of the bag stands for it after a step that does not tell of this rank
 abbrev pub ClientsStay : Type 0
-ClientsStay = (b next : Bag) (e : Entry) (s : Client) (coming : Option Message) → Steps b e next → tells_of s.me (teller e) ≡ false → Agrees s coming b → Agrees s coming next
+ClientsStay = (b next : Bag) (e : Entry) (s : ClientModel) (coming : Option Message) → Steps b e next → tells_of s.me (teller e) ≡ false
+    → ClientAgrees s coming b → ClientAgrees s coming next
 
 -- the law: such a step adds nothing to what the ledger says of the rank's calls
 abbrev pub CallsStay : Type 0
-CallsStay = (b next : Bag) (e : Entry) (es : List Entry) (rank : Rank) → Steps b e next → tells_of rank (teller e) ≡ false → calls_from b (e ∷ es) rank ≡ calls_from next es rank
+CallsStay = (b next : Bag) (e : Entry) (es : List Entry) (rank : Rank) → Steps b e next → tells_of rank (teller e) ≡ false
+    → calls_from b (e ∷ es) rank ≡ calls_from next es rank
 
 -- the rank that makes the entry; none where a server makes it
 abbrev pub maker : Entry → Option Rank
@@ -72,9 +74,10 @@ maker (enters.Finished rank call) = Some rank
 maker _ = None
 
 -- the rank runs, or this is not its home
-abbrev pub RunsAt : Pool → Rank → Type 0
+abbrev pub RunsAt : ServerModel → Rank → Type 0
 RunsAt t rank = (rank.0 % t.config.servers) ≡ t.me.0 → slice_index_or t.ranks rank.0 Running ≡ Running
 
 -- the law: each server at which the rank runs agrees with the bag after a step that the rank makes
 abbrev pub ServersStay : Type 0
-ServersStay = (b next : Bag) (e : Entry) (rank : Rank) (t : Pool) → Steps b e next → maker e ≡ Some rank → RunsAt t rank → ServerAgrees b t → ServerAgrees next t
+ServersStay = (b next : Bag) (e : Entry) (rank : Rank) (t : ServerModel) → Steps b e next → maker e ≡ Some rank → RunsAt t rank
+    → ServerAgrees b t → ServerAgrees next t

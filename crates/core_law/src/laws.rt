@@ -7,7 +7,7 @@ ghost use Rattle.adlb_unit.specs.declared.names.Rank.{Rank};
 ghost use Rattle.adlb_unit.specs.declared.names.Server.{Server};
 ghost use Rattle.bag_ledger.specs.Bag.{Bag, start as empty_bag};
 ghost use Rattle.bag_ledger.specs.Runs.{IsLegal, IsRun};
-ghost use Rattle.server_core.specs.Agreement.{Agrees};
+ghost use Rattle.server_core.specs.Agreement.{ServerAgrees};
 ghost use Rattle.core_run.specs.declared.events.Event.{Event};
 ghost use Rattle.core_law.specs.Among.{StepsAreLegalAmong};
 ghost use Rattle.core_law.specs.Letters.{finishes, kinds, numbered, one_letter};
@@ -62,7 +62,8 @@ pub fn core_run_laws()
         config.ranks ≡ 1 → Runs (start config) events w → IsLegal config w.ledger }
     ensures agrees { (config : Config) (events : List Event) (w : World) →
         config.ranks ≡ 1 → Runs (start config) events w →
-        (b : Bag) × IsRun (empty_bag config) w.ledger b × ((server : Server) → server.0 < config.servers → Agrees b (pool_of w server)) }
+        (b : Bag) × IsRun (empty_bag config) w.ledger b × ((server : Server) → server.0 < config.servers
+        → ServerAgrees b (pool_of w server)) }
     ensures calls { (config : Config) (events : List Event) (w : World) (rank : Rank) →
         config.ranks ≡ 1 → rank.0 < config.ranks → Runs (start config) events w → Tells w rank }
     ensures expected { (config : Config) (events : List Event) (w : World) →

@@ -1,5 +1,7 @@
 -- Runs, and what is read off them.
-use Rattle.std.specs.Prelude.{◌≡◌, ◌≤◌, List, [], ◌∷◌, ◌++◌, length, Option, Some, option_and_then, ◌<◌, ◌^◌, true}
+use Rattle.std.specs.Prelude.{◌≡◌, ◌≤◌, List, [], ◌∷◌, ◌++◌, length, Option, Some, option_and_then, ◌<◌, true}
+use Rattle.adlb_unit.specs.Limits.{stamp_limit}
+use Rattle.adlb_unit.specs.Links.{place_of}
 use Rattle.adlb_unit.specs.declared.names.Rank.{Rank}
 use Rattle.bag_ledger.specs.declared.entries.Said.{Said}
 use Rattle.bag_ledger.specs.Runs.{calls}
@@ -7,7 +9,6 @@ use Rattle.rank_client.specs.declared.pendings.Pending.TheVariants as waits_for
 use Rattle.core_run.specs.declared.events.Event.{Event}
 use Rattle.core_run.specs.declared.events.Event.TheVariants as occurs
 use Rattle.core_run.specs.World.{World, client_of, happens, is_within, link}
-use Rattle.server_core.specs.State.{place_of}
 use Rattle.adlb_unit.specs.declared.actors.Actor.{Actor}
 use Rattle.adlb_unit.specs.declared.letters.Letter.{Letter}
 
@@ -21,7 +22,7 @@ abbrev pub run : World → List Event → Option World
 run w [] = Some w
 run w (e ∷ es) = option_and_then (λ next. run next es) (happens w e)
 
--- the calls of the rank with their answers, so far as it has heard them
+-- the calls of the rank with the answers that it has heard
 abbrev pub transcript : World → Rank → List Said
 transcript w rank = (client_of w rank).transcript
 
@@ -39,5 +40,5 @@ Tells w rank =
 abbrev pub NoneIsStuck : World → Type 0
 NoneIsStuck w =
     (from to : Actor) (letter : Letter) (rest : List Letter) → is_within w.config from ≡ true → is_within w.config to ≡ true
-    → link w.links (place_of w.config from) (place_of w.config to) ≡ letter ∷ rest → letter.stamp < 2 ^ 48
+    → link w.links (place_of w.config from) (place_of w.config to) ≡ letter ∷ rest → letter.stamp < stamp_limit
     → (next : World) × (happens w (occurs.Deliver from to) ≡ Some next)

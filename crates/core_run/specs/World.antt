@@ -1,7 +1,8 @@
--- A world: every actor's state, the letters that are under way, and the ledger so far; and what happens in it.
+-- A world: every actor's state, the letters that are under way, and the ledger; and what happens in it.
 use Rattle.std.specs.Prelude.{ℕ, ◌+◌, nat_lt, Bool, ◌&&◌, List, [], ◌∷◌, ◌++◌, map, replicate, slice_index_or, slice_set, Option, None, if◌then◌else◌}
 use Rattle.std.specs.List.{list_all, range_with_len}
 use Rattle.std.specs.Option.{option_map}
+use Rattle.adlb_unit.specs.Links.{place_of}
 use Rattle.adlb_unit.specs.declared.actors.Actor.{Actor}
 use Rattle.adlb_unit.specs.declared.actors.Actor.TheVariants as by
 use Rattle.adlb_unit.specs.declared.configs.Config.{Config}
@@ -10,9 +11,9 @@ use Rattle.adlb_unit.specs.declared.letters.Sending.{Sending}
 use Rattle.adlb_unit.specs.declared.names.Rank.{Rank}
 use Rattle.adlb_unit.specs.declared.names.Server.{Server}
 use Rattle.bag_ledger.specs.declared.entries.Entry.{Entry}
-use Rattle.rank_client.specs.State.{State as Client, start as new_client}
+use Rattle.rank_client.specs.State.{ClientModel, start as new_client}
 use Rattle.rank_client.specs.Step.{Made, begin, hear}
-use Rattle.server_core.specs.State.{State as Pool, start as new_pool, place_of}
+use Rattle.server_core.specs.State.{ServerModel, start as new_pool}
 use Rattle.server_core.specs.Step.{Served, serve}
 use Rattle.core_run.specs.declared.events.Event.{Event}
 use Rattle.core_run.specs.declared.events.Event.TheVariants as occurs
@@ -24,11 +25,11 @@ Links = List (List (List Letter))
 pub record World : Type 0 where
   pub config : Config
   -- the ranks and the servers by number
-  pub ranks : List Client
-  pub servers : List Pool
+  pub ranks : List ClientModel
+  pub servers : List ServerModel
   -- the letters that were sent and not handled, in order
   pub links : Links
-  -- the entries so far, in the order of events
+  -- the entries, in the order of events
   pub ledger : List Entry
 
 abbrev pub rank_named : ℕ → Rank
@@ -53,10 +54,10 @@ start config = record {
 
 -- What is found in a world.
 
-abbrev pub client_of : World → Rank → Client
+abbrev pub client_of : World → Rank → ClientModel
 client_of w rank = slice_index_or w.ranks rank.0 (new_client w.config rank)
 
-abbrev pub pool_of : World → Server → Pool
+abbrev pub pool_of : World → Server → ServerModel
 pool_of w server = slice_index_or w.servers server.0 (new_pool w.config server)
 
 -- the actor is one of this run
@@ -81,7 +82,7 @@ post config links from (x ∷ sends) =
     post config (put_link links from (place_of config x.to) (link links from (place_of config x.to) ++ x.letter ∷ [])) from sends
 
 -- a server has ended where it is shut and has handled the Finish letter of each rank
-abbrev pub has_ended : Pool → Bool
+abbrev pub has_ended : ServerModel → Bool
 has_ended s = s.shut && list_all (λ finished. finished) s.finished
 
 -- What happens.

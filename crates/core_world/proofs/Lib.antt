@@ -1,6 +1,5 @@
 pub mod Ended
 pub mod Posting
-pub mod Refusing
 pub mod Running
 pub mod Stamps
 pub mod Starting

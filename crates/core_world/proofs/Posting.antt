@@ -1,9 +1,9 @@
 -- Letters are sent, and entries entered, one by one.
 use Rattle.std.proofs.Common.{◌≡◌, ℕ, List, [], ◌∷◌, ◌++◌, length, refl, sym, arith, append-nil, append_assoc}
+use Rattle.adlb_unit.specs.Links.{place_of}
 use Rattle.adlb_unit.specs.declared.configs.Config.{Config}
 use Rattle.adlb_unit.specs.declared.letters.Sending.{Sending}
 use Rattle.bag_ledger.specs.declared.entries.Entry.{Entry}
-use Rattle.server_core.specs.State.{place_of}
 use Rattle.core_run.specs.World.{Links, World, link, post, put_link}
 use Rattle.core_world.specs.Applied.{IsBetween, IsHalf}
 

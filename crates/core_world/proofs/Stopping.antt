@@ -2,6 +2,7 @@
 use Rattle.std.proofs.Common.{◌≡◌, ℕ, zero, suc, Bool, true, false, ◌&&◌, cond, List, [], ◌∷◌, ◌++◌, get_or, set, Option, Some, None, inl, refl, sym, ap, ◌∙◌, subst, append-nil}
 use Rattle.std.specs.Prelude.{IsSome, nat_lt}
 use Rattle.std.specs.Option.{option_map}
+use Rattle.adlb_unit.specs.Links.{place_of}
 use Rattle.adlb_unit.specs.declared.actors.Actor.{Actor}
 use Rattle.adlb_unit.specs.declared.actors.Actor.TheVariants as by
 use Rattle.adlb_unit.specs.declared.letters.Letter.{Letter}
@@ -11,10 +12,9 @@ use Rattle.adlb_unit.specs.declared.notes.Trouble.{Trouble}
 use Rattle.adlb_unit.specs.declared.notes.Trouble.TheVariants as troubles
 use Rattle.bag_ledger.specs.declared.entries.Entry.{Entry}
 use Rattle.bag_ledger.specs.declared.entries.Call.{Call}
-use Rattle.rank_client.specs.State.{State as Client, start as new_client}
-use Rattle.server_core.specs.State.{State as Pool}
+use Rattle.rank_client.specs.State.{ClientModel, start as new_client}
+use Rattle.server_core.specs.State.{ServerModel}
 use Rattle.rank_client.specs.Step.{Made, begin, hear, letter_stamp}
-use Rattle.server_core.specs.State.{place_of}
 use Rattle.server_core.specs.Step.{Served, next_stamp, serve}
 use Rattle.core_run.specs.declared.events.Event.{Event}
 use Rattle.core_run.specs.declared.events.Event.TheVariants as occurs
@@ -83,18 +83,18 @@ pub stops_kept : (w new : World) (event : Event) (trouble : Trouble) → Causes 
 stops_kept w new event troubles.Memory cause kept = record { cause = cause; leaves = λ after h. cut_kept w new after event kept h }
 stops_kept w new event (troubles.TooLong stamp) cause kept = record { cause = cause; leaves = kept }
 
-same_at : (ranks : List Client) (at k : ℕ) (d e s : Client) → s.transcript ≡ (get_or ranks at e).transcript → (get_or (set ranks at s) k d).transcript ≡ (get_or ranks k d).transcript
+same_at : (ranks : List ClientModel) (at k : ℕ) (d e s : ClientModel) → s.transcript ≡ (get_or ranks at e).transcript → (get_or (set ranks at s) k d).transcript ≡ (get_or ranks k d).transcript
 same_at [] at k d e s is = refl
 same_at (x ∷ ranks) zero zero d e s is = is
 same_at (x ∷ ranks) zero (suc k) d e s is = refl
 same_at (x ∷ ranks) (suc at) zero d e s is = refl
 same_at (x ∷ ranks) (suc at) (suc k) d e s is = same_at ranks at k d e s is
 
-pub kept_client : (w : World) (links : Links) (rank : Rank) (s : Client) → s.transcript ≡ (client_of w rank).transcript → IsKept w (with_client (record w { links = links }) rank s)
+pub kept_client : (w : World) (links : Links) (rank : Rank) (s : ClientModel) → s.transcript ≡ (client_of w rank).transcript → IsKept w (with_client (record w { links = links }) rank s)
 kept_client w links rank s is =
     record { config = refl; ledger = refl; transcripts = λ r. same_at w.ranks rank.0 r.0 (new_client w.config r) (new_client w.config rank) s is }
 
-pub kept_server : (w : World) (links : Links) (server : Server) (s : Pool) → IsKept w (with_server (record w { links = links }) server s)
+pub kept_server : (w : World) (links : Links) (server : Server) (s : ServerModel) → IsKept w (with_server (record w { links = links }) server s)
 kept_server w links server s = record { config = refl; ledger = refl; transcripts = λ r. refl }
 
 -- The client that was to begin a call, or to hear the front letter, failed; the server that was to handle it failed.
@@ -102,7 +102,7 @@ kept_server w links server s = record { config = refl; ledger = refl; transcript
 pub call_stops : (w now : World) (rank : Rank) (call : Call) (trouble : Trouble) → Causes (event_stamp w (occurs.Call rank call)) trouble
     → now ≡ with_client w rank (record (client_of w rank) { trouble = Some trouble }) → Stops w (occurs.Call rank call) trouble now
 call_stops w now rank call trouble cause is =
-    let s : Client = record (client_of w rank) { trouble = Some trouble } in
+    let s : ClientModel = record (client_of w rank) { trouble = Some trouble } in
     subst (λ (v : World). Stops w (occurs.Call rank call) trouble v) (sym is)
     (stops_kept w (with_client w rank s) (occurs.Call rank call) trouble cause (kept_client w w.links rank s refl))
 
@@ -113,7 +113,7 @@ pub answer_stops : (w took now : World) (from : Server) (to : Rank) (letter : Le
 answer_stops w took now from to letter rest trouble front took_is cause is =
     let event : Event = occurs.Deliver (by.Server from) (by.Rank to) in
     let links : Links = taken w (by.Server from) (by.Rank to) rest in
-    let s : Client = record (client_of w to) { trouble = Some trouble } in
+    let s : ClientModel = record (client_of w to) { trouble = Some trouble } in
     let stamp : event_stamp w event ≡ letter_stamp (client_of w to) letter = ap (front_stamp w (by.Rank to)) front in
     let caused : Causes (letter_stamp (client_of w to) letter) trouble = subst (λ (v : World). Causes (letter_stamp (client_of v to) letter) trouble) took_is cause in
     let now_is : now ≡ with_client (record w { links = links }) to s =
@@ -123,7 +123,7 @@ answer_stops w took now from to letter rest trouble front took_is cause is =
 
 pub request_stops : (w took now : World) (from : Actor) (to : Server) (letter : Letter) (rest : List Letter) (trouble : Trouble)
     → under_way w from (by.Server to) ≡ letter ∷ rest → took ≡ record w { links = taken w from (by.Server to) rest }
-    → Causes (next_stamp (pool_of took to) letter) trouble → (s : Pool) → now ≡ with_server took to s
+    → Causes (next_stamp (pool_of took to) letter) trouble → (s : ServerModel) → now ≡ with_server took to s
     → Stops w (occurs.Deliver from (by.Server to)) trouble now
 request_stops w took now from to letter rest trouble front took_is cause s is =
     let event : Event = occurs.Deliver from (by.Server to) in

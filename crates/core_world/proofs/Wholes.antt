@@ -3,8 +3,8 @@ use Rattle.std.proofs.Common.{◌≡◌, ℕ, zero, suc, List, [], ◌∷◌, ge
 use Rattle.std.proofs.lemmas.List.Elements.{All-head, All-same, All-set, All-tail}
 use Rattle.adlb_unit.specs.declared.names.Rank.{Rank}
 use Rattle.adlb_unit.specs.declared.names.Server.{Server}
-use Rattle.rank_client.specs.State.{State as Client, start as new_client}
-use Rattle.server_core.specs.State.{State as Pool, start as new_pool}
+use Rattle.rank_client.specs.State.{ClientModel, start as new_client}
+use Rattle.server_core.specs.State.{ServerModel, start as new_pool}
 use Rattle.core_run.specs.World.{Links, World, client_of, pool_of}
 use Rattle.core_world.specs.Stage.{IsWhole, with_client, with_server}
 
@@ -14,10 +14,10 @@ all_at P (x ∷ xs) zero d all default = All-head P x xs all
 all_at P (x ∷ xs) (suc i) d all default = all_at P xs i d (All-tail P x xs all) default
 
 pub whole_rank : (w : World) (rank : Rank) → IsWhole w → (client_of w rank).trouble ≡ None
-whole_rank w rank whole = let P : Client → Type 0 = λ c. c.trouble ≡ None in all_at P w.ranks rank.0 (new_client w.config rank) whole.ranks refl
+whole_rank w rank whole = let P : ClientModel → Type 0 = λ c. c.trouble ≡ None in all_at P w.ranks rank.0 (new_client w.config rank) whole.ranks refl
 
 pub whole_pool : (w : World) (server : Server) → IsWhole w → (pool_of w server).trouble ≡ None
-whole_pool w server whole = let P : Pool → Type 0 = λ s. s.trouble ≡ None in all_at P w.servers server.0 (new_pool w.config server) whole.servers refl
+whole_pool w server whole = let P : ServerModel → Type 0 = λ s. s.trouble ≡ None in all_at P w.servers server.0 (new_pool w.config server) whole.servers refl
 
 pub whole_taken : (w now : World) (links : Links) → IsWhole w → now ≡ record w { links = links } → IsWhole now
 whole_taken w now links whole is =
@@ -25,21 +25,21 @@ whole_taken w now links whole is =
     subst IsWhole (sym is) there
 
 -- a client or a server took a step, and its letters were sent and its entries entered
-pub whole_client : (w mid now : World) (rank : Rank) (s : Client) → IsWhole w → s.trouble ≡ None → mid ≡ with_client w rank s
+pub whole_client : (w mid now : World) (rank : Rank) (s : ClientModel) → IsWhole w → s.trouble ≡ None → mid ≡ with_client w rank s
     → now.ranks ≡ mid.ranks → now.servers ≡ mid.servers → IsWhole now
 whole_client w mid now rank s whole fine is ranks servers =
-    let P : Client → Type 0 = λ c. c.trouble ≡ None in
-    let Q : Pool → Type 0 = λ p. p.trouble ≡ None in
+    let P : ClientModel → Type 0 = λ c. c.trouble ≡ None in
+    let Q : ServerModel → Type 0 = λ p. p.trouble ≡ None in
     record {
       ranks = All-same P _ _ (ranks ∙ ap (λ (v : World). v.ranks) is) (All-set P w.ranks rank.0 s fine whole.ranks);
       servers = All-same Q _ _ (servers ∙ ap (λ (v : World). v.servers) is) whole.servers;
     }
 
-pub whole_server : (w mid now : World) (server : Server) (s : Pool) → IsWhole w → s.trouble ≡ None → mid ≡ with_server w server s
+pub whole_server : (w mid now : World) (server : Server) (s : ServerModel) → IsWhole w → s.trouble ≡ None → mid ≡ with_server w server s
     → now.ranks ≡ mid.ranks → now.servers ≡ mid.servers → IsWhole now
 whole_server w mid now server s whole fine is ranks servers =
-    let P : Client → Type 0 = λ c. c.trouble ≡ None in
-    let Q : Pool → Type 0 = λ p. p.trouble ≡ None in
+    let P : ClientModel → Type 0 = λ c. c.trouble ≡ None in
+    let Q : ServerModel → Type 0 = λ p. p.trouble ≡ None in
     record {
       ranks = All-same P _ _ (ranks ∙ ap (λ (v : World). v.ranks) is) whole.ranks;
       servers = All-same Q _ _ (servers ∙ ap (λ (v : World). v.servers) is) (All-set Q w.servers server.0 s fine whole.servers);

@@ -1,6 +1,7 @@
 -- What applying an event does, why it is refused, and what stands then.
-use Rattle.std.specs.Prelude.{◌≡◌, ◌⊎◌, ◌<◌, ◌≤◌, ◌^◌, ℕ, List, [], ◌∷◌, ◌++◌, Option, None, Some, IsSome, take, option_and_then}
+use Rattle.std.specs.Prelude.{◌≡◌, ◌⊎◌, ◌<◌, ◌≤◌, ℕ, List, [], ◌∷◌, ◌++◌, Option, None, Some, IsSome, take, option_and_then}
 use Rattle.std.specs.List.{slice_get}
+use Rattle.adlb_unit.specs.Limits.{stamp_limit}
 use Rattle.adlb_unit.specs.declared.actors.Actor.{Actor}
 use Rattle.adlb_unit.specs.declared.actors.Actor.TheVariants as by
 use Rattle.adlb_unit.specs.declared.letters.Letter.{Letter}
@@ -42,24 +43,20 @@ abbrev pub event_answer : World → Event → Option Answer
 event_answer w (occurs.Call rank call) = option_and_then (λ x. x.answer) (begin (client_of w rank) call)
 event_answer w (occurs.Deliver from to) = front_answer w from to (under_way w from to)
 
--- it is past the last stamp that is given
-abbrev pub IsLate : World → Event → Type 0
-IsLate w event = 2 ^ 48 ≤ event_stamp w event
-
 -- there is such an event now
 abbrev pub IsEnabled : World → Event → Type 0
 IsEnabled w event = IsSome (happens w event)
 
 -- what makes an actor fail in an event of this stamp: want of memory, or a stamp that is not given
 abbrev pub Causes : ℕ → Trouble → Type 0
-Causes stamp troubles.Memory = stamp < 2 ^ 48
-Causes stamp (troubles.TooLong late) = (2 ^ 48 ≤ late) × (late ≡ stamp)
+Causes stamp troubles.Memory = stamp < stamp_limit
+Causes stamp (troubles.TooLong late) = (stamp_limit ≤ late) × (late ≡ stamp)
 
 -- An event that is applied.
 
 pub record Applies (old : Seen) (event : Event) (new : Seen) : Type 0 where
   pub whole : old.trouble ≡ None
-  pub stamp : event_stamp old.world event < 2 ^ 48
+  pub stamp : event_stamp old.world event < stamp_limit
   pub happened : happens old.world event ≡ Some new.world
   pub goes_on : new.trouble ≡ None
 

@@ -2,8 +2,8 @@
 use Rattle.std.specs.Prelude.{◌≡◌, length, slice_set, None, All}
 use Rattle.adlb_unit.specs.declared.names.Rank.{Rank}
 use Rattle.adlb_unit.specs.declared.names.Server.{Server}
-use Rattle.rank_client.specs.State.{State as Client}
-use Rattle.server_core.specs.State.{State as Pool}
+use Rattle.rank_client.specs.State.{ClientModel}
+use Rattle.server_core.specs.State.{ServerModel}
 use Rattle.core_run.specs.World.{World}
 use Rattle.core_world.specs.declared.stages.Stage.TheInside.{Inside}
 
@@ -17,10 +17,10 @@ world_of i = record {
 }
 
 -- the rank has this client now, and the server this state
-abbrev pub with_client : World → Rank → Client → World
+abbrev pub with_client : World → Rank → ClientModel → World
 with_client w rank s = record w { ranks = slice_set w.ranks rank.0 s }
 
-abbrev pub with_server : World → Server → Pool → World
+abbrev pub with_server : World → Server → ServerModel → World
 with_server w server s = record w { servers = slice_set w.servers server.0 s }
 
 -- each rank has its client, and each server is there
@@ -33,5 +33,5 @@ IsInside i = IsFull (world_of i)
 
 -- no client has failed, and no server is broken
 pub record IsWhole (w : World) : Type 0 where
-  pub ranks : All (λ (c : Client). c.trouble ≡ None) w.ranks
-  pub servers : All (λ (s : Pool). s.trouble ≡ None) w.servers
+  pub ranks : All (λ (c : ClientModel). c.trouble ≡ None) w.ranks
+  pub servers : All (λ (s : ServerModel). s.trouble ≡ None) w.servers

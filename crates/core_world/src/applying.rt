@@ -1,6 +1,7 @@
 //! Events, applied one by one.
 
-ghost use Rattle.std.specs.Prelude.{◌≡◌, ◌<◌, ◌≤◌, ◌^◌, ◌↔◌, ℕ, None, Some, Err, IfErr, IfOk, OnOk, length};
+ghost use Rattle.std.specs.Prelude.{◌≡◌, ◌<◌, ◌≤◌, ◌↔◌, ℕ, None, Some, Err, IfErr, IfOk, OnOk, length};
+ghost use Rattle.adlb_unit.specs.Limits.{stamp_limit};
 ghost use Rattle.adlb_unit.specs.declared.notes.Trouble.{Trouble};
 ghost use Rattle.core_run.specs.declared.events.Event.{Event};
 ghost use Rattle.core_run.specs.Runs.{run};
@@ -16,7 +17,7 @@ use core_run::Event;
 impl World {
     /// Carries out an event, as `happens` says: a rank begins a call, or an actor handles the front letter of a list. Where there
     /// is no such event now, it answers `NotEnabled` with the event, and nothing has changed; this is tested first. It answers
-    /// `TooLong` exactly where the event is enabled and its stamp would reach `2^48`, and `Memory` for want of memory alone.
+    /// `TooLong` exactly when the event is enabled and its stamp would reach `2^48`; the only other error is `Memory`.
     /// After one of these two the world has failed, and answers the same to every event; what stands then is said by `Stops`.
     pub fn apply(&mut self, event: Event) -> Result<(), ApplyFault>
         ensures applied { OnOk result (Applies self.old event self.new) }
@@ -26,7 +27,7 @@ impl World {
         ensures not_enabled { (given : Event) → (result ≡ Err (ApplyFault.NotEnabled given)) ↔
             ((self.old.trouble ≡ None) × (happens self.old.world event ≡ None) × (given ≡ event)) }
         ensures too_long { self.old.trouble ≡ None → (stamp : ℕ) → (result ≡ Err (ApplyFault.TooLong stamp)) ↔
-            (IsEnabled self.old.world event × (2 ^ 48 ≤ stamp) × (stamp ≡ event_stamp self.old.world event)) }
+            (IsEnabled self.old.world event × (stamp_limit ≤ stamp) × (stamp ≡ event_stamp self.old.world event)) }
         ensures failed { (trouble : Trouble) → self.old.trouble ≡ Some trouble → result ≡ Err (fault_of trouble) }
 
         ensures config { self.new.world.config ≡ self.old.world.config }
@@ -45,14 +46,14 @@ impl World {
 
     /// Carries out an event that is enabled, in a world that has not failed, and tells the answer of the call that it answers, if
     /// there is one (`event_answer`). It is for callers that know that there is such an event: unlike `apply` it does not look. It
-    /// answers `TooLong` exactly where the event's stamp would reach `2^48` and `Memory` for want of memory alone; then the world
+    /// answers `TooLong` exactly when the event's stamp would reach `2^48`; its only other error is `Memory`. Then the world
     /// has failed, and what stands is said by `Stops`.
     pub fn carry_out(&mut self, event: Event) -> Result<Option<Answer>, Trouble>
         requires whole { self.old.trouble ≡ None }
         requires enabled { IsEnabled self.old.world event }
         ensures happened { OnOk result (happens self.old.world event ≡ Some self.new.world) }
         ensures told { IfOk result (λ answer. answer ≡ event_answer self.old.world event) }
-        ensures stamp { OnOk result (event_stamp self.old.world event < 2 ^ 48) }
+        ensures stamp { OnOk result (event_stamp self.old.world event < stamp_limit) }
         ensures goes_on { OnOk result (self.new.trouble ≡ None) }
         ensures failed { IfErr result (λ trouble. self.new.trouble ≡ Some trouble) }
         ensures stops { IfErr result (λ trouble. Stops self.old.world event trouble self.new.world) }

@@ -1,9 +1,9 @@
 //! The letters that are under way, from each actor to each actor.
 
 ghost use Rattle.std.specs.Prelude.{◌≡◌, ◌++◌, ◌∷◌, [], List, length, replicate, slice_index_or, slice_set, IfOk, OnOk, MatchOption};
+ghost use Rattle.adlb_unit.specs.Links.{place_of};
 ghost use Rattle.adlb_unit.specs.declared.letters.Letter.{Letter};
 ghost use Rattle.core_run.specs.World.{link, post, put_link};
-ghost use Rattle.server_core.specs.State.{place_of};
 
 use adlb_unit::{Actor, Config, Letter, NoMemory, Sending};
 use std::alloc::Global;

@@ -17,7 +17,7 @@ use server_core::ServerState;
 use std::alloc::Global;
 use std::marker::Model;
 
-// All actors by their numbers, the letters that are under way, and the entries so far.
+// All actors by their numbers, the letters that are under way, and the entries.
 #[derive(Drop)]
 pub(crate) struct Stage {
     pub(crate) config: Config,

@@ -1,6 +1,8 @@
 //! One event after another.
 
-ghost use Rattle.std.specs.Prelude.{◌≡◌, ◌≢◌, ◌<◌, ◌^◌, ◌∷◌, ◌++◌, [], List, IfOk, IfErr, OnOk, IsSome, None, Some};
+ghost use Rattle.std.specs.Prelude.{◌≡◌, ◌≢◌, ◌<◌, ◌∷◌, ◌++◌, [], List, IfOk, IfErr, OnOk, IsSome, None, Some};
+ghost use Rattle.adlb_unit.specs.Limits.{stamp_limit};
+ghost use Rattle.adlb_unit.specs.Links.{place_of};
 ghost use Rattle.adlb_unit.specs.declared.letters.Letter.{Letter};
 ghost use Rattle.adlb_unit.specs.declared.notes.Trouble.{Trouble};
 ghost use Rattle.core_run.specs.World.{client_of, happens, pool_of, post, taken};
@@ -8,9 +10,9 @@ ghost use Rattle.core_world.specs.Applied.{Causes, IsBetween, IsEnabled, IsHalf,
 ghost use Rattle.core_world.specs.Seen.{under_way};
 ghost use Rattle.core_world.specs.Stage.{IsWhole, with_client, with_server};
 ghost use Rattle.rank_client.specs.Inside.{gives};
-ghost use Rattle.rank_client.specs.State.{State as Client};
+ghost use Rattle.rank_client.specs.State.{ClientModel};
 ghost use Rattle.rank_client.specs.Step.{begin, call_stamp, hear, letter_stamp};
-ghost use Rattle.server_core.specs.State.{State as Pool, place_of};
+ghost use Rattle.server_core.specs.State.{ServerModel};
 ghost use Rattle.server_core.specs.Step.{next_stamp, serve};
 
 use crate::links::place_of;
@@ -28,7 +30,7 @@ impl Stage {
         requires whole { IsWhole self.old }
         ensures happened { OnOk result (happens self.old event ≡ Some self.new) }
         ensures told { IfOk result (λ answer. answer ≡ event_answer self.old event) }
-        ensures stamp { OnOk result (event_stamp self.old event < 2 ^ 48) }
+        ensures stamp { OnOk result (event_stamp self.old event < stamp_limit) }
         ensures whole { OnOk result (IsWhole self.new) }
         ensures stops { IfErr result (λ trouble. Stops self.old event trouble self.new) }
     {
@@ -44,7 +46,7 @@ impl Stage {
         requires whole { IsWhole self.old }
         ensures happened { OnOk result (happens self.old (Event.Deliver from to) ≡ Some self.new) }
         ensures told { IfOk result (λ answer. answer ≡ event_answer self.old (Event.Deliver from to)) }
-        ensures stamp { OnOk result (event_stamp self.old (Event.Deliver from to) < 2 ^ 48) }
+        ensures stamp { OnOk result (event_stamp self.old (Event.Deliver from to) < stamp_limit) }
         ensures whole { OnOk result (IsWhole self.new) }
         ensures stops { IfErr result (λ trouble. Stops self.old (Event.Deliver from to) trouble self.new) }
     {
@@ -63,7 +65,7 @@ impl Stage {
         requires whole { IsWhole self.old }
         ensures happened { OnOk result (happens self.old (Event.Call rank call) ≡ Some self.new) }
         ensures told { IfOk result (λ answer. answer ≡ event_answer self.old (Event.Call rank call)) }
-        ensures stamp { OnOk result (event_stamp self.old (Event.Call rank call) < 2 ^ 48) }
+        ensures stamp { OnOk result (event_stamp self.old (Event.Call rank call) < stamp_limit) }
         ensures whole { OnOk result (IsWhole self.new) }
         ensures stops { IfErr result (λ trouble. Stops self.old (Event.Call rank call) trouble self.new) }
     {
@@ -83,7 +85,7 @@ impl Stage {
         requires whole { IsWhole self.old }
         ensures happened { OnOk result (happens self.old (Event.Deliver (Actor.Server from) (Actor.Rank to)) ≡ Some self.new) }
         ensures told { IfOk result (λ answer. answer ≡ event_answer self.old (Event.Deliver (Actor.Server from) (Actor.Rank to))) }
-        ensures stamp { OnOk result (event_stamp self.old (Event.Deliver (Actor.Server from) (Actor.Rank to)) < 2 ^ 48) }
+        ensures stamp { OnOk result (event_stamp self.old (Event.Deliver (Actor.Server from) (Actor.Rank to)) < stamp_limit) }
         ensures whole { OnOk result (IsWhole self.new) }
         ensures stops { IfErr result (λ trouble. Stops self.old (Event.Deliver (Actor.Server from) (Actor.Rank to)) trouble self.new) }
     {
@@ -104,7 +106,7 @@ impl Stage {
         requires whole { IsWhole self.old }
         ensures happened { OnOk result (happens self.old (Event.Deliver from (Actor.Server to)) ≡ Some self.new) }
         ensures told { IfOk result (λ answer. answer ≡ event_answer self.old (Event.Deliver from (Actor.Server to))) }
-        ensures stamp { OnOk result (event_stamp self.old (Event.Deliver from (Actor.Server to)) < 2 ^ 48) }
+        ensures stamp { OnOk result (event_stamp self.old (Event.Deliver from (Actor.Server to)) < stamp_limit) }
         ensures whole { OnOk result (IsWhole self.new) }
         ensures stops { IfErr result (λ trouble. Stops self.old (Event.Deliver from (Actor.Server to)) trouble self.new) }
     {
@@ -121,8 +123,9 @@ impl Stage {
         requires there { rank.0 < self.old.config.ranks }
         requires whole { (client_of self.old rank).trouble ≡ None }
         requires ready { IsSome (begin (client_of self.old rank) call) }
-        ensures begun { IfOk result (λ x. (s : Client) × (begin (client_of self.old rank) call ≡ Some (gives s x)) × (self.new ≡ with_client self.old rank s)) }
-        ensures stamp { OnOk result (call_stamp (client_of self.old rank) < 2 ^ 48) }
+        ensures begun { IfOk result (λ x. (s : ClientModel) × (begin (client_of self.old rank) call ≡ Some (gives s x))
+            × (self.new ≡ with_client self.old rank s)) }
+        ensures stamp { OnOk result (call_stamp (client_of self.old rank) < stamp_limit) }
         ensures cause { IfErr result (Causes (call_stamp (client_of self.old rank))) }
         ensures failed { IfErr result (λ trouble. self.new ≡ with_client self.old rank (record (client_of self.old rank) { trouble = Some trouble })) }
     {
@@ -140,8 +143,9 @@ impl Stage {
         requires there { rank.0 < self.old.config.ranks }
         requires whole { (client_of self.old rank).trouble ≡ None }
         requires expected { IsSome (hear (client_of self.old rank) from letter) }
-        ensures heard { IfOk result (λ x. (s : Client) × (hear (client_of self.old rank) from letter ≡ Some (gives s x)) × (self.new ≡ with_client self.old rank s)) }
-        ensures stamp { OnOk result (letter_stamp (client_of self.old rank) letter < 2 ^ 48) }
+        ensures heard { IfOk result (λ x. (s : ClientModel) × (hear (client_of self.old rank) from letter ≡ Some (gives s x))
+            × (self.new ≡ with_client self.old rank s)) }
+        ensures stamp { OnOk result (letter_stamp (client_of self.old rank) letter < stamp_limit) }
         ensures cause { IfErr result (Causes (letter_stamp (client_of self.old rank) letter)) }
         ensures failed { IfErr result (λ trouble. self.new ≡ with_client self.old rank (record (client_of self.old rank) { trouble = Some trouble })) }
     {
@@ -154,11 +158,12 @@ impl Stage {
         requires there { server.0 < self.old.config.servers }
         requires whole { (pool_of self.old server).trouble ≡ None }
         requires expected { IsSome (serve (pool_of self.old server) from letter) }
-        ensures served { IfOk result (λ x. (s : Pool) × (serve (pool_of self.old server) from letter ≡ Some (record { state = s; sends = x.sends.items; entries = x.entries.items }))
+        ensures served { IfOk result (λ x. (s : ServerModel)
+            × (serve (pool_of self.old server) from letter ≡ Some (record { state = s; sends = x.sends.items; entries = x.entries.items }))
             × (self.new ≡ with_server self.old server s)) }
-        ensures stamp { OnOk result (next_stamp (pool_of self.old server) letter < 2 ^ 48) }
+        ensures stamp { OnOk result (next_stamp (pool_of self.old server) letter < stamp_limit) }
         ensures cause { IfErr result (Causes (next_stamp (pool_of self.old server) letter)) }
-        ensures failed { IfErr result (λ trouble. (s : Pool) × (self.new ≡ with_server self.old server s)) }
+        ensures failed { IfErr result (λ trouble. (s : ServerModel) × (self.new ≡ with_server self.old server s)) }
     {
         let server = &mut self.servers[server.0 as usize];
         server.step(from, letter)
@@ -167,7 +172,8 @@ impl Stage {
     // The front letter of the list, which has one.
     fn take(&mut self, from: Actor, to: Actor) -> Letter
         requires { under_way self.old from to ≢ [] }
-        ensures { (rest : List Letter) × (under_way self.old from to ≡ result ∷ rest) × (self.new ≡ record self.old { links = taken self.old from to rest }) }
+        ensures { (rest : List Letter) × (under_way self.old from to ≡ result ∷ rest)
+            × (self.new ≡ record self.old { links = taken self.old from to rest }) }
     {
         let from = place_of(&self.config, from);
         let to = place_of(&self.config, to);

@@ -34,8 +34,7 @@ impl Model for World {
 }
 
 impl World {
-    /// A run at its start: no letter is under way, and each rank runs. So far there is one rank. It fails for want of memory
-    /// alone.
+    /// A run of one rank at its start: no letter is under way, and the rank runs. Its only error is `NoMemory`.
     pub fn new(alloc: Global, config: Config) -> Result<World, NoMemory>
         requires { config.ranks ≡ 1 }
         ensures { IfOk result (λ w. w ≡ new_world config) }
@@ -53,14 +52,14 @@ impl World {
         self.trouble
     }
 
-    /// The entries so far, in the order of the events.
+    /// The entries, in the order of the events.
     pub fn ledger(&self) -> &Ledger
         ensures { result.now ≡ self.now.world.ledger }
     {
         self.stage.ledger()
     }
 
-    /// The calls of a rank of the run with their answers, so far as it has heard them.
+    /// The calls of a rank of the run that it has heard the answer of, in order.
     pub fn transcript(&self, rank: Rank) -> &[Said]
         requires { rank.0 < self.now.world.config.ranks }
         ensures { result.now ≡ transcript self.now.world rank }
@@ -76,7 +75,7 @@ impl World {
         self.stage.waiting(from, to)
     }
 
-    /// The units that are left at a server of the run, in arrival order. It fails for want of memory alone.
+    /// The units that are left at a server of the run, in arrival order. Its only error is `NoMemory`.
     pub fn left(&self, server: Server) -> Result<Vec<LeftUnit>, NoMemory>
         requires { server.0 < self.now.world.config.servers }
         ensures { IfOk result (λ left. left.items ≡ left_of (pool_of self.now.world server)) }

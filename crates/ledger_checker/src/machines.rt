@@ -1,4 +1,4 @@
-//! The machine: the state of the bag that the entries so far leave.
+//! The machine: the state of the bag that the entries before leave.
 
 ghost use Rattle.std.specs.Prelude.{◌≡◌, ◌==◌, ◌&&◌, ◌+◌, ◌≤◌, ◌<◌, ◌^◌, IfOk, OnOk, MatchOption, None, Some, All, length, find, not};
 ghost use Rattle.std.specs.List.{list_all, list_any};

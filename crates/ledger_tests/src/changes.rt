@@ -13,7 +13,7 @@ fn other(id: UnitId) -> UnitId {
     }
 }
 
-/// The same entry, for the kinds that one rank's run has.
+/// A copy of the entry, of the kinds that one rank's run has.
 pub(crate) fn copied(alloc: Global, entry: &Entry) -> Result<Entry, Fail> {
     let copy = match entry {
         Entry::Putting {
@@ -44,7 +44,7 @@ pub(crate) fn copied(alloc: Global, entry: &Entry) -> Result<Entry, Fail> {
     Ok(copy)
 }
 
-// The same entry, of those that keep no bytes and no types.
+// A copy of an entry that keeps no bytes and no types.
 fn plain_copy(entry: &Entry) -> Result<Entry, Fail> {
     let copy = match *entry {
         Entry::Refused { server, id, used } => Entry::Refused { server, id, used },
@@ -93,7 +93,7 @@ pub(crate) fn changed(entry: &Entry) -> Result<Entry, Fail> {
     Ok(changed)
 }
 
-// The same, of the entries that keep no bytes and no types.
+// An entry that keeps no bytes and no types, with one change.
 fn changed_plain(entry: &Entry) -> Result<Entry, Fail> {
     let changed = match *entry {
         Entry::Refused { server, id, used } => Entry::Refused {
@@ -101,13 +101,30 @@ fn changed_plain(entry: &Entry) -> Result<Entry, Fail> {
             id,
             used: used.wrapping_add(1),
         },
-        Entry::Accepted { server, id } => Entry::Accepted {
-            server,
-            id: other(id),
-        },
         Entry::Rejected { rank, call } => Entry::Rejected {
             rank,
             call: call.wrapping_add(1),
+        },
+        Entry::Over { rank, call, .. } => Entry::Over {
+            rank,
+            call,
+            end: End::NoMoreWork,
+        },
+        Entry::Finished { rank, call } => Entry::Finished {
+            rank,
+            call: call.wrapping_add(1),
+        },
+        _ => return with_other_unit(entry),
+    };
+    Ok(changed)
+}
+
+// An entry about a unit, with another unit.
+fn with_other_unit(entry: &Entry) -> Result<Entry, Fail> {
+    let changed = match *entry {
+        Entry::Accepted { server, id } => Entry::Accepted {
+            server,
+            id: other(id),
         },
         Entry::Granted {
             server,
@@ -129,15 +146,6 @@ fn changed_plain(entry: &Entry) -> Result<Entry, Fail> {
             server,
             rank,
             id: other(id),
-        },
-        Entry::Over { rank, call, .. } => Entry::Over {
-            rank,
-            call,
-            end: End::NoMoreWork,
-        },
-        Entry::Finished { rank, call } => Entry::Finished {
-            rank,
-            call: call.wrapping_add(1),
         },
         _ => return Err("an entry of another kind".into()),
     };

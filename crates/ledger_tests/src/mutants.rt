@@ -278,6 +278,7 @@ enum Base {
     DoneCalled,
     CancelledPush,
     Shelves,
+    SoftTargets,
     PushedBack,
     Long,
 }
@@ -297,6 +298,7 @@ fn numbers(base: Base) -> (u32, u32, u64) {
         Base::DoneCalled => (2, 2, ROOM),
         Base::CancelledPush => (2, 2, 64),
         Base::Shelves => (3, 2, ROOM),
+        Base::SoftTargets => (3, 2, ROOM),
         Base::PushedBack => (2, 2, 64),
         Base::Long => (2, 2, ROOM),
     }
@@ -315,6 +317,7 @@ fn write_base(base: Base, to: &mut Writer) -> Result<(), NoMemory> {
         Base::DoneCalled => done_called(to),
         Base::CancelledPush => cancelled_push(to),
         Base::Shelves => shelves(to),
+        Base::SoftTargets => soft_targets(to),
         Base::PushedBack => pushed_back(to),
         Base::Long => long(to),
     }
@@ -486,6 +489,28 @@ fn shelves(to: &mut Writer) -> Result<(), NoMemory> {
     to.write(looked(0, 1, 1))
 }
 
+// Of two units for rank 1 before others, rank 2 gets the first, and rank 0 looks for another type and then for any.
+fn soft_targets(to: &mut Writer) -> Result<(), NoMemory> {
+    let first = put_as(to.alloc, 0, 1, Target::Soft(Rank(1)))?;
+    to.write(first)?;
+    to.write(accepted(0, unit(0, 0)))?;
+    to.write(tried_for(2, 0, only(1)))?;
+    to.write(granted(0, 2, 0, unit(0, 0)))?;
+    let second = put_as(to.alloc, 1, 1, Target::Soft(Rank(1)))?;
+    to.write(second)?;
+    to.write(accepted(0, unit(0, 1)))?;
+    to.write(tried_for(0, 2, only(2)))?;
+    to.write(looked(0, 0, 2))?;
+    to.write(looked(1, 0, 2))?;
+    to.write(no_current(0, 2))?;
+    to.write(tried(1, 0))?;
+    to.write(granted(0, 1, 0, unit(0, 1)))?;
+    to.write(tried(0, 3))?;
+    to.write(looked(0, 0, 3))?;
+    to.write(looked(1, 0, 3))?;
+    to.write(no_current(0, 3))
+}
+
 // A unit is promised, withdrawn, promised again, pushed, and pushed back.
 fn pushed_back(to: &mut Writer) -> Result<(), NoMemory> {
     to.put(0, 0, &[0; 60])?;
@@ -563,6 +588,7 @@ fn small_ledgers_are_legal(rt: HostRuntime) -> Result<(), Fail> {
         Base::DoneCalled,
         Base::CancelledPush,
         Base::Shelves,
+        Base::SoftTargets,
         Base::PushedBack,
         Base::Long,
     ] {
@@ -683,6 +709,27 @@ fn looks_go_by_type_and_target(rt: HostRuntime) -> Result<(), Fail> {
     assert!(rt; fails(alloc, Base::Shelves, 9, Edit::Set(looked(0, 1, 0)), 9)?);
     assert!(rt; fails(alloc, Base::Shelves, 10, Edit::Set(tried(2, 0)), 11)?);
     assert!(rt; fails(alloc, Base::Shelves, 15, Edit::Set(looked(0, 2, 1)), 15)?);
+    Ok(())
+}
+
+#[test]
+fn soft_targets_let_each_rank_have_the_unit(rt: HostRuntime) -> Result<(), Fail> {
+    let alloc = rt.alloc();
+    assert!(rt; fails(alloc, Base::SoftTargets, 3, Edit::Set(looked(0, 2, 0)), 3)?);
+    let for_rank_one_alone = put_as(alloc, 0, 1, Target::Only(Rank(1)))?;
+    assert!(rt;
+        fails(
+            alloc,
+            Base::SoftTargets,
+            0,
+            Edit::Set(for_rank_one_alone),
+            3
+        )?
+    );
+    let of_that_type = tried_for(0, 2, only(1));
+    assert!(rt; fails(alloc, Base::SoftTargets, 6, Edit::Set(of_that_type), 7)?);
+    assert!(rt; fails(alloc, Base::SoftTargets, 6, Edit::Set(tried(0, 2)), 7)?);
+    assert!(rt; fails(alloc, Base::SoftTargets, 11, Edit::Remove, 12)?);
     Ok(())
 }
 

@@ -59,12 +59,12 @@ fn call(alloc: Global, words: &mut Words) -> Result<Call, Fail> {
     Ok(call)
 }
 
-// Any rank alike, or the only rank before others.
+// A target that rank 0 may have.
 fn target(word: u32) -> Target {
-    if word % 2 == 0 {
-        Target::Any
-    } else {
-        Target::Soft(Rank(0))
+    match word % 3 {
+        0 => Target::Any,
+        1 => Target::Only(Rank(0)),
+        _ => Target::Soft(Rank(0)),
     }
 }
 

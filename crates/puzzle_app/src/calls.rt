@@ -4,7 +4,8 @@ ghost use Rattle.std.specs.Prelude.{◌≡◌, ◌<◌, ◌≤◌, ◌^◌, ◌+
 ghost use Rattle.adlb_unit.specs.Totals.{total_of};
 ghost use Rattle.adlb_unit.specs.declared.notes.UnitNote.{UnitNote};
 ghost use Rattle.bag_ledger.specs.declared.entries.Call.{Call};
-ghost use Rattle.rank_client.specs.Calls.{Aims, has_finished};
+ghost use Rattle.adlb_unit.specs.Targets.{Aims};
+ghost use Rattle.rank_client.specs.Calls.{has_finished};
 ghost use Rattle.puzzle_app.specs.Books.{said_of};
 ghost use Rattle.puzzle_app.specs.Calls.{IsWhole, Takes, answer_of, grant};
 ghost use Rattle.puzzle_app.specs.Made.{put_of};

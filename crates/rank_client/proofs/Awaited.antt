@@ -6,6 +6,9 @@ use Rattle.std.specs.Prelude.{if◌then◌else◌, IsSome, nat_le, nat_lt, slice
 use Rattle.std.specs.Option.{option_map}
 use Rattle.std.proofs.lemmas.Bool.{and_parts, leb-true, lt-ltb, ltb-true, not-true}
 use Rattle.std.proofs.lemmas.List.Elements.{All-push, All-same, All-set}
+use Rattle.adlb_unit.specs.Links.{sending}
+use Rattle.adlb_unit.specs.Targets.{home}
+use Rattle.adlb_unit.specs.declared.actors.Actor.TheVariants as by
 use Rattle.adlb_unit.specs.declared.letters.Letter.{Letter}
 use Rattle.adlb_unit.specs.declared.letters.Sending.{Sending}
 use Rattle.adlb_unit.specs.declared.messages.Message.{Message}
@@ -21,14 +24,14 @@ use Rattle.bag_ledger.specs.declared.entries.Entry.{Entry}
 use Rattle.bag_ledger.specs.declared.entries.Said.{Said}
 use Rattle.rank_client.specs.declared.pendings.Pending.{Pending}
 use Rattle.rank_client.specs.declared.pendings.Pending.TheVariants as waits_for
-use Rattle.rank_client.specs.Inside.{IsFresh, IsSound}
-use Rattle.rank_client.specs.Rules.{Response, answer_call, asked, ends, expects_note, is_for, refused}
-use Rattle.rank_client.specs.State.{State, behind, home}
-use Rattle.rank_client.specs.Step.{hear, letter_stamp, letter_trouble, made, sending, ticked, told_trouble}
+use Rattle.rank_client.specs.Inside.{IsFresh, IsSound, Put, is_put, put_of}
+use Rattle.rank_client.specs.Rules.{ClientResponse, answer_call, asked, ends, expects_note, hear_put, is_for, refused}
+use Rattle.rank_client.specs.State.{ClientModel, behind}
+use Rattle.rank_client.specs.Step.{Made, hear, letter_stamp, letter_trouble, made, ticked, told_trouble}
 use Rattle.rank_client.proofs.Insides.{first_letter}
 
 -- the note of a grant that is awaited names a server
-pub granted_server : (s : State) (p : Pending) (request : ℕ) (types : Option (List WorkType)) (from : Server) (m : Message) (to : ℕ) (note : UnitNote) → p ≡ waits_for.Reserve request types → m ≡ tells.Grant to note
+pub granted_server : (s : ClientModel) (p : Pending) (request : ℕ) (types : Option (List WorkType)) (from : Server) (m : Message) (to : ℕ) (note : UnitNote) → p ≡ waits_for.Reserve request types → m ≡ tells.Grant to note
     → IsSome (answer_call s p from m) → note.server.0 < s.config.servers
 granted_server s p request types from m to note p_is m_is some =
     let here : IsSome (answer_call s (waits_for.Reserve request types) from (tells.Grant to note)) = subst (λ (q : Pending). IsSome (answer_call s q from (tells.Grant to note))) p_is (subst (λ (x : Message). IsSome (answer_call s p from x)) m_is some) in
@@ -43,31 +46,46 @@ granted_server s p request types from m to note p_is m_is some =
         ltb-true note.server.0 s.config.servers (and_parts _ _ two).0
     by_test false is some = absurd (cc)
 
--- a refusal before the last server
-pub refused_next : (s : State) (p : Pending) (unit : Unit) (first : Server) (tried : ℕ) (from : Server) (m : Message) (to charge : ℕ) → p ≡ waits_for.Put unit first tried → m ≡ tells.Full to charge
-    → tried + 1 < s.config.servers → IsSome (answer_call s p from m) → answer_call s p from m ≡ Some (refused s unit first tried true)
-refused_next s p unit first tried from m to charge p_is m_is more some =
-    let test : nat_lt (tried + 1) s.config.servers ≡ true = lt-ltb (tried + 1) s.config.servers more in
-    let here : IsSome (answer_call s (waits_for.Put unit first tried) from (tells.Full to charge)) = subst (λ (q : Pending). IsSome (answer_call s q from (tells.Full to charge))) p_is (subst (λ (x : Message). IsSome (answer_call s p from x)) m_is some) in
-    ap (λ (x : Message). answer_call s p from x) m_is ∙ ap (λ (q : Pending). answer_call s q from (tells.Full to charge)) p_is
-    ∙ by_test (is_for unit.id.number (asked s first tried) from to) here ∙ ap (λ t. Some (refused s unit first tried t)) test
+-- a put that is pending is told by its parts
+pub put_is : (p : Put) (unit : Unit) (first : Server) (tried : ℕ) → waits_for.Put unit first tried ≡ put_of p
+    → record { unit = unit; first = first; tried = tried } ≡ p
+put_is p unit first tried is =
+    let same_unit : unit ≡ p.unit = cc in
+    let same_first : first ≡ p.first = cc in
+    let same_tried : tried ≡ p.tried = cc in
+    let whole : Unit → Server → ℕ → Put = λ u f t. record { unit = u; first = f; tried = t } in
+    ap (λ u. whole u first tried) same_unit ∙ ap (λ f. whole p.unit f tried) same_first ∙ ap (λ t. whole p.unit p.first t) same_tried
+
+-- a letter that a pending put awaits, with this request in it, is heard by its rule
+pub put_heard : (s : ClientModel) (from : Server) (m : Message) (x : Made) (to : ℕ) (rule : Put → ClientResponse)
+    → ((p : Put) → hear_put s p.unit p.first p.tried from m
+    ≡ (if is_for p.unit.id.number (asked s p.first p.tried) from to then Some (rule p) else None))
+    → (pending : Pending) → is_put pending ≡ true → IsSome (answer_call s pending from m)
+    → ((p : Put) → pending ≡ put_of p → made (rule p) ≡ x) → option_map made (answer_call s pending from m) ≡ Some x
+put_heard s from m x to rule is waits_for.Nothing put some gave = absurd (cc)
+put_heard s from m x to rule is (waits_for.Reserve request types) put some gave = absurd (cc)
+put_heard s from m x to rule is (waits_for.Fetch request note) put some gave = absurd (cc)
+put_heard s from m x to rule is (waits_for.Put unit first tried) put some gave =
+    ap (option_map made) (is p) ∙ by_test (is_for unit.id.number (asked s first tried) from to) (subst IsSome (is p) some)
   where
-    by_test : (t : Bool) → IsSome (if t then Some (refused s unit first tried (nat_lt (tried + 1) s.config.servers)) else None)
-        → (if t then Some (refused s unit first tried (nat_lt (tried + 1) s.config.servers)) else None) ≡ Some (refused s unit first tried (nat_lt (tried + 1) s.config.servers))
-    by_test true some = refl
+    p : Put
+    p = record { unit = unit; first = first; tried = tried }
+
+    by_test : (t : Bool) → IsSome (if t then Some (rule p) else None) → option_map made (if t then Some (rule p) else None) ≡ Some x
+    by_test true some = ap Some (gave p refl)
     by_test false some = absurd (cc)
 
 -- the unit goes to the next server
-pub retry_gives : (s : State) (unit next : Unit) (first to : Server) (tried : ℕ) (letter : Sending) (sends before : List Sending) (entries : List Entry) (sent : List ℕ)
+pub retry_gives : (s : ClientModel) (unit next : Unit) (first to : Server) (tried : ℕ) (letter : Sending) (sends before : List Sending) (entries : List Entry) (sent : List ℕ)
     → to ≡ behind s.config first (tried + 1) → next ≡ unit → sent ≡ slice_set s.sent to.0 (slice_index_or s.sent to.0 0 + 1)
-    → letter ≡ sending s.clock (slice_index_or s.sent to.0 0) (record { to = to; message = tells.Put next }) → before ≡ [] → sends ≡ before ++ letter ∷ [] → entries ≡ []
+    → letter ≡ sending s.clock (slice_index_or s.sent to.0 0) (by.Server to) (tells.Put next) → before ≡ [] → sends ≡ before ++ letter ∷ [] → entries ≡ []
     → made (refused s unit first tried true) ≡ record { state = record s { pending = waits_for.Put unit first (tried + 1); sent = sent }; sends = sends; entries = entries; answer = None }
 retry_gives s unit next first to tried letter sends before entries sent to_is next_is sent_is letter_is before_is sends_is entries_is =
     rw (sends_is, entries_is, before_is, letter_is, sent_is, next_is, to_is) refl
 
 -- The fields stay sound.
 
-pub retried_sound : (s : State) (pending : Pending) (sent : List ℕ) (to : ℕ) → IsSound s → IsFresh s → to < s.config.servers → sent ≡ set s.sent to (get_or s.sent to 0 + 1) → IsSound (record s { pending = pending; sent = sent })
+pub retried_sound : (s : ClientModel) (pending : Pending) (sent : List ℕ) (to : ℕ) → IsSound s → IsFresh s → to < s.config.servers → sent ≡ set s.sent to (get_or s.sent to 0 + 1) → IsSound (record s { pending = pending; sent = sent })
 retried_sound s pending sent to sound fresh there is =
     let P : ℕ → Type 0 = λ n. n ≤ s.clock in
     let here = first_letter s to sound fresh there in
@@ -82,7 +100,7 @@ retried_sound s pending sent to sound fresh there is =
       notes = sound.notes;
     }
 
-pub granted_sound : (s : State) (pending : Pending) (handles : List UnitNote) (transcript : List Said) (note : UnitNote) (said : Said) → IsSound s → IsFresh s → note.server.0 < s.config.servers
+pub granted_sound : (s : ClientModel) (pending : Pending) (handles : List UnitNote) (transcript : List Said) (note : UnitNote) (said : Said) → IsSound s → IsFresh s → note.server.0 < s.config.servers
     → handles ≡ s.handles ++ note ∷ [] → transcript ≡ s.transcript ++ said ∷ [] → IsSound (record s { pending = pending; handles = handles; transcript = transcript })
 granted_sound s pending handles transcript note said sound fresh there notes_is said_is =
     let N : UnitNote → Type 0 = λ n. n.server.0 < s.config.servers in
@@ -99,16 +117,16 @@ granted_sound s pending handles transcript note said sound fresh there notes_is 
 
 -- A letter that is expected.
 
-pub record IsHeard (s : State) (from : Server) (letter : Letter) : Type 0 where
+pub record IsHeard (s : ClientModel) (from : Server) (letter : Letter) : Type 0 where
   pub going : s.finished ≡ false
   pub stamp : letter.stamp < 2 ^ 48
   pub awaited : IsSome (answer_call (ticked s (letter_stamp s letter)) s.pending from letter.message)
 
-some_mapped : (o : Option Response) → IsSome (option_map made o) → IsSome o
+some_mapped : (o : Option ClientResponse) → IsSome (option_map made o) → IsSome o
 some_mapped None e = absurd (cc)
 some_mapped (Some z) e = refl
 
-pub heard_is : (s : State) (from : Server) (letter : Letter) → told_trouble letter.message ≡ None → (IsSome (told_trouble letter.message) ⊎ IsSome (hear s from letter)) → IsHeard s from letter
+pub heard_is : (s : ClientModel) (from : Server) (letter : Letter) → told_trouble letter.message ≡ None → (IsSome (told_trouble letter.message) ⊎ IsSome (hear s from letter)) → IsHeard s from letter
 heard_is s from letter none (inl told) = absurd (cc)
 heard_is s from letter none (inr some) = by_test (not s.finished && nat_lt letter.stamp (2 ^ 48)) refl some
   where
@@ -118,7 +136,7 @@ heard_is s from letter none (inr some) = by_test (not s.finished && nat_lt lette
         record { going = not-true s.finished parts.0; stamp = ltb-true letter.stamp (2 ^ 48) parts.1; awaited = some_mapped _ some }
     by_test false is some = absurd (cc)
 
-pub hear_is : (s : State) (from : Server) (letter : Letter) → IsHeard s from letter → hear s from letter ≡ option_map made (answer_call (ticked s (letter_stamp s letter)) s.pending from letter.message)
+pub hear_is : (s : ClientModel) (from : Server) (letter : Letter) → IsHeard s from letter → hear s from letter ≡ option_map made (answer_call (ticked s (letter_stamp s letter)) s.pending from letter.message)
 hear_is s from letter h =
     let small : nat_lt letter.stamp (2 ^ 48) ≡ true = lt-ltb letter.stamp (2 ^ 48) h.stamp in
     rw (h.going, small) refl
@@ -128,7 +146,7 @@ none_left None other = refl
 none_left (Some x) other = absurd (other x refl)
 
 -- a step that meets no trouble
-pub no_trouble : (s : State) (letter : Letter) → s.trouble ≡ None → told_trouble letter.message ≡ None → letter_stamp s letter < 2 ^ 48 → letter_trouble s letter ≡ None
+pub no_trouble : (s : ClientModel) (letter : Letter) → s.trouble ≡ None → told_trouble letter.message ≡ None → letter_stamp s letter < 2 ^ 48 → letter_trouble s letter ≡ None
 no_trouble s letter whole untold small = rw (whole, untold) (by_test (nat_le (2 ^ 48) (letter_stamp s letter)) refl)
   where
     by_test : (t : Bool) → nat_le (2 ^ 48) (letter_stamp s letter) ≡ t → (if t then Some (troubles.TooLong (letter_stamp s letter)) else None) ≡ None

@@ -4,13 +4,14 @@ use Rattle.std.specs.Prelude.{if◌then◌else◌, ◌==◌, IsFalse, All, is_no
 use Rattle.std.specs.Option.{option_map}
 use Rattle.std.proofs.lemmas.Bool.{and_parts, not-true}
 use Rattle.std.proofs.lemmas.List.Elements.{All-push, All-filter, All-same, All-head, All-tail}
+use Rattle.adlb_unit.specs.Targets.{in_ranks}
+use Rattle.adlb_unit.specs.Ids.{same_unit}
 use Rattle.adlb_unit.specs.declared.names.Rank.{Rank}
 use Rattle.adlb_unit.specs.declared.names.Target.{Target}
 use Rattle.adlb_unit.specs.declared.names.UnitId.{UnitId}
 use Rattle.adlb_unit.specs.declared.names.WorkType.{WorkType}
 use Rattle.adlb_unit.specs.declared.notes.End.{End}
 use Rattle.adlb_unit.specs.declared.notes.UnitNote.{UnitNote}
-use Rattle.adlb_unit.specs.Ids.{same_unit}
 use Rattle.bag_ledger.specs.declared.entries.Answer.TheVariants as answers
 use Rattle.bag_ledger.specs.declared.entries.Call.{Call}
 use Rattle.bag_ledger.specs.declared.entries.Call.TheVariants as calls_to
@@ -28,18 +29,18 @@ use Rattle.bag_ledger.specs.Runs as runs
 use Rattle.bag_ledger.specs.Steps.{Legal, Stands, Steps, after, begun, ended, with_rank}
 use Rattle.rank_client.specs.declared.pendings.Pending.{Pending}
 use Rattle.rank_client.specs.declared.pendings.Pending.TheVariants as waits_for
-use Rattle.rank_client.specs.Agreement.{Agrees, Follows, IsCaused, IsHeld, running}
-use Rattle.rank_client.specs.Rules.{Response, Saying, entry_of, fetch, fetched, finish, held, in_ranks, is_free, is_idle, open_call, over, put, reserve, unit_put}
-use Rattle.rank_client.specs.State.{State}
+use Rattle.rank_client.specs.Agreement.{ClientAgrees, Follows, IsCaused, IsHeld, running}
+use Rattle.rank_client.specs.Rules.{ClientResponse, Saying, entry_of, fetch, fetched, finish, held, is_free, is_idle, open_call, over, put, reserve, unit_put}
+use Rattle.rank_client.specs.State.{ClientModel}
 use Rattle.rank_client.specs.Step.{Made, begin, call_stamp, made, post, ticked}
 use Rattle.rank_client.proofs.Entries.{rank_changed, saying, same_unit_is, silent, some_is, step_of, then_saying}
 
 -- What is sent does not matter here.
 
-abbrev pub bare : Response → Made
+abbrev pub bare : ClientResponse → Made
 bare z = record { state = z.state; sends = []; entries = z.entries; answer = z.answer }
 
-post_agrees : (says : List Saying) (x : Made) (b : Bag) → Agrees x.state None b → Agrees (post x says).state None b
+post_agrees : (says : List Saying) (x : Made) (b : Bag) → ClientAgrees x.state None b → ClientAgrees (post x says).state None b
 post_agrees [] x b a = a
 post_agrees (y ∷ says) x b a = post_agrees says _ b (record { rank = a.rank; servers = a.servers; caused = a.caused; held = a.held })
 
@@ -53,14 +54,14 @@ post_transcript (y ∷ says) x = post_transcript says _
 
 -- What the law says of a step before which the ledger has this of the rank.
 abbrev pub Holds : List Said → Rank → Bag → Made → Type 0
-Holds said me b x = (next : Bag) × IsRun b x.entries next × Agrees x.state None next × (x.state.transcript ≡ said ++ calls_from b x.entries me)
+Holds said me b x = (next : Bag) × IsRun b x.entries next × ClientAgrees x.state None next × (x.state.transcript ≡ said ++ calls_from b x.entries me)
 
 -- of a rule's response; nothing of a call that is not ready, or of a letter that is not expected
-abbrev pub LawOf : List Said → Rank → Bag → Option Response → Type 0
+abbrev pub LawOf : List Said → Rank → Bag → Option ClientResponse → Type 0
 LawOf said me b None = Prim.Unit {0}
 LawOf said me b (Some z) = Holds said me b (bare z)
 
-pub law_of_made : (said : List Said) (me : Rank) (b : Bag) (o : Option Response) (x : Made) → LawOf said me b o → option_map made o ≡ Some x → Holds said me b x
+pub law_of_made : (said : List Said) (me : Rank) (b : Bag) (o : Option ClientResponse) (x : Made) → LawOf said me b o → option_map made o ≡ Some x → Holds said me b x
 law_of_made said me b None x law is = absurd (cc)
 law_of_made said me b (Some z) x law is =
     let sent : Holds said me b (made z) = (
@@ -73,7 +74,7 @@ law_of_made said me b (Some z) x law is =
 
 -- A rank that runs.
 
-pub record IsFree (s : State) (b : Bag) : Type 0 where
+pub record IsFree (s : ClientModel) (b : Bag) : Type 0 where
   pub rank : rank_at b s.me ≡ Some (running s)
   pub servers : b.servers ≡ s.config.servers
   pub caused : IsCaused b s.end
@@ -88,7 +89,7 @@ idle_is (waits_for.Reserve request types) e = absurd (cc)
 idle_is (waits_for.Fetch request note) e = absurd (cc)
 
 -- a rank that is free runs in the bag
-pub free_of : (s : State) (b : Bag) → is_free s ≡ true → Agrees s None b → IsFalse (has_due b) → IsFree s b
+pub free_of : (s : ClientModel) (b : Bag) → is_free s ≡ true → ClientAgrees s None b → IsFalse (has_due b) → IsFree s b
 free_of s b free a none =
     let tests = and_parts (is_idle s.pending) (not s.finished) free in
     let nothing : s.pending ≡ waits_for.Nothing = idle_is s.pending tests.0 in
@@ -103,7 +104,7 @@ free_of s b free a none =
     }
 
 -- after a call that has ended
-pub free_agrees : (s : State) (b : Bag) → s.pending ≡ waits_for.Nothing → s.finished ≡ false → rank_at b s.me ≡ Some (running s) → b.servers ≡ s.config.servers → IsCaused b s.end → All (IsHeld b s.me) s.handles → Agrees s None b
+pub free_agrees : (s : ClientModel) (b : Bag) → s.pending ≡ waits_for.Nothing → s.finished ≡ false → rank_at b s.me ≡ Some (running s) → b.servers ≡ s.config.servers → IsCaused b s.end → All (IsHeld b s.me) s.handles → ClientAgrees s None b
 free_agrees s b nothing going rank servers caused held = record {
   rank = rw (going, nothing) rank;
   servers = servers;
@@ -112,7 +113,7 @@ free_agrees s b nothing going rank servers caused held = record {
 }
 
 -- A call to which an end was told before.
-over_follows : (s : State) (b : Bag) (entry : Entry) (call : Call) (end : End) (f : RankState → RankState) (status : Status) →
+over_follows : (s : ClientModel) (b : Bag) (entry : Entry) (call : Call) (end : End) (f : RankState → RankState) (status : Status) →
     IsFree s b → s.end ≡ Some end → Steps b entry (with_rank s.me f b) → says b entry ≡ None
     → f (running s) ≡ record (running s) { status = status; next = s.next + 1 } → bag.open_call status ≡ Some s.next → runs.call_of status ≡ Some call
     → Follows s None b (bare (over s entry call end))
@@ -133,24 +134,24 @@ over_follows s b entry call end f status free told step silent begun opens calls
     )
 
 -- A call that goes to a server.
-waits_follows : (s : State) (b : Bag) (entry : Entry) (f : RankState → RankState) (x : Made) →
+waits_follows : (s : ClientModel) (b : Bag) (entry : Entry) (f : RankState → RankState) (x : Made) →
     IsFree s b → Steps b entry (with_rank s.me f b) → says b entry ≡ None → x.entries ≡ entry ∷ [] → x.state.transcript ≡ s.transcript
-    → Agrees x.state None (with_rank s.me f b) → Follows s None b x
+    → ClientAgrees x.state None (with_rank s.me f b) → Follows s None b x
 waits_follows s b entry f x free step quiet entries transcript agrees =
     (with_rank s.me f b, rw entries (with_rank s.me f b, step, refl), agrees, transcript ∙ sym (ap (λ said. s.transcript ++ said) (ap (λ es. calls_from b es s.me) entries ∙ silent b (with_rank s.me f b) entry s.me step quiet) ∙ append-nil s.transcript))
 
 -- what Putting makes of the rank
-abbrev puts : State → WorkType → ℤ → Target → Option Rank → List ℕ → RankState → RankState
+abbrev puts : ClientModel → WorkType → ℤ → Target → Option Rank → List ℕ → RankState → RankState
 puts s kind prio target answer body r =
     begun (does.Putting (record { id = record { rank = s.me; number = s.next }; kind = kind; prio = prio; target = target; answer = answer; common = r.batch; body = body })) r
 
-putting_steps : (s : State) (b : Bag) (kind : WorkType) (prio : ℤ) (target : Target) (answer : Option Rank) (body : List ℕ) → IsFree s b
+putting_steps : (s : ClientModel) (b : Bag) (kind : WorkType) (prio : ℤ) (target : Target) (answer : Option Rank) (body : List ℕ) → IsFree s b
     → Steps b (entry_of (unit_put s kind prio target answer body)) (with_rank s.me (puts s kind prio target answer body) b)
 putting_steps s b kind prio target answer body free =
     let legal : Legal b (entry_of (unit_put s kind prio target answer body)) = (running s, (free.rank, refl, refl)) in
     step_of b (entry_of (unit_put s kind prio target answer body)) free.none legal
 
-put_follows : (s : State) (b : Bag) (kind : WorkType) (prio : ℤ) (target : Target) (answer : Option Rank) (body : List ℕ) (end : Option End) → IsFree s b → s.end ≡ end
+put_follows : (s : ClientModel) (b : Bag) (kind : WorkType) (prio : ℤ) (target : Target) (answer : Option Rank) (body : List ℕ) (end : Option End) → IsFree s b → s.end ≡ end
     → Follows s None b (bare (put s (unit_put s kind prio target answer body) end))
 put_follows s b kind prio target answer body (Some end) free told =
     over_follows (record s { puts = s.puts + 1 }) b (entry_of (unit_put s kind prio target answer body)) (calls_to.Put kind prio target answer body) end (puts s kind prio target answer body) (does.Putting (unit_put s kind prio target answer body))
@@ -167,12 +168,12 @@ put_follows s b kind prio target answer body None free told =
       held = All-same (IsHeld b s.me) _ s.handles (append-nil s.handles) free.held;
     })
 
-asking_steps : (s : State) (b : Bag) (types : Option (List WorkType)) → IsFree s b → Steps b (enters.Asked s.me s.next types) (with_rank s.me (begun (does.Asking s.next types)) b)
+asking_steps : (s : ClientModel) (b : Bag) (types : Option (List WorkType)) → IsFree s b → Steps b (enters.Asked s.me s.next types) (with_rank s.me (begun (does.Asking s.next types)) b)
 asking_steps s b types free =
     let legal : Legal b (enters.Asked s.me s.next types) = (running s, (free.rank, refl, refl)) in
     step_of b (enters.Asked s.me s.next types) free.none legal
 
-reserve_follows : (s : State) (b : Bag) (types : Option (List WorkType)) (end : Option End) → IsFree s b → s.end ≡ end → Follows s None b (bare (reserve s types end))
+reserve_follows : (s : ClientModel) (b : Bag) (types : Option (List WorkType)) (end : Option End) → IsFree s b → s.end ≡ end → Follows s None b (bare (reserve s types end))
 reserve_follows s b types (Some end) free told =
     over_follows s b (enters.Asked s.me s.next types) (calls_to.Reserve types) end (begun (does.Asking s.next types)) (does.Asking s.next types) free
     told (asking_steps s b types free) refl refl refl refl
@@ -197,7 +198,7 @@ found_is P id (n ∷ notes) note e all = by_test (found_is P id notes note) (sam
         rw (← here) (same_unit_is n.id id is, All-head P n notes all)
     by_test rest false is found = rest (rw is at found) (All-tail P n notes all)
 
-fetch_follows : (s : State) (b : Bag) (id : UnitId) (note : Option UnitNote) → IsFree s b → held s id ≡ note → LawOf s.transcript s.me b (fetch s id note)
+fetch_follows : (s : ClientModel) (b : Bag) (id : UnitId) (note : Option UnitNote) → IsFree s b → held s id ≡ note → LawOf s.transcript s.me b (fetch s id note)
 fetch_follows s b id None free is = tt
 fetch_follows s b id (Some note) free is =
     let it = found_is (IsHeld b s.me) id s.handles note is free.held in
@@ -212,7 +213,7 @@ fetch_follows s b id (Some note) free is =
       held = All-push (IsHeld b s.me) (filter (λ n. not (same_unit n.id id)) s.handles) note (All-filter (λ n. not (same_unit n.id id)) (IsHeld b s.me) s.handles free.held) it.1;
     })
 
-finish_follows : (s : State) (b : Bag) → IsFree s b → s.batch ≡ None → Follows s None b (bare (finish s))
+finish_follows : (s : ClientModel) (b : Bag) → IsFree s b → s.batch ≡ None → Follows s None b (bare (finish s))
 finish_follows s b free alone =
     let legal : Legal b (enters.Finished s.me s.next) = (running s, (free.rank, refl, refl), alone) in
     let step : Steps b (enters.Finished s.me s.next) (with_rank s.me (begun does.Finished) b) = step_of b (enters.Finished s.me s.next) free.none legal in (
@@ -231,7 +232,7 @@ none_is : {X : Type 0} (o : Option X) → is_none o ≡ true → o ≡ None
 none_is None e = refl
 none_is (Some x) e = absurd (cc)
 
-opens : (s : State) (b : Bag) (call : Call) → IsFree s b → LawOf s.transcript s.me b (open_call s call)
+opens : (s : ClientModel) (b : Bag) (call : Call) → IsFree s b → LawOf s.transcript s.me b (open_call s call)
 opens s b (calls_to.Put kind prio target answer body) free = by_test (nat_le (length body) (2 ^ 20) && in_ranks s.config target)
   where
     by_test : (t : Bool) → LawOf s.transcript s.me b (if t then Some (put s (unit_put s kind prio target answer body) s.end) else None)
@@ -255,7 +256,7 @@ opens s b calls_to.Finish free = by_test (is_none s.batch) refl
     by_test false alone = tt
 
 -- the law of a call
-pub begins : (s : State) (call : Call) (x : Made) (b : Bag) → begin s call ≡ Some x → Agrees s None b → IsFalse (has_due b) → Follows s None b x
+pub begins : (s : ClientModel) (call : Call) (x : Made) (b : Bag) → begin s call ≡ Some x → ClientAgrees s None b → IsFalse (has_due b) → Follows s None b x
 begins s call x b is a none = by_test (is_free s) refl is
   where
     by_test : (t : Bool) → is_free s ≡ t → (if t then option_map made (open_call (ticked s (call_stamp s)) call) else None) ≡ Some x → Follows s None b x

@@ -2,6 +2,7 @@
 use Rattle.std.proofs.Common.{◌≡◌, ◌^◌, ℕ, List, length, Option, Some, None, Result, Ok, Err, Bool, true, false, ◌&&◌, ℤ, ap, refl, ◌∙◌}
 use Rattle.std.specs.Prelude.{if◌then◌else◌, IfOk, IsSome, nat_le}
 use Rattle.std.specs.Option.{option_map}
+use Rattle.adlb_unit.specs.Targets.{in_ranks}
 use Rattle.adlb_unit.specs.declared.names.NoMemory.{NoMemory}
 use Rattle.adlb_unit.specs.declared.names.Rank.{Rank}
 use Rattle.adlb_unit.specs.declared.names.Target.{Target}
@@ -11,13 +12,13 @@ use Rattle.bag_ledger.specs.declared.entries.Call.{Call}
 use Rattle.bag_ledger.specs.declared.entries.Call.TheVariants as calls_to
 use Rattle.rank_client.specs.declared.steps.ClientStep.{ClientStep}
 use Rattle.rank_client.specs.Inside.{gives}
-use Rattle.rank_client.specs.Rules.{in_ranks, open_call, put, unit_of, unit_put}
-use Rattle.rank_client.specs.State.{State}
+use Rattle.rank_client.specs.Rules.{open_call, put, unit_of, unit_put}
+use Rattle.rank_client.specs.State.{ClientModel}
 use Rattle.rank_client.specs.Step.{made}
 use Rattle.rank_client.proofs.Entries.{some_is}
 
 -- a put for which the rank is ready is the put of its unit
-put_ready : (s : State) (kind : WorkType) (prio : ℤ) (target : Target) (answer : Option Rank) (body : List ℕ) → IsSome (open_call s (calls_to.Put kind prio target answer body))
+put_ready : (s : ClientModel) (kind : WorkType) (prio : ℤ) (target : Target) (answer : Option Rank) (body : List ℕ) → IsSome (open_call s (calls_to.Put kind prio target answer body))
     → open_call s (calls_to.Put kind prio target answer body) ≡ Some (put s (unit_put s kind prio target answer body) s.end)
 put_ready s kind prio target answer body ready = by_test (nat_le (length body) (2 ^ 20) && in_ranks s.config target) ready
   where
@@ -25,7 +26,7 @@ put_ready s kind prio target answer body ready = by_test (nat_le (length body) (
     by_test true some = refl
     by_test false some = absurd (cc)
 
-pub put_gives : (s now : State) (call : Call) (unit : Unit) (r : Result ClientStep NoMemory) → unit_of s call ≡ Some unit → IsSome (open_call s call)
+pub put_gives : (s now : ClientModel) (call : Call) (unit : Unit) (r : Result ClientStep NoMemory) → unit_of s call ≡ Some unit → IsSome (open_call s call)
     → IfOk r (λ x. made (put s unit s.end) ≡ gives now x) → IfOk r (λ x. option_map made (open_call s call) ≡ Some (gives now x))
 put_gives s now call unit (Err e) is ready gave = gave
 put_gives s now (calls_to.Put kind prio target answer body) unit (Ok x) is ready gave =

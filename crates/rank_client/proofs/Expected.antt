@@ -3,6 +3,7 @@ use Rattle.std.proofs.Common.{◌≡◌, ◌↔◌, ◌==◌, ◌^◌, ℕ, Bool
 use Rattle.std.specs.Prelude.{nat_lt, is_none}
 use Rattle.std.specs.Option.{option_map}
 use Rattle.std.proofs.lemmas.Bool.{and_from, and_parts, eq-eqb, eqb-true, lt-ltb, ltb-true, not-true, not_from_false}
+use Rattle.adlb_unit.specs.Targets.{home}
 use Rattle.adlb_unit.specs.declared.messages.Message.{Message}
 use Rattle.adlb_unit.specs.declared.messages.Message.TheVariants as tells
 use Rattle.adlb_unit.specs.declared.names.CommonRef.{CommonRef}
@@ -15,8 +16,8 @@ use Rattle.rank_client.specs.declared.pendings.Pending.{Pending}
 use Rattle.rank_client.specs.declared.pendings.Pending.TheVariants as waits_for
 use Rattle.rank_client.specs.Calls.{is_fetched, is_granted}
 use Rattle.rank_client.specs.Expected.{AnswersFetch, AnswersPut, AnswersReserve, ExpectedAreHeard, IsAwaited, IsFor, IsNewNote}
-use Rattle.rank_client.specs.Rules.{Response, answer_call, asked, expects_note, hear_fetch, hear_put, hear_reserve, is_for}
-use Rattle.rank_client.specs.State.{State, home}
+use Rattle.rank_client.specs.Rules.{ClientResponse, answer_call, asked, expects_note, hear_fetch, hear_put, hear_reserve, is_for}
+use Rattle.rank_client.specs.State.{ClientModel}
 use Rattle.rank_client.specs.Step.{letter_stamp, made, ticked}
 
 -- Options.
@@ -55,7 +56,7 @@ none_is : (o : Option CommonRef) → is_none o ≡ true → o ≡ None
 none_is None e = refl
 none_is (Some common) e = absurd (cc)
 
-pub note_is : (s : State) (note : UnitNote) → (expects_note s note ≡ true) ↔ IsNewNote s note
+pub note_is : (s : ClientModel) (note : UnitNote) → (expects_note s note ≡ true) ↔ IsNewNote s note
 note_is s note = (
   λ is.
       let three = and_parts _ _ is in
@@ -74,7 +75,7 @@ note_is s note = (
 
 -- The pending call.
 
-put_awaited : (s : State) (unit : Unit) (first : Server) (tried : ℕ) (from : Server) (m : Message) → IsSome (hear_put s unit first tried from m) ↔ AnswersPut unit.id.number (asked s first tried) from m
+put_awaited : (s : ClientModel) (unit : Unit) (first : Server) (tried : ℕ) (from : Server) (m : Message) → IsSome (hear_put s unit first tried from m) ↔ AnswersPut unit.id.number (asked s first tried) from m
 put_awaited s unit first tried from (tells.Accepted to) =
     let is = for_is unit.id.number (asked s first tried) from to in (λ some. is.0 (if_some _ _ some), λ here. some_if _ _ (is.1 here))
 put_awaited s unit first tried from (tells.Full to charge) =
@@ -83,7 +84,7 @@ put_awaited s unit first tried from (tells.Ended to end) =
     let is = for_is unit.id.number (asked s first tried) from to in (λ some. is.0 (if_some _ _ some), λ here. some_if _ _ (is.1 here))
 put_awaited s unit first tried from _ = (λ some. absurd (cc), λ here. absurd here)
 
-reserve_awaited : (s : State) (request : ℕ) (types : Option (List WorkType)) (from : Server) (m : Message) → IsSome (hear_reserve s request types from m) ↔ AnswersReserve s request from m
+reserve_awaited : (s : ClientModel) (request : ℕ) (types : Option (List WorkType)) (from : Server) (m : Message) → IsSome (hear_reserve s request types from m) ↔ AnswersReserve s request from m
 reserve_awaited s request types from (tells.Grant to note) =
     let is = for_is request (home s.config s.me) from to in
     let new = note_is s note in (
@@ -94,7 +95,7 @@ reserve_awaited s request types from (tells.Ended to end) =
     let is = for_is request (home s.config s.me) from to in (λ some. is.0 (if_some _ _ some), λ here. some_if _ _ (is.1 here))
 reserve_awaited s request types from _ = (λ some. absurd (cc), λ here. absurd here)
 
-fetch_awaited : (s : State) (request : ℕ) (note : UnitNote) (from : Server) (m : Message) → IsSome (hear_fetch s request note from m) ↔ AnswersFetch request note from m
+fetch_awaited : (s : ClientModel) (request : ℕ) (note : UnitNote) (from : Server) (m : Message) → IsSome (hear_fetch s request note from m) ↔ AnswersFetch request note from m
 fetch_awaited s request note from (tells.Bytes to body) =
     let is = for_is request note.server from to in (
       λ some. let parts = and_parts (is_for request note.server from to) (length body == note.length) (if_some _ _ some) in (is.0 parts.0, eqb-true (length body) note.length parts.1),
@@ -102,25 +103,25 @@ fetch_awaited s request note from (tells.Bytes to body) =
     )
 fetch_awaited s request note from _ = (λ some. absurd (cc), λ here. absurd here)
 
-awaited : (s : State) (p : Pending) (from : Server) (m : Message) → IsSome (answer_call s p from m) ↔ IsAwaited s p from m
+awaited : (s : ClientModel) (p : Pending) (from : Server) (m : Message) → IsSome (answer_call s p from m) ↔ IsAwaited s p from m
 awaited s waits_for.Nothing from m = (λ some. absurd (cc), λ here. absurd here)
 awaited s (waits_for.Put unit first tried) from m = put_awaited s unit first tried from m
 awaited s (waits_for.Reserve request types) from m = reserve_awaited s request types from m
 awaited s (waits_for.Fetch request note) from m = fetch_awaited s request note from m
 
 -- the stamp of an event changes nothing of what is awaited
-new_ticked : (s : State) (stamp : ℕ) (note : UnitNote) → IsNewNote s note → IsNewNote (ticked s stamp) note
+new_ticked : (s : ClientModel) (stamp : ℕ) (note : UnitNote) → IsNewNote s note → IsNewNote (ticked s stamp) note
 new_ticked s stamp note new = record { server = new.server; ungranted = new.ungranted; unfetched = new.unfetched; alone = new.alone }
 
-new_before : (s : State) (stamp : ℕ) (note : UnitNote) → IsNewNote (ticked s stamp) note → IsNewNote s note
+new_before : (s : ClientModel) (stamp : ℕ) (note : UnitNote) → IsNewNote (ticked s stamp) note → IsNewNote s note
 new_before s stamp note new = record { server = new.server; ungranted = new.ungranted; unfetched = new.unfetched; alone = new.alone }
 
-reserve_ticked : (s : State) (stamp request : ℕ) (from : Server) (m : Message) → AnswersReserve s request from m ↔ AnswersReserve (ticked s stamp) request from m
+reserve_ticked : (s : ClientModel) (stamp request : ℕ) (from : Server) (m : Message) → AnswersReserve s request from m ↔ AnswersReserve (ticked s stamp) request from m
 reserve_ticked s stamp request from (tells.Grant to note) = (λ here. (here.0, new_ticked s stamp note here.1), λ here. (here.0, new_before s stamp note here.1))
 reserve_ticked s stamp request from (tells.Ended to end) = (λ here. here, λ here. here)
 reserve_ticked s stamp request from _ = (λ here. here, λ here. here)
 
-awaited_ticked : (s : State) (stamp : ℕ) (p : Pending) (from : Server) (m : Message) → IsAwaited s p from m ↔ IsAwaited (ticked s stamp) p from m
+awaited_ticked : (s : ClientModel) (stamp : ℕ) (p : Pending) (from : Server) (m : Message) → IsAwaited s p from m ↔ IsAwaited (ticked s stamp) p from m
 awaited_ticked s stamp waits_for.Nothing from m = (λ here. here, λ here. here)
 awaited_ticked s stamp (waits_for.Put unit first tried) from m = (λ here. here, λ here. here)
 awaited_ticked s stamp (waits_for.Reserve request types) from m = reserve_ticked s stamp request from m
@@ -129,7 +130,7 @@ awaited_ticked s stamp (waits_for.Fetch request note) from m = (λ here. here, �
 pub expected_are_heard : ExpectedAreHeard
 expected_are_heard s from letter =
     let stamp : ℕ = letter_stamp s letter in
-    let o : Option Response = answer_call (ticked s stamp) s.pending from letter.message in
+    let o : Option ClientResponse = answer_call (ticked s stamp) s.pending from letter.message in
     let given : Bool = not s.finished && nat_lt letter.stamp (2 ^ 48) in
     let rule = awaited (ticked s stamp) s.pending from letter.message in
     let same = awaited_ticked s stamp s.pending from letter.message in (

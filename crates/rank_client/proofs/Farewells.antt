@@ -2,12 +2,15 @@
 use Rattle.std.proofs.Common.{◌≡◌, ◌≤◌, ◌<◌, ◌+◌, ◌-◌, ◌∷◌, ◌++◌, [], ℕ, suc, List, map, get_or, refl, arith, get_or-set_other, ◌≢◌}
 use Rattle.std.specs.List.{range_with_len}
 use Rattle.std.specs.Prelude.{slice_set, slice_index_or}
+use Rattle.adlb_unit.specs.Links.{sending}
+use Rattle.adlb_unit.specs.declared.actors.Actor.TheVariants as by
 use Rattle.adlb_unit.specs.declared.letters.Sending.{Sending}
 use Rattle.rank_client.specs.Rules.{farewell}
-use Rattle.rank_client.specs.Step.{Made, post, sending}
+use Rattle.rank_client.specs.Step.{Made, post}
 
 pub one_more : (x : Made) (sent now : List ℕ) (sends all : List Sending) (letter : Sending) (stamp i n : ℕ) → x.state.clock ≡ stamp → i < n
-    → now ≡ slice_set sent i (slice_index_or sent i 0 + 1) → letter ≡ sending stamp (slice_index_or sent i 0) (farewell i) → all ≡ sends ++ letter ∷ []
+    → now ≡ slice_set sent i (slice_index_or sent i 0 + 1)
+    → letter ≡ sending stamp (slice_index_or sent i 0) (by.Server (farewell i).to) (farewell i).message → all ≡ sends ++ letter ∷ []
     → post (record x { state = record x.state { sent = sent }; sends = sends }) (map farewell (range_with_len i (n - i)))
     ≡ post (record x { state = record x.state { sent = now }; sends = all }) (map farewell (range_with_len (i + 1) (n - (i + 1))))
 one_more x sent now sends all letter stamp i n clock below now_is letter_is all_is =

@@ -4,6 +4,7 @@ use Rattle.std.specs.Prelude.{nat_lt}
 use Rattle.std.specs.Option.{option_map}
 use Rattle.std.proofs.lemmas.Bool.{false_from_ne_true, or_cases}
 use Rattle.std.proofs.lemmas.List.Elements.{All-filter, All-push, All-weaker}
+use Rattle.adlb_unit.specs.Ids.{same_unit}
 use Rattle.adlb_unit.specs.declared.configs.Config.{Config}
 use Rattle.adlb_unit.specs.declared.letters.Letter.{Letter}
 use Rattle.adlb_unit.specs.declared.messages.Message.{Message}
@@ -15,7 +16,6 @@ use Rattle.adlb_unit.specs.declared.names.WorkType.{WorkType}
 use Rattle.adlb_unit.specs.declared.notes.End.{End}
 use Rattle.adlb_unit.specs.declared.notes.UnitNote.{UnitNote}
 use Rattle.adlb_unit.specs.declared.units.Unit.{Unit}
-use Rattle.adlb_unit.specs.Ids.{same_unit}
 use Rattle.adlb_unit.proofs.Same.{same_unit_from, same_unit_is}
 use Rattle.bag_ledger.specs.declared.entries.Answer.{Answer}
 use Rattle.bag_ledger.specs.declared.entries.Answer.TheVariants as answers
@@ -26,8 +26,8 @@ use Rattle.rank_client.specs.declared.pendings.Pending.{Pending}
 use Rattle.rank_client.specs.declared.pendings.Pending.TheVariants as waits_for
 use Rattle.rank_client.specs.Calls.{fetches, grants, is_fetched, is_granted}
 use Rattle.rank_client.specs.Granted.{AreGranted, GrantsComeFirst, IsGrantedFirst}
-use Rattle.rank_client.specs.Rules.{Response, Saying, answer_call, call_of, fetch, hear_fetch, hear_put, hear_reserve, held, is_free, open_call, put, refused, reserve, unit_put}
-use Rattle.rank_client.specs.State.{State, start}
+use Rattle.rank_client.specs.Rules.{ClientResponse, Saying, answer_call, call_of, fetch, hear_fetch, hear_put, hear_reserve, held, is_free, open_call, put, refused, reserve, unit_put}
+use Rattle.rank_client.specs.State.{ClientModel, start}
 use Rattle.rank_client.specs.Step.{Made, begin, call_stamp, hear, letter_stamp, made, post, ticked}
 use Rattle.rank_client.proofs.Begins.{found_is}
 use Rattle.rank_client.proofs.Entries.{some_is}
@@ -87,27 +87,27 @@ post_keeps : (says : List Saying) (x : Made) → IsGrantedFirst x.state → IsGr
 post_keeps [] x g = g
 post_keeps (y ∷ says) x g = post_keeps says _ g
 
-abbrev Keeps : Response → Type 0
+abbrev Keeps : ClientResponse → Type 0
 Keeps y = IsGrantedFirst y.state
 
 -- A call.
 
-put_keeps : (s : State) (unit : Unit) (end : Option End) → IsGrantedFirst s → Keeps (put s unit end)
+put_keeps : (s : ClientModel) (unit : Unit) (end : Option End) → IsGrantedFirst s → Keeps (put s unit end)
 put_keeps s unit (Some end) g = call_over s.transcript s.handles s.pending (call_of unit) (answers.Ended end) g (λ id no. absurd (cc))
 put_keeps s unit None g = record { held = g.held; fetching = tt; fetched = g.fetched }
 
-reserve_keeps : (s : State) (types : Option (List WorkType)) (end : Option End) → IsGrantedFirst s → Keeps (reserve s types end)
+reserve_keeps : (s : ClientModel) (types : Option (List WorkType)) (end : Option End) → IsGrantedFirst s → Keeps (reserve s types end)
 reserve_keeps s types (Some end) g = call_over s.transcript s.handles s.pending (calls_to.Reserve types) (answers.Ended end) g (λ id no. absurd (cc))
 reserve_keeps s types None g = record { held = g.held; fetching = tt; fetched = g.fetched }
 
-fetch_keeps : (s : State) (id : UnitId) (o : Option UnitNote) (y : Response) → held s id ≡ o → fetch s id o ≡ Some y → IsGrantedFirst s → Keeps y
+fetch_keeps : (s : ClientModel) (id : UnitId) (o : Option UnitNote) (y : ClientResponse) → held s id ≡ o → fetch s id o ≡ Some y → IsGrantedFirst s → Keeps y
 fetch_keeps s id None y found is g = absurd (cc)
 fetch_keeps s id (Some note) y found is g =
     let P : UnitNote → Type 0 = λ n. is_granted n.id s.transcript ≡ true in
     let there : is_granted note.id s.transcript ≡ true = (found_is P id s.handles note found g.held).1 in
     subst Keeps (some_is is) (record { held = All-filter (λ n. not (same_unit n.id id)) P s.handles g.held; fetching = there; fetched = g.fetched })
 
-open_keeps : (s : State) (call : Call) (y : Response) → open_call s call ≡ Some y → IsGrantedFirst s → Keeps y
+open_keeps : (s : ClientModel) (call : Call) (y : ClientResponse) → open_call s call ≡ Some y → IsGrantedFirst s → Keeps y
 open_keeps s (calls_to.Put kind prio target answer body) y is g = subst Keeps (if_is _ _ y is) (put_keeps s (unit_put s kind prio target answer body) s.end g)
 open_keeps s (calls_to.Reserve types) y is g = subst Keeps (if_is _ _ y is) (reserve_keeps s types s.end g)
 open_keeps s (calls_to.Fetch id) y is g = fetch_keeps s id (held s id) y refl is g
@@ -116,28 +116,28 @@ open_keeps s _ y is g = absurd (cc)
 
 -- A letter.
 
-refused_keeps : (s : State) (unit : Unit) (first : Server) (tried : ℕ) (more : Bool) → IsGrantedFirst s → Keeps (refused s unit first tried more)
+refused_keeps : (s : ClientModel) (unit : Unit) (first : Server) (tried : ℕ) (more : Bool) → IsGrantedFirst s → Keeps (refused s unit first tried more)
 refused_keeps s unit first tried true g = record { held = g.held; fetching = tt; fetched = g.fetched }
 refused_keeps s unit first tried false g = call_over s.transcript s.handles s.pending (call_of unit) answers.Rejected g (λ id no. absurd (cc))
 
-hear_put_keeps : (s : State) (unit : Unit) (first : Server) (tried : ℕ) (from : Server) (m : Message) (y : Response) → hear_put s unit first tried from m ≡ Some y → IsGrantedFirst s → Keeps y
+hear_put_keeps : (s : ClientModel) (unit : Unit) (first : Server) (tried : ℕ) (from : Server) (m : Message) (y : ClientResponse) → hear_put s unit first tried from m ≡ Some y → IsGrantedFirst s → Keeps y
 hear_put_keeps s unit first tried from (tells.Accepted to) y is g = subst Keeps (if_is _ _ y is) (call_over s.transcript s.handles s.pending (call_of unit) answers.Fine g (λ id no. absurd (cc)))
 hear_put_keeps s unit first tried from (tells.Full to charge) y is g = subst Keeps (if_is _ _ y is) (refused_keeps s unit first tried (nat_lt (tried + 1) s.config.servers) g)
 hear_put_keeps s unit first tried from (tells.Ended to end) y is g = subst Keeps (if_is _ _ y is) (call_over s.transcript s.handles s.pending (call_of unit) (answers.Ended end) g (λ id no. absurd (cc)))
 hear_put_keeps s unit first tried from _ y is g = absurd (cc)
 
-hear_reserve_keeps : (s : State) (request : ℕ) (types : Option (List WorkType)) (from : Server) (m : Message) (y : Response) → hear_reserve s request types from m ≡ Some y → IsGrantedFirst s → Keeps y
+hear_reserve_keeps : (s : ClientModel) (request : ℕ) (types : Option (List WorkType)) (from : Server) (m : Message) (y : ClientResponse) → hear_reserve s request types from m ≡ Some y → IsGrantedFirst s → Keeps y
 hear_reserve_keeps s request types from (tells.Grant to note) y is g = subst Keeps (if_is _ _ y is) (unit_granted s.transcript s.handles s.pending types note g)
 hear_reserve_keeps s request types from (tells.Ended to end) y is g = subst Keeps (if_is _ _ y is) (call_over s.transcript s.handles s.pending (calls_to.Reserve types) (answers.Ended end) g (λ id no. absurd (cc)))
 hear_reserve_keeps s request types from _ y is g = absurd (cc)
 
-hear_fetch_keeps : (s : State) (request : ℕ) (note : UnitNote) (from : Server) (m : Message) (y : Response) → hear_fetch s request note from m ≡ Some y → is_granted note.id s.transcript ≡ true → IsGrantedFirst s → Keeps y
+hear_fetch_keeps : (s : ClientModel) (request : ℕ) (note : UnitNote) (from : Server) (m : Message) (y : ClientResponse) → hear_fetch s request note from m ≡ Some y → is_granted note.id s.transcript ≡ true → IsGrantedFirst s → Keeps y
 hear_fetch_keeps s request note from (tells.Bytes to body) y is there g =
     subst Keeps (if_is _ _ y is)
     (call_over s.transcript s.handles s.pending (calls_to.Fetch note.id) (answers.Body body) g (λ id same. let P : UnitId → Type 0 = λ i. is_granted i s.transcript ≡ true in subst P (same_unit_is note.id id same) there))
 hear_fetch_keeps s request note from _ y is there g = absurd (cc)
 
-answer_keeps : (s : State) (p : Pending) (from : Server) (m : Message) (y : Response) → s.pending ≡ p → answer_call s p from m ≡ Some y → IsGrantedFirst s → Keeps y
+answer_keeps : (s : ClientModel) (p : Pending) (from : Server) (m : Message) (y : ClientResponse) → s.pending ≡ p → answer_call s p from m ≡ Some y → IsGrantedFirst s → Keeps y
 answer_keeps s waits_for.Nothing from m y waits is g = absurd (cc)
 answer_keeps s (waits_for.Put unit first tried) from m y waits is g = hear_put_keeps s unit first tried from m y is g
 answer_keeps s (waits_for.Reserve request types) from m y waits is g = hear_reserve_keeps s request types from m y is g
@@ -151,15 +151,15 @@ started : (config : Config) (me : Rank) → IsGrantedFirst (start config me)
 unfolding is_fetched
 started config me = record { held = λ k d within. absurd (omega (arith, within)); fetching = tt; fetched = λ id is. absurd (cc) }
 
-begun : (s : State) (call : Call) (x : Made) → begin s call ≡ Some x → IsGrantedFirst s → IsGrantedFirst x.state
+begun : (s : ClientModel) (call : Call) (x : Made) → begin s call ≡ Some x → IsGrantedFirst s → IsGrantedFirst x.state
 begun s call x is g =
     let y = map_is made (open_call (ticked s (call_stamp s)) call) x (if_there (is_free s) _ x is) in
     let P : Made → Type 0 = λ z. IsGrantedFirst z.state in
     subst P y.2 (post_keeps y.0.says _ (open_keeps (ticked s (call_stamp s)) call y.0 y.1 g))
 
-heard : (s : State) (from : Server) (letter : Letter) (x : Made) → hear s from letter ≡ Some x → IsGrantedFirst s → IsGrantedFirst x.state
+heard : (s : ClientModel) (from : Server) (letter : Letter) (x : Made) → hear s from letter ≡ Some x → IsGrantedFirst s → IsGrantedFirst x.state
 heard s from letter x is g =
-    let t : State = ticked s (letter_stamp s letter) in
+    let t : ClientModel = ticked s (letter_stamp s letter) in
     let y = map_is made (answer_call t s.pending from letter.message) x (if_there (not s.finished && nat_lt letter.stamp (2 ^ 48)) _ x is) in
     let P : Made → Type 0 = λ z. IsGrantedFirst z.state in
     subst P y.2 (post_keeps y.0.says _ (answer_keeps t s.pending from letter.message y.0 refl y.1 g))

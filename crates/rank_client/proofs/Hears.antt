@@ -4,6 +4,7 @@ use Rattle.std.specs.Prelude.{if◌then◌else◌, IsFalse, All, nat_lt}
 use Rattle.std.specs.Option.{option_map}
 use Rattle.std.proofs.lemmas.Bool.{and_parts, not-true, ltb-false}
 use Rattle.std.proofs.lemmas.List.Elements.{All-same}
+use Rattle.adlb_unit.specs.Targets.{home}
 use Rattle.adlb_unit.specs.declared.letters.Letter.{Letter}
 use Rattle.adlb_unit.specs.declared.messages.Message.{Message}
 use Rattle.adlb_unit.specs.declared.messages.Message.TheVariants as tells
@@ -22,16 +23,16 @@ use Rattle.bag_ledger.specs.Runs.{says}
 use Rattle.bag_ledger.specs.Steps.{Legal, Steps, ended, with_rank}
 use Rattle.rank_client.specs.declared.pendings.Pending.{Pending}
 use Rattle.rank_client.specs.declared.pendings.Pending.TheVariants as waits_for
-use Rattle.rank_client.specs.Agreement.{Agrees, Follows, IsCaused, IsHeld, in_call, note_coming, putting, running, said}
+use Rattle.rank_client.specs.Agreement.{ClientAgrees, Follows, IsCaused, IsHeld, in_call, note_coming, putting, running, said}
 use Rattle.rank_client.specs.Rules.{answer_call, asked, call_of, ends, expects_note, is_for, refused}
-use Rattle.rank_client.specs.State.{State, home}
+use Rattle.rank_client.specs.State.{ClientModel}
 use Rattle.rank_client.specs.Step.{Made, hear, letter_stamp, made, ticked}
 use Rattle.rank_client.proofs.Begins.{Holds, LawOf, bare, free_agrees, law_of_made}
 use Rattle.rank_client.proofs.Entries.{rank_changed, saying, step_of}
 use Rattle.rank_client.proofs.Ring.{all_asked}
 
 -- this call is pending, and this answer to it comes back
-pub record Awaits (s : State) (b : Bag) (p : Pending) (m : Message) : Type 0 where
+pub record Awaits (s : ClientModel) (b : Bag) (p : Pending) (m : Message) : Type 0 where
   pub rank : rank_at b s.me ≡ Some (in_call s p (Some m))
   pub servers : b.servers ≡ s.config.servers
   pub caused : IsCaused b (in_call s p (Some m)).end
@@ -40,7 +41,7 @@ pub record Awaits (s : State) (b : Bag) (p : Pending) (m : Message) : Type 0 whe
   pub going : s.finished ≡ false
 
 -- the answer is heard, with no entry
-heard : (s t : State) (b : Bag) (call : Call) (answer : Answer) → rank_at b s.me ≡ Some (running t) → b.servers ≡ s.config.servers → IsCaused b t.end
+heard : (s t : ClientModel) (b : Bag) (call : Call) (answer : Answer) → rank_at b s.me ≡ Some (running t) → b.servers ≡ s.config.servers → IsCaused b t.end
     → All (IsHeld b s.me) t.handles → t.finished ≡ false → t.me ≡ s.me → t.config ≡ s.config → t.transcript ≡ s.transcript
     → Holds (s.transcript ++ record { call = call; answer = answer } ∷ []) s.me b (bare (ends t [] call answer))
 heard s t b call answer rank servers caused held going me config transcript = (
@@ -51,12 +52,12 @@ heard s t b call answer rank servers caused held going me config transcript = (
 )
 
 -- with no note on its way
-alone : (s : State) (b : Bag) → All (IsHeld b s.me) (s.handles ++ []) → All (IsHeld b s.me) s.handles
+alone : (s : ClientModel) (b : Bag) → All (IsHeld b s.me) (s.handles ++ []) → All (IsHeld b s.me) s.handles
 alone s b held = All-same (IsHeld b s.me) s.handles _ (sym (append-nil s.handles)) held
 
 -- Put.
 
-refusal : (s : State) (b : Bag) (unit : Unit) (first : Server) (tried to charge : ℕ) (t : Bool) → nat_lt (tried + 1) s.config.servers ≡ t
+refusal : (s : ClientModel) (b : Bag) (unit : Unit) (first : Server) (tried to charge : ℕ) (t : Bool) → nat_lt (tried + 1) s.config.servers ≡ t
     → Awaits s b (waits_for.Put unit first tried) (tells.Full to charge) → Holds s.transcript s.me b (bare (refused s unit first tried t))
 refusal s b unit first tried to charge true more a = (
   b,
@@ -77,7 +78,7 @@ refusal s b unit first tried to charge false more a =
       ap (λ said. s.transcript ++ said) (sym (saying b (with_rank s.me ended b) entry s.me (record { call = call_of unit; answer = answers.Rejected }) step told)),
     )
 
-put_heard : (s : State) (b : Bag) (unit : Unit) (first : Server) (tried : ℕ) (from : Server) (m : Message) → Awaits s b (waits_for.Put unit first tried) m
+put_heard : (s : ClientModel) (b : Bag) (unit : Unit) (first : Server) (tried : ℕ) (from : Server) (m : Message) → Awaits s b (waits_for.Put unit first tried) m
     → LawOf (said s (waits_for.Put unit first tried) (Some m)) s.me b (answer_call s (waits_for.Put unit first tried) from m)
 put_heard s b unit first tried from (tells.Accepted to) a = by_test (is_for unit.id.number (asked s first tried) from to)
   where
@@ -98,7 +99,7 @@ put_heard s b unit first tried from _ a = tt
 
 -- Reserve.
 
-reserve_heard : (s : State) (b : Bag) (request : ℕ) (types : Option (List WorkType)) (from : Server) (m : Message) → Awaits s b (waits_for.Reserve request types) m
+reserve_heard : (s : ClientModel) (b : Bag) (request : ℕ) (types : Option (List WorkType)) (from : Server) (m : Message) → Awaits s b (waits_for.Reserve request types) m
     → LawOf (said s (waits_for.Reserve request types) (Some m)) s.me b (answer_call s (waits_for.Reserve request types) from m)
 reserve_heard s b request types from (tells.Grant to note) a = by_test (is_for request (home s.config s.me) from to && expects_note s note)
   where
@@ -114,7 +115,7 @@ reserve_heard s b request types from _ a = tt
 
 -- Fetch.
 
-fetch_heard : (s : State) (b : Bag) (request : ℕ) (note : UnitNote) (from : Server) (m : Message) → Awaits s b (waits_for.Fetch request note) m
+fetch_heard : (s : ClientModel) (b : Bag) (request : ℕ) (note : UnitNote) (from : Server) (m : Message) → Awaits s b (waits_for.Fetch request note) m
     → LawOf (said s (waits_for.Fetch request note) (Some m)) s.me b (answer_call s (waits_for.Fetch request note) from m)
 fetch_heard s b request note from (tells.Bytes to body) a = by_test (is_for request note.server from to && (length body == note.length))
   where
@@ -123,24 +124,24 @@ fetch_heard s b request note from (tells.Bytes to body) a = by_test (is_for requ
     by_test false = tt
 fetch_heard s b request note from _ a = tt
 
-call_heard : (s : State) (b : Bag) (p : Pending) (from : Server) (m : Message) → Awaits s b p m → LawOf (said s p (Some m)) s.me b (answer_call s p from m)
+call_heard : (s : ClientModel) (b : Bag) (p : Pending) (from : Server) (m : Message) → Awaits s b p m → LawOf (said s p (Some m)) s.me b (answer_call s p from m)
 call_heard s b waits_for.Nothing from m a = tt
 call_heard s b (waits_for.Put unit first tried) from m a = put_heard s b unit first tried from m a
 call_heard s b (waits_for.Reserve request types) from m a = reserve_heard s b request types from m a
 call_heard s b (waits_for.Fetch request note) from m a = fetch_heard s b request note from m a
 
 -- the same where the event has its stamp
-later_heard : (s : State) (stamp : ℕ) (b : Bag) (p : Pending) (from : Server) (m : Message) → Awaits s b p m → LawOf (said s p (Some m)) s.me b (answer_call (ticked s stamp) p from m)
+later_heard : (s : ClientModel) (stamp : ℕ) (b : Bag) (p : Pending) (from : Server) (m : Message) → Awaits s b p m → LawOf (said s p (Some m)) s.me b (answer_call (ticked s stamp) p from m)
 later_heard s stamp b p from m a = rw (said_ticked s stamp p m) (call_heard (ticked s stamp) b p from m (record { rank = a.rank; servers = a.servers; caused = a.caused; held = a.held; none = a.none; going = a.going }))
   where
-    said_ticked : (s : State) (stamp : ℕ) (p : Pending) (m : Message) → said s p (Some m) ≡ said (ticked s stamp) p (Some m)
+    said_ticked : (s : ClientModel) (stamp : ℕ) (p : Pending) (m : Message) → said s p (Some m) ≡ said (ticked s stamp) p (Some m)
     said_ticked s stamp waits_for.Nothing m = refl
     said_ticked s stamp (waits_for.Put unit first tried) m = refl
     said_ticked s stamp (waits_for.Reserve request types) m = refl
     said_ticked s stamp (waits_for.Fetch request note) m = refl
 
 -- the law of a letter
-pub hears : (s : State) (from : Server) (letter : Letter) (x : Made) (b : Bag) → hear s from letter ≡ Some x → Agrees s (Some letter.message) b → IsFalse (has_due b) → Follows s (Some letter.message) b x
+pub hears : (s : ClientModel) (from : Server) (letter : Letter) (x : Made) (b : Bag) → hear s from letter ≡ Some x → ClientAgrees s (Some letter.message) b → IsFalse (has_due b) → Follows s (Some letter.message) b x
 hears s from letter x b is a none = by_test (not s.finished && nat_lt letter.stamp (2 ^ 48)) refl is
   where
     by_test : (t : Bool) → (not s.finished && nat_lt letter.stamp (2 ^ 48)) ≡ t → (if t then option_map made (answer_call (ticked s (letter_stamp s letter)) s.pending from letter.message) else None) ≡ Some x → Follows s (Some letter.message) b x

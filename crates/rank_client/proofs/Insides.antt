@@ -3,6 +3,7 @@ use Rattle.std.proofs.Common.{◌≡◌, ◌≤◌, ◌<◌, ◌+◌, ℕ, List,
 use Rattle.std.proofs.Math.ListN.{length-set}
 use Rattle.std.specs.Prelude.{OnOk, is_err}
 use Rattle.std.proofs.lemmas.List.Elements.{All-filter, All-get_or, All-same, All-set, All-weaker}
+use Rattle.adlb_unit.specs.Ids.{same_unit}
 use Rattle.adlb_unit.specs.declared.configs.Config.{Config}
 use Rattle.adlb_unit.specs.declared.messages.Message.TheVariants as tells
 use Rattle.adlb_unit.specs.declared.names.UnitId.{UnitId}
@@ -16,7 +17,7 @@ use Rattle.rank_client.specs.declared.rooms.Room.{Room}
 use Rattle.rank_client.specs.declared.steps.ClientStep.{ClientStep}
 use Rattle.rank_client.specs.Inside.{HasRoom, IsFresh, IsSound, awaited, gives}
 use Rattle.rank_client.specs.Rules.{asks, fetched, held}
-use Rattle.rank_client.specs.State.{State}
+use Rattle.rank_client.specs.State.{ClientModel}
 use Rattle.rank_client.specs.Step.{Made, made, ticked}
 use Rattle.rank_client.proofs.Begins.{found_is}
 
@@ -25,13 +26,13 @@ on_ok (Ok x) e p = p
 on_ok (Err x) e p = absurd (cc)
 
 -- a letter to a server is the first of the event
-pub first_letter : (s : State) (to : ℕ) → IsSound s → IsFresh s → to < s.config.servers → get_or s.sent to 0 < s.clock
+pub first_letter : (s : ClientModel) (to : ℕ) → IsSound s → IsFresh s → to < s.config.servers → get_or s.sent to 0 < s.clock
 first_letter s to sound fresh there =
     let P : ℕ → Type 0 = λ n. n < s.clock in
     All-get_or P s.sent to 0 (omega (arith, sound.servers, there)) fresh.sent
 
 -- a call has begun, and a letter was written
-pub asked_sound : (s : State) (pending : Pending) (sent : List ℕ) (handles : List UnitNote) (transcript : List Said) (to : ℕ) → IsSound s → IsFresh s → to < s.config.servers
+pub asked_sound : (s : ClientModel) (pending : Pending) (sent : List ℕ) (handles : List UnitNote) (transcript : List Said) (to : ℕ) → IsSound s → IsFresh s → to < s.config.servers
     → sent ≡ set s.sent to (get_or s.sent to 0 + 1) → handles ≡ s.handles → transcript ≡ s.transcript
     → IsSound (record s { pending = pending; next = s.next + 1; sent = sent; handles = handles; transcript = transcript })
 asked_sound s pending sent handles transcript to sound fresh there is notes said =
@@ -63,7 +64,7 @@ awaited_few (waits_for.Reserve request types) = omega arith
 awaited_few (waits_for.Fetch request note) = omega arith
 
 -- a unit that is held is at a server
-pub held_server : (s : State) (id : UnitId) (note : UnitNote) → IsSound s → held s id ≡ Some note → note.server.0 < s.config.servers
+pub held_server : (s : ClientModel) (id : UnitId) (note : UnitNote) → IsSound s → held s id ≡ Some note → note.server.0 < s.config.servers
 held_server s id note sound is = (found_is (λ n. n.server.0 < s.config.servers) id s.handles note is sound.notes).1
 
 -- fewer notes
@@ -73,7 +74,7 @@ room_fewer config notes fewer space same room (waits_for.Put unit first tried) l
 room_fewer config notes fewer space same room (waits_for.Reserve request types) less is has = omega (arith, has)
 room_fewer config notes fewer space same room (waits_for.Fetch request note) less is has = has
 
-pub fewer_notes : (s : State) (id : UnitId) (notes : List UnitNote) → IsSound s → notes ≡ filter (λ n. not (same_unit n.id id)) s.handles → IsSound (record s { handles = notes })
+pub fewer_notes : (s : ClientModel) (id : UnitId) (notes : List UnitNote) → IsSound s → notes ≡ filter (λ n. not (same_unit n.id id)) s.handles → IsSound (record s { handles = notes })
 fewer_notes s id notes sound is =
     let N : UnitNote → Type 0 = λ n. n.server.0 < s.config.servers in
     record {
@@ -88,19 +89,19 @@ fewer_notes s id notes sound is =
     }
 
 -- a fetch takes the note off the list
-pub fetched_gives : (s at now : State) (id : UnitId) (note : UnitNote) (x : ClientStep) (notes : List UnitNote) → at ≡ s
+pub fetched_gives : (s at now : ClientModel) (id : UnitId) (note : UnitNote) (x : ClientStep) (notes : List UnitNote) → at ≡ s
     → made (asks s (enters.Fetching at.me at.next id) note.server (tells.Fetch at.next id) (waits_for.Fetch at.next note)) ≡ gives now x
     → notes ≡ filter (λ n. not (same_unit n.id id)) now.handles → made (fetched s id note) ≡ gives (record now { handles = notes }) x
 fetched_gives s at now id note x notes at_is gave is =
     let e : made (asks s (enters.Fetching s.me s.next id) note.server (tells.Fetch s.next id) (waits_for.Fetch s.next note)) ≡ gives now x =
-    subst (λ (a : State). made (asks s (enters.Fetching a.me a.next id) note.server (tells.Fetch a.next id) (waits_for.Fetch a.next note)) ≡ gives now x) at_is gave in
+    subst (λ (a : ClientModel). made (asks s (enters.Fetching a.me a.next id) note.server (tells.Fetch a.next id) (waits_for.Fetch a.next note)) ≡ gives now x) at_is gave in
     let same : s.handles ≡ now.handles = ap (λ (m : Made). m.state.handles) e in
     let without : List UnitNote → List UnitNote = λ all. filter (λ n. not (same_unit n.id id)) all in
     ap (λ (m : Made). record m { state = record m.state { handles = without s.handles } }) e
     ∙ ap (λ all. gives (record now { handles = all }) x) (ap without same ∙ sym is)
 
 -- an event has its stamp
-pub ticks : (s : State) (stamp : ℕ) → IsSound s → s.clock < stamp → IsFresh (ticked s stamp)
+pub ticks : (s : ClientModel) (stamp : ℕ) → IsSound s → s.clock < stamp → IsFresh (ticked s stamp)
 ticks s stamp sound later =
     let P : ℕ → Type 0 = λ n. n ≤ s.clock in
     let Q : ℕ → Type 0 = λ n. n < stamp in

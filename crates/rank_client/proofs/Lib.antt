@@ -2,6 +2,7 @@ pub mod Awaited
 pub mod Begins
 pub mod Calling
 pub mod Entries
+mod Examples
 pub mod Expected
 pub mod Farewells
 pub mod Granted

@@ -25,43 +25,43 @@ use Rattle.rank_client.specs.declared.pendings.Pending.{Pending}
 use Rattle.rank_client.specs.declared.pendings.Pending.TheVariants as waits_for
 use Rattle.rank_client.specs.Calls.{plus}
 use Rattle.rank_client.specs.Rules.{call_of}
-use Rattle.rank_client.specs.State.{State, behind}
+use Rattle.rank_client.specs.State.{ClientModel, behind}
 use Rattle.rank_client.specs.Step.{Made}
 
 -- The rank in the bag while a call is pending: its letter goes to a server or waits there (None), or this answer comes back.
 
-abbrev pub running : State → RankState
+abbrev pub running : ClientModel → RankState
 running s = record { status = does.Running; declined = []; next = s.next; batch = s.batch; end = s.end }
 
 -- so many servers in ring order
 abbrev pub ring_from : Config → Server → ℕ → List Server
 ring_from config first n = map (behind config first) (range_with_len 0 n)
 
-abbrev pub putting : State → Unit → Server → ℕ → RankState
+abbrev pub putting : ClientModel → Unit → Server → ℕ → RankState
 putting s unit first tried = record (running s) { status = does.Putting unit; declined = ring_from s.config first tried }
 
-abbrev pub in_put : State → Unit → Server → ℕ → Option Message → RankState
+abbrev pub in_put : ClientModel → Unit → Server → ℕ → Option Message → RankState
 in_put s unit first tried None = putting s unit first tried
 in_put s unit first tried (Some (tells.Full to charge)) = putting s unit first (tried + 1)
 in_put s unit first tried (Some (tells.Ended to end)) = record (running s) { end = Some end }
 in_put s unit first tried (Some _) = running s
 
-abbrev pub in_reserve : State → ℕ → Option (List WorkType) → Option Message → RankState
+abbrev pub in_reserve : ClientModel → ℕ → Option (List WorkType) → Option Message → RankState
 in_reserve s request types None = record (running s) { status = does.Asking request types }
 in_reserve s request types (Some (tells.Ended to end)) = record (running s) { end = Some end }
 in_reserve s request types (Some _) = running s
 
-abbrev pub in_fetch : State → ℕ → UnitNote → Option Message → RankState
+abbrev pub in_fetch : ClientModel → ℕ → UnitNote → Option Message → RankState
 in_fetch s request note None = record (running s) { status = does.Fetching request note.id false }
 in_fetch s request note (Some _) = running s
 
-abbrev pub in_call : State → Pending → Option Message → RankState
+abbrev pub in_call : ClientModel → Pending → Option Message → RankState
 in_call s waits_for.Nothing coming = running s
 in_call s (waits_for.Put unit first tried) coming = in_put s unit first tried coming
 in_call s (waits_for.Reserve request types) coming = in_reserve s request types coming
 in_call s (waits_for.Fetch request note) coming = in_fetch s request note coming
 
-abbrev pub rank_of : State → Bool → Option Message → RankState
+abbrev pub rank_of : ClientModel → Bool → Option Message → RankState
 rank_of s true coming = record (running s) { status = does.Finished }
 rank_of s false coming = in_call s s.pending coming
 
@@ -82,7 +82,7 @@ fetch_coming (tells.Bytes to body) = Some (answers.Body body)
 fetch_coming _ = None
 
 -- the transcript and then that call
-abbrev pub said : State → Pending → Option Message → List Said
+abbrev pub said : ClientModel → Pending → Option Message → List Said
 said s pending None = s.transcript
 said s waits_for.Nothing (Some m) = s.transcript
 said s (waits_for.Put unit first tried) (Some m) = plus s.transcript (call_of unit) (put_coming m)
@@ -96,7 +96,7 @@ note_coming (waits_for.Reserve request types) (Some (tells.Grant to note)) = not
 note_coming (waits_for.Fetch request note) None = note ∷ []
 note_coming pending coming = []
 
-abbrev pub holds : State → Option Message → List UnitNote
+abbrev pub holds : ClientModel → Option Message → List UnitNote
 holds s coming = s.handles ++ note_coming s.pending coming
 
 -- the unit is pinned to the rank at the server that the note names
@@ -108,7 +108,7 @@ abbrev pub IsCaused : Bag → Option End → Type 0
 IsCaused b end = IfSome end (λ e. IsTrue (has_cause b e))
 
 -- the client stands for its rank of the bag
-pub record Agrees (s : State) (coming : Option Message) (b : Bag) : Type 0 where
+pub record ClientAgrees (s : ClientModel) (coming : Option Message) (b : Bag) : Type 0 where
   pub rank : rank_at b s.me ≡ Some (rank_of s s.finished coming)
   pub servers : b.servers ≡ s.config.servers
   pub caused : IsCaused b (rank_of s s.finished coming).end
@@ -116,7 +116,7 @@ pub record Agrees (s : State) (coming : Option Message) (b : Bag) : Type 0 where
 
 -- the entries of the step are steps of the bag, the client stands for its rank afterwards, and its transcript is what the ledger says
 -- of the rank
-abbrev pub Follows : State → Option Message → Bag → Made → Type 0
+abbrev pub Follows : ClientModel → Option Message → Bag → Made → Type 0
 Follows s coming b x =
-    (next : Bag) × IsRun b x.entries next × Agrees x.state None next
+    (next : Bag) × IsRun b x.entries next × ClientAgrees x.state None next
     × (x.state.transcript ≡ said s s.pending coming ++ calls_from b x.entries s.me)

@@ -1,8 +1,7 @@
 -- What a call answers, and what it adds to a transcript.
-use Rattle.std.specs.Prelude.{ℕ, ◌≡◌, ◌<◌, ◌⊎◌, List, [], ◌∷◌, ◌++◌, Option, Some, None, Bool, true, false, Result, Ok, Err, MatchOption, Contains}
+use Rattle.std.specs.Prelude.{ℕ, ◌≡◌, ◌⊎◌, List, [], ◌∷◌, ◌++◌, Option, Some, None, Bool, true, false, Result, Ok, Err, MatchOption, Contains}
 use Rattle.std.specs.List.{list_any}
-use Rattle.adlb_unit.specs.declared.names.Target.{Target}
-use Rattle.adlb_unit.specs.declared.names.Target.TheVariants.{Any, Only, Soft}
+use Rattle.adlb_unit.specs.Ids.{same_unit}
 use Rattle.adlb_unit.specs.declared.names.UnitId.{UnitId}
 use Rattle.adlb_unit.specs.declared.notes.End.{End}
 use Rattle.adlb_unit.specs.declared.notes.End.TheVariants as ends_by
@@ -100,18 +99,12 @@ end_told (s ∷ said) = end_of s.answer (end_told said)
 
 -- Words of the conditions and of what a call leaves.
 
--- the target is any or a rank of so many
-abbrev pub Aims : Target → ℕ → Type 0
-Aims Any ranks = Unit {0}
-Aims (Only rank) ranks = rank.0 < ranks
-Aims (Soft rank) ranks = rank.0 < ranks
-
 -- after an end was told, a call that is answered tells it again
 abbrev pub TellsAgain : Option End → Option Answer → Type 0
 TellsAgain None answer = Unit {0}
 TellsAgain (Some end) answer = MatchOption answer (Unit {0}) (λ a. a ≡ answers.Ended end)
 
--- a link that has failed fails the same way again
+-- a link that has failed fails again with its trouble
 abbrev pub Repeats : Option Trouble → Option Trouble → Type 0
 Repeats None now = Unit {0}
 Repeats (Some trouble) now = now ≡ Some trouble

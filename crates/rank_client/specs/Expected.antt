@@ -1,5 +1,7 @@
 -- Which letters a client expects.
-use Rattle.std.specs.Prelude.{◌≡◌, ◌<◌, ◌^◌, ◌↔◌, ℕ, false, None, length, IsSome}
+use Rattle.std.specs.Prelude.{◌≡◌, ◌<◌, ◌↔◌, ℕ, false, None, length, IsSome}
+use Rattle.adlb_unit.specs.Limits.{stamp_limit}
+use Rattle.adlb_unit.specs.Targets.{home}
 use Rattle.adlb_unit.specs.declared.letters.Letter.{Letter}
 use Rattle.adlb_unit.specs.declared.messages.Message.{Message}
 use Rattle.adlb_unit.specs.declared.messages.Message.TheVariants as tells
@@ -9,7 +11,7 @@ use Rattle.rank_client.specs.declared.pendings.Pending.{Pending}
 use Rattle.rank_client.specs.declared.pendings.Pending.TheVariants as waits_for
 use Rattle.rank_client.specs.Calls.{is_fetched, is_granted}
 use Rattle.rank_client.specs.Rules.{asked}
-use Rattle.rank_client.specs.State.{State, home}
+use Rattle.rank_client.specs.State.{ClientModel}
 use Rattle.rank_client.specs.Step.{hear}
 
 -- the answer to this request comes from the server that was asked
@@ -24,15 +26,15 @@ AnswersPut request at from (tells.Ended to end) = IsFor request at from to
 AnswersPut request at from _ = ⊥
 
 -- the note names a server of the run; the rank was granted no unit of its id before, and fetched none, which follows
--- (`GrantsComeFirst`); so far the unit has no common part
-pub record IsNewNote (s : State) (note : UnitNote) : Type 0 where
+-- (`GrantsComeFirst`); the unit has no common part
+pub record IsNewNote (s : ClientModel) (note : UnitNote) : Type 0 where
   pub server : note.server.0 < s.config.servers
   pub ungranted : is_granted note.id s.transcript ≡ false
   pub unfetched : is_fetched note.id s.transcript ≡ false
   pub alone : note.common ≡ None
 
 -- a reserve, which the rank's home was asked: a unit is granted, or an end is told
-abbrev pub AnswersReserve : State → ℕ → Server → Message → Type 0
+abbrev pub AnswersReserve : ClientModel → ℕ → Server → Message → Type 0
 AnswersReserve s request from (tells.Grant to note) = IsFor request (home s.config s.me) from to × IsNewNote s note
 AnswersReserve s request from (tells.Ended to end) = IsFor request (home s.config s.me) from to
 AnswersReserve s request from _ = ⊥
@@ -43,18 +45,18 @@ AnswersFetch request note from (tells.Bytes to body) = IsFor request note.server
 AnswersFetch request note from _ = ⊥
 
 -- the pending call awaits such an answer, with this request, from this server
-abbrev pub IsAwaited : State → Pending → Server → Message → Type 0
+abbrev pub IsAwaited : ClientModel → Pending → Server → Message → Type 0
 IsAwaited s waits_for.Nothing from message = ⊥
 IsAwaited s (waits_for.Put unit first tried) from message = AnswersPut unit.id.number (asked s first tried) from message
 IsAwaited s (waits_for.Reserve request types) from message = AnswersReserve s request from message
 IsAwaited s (waits_for.Fetch request note) from message = AnswersFetch request note from message
 
 -- beside it: the rank has not finished, and the stamp is one that is given
-pub record IsExpected (s : State) (from : Server) (letter : Letter) : Type 0 where
+pub record IsExpected (s : ClientModel) (from : Server) (letter : Letter) : Type 0 where
   pub going : s.finished ≡ false
-  pub stamp : letter.stamp < 2 ^ 48
+  pub stamp : letter.stamp < stamp_limit
   pub awaited : IsAwaited s s.pending from letter.message
 
 -- the law: exactly the letters that are expected have a step
 abbrev pub ExpectedAreHeard : Type 0
-ExpectedAreHeard = (s : State) (from : Server) (letter : Letter) → IsSome (hear s from letter) ↔ IsExpected s from letter
+ExpectedAreHeard = (s : ClientModel) (from : Server) (letter : Letter) → IsSome (hear s from letter) ↔ IsExpected s from letter

@@ -11,7 +11,7 @@ use Rattle.bag_ledger.specs.declared.entries.Said.{Said}
 use Rattle.rank_client.specs.declared.pendings.Pending.{Pending}
 use Rattle.rank_client.specs.declared.pendings.Pending.TheVariants as waits_for
 use Rattle.rank_client.specs.Calls.{is_fetched, is_granted}
-use Rattle.rank_client.specs.State.{State, start}
+use Rattle.rank_client.specs.State.{ClientModel, start}
 use Rattle.rank_client.specs.Step.{Made, begin, hear}
 
 -- a fetch that is pending is of a unit that was granted
@@ -25,12 +25,14 @@ pub record AreGranted (said : List Said) (notes : List UnitNote) (pending : Pend
   pub fetching : IsOfGranted said pending
   pub fetched : (id : UnitId) → is_fetched id said ≡ true → is_granted id said ≡ true
 
-abbrev pub IsGrantedFirst : State → Type 0
+abbrev pub IsGrantedFirst : ClientModel → Type 0
 IsGrantedFirst s = AreGranted s.transcript s.handles s.pending
 
 -- the law: so it is at the start and after each step of a rank, and then a unit that was not granted was not fetched either
 pub record GrantsComeFirst : Type 0 where
   pub at_start : (config : Config) (me : Rank) → IsGrantedFirst (start config me)
-  pub after_call : (s : State) (call : Call) (x : Made) → begin s call ≡ Some x → IsGrantedFirst s → IsGrantedFirst x.state
-  pub after_letter : (s : State) (from : Server) (letter : Letter) (x : Made) → hear s from letter ≡ Some x → IsGrantedFirst s → IsGrantedFirst x.state
-  pub unfetched : (s : State) (id : UnitId) → IsGrantedFirst s → is_granted id s.transcript ≡ false → is_fetched id s.transcript ≡ false
+  pub after_call : (s : ClientModel) (call : Call) (x : Made) → begin s call ≡ Some x → IsGrantedFirst s → IsGrantedFirst x.state
+  pub after_letter : (s : ClientModel) (from : Server) (letter : Letter) (x : Made) → hear s from letter ≡ Some x → IsGrantedFirst s
+      → IsGrantedFirst x.state
+  pub unfetched : (s : ClientModel) (id : UnitId) → IsGrantedFirst s → is_granted id s.transcript ≡ false
+      → is_fetched id s.transcript ≡ false

@@ -1,16 +1,19 @@
 -- The fields of a client.
-use Rattle.std.specs.Prelude.{◌≡◌, ℕ, ◌+◌, ◌<◌, ◌≤◌, ◌^◌, [], length, Bool, true, false, All}
+use Rattle.std.specs.Prelude.{◌≡◌, ℕ, ◌+◌, ◌<◌, ◌≤◌, [], length, Bool, true, false, All}
 use Rattle.std.specs.Vec.{vec_len, vec_capacity}
+use Rattle.adlb_unit.specs.Limits.{stamp_limit}
 use Rattle.adlb_unit.specs.declared.configs.Config.{Config}
+use Rattle.adlb_unit.specs.declared.names.Server.{Server}
+use Rattle.adlb_unit.specs.declared.units.Unit.{Unit}
 use Rattle.rank_client.specs.declared.clients.ClientCore.TheInside.{Inside}
 use Rattle.rank_client.specs.declared.pendings.Pending.{Pending}
 use Rattle.rank_client.specs.declared.pendings.Pending.TheVariants as waits_for
 use Rattle.rank_client.specs.declared.rooms.Room.{Room}
 use Rattle.rank_client.specs.declared.steps.ClientStep.{ClientStep}
-use Rattle.rank_client.specs.State.{State}
+use Rattle.rank_client.specs.State.{ClientModel}
 use Rattle.rank_client.specs.Step.{Made}
 
-abbrev pub state_of : Inside → State
+abbrev pub state_of : Inside → ClientModel
 state_of i = record {
   config = i.config;
   me = i.me;
@@ -28,18 +31,18 @@ state_of i = record {
 }
 
 -- the client with what the step sends, enters and answers
-abbrev pub gives : State → ClientStep → Made
+abbrev pub gives : ClientModel → ClientStep → Made
 gives s x = record { state = s; sends = x.sends.items; entries = x.entries.items; answer = x.answer }
 
 -- each call, each put and each letter to a server took an event
-pub record IsSound (s : State) : Type 0 where
+pub record IsSound (s : ClientModel) : Type 0 where
   pub me : s.me.0 < s.config.ranks
   pub servers : length s.sent ≡ s.config.servers
   pub sent : All (λ n. n ≤ s.clock) s.sent
   pub next : s.next ≤ s.clock
   pub puts : s.puts ≤ s.clock
   pub said : length s.transcript ≤ s.clock
-  pub clock : s.clock < 2 ^ 48
+  pub clock : s.clock < stamp_limit
   pub notes : All (λ n. n.server.0 < s.config.servers) s.handles
 
 -- how many more calls the transcript has room for: Finish, and the pending one
@@ -71,11 +74,20 @@ pub record IsInside (i : Inside) : Type 0 where
   pub finish : i.finished ≡ false → CanFinish i
 
 -- in an event in which no call has begun or ended, and no letter was sent
-pub record IsFresh (s : State) : Type 0 where
+pub record IsFresh (s : ClientModel) : Type 0 where
   pub sent : All (λ n. n < s.clock) s.sent
   pub next : s.next < s.clock
   pub puts : s.puts < s.clock
   pub said : length s.transcript < s.clock
+
+-- a put that is pending
+pub record Put : Type 0 where
+  pub unit : Unit
+  pub first : Server
+  pub tried : ℕ
+
+abbrev pub put_of : Put → Pending
+put_of p = waits_for.Put p.unit p.first p.tried
 
 -- which call is pending
 abbrev pub is_put : Pending → Bool

@@ -1,6 +1,9 @@
 -- What a rank does with a call, and with a letter that answers it, one rule each.
-use Rattle.std.specs.Prelude.{ℕ, ◌+◌, ◌^◌, ◌==◌, nat_le, nat_lt, Bool, true, false, ◌&&◌, not, ℤ, List, [], ◌∷◌, ◌++◌, length, map, filter, find, Option, None, Some, is_none, if◌then◌else◌}
+use Rattle.std.specs.Prelude.{ℕ, ◌+◌, ◌==◌, nat_le, nat_lt, Bool, true, false, ◌&&◌, not, ℤ, List, [], ◌∷◌, ◌++◌, length, map, filter, find, Option, None, Some, is_none, if◌then◌else◌}
 use Rattle.std.specs.List.{range_with_len}
+use Rattle.adlb_unit.specs.Targets.{home, in_ranks}
+use Rattle.adlb_unit.specs.Ids.{same_unit}
+use Rattle.adlb_unit.specs.Limits.{body_limit}
 use Rattle.adlb_unit.specs.declared.configs.Config.{Config}
 use Rattle.adlb_unit.specs.declared.messages.Message.{Message}
 use Rattle.adlb_unit.specs.declared.messages.Message.TheVariants as tells
@@ -23,7 +26,7 @@ use Rattle.bag_ledger.specs.declared.entries.Entry.TheVariants as enters
 use Rattle.rank_client.specs.declared.pendings.Pending.{Pending}
 use Rattle.rank_client.specs.declared.pendings.Pending.TheVariants as waits_for
 use Rattle.rank_client.specs.Calls.{is_fetched, is_granted, plus}
-use Rattle.rank_client.specs.State.{State, behind, home}
+use Rattle.rank_client.specs.State.{ClientModel, behind}
 
 -- a message to a server
 pub record Saying : Type 0 where
@@ -31,18 +34,18 @@ pub record Saying : Type 0 where
   pub message : Message
 
 -- what the client becomes, what it says, what it enters in the ledger, and the answer if the call ends
-pub record Response : Type 0 where
-  pub state : State
+pub record ClientResponse : Type 0 where
+  pub state : ClientModel
   pub says : List Saying
   pub entries : List Entry
   pub answer : Option Answer
 
 -- the call has begun, and this is pending
-abbrev pub waiting : State → Pending → State
+abbrev pub waiting : ClientModel → Pending → ClientModel
 waiting s pending = record s { pending = pending; next = s.next + 1 }
 
 -- a call that goes to a server, and waits for its answer
-abbrev pub asks : State → Entry → Server → Message → Pending → Response
+abbrev pub asks : ClientModel → Entry → Server → Message → Pending → ClientResponse
 asks s entry to message pending = record {
   state = waiting s pending;
   says = record { to = to; message = message } ∷ [];
@@ -51,29 +54,24 @@ asks s entry to message pending = record {
 }
 
 -- the call has its answer
-abbrev pub answered : State → Call → Answer → State
+abbrev pub answered : ClientModel → Call → Answer → ClientModel
 answered s call answer = record s { pending = waits_for.Nothing; transcript = plus s.transcript call (Some answer) }
 
-abbrev pub ends : State → List Entry → Call → Answer → Response
+abbrev pub ends : ClientModel → List Entry → Call → Answer → ClientResponse
 ends s entries call answer = record { state = answered s call answer; says = []; entries = entries; answer = Some answer }
 
 -- a call to which this end was told before: it is answered at once
-abbrev pub over : State → Entry → Call → End → Response
+abbrev pub over : ClientModel → Entry → Call → End → ClientResponse
 over s entry call end =
     ends (waiting s waits_for.Nothing) (entry ∷ enters.Over s.me s.next end ∷ []) call (answers.Ended end)
 
 -- Put.
 
--- the home of a named target, else the server that is as many places behind the rank's home as it put before
-abbrev pub first_server : State → Target → Server
+-- the home of the rank that the target names; for any, the server that is as many places behind the rank's home as it put before
+abbrev pub first_server : ClientModel → Target → Server
 first_server s Any = behind s.config (home s.config s.me) s.puts
 first_server s (Only rank) = home s.config rank
 first_server s (Soft rank) = home s.config rank
-
-abbrev pub in_ranks : Config → Target → Bool
-in_ranks config Any = true
-in_ranks config (Only rank) = nat_lt rank.0 config.ranks
-in_ranks config (Soft rank) = nat_lt rank.0 config.ranks
 
 -- the call that puts the unit, and the entry that begins it
 abbrev pub call_of : Unit → Call
@@ -83,13 +81,13 @@ abbrev pub entry_of : Unit → Entry
 entry_of unit = enters.Putting unit.id.rank unit.id.number unit.kind unit.prio unit.target unit.answer unit.body
 
 -- the unit is offered to the first server
-abbrev pub put : State → Unit → Option End → Response
+abbrev pub put : ClientModel → Unit → Option End → ClientResponse
 put s unit (Some end) = over (record s { puts = s.puts + 1 }) (entry_of unit) (call_of unit) end
 put s unit None =
     asks (record s { puts = s.puts + 1 }) (entry_of unit) (first_server s unit.target) (tells.Put unit) (waits_for.Put unit (first_server s unit.target) 0)
 
 -- the unit that this call puts, in the batch that is going on, if any
-abbrev pub unit_put : State → WorkType → ℤ → Target → Option Rank → List ℕ → Unit
+abbrev pub unit_put : ClientModel → WorkType → ℤ → Target → Option Rank → List ℕ → Unit
 unit_put s kind prio target answer body = record {
   id = record { rank = s.me; number = s.next };
   kind = kind;
@@ -100,13 +98,13 @@ unit_put s kind prio target answer body = record {
   body = body;
 }
 
-abbrev pub unit_of : State → Call → Option Unit
+abbrev pub unit_of : ClientModel → Call → Option Unit
 unit_of s (calls_to.Put kind prio target answer body) = Some (unit_put s kind prio target answer body)
 unit_of s _ = None
 
 -- Reserve.
 
-abbrev pub reserve : State → Option (List WorkType) → Option End → Response
+abbrev pub reserve : ClientModel → Option (List WorkType) → Option End → ClientResponse
 reserve s types (Some end) = over s (enters.Asked s.me s.next types) (calls_to.Reserve types) end
 reserve s types None =
     asks s (enters.Asked s.me s.next types) (home s.config s.me) (tells.Reserve s.next types) (waits_for.Reserve s.next types)
@@ -114,16 +112,16 @@ reserve s types None =
 -- Fetch.
 
 -- the note of this unit, where the rank holds it
-abbrev pub held : State → UnitId → Option UnitNote
+abbrev pub held : ClientModel → UnitId → Option UnitNote
 held s id = find (λ n. same_unit n.id id) s.handles
 
 -- its server is asked for the bytes
-abbrev pub fetched : State → UnitId → UnitNote → Response
+abbrev pub fetched : ClientModel → UnitId → UnitNote → ClientResponse
 fetched s id note =
     asks (record s { handles = filter (λ n. not (same_unit n.id id)) s.handles }) (enters.Fetching s.me s.next id) note.server (tells.Fetch s.next id)
     (waits_for.Fetch s.next note)
 
-abbrev pub fetch : State → UnitId → Option UnitNote → Option Response
+abbrev pub fetch : ClientModel → UnitId → Option UnitNote → Option ClientResponse
 fetch s id None = None
 fetch s id (Some note) = Some (fetched s id note)
 
@@ -133,7 +131,7 @@ abbrev pub farewell : ℕ → Saying
 farewell server = record { to = record { 0 = server }; message = tells.Finish }
 
 -- each server is told, from 0 on
-abbrev pub finish : State → Response
+abbrev pub finish : ClientModel → ClientResponse
 finish s = record {
   state = answered (record s { finished = true; next = s.next + 1 }) calls_to.Finish answers.Fine;
   says = map farewell (range_with_len 0 s.config.servers);
@@ -148,13 +146,13 @@ is_idle waits_for.Nothing = true
 is_idle _ = false
 
 -- no call is pending, and the rank has not finished
-abbrev pub is_free : State → Bool
+abbrev pub is_free : ClientModel → Bool
 is_free s = is_idle s.pending && not s.finished
 
--- the rule of a call; nothing where the rank is not ready for it. So far a rank reserves with one server alone.
-abbrev pub open_call : State → Call → Option Response
+-- the rule of a call; nothing if the rank is not ready for it. A rank reserves only if there is one server.
+abbrev pub open_call : ClientModel → Call → Option ClientResponse
 open_call s (calls_to.Put kind prio target answer body) =
-    if nat_le (length body) (2 ^ 20) && in_ranks s.config target
+    if nat_le (length body) body_limit && in_ranks s.config target
     then Some (put s (unit_put s kind prio target answer body) s.end) else None
 open_call s (calls_to.Reserve types) = if s.config.servers == 1 then Some (reserve s types s.end) else None
 open_call s (calls_to.Fetch id) = fetch s id (held s id)
@@ -168,11 +166,11 @@ abbrev pub is_for : ℕ → Server → Server → ℕ → Bool
 is_for request at from to = (to == request) && (from.0 == at.0)
 
 -- the server that is asked after so many have refused
-abbrev pub asked : State → Server → ℕ → Server
+abbrev pub asked : ClientModel → Server → ℕ → Server
 asked s first tried = behind s.config first tried
 
 -- after a refusal the next server is asked, and after each has refused the unit is rejected
-abbrev pub refused : State → Unit → Server → ℕ → Bool → Response
+abbrev pub refused : ClientModel → Unit → Server → ℕ → Bool → ClientResponse
 refused s unit first tried true = record {
   state = record s { pending = waits_for.Put unit first (tried + 1) };
   says = record { to = asked s first (tried + 1); message = tells.Put unit } ∷ [];
@@ -181,7 +179,7 @@ refused s unit first tried true = record {
 }
 refused s unit first tried false = ends s (enters.Rejected s.me unit.id.number ∷ []) (call_of unit) answers.Rejected
 
-abbrev pub hear_put : State → Unit → Server → ℕ → Server → Message → Option Response
+abbrev pub hear_put : ClientModel → Unit → Server → ℕ → Server → Message → Option ClientResponse
 hear_put s unit first tried from (tells.Accepted to) =
     if is_for unit.id.number (asked s first tried) from to then Some (ends s [] (call_of unit) answers.Fine) else None
 hear_put s unit first tried from (tells.Full to charge) =
@@ -190,13 +188,13 @@ hear_put s unit first tried from (tells.Ended to end) =
     if is_for unit.id.number (asked s first tried) from to then Some (ends (record s { end = Some end }) [] (call_of unit) (answers.Ended end)) else None
 hear_put s unit first tried from _ = None
 
--- the note names a server, its unit was not granted or fetched before, and (so far) it has no common part
-abbrev pub expects_note : State → UnitNote → Bool
+-- the note names a server, its unit was not granted or fetched before, and it has no common part
+abbrev pub expects_note : ClientModel → UnitNote → Bool
 expects_note s note =
     nat_lt note.server.0 s.config.servers && is_none note.common && not (is_granted note.id s.transcript)
     && not (is_fetched note.id s.transcript)
 
-abbrev pub hear_reserve : State → ℕ → Option (List WorkType) → Server → Message → Option Response
+abbrev pub hear_reserve : ClientModel → ℕ → Option (List WorkType) → Server → Message → Option ClientResponse
 hear_reserve s request types from (tells.Grant to note) =
     if is_for request (home s.config s.me) from to && expects_note s note
     then Some (ends (record s { handles = s.handles ++ note ∷ [] }) [] (calls_to.Reserve types) (answers.Granted note))
@@ -208,7 +206,7 @@ hear_reserve s request types from (tells.Ended to end) =
 hear_reserve s request types from _ = None
 
 -- there are as many bytes as the note says
-abbrev pub hear_fetch : State → ℕ → UnitNote → Server → Message → Option Response
+abbrev pub hear_fetch : ClientModel → ℕ → UnitNote → Server → Message → Option ClientResponse
 hear_fetch s request note from (tells.Bytes to body) =
     if is_for request note.server from to && (length body == note.length)
     then Some (ends s [] (calls_to.Fetch note.id) (answers.Body body))
@@ -216,7 +214,7 @@ hear_fetch s request note from (tells.Bytes to body) =
 hear_fetch s request note from _ = None
 
 -- the rule of a letter; nothing where the pending call does not await it
-abbrev pub answer_call : State → Pending → Server → Message → Option Response
+abbrev pub answer_call : ClientModel → Pending → Server → Message → Option ClientResponse
 answer_call s waits_for.Nothing from message = None
 answer_call s (waits_for.Put unit first tried) from message = hear_put s unit first tried from message
 answer_call s (waits_for.Reserve request types) from message = hear_reserve s request types from message

@@ -11,7 +11,7 @@ use Rattle.bag_ledger.specs.declared.entries.Said.{Said}
 use Rattle.rank_client.specs.declared.pendings.Pending.{Pending}
 use Rattle.rank_client.specs.declared.pendings.Pending.TheVariants as waits_for
 
-pub record State : Type 0 where
+pub record ClientModel : Type 0 where
   pub config : Config
   pub me : Rank
   -- the call that is pending
@@ -35,7 +35,7 @@ pub record State : Type 0 where
   -- what made the client fail, if anything did
   pub trouble : Option Trouble
 
-abbrev pub start : Config → Rank → State
+abbrev pub start : Config → Rank → ClientModel
 start config me = record {
   config = config;
   me = me;
@@ -51,10 +51,6 @@ start config me = record {
   transcript = [];
   trouble = None;
 }
-
--- the home of a rank
-abbrev pub home : Config → Rank → Server
-home config rank = record { 0 = rank.0 % config.servers }
 
 -- the server that is so many places behind this one in ring order
 abbrev pub behind : Config → Server → ℕ → Server

@@ -4,12 +4,12 @@ ghost use Rattle.std.specs.Prelude.{◌≡◌, ◌⊎◌, ◌<◌, ◌≤◌, �
 ghost use Rattle.std.specs.Option.{option_map};
 ghost use Rattle.std.specs.List.{range_with_len};
 ghost use Rattle.std.specs.Vec.{vec_len, vec_capacity};
-ghost use Rattle.adlb_unit.specs.declared.notes.Trouble.{Trouble};
 ghost use Rattle.adlb_unit.specs.Ids.{same_unit};
+ghost use Rattle.adlb_unit.specs.declared.notes.Trouble.{Trouble};
 ghost use Rattle.rank_client.specs.Calls.{is_finish};
 ghost use Rattle.rank_client.specs.Inside.{HasRoom, IsFresh, gives};
-ghost use Rattle.rank_client.specs.Rules.{asks, call_of, entry_of, farewell, fetched, finish, first_server, held, in_ranks, is_free, open_call, over, put, reserve, unit_of};
-ghost use Rattle.rank_client.specs.State.{State, home};
+ghost use Rattle.rank_client.specs.Rules.{asks, call_of, entry_of, farewell, fetched, finish, first_server, held, is_free, open_call, over, put, reserve, unit_of};
+ghost use Rattle.rank_client.specs.State.{ClientModel};
 ghost use Rattle.rank_client.specs.Step.{Made, begin, call_stamp, call_trouble, made, post, ticked};
 
 use crate::clients::{ClientCore, behind, write};
@@ -17,8 +17,8 @@ use crate::pendings::Pending;
 use crate::rooms::{Farewell, Offer, Room};
 use crate::steps::ClientStep;
 use adlb_unit::{
-    End, Message, NoMemory, Payload, Sending, Server, Target, Trouble, Types, Unit, UnitId,
-    UnitNote,
+    BODY_LIMIT, End, Message, NoMemory, Payload, STAMP_LIMIT, Sending, Server, Target, Trouble,
+    Types, Unit, UnitId, UnitNote,
 };
 use bag_ledger::{Answer, Call, Entry, Said};
 use std::alloc::Global;
@@ -113,7 +113,7 @@ fn farewells(sent: &mut Vec<u64>, stamp: u64, servers: u32, sends: Vec<Sending>)
 
 impl ClientCore {
     /// The rank is ready for this call: no call is pending, it has not finished, and the call's own conditions hold. The body of
-    /// a put has at most `2^20` bytes and its target is a rank; there is one server at a reserve, so far; a unit that is fetched
+    /// a put has at most `2^20` bytes, and a rank that its target names is one of the run; there is one server at a reserve; a unit that is fetched
     /// is held; no batch is going on at Finish.
     pub fn ready(&self, call: &Call) -> bool
         ensures { IsTrue result ↔ IsSome (begin self.now call.now) }
@@ -122,21 +122,12 @@ impl ClientCore {
             return false;
         }
         match call {
-            Call::Put { target, body, .. } => body.len() <= 1 << 20 && self.has_target(*target),
+            Call::Put { target, body, .. } => body.len() <= BODY_LIMIT
+                && self.config.has_target(*target),
             Call::Reserve { .. } => self.config.servers == 1,
             Call::Fetch { id } => self.held(*id).is_some(),
             Call::Finish => self.batch.is_none(),
             _ => false,
-        }
-    }
-
-    // The target is any or a rank of this run.
-    fn has_target(&self, target: Target) -> bool
-        ensures { result ≡ in_ranks self.now.config target }
-    {
-        match target {
-            Target::Any => true,
-            Target::Only(rank) | Target::Soft(rank) => rank.0 < self.config.ranks,
         }
     }
 
@@ -399,8 +390,8 @@ impl ClientCore {
 
 impl ClientCore {
     /// Begins a call for which the rank is ready, as `begin` says. All growth of the whole call is made here. A client that has
-    /// failed answers the same again; else `TooLong` comes exactly where the event's stamp would reach `2^48`; and else it fails
-    /// for want of memory alone, and not at Finish, which takes none. After a failure nothing else has changed.
+    /// failed gives its trouble again; otherwise `TooLong` comes exactly when the event's stamp would reach `2^48`. The only other
+    /// error is `Memory`, and never at Finish, which takes none. After a failure nothing else has changed.
     pub fn begin(&mut self, call: Call) -> Result<ClientStep, Trouble>
         requires ready { IsSome (begin self.old call) }
 
@@ -418,7 +409,7 @@ impl ClientCore {
         }
         let before = self.clock;
         let stamp = before + 1;
-        if stamp >= 1 << 48 {
+        if stamp >= STAMP_LIMIT {
             return Err(self.fail(Trouble::TooLong { stamp }));
         }
         self.clock = stamp;

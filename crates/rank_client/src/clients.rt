@@ -1,10 +1,12 @@
 //! What a client keeps of its rank.
 
-ghost use Rattle.std.specs.Prelude.{◌≡◌, ◌<◌, ◌≤◌, ◌+◌, ◌^◌, ◌∷◌, ◌++◌, [], false, length, map, IfOk, slice_index_or, slice_set};
+ghost use Rattle.std.specs.Prelude.{◌≡◌, ◌<◌, ◌≤◌, ◌+◌, ◌∷◌, ◌++◌, [], false, length, map, IfOk, slice_index_or, slice_set};
 ghost use Rattle.std.specs.Vec.{vec_len, vec_capacity};
+ghost use Rattle.adlb_unit.specs.Limits.{stamp_limit};
+ghost use Rattle.adlb_unit.specs.Links.{sending};
+ghost use Rattle.adlb_unit.specs.declared.actors.Actor.{Actor};
 ghost use Rattle.rank_client.specs.Calls.{plus};
-ghost use Rattle.rank_client.specs.State.{State, behind, start};
-ghost use Rattle.rank_client.specs.Step.{sending};
+ghost use Rattle.rank_client.specs.State.{ClientModel, behind, start};
 
 use crate::pendings::Pending;
 use crate::rooms::{Farewell, Room};
@@ -38,9 +40,9 @@ pub struct ClientCore {
 }
 
 impl Model for ClientCore {
-    ghost use Rattle.rank_client.specs.State.{State};
+    ghost use Rattle.rank_client.specs.State.{ClientModel};
 
-    ghost Value = { State };
+    ghost Value = { ClientModel };
 
     ghost use Rattle.rank_client.specs.Inside.{state_of, IsInside};
 
@@ -50,7 +52,7 @@ impl Model for ClientCore {
 }
 
 impl ClientCore {
-    /// A client of this rank at the start of a run. It makes the room for Finish. It fails for want of memory alone.
+    /// A client of this rank at the start of a run. It makes the room for Finish. Its only error is `NoMemory`.
     pub fn new(alloc: Global, config: Config, me: Rank) -> Result<ClientCore, NoMemory>
         requires { me.0 < config.ranks }
         ensures { IfOk result (λ c. c ≡ start config me) }
@@ -84,14 +86,14 @@ impl ClientCore {
         })
     }
 
-    /// The calls with their answers so far.
+    /// The calls with their answers, in order.
     pub fn transcript(&self) -> &[Said]
         ensures { result.now ≡ self.now.transcript }
     {
         self.said.as_slice()
     }
 
-    /// The same, with the client used up.
+    /// The calls with their answers, in order, with the client used up.
     pub fn into_transcript(self) -> Vec<Said>
         ensures { result.items ≡ self.transcript }
     {
@@ -120,7 +122,7 @@ pub(crate) fn write(sent: &mut Vec<u64>, stamp: u64, to: Server, message: Messag
     requires server { to.0 < length sent.old.items }
     requires first { slice_index_or sent.old.items to.0 0 < stamp }
     ensures counted { sent.new.items ≡ slice_set sent.old.items to.0 (slice_index_or sent.old.items to.0 0 + 1) }
-    ensures letter { result ≡ sending stamp (slice_index_or sent.old.items to.0 0) (record { to = to; message = message }) }
+    ensures letter { result ≡ sending stamp (slice_index_or sent.old.items to.0 0) (Actor.Server to) message }
 {
     let at = to.0 as usize;
     let place = sent[at];
@@ -138,7 +140,7 @@ pub(crate) fn write(sent: &mut Vec<u64>, stamp: u64, to: Server, message: Messag
 // The server that is so many places behind this one in ring order.
 pub(crate) fn behind(config: &Config, server: Server, places: u64) -> Server
     requires server { server.0 < config.now.servers }
-    requires places { places < 2 ^ 48 }
+    requires places { places < stamp_limit }
     ensures behind { result ≡ behind config.now server places }
     ensures there { result.0 < config.now.servers }
 {

@@ -140,7 +140,7 @@ fn a_put_is_rejected_after_each_server_refused(rt: HostRuntime) -> Result<(), Fa
     let step = begin(&rt, &mut client, put(rt.alloc(), Target::Any)?);
     assert!(rt; asks(&step, 1));
     let _ = hear(&rt, &mut client, 1, Message::Accepted { request: 1 });
-    // So far a rank reserves with one server alone.
+    // A rank reserves only if there is one server.
     assert!(rt; !client.ready(&reserve()));
     Ok(())
 }

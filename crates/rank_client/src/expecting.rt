@@ -10,7 +10,7 @@ ghost use Rattle.rank_client.specs.Step.{hear};
 
 use crate::clients::{ClientCore, behind};
 use crate::pendings::Pending;
-use adlb_unit::{Letter, Message, Server, UnitId, UnitNote};
+use adlb_unit::{Letter, Message, STAMP_LIMIT, Server, UnitId, UnitNote};
 use bag_ledger::{Answer, Call, Said};
 
 impl ClientCore {
@@ -20,7 +20,7 @@ impl ClientCore {
         ensures expected { IsTrue result ↔ IsExpected self.now from letter.now }
         ensures heard { IsTrue result ↔ IsSome (hear self.now from letter.now) }
     {
-        !self.finished && letter.stamp < 1 << 48 && self.awaits(from, &letter.message)
+        !self.finished && letter.stamp < STAMP_LIMIT && self.awaits(from, &letter.message)
     }
 
     // The pending call awaits this answer from this server.

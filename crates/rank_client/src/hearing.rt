@@ -3,7 +3,8 @@
 ghost use Rattle.std.specs.Prelude.{◌≡◌, ◌⊎◌, ◌<◌, ◌≤◌, ◌+◌, ◌^◌, ◌↔◌, ◌∷◌, ◌++◌, [], ℕ, true, false, nat_lt, length, All, Some, None, Err, IsSome, IsTrue, IfOk, IfErr, OnOk, OnErr, is_some, ◌||◌};
 ghost use Rattle.std.specs.Option.{option_map};
 ghost use Rattle.adlb_unit.specs.declared.notes.Trouble.{Trouble};
-ghost use Rattle.rank_client.specs.Inside.{IsFresh, gives, is_fetch, is_put, is_reserve};
+ghost use Rattle.bag_ledger.specs.declared.entries.Answer.{Answer};
+ghost use Rattle.rank_client.specs.Inside.{IsFresh, Put, gives, is_fetch, is_put, is_reserve, put_of};
 ghost use Rattle.rank_client.specs.Rules.{answer_call, call_of, ends, refused};
 ghost use Rattle.rank_client.specs.Step.{hear, letter_trouble, made, told_trouble};
 
@@ -12,14 +13,14 @@ use crate::clients::{ClientCore, behind, write};
 use crate::pendings::Pending;
 use crate::rooms::Offer;
 use crate::steps::ClientStep;
-use adlb_unit::{Letter, Message, Payload, Server, Trouble, Unit};
+use adlb_unit::{End, Letter, Message, Payload, STAMP_LIMIT, Server, Trouble, Unit};
 use bag_ledger::{Answer, Call, Entry, Said};
 use std::mem;
 
 impl ClientCore {
     /// Hears a letter, as `hear` says: the pending call awaits it, or it says that its server has failed. It takes no memory. A
-    /// client that has failed answers the same again; else it fails with the trouble that the letter tells, or with `TooLong`
-    /// where the event's stamp would reach `2^48` (`letter_trouble`). After a failure nothing else has changed.
+    /// client that has failed gives its trouble again; otherwise it fails with the trouble that the letter tells, or with `TooLong`
+    /// if the event's stamp would reach `2^48` (`letter_trouble`). After a failure nothing else has changed.
     pub fn hear(&mut self, from: Server, letter: Letter) -> Result<ClientStep, Trouble>
         requires expected { IsSome (told_trouble letter.message) ⊎ IsSome (hear self.old from letter) }
 
@@ -38,7 +39,7 @@ impl ClientCore {
             return Err(self.fail(trouble));
         }
         let stamp = self.clock.max(letter.stamp) + 1;
-        if stamp >= 1 << 48 {
+        if stamp >= STAMP_LIMIT {
             return Err(self.fail(Trouble::TooLong { stamp }));
         }
         self.clock = stamp;
@@ -75,8 +76,8 @@ impl ClientCore {
     }
 }
 
+// A put is answered.
 impl ClientCore {
-    // A put is answered.
     fn hear_put(&mut self, from: Server, message: Message) -> ClientStep
         requires pending { is_put self.old.pending ≡ true }
         requires going { self.old.finished ≡ false }
@@ -85,65 +86,117 @@ impl ClientCore {
         ensures ok { option_map made (answer_call self.old self.old.pending from message) ≡ Some (gives self.new result) }
         ensures stamp { result.stamp ≡ self.new.clock }
     {
-        let Pending::Put { unit, first, tried } = mem::replace(&mut self.pending, Pending::Nothing)
-        else {
-            unreachable!()
-        };
-        let entries = Vec::new(self.alloc);
         match message {
-            Message::Accepted { .. } => {
-                let call = put_call(unit);
-                let answer = Answer::Fine;
-                self.said.push_reserved(Said { call, answer });
-                self.ended(entries, Answer::Fine)
-            }
-            Message::Ended { end, .. } => {
-                let call = put_call(unit);
-                let answer = Answer::Ended(end);
-                self.end = Some(end);
-                self.said.push_reserved(Said { call, answer });
-                self.ended(entries, Answer::Ended(end))
-            }
-            Message::Full { .. } if tried + 1 < self.config.servers => {
-                let Some(offer) = self.room.tries.pop() else {
-                    unreachable!()
-                };
-                let Offer { body, mut sends } = offer;
-                let next = unit_with(&unit, body);
-                let to = behind(&self.config, first, tried as u64 + 1);
-                sends.push_reserved(write(
-                    &mut self.sent,
-                    self.clock,
-                    to,
-                    Message::Put { unit: next },
-                ));
-                self.pending = Pending::Put {
-                    unit,
-                    first,
-                    tried: tried + 1,
-                };
-                ClientStep {
-                    stamp: self.clock,
-                    sends,
-                    entries,
-                    answer: None,
-                }
-            }
-            Message::Full { .. } => {
-                let mut entries = mem::replace(&mut self.room.entries, entries);
-                entries.push_reserved(Entry::Rejected {
-                    rank: self.me,
-                    call: unit.id.number,
-                });
-                let call = put_call(unit);
-                let answer = Answer::Rejected;
-                self.said.push_reserved(Said { call, answer });
-                self.ended(entries, Answer::Rejected)
-            }
+            Message::Accepted { .. } => self.hear_accepted(),
+            Message::Ended { end, .. } => self.hear_end(end),
+            Message::Full { .. } if self.has_next() => self.offer_next(),
+            Message::Full { .. } => self.reject(),
             _ => unreachable!(),
         }
     }
 
+    // A server has taken the unit.
+    fn hear_accepted(&mut self) -> ClientStep
+        requires pending { is_put self.old.pending ≡ true }
+        requires going { self.old.finished ≡ false }
+        requires fresh { IsFresh self.old }
+        ensures ok { (p : Put) → self.old.pending ≡ put_of p → made (ends self.old [] (call_of p.unit) Answer.Fine) ≡ gives self.new result }
+        ensures stamp { result.stamp ≡ self.new.clock }
+    {
+        let Pending::Put { unit, .. } = mem::replace(&mut self.pending, Pending::Nothing) else {
+            unreachable!()
+        };
+        let call = put_call(unit);
+        let answer = Answer::Fine;
+        self.said.push_reserved(Said { call, answer });
+        self.ended(Vec::new(self.alloc), Answer::Fine)
+    }
+
+    // An end is told.
+    fn hear_end(&mut self, end: End) -> ClientStep
+        requires pending { is_put self.old.pending ≡ true }
+        requires going { self.old.finished ≡ false }
+        requires fresh { IsFresh self.old }
+        ensures ok { (p : Put) → self.old.pending ≡ put_of p →
+            made (ends (record self.old { end = Some end }) [] (call_of p.unit) (Answer.Ended end)) ≡ gives self.new result }
+        ensures stamp { result.stamp ≡ self.new.clock }
+    {
+        let Pending::Put { unit, .. } = mem::replace(&mut self.pending, Pending::Nothing) else {
+            unreachable!()
+        };
+        let call = put_call(unit);
+        let answer = Answer::Ended(end);
+        self.end = Some(end);
+        self.said.push_reserved(Said { call, answer });
+        self.ended(Vec::new(self.alloc), Answer::Ended(end))
+    }
+
+    // Behind the servers that were asked there is one more.
+    fn has_next(&self) -> bool
+        requires pending { is_put self.now.pending ≡ true }
+        ensures { (p : Put) → self.now.pending ≡ put_of p → result ≡ nat_lt (p.tried + 1) self.now.config.servers }
+    {
+        match &self.pending {
+            Pending::Put { tried, .. } => *tried + 1 < self.config.servers,
+            _ => unreachable!(),
+        }
+    }
+
+    // A server is full, and the unit is offered to the next one.
+    fn offer_next(&mut self) -> ClientStep
+        requires pending { is_put self.old.pending ≡ true }
+        requires going { self.old.finished ≡ false }
+        requires fresh { IsFresh self.old }
+        requires more { (p : Put) → self.old.pending ≡ put_of p → p.tried + 1 < self.old.config.servers }
+        ensures ok { (p : Put) → self.old.pending ≡ put_of p → made (refused self.old p.unit p.first p.tried true) ≡ gives self.new result }
+        ensures stamp { result.stamp ≡ self.new.clock }
+    {
+        let Pending::Put { unit, first, tried } = mem::replace(&mut self.pending, Pending::Nothing)
+        else {
+            unreachable!()
+        };
+        let Some(offer) = self.room.tries.pop() else {
+            unreachable!()
+        };
+        let Offer { body, mut sends } = offer;
+        let next = unit_with(&unit, body);
+        let to = behind(&self.config, first, tried as u64 + 1);
+        let message = Message::Put { unit: next };
+        sends.push_reserved(write(&mut self.sent, self.clock, to, message));
+        let tried = tried + 1;
+        self.pending = Pending::Put { unit, first, tried };
+        ClientStep {
+            stamp: self.clock,
+            sends,
+            entries: Vec::new(self.alloc),
+            answer: None,
+        }
+    }
+
+    // The last server is full, and the unit is rejected.
+    fn reject(&mut self) -> ClientStep
+        requires pending { is_put self.old.pending ≡ true }
+        requires going { self.old.finished ≡ false }
+        requires fresh { IsFresh self.old }
+        ensures ok { (p : Put) → self.old.pending ≡ put_of p → made (refused self.old p.unit p.first p.tried false) ≡ gives self.new result }
+        ensures stamp { result.stamp ≡ self.new.clock }
+    {
+        let Pending::Put { unit, .. } = mem::replace(&mut self.pending, Pending::Nothing) else {
+            unreachable!()
+        };
+        let mut entries = mem::replace(&mut self.room.entries, Vec::new(self.alloc));
+        entries.push_reserved(Entry::Rejected {
+            rank: self.me,
+            call: unit.id.number,
+        });
+        let call = put_call(unit);
+        let answer = Answer::Rejected;
+        self.said.push_reserved(Said { call, answer });
+        self.ended(entries, Answer::Rejected)
+    }
+}
+
+impl ClientCore {
     // A reserve is answered.
     fn hear_reserve(&mut self, from: Server, message: Message) -> ClientStep
         requires pending { is_reserve self.old.pending ≡ true }

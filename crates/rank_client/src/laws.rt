@@ -5,10 +5,10 @@ ghost use Rattle.adlb_unit.specs.declared.letters.Letter.{Letter};
 ghost use Rattle.adlb_unit.specs.declared.names.Server.{Server};
 ghost use Rattle.bag_ledger.specs.declared.entries.Call.{Call};
 ghost use Rattle.bag_ledger.specs.Bag.{Bag, has_due};
-ghost use Rattle.rank_client.specs.Agreement.{Agrees, Follows};
+ghost use Rattle.rank_client.specs.Agreement.{ClientAgrees, Follows};
 ghost use Rattle.rank_client.specs.Expected.{ExpectedAreHeard};
 ghost use Rattle.rank_client.specs.Granted.{GrantsComeFirst};
-ghost use Rattle.rank_client.specs.State.{State};
+ghost use Rattle.rank_client.specs.State.{ClientModel};
 ghost use Rattle.rank_client.specs.Step.{Made, begin, hear};
 
 /// From a bag for whose rank the client stands, and in which no part is due, the entries of a step are steps of the bag, and the
@@ -16,10 +16,10 @@ ghost use Rattle.rank_client.specs.Step.{Made, begin, hear};
 /// that are expected have a step (`ExpectedAreHeard`), and a rank holds, fetches and fetched no unit that was not granted
 /// (`GrantsComeFirst`).
 pub fn client_laws()
-    ensures begun { (s : State) (call : Call) (x : Made) (b : Bag) →
-        begin s call ≡ Some x → Agrees s None b → IsFalse (has_due b) → Follows s None b x }
-    ensures heard { (s : State) (from : Server) (letter : Letter) (x : Made) (b : Bag) →
-        hear s from letter ≡ Some x → Agrees s (Some letter.message) b → IsFalse (has_due b) → Follows s (Some letter.message) b x }
+    ensures begun { (s : ClientModel) (call : Call) (x : Made) (b : Bag) →
+        begin s call ≡ Some x → ClientAgrees s None b → IsFalse (has_due b) → Follows s None b x }
+    ensures heard { (s : ClientModel) (from : Server) (letter : Letter) (x : Made) (b : Bag) →
+        hear s from letter ≡ Some x → ClientAgrees s (Some letter.message) b → IsFalse (has_due b) → Follows s (Some letter.message) b x }
     ensures expected_are_heard { ExpectedAreHeard }
     ensures grants_come_first { GrantsComeFirst }
 {}

@@ -1,11 +1,12 @@
 //! The calls of a rank.
 
 ghost use Rattle.std.specs.Prelude.{◌≡◌, ◌≤◌, ◌<◌, ◌^◌, List, Option, Some, None, Bool, true, false, ◌&&◌, is_none, length, Contains, IfOk, IfErr};
+ghost use Rattle.adlb_unit.specs.Targets.{Aims};
 ghost use Rattle.adlb_unit.specs.Totals.{total_of};
 ghost use Rattle.adlb_unit.specs.declared.notes.Trouble.{Trouble};
 ghost use Rattle.bag_ledger.specs.declared.entries.Call.{Call};
 ghost use Rattle.bag_ledger.specs.declared.entries.Said.{Said};
-ghost use Rattle.rank_client.specs.Calls.{Aims, Began, Repeats, TellsAgain, end_answer, end_told, end_trouble, fetch_answer, fetch_trouble, granted, has_finished, is_granted, is_fetched, plus, put_answer, put_trouble};
+ghost use Rattle.rank_client.specs.Calls.{Began, Repeats, TellsAgain, end_answer, end_told, end_trouble, fetch_answer, fetch_trouble, granted, has_finished, is_granted, is_fetched, plus, put_answer, put_trouble};
 ghost use Rattle.rank_client.specs.Seat.{Seat};
 
 use crate::faults::{EndFault, PutFault};

@@ -9,7 +9,7 @@ use Rattle.work_queue.specs.declared.placing.Placed.{Placed}
 use Rattle.server_core.specs.declared.standings.Standing.TheVariants.{Running, Finished}
 use Rattle.server_core.specs.Inside.{IsSettled}
 use Rattle.server_core.specs.Rules.{fetched, grant, is_running, put}
-use Rattle.server_core.specs.State.{State}
+use Rattle.server_core.specs.State.{ServerModel}
 use Rattle.server_core.specs.Step.{Served, after_event, served, verdict, waiting_from}
 
 off : (x : Served) (b : Bool) → cond (b && false) (verdict x (waiting_from 0 x.state.ranks)) x ≡ x
@@ -49,13 +49,13 @@ calm x settled = elim (cases_eq x.state.config.servers 1) [
   | inr several ↦ calm_among x several
 ]
 
-pub calm_put : (s : State) (from : Rank) (unit : Unit) (done over : Bool) → IsSettled s → after_event (served (put s from unit done over)) ≡ served (put s from unit done over)
+pub calm_put : (s : ServerModel) (from : Rank) (unit : Unit) (done over : Bool) → IsSettled s → after_event (served (put s from unit done over)) ≡ served (put s from unit done over)
 calm_put s from unit true over settled = calm (served (put s from unit true over)) settled
 calm_put s from unit false true settled = calm (served (put s from unit false true)) settled
 calm_put s from unit false false settled = calm (served (put s from unit false false)) settled
 
-pub calm_fetched : (s : State) (from : Rank) (request : ℕ) (id : UnitId) (p : Placed) → IsSettled s → after_event (served (fetched s from request id p)) ≡ served (fetched s from request id p)
+pub calm_fetched : (s : ServerModel) (from : Rank) (request : ℕ) (id : UnitId) (p : Placed) → IsSettled s → after_event (served (fetched s from request id p)) ≡ served (fetched s from request id p)
 calm_fetched s from request id p settled = calm (served (fetched s from request id p)) settled
 
-pub calm_grant : (s : State) (from : Rank) (request : ℕ) (p : Placed) → IsSettled s → after_event (served (grant s from request p)) ≡ served (grant s from request p)
+pub calm_grant : (s : ServerModel) (from : Rank) (request : ℕ) (p : Placed) → IsSettled s → after_event (served (grant s from request p)) ≡ served (grant s from request p)
 calm_grant s from request p settled = calm (served (grant s from request p)) settled

@@ -4,11 +4,11 @@ use Rattle.std.specs.Prelude.{option_and_then}
 use Rattle.std.specs.List.{list_any}
 use Rattle.std.proofs.lemmas.Bool.{ltb-false, ltb-true}
 use Rattle.std.proofs.lemmas.List.Sums.{sum_by-cons}
+use Rattle.adlb_unit.specs.Ids.{same_batch}
 use Rattle.adlb_unit.specs.declared.names.CommonRef.{CommonRef}
 use Rattle.adlb_unit.specs.declared.names.Rank.{Rank}
 use Rattle.adlb_unit.specs.declared.notes.End.{End}
 use Rattle.adlb_unit.specs.declared.units.Unit.{Unit as Work}
-use Rattle.adlb_unit.specs.Ids.{same_batch}
 use Rattle.bag_ledger.specs.Bag.{Bag, charge, has_declined, offer, is_due, open_call, part_charge, putting, rank_at, unit_of}
 use Rattle.bag_ledger.specs.Steps.{Steps, after, change_first, ended, has_cause, shared, taken, with_rank}
 use Rattle.bag_ledger.specs.declared.entries.Entry.TheVariants as enters
@@ -17,9 +17,9 @@ use Rattle.bag_ledger.specs.declared.states.RankState.{RankState}
 use Rattle.bag_ledger.specs.declared.states.Status.TheVariants as does
 use Rattle.bag_ledger.specs.declared.states.UnitPlace.TheVariants.{Free}
 use Rattle.work_queue.specs.Queue.{charge_of, with_unit}
-use Rattle.server_core.specs.Agreement.{Agrees, IsOpen}
+use Rattle.server_core.specs.Agreement.{ServerAgrees, IsOpen}
 use Rattle.server_core.specs.Rules.{is_over}
-use Rattle.server_core.specs.State.{State}
+use Rattle.server_core.specs.State.{ServerModel}
 use Rattle.server_core.specs.declared.standings.Standing.{Standing}
 use Rattle.server_core.proofs.Ranks.{IsKnown, IsRunner, known_changed}
 use Rattle.server_core.proofs.Slots.{holds_added}
@@ -27,7 +27,7 @@ use Rattle.server_core.proofs.Slots.{holds_added}
 -- Agreement, as the bag changes.
 
 -- a rank that runs changes
-pub rank_agrees : (b : Bag) (s : State) (from : Rank) (f : RankState → RankState) → Agrees b s → IsRunner s.config s.me s.ranks from → Agrees (with_rank from f b) s
+pub rank_agrees : (b : Bag) (s : ServerModel) (from : Rank) (f : RankState → RankState) → ServerAgrees b s → IsRunner s.config s.me s.ranks from → ServerAgrees (with_rank from f b) s
 rank_agrees b s from f m runs = record {
   servers = m.servers;
   within = m.within;
@@ -44,7 +44,7 @@ rank_agrees b s from f m runs = record {
 }
 
 -- the server learns of a rank
-pub standing_agrees : (b : Bag) (s : State) (standings : List Standing) → Agrees b s → IsKnown b.ranks s.config s.me standings → Agrees b (record s { ranks = standings })
+pub standing_agrees : (b : Bag) (s : ServerModel) (standings : List Standing) → ServerAgrees b s → IsKnown b.ranks s.config s.me standings → ServerAgrees b (record s { ranks = standings })
 standing_agrees b s standings m known = record {
   servers = m.servers;
   within = m.within;
@@ -61,7 +61,7 @@ standing_agrees b s standings m known = record {
 }
 
 -- a unit comes
-pub unit_agrees : (b : Bag) (s : State) (unit : Work) → Agrees b s → unit_of b unit.id ≡ None → Agrees (record b { units = b.units ++ record { unit = unit; place = Free s.me } ∷ [] }) (record s { queue = with_unit s.queue unit })
+pub unit_agrees : (b : Bag) (s : ServerModel) (unit : Work) → ServerAgrees b s → unit_of b unit.id ≡ None → ServerAgrees (record b { units = b.units ++ record { unit = unit; place = Free s.me } ∷ [] }) (record s { queue = with_unit s.queue unit })
 unit_agrees b s unit m new = record {
   servers = m.servers;
   within = m.within;
@@ -102,7 +102,7 @@ due_kept test (p ∷ parts) none unclosed = by_test (or_false (is_due p) (list_a
     by_test none rest true is unclosed = let closed : p.closed ≡ false = unclosed p (rw is refl) in rw (is, closed) none.1
     by_test none rest false is unclosed = rw (is, none.0) (rest none.1 (λ q found. unclosed q (rw is found)))
 
-pub shared_agrees : (b : Bag) (s : State) (common : Option CommonRef) → Agrees b s → IsOpen b common → Agrees (shared common b) s
+pub shared_agrees : (b : Bag) (s : ServerModel) (common : Option CommonRef) → ServerAgrees b s → IsOpen b common → ServerAgrees (shared common b) s
 shared_agrees b s None m unclosed = m
 shared_agrees b s (Some c) m unclosed =
     let test : Part → Bool = λ p. same_batch p.batch c.batch in
@@ -121,23 +121,23 @@ shared_agrees b s (Some c) m unclosed =
       settled = due_kept test b.parts m.settled unclosed;
     }
 
-pub charge_same : (b : Bag) (s : State) → Agrees b s → charge b s.me ≡ charge_of s.queue
+pub charge_same : (b : Bag) (s : ServerModel) → ServerAgrees b s → charge b s.me ≡ charge_of s.queue
 charge_same b s m = omega (arith, m.units.bytes, m.room, m.parts)
 
 -- Steps.
 
 -- the rank's call is over
-pub over_steps : (b : Bag) (s : State) (from : Rank) (r : RankState) (request : ℕ) (end : End) → Agrees b s → rank_at b from ≡ Some r → open_call r.status ≡ Some request → has_cause b end ≡ true → Steps b (enters.Over from request end) (after b (enters.Over from request end))
+pub over_steps : (b : Bag) (s : ServerModel) (from : Rank) (r : RankState) (request : ℕ) (end : End) → ServerAgrees b s → rank_at b from ≡ Some r → open_call r.status ≡ Some request → has_cause b end ≡ true → Steps b (enters.Over from request end) (after b (enters.Over from request end))
 over_steps b s from r request end m at unclosed cause = (rw m.settled refl, (r, at, unclosed, cause), refl)
 
 -- the unit or the part is refused
-pub refused_steps : (b : Bag) (s : State) (unit : Work) (r : RankState) → Agrees b s → rank_at b unit.id.rank ≡ Some r → r.status ≡ does.Putting unit → has_declined r s.me ≡ false → is_over s.queue unit ≡ true → Steps b (enters.Refused s.me unit.id (charge_of s.queue)) (after b (enters.Refused s.me unit.id (charge_of s.queue)))
+pub refused_steps : (b : Bag) (s : ServerModel) (unit : Work) (r : RankState) → ServerAgrees b s → rank_at b unit.id.rank ≡ Some r → r.status ≡ does.Putting unit → has_declined r s.me ≡ false → is_over s.queue unit ≡ true → Steps b (enters.Refused s.me unit.id (charge_of s.queue)) (after b (enters.Refused s.me unit.id (charge_of s.queue)))
 refused_steps b s unit r m at puts fresh over =
     let above : s.queue.limit < charge_of s.queue + length unit.body = ltb-true s.queue.limit (charge_of s.queue + length unit.body) over in
     (rw m.settled refl, (r, length unit.body, at, ap offer puts, rw m.servers m.within, fresh, sym (charge_same b s m), rw m.limit above), refl)
 
 -- the unit is taken
-pub accepted_steps : (b : Bag) (s : State) (unit : Work) (r : RankState) → Agrees b s → rank_at b unit.id.rank ≡ Some r → r.status ≡ does.Putting unit → has_declined r s.me ≡ false → is_over s.queue unit ≡ false → Steps b (enters.Accepted s.me unit.id) (with_rank unit.id.rank ended (taken s.me (Some unit) b))
+pub accepted_steps : (b : Bag) (s : ServerModel) (unit : Work) (r : RankState) → ServerAgrees b s → rank_at b unit.id.rank ≡ Some r → r.status ≡ does.Putting unit → has_declined r s.me ≡ false → is_over s.queue unit ≡ false → Steps b (enters.Accepted s.me unit.id) (with_rank unit.id.rank ended (taken s.me (Some unit) b))
 accepted_steps b s unit r m at puts fresh over =
     let below : charge_of s.queue + length unit.body ≤ s.queue.limit = ltb-false s.queue.limit (charge_of s.queue + length unit.body) over in
     let brought : option_and_then (λ (x : RankState). putting x.status) (rank_at b unit.id.rank) ≡ Some unit = rw at (ap putting puts) in (
@@ -146,9 +146,9 @@ accepted_steps b s unit r m at puts fresh over =
       sym (ap (λ o. with_rank unit.id.rank ended (taken s.me o b)) brought),
     )
 
-pub accepted_agrees : (b : Bag) (s : State) (unit : Work) → Agrees b s → unit_of b unit.id ≡ None → IsOpen b unit.common → IsRunner s.config s.me s.ranks unit.id.rank → Agrees (with_rank unit.id.rank ended (taken s.me (Some unit) b)) (record s { queue = with_unit s.queue unit })
+pub accepted_agrees : (b : Bag) (s : ServerModel) (unit : Work) → ServerAgrees b s → unit_of b unit.id ≡ None → IsOpen b unit.common → IsRunner s.config s.me s.ranks unit.id.rank → ServerAgrees (with_rank unit.id.rank ended (taken s.me (Some unit) b)) (record s { queue = with_unit s.queue unit })
 accepted_agrees b s unit m new unclosed runs =
-    let t : State = record s { queue = with_unit s.queue unit } in
+    let t : ServerModel = record s { queue = with_unit s.queue unit } in
     let c : Bag = record b { units = b.units ++ record { unit = unit; place = Free s.me } ∷ [] } in
     rank_agrees (shared unit.common c) t unit.id.rank ended (shared_agrees c t unit.common (unit_agrees b s unit m new) (still_open unit.common unclosed)) runs
   where

@@ -7,6 +7,9 @@ use Rattle.std.proofs.lemmas.Bool.{and_from, and_parts, eq-eqb, eqb-true, false_
 use Rattle.std.proofs.lemmas.List.{get_or_default}
 use Rattle.std.proofs.lemmas.List.Elements.{All-weaker}
 use Rattle.std.proofs.lemmas.List.Folds.{list_any_none, list_any-from_Any}
+use Rattle.adlb_unit.specs.Targets.{Aims, in_ranks}
+use Rattle.adlb_unit.specs.Ids.{same_unit}
+use Rattle.adlb_unit.specs.declared.configs.Config.{Config}
 use Rattle.adlb_unit.specs.declared.actors.Actor.TheVariants as by
 use Rattle.adlb_unit.specs.declared.messages.Message.{Message}
 use Rattle.adlb_unit.specs.declared.messages.Message.TheVariants as tells
@@ -17,11 +20,11 @@ use Rattle.adlb_unit.specs.declared.names.UnitId.{UnitId}
 use Rattle.adlb_unit.specs.declared.units.Unit.{Unit}
 use Rattle.bag_ledger.proofs.Tests.{same_rank_is}
 use Rattle.work_queue.proofs.Ids.{differs_is, same_is}
-use Rattle.work_queue.specs.Queue.{HasNoPromise, HasNoUnit, HasPinned, HasRoom, HasUnit, Promise, id_of, same_id}
+use Rattle.work_queue.specs.Queue.{HasNoPromise, HasNoUnit, HasPinned, HasRoom, HasUnit, Promise, id_of}
 use Rattle.work_queue.specs.declared.placing.Placed.{Placed}
-use Rattle.server_core.specs.Expected.{Aims, ExpectedHaveSteps, IsAwaited, IsHome, IsNew, Runs}
-use Rattle.server_core.specs.Rules.{Response, expects_finish, expects_put, expects_reserve, fetch, has_promise, has_unit, in_ranks, is_finished, is_pin, is_pinned_as, is_running, respond}
-use Rattle.server_core.specs.State.{State, is_home, standing}
+use Rattle.server_core.specs.Expected.{ExpectedHaveSteps, IsAwaited, IsHome, IsNew, Runs}
+use Rattle.server_core.specs.Rules.{ServerResponse, expects_finish, expects_put, expects_reserve, fetch, has_promise, has_unit, is_finished, is_pin, is_pinned_as, is_running, respond}
+use Rattle.server_core.specs.State.{ServerModel, is_home, standing}
 use Rattle.server_core.specs.Step.{Served, after_event, next_stamp, served, ticked}
 use Rattle.server_core.specs.declared.standings.Standing.{Standing}
 use Rattle.server_core.specs.declared.standings.Standing.TheVariants.{Running, Parked, Finished}
@@ -53,17 +56,17 @@ some_map f (Some x) some = refl
 
 -- Fetch.
 
-fetch_some : (s : State) (from : Rank) (request : ℕ) (id : UnitId) (o : Option Placed) → IsSome (fetch s from request id o) → (p : Placed) × (o ≡ Some p)
+fetch_some : (s : ServerModel) (from : Rank) (request : ℕ) (id : UnitId) (o : Option Placed) → IsSome (fetch s from request id o) → (p : Placed) × (o ≡ Some p)
 fetch_some s from request id None some = absurd (cc)
 fetch_some s from request id (Some p) some = (p, refl)
 
-pub pinned_there : (s : State) (from : Rank) (request : ℕ) (id : UnitId) → IsSome (respond s from (tells.Fetch request id)) → (p : Placed) × (find (is_pinned_as id from) s.queue.units ≡ Some p)
+pub pinned_there : (s : ServerModel) (from : Rank) (request : ℕ) (id : UnitId) → IsSome (respond s from (tells.Fetch request id)) → (p : Placed) × (find (is_pinned_as id from) s.queue.units ≡ Some p)
 pinned_there s from request id some = fetch_some s from request id (find (is_pinned_as id from) s.queue.units) some
 
 pin_from : (pin : Option Rank) (rank : Rank) → pin ≡ Some rank → is_pin pin rank ≡ true
 pin_from pin rank is = rw is (eq-eqb rank.0 rank.0 refl)
 
-fetch_awaited : (s : State) (from : Rank) (request : ℕ) (id : UnitId) → IsSome (respond s from (tells.Fetch request id)) ↔ HasPinned id from s.queue.units
+fetch_awaited : (s : ServerModel) (from : Rank) (request : ℕ) (id : UnitId) → IsSome (respond s from (tells.Fetch request id)) ↔ HasPinned id from s.queue.units
 fetch_awaited s from request id = (
   λ some. let p = pinned_there s from request id some in has_pinned id from s.queue.units p.0 p.1,
   λ has.
@@ -74,51 +77,52 @@ fetch_awaited s from request id = (
 
 -- Put.
 
-pub put_expected : (s : State) (from : Rank) (unit : Unit) → IsSome (respond s from (tells.Put unit)) → expects_put s from unit ≡ true
+pub put_expected : (s : ServerModel) (from : Rank) (unit : Unit) → IsSome (respond s from (tells.Put unit)) → expects_put s from unit ≡ true
 put_expected s from unit some = if_some (expects_put s from unit) _ some
 
 none_passes : {X : Type 0} (test : X → Bool) (xs : List X) → list_any test xs ≡ false → All (λ x. test x ≡ false) xs
 none_passes test xs none k d within =
     false_from_ne_true (test (get_or xs k d)) (λ passes. let any : list_any test xs ≡ true = list_any-from_Any test xs (k, get_or xs k d, within, get_or_default xs k (get_or xs k d) d within, passes) in cc)
 
-aims : (target : Target) (s : State) → in_ranks s.config target ≡ true → Aims target s.config.ranks
-aims Anyone s in_run = tt
-aims (Only rank) s in_run = ltb-true rank.0 s.config.ranks in_run
-aims (Soft rank) s in_run = ltb-true rank.0 s.config.ranks in_run
+aims : (config : Config) (target : Target) → in_ranks config target ≡ true → Aims target config.ranks
+aims config Anyone in_run = tt
+aims config (Only rank) in_run = ltb-true rank.0 config.ranks in_run
+aims config (Soft rank) in_run = ltb-true rank.0 config.ranks in_run
 
-aims_from : (target : Target) (s : State) → Aims target s.config.ranks → in_ranks s.config target ≡ true
-aims_from Anyone s aims = refl
-aims_from (Only rank) s aims = lt-ltb rank.0 s.config.ranks aims
-aims_from (Soft rank) s aims = lt-ltb rank.0 s.config.ranks aims
+-- a target of the run passes the test
+pub aims_from : (config : Config) (target : Target) → Aims target config.ranks → in_ranks config target ≡ true
+aims_from config Anyone aims = refl
+aims_from config (Only rank) aims = lt-ltb rank.0 config.ranks aims
+aims_from config (Soft rank) aims = lt-ltb rank.0 config.ranks aims
 
-apart : (a b : UnitId) → same_id a b ≡ false → a ≢ b
-apart a b differs same = let is : same_id a b ≡ true = same_is a b same in cc
+apart : (a b : UnitId) → same_unit a b ≡ false → a ≢ b
+apart a b differs same = let is : same_unit a b ≡ true = same_is a b same in cc
 
-pub new_is : (s : State) (from : Rank) (unit : Unit) → expects_put s from unit ≡ true → IsNew s from unit
+pub new_is : (s : ServerModel) (from : Rank) (unit : Unit) → expects_put s from unit ≡ true → IsNew s from unit
 new_is s from unit expected =
     let four = and_parts _ _ expected in
     let three = and_parts _ _ four.0 in
     let two = and_parts _ _ three.0 in
     let one = and_parts _ _ two.0 in
-    let test : Placed → Bool = λ p. same_id (id_of p) unit.id in
-    let room : Promise → Bool = λ p. same_id p.id unit.id in
+    let test : Placed → Bool = λ p. same_unit (id_of p) unit.id in
+    let room : Promise → Bool = λ p. same_unit p.id unit.id in
     record {
       sender = same_rank_is unit.id.rank from one.0;
       new = All-weaker (λ p. test p ≡ false) (λ p. id_of p ≢ unit.id) (λ p differs. apart (id_of p) unit.id differs) s.queue.units (none_passes test s.queue.units (not-true (has_unit unit.id s.queue.units) one.1));
       unpromised = All-weaker (λ p. room p ≡ false) (λ (p : Promise). p.id ≢ unit.id) (λ p differs. apart p.id unit.id differs) s.queue.promises (none_passes room s.queue.promises (not-true (has_promise unit.id s.queue.promises) two.1));
       size = leb-true (length unit.body) (2 ^ 20) three.1;
-      target = aims unit.target s four.1;
+      target = aims s.config unit.target four.1;
     }
 
-pub is_new : (s : State) (from : Rank) (unit : Unit) → IsNew s from unit → expects_put s from unit ≡ true
+pub is_new : (s : ServerModel) (from : Rank) (unit : Unit) → IsNew s from unit → expects_put s from unit ≡ true
 is_new s from unit n =
-    let test : Placed → Bool = λ p. same_id (id_of p) unit.id in
-    let room : Promise → Bool = λ p. same_id p.id unit.id in
+    let test : Placed → Bool = λ p. same_unit (id_of p) unit.id in
+    let room : Promise → Bool = λ p. same_unit p.id unit.id in
     let no_unit : has_unit unit.id s.queue.units ≡ false = list_any_none test s.queue.units (All-weaker (λ p. id_of p ≢ unit.id) (λ p. test p ≡ false) (λ p differs. differs_is (id_of p) unit.id differs) s.queue.units n.new) in
     let no_room : has_promise unit.id s.queue.promises ≡ false = list_any_none room s.queue.promises (All-weaker (λ (p : Promise). p.id ≢ unit.id) (λ p. room p ≡ false) (λ p differs. differs_is p.id unit.id differs) s.queue.promises n.unpromised) in
-    and_from _ _ (and_from _ _ (and_from _ _ (and_from _ _ (eq-eqb unit.id.rank.0 from.0 (ap (λ (r : Rank). r.0) n.sender)) (not_from_false _ no_unit)) (not_from_false _ no_room)) (le-leb (length unit.body) (2 ^ 20) n.size)) (aims_from unit.target s n.target)
+    and_from _ _ (and_from _ _ (and_from _ _ (and_from _ _ (eq-eqb unit.id.rank.0 from.0 (ap (λ (r : Rank). r.0) n.sender)) (not_from_false _ no_unit)) (not_from_false _ no_room)) (le-leb (length unit.body) (2 ^ 20) n.size)) (aims_from s.config unit.target n.target)
 
-put_awaited : (s : State) (from : Rank) (unit : Unit) → IsSome (respond s from (tells.Put unit)) ↔ IsNew s from unit
+put_awaited : (s : ServerModel) (from : Rank) (unit : Unit) → IsSome (respond s from (tells.Put unit)) ↔ IsNew s from unit
 put_awaited s from unit = (
   λ some. new_is s from unit (put_expected s from unit some),
   λ new. some_if (expects_put s from unit) _ (is_new s from unit new),
@@ -162,19 +166,19 @@ running_is Finished e = absurd (cc)
 runs_from : (standing : Standing) → standing ≡ Running → is_running standing ≡ true
 runs_from standing is = rw is refl
 
-home_is : (s : State) (rank : Rank) → is_home s rank ≡ true → IsHome s rank
+home_is : (s : ServerModel) (rank : Rank) → is_home s rank ≡ true → IsHome s rank
 home_is s rank is = eqb-true (rank.0 % s.config.servers) s.me.0 is
 
-home_from : (s : State) (rank : Rank) → IsHome s rank → is_home s rank ≡ true
+home_from : (s : ServerModel) (rank : Rank) → IsHome s rank → is_home s rank ≡ true
 home_from s rank is = eq-eqb (rank.0 % s.config.servers) s.me.0 is
 
-reserve_awaited : (s : State) (from : Rank) → (expects_reserve s from ≡ true) ↔ (IsHome s from × Runs s from)
+reserve_awaited : (s : ServerModel) (from : Rank) → (expects_reserve s from ≡ true) ↔ (IsHome s from × Runs s from)
 reserve_awaited s from = (
   λ is. let parts = and_parts (is_home s from) (is_running (standing s from)) is in (home_is s from parts.0, running_is (standing s from) parts.1),
   λ is. and_from _ _ (home_from s from is.0) (runs_from (standing s from) is.1),
 )
 
-finish_awaited : (s : State) (from : Rank) → (expects_finish s from ≡ true) ↔ ((is_finished s from ≡ false) × (IsHome s from → Runs s from))
+finish_awaited : (s : ServerModel) (from : Rank) → (expects_finish s from ≡ true) ↔ ((is_finished s from ≡ false) × (IsHome s from → Runs s from))
 finish_awaited s from = (
   λ is.
       let parts = and_parts (not (is_finished s from)) (cond (is_home s from) (is_running (standing s from)) true) is in
@@ -188,7 +192,7 @@ finish_awaited s from = (
 
 -- Any letter.
 
-pub awaited : (s : State) (from : Rank) (message : Message) → IsSome (respond s from message) ↔ IsAwaited s from message
+pub awaited : (s : ServerModel) (from : Rank) (message : Message) → IsSome (respond s from message) ↔ IsAwaited s from message
 awaited s from (tells.Put unit) = put_awaited s from unit
 awaited s from (tells.Reserve request types) =
     let is = reserve_awaited s from in (λ some. is.0 (if_some (expects_reserve s from) _ some), λ here. some_if (expects_reserve s from) _ (is.1 here))
@@ -200,9 +204,9 @@ awaited s from _ = (λ some. absurd (cc), λ here. absurd here)
 pub expected_have_steps : ExpectedHaveSteps
 expected_have_steps s (by.Server from) letter = (λ some. absurd (cc), λ here. absurd here)
 expected_have_steps s (by.Rank from) letter =
-    let t : State = ticked s (next_stamp s letter) in
-    let f : Response → Served = λ x. after_event (served x) in
-    let o : Option Response = respond t from letter.message in
+    let t : ServerModel = ticked s (next_stamp s letter) in
+    let f : ServerResponse → Served = λ x. after_event (served x) in
+    let o : Option ServerResponse = respond t from letter.message in
     let given : Bool = nat_lt from.0 s.config.ranks && nat_lt letter.stamp (2 ^ 48) in
     let rule = awaited t from letter.message in (
       λ some.

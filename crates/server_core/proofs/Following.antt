@@ -22,9 +22,9 @@ use Rattle.bag_ledger.proofs.Settled.{is_settled}
 use Rattle.work_queue.specs.Best.{IsOffered}
 use Rattle.work_queue.specs.declared.placing.Placed.{Placed}
 use Rattle.work_queue.proofs.Offers.{offered_is}
-use Rattle.server_core.specs.Agreement.{Agrees, IsAlone, IsAs, of_id, slot_of, stays}
+use Rattle.server_core.specs.Agreement.{ServerAgrees, IsAlone, IsAs, of_id, slot_of, stays}
 use Rattle.server_core.specs.Rules.{best_unit, is_running, unit_with}
-use Rattle.server_core.specs.State.{State}
+use Rattle.server_core.specs.State.{ServerModel}
 use Rattle.server_core.specs.Step.{Served, Waiting, after_event, exhaust, fits, resumed, verdict, waiting_from}
 use Rattle.server_core.specs.declared.standings.Standing.{Standing}
 use Rattle.server_core.specs.declared.standings.Standing.TheVariants.{Running, Parked, Finished}
@@ -79,7 +79,7 @@ free_here me u here free = by_place u.place refl here free
     by_place Spent is here free = absurd (cc)
 
 -- the only rank waits, and no unit fits it: nothing is left in the bag that could
-no_fit : (b : Bag) (s : State) (rank : Rank) (types : Option (List WorkType)) → Agrees b s → IsAlone b s → is_some (best_unit rank types s.queue.units) ≡ false → list_any (λ (u : Lodged). is_free u.place && permitted rank types u.unit.kind u.unit.target) b.units ≡ false
+no_fit : (b : Bag) (s : ServerModel) (rank : Rank) (types : Option (List WorkType)) → ServerAgrees b s → IsAlone b s → is_some (best_unit rank types s.queue.units) ≡ false → list_any (λ (u : Lodged). is_free u.place && permitted rank types u.unit.kind u.unit.target) b.units ≡ false
 no_fit b s rank types m alone none = false_from_ne_true (list_any (λ (u : Lodged). is_free u.place && permitted rank types u.unit.kind u.unit.target) b.units) impossible
   where
     impossible : list_any (λ (u : Lodged). is_free u.place && permitted rank types u.unit.kind u.unit.target) b.units ≡ true → ⊥
@@ -111,12 +111,12 @@ all_run (suc n) = refl
 
 -- an event that is followed by entries, which are steps from b
 abbrev pub Follows : Bag → Served → Served → Type 0
-Follows b x y = (more : List Entry) × (y.entries ≡ x.entries ++ more) × (next : Bag) × IsRun b more next × Agrees next y.state × IsAlone next y.state
+Follows b x y = (more : List Entry) × (y.entries ≡ x.entries ++ more) × (next : Bag) × IsRun b more next × ServerAgrees next y.state × IsAlone next y.state
 
-abbrev with_end : State → State
+abbrev with_end : ServerModel → ServerModel
 with_end s = record s { exhausted = true; ranks = Running ∷ [] }
 
-settled_alone : (b : Bag) (s : State) (r : RankState) (request : ℕ) (types : Option (List WorkType)) → Agrees b s → IsAlone b s → b.ranks ≡ r ∷ [] → r.status ≡ does.Asking request types → is_some (best_unit (record { 0 = 0 }) types s.queue.units) ≡ false → settled b ≡ true
+settled_alone : (b : Bag) (s : ServerModel) (r : RankState) (request : ℕ) (types : Option (List WorkType)) → ServerAgrees b s → IsAlone b s → b.ranks ≡ r ∷ [] → r.status ≡ does.Asking request types → is_some (best_unit (record { 0 = 0 }) types s.queue.units) ≡ false → settled b ≡ true
 settled_alone b s r request types m alone only asks none = is_settled b (
   λ rank x at. rw (← (is rank x at).1, asks) refl,
   (record { 0 = 0 }, r, ap (λ ranks. slice_get ranks 0) only, rw asks refl),
@@ -132,8 +132,8 @@ settled_alone b s r request types m alone only asks none = is_settled b (
     first rank e = let made : ℕ → Rank = λ n. record { 0 = n } in ap made e
 
 -- the only rank waits, and nothing fits it
-exhausts : (b : Bag) (s : State) (request : ℕ) (types : Option (List WorkType)) → Agrees b s → IsAlone b s → s.ranks ≡ Parked request types ∷ [] → s.exhausted ≡ false → is_some (best_unit (record { 0 = 0 }) types s.queue.units) ≡ false
-    → (next : Bag) × IsRun b (enters.Exhausted ∷ enters.Over (record { 0 = 0 }) request ends_by.Exhausted ∷ []) next × Agrees next (with_end s) × IsAlone next (with_end s)
+exhausts : (b : Bag) (s : ServerModel) (request : ℕ) (types : Option (List WorkType)) → ServerAgrees b s → IsAlone b s → s.ranks ≡ Parked request types ∷ [] → s.exhausted ≡ false → is_some (best_unit (record { 0 = 0 }) types s.queue.units) ≡ false
+    → (next : Bag) × IsRun b (enters.Exhausted ∷ enters.Over (record { 0 = 0 }) request ends_by.Exhausted ∷ []) next × ServerAgrees next (with_end s) × IsAlone next (with_end s)
 exhausts b s request types m alone waits fresh none =
     let r = only_of b.ranks alone.one_rank in
     let at : slice_get b.ranks 0 ≡ Some r.0 = ap (λ ranks. slice_get ranks 0) r.1 in
@@ -143,8 +143,8 @@ exhausts b s request types m alone waits fresh none =
     let settled : settled b ≡ true = settled_alone b s r.0 request types m alone r.1 asks none in
     let new : b.exhausted ≡ false = false_from_ne_true b.exhausted (λ is. let known : s.exhausted ≡ true = m.found zeroth is in cc) in
     let c : Bag = after b enters.Exhausted in
-    let t : State = with_end s in
-    let here : Agrees c t = record {
+    let t : ServerModel = with_end s in
+    let here : ServerAgrees c t = record {
       servers = m.servers;
       within = m.within;
       limit = m.limit;
@@ -160,7 +160,7 @@ exhausts b s request types m alone waits fresh none =
     } in
     let over = enters.Over (record { 0 = 0 }) request ends_by.Exhausted in
     let told : Steps c over (after c over) = over_steps c t (record { 0 = 0 }) r.0 request ends_by.Exhausted here at (ap open_call asks) refl in
-    let left : Agrees (after c over) t = rank_agrees c t (record { 0 = 0 }) (λ (x : RankState). ended (record x { end = Some ends_by.Exhausted })) here (λ at_home. refl) in (
+    let left : ServerAgrees (after c over) t = rank_agrees c t (record { 0 = 0 }) (λ (x : RankState). ended (record x { end = Some ends_by.Exhausted })) here (λ at_home. refl) in (
       after c over,
       (c, (rw m.settled refl, (settled, new), refl), (after c over, told, refl)),
       left,
@@ -176,7 +176,7 @@ exhausts b s request types m alone waits fresh none =
     home : (servers me : ℕ) → servers ≡ 1 → me ≡ 0 → (0 % servers) ≡ me
     home servers me one zeroth = rw (one, zeroth) refl
 
-nothing_follows : (b : Bag) (x : Served) → Agrees b x.state → IsAlone b x.state → Follows b x x
+nothing_follows : (b : Bag) (x : Served) → ServerAgrees b x.state → IsAlone b x.state → Follows b x x
 nothing_follows b x m alone = ([], sym (append-nil x.entries), b, refl, m, alone)
 
 or_false : (a c : Bool) → (a || (c || false)) ≡ false → (a ≡ false) × (c ≡ false)
@@ -184,18 +184,18 @@ or_false true c e = absurd (cc)
 or_false false true e = absurd (cc)
 or_false false false e = (refl, refl)
 
-exhaust_follows : (b : Bag) (x : Served) (request : ℕ) (types : Option (List WorkType)) (c : Bool) → (x.state.exhausted || (fits x.state (record { rank = record { 0 = 0 }; request = request; types = types }) || false)) ≡ c → Agrees b x.state → IsAlone b x.state → x.state.ranks ≡ Parked request types ∷ [] → Follows b x (exhaust x (record { rank = record { 0 = 0 }; request = request; types = types } ∷ []) c)
+exhaust_follows : (b : Bag) (x : Served) (request : ℕ) (types : Option (List WorkType)) (c : Bool) → (x.state.exhausted || (fits x.state (record { rank = record { 0 = 0 }; request = request; types = types }) || false)) ≡ c → ServerAgrees b x.state → IsAlone b x.state → x.state.ranks ≡ Parked request types ∷ [] → Follows b x (exhaust x (record { rank = record { 0 = 0 }; request = request; types = types } ∷ []) c)
 exhaust_follows b x request types true is m alone waits = nothing_follows b x m alone
 exhaust_follows b x request types false is m alone waits =
     let parts = or_false x.state.exhausted (fits x.state (record { rank = record { 0 = 0 }; request = request; types = types })) is in
     let run = exhausts b x.state request types m alone waits parts.0 parts.1 in
     let back : Running ∷ [] ≡ map resumed x.state.ranks = sym (ap (map resumed) waits) in
-    let P : List Standing → Type 0 = λ ranks. Agrees run.0 (record x.state { exhausted = true; ranks = ranks }) × IsAlone run.0 (record x.state { exhausted = true; ranks = ranks }) in
+    let P : List Standing → Type 0 = λ ranks. ServerAgrees run.0 (record x.state { exhausted = true; ranks = ranks }) × IsAlone run.0 (record x.state { exhausted = true; ranks = ranks }) in
     let ends = subst P back (run.2, run.3) in
     (enters.Exhausted ∷ enters.Over (record { 0 = 0 }) request ends_by.Exhausted ∷ [], refl, run.0, run.1, ends.0, ends.1)
 
 -- what follows an event is steps of the bag
-pub follows : (b : Bag) (x : Served) → Agrees b x.state → IsAlone b x.state → Follows b x (after_event x)
+pub follows : (b : Bag) (x : Served) → ServerAgrees b x.state → IsAlone b x.state → Follows b x (after_event x)
 follows b x m alone = let s = only_of x.state.ranks alone.one_standing in by_standing s.0 s.1
   where
     one : (x.state.config.servers == 1) ≡ true

@@ -25,9 +25,9 @@ use Rattle.work_queue.specs.Best.{IsBest, IsOffered, best_from, best_of, offered
 use Rattle.work_queue.specs.Queue.{HasDistinctIds, id_of, with_pin, without}
 use Rattle.work_queue.specs.declared.placing.Placed.{Placed}
 use Rattle.work_queue.specs.declared.rating.Rated.{Rated}
-use Rattle.server_core.specs.Agreement.{Agrees, of_id, pin_at, slot_of}
+use Rattle.server_core.specs.Agreement.{ServerAgrees, of_id, pin_at, slot_of}
 use Rattle.server_core.specs.Rules.{best_unit, is_pinned_as, unit_with}
-use Rattle.server_core.specs.State.{State}
+use Rattle.server_core.specs.State.{ServerModel}
 use Rattle.server_core.proofs.Entries.{rank_agrees}
 use Rattle.server_core.proofs.Finds.{pinned_is, some_is, unit_found, unit_is}
 use Rattle.server_core.proofs.Ranks.{IsRunner}
@@ -49,7 +49,7 @@ slot_is me u p is = by_pin (pin_at me u.place) refl is
         let one : record { unit = u.unit; pin = pin } ≡ p = some_is is in
         (ap (λ (q : Placed). q.unit) one, at ∙ ap (λ (q : Placed). Some q.pin) one)
 
-pub lodged : (b : Bag) (s : State) (id : UnitId) (p : Placed) → Agrees b s → unit_with id s.queue.units ≡ Some p → (u : Lodged) × IsLodged s.me b.units id p u
+pub lodged : (b : Bag) (s : ServerModel) (id : UnitId) (p : Placed) → ServerAgrees b s → unit_with id s.queue.units ≡ Some p → (u : Lodged) × IsLodged s.me b.units id p u
 lodged b s id p m there = by_found (find (of_id id) b.units) refl (sym (m.units.each id) ∙ there)
   where
     by_found : (o : Option Lodged) → find (of_id id) b.units ≡ o → option_and_then (slot_of s.me) o ≡ Some p → (u : Lodged) × IsLodged s.me b.units id p u
@@ -142,7 +142,7 @@ some_best rank types units p there may = by_rated (best_from rank types None uni
 
 -- Granted.
 
-pub granted_steps : (b : Bag) (s : State) (from : Rank) (request : ℕ) (types : Option (List WorkType)) (r : RankState) (p : Placed) → Agrees b s → rank_at b from ≡ Some r → r.status ≡ does.Asking request types → best_unit from types s.queue.units ≡ Some p → Steps b (enters.Granted s.me from request p.unit.id) (after b (enters.Granted s.me from request p.unit.id))
+pub granted_steps : (b : Bag) (s : ServerModel) (from : Rank) (request : ℕ) (types : Option (List WorkType)) (r : RankState) (p : Placed) → ServerAgrees b s → rank_at b from ≡ Some r → r.status ≡ does.Asking request types → best_unit from types s.queue.units ≡ Some p → Steps b (enters.Granted s.me from request p.unit.id) (after b (enters.Granted s.me from request p.unit.id))
 granted_steps b s from request types r p m at asks best =
     let here = best_unit_is from types s.queue.units p m.units.distinct best in
     let u = lodged b s p.unit.id p m here.found in
@@ -150,13 +150,13 @@ granted_steps b s from request types r p m at asks best =
     let fits : permitted from types u.0.unit.kind u.0.unit.target ≡ true = rw u.1.same here.fits in
     (rw m.settled refl, (r, types, u.0, at, ap wish asks, rw m.servers m.within, (u.1.found, place), fits), refl)
 
-pub granted_agrees : (b : Bag) (s : State) (from : Rank) (request : ℕ) (types : Option (List WorkType)) (p : Placed) → Agrees b s → best_unit from types s.queue.units ≡ Some p → IsRunner s.config s.me s.ranks from → Agrees (after b (enters.Granted s.me from request p.unit.id)) (record s { queue = with_pin s.queue p.unit.id from })
+pub granted_agrees : (b : Bag) (s : ServerModel) (from : Rank) (request : ℕ) (types : Option (List WorkType)) (p : Placed) → ServerAgrees b s → best_unit from types s.queue.units ≡ Some p → IsRunner s.config s.me s.ranks from → ServerAgrees (after b (enters.Granted s.me from request p.unit.id)) (record s { queue = with_pin s.queue p.unit.id from })
 granted_agrees b s from request types p m best runs =
     let here = best_unit_is from types s.queue.units p m.units.distinct best in
     let u = lodged b s p.unit.id p m here.found in
     let place : u.0.place ≡ Free s.me = free_place s.me u.0.place (u.1.pin ∙ ap (λ pin. Some pin) here.free) in
-    let t : State = record s { queue = with_pin s.queue p.unit.id from } in
-    let held : Agrees (moved p.unit.id (Pinned s.me from) b) t = record {
+    let t : ServerModel = record s { queue = with_pin s.queue p.unit.id from } in
+    let held : ServerAgrees (moved p.unit.id (Pinned s.me from) b) t = record {
       servers = m.servers;
       within = m.within;
       limit = m.limit;
@@ -182,21 +182,21 @@ pinned_found id rank units p distinct is =
     let one : q.0 ≡ p = one_of_id units p q.0 distinct here.2 q.1.there (q.1.is ∙ sym here.0) in
     q.1.found ∙ ap (λ x. Some x) one
 
-pub fetched_steps : (b : Bag) (s : State) (from : Rank) (request : ℕ) (id : UnitId) (r : RankState) (p : Placed) → Agrees b s → rank_at b from ≡ Some r → r.status ≡ does.Fetching request id false → find (is_pinned_as id from) s.queue.units ≡ Some p → Steps b (enters.Fetched s.me from id) (after b (enters.Fetched s.me from id))
+pub fetched_steps : (b : Bag) (s : ServerModel) (from : Rank) (request : ℕ) (id : UnitId) (r : RankState) (p : Placed) → ServerAgrees b s → rank_at b from ≡ Some r → r.status ≡ does.Fetching request id false → find (is_pinned_as id from) s.queue.units ≡ Some p → Steps b (enters.Fetched s.me from id) (after b (enters.Fetched s.me from id))
 fetched_steps b s from request id r p m at fetches is =
     let u = lodged b s id p m (pinned_found id from s.queue.units p m.units.distinct is) in
     let pin = (pinned_is id from s.queue.units p is).1 in
     let place : u.0.place ≡ Pinned s.me from = pinned_place s.me from u.0.place (u.1.pin ∙ ap (λ pin. Some pin) pin) in
     (rw m.settled refl, (r, request, u.0, at, fetches, rw m.servers m.within, (u.1.found, place)), refl)
 
-pub fetched_agrees : (b : Bag) (s : State) (from : Rank) (id : UnitId) (p : Placed) → Agrees b s → find (is_pinned_as id from) s.queue.units ≡ Some p → IsRunner s.config s.me s.ranks from → Agrees (after b (enters.Fetched s.me from id)) (record s { queue = without s.queue id })
+pub fetched_agrees : (b : Bag) (s : ServerModel) (from : Rank) (id : UnitId) (p : Placed) → ServerAgrees b s → find (is_pinned_as id from) s.queue.units ≡ Some p → IsRunner s.config s.me s.ranks from → ServerAgrees (after b (enters.Fetched s.me from id)) (record s { queue = without s.queue id })
 fetched_agrees b s from id p m is runs =
     let there = pinned_found id from s.queue.units p m.units.distinct is in
     let u = lodged b s id p m there in
     let pin = (pinned_is id from s.queue.units p is).1 in
     let place : u.0.place ≡ Pinned s.me from = pinned_place s.me from u.0.place (u.1.pin ∙ ap (λ pin. Some pin) pin) in
-    let t : State = record s { queue = without s.queue id } in
-    let held : Agrees (moved id Spent b) t = record {
+    let t : ServerModel = record s { queue = without s.queue id } in
+    let held : ServerAgrees (moved id Spent b) t = record {
       servers = m.servers;
       within = m.within;
       limit = m.limit;

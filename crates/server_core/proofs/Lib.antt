@@ -1,5 +1,6 @@
 pub mod Calm
 pub mod Entries
+mod Examples
 pub mod Expected
 pub mod Finds
 pub mod Following

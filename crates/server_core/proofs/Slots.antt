@@ -4,11 +4,11 @@ use Rattle.std.specs.Prelude.{option_and_then}
 use Rattle.std.specs.Option.{option_map, option_or}
 use Rattle.std.proofs.lemmas.List.Folds.{find-append}
 use Rattle.std.proofs.lemmas.List.Sums.{sum_by_push}
+use Rattle.adlb_unit.specs.Ids.{same_unit}
 use Rattle.adlb_unit.specs.declared.names.Rank.{Rank}
 use Rattle.adlb_unit.specs.declared.names.Server.{Server}
 use Rattle.adlb_unit.specs.declared.names.UnitId.{UnitId}
 use Rattle.adlb_unit.specs.declared.units.Unit.{Unit as Work}
-use Rattle.adlb_unit.specs.Ids.{same_unit}
 use Rattle.adlb_unit.proofs.Same.{same_unit_is}
 use Rattle.bag_ledger.specs.Bag.{unit_charge}
 use Rattle.bag_ledger.specs.Steps.{change_first}
@@ -20,7 +20,7 @@ use Rattle.bag_ledger.proofs.Moves.{apart}
 use Rattle.bag_ledger.proofs.Tests.{same_number}
 use Rattle.work_queue.proofs.Ids.{distinct_pinned, sizes_pinned}
 use Rattle.work_queue.proofs.Lists.{distinct_added, distinct_left, sum_by-others}
-use Rattle.work_queue.specs.Queue.{has_other_id, id_of, pinned_by, same_id, size_of}
+use Rattle.work_queue.specs.Queue.{has_other_id, id_of, pinned_by, size_of}
 use Rattle.work_queue.specs.declared.placing.Placed.{Placed}
 use Rattle.server_core.specs.Agreement.{HoldsUnits, of_id, slot_of}
 use Rattle.server_core.specs.Rules.{unit_with}
@@ -42,7 +42,7 @@ last_found me unit id false is = refl
 
 added_each : (all : List Lodged) (me : Server) (units : List Placed) (unit : Work) → ((id : UnitId) → IsSame me all units id) → find (of_id unit.id) all ≡ None → (id : UnitId) → IsSame me (all ++ record { unit = unit; place = Free me } ∷ []) (units ++ record { unit = unit; pin = None } ∷ []) id
 added_each all me units unit each new id =
-    let test : Placed → Bool = λ p. same_id (id_of p) id in
+    let test : Placed → Bool = λ p. same_unit (id_of p) id in
     rw (find-append test units (record { unit = unit; pin = None } ∷ []), find-append (of_id id) all (record { unit = unit; place = Free me } ∷ []), each id) (by_found (find (of_id id) all) refl)
   where
     by_slot : (v : Lodged) → find (of_id id) all ≡ Some v → (o : Option Placed) → slot_of me v ≡ o → (t : Bool) → same_unit unit.id id ≡ t → option_or o (cond t (Some (record { unit = unit; pin = None })) None) ≡ o
@@ -85,9 +85,9 @@ moved_apart all id other place differs = find_other (to_place place) (of_id id) 
 
 find_pinned : (id : UnitId) (rank : Rank) (other : UnitId) (units : List Placed) → unit_with other (map (pinned_by id rank) units) ≡ option_map (pinned_by id rank) (unit_with other units)
 find_pinned id rank other [] = refl
-find_pinned id rank other (q ∷ units) = by_test (find_pinned id rank other units) (same_id (id_of q) id) refl (same_id (id_of q) other) refl
+find_pinned id rank other (q ∷ units) = by_test (find_pinned id rank other units) (same_unit (id_of q) id) refl (same_unit (id_of q) other) refl
   where
-    by_test : unit_with other (map (pinned_by id rank) units) ≡ option_map (pinned_by id rank) (unit_with other units) → (t : Bool) → same_id (id_of q) id ≡ t → (v : Bool) → same_id (id_of q) other ≡ v → unit_with other (map (pinned_by id rank) (q ∷ units)) ≡ option_map (pinned_by id rank) (unit_with other (q ∷ units))
+    by_test : unit_with other (map (pinned_by id rank) units) ≡ option_map (pinned_by id rank) (unit_with other units) → (t : Bool) → same_unit (id_of q) id ≡ t → (v : Bool) → same_unit (id_of q) other ≡ v → unit_with other (map (pinned_by id rank) (q ∷ units)) ≡ option_map (pinned_by id rank) (unit_with other (q ∷ units))
     by_test rest true is true at = rw (is, at, is) refl
     by_test rest true is false at = rw (is, at) rest
     by_test rest false is true at = rw (is, at, is) refl
@@ -97,10 +97,10 @@ find_pinned id rank other (q ∷ units) = by_test (find_pinned id rank other uni
 other_pinned : (id : UnitId) (rank : Rank) (other : UnitId) (units : List Placed) → same_unit id other ≡ false → (o : Option Placed) → unit_with other units ≡ o → option_map (pinned_by id rank) o ≡ o
 other_pinned id rank other units differs None found = refl
 other_pinned id rank other units differs (Some q) found =
-    let here : same_id (id_of q) other ≡ true = (find_is (λ p. same_id (id_of p) other) units q found).0 in
-    by_test (same_id (id_of q) id) refl here
+    let here : same_unit (id_of q) other ≡ true = (find_is (λ p. same_unit (id_of p) other) units q found).0 in
+    by_test (same_unit (id_of q) id) refl here
   where
-    by_test : (t : Bool) → same_id (id_of q) id ≡ t → same_id (id_of q) other ≡ true → option_map (pinned_by id rank) (Some q) ≡ Some q
+    by_test : (t : Bool) → same_unit (id_of q) id ≡ t → same_unit (id_of q) other ≡ true → option_map (pinned_by id rank) (Some q) ≡ Some q
     by_test true is here = let not : same_unit (id_of q) other ≡ false = apart id other differs (id_of q) is in absurd (cc)
     by_test false is here = rw is refl
 
@@ -120,7 +120,7 @@ holds_pinned all me units id rank u holds found free =
     pinned : slot_of me (record { unit = u.unit; place = Pinned me rank }) ≡ Some (record { unit = u.unit; pin = Some rank })
     pinned = ap (λ t. option_map (λ (pin : Option Rank). record { unit = u.unit; pin = pin }) (cond t (Some (Some rank)) None)) (same_number me.0)
 
-    is_id : same_id u.unit.id id ≡ true
+    is_id : same_unit u.unit.id id ≡ true
     is_id = (find_is (of_id id) all u found).0
 
     at_id : IsSame me (change_first (to_place (Pinned me rank)) (of_id id) all) (map (pinned_by id rank) units) id
@@ -153,15 +153,15 @@ holds_taken all me units id rank u p holds found pinned there same =
     }
   where
     test : UnitId → Placed → Bool
-    test other q = same_id (id_of q) other
+    test other q = same_unit (id_of q) other
 
     at_id : IsSame me (change_first (to_place Spent) (of_id id) all) (filter (has_other_id id) units) id
-    at_id = rw (find_filtered (λ q. same_id (id_of q) id) units, moved_same all id Spent u found) refl
+    at_id = rw (find_filtered (λ q. same_unit (id_of q) id) units, moved_same all id Spent u found) refl
 
     by_id : (other : UnitId) (t : Bool) → same_unit id other ≡ t → IsSame me (change_first (to_place Spent) (of_id id) all) (filter (has_other_id id) units) other
     by_id other true is = let P : UnitId → Type 0 = IsSame me (change_first (to_place Spent) (of_id id) all) (filter (has_other_id id) units) in subst P (same_unit_is id other is) at_id
     by_id other false differs =
-        rw (find_unfiltered (λ q. same_id (id_of q) id) (λ q. same_id (id_of q) other) (λ q is. apart id other differs (id_of q) is) units, moved_apart all id other Spent differs) (holds.each other)
+        rw (find_unfiltered (λ q. same_unit (id_of q) id) (λ q. same_unit (id_of q) other) (λ q is. apart id other differs (id_of q) is) units, moved_apart all id other Spent differs) (holds.each other)
 
     here : IsUnit id units p
     here = unit_is id units p there

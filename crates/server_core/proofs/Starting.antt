@@ -5,7 +5,7 @@ use Rattle.std.proofs.lemmas.List.{length-replicate}
 use Rattle.adlb_unit.specs.declared.configs.Config.{Config}
 use Rattle.adlb_unit.specs.declared.names.Server.{Server}
 use Rattle.bag_ledger.specs.Bag.{start as empty_bag}
-use Rattle.server_core.specs.Agreement.{Agrees, IsAlone, StartAgrees}
+use Rattle.server_core.specs.Agreement.{ServerAgrees, IsAlone, StartAgrees}
 use Rattle.server_core.specs.State.{start}
 use Rattle.server_core.specs.declared.standings.Standing.TheVariants.{Running}
 
@@ -14,7 +14,7 @@ all_run zero k = refl
 all_run (suc n) zero = refl
 all_run (suc n) (suc k) = all_run n k
 
-start_matches : (config : Config) (me : Server) → me.0 < config.servers → Agrees (empty_bag config) (start config me)
+start_matches : (config : Config) (me : Server) → me.0 < config.servers → ServerAgrees (empty_bag config) (start config me)
 start_matches config me within = record {
   servers = refl;
   within = within;

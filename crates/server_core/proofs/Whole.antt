@@ -29,9 +29,9 @@ use Rattle.bag_ledger.specs.declared.states.UnitPlace.TheVariants.{Free, Pinned,
 use Rattle.bag_ledger.proofs.Legal.{run_joined}
 use Rattle.bag_ledger.proofs.Tests.{same_number, same_rank_is}
 use Rattle.work_queue.specs.declared.placing.Placed.{Placed}
-use Rattle.server_core.specs.Agreement.{Agrees, IsAlone, IsCalled, StepsAreLegal, of_id, stays}
-use Rattle.server_core.specs.Rules.{Response, best_unit, expects_finish, expects_put, expects_reserve, fetch, fetched, finish, is_over, is_pinned_as, is_running, leave, park, put, reserve, respond}
-use Rattle.server_core.specs.State.{State, is_home, standing}
+use Rattle.server_core.specs.Agreement.{ServerAgrees, IsAlone, IsCalled, StepsAreLegal, of_id, stays}
+use Rattle.server_core.specs.Rules.{ServerResponse, best_unit, expects_finish, expects_put, expects_reserve, fetch, fetched, finish, is_over, is_pinned_as, is_running, leave, park, put, reserve, respond}
+use Rattle.server_core.specs.State.{ServerModel, is_home, standing}
 use Rattle.server_core.specs.Step.{Served, after_event, next_stamp, served, ticked}
 use Rattle.server_core.specs.declared.standings.Standing.TheVariants.{Running, Parked, Finished}
 use Rattle.server_core.proofs.Entries.{accepted_agrees, accepted_steps, over_steps, rank_agrees, refused_steps, standing_agrees}
@@ -43,10 +43,10 @@ use Rattle.server_core.proofs.Ranks.{IsKnown, IsRunner, busy_runs, known_set, le
 
 -- the entries of an event are steps from b, and the bag agrees afterwards
 abbrev Stepped : Bag → Served → Type 0
-Stepped b x = (next : Bag) × IsRun b x.entries next × Agrees next x.state × IsAlone next x.state
+Stepped b x = (next : Bag) × IsRun b x.entries next × ServerAgrees next x.state × IsAlone next x.state
 
 -- one entry that changes the rank alone
-rank_alone : (b : Bag) (s : State) (from : Rank) (f : RankState → RankState) → IsAlone b s → IsAlone (with_rank from f b) s
+rank_alone : (b : Bag) (s : ServerModel) (from : Rank) (f : RankState → RankState) → IsAlone b s → IsAlone (with_rank from f b) s
 rank_alone b s from f alone = record {
   one_server = alone.one_server;
   one_rank = length-change_at f from.0 b.ranks ∙ alone.one_rank;
@@ -56,20 +56,20 @@ rank_alone b s from f alone = record {
 }
 
 -- a rank in a call other than a reserve runs, as far as its home knows
-busy_runner : (b : Bag) (s : State) (from : Rank) (r : RankState) → Agrees b s → rank_at b from ≡ Some r → is_asking_or_finished r.status ≡ false → IsRunner s.config s.me s.ranks from
+busy_runner : (b : Bag) (s : ServerModel) (from : Rank) (r : RankState) → ServerAgrees b s → rank_at b from ≡ Some r → is_asking_or_finished r.status ≡ false → IsRunner s.config s.me s.ranks from
 busy_runner b s from r m at busy home = busy_runs (get_or s.ranks from.0 Running) r.status busy (m.ranks from r at home)
 
 -- A call that is over.
 
-over_stepped : (b : Bag) (s : State) (from : Rank) (r : RankState) (request : ℕ) (end : End) → Agrees b s → IsAlone b s → rank_at b from ≡ Some r → open_call r.status ≡ Some request → has_cause b end ≡ true → IsRunner s.config s.me s.ranks from
-    → (next : Bag) × IsRun b (enters.Over from request end ∷ []) next × Agrees next s × IsAlone next s
+over_stepped : (b : Bag) (s : ServerModel) (from : Rank) (r : RankState) (request : ℕ) (end : End) → ServerAgrees b s → IsAlone b s → rank_at b from ≡ Some r → open_call r.status ≡ Some request → has_cause b end ≡ true → IsRunner s.config s.me s.ranks from
+    → (next : Bag) × IsRun b (enters.Over from request end ∷ []) next × ServerAgrees next s × IsAlone next s
 over_stepped b s from r request end m alone at calls cause runs =
     let f : RankState → RankState = λ x. ended (record x { end = Some end }) in
     (with_rank from f b, (with_rank from f b, over_steps b s from r request end m at calls cause, refl), rank_agrees b s from f m runs, rank_alone b s from f alone)
 
 -- Put.
 
-placed_alone : (b : Bag) (s : State) (unit : Work) (common : Option CommonRef) → IsAlone b s → IsAlone (with_rank unit.id.rank ended (shared common (record b { units = b.units ++ record { unit = unit; place = Free s.me } ∷ [] }))) s
+placed_alone : (b : Bag) (s : ServerModel) (unit : Work) (common : Option CommonRef) → IsAlone b s → IsAlone (with_rank unit.id.rank ended (shared common (record b { units = b.units ++ record { unit = unit; place = Free s.me } ∷ [] }))) s
 placed_alone b s unit common alone = by_common common
   where
     all : list_all (stays s.me) (b.units ++ record { unit = unit; place = Free s.me } ∷ []) ≡ true
@@ -79,7 +79,7 @@ placed_alone b s unit common alone = by_common common
     by_common None = record { one_server = alone.one_server; one_rank = length-change_at ended unit.id.rank.0 b.ranks ∙ alone.one_rank; one_standing = alone.one_standing; here = all; no_room = alone.no_room }
     by_common (Some c) = record { one_server = alone.one_server; one_rank = length-change_at ended unit.id.rank.0 b.ranks ∙ alone.one_rank; one_standing = alone.one_standing; here = all; no_room = alone.no_room }
 
-put_stepped : (b : Bag) (s : State) (unit : Work) (r : RankState) (done over : Bool) → s.done ≡ done → is_over s.queue unit ≡ over → Agrees b s → IsAlone b s → rank_at b unit.id.rank ≡ Some r → IsCalled b s.me unit.id.rank r (tells.Put unit) → Stepped b (served (put s unit.id.rank unit done over))
+put_stepped : (b : Bag) (s : ServerModel) (unit : Work) (r : RankState) (done over : Bool) → s.done ≡ done → is_over s.queue unit ≡ over → ServerAgrees b s → IsAlone b s → rank_at b unit.id.rank ≡ Some r → IsCalled b s.me unit.id.rank r (tells.Put unit) → Stepped b (served (put s unit.id.rank unit done over))
 put_stepped b s unit r true over done is m alone at (puts, fresh, new, unclosed) =
     let runs = busy_runner b s unit.id.rank r m at (rw puts refl) in
     over_stepped b s unit.id.rank r unit.id.number ends_by.NoMoreWork m alone at (ap open_call puts) (m.done done) runs
@@ -101,7 +101,7 @@ rank_first b from r one at = by_list b.ranks one at
     by_list : (ranks : List RankState) → length ranks ≡ 1 → slice_get ranks from.0 ≡ Some r → from.0 ≡ 0
     by_list ranks one at = let within = slice_get_within ranks from.0 r at in omega arith
 
-pin_alone : (b : Bag) (s : State) (from : Rank) (id : UnitId) → IsAlone b s → IsAlone (after b (enters.Granted s.me from 0 id)) s
+pin_alone : (b : Bag) (s : ServerModel) (from : Rank) (id : UnitId) → IsAlone b s → IsAlone (after b (enters.Granted s.me from 0 id)) s
 pin_alone b s from id alone = record {
   one_server = alone.one_server;
   one_rank = length-change_at ended from.0 b.ranks ∙ alone.one_rank;
@@ -110,7 +110,7 @@ pin_alone b s from id alone = record {
   no_room = alone.no_room;
 }
 
-park_stepped : (b : Bag) (s : State) (from : Rank) (request : ℕ) (types : Option (List WorkType)) (r : RankState) → Agrees b s → IsAlone b s → rank_at b from ≡ Some r → r.status ≡ does.Asking request types → Stepped b (served (park s from request types))
+park_stepped : (b : Bag) (s : ServerModel) (from : Rank) (request : ℕ) (types : Option (List WorkType)) (r : RankState) → ServerAgrees b s → IsAlone b s → rank_at b from ≡ Some r → r.status ≡ does.Asking request types → Stepped b (served (park s from request types))
 park_stepped b s from request types r m alone at asks =
     let zeroth = rank_first b from r alone.one_rank at in
     let known : IsKnown b.ranks s.config s.me (set s.ranks from.0 (Parked request types)) = known_set b.ranks s.config s.me s.ranks from (Parked request types) r m.ranks at asks (omega (arith, zeroth, alone.one_standing)) in (
@@ -126,7 +126,7 @@ park_stepped b s from request types r m alone at asks =
       },
     )
 
-reserve_stepped : (b : Bag) (s : State) (from : Rank) (request : ℕ) (types : Option (List WorkType)) (r : RankState) (done exhausted : Bool) (best : Option Placed) → s.done ≡ done → s.exhausted ≡ exhausted → best_unit from types s.queue.units ≡ best → Agrees b s → IsAlone b s → IsRunner s.config s.me s.ranks from → rank_at b from ≡ Some r → r.status ≡ does.Asking request types → Stepped b (served (reserve s from request types done exhausted best))
+reserve_stepped : (b : Bag) (s : ServerModel) (from : Rank) (request : ℕ) (types : Option (List WorkType)) (r : RankState) (done exhausted : Bool) (best : Option Placed) → s.done ≡ done → s.exhausted ≡ exhausted → best_unit from types s.queue.units ≡ best → ServerAgrees b s → IsAlone b s → IsRunner s.config s.me s.ranks from → rank_at b from ≡ Some r → r.status ≡ does.Asking request types → Stepped b (served (reserve s from request types done exhausted best))
 reserve_stepped b s from request types r true exhausted best done is found m alone runs at asks =
     over_stepped b s from r request ends_by.NoMoreWork m alone at (ap open_call asks) (m.done done) runs
 reserve_stepped b s from request types r false true best done is found m alone runs at asks =
@@ -138,7 +138,7 @@ reserve_stepped b s from request types r false false None done is found m alone 
 
 -- Fetch.
 
-spend_alone : (b : Bag) (s : State) (from : Rank) (id : UnitId) → IsAlone b s → IsAlone (after b (enters.Fetched s.me from id)) s
+spend_alone : (b : Bag) (s : ServerModel) (from : Rank) (id : UnitId) → IsAlone b s → IsAlone (after b (enters.Fetched s.me from id)) s
 spend_alone b s from id alone = record {
   one_server = alone.one_server;
   one_rank = length-change_at _ from.0 b.ranks ∙ alone.one_rank;
@@ -147,7 +147,7 @@ spend_alone b s from id alone = record {
   no_room = alone.no_room;
 }
 
-fetched_stepped : (b : Bag) (s : State) (from : Rank) (request : ℕ) (id : UnitId) (r : RankState) (p : Placed) → find (is_pinned_as id from) s.queue.units ≡ Some p → Agrees b s → IsAlone b s → rank_at b from ≡ Some r → r.status ≡ does.Fetching request id false → Stepped b (served (fetched s from request id p))
+fetched_stepped : (b : Bag) (s : ServerModel) (from : Rank) (request : ℕ) (id : UnitId) (r : RankState) (p : Placed) → find (is_pinned_as id from) s.queue.units ≡ Some p → ServerAgrees b s → IsAlone b s → rank_at b from ≡ Some r → r.status ≡ does.Fetching request id false → Stepped b (served (fetched s from request id p))
 fetched_stepped b s from request id r p found m alone at fetches =
     let runs = busy_runner b s from r m at (rw fetches refl) in
     let c : Bag = after b (enters.Fetched s.me from id) in
@@ -155,7 +155,7 @@ fetched_stepped b s from request id r p found m alone at fetches =
 
 -- Finish.
 
-finish_stepped : (b : Bag) (s : State) (from : Rank) (r : RankState) → Agrees b s → IsAlone b s → rank_at b from ≡ Some r → r.status ≡ does.Finished → Stepped b (served (finish s from))
+finish_stepped : (b : Bag) (s : ServerModel) (from : Rank) (r : RankState) → ServerAgrees b s → IsAlone b s → rank_at b from ≡ Some r → r.status ≡ does.Finished → Stepped b (served (finish s from))
 finish_stepped b s from r m alone at leaves = (
   b,
   refl,
@@ -194,12 +194,12 @@ map_is : {X Y : Type 0} (f : X → Y) (o : Option X) (y : Y) → option_map f o 
 map_is f None y e = absurd (cc)
 map_is f (Some x) y e = (x, refl, some_is e)
 
-fetch_is : (s : State) (from : Rank) (request : ℕ) (id : UnitId) (o : Option Placed) (y : Response) → fetch s from request id o ≡ Some y → (p : Placed) × (o ≡ Some p) × (fetched s from request id p ≡ y)
+fetch_is : (s : ServerModel) (from : Rank) (request : ℕ) (id : UnitId) (o : Option Placed) (y : ServerResponse) → fetch s from request id o ≡ Some y → (p : Placed) × (o ≡ Some p) × (fetched s from request id p ≡ y)
 fetch_is s from request id None y e = absurd (cc)
 fetch_is s from request id (Some p) y e = (p, refl, some_is e)
 
 -- the sender of a put that is expected is the rank of the unit
-sender_is : (s : State) (from : Rank) (unit : Work) → expects_put s from unit ≡ true → unit.id.rank ≡ from
+sender_is : (s : ServerModel) (from : Rank) (unit : Work) → expects_put s from unit ≡ true → unit.id.rank ≡ from
 sender_is s from unit expected =
     let four = and_parts _ _ expected in
     let three = and_parts _ _ four.0 in
@@ -207,7 +207,7 @@ sender_is s from unit expected =
     let one = and_parts _ _ two.0 in
     same_rank_is unit.id.rank from one.0
 
-answered : (b : Bag) (s : State) (from : Rank) (message : Message) (y : Response) (r : RankState) → Agrees b s → IsAlone b s → rank_at b from ≡ Some r → IsCalled b s.me from r message → respond s from message ≡ Some y → Stepped b (served y)
+answered : (b : Bag) (s : ServerModel) (from : Rank) (message : Message) (y : ServerResponse) (r : RankState) → ServerAgrees b s → IsAlone b s → rank_at b from ≡ Some r → IsCalled b s.me from r message → respond s from message ≡ Some y → Stepped b (served y)
 answered b s from (tells.Put unit) y r m alone at called is =
     let parts = if_is (expects_put s from unit) (put s from unit s.done (is_over s.queue unit)) y is in
     let P : Rank → Type 0 = λ k. rank_at b k ≡ Some r → Stepped b (served (put s k unit s.done (is_over s.queue unit))) in
@@ -228,7 +228,7 @@ answered b s from _ y r m alone at called is = absurd called
 pub steps_are_legal : StepsAreLegal
 steps_are_legal b s (by.Server from) letter x m alone pending is = absurd pending
 steps_are_legal b s (by.Rank from) letter x m alone (r, at, called) is =
-    let t : State = ticked s (next_stamp s letter) in
+    let t : ServerModel = ticked s (next_stamp s letter) in
     let there = if_there (nat_lt from.0 s.config.ranks && nat_lt letter.stamp (2 ^ 48)) (option_map (λ y. after_event (served y)) (respond t from letter.message)) x is in
     let y = map_is (λ z. after_event (served z)) (respond t from letter.message) x there in
     let stepped = answered b t from letter.message y.0 r m alone at called y.1 in

@@ -1,7 +1,9 @@
 -- Which part of the bag a server stands for.
-use Rattle.std.specs.Prelude.{◌≡◌, ◌<◌, ◌%◌, ◌==◌, Bool, true, false, ◌||◌, List, [], ◌∷◌, length, find, Option, None, Some, sum_by, slice_index_or, option_and_then, if◌then◌else◌}
+use Rattle.std.specs.Prelude.{◌≡◌, ◌<◌, ◌==◌, Bool, true, false, ◌||◌, List, [], ◌∷◌, length, find, Option, None, Some, sum_by, slice_index_or, option_and_then, if◌then◌else◌}
 use Rattle.std.specs.List.{list_all}
 use Rattle.std.specs.Option.{option_map}
+use Rattle.adlb_unit.specs.Ids.{same_unit}
+use Rattle.adlb_unit.specs.Targets.{home_of}
 use Rattle.adlb_unit.specs.declared.actors.Actor.{Actor}
 use Rattle.adlb_unit.specs.declared.actors.Actor.TheVariants as by
 use Rattle.adlb_unit.specs.declared.configs.Config.{Config}
@@ -12,7 +14,6 @@ use Rattle.adlb_unit.specs.declared.names.CommonRef.{CommonRef}
 use Rattle.adlb_unit.specs.declared.names.Rank.{Rank}
 use Rattle.adlb_unit.specs.declared.names.Server.{Server}
 use Rattle.adlb_unit.specs.declared.names.UnitId.{UnitId}
-use Rattle.adlb_unit.specs.Ids.{same_unit}
 use Rattle.bag_ledger.specs.Bag.{Bag, has_declined, has_due, is_placed_at, part_charge, part_of, promise_charge, promise_of, rank_at, start as empty_bag, unit_charge, unit_of}
 use Rattle.bag_ledger.specs.Runs.{IsRun}
 use Rattle.bag_ledger.specs.declared.states.Part.{Part}
@@ -23,10 +24,10 @@ use Rattle.bag_ledger.specs.declared.states.Status.{Status}
 use Rattle.bag_ledger.specs.declared.states.Status.TheVariants as is_at
 use Rattle.bag_ledger.specs.declared.states.UnitPlace.{UnitPlace}
 use Rattle.bag_ledger.specs.declared.states.UnitPlace.TheVariants.{Free, Travelling, Pinned, Spent}
-use Rattle.work_queue.specs.Queue.{HasDistinctIds, Promise, Queue, promised, same_id, size_of}
+use Rattle.work_queue.specs.Queue.{HasDistinctIds, Promise, Queue, promised, size_of}
 use Rattle.work_queue.specs.declared.placing.Placed.{Placed}
 use Rattle.server_core.specs.Rules.{unit_with}
-use Rattle.server_core.specs.State.{State, start}
+use Rattle.server_core.specs.State.{ServerModel, start}
 use Rattle.server_core.specs.Step.{Served, serve}
 use Rattle.server_core.specs.declared.standings.Standing.{Standing}
 use Rattle.server_core.specs.declared.standings.Standing.TheVariants.{Running, Parked, Finished}
@@ -62,7 +63,7 @@ abbrev pub room_at : Server → Room → Option Promise
 room_at me p = if p.server.0 == me.0 then Some (record { id = p.id; length = p.length }) else None
 
 abbrev pub room_for : UnitId → List Promise → Option Promise
-room_for id promises = find (λ p. same_id p.id id) promises
+room_for id promises = find (λ p. same_unit p.id id) promises
 
 -- what a rank does, as far as its home knows: a rank that waits asks; one whose letter is on its way runs still
 abbrev pub IsAs : Standing → Status → Type 0
@@ -80,7 +81,8 @@ pub record Matches (b : Bag) (config : Config) (me : Server) (queue : Queue) (st
   pub room : sum_by (promise_charge me) b.promises ≡ sum_by promised queue.promises
   pub parts : sum_by (part_charge me) b.parts ≡ queue.common
   -- of each rank whose home this is
-  pub ranks : (rank : Rank) (r : RankState) → rank_at b rank ≡ Some r → (rank.0 % config.servers) ≡ me.0 → IsAs (slice_index_or standings rank.0 Running) r.status
+  pub ranks : (rank : Rank) (r : RankState) → rank_at b rank ≡ Some r → home_of config.servers rank ≡ me.0
+      → IsAs (slice_index_or standings rank.0 Running) r.status
   -- what the server knows is so; server 0 finds exhaustion, so it knows of it
   pub done : is_done ≡ true → b.done ≡ true
   pub exhausted : is_exhausted ≡ true → b.exhausted ≡ true
@@ -89,8 +91,8 @@ pub record Matches (b : Bag) (config : Config) (me : Server) (queue : Queue) (st
   pub settled : has_due b ≡ false
 
 -- the bag agrees with the server
-abbrev pub Agrees : Bag → State → Type 0
-Agrees b s = Matches b s.config s.me s.queue s.ranks s.done s.exhausted
+abbrev pub ServerAgrees : Bag → ServerModel → Type 0
+ServerAgrees b s = Matches b s.config s.me s.queue s.ranks s.done s.exhausted
 
 abbrev pub is_spent : UnitPlace → Bool
 is_spent Spent = true
@@ -107,7 +109,7 @@ pub record IsOnly (b : Bag) (config : Config) (me : Server) (standings : List St
   pub here : list_all (stays me) b.units ≡ true
   pub no_room : b.promises ≡ []
 
-abbrev pub IsAlone : Bag → State → Type 0
+abbrev pub IsAlone : Bag → ServerModel → Type 0
 IsAlone b s = IsOnly b s.config s.me s.ranks
 
 -- the part of the batch, if there is one, is not closed
@@ -126,7 +128,7 @@ IsCalled b me from r tells.Finish = r.status ≡ is_at.Finished
 IsCalled b me from r _ = ⊥
 
 -- the call of the letter is pending
-abbrev pub IsPending : Bag → State → Actor → Message → Type 0
+abbrev pub IsPending : Bag → ServerModel → Actor → Message → Type 0
 IsPending b s (by.Rank from) message = (r : RankState) × (rank_at b from ≡ Some r) × IsCalled b s.me from r message
 IsPending b s (by.Server from) message = ⊥
 
@@ -134,11 +136,13 @@ IsPending b s (by.Server from) message = ⊥
 -- the bag in order, and the bag agrees afterwards
 abbrev pub StepsAreLegal : Type 0
 StepsAreLegal =
-    (b : Bag) (s : State) (from : Actor) (letter : Letter) (x : Served) → Agrees b s → IsAlone b s → IsPending b s from letter.message → serve s from letter ≡ Some x
-    → (next : Bag) × IsRun b x.entries next × Agrees next x.state × IsAlone next x.state
+    (b : Bag) (s : ServerModel) (from : Actor) (letter : Letter) (x : Served) → ServerAgrees b s → IsAlone b s
+    → IsPending b s from letter.message → serve s from letter ≡ Some x
+    → (next : Bag) × IsRun b x.entries next × ServerAgrees next x.state × IsAlone next x.state
 
 -- at the start of a run the bag agrees with each server, and with one rank and one server nothing else is there
 abbrev pub StartAgrees : Type 0
 StartAgrees =
     (config : Config) (me : Server) → me.0 < config.servers
-    → Agrees (empty_bag config) (start config me) × (config.ranks ≡ 1 → config.servers ≡ 1 → IsAlone (empty_bag config) (start config me))
+    → ServerAgrees (empty_bag config) (start config me) × (config.ranks ≡ 1 → config.servers ≡ 1
+    → IsAlone (empty_bag config) (start config me))

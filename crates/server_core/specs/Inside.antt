@@ -1,10 +1,11 @@
 -- The fields of a server.
-use Rattle.std.specs.Prelude.{◌≡◌, ◌⊎◌, ◌+◌, ◌<◌, ◌≤◌, ◌^◌, [], ◌∷◌, length, true, All}
+use Rattle.std.specs.Prelude.{◌≡◌, ◌⊎◌, ◌+◌, ◌<◌, ◌≤◌, [], ◌∷◌, length, true, All}
+use Rattle.adlb_unit.specs.Limits.{stamp_limit}
 use Rattle.server_core.specs.declared.standings.Standing.TheVariants.{Running, Finished}
 use Rattle.server_core.specs.declared.states.ServerState.TheInside.{Inside}
-use Rattle.server_core.specs.State.{State}
+use Rattle.server_core.specs.State.{ServerModel}
 
-abbrev pub state_of : Inside → State
+abbrev pub state_of : Inside → ServerModel
 state_of i = record {
   config = i.config;
   me = i.me;
@@ -22,10 +23,10 @@ state_of i = record {
 
 -- where this is the only server: the only rank runs, or it has finished and the server is shut. Where there are several, nothing
 -- follows an event
-abbrev pub IsSettled : State → Type 0
+abbrev pub IsSettled : ServerModel → Type 0
 IsSettled s = s.config.servers ≡ 1 → (s.ranks ≡ Running ∷ []) ⊎ ((s.ranks ≡ Finished ∷ []) × (s.shut ≡ true))
 
-pub record IsSound (s : State) : Type 0 where
+pub record IsSound (s : ServerModel) : Type 0 where
   pub one_rank : s.config.ranks ≡ 1
   pub there : s.me.0 < s.config.servers
   pub settled : IsSettled s
@@ -36,12 +37,12 @@ pub record IsSound (s : State) : Type 0 where
   pub arrivals : s.queue.arrivals ≤ s.clock
   pub activity : s.activity ≤ s.clock
   pub sent : All (λ n. n ≤ s.clock) s.sent
-  pub clock : s.clock < 2 ^ 48
+  pub clock : s.clock < stamp_limit
 
 abbrev pub IsInside : Inside → Type 0
 IsInside i = IsSound (state_of i)
 
 -- in an event that has not brought a unit and has not sent a letter
-pub record IsFresh (s : State) : Type 0 where
+pub record IsFresh (s : ServerModel) : Type 0 where
   pub arrivals : s.queue.arrivals < s.clock
   pub sent : All (λ n. n < s.clock) s.sent

@@ -1,7 +1,6 @@
 -- What a server keeps.
-use Rattle.std.specs.Prelude.{ℕ, ◌+◌, ◌%◌, ◌==◌, Bool, false, List, [], Option, None, replicate, slice_index_or}
-use Rattle.adlb_unit.specs.declared.actors.Actor.{Actor}
-use Rattle.adlb_unit.specs.declared.actors.Actor.TheVariants as by
+use Rattle.std.specs.Prelude.{ℕ, ◌+◌, ◌==◌, Bool, false, List, [], Option, None, replicate, slice_index_or}
+use Rattle.adlb_unit.specs.Targets.{home_of}
 use Rattle.adlb_unit.specs.declared.configs.Config.{Config}
 use Rattle.adlb_unit.specs.declared.names.Rank.{Rank}
 use Rattle.adlb_unit.specs.declared.names.Server.{Server}
@@ -10,7 +9,7 @@ use Rattle.work_queue.specs.Queue.{Queue}
 use Rattle.server_core.specs.declared.standings.Standing.{Standing}
 use Rattle.server_core.specs.declared.standings.Standing.TheVariants.{Running}
 
-pub record State : Type 0 where
+pub record ServerModel : Type 0 where
   pub config : Config
   pub me : Server
   pub queue : Queue
@@ -31,19 +30,14 @@ pub record State : Type 0 where
   -- what broke the server, if anything did
   pub trouble : Option Trouble
 
--- the number of an actor among all
-abbrev pub place_of : Config → Actor → ℕ
-place_of config (by.Rank rank) = rank.0
-place_of config (by.Server server) = config.ranks + server.0
-
-abbrev pub standing : State → Rank → Standing
+abbrev pub standing : ServerModel → Rank → Standing
 standing s rank = slice_index_or s.ranks rank.0 Running
 
 -- the server is the rank's home
-abbrev pub is_home : State → Rank → Bool
-is_home s rank = (rank.0 % s.config.servers) == s.me.0
+abbrev pub is_home : ServerModel → Rank → Bool
+is_home s rank = home_of s.config.servers rank == s.me.0
 
-abbrev pub start : Config → Server → State
+abbrev pub start : Config → Server → ServerModel
 start config me = record {
   config = config;
   me = me;

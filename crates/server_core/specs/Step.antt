@@ -1,7 +1,9 @@
 -- One step of a server: the rule of its letter, what follows each event, and the stamps and places of what it sends.
-use Rattle.std.specs.Prelude.{ℕ, ◌+◌, ◌^◌, ◌==◌, max, nat_lt, Bool, true, false, ◌&&◌, ◌||◌, not, List, [], ◌∷◌, ◌++◌, map, slice_index_or, slice_set, Option, None, is_some, if◌then◌else◌}
+use Rattle.std.specs.Prelude.{ℕ, ◌+◌, ◌==◌, nat_lt, Bool, true, false, ◌&&◌, ◌||◌, not, List, [], ◌∷◌, ◌++◌, map, slice_index_or, slice_set, Option, None, is_some, if◌then◌else◌}
 use Rattle.std.specs.List.{list_any}
 use Rattle.std.specs.Option.{option_map}
+use Rattle.adlb_unit.specs.Limits.{stamp_limit}
+use Rattle.adlb_unit.specs.Links.{place_of, sending, stamp_after}
 use Rattle.adlb_unit.specs.declared.actors.Actor.{Actor}
 use Rattle.adlb_unit.specs.declared.actors.Actor.TheVariants as by
 use Rattle.adlb_unit.specs.declared.letters.Letter.{Letter}
@@ -15,40 +17,40 @@ use Rattle.bag_ledger.specs.declared.entries.Entry.{Entry}
 use Rattle.bag_ledger.specs.declared.entries.Entry.TheVariants as enters
 use Rattle.server_core.specs.declared.standings.Standing.{Standing}
 use Rattle.server_core.specs.declared.standings.Standing.TheVariants as does
-use Rattle.server_core.specs.Rules.{Response, Saying, best_unit, is_running, respond, to_rank}
-use Rattle.server_core.specs.State.{State, place_of}
+use Rattle.server_core.specs.Rules.{ServerResponse, Saying, best_unit, is_running, respond, to_rank}
+use Rattle.server_core.specs.State.{ServerModel}
 
 -- what a letter makes of the server, the letters that it sends, and its entries
 pub record Served : Type 0 where
-  pub state : State
+  pub state : ServerModel
   pub sends : List Sending
   pub entries : List Entry
 
 -- Stamps and places.
 
--- one more than the greater of the last stamp and the letter's
-abbrev pub next_stamp : State → Letter → ℕ
-next_stamp s letter = max s.clock letter.stamp + 1
+-- the stamp of the event that handles the letter
+abbrev pub next_stamp : ServerModel → Letter → ℕ
+next_stamp s letter = stamp_after s.clock letter
 
 -- the event has its stamp
-abbrev pub ticked : State → ℕ → State
+abbrev pub ticked : ServerModel → ℕ → ServerModel
 ticked s stamp = record s { clock = stamp; activity = s.activity + 1 }
 
 -- the number of letters that went to the actor
-abbrev pub sent_to : State → Actor → ℕ
+abbrev pub sent_to : ServerModel → Actor → ℕ
 sent_to s to = slice_index_or s.sent (place_of s.config to) 0
 
-abbrev pub counted : State → Actor → State
+abbrev pub counted : ServerModel → Actor → ServerModel
 counted s to = record s { sent = slice_set s.sent (place_of s.config to) (sent_to s to + 1) }
 
-abbrev pub posted : State → Saying → Sending
-posted s x = record { to = x.to; letter = record { stamp = s.clock; place = sent_to s x.to; message = x.message } }
+abbrev pub posted : ServerModel → Saying → Sending
+posted s x = sending s.clock (sent_to s x.to) x.to x.message
 
 abbrev pub post : Served → List Saying → Served
 post x [] = x
 post x (y ∷ says) = post (record x { state = counted x.state y.to; sends = x.sends ++ posted x.state y ∷ [] }) says
 
-abbrev pub served : Response → Served
+abbrev pub served : ServerResponse → Served
 served x = post (record { state = x.state; sends = []; entries = x.entries }) x.says
 
 -- After each event, with one server.
@@ -68,11 +70,11 @@ waiting_from number (does.Running ∷ ranks) = waiting_from (number + 1) ranks
 waiting_from number (does.Finished ∷ ranks) = waiting_from (number + 1) ranks
 
 -- each rank waits or has finished
-abbrev pub is_quiet : State → Bool
+abbrev pub is_quiet : ServerModel → Bool
 is_quiet s = not (list_any is_running s.ranks)
 
 -- a free unit is permitted to the rank
-abbrev pub fits : State → Waiting → Bool
+abbrev pub fits : ServerModel → Waiting → Bool
 fits s w = is_some (best_unit w.rank w.types s.queue.units)
 
 abbrev pub resumed : Standing → Standing
@@ -105,9 +107,9 @@ after_event x = if (x.state.config.servers == 1) && is_quiet x.state then verdic
 -- The step.
 
 -- nothing where the letter is not expected: from a rank of this run, with a stamp that was given, as its rule says
-abbrev pub serve : State → Actor → Letter → Option Served
+abbrev pub serve : ServerModel → Actor → Letter → Option Served
 serve s (by.Rank from) letter =
-    if nat_lt from.0 s.config.ranks && nat_lt letter.stamp (2 ^ 48)
+    if nat_lt from.0 s.config.ranks && nat_lt letter.stamp stamp_limit
     then option_map (λ x. after_event (served x)) (respond (ticked s (next_stamp s letter)) from letter.message)
     else None
 serve s (by.Server from) letter = None

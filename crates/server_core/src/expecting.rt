@@ -2,13 +2,13 @@
 
 ghost use Rattle.std.specs.Prelude.{◌≡◌, ◌≢◌, ◌<◌, ◌↔◌, All, IsTrue, IsSome, false};
 ghost use Rattle.adlb_unit.specs.declared.messages.Message.{Message};
-ghost use Rattle.server_core.specs.Expected.{Aims, IsAwaited, IsExpected, IsHome, IsNew, Runs};
+ghost use Rattle.server_core.specs.Expected.{IsAwaited, IsExpected, IsHome, IsNew, Runs};
 ghost use Rattle.server_core.specs.Rules.{is_finished};
 ghost use Rattle.server_core.specs.Step.{serve};
 ghost use Rattle.work_queue.specs.Queue.{HasNoPromise, HasNoUnit, HasPinned};
 
 use crate::states::ServerState;
-use adlb_unit::{Actor, Letter, Message, Rank, Target, Unit, UnitId};
+use adlb_unit::{Actor, BODY_LIMIT, Letter, Message, Rank, STAMP_LIMIT, Unit, UnitId};
 
 impl ServerState {
     /// The letter is expected (`IsExpected`): it comes from a rank of the run, its stamp is below `2^48`, and the row of
@@ -20,7 +20,7 @@ impl ServerState {
         match from {
             Actor::Rank(from) => {
                 from.0 < self.config.ranks
-                    && letter.stamp < 1 << 48
+                    && letter.stamp < STAMP_LIMIT
                     && self.awaits(from, &letter.message)
             }
             Actor::Server(_) => false,
@@ -47,8 +47,8 @@ impl ServerState {
     {
         unit.id.rank.0 == from.0
             && self.is_unknown(unit.id)
-            && unit.body.len() <= 1 << 20
-            && self.has_target(unit.target)
+            && unit.body.len() <= BODY_LIMIT
+            && self.config.has_target(unit.target)
     }
 
     // No unit and no promise of the id is here.
@@ -56,16 +56,6 @@ impl ServerState {
         ensures { IsTrue result ↔ (HasNoUnit id self.now.queue.units × HasNoPromise id self.now.queue.promises) }
     {
         !self.queue.has_unit(id) && self.queue.promised(id).is_none()
-    }
-
-    // The target is any or a rank of the run.
-    fn has_target(&self, target: Target) -> bool
-        ensures { IsTrue result ↔ Aims target self.now.config.ranks }
-    {
-        match target {
-            Target::Any => true,
-            Target::Only(rank) | Target::Soft(rank) => rank.0 < self.config.ranks,
-        }
     }
 
     // The unit is here and pinned to the rank.

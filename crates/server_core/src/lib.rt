@@ -4,7 +4,7 @@
 //! `specs/State.antt` is what contracts see of a server, `specs/Rules.antt` has the rule of each letter,
 //! `specs/Step.antt` the step with what follows each event, and `specs/Agreement.antt` which part of the bag of units
 //! a server stands for; `server_laws` states that the entries of a step are steps of the bag. `specs/Expected.antt` says
-//! which letters have a step. So far there is one rank, and any number of servers.
+//! which letters have a step. The code serves one rank, among any number of servers.
 #![tactic(auto)]
 
 mod expecting;

@@ -4,7 +4,7 @@ ghost use Rattle.std.specs.Prelude.{◌≡◌, ◌≢◌, ◌<◌, ◌++◌, ◌
 ghost use Rattle.server_core.specs.Inside.{IsFresh};
 ghost use Rattle.server_core.specs.Out.{Out, made, nothing};
 ghost use Rattle.server_core.specs.Rules.{expects_reserve, grant, reserve_now, to_rank};
-ghost use Rattle.server_core.specs.State.{State};
+ghost use Rattle.server_core.specs.State.{ServerModel};
 ghost use Rattle.server_core.specs.Step.{after_event, counted, posted, served};
 ghost use Rattle.work_queue.specs.Queue.{HasFree, id_of};
 

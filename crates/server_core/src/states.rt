@@ -1,14 +1,15 @@
 //! What a server keeps.
 
-ghost use Rattle.std.specs.Prelude.{◌≡◌, ◌<◌, ◌+◌, ◌^◌, ◌∷◌, [], ◌↔◌, length, map, All, IfOk, IsTrue, slice_index_or};
+ghost use Rattle.std.specs.Prelude.{◌≡◌, ◌<◌, ◌+◌, ◌∷◌, [], ◌↔◌, length, map, All, IfOk, IsTrue, slice_index_or};
 ghost use Rattle.std.specs.Vec.{vec_len};
+ghost use Rattle.adlb_unit.specs.Limits.{stamp_limit};
 ghost use Rattle.server_core.specs.Inside.{IsFresh, IsSettled};
 ghost use Rattle.server_core.specs.Out.{Out};
 ghost use Rattle.server_core.specs.Rules.{Saying, is_running};
 ghost use Rattle.server_core.specs.Left.{left_of};
 ghost use Rattle.server_core.specs.Expected.{IsHome, Runs};
 ghost use Rattle.server_core.specs.Quiet.{IsQuiet};
-ghost use Rattle.server_core.specs.State.{State, is_home, standing, start};
+ghost use Rattle.server_core.specs.State.{ServerModel, is_home, standing, start};
 ghost use Rattle.server_core.specs.Step.{counted, posted, ticked};
 
 use crate::outgoing::Outgoing;
@@ -45,9 +46,9 @@ pub struct ServerState {
 }
 
 impl Model for ServerState {
-    ghost use Rattle.server_core.specs.State.{State};
+    ghost use Rattle.server_core.specs.State.{ServerModel};
 
-    ghost Value = { State };
+    ghost Value = { ServerModel };
 
     ghost use Rattle.server_core.specs.Inside.{state_of, IsInside};
 
@@ -57,7 +58,7 @@ impl Model for ServerState {
 }
 
 impl ServerState {
-    /// One of the servers of a run at its start. So far the run has one rank. It fails for want of memory alone.
+    /// One of the servers of a run of one rank, at its start. Its only error is `NoMemory`.
     pub fn new(alloc: Global, config: Config, me: Server) -> Result<ServerState, NoMemory>
         requires one_rank { config.ranks ≡ 1 }
         requires me { me.0 < config.servers }
@@ -115,7 +116,7 @@ impl ServerState {
         true
     }
 
-    /// The units that are here, in arrival order. It fails for want of memory alone.
+    /// The units that are here, in arrival order. Its only error is `NoMemory`.
     pub fn left(&self) -> Result<Vec<LeftUnit>, NoMemory>
         ensures { IfOk result (λ left. left.items ≡ left_of self.now) }
     {
@@ -161,7 +162,7 @@ impl ServerState {
     // The event has this stamp.
     pub(crate) fn tick(&mut self, stamp: u64)
         requires rises { self.old.clock < stamp }
-        requires within { stamp < 2 ^ 48 }
+        requires within { stamp < stamp_limit }
         ensures ticked { self.new ≡ ticked self.old stamp }
         ensures fresh { IsFresh self.new }
         ensures settled { IsSettled self.new }

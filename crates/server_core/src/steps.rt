@@ -1,6 +1,7 @@
 //! One step of a server.
 
-ghost use Rattle.std.specs.Prelude.{◌≡◌, ◌≤◌, ◌<◌, ◌^◌, ℕ, ◌↔◌, None, Some, Err, IsSome, IfOk, IfErr, OnOk, OnErr, slice_set, true, if◌then◌else◌};
+ghost use Rattle.std.specs.Prelude.{◌≡◌, ◌≤◌, ◌<◌, ℕ, ◌↔◌, None, Some, Err, IsSome, IfOk, IfErr, OnOk, OnErr, slice_set, true, if◌then◌else◌};
+ghost use Rattle.adlb_unit.specs.Limits.{stamp_limit};
 ghost use Rattle.server_core.specs.Inside.{IsFresh, IsSettled};
 ghost use Rattle.server_core.specs.Out.{made, nothing};
 ghost use Rattle.server_core.specs.Rules.{respond};
@@ -9,7 +10,7 @@ ghost use Rattle.std.specs.Option.{option_map};
 
 use crate::outgoing::Outgoing;
 use crate::states::ServerState;
-use adlb_unit::{Actor, Letter, Message, NoMemory, Rank, Sending, Trouble};
+use adlb_unit::{Actor, Letter, Message, NoMemory, Rank, STAMP_LIMIT, Sending, Trouble};
 use bag_ledger::Entry;
 
 /// What a step gave: its stamp, the letters that go out, and the entries for the ledger, each in order.
@@ -22,15 +23,15 @@ pub struct Step {
 
 impl ServerState {
     /// Handles a letter, as `serve` says. The server is not broken, and the letter is expected. It fails with `TooLong`
-    /// exactly where the event's stamp would reach `2^48`, which is tested first, and else for want of memory alone;
-    /// then the server is broken, and a Finish letter counts as handled.
+    /// exactly when the event's stamp would reach `2^48`, which is tested first; its only other error is `Memory`. After a
+    /// failure the server is broken, and a Finish letter counts as handled.
     pub fn step(&mut self, from: Actor, letter: Letter) -> Result<Step, Trouble>
         requires whole { self.old.trouble ≡ None }
         requires expected { IsSome (serve self.old from letter) }
 
         ensures served { IfOk result (λ step. serve self.old from letter ≡ Some (record { state = self.new; sends = step.sends.items; entries = step.entries.items })) }
         ensures stamp { IfOk result (λ step. step.stamp ≡ next_stamp self.old letter) }
-        ensures too_long { (n : ℕ) → (result ≡ Err (Trouble.TooLong n)) ↔ ((2 ^ 48 ≤ next_stamp self.old letter) × (n ≡ next_stamp self.old letter)) }
+        ensures too_long { (n : ℕ) → (result ≡ Err (Trouble.TooLong n)) ↔ ((stamp_limit ≤ next_stamp self.old letter) × (n ≡ next_stamp self.old letter)) }
 
         // What stands after a failure.
         ensures broken { IfErr result (λ trouble. self.new.trouble ≡ Some trouble) }
@@ -41,7 +42,7 @@ impl ServerState {
         };
         let finishes = matches!(letter.message, Message::Finish);
         let stamp = self.clock.max(letter.stamp) + 1;
-        if stamp >= 1 << 48 {
+        if stamp >= STAMP_LIMIT {
             return Err(self.fail(from, finishes, Trouble::TooLong { stamp }));
         }
         let Ok(mut out) = Outgoing::new(self.alloc) else {

@@ -1,8 +1,8 @@
 use Rattle.std.proofs.Common.{◌≡◌, not}
 use Rattle.std.specs.Vec.{vec_capacity}
 use Rattle.std.proofs.lemmas.List.Filters.{FiltersInPlace}
-use Rattle.adlb_unit.specs.declared.notes.UnitNote.{UnitNote}
 use Rattle.adlb_unit.specs.Ids.{same_unit}
+use Rattle.adlb_unit.specs.declared.notes.UnitNote.{UnitNote}
 use Rattle.rank_client.proofs.calls.drop_note.Given as goal
 
 abbrev pub invariant-loop-at : goal.invariant-loop-at

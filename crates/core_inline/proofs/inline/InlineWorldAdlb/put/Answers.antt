@@ -1,5 +1,5 @@
 use Rattle.std.proofs.Common.{subst}
-use Rattle.rank_client.specs.Calls.{Aims}
+use Rattle.adlb_unit.specs.Targets.{Aims}
 use Rattle.core_inline.proofs.inline.InlineWorldAdlb.put.Goals as goal
 
 pub invariant_of-self : goal.invariant_of-self

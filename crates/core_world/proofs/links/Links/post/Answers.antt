@@ -1,6 +1,6 @@
 use Rattle.std.proofs.Common.{◌≡◌, [], ◌∷◌, ◌++◌, ap, sym, ◌∙◌, length, arith, List}
+use Rattle.adlb_unit.specs.Links.{place_of}
 use Rattle.adlb_unit.specs.declared.letters.Sending.{Sending}
-use Rattle.server_core.specs.State.{place_of}
 use Rattle.core_run.specs.World.{Links, link, post, put_link}
 use Rattle.core_world.proofs.Posting.{none_left, post_none, post_one}
 use Rattle.core_world.proofs.links.Links.post.Goals as goal

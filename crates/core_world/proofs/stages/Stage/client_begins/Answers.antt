@@ -2,7 +2,7 @@ use Rattle.std.proofs.Common.{◌≡◌, Some, ap, sym, ◌∙◌}
 use Rattle.std.proofs.lemmas.Result.{IfOk-weaker}
 use Rattle.rank_client.specs.declared.steps.ClientStep.{ClientStep}
 use Rattle.rank_client.specs.Inside.{gives}
-use Rattle.rank_client.specs.State.{State as Client}
+use Rattle.rank_client.specs.State.{ClientModel}
 use Rattle.rank_client.specs.Step.{begin}
 use Rattle.core_run.specs.World.{World, client_of}
 use Rattle.core_world.specs.Stage.{with_client}
@@ -17,4 +17,4 @@ returns-clause-begun c =
     let at : client ≡ client_of w c.args.rank = found_client c.self.inside w c.args.rank client c.self.view_is c.self.invariant c.requires.there c.index_mut-client.ensures.value in
     let P : ClientStep → Type 0 = λ x. begin client c.args.call ≡ Some (gives s x) in
     IfOk-weaker c.begin.result P _
-    (λ x begun. (s, ap (λ (k : Client). begin k c.args.call) (sym at) ∙ begun, ap (λ (v : World). with_client v c.args.rank s) c.self.view_is)) c.begin.ensures.begun
+    (λ x begun. (s, ap (λ (k : ClientModel). begin k c.args.call) (sym at) ∙ begun, ap (λ (v : World). with_client v c.args.rank s) c.self.view_is)) c.begin.ensures.begun

@@ -2,7 +2,7 @@ use Rattle.std.proofs.Common.{◌≡◌, ◌<◌, ◌^◌, Some, ap, sym, ◌∙
 use Rattle.std.proofs.lemmas.Result.{IfErr-weaker, IfOk-weaker, on_ok_weaker}
 use Rattle.adlb_unit.specs.declared.notes.Trouble.{Trouble}
 use Rattle.server_core.specs.declared.steps.Step.{Step}
-use Rattle.server_core.specs.State.{State as Pool}
+use Rattle.server_core.specs.State.{ServerModel}
 use Rattle.server_core.specs.Step.{next_stamp, serve}
 use Rattle.core_run.specs.World.{World, pool_of}
 use Rattle.core_world.specs.Applied.{Causes}
@@ -18,14 +18,14 @@ returns-clause-served c =
     let at : pool ≡ pool_of w c.args.server = found_pool c.self.inside w c.args.server pool c.self.view_is c.self.invariant c.requires.there c.index_mut-server.ensures.value in
     let P : Step → Type 0 = λ x. serve pool c.args.from c.args.letter ≡ Some (record { state = s; sends = x.sends.items; entries = x.entries.items }) in
     IfOk-weaker c.step.result P _
-    (λ x served. (s, ap (λ (k : Pool). serve k c.args.from c.args.letter) (sym at) ∙ served, ap (λ (v : World). with_server v c.args.server s) c.self.view_is)) c.step.ensures.served
+    (λ x served. (s, ap (λ (k : ServerModel). serve k c.args.from c.args.letter) (sym at) ∙ served, ap (λ (v : World). with_server v c.args.server s) c.self.view_is)) c.step.ensures.served
 
 pub returns-clause-stamp : goal.returns-clause-stamp
 returns-clause-stamp c =
     let w = c.args.self.now in
     let pool = c.index_mut-server.result.now in
     let at : pool ≡ pool_of w c.args.server = found_pool c.self.inside w c.args.server pool c.self.view_is c.self.invariant c.requires.there c.index_mut-server.ensures.value in
-    on_ok_weaker c.step.result (λ early. subst (λ (k : Pool). next_stamp k c.args.letter < 2 ^ 48) at early)
+    on_ok_weaker c.step.result (λ early. subst (λ (k : ServerModel). next_stamp k c.args.letter < 2 ^ 48) at early)
     (step_on_time c.step.result (next_stamp pool c.args.letter) c.step.ensures.too_long)
 
 pub returns-clause-cause : goal.returns-clause-cause
@@ -34,7 +34,7 @@ returns-clause-cause c =
     let pool = c.index_mut-server.result.now in
     let at : pool ≡ pool_of w c.args.server = found_pool c.self.inside w c.args.server pool c.self.view_is c.self.invariant c.requires.there c.index_mut-server.ensures.value in
     IfErr-weaker c.step.result (Causes (next_stamp pool c.args.letter)) (Causes (next_stamp (pool_of w c.args.server) c.args.letter))
-    (λ t caused. subst (λ (k : Pool). Causes (next_stamp k c.args.letter) t) at caused)
+    (λ t caused. subst (λ (k : ServerModel). Causes (next_stamp k c.args.letter) t) at caused)
     (step_causes c.step.result (next_stamp pool c.args.letter) c.step.ensures.too_long)
 
 pub returns-clause-failed : goal.returns-clause-failed

@@ -1,21 +1,21 @@
 use Rattle.std.proofs.Common.{◌<◌, ◌≤◌, ◌+◌, arith, subst, sym, ◌∙◌}
 use Rattle.std.specs.Vec.{vec_len, vec_capacity}
 use Rattle.rank_client.specs.Inside.{HasRoom, IsFresh, state_of}
-use Rattle.rank_client.specs.State.{State}
+use Rattle.rank_client.specs.State.{ClientModel}
 use Rattle.rank_client.proofs.Insides.{asked_sound, awaited_few, first_letter, on_ok, room_with}
 use Rattle.rank_client.proofs.clients.ClientCore.ask.Goals as goal
 
 pub write-requires-clause-first : goal.write-requires-clause-first
 write-requires-clause-first c =
     let fresh : IsFresh (state_of c.self.inside) = subst IsFresh (sym c.self.view_is) c.requires.fresh in
-    let there : c.args.to.0 < c.self.inside.config.servers = subst (λ (s : State). c.args.to.0 < s.config.servers) (sym c.self.view_is) c.requires.server in
+    let there : c.args.to.0 < c.self.inside.config.servers = subst (λ (s : ClientModel). c.args.to.0 < s.config.servers) (sym c.self.view_is) c.requires.server in
     first_letter (state_of c.self.inside) c.args.to.0 c.self.invariant.sound fresh there
 
 pub invariant_of-self-2 : goal.invariant_of-self-2
 invariant_of-self-2 c =
     let fresh : IsFresh (state_of c.self.inside) = subst IsFresh (sym c.self.view_is) c.requires.fresh in
-    let there : c.args.to.0 < c.self.inside.config.servers = subst (λ (s : State). c.args.to.0 < s.config.servers) (sym c.self.view_is) c.requires.server in
-    let room : HasRoom c.self.inside.config 0 1 c.args.room c.args.pending = subst (λ (s : State). HasRoom s.config 0 1 c.args.room c.args.pending) (sym c.self.view_is) c.requires.room in
+    let there : c.args.to.0 < c.self.inside.config.servers = subst (λ (s : ClientModel). c.args.to.0 < s.config.servers) (sym c.self.view_is) c.requires.server in
+    let room : HasRoom c.self.inside.config 0 1 c.args.room c.args.pending = subst (λ (s : ClientModel). HasRoom s.config 0 1 c.args.room c.args.pending) (sym c.self.view_is) c.requires.room in
     let more = on_ok {P = vec_len c.reserve-else-is_err.new.self + 1 ≤ vec_capacity c.reserve-else-is_err.new.self} c.reserve-else-is_err.result (sym c.is_err-else-is_err.ensures.value ∙ c.if-is_err-2.false) c.reserve-else-is_err.ensures.ok in
     let two = on_ok {P = vec_len c.reserve.new.self + 2 ≤ vec_capacity c.reserve.new.self} c.reserve.result (sym c.is_err.ensures.value ∙ c.if-is_err.false) c.reserve.ensures.ok in
     record {

@@ -1,7 +1,7 @@
 use Rattle.std.proofs.Common.{arith, ap, subst, sym, ◌∙◌}
 use Rattle.std.specs.Vec.{vec_len, vec_capacity}
 use Rattle.rank_client.specs.Inside.{IsSound, gives, state_of}
-use Rattle.rank_client.specs.State.{State}
+use Rattle.rank_client.specs.State.{ClientModel}
 use Rattle.rank_client.proofs.Insides.{fetched_gives, fewer_notes, held_server, room_fewer}
 use Rattle.rank_client.proofs.clients.ClientCore.fetch.Goals as goal
 
@@ -26,5 +26,5 @@ invariant_of-self c = record {
 
 pub returns-clause-ok : goal.returns-clause-ok
 returns-clause-ok c =
-    let asked = c.in_ok-step.ensures.ok ∙ ap (λ (s : State). gives s c.in_ok-step.step) (sym c.self-2.view_is) in
+    let asked = c.in_ok-step.ensures.ok ∙ ap (λ (s : ClientModel). gives s c.in_ok-step.step) (sym c.self-2.view_is) in
     fetched_gives c.args.self.now (state_of c.self.inside) (state_of c.self-2.inside) c.args.id c.args.note c.in_ok-step.step _ c.self.view_is asked c.drop_note.ensures.items

@@ -4,14 +4,14 @@ use Rattle.std.specs.Vec.{vec_len, vec_capacity}
 use Rattle.rank_client.specs.declared.pendings.Pending.{Pending}
 use Rattle.rank_client.specs.Inside.{HasRoom, IsFresh, awaited, state_of}
 use Rattle.rank_client.specs.Rules.{answer_call}
-use Rattle.rank_client.specs.State.{State}
+use Rattle.rank_client.specs.State.{ClientModel}
 use Rattle.rank_client.proofs.Awaited.{granted_server, granted_sound}
 use Rattle.rank_client.proofs.clients.ClientCore.hear_reserve.Goals as goal
 
 pub invariant_of-self-in-Grant : goal.invariant_of-self-in-Grant
 invariant_of-self-in-Grant c =
     let fresh : IsFresh (state_of c.self.inside) = subst IsFresh (sym c.self.view_is) c.requires.fresh in
-    let expected = subst (λ (s : State). IsSome (answer_call s s.pending c.args.from c.args.message)) (sym c.self.view_is) c.requires.expected in
+    let expected = subst (λ (s : ClientModel). IsSome (answer_call s s.pending c.args.from c.args.message)) (sym c.self.view_is) c.requires.expected in
     let pending = sym c.replace.ensures.value ∙ c.in-Reserve.is in
     let there = granted_server (state_of c.self.inside) c.self.inside.pending _ _ c.args.from c.args.message c.in-Grant.request c.in-Grant.note pending c.in-Grant.is expected in
     record {
@@ -29,7 +29,7 @@ invariant_of-self-in-Grant c =
 pub invariant_of-self : goal.invariant_of-self
 invariant_of-self c =
     let fresh : IsFresh (state_of c.self.inside) = subst IsFresh (sym c.self.view_is) c.requires.fresh in
-    let expected = subst (λ (s : State). IsSome (answer_call s s.pending c.args.from c.args.message)) (sym c.self.view_is) c.requires.expected in
+    let expected = subst (λ (s : ClientModel). IsSome (answer_call s s.pending c.args.from c.args.message)) (sym c.self.view_is) c.requires.expected in
     let pending = sym c.replace.ensures.value ∙ c.in-Reserve.is in
     let there = granted_server (state_of c.self.inside) c.self.inside.pending _ _ c.args.from c.args.message c.in-Grant.request c.in-Grant.note pending c.in-Grant.is expected in
     record {
