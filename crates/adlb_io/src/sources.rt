@@ -1,6 +1,6 @@
 //! Sources of bytes.
 
-ghost use Rattle.std.specs.Prelude.{◌≡◌, ◌≤◌, List, ℕ, length, Option, IfOk, OnErr};
+ghost use Rattle.std.specs.Prelude.{◌≡◌, ◌≤◌, List, ℕ, length, Option, IfOk, OnOk, OnErr};
 ghost use Rattle.adlb_io.specs.Outside.{Gives, Rises};
 
 use std::error::Error;
@@ -27,12 +27,13 @@ pub trait Source {
     ghost faults: { Self → ℕ };
 
     /// Puts some of the bytes that are left to the front of the room, and answers how many. It answers 0 only at the end, or for
-    /// a room without place. `Failed` comes only where the count of faults rose (or stands at its last value), and changes nothing
-    /// of what is left.
+    /// a room without place. `Failed` comes only if the count of faults rose (or stands at its last value), and changes nothing
+    /// of what is left. Otherwise the count stays.
     fn read(&mut self, room: &mut [u8]) -> Result<usize, Failed>
         ensures bound { IfOk result (λ n. n ≤ length room.old) }
         ensures given { IfOk result (λ n. Gives (left self.old) (left self.new) room.new n) }
         ensures refused { OnErr result (left self.new ≡ left self.old) }
+        ensures counted { OnOk result (faults self.new ≡ faults self.old) }
         ensures later { faults self.old ≤ faults self.new }
         ensures cause { OnErr result (Rises (faults self.old) (faults self.new)) };
 }

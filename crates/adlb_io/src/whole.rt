@@ -8,11 +8,12 @@ use crate::sinks::{Sink, SinkFault};
 use crate::sources::{Failed, Source};
 
 /// Reads until the room is full or the source is at its end, and answers how many bytes were read. It takes no more
-/// of the source than the room has place for. `Failed` comes only where the source's count of faults rose (or stands
-/// at its last value).
+/// of the source than the room has place for. `Failed` comes only if the source's count of faults rose (or stands at its
+/// last value). Otherwise no read failed, and the count stays.
 pub fn fill<S: Source>(source: &mut S, room: &mut [u8]) -> Result<usize, Failed>
     ensures bound { IfOk result (λ n. n ≤ length room.old) }
     ensures filled { IfOk result (λ n. Fills (S.left source.old) (S.left source.new) room.new n) }
+    ensures counted { OnOk result (S.faults source.new ≡ S.faults source.old) }
     ensures later { S.faults source.old ≤ S.faults source.new }
     ensures cause { OnErr result (Rises (S.faults source.old) (S.faults source.new)) }
 {

@@ -1,6 +1,0 @@
-pub mod Ends
-pub mod Input
-pub mod Kept
-pub mod Top
-pub mod Words
-pub mod Written

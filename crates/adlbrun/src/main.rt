@@ -1,20 +1,13 @@
 //! The program `adlbrun`: reads a puzzle, works its boards through a queue of units, and writes all its solutions.
 //!
-//! `top::run_adlb` is the whole of it over any source and sink; `main` hands it standard input and output.
+//! It hands the words of its command line, standard input and standard output to `run_adlb` of `adlb_command`, tells the fault on
+//! standard error, if there is one, and ends with the status. Nothing is proved of `main`.
 #![tactic(auto)]
 
-mod ends;
-mod inline;
-mod programs;
-mod reading;
-#[cfg(test)]
-mod tests;
-mod top;
-mod words;
-mod writing;
-
+use adlb_command::{RunEnd, RunFault, run_adlb};
 use adlb_io::{StdinSource, StdoutSink};
 use std::env;
+use std::io::ErrorKind;
 use std::process::ExitCode;
 
 fn main(rt: HostRuntime) -> ExitCode {
@@ -22,9 +15,9 @@ fn main(rt: HostRuntime) -> ExitCode {
         Ok(words) => {
             let mut input = StdinSource::new(rt.clone().unwrap());
             let mut output = StdoutSink::new(rt.clone().unwrap());
-            top::run_adlb(rt.alloc(), words.as_slice(), &mut input, &mut output)
+            run_adlb(rt.alloc(), words.as_slice(), &mut input, &mut output)
         }
-        Err(fault) => ends::RunEnd::new(Some(fault), None),
+        Err(fault) => RunEnd::new(Some(fault), None),
     };
     if let Some(fault) = end.fault {
         let _ = eprintln!(&rt; "adlbrun: {fault}");
@@ -32,16 +25,18 @@ fn main(rt: HostRuntime) -> ExitCode {
     ExitCode::from(end.status)
 }
 
-// The words of the command line, without the program's name.
-fn words_of(rt: &HostRuntime) -> Result<Vec<String>, ends::RunFault> {
-    let mut words = Vec::new(rt.alloc());
-    let Ok(mut given) = env::args(rt) else {
-        return Err(ends::RunFault::Memory);
+// The words of the command line, without the program's name. A word that is not UTF-8 is refused.
+fn words_of(rt: &HostRuntime) -> Result<Vec<String>, RunFault> {
+    let mut given = match env::args(rt) {
+        Ok(given) => given,
+        Err(error) if error.kind() == ErrorKind::OutOfMemory => return Err(RunFault::Memory),
+        Err(_) => return Err(RunFault::Usage),
     };
     let _ = given.next();
+    let mut words = Vec::new(rt.alloc());
     for word in given {
         if words.push(word).is_err() {
-            return Err(ends::RunFault::Memory);
+            return Err(RunFault::Memory);
         }
     }
     Ok(words)

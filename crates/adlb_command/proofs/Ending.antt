@@ -1,0 +1,89 @@
+-- How a run ends: with a fault before anything is written, or as the writing of its report ended.
+use Rattle.std.proofs.Common.{◌≡◌, ◌≤◌, ◌+◌, ◌==◌, ℕ, List, ◌++◌, length, take, Option, Some, None, refl, sym, ap, ◌∙◌, subst, inl, inr, arith, length-append, append-nil}
+use Rattle.std.proofs.lemmas.List.{length-take-le}
+use Rattle.std.proofs.lemmas.Bool.{cases_eq, cond-false, ne_eqb}
+use Rattle.adlb_io.specs.Outside.{Rises, Takes}
+use Rattle.adlb_io.specs.Whole.{TakesPrefix}
+use Rattle.adlb_io.specs.declared.sinks.SinkFault.{SinkFault}
+use Rattle.adlb_io.specs.declared.sinks.SinkFault.TheVariants as sinks
+use Rattle.adlb_threads.specs.Reports.{Reported}
+use Rattle.puzzle_app.specs.declared.outcomes.PuzzleOutcome.{PuzzleOutcome}
+use Rattle.puzzle_app.specs.declared.outcomes.Settings.{Settings}
+use Rattle.adlb_command.specs.declared.ends.RunFault.{RunFault}
+use Rattle.adlb_command.specs.declared.ends.RunFault.TheVariants.{Input, Usage, Read, Write, Memory, TooLong}
+use Rattle.adlb_command.specs.Ends.{fault_of}
+use Rattle.adlb_command.specs.Input.{IsAtEnd, IsNotRefused}
+use Rattle.adlb_command.specs.Inside.{Refuses, Writes, kept_of}
+use Rattle.adlb_command.specs.Top.{EndsBy, IsAnswered, IsKeptWhereBegun, Seen}
+
+-- no byte was taken
+none_begun : (taken after : Option (List ℕ)) → after ≡ taken → IsKeptWhereBegun taken after None
+none_begun taken after same before now was is =
+    let e : Some now ≡ Some before = sym is ∙ same ∙ was in
+    let n : now ≡ before = cc in
+    let long : length now ≡ length before = ap length n in (λ some. absurd (cc), λ more. absurd (omega arith))
+
+-- a run that answers nothing ends by the fault for which it does
+pub ends_early : (settings : Settings) (before after : Seen) (fault : RunFault) → Refuses before.left before.reads after.reads fault → after.taken ≡ before.taken → EndsBy settings before after (Some fault) None
+ends_early settings before after (Input line why) is same = (is.0, is.1, is.2, record { nothing = same; none_kept = refl })
+ends_early settings before after Usage is same = is
+ends_early settings before after Read is same = (is, record { nothing = same; none_kept = refl })
+ends_early settings before after Write is same = absurd is
+ends_early settings before after Memory is same =
+    (is, record { nothing = λ e. same; front = λ some. absurd (cc); kept = none_begun before.taken after.taken same })
+ends_early settings before after (TooLong stamp) is same = (is.0, is.1, record { nothing = same; none_kept = refl })
+
+-- so much of the front of the text was taken
+prefix_of : (before after : Option (List ℕ)) (text : List ℕ) (n : ℕ) → n ≤ length text → Takes before after (take n text) → TakesPrefix before after text
+prefix_of None after text n part took = took
+prefix_of (Some before) after text n part took = (n, part, took)
+
+took_none : (before after : Option (List ℕ)) (text : List ℕ) → Takes before after (take 0 text) → after ≡ before
+took_none None after text took = took
+took_none (Some before) after text took = took ∙ ap Some (simp append-nil)
+
+took_long : (before after : Option (List ℕ)) (text b a : List ℕ) (n : ℕ) → n ≤ length text → Takes before after (take n text) → before ≡ Some b → after ≡ Some a → length a ≡ length b + n
+took_long None after text b a n part took was is = absurd (cc)
+took_long (Some before) after text b a n part took was is =
+    let e : Some a ≡ Some (before ++ take n text) = sym is ∙ took in
+    let same : a ≡ before ++ take n text = cc in
+    let first : before ≡ b = cc in
+    let count : length (take n text) ≡ n = length-take-le n text part in
+    ap length same ∙ omega (arith, length-append before (take n text), count, ap length first)
+
+-- a report was made, of an input that was read to its end
+module _ (settings : Settings) (before after : Seen) (report : Reported PuzzleOutcome) (text : List ℕ) (answers : IsAnswered settings before.left report text) (at_end : IsAtEnd after.left)
+  where
+    accepted : IsNotRefused before.left
+    accepted bytes told not = let are = answers.read bytes told in not (are.0, are.1)
+
+    cut_memory : (n : ℕ) → n ≤ length text → Takes before.taken after.taken (take n text) → EndsBy settings before after (Some Memory) (kept_of sinks.Memory n report)
+    cut_memory n part took = elim (cases_eq n 0) [
+      | inl e ↦
+          let keeps : kept_of sinks.Memory n report ≡ None = rw e refl in
+          let same : after.taken ≡ before.taken = took_none before.taken after.taken text (subst (λ k. Takes before.taken after.taken (take k text)) e took) in
+          let none : EndsBy settings before after (Some Memory) None = ends_early settings before after Memory accepted same in
+          subst (λ k. EndsBy settings before after (Some Memory) k) (sym keeps) none
+      | inr differs ↦
+          let keeps : kept_of sinks.Memory n report ≡ Some report = cond-false (n == 0) None (Some report) (ne_eqb n 0 differs) in
+          let some : EndsBy settings before after (Some Memory) (Some report) = (
+            accepted,
+            record {
+              nothing = λ e. absurd (cc);
+              front = λ some. (text, answers, prefix_of before.taken after.taken text n part took);
+              kept = λ b a was is.
+                  let long : length a ≡ length b + n = took_long before.taken after.taken text b a n part took was is in
+                  (λ some. omega (arith, long, differs), λ more. refl);
+            },
+          ) in
+          subst (λ k. EndsBy settings before after (Some Memory) k) (sym keeps) some
+    ]
+
+    cut_off : (met : SinkFault) (n : ℕ) → n ≤ length text → Takes before.taken after.taken (take n text) → (met ≡ sinks.Failed → Rises before.writes after.writes) → EndsBy settings before after (Some (fault_of met)) (kept_of met n report)
+    cut_off sinks.Failed n part took cause = (cause refl, (text, answers, prefix_of before.taken after.taken text n part took))
+    cut_off sinks.Memory n part took cause = cut_memory n part took
+
+    -- the run ends as its writing did
+    pub ends_answered : (fault : Option RunFault) (kept : Option (Reported PuzzleOutcome)) → Writes report text before.taken after.taken before.writes after.writes after.flushed fault kept → EndsBy settings before after fault kept
+    ends_answered fault kept (inl w) = rw (w.fine, w.keeps) (at_end, (text, answers, w.taken), w.flush)
+    ends_answered fault kept (inr w) = rw (w.fails, w.keeps) (cut_off w.unwritten.fault w.unwritten.taken w.part w.taken w.cause)

@@ -1,0 +1,86 @@
+-- What stands between the parts of a run: why its input gave no answer, what its world was, and how the writing ended.
+use Rattle.std.specs.Prelude.{◌≡◌, ◌≤◌, ◌^◌, ◌⊎◌, ◌==◌, ℕ, Bool, true, List, [], ◌∷◌, length, take, Option, Some, None, if◌then◌else◌}
+use Rattle.adlb_io.specs.Outside.{Rises, Takes}
+use Rattle.adlb_io.specs.declared.sinks.SinkFault.{SinkFault}
+use Rattle.adlb_io.specs.declared.sinks.SinkFault.TheVariants as sinks
+use Rattle.adlb_io.specs.declared.whole.Unwritten.{Unwritten}
+use Rattle.adlb_unit.specs.declared.configs.Config.{Config}
+use Rattle.adlb_threads.specs.Reports.{Reported}
+use Rattle.bag_ledger.specs.declared.entries.Entry.{Entry}
+use Rattle.bag_ledger.specs.declared.entries.Said.{Said}
+use Rattle.core_inline.specs.Inline.{Run}
+use Rattle.puzzle_app.specs.declared.outcomes.PuzzleOutcome.{PuzzleOutcome}
+use Rattle.puzzle_app.specs.Input.{IsAccepted}
+use Rattle.server_core.specs.declared.states.LeftUnit.{LeftUnit}
+use Rattle.adlb_command.specs.Ends.{IsFirst, fault_of}
+use Rattle.adlb_command.specs.Input.{IsNotRefused, IsRefused}
+use Rattle.adlb_command.specs.declared.ends.RunFault.{RunFault}
+use Rattle.adlb_command.specs.declared.ends.RunFault.TheVariants.{Input, Read, Memory, TooLong}
+
+-- Why there was no answer.
+
+-- why these bytes gave no jobs: they are not of their form; or an allocation failed, and they are
+abbrev pub RefusesBytes : List ℕ → RunFault → Type 0
+RefusesBytes bytes (Input line why) = IsFirst line why × (IsAccepted bytes → ⊥)
+RefusesBytes bytes Memory = (IsAccepted bytes → ⊥) → ⊥
+RefusesBytes bytes fault = ⊥
+
+-- why an input gave no answer, with the counts of faults of its source before and after
+abbrev pub Refuses : Option (List ℕ) → ℕ → ℕ → RunFault → Type 0
+Refuses left reads reads' (Input line why) = IsFirst line why × IsRefused left × (reads' ≡ reads)
+Refuses left reads reads' Read = Rises reads reads'
+Refuses left reads reads' Memory = IsNotRefused left
+Refuses left reads reads' (TooLong stamp) = (2 ^ 48 ≤ stamp) × IsNotRefused left
+Refuses left reads reads' fault = ⊥
+
+-- why a run over jobs gave no answer
+abbrev pub IsRunFault : RunFault → Type 0
+IsRunFault Memory = Unit {0}
+IsRunFault (TooLong stamp) = 2 ^ 48 ≤ stamp
+IsRunFault fault = ⊥
+
+-- What the world of a run was.
+
+-- the run has these numbers
+pub record HasNumbers (config : Config) (run : Run) : Type 0 where
+  pub ranks : run.config.ranks ≡ config.ranks
+  pub servers : run.config.servers ≡ config.servers
+  pub limit : run.config.limit ≡ config.limit
+
+-- the report of a run with one rank and no history
+abbrev pub one_report : Config → List Entry → List Said → List LeftUnit → PuzzleOutcome → Reported PuzzleOutcome
+one_report config ledger transcript left outcome = record {
+  config = config;
+  ledger = ledger;
+  history = [];
+  transcripts = transcript ∷ [];
+  outcomes = outcome ∷ [];
+  left = left;
+}
+
+-- How the writing ended.
+
+-- the report is kept if a write failed, and if an allocation failed after the sink took a byte
+abbrev pub kept_of : SinkFault → ℕ → Reported PuzzleOutcome → Option (Reported PuzzleOutcome)
+kept_of sinks.Failed taken report = Some report
+kept_of sinks.Memory taken report = if taken == 0 then None else Some report
+
+-- the whole text was written and flushed, and the report is kept
+pub record WritesAll (report : Reported PuzzleOutcome) (text : List ℕ) (before after : Option (List ℕ)) (flushed : Bool) (fault : Option RunFault) (kept : Option (Reported PuzzleOutcome)) : Type 0 where
+  pub fine : fault ≡ None
+  pub keeps : kept ≡ Some report
+  pub taken : Takes before after text
+  pub flush : flushed ≡ true
+
+-- `taken` bytes of its front were
+pub record WritesPart (report : Reported PuzzleOutcome) (text : List ℕ) (before after : Option (List ℕ)) (faults faults' : ℕ) (fault : Option RunFault) (kept : Option (Reported PuzzleOutcome)) : Type 0 where
+  pub unwritten : Unwritten
+  pub fails : fault ≡ Some (fault_of unwritten.fault)
+  pub keeps : kept ≡ kept_of unwritten.fault unwritten.taken report
+  pub part : unwritten.taken ≤ length text
+  pub taken : Takes before after (take unwritten.taken text)
+  pub cause : unwritten.fault ≡ sinks.Failed → Rises faults faults'
+
+abbrev pub Writes : Reported PuzzleOutcome → List ℕ → Option (List ℕ) → Option (List ℕ) → ℕ → ℕ → Bool → Option RunFault → Option (Reported PuzzleOutcome) → Type 0
+Writes report text before after faults faults' flushed fault kept =
+    WritesAll report text before after flushed fault kept ⊎ WritesPart report text before after faults faults' fault kept

@@ -1,0 +1,129 @@
+//! How a run ends.
+
+ghost use Rattle.std.specs.Prelude.{◌≡◌, Some};
+
+use adlb_io::SinkFault;
+use adlb_threads::Report;
+use adlb_unit::{NoMemory, Trouble};
+use puzzle_app::{JobsFault, LineWhy, PuzzleOutcome};
+use thiserror::Error;
+
+/// Why a run did not write its whole report. Its text is what the user is told.
+#[derive(Clone, Copy, Debug, PartialEq, Eq, Error)]
+pub enum RunFault {
+    /// The input is not of its form: the first line that is refused, from 1, and why.
+    #[error("line {line}: {why}")]
+    Input { line: u64, why: LineWhy },
+    /// The words are refused.
+    #[error("usage: adlbrun solve")]
+    Usage,
+    /// The source failed.
+    #[error("read failed")]
+    Read,
+    /// The sink failed.
+    #[error("write failed")]
+    Write,
+    /// Allocation failed.
+    #[error("out of memory")]
+    Memory,
+    /// An event of the run would have this stamp, which is past the last one that is given.
+    #[error("stamp limit reached")]
+    TooLong { stamp: u64 },
+}
+
+impl RunFault {
+    ghost use Rattle.adlb_command.specs.Ends.{status_of};
+
+    /// The exit status that belongs to this fault (`status_of`).
+    pub fn status(&self) -> u8
+        ensures { result ≡ status_of (Some self.now) }
+    {
+        match self {
+            RunFault::Input { .. } => 1,
+            RunFault::Usage => 2,
+            RunFault::Read => 3,
+            RunFault::Write => 4,
+            RunFault::Memory => 6,
+            RunFault::TooLong { .. } => 7,
+        }
+    }
+}
+
+impl From<NoMemory> for RunFault {
+    ghost use Rattle.adlb_command.specs.declared.ends.RunFault.TheVariants.{Memory};
+
+    ghost from_gives = { λ _ fault. fault ≡ Memory };
+
+    fn from(_: NoMemory) -> RunFault {
+        RunFault::Memory
+    }
+}
+
+impl From<Trouble> for RunFault {
+    ghost use Rattle.adlb_command.specs.Ends.{fault_by};
+
+    ghost from_gives = { λ trouble fault. fault ≡ fault_by trouble };
+
+    fn from(trouble: Trouble) -> RunFault {
+        match trouble {
+            Trouble::Memory => RunFault::Memory,
+            Trouble::TooLong { stamp } => RunFault::TooLong { stamp },
+        }
+    }
+}
+
+impl From<JobsFault> for RunFault {
+    ghost use Rattle.adlb_command.specs.Ends.{fault_in};
+
+    ghost from_gives = { λ refusal fault. fault ≡ fault_in refusal };
+
+    fn from(refusal: JobsFault) -> RunFault {
+        match refusal {
+            JobsFault::Refused { line, why } => RunFault::Input { line, why },
+            JobsFault::Memory => RunFault::Memory,
+        }
+    }
+}
+
+impl From<SinkFault> for RunFault {
+    ghost use Rattle.adlb_command.specs.Ends.{fault_of};
+
+    ghost from_gives = { λ met fault. fault ≡ fault_of met };
+
+    fn from(met: SinkFault) -> RunFault {
+        match met {
+            SinkFault::Failed => RunFault::Write,
+            SinkFault::Memory => RunFault::Memory,
+        }
+    }
+}
+
+/// How a run ended: its exit status, why it did not write its whole report, if so, and what it kept: a report if some of it
+/// was written, or if a write failed.
+#[derive(Debug, Drop)]
+pub struct RunEnd {
+    pub status: u8,
+    pub fault: Option<RunFault>,
+    pub report: Option<Report<PuzzleOutcome>>,
+}
+
+impl RunEnd {
+    ghost use Rattle.adlb_command.specs.Ends.{status_of};
+
+    /// The end of a run with this fault, if there is one, and this report, if one is kept.
+    pub fn new(fault: Option<RunFault>, report: Option<Report<PuzzleOutcome>>) -> RunEnd
+        ensures status { result.status ≡ status_of fault }
+        ensures fault { result.fault ≡ fault }
+        ensures report { result.report ≡ report }
+    {
+        let status = match &fault {
+            None => 0,
+            Some(fault) => fault.status(),
+        };
+        RunEnd {
+            status,
+            fault,
+            report,
+        }
+    }
+}

@@ -1,0 +1,92 @@
+//! A run in line: one rank and one server on the caller's own thread.
+
+ghost use Rattle.std.specs.Prelude.{◌≡◌, ◌≤◌, ℕ, List, [], IfOk, OnOk, IfErr, IfSome};
+ghost use Rattle.puzzle_app.specs.Jobs.{AreJobs};
+ghost use Rattle.puzzle_app.specs.Report.{IsReport};
+ghost use Rattle.adlb_command.specs.Ends.{status_of};
+ghost use Rattle.adlb_command.specs.Input.{IsAtEnd};
+ghost use Rattle.adlb_command.specs.Inside.{IsRunFault, Refuses};
+ghost use Rattle.adlb_command.specs.Kept.{IsKept};
+ghost use Rattle.adlb_command.specs.Top.{EndsBy, IsAnswered, seen};
+
+use crate::ends::{RunEnd, RunFault};
+use crate::programs::run_program;
+use crate::reading::{Asked, read_input};
+use crate::writing::{Answer, write_answer};
+use adlb_io::{Sink, Source};
+use adlb_unit::Config;
+use puzzle_app::{Jobs, Settings, render};
+use std::alloc::Global;
+
+/// Reads the input's puzzle line, works it by the program of one rank over one server, and writes its report. It returns,
+/// since nothing in it waits. The budget and the grain are the settings', the limit of the server is the configuration's.
+///
+/// `EndsBy` says of each end what was written and kept and why it came. Status 0: the whole report was written and flushed, and the
+/// kept ledger is a legal run. `Input`: the input is not of its form, and no read failed. `Read` and `Write`: the count of faults of
+/// the source or of the sink rose (or stands at its last value). `TooLong`: a stamp would be past the last one. `Memory`: an
+/// allocation failed; contracts never say when.
+pub fn solve_inline<S: Source, K: Sink>(
+    alloc: Global,
+    config: Config,
+    settings: Settings,
+    input: &mut S,
+    output: &mut K,
+) -> RunEnd
+    requires one_rank { config.ranks ≡ 1 }
+    requires one_server { config.servers ≡ 1 }
+    ensures status { result.status ≡ status_of result.fault }
+    ensures config { IfSome result.report (λ r. r.config ≡ config) }
+    ensures ends { EndsBy settings
+        (seen (S.left input.old) (S.faults input.old) (K.taken output.old) (K.faults output.old) (K.all_flushed output.old))
+        (seen (S.left input.new) (S.faults input.new) (K.taken output.new) (K.faults output.new) (K.all_flushed output.new))
+        result.fault result.report }
+    ensures source { S.faults input.old ≤ S.faults input.new }
+    ensures sink { K.faults output.old ≤ K.faults output.new }
+{
+    match answer_input(alloc, config, settings, input) {
+        Ok(answer) => write_answer(output, answer),
+        Err(fault) => RunEnd::new(Some(fault), None),
+    }
+}
+
+// The answer to what the input asks.
+fn answer_input<S: Source>(
+    alloc: Global,
+    config: Config,
+    settings: Settings,
+    input: &mut S,
+) -> Result<Answer, RunFault>
+    requires one_rank { config.ranks ≡ 1 }
+    requires one_server { config.servers ≡ 1 }
+    ensures answered { IfOk result (λ a. IsAnswered settings (S.left input.old) a.report a.text.items) }
+    ensures config { IfOk result (λ a. a.report.config ≡ config) }
+    ensures end { OnOk result (IsAtEnd (S.left input.new)) }
+    ensures refused { IfErr result (Refuses (S.left input.old) (S.faults input.old) (S.faults input.new)) }
+    ensures later { S.faults input.old ≤ S.faults input.new }
+{
+    let Asked { jobs, shown } = read_input(alloc, input)?;
+    answer(alloc, config, settings, jobs, &shown)
+}
+
+// The answer to these jobs, of which there is one puzzle.
+fn answer(
+    alloc: Global,
+    config: Config,
+    settings: Settings,
+    jobs: Jobs,
+    shown: &Jobs,
+) -> Result<Answer, RunFault>
+    requires one_rank { config.ranks ≡ 1 }
+    requires one_server { config.servers ≡ 1 }
+    requires shown { shown.now ≡ jobs }
+    requires some { (bytes : List ℕ) × AreJobs bytes jobs }
+    ensures kept { IfOk result (λ a. IsKept settings jobs a.report) }
+    ensures report { IfOk result (λ a. IsReport settings.budget settings.grain jobs a.text.items) }
+    ensures config { IfOk result (λ a. a.report.config ≡ config) }
+    ensures history { IfOk result (λ a. a.report.history ≡ []) }
+    ensures faults { IfErr result IsRunFault }
+{
+    let report = run_program(alloc, config, settings, jobs)?;
+    let text = render(alloc, shown, &report.outcomes)?;
+    Ok(Answer { report, text })
+}
