@@ -1,0 +1,5 @@
+mod Best
+mod Going
+mod Queues
+mod Places
+mod Steps

@@ -1,1 +1,3 @@
 pub mod Events
+pub mod Inside
+pub mod Merging

@@ -1,14 +1,18 @@
 //! What happened in a run: the events of each actor, and those of all actors in one order.
 //!
-//! So far it holds the types alone, which a report of a run names. `specs/Events.antt` is what contracts see of them.
+//! It stands on the letters of `adlb_unit`, the ledger of `bag_ledger`, the runs of `core_run` and the law of
+//! `journal_law`. `specs/Events.antt` is what contracts see of events, `specs/Merging.antt` says what their one order is.
 #![tactic(auto)]
 
 mod causes;
 mod events;
+mod fronts;
 mod histories;
 mod journals;
+mod merging;
 
 pub use causes::Cause;
 pub use events::Happened;
 pub use histories::History;
 pub use journals::Journal;
+pub use merging::{MergeFault, merge};
