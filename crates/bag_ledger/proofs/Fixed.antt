@@ -1,5 +1,5 @@
 -- What no step changes: the limit and the number of servers.
-use Rattle.std.proofs.Common.{◌≡◌, ℕ, List, ◌∷◌, [], ◌++◌, Option, Some, None, refl, sym, ap, ◌∙◌}
+use Rattle.std.proofs.Common.{◌≡◌, Bool, ℕ, List, ◌∷◌, [], ◌++◌, Option, Some, None, refl, sym, ap, ◌∙◌}
 use Rattle.std.specs.Prelude.{option_and_then}
 use Rattle.adlb_unit.specs.declared.names.Server.{Server}
 use Rattle.adlb_unit.specs.declared.names.BatchId.{BatchId}
@@ -10,7 +10,7 @@ use Rattle.bag_ledger.specs.declared.entries.Entry.TheVariants.{Accepted, Kept}
 use Rattle.bag_ledger.specs.declared.states.UnitPlace.TheVariants.{Free}
 use Rattle.bag_ledger.specs.Bag.{Bag, rank_at, putting, keeping}
 use Rattle.bag_ledger.specs.Steps.{after, shared, taken, kept}
-use Rattle.bag_ledger.specs.Runs.{IsRun}
+use Rattle.bag_ledger.specs.Runs.{IsRunWhere}
 
 shared_limit : (common : Option CommonRef) (b : Bag) → (shared common b).limit ≡ b.limit
 shared_limit None b = refl
@@ -29,9 +29,9 @@ step_limit b (Accepted server id) = taken_limit server (option_and_then (λ r. p
 step_limit b (Kept server batch) = kept_limit server batch (option_and_then (λ r. keeping r.status) (rank_at b batch.rank)) b
 step_limit b _ = refl
 
-pub run_limit : (b last : Bag) (es : List Entry) → IsRun b es last → last.limit ≡ b.limit
-run_limit b last [] run = ap (λ (x : Bag). x.limit) (sym run)
-run_limit b last (e ∷ es) run = run_limit run.0 last es run.2 ∙ ap (λ (x : Bag). x.limit) run.1.2 ∙ step_limit b e
+pub run_limit : (found : Bag → Bool) (b last : Bag) (es : List Entry) → IsRunWhere found b es last → last.limit ≡ b.limit
+run_limit found b last [] run = ap (λ (x : Bag). x.limit) (sym run)
+run_limit found b last (e ∷ es) run = run_limit found run.0 last es run.2 ∙ ap (λ (x : Bag). x.limit) run.1.2 ∙ step_limit b e
 
 -- The number of servers stays.
 
@@ -52,6 +52,6 @@ step_servers b (Accepted server id) = taken_servers server (option_and_then (λ 
 step_servers b (Kept server batch) = kept_servers server batch (option_and_then (λ r. keeping r.status) (rank_at b batch.rank)) b
 step_servers b _ = refl
 
-pub run_servers : (b last : Bag) (es : List Entry) → IsRun b es last → last.servers ≡ b.servers
-run_servers b last [] run = ap (λ (x : Bag). x.servers) (sym run)
-run_servers b last (e ∷ es) run = run_servers run.0 last es run.2 ∙ ap (λ (x : Bag). x.servers) run.1.2 ∙ step_servers b e
+pub run_servers : (found : Bag → Bool) (b last : Bag) (es : List Entry) → IsRunWhere found b es last → last.servers ≡ b.servers
+run_servers found b last [] run = ap (λ (x : Bag). x.servers) (sym run)
+run_servers found b last (e ∷ es) run = run_servers found run.0 last es run.2 ∙ ap (λ (x : Bag). x.servers) run.1.2 ∙ step_servers b e

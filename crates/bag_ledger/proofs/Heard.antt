@@ -17,12 +17,11 @@ use Rattle.bag_ledger.specs.declared.states.RankState.{RankState}
 use Rattle.bag_ledger.specs.declared.states.Status.{Status}
 use Rattle.bag_ledger.specs.declared.states.Status.TheVariants as does
 use Rattle.bag_ledger.specs.Bag.{Bag, empty, rank_at, putting, keeping, offer, has_declined, all_declined}
-use Rattle.bag_ledger.specs.Steps.{Legal, after, has_cause, shared, taken, kept}
-use Rattle.bag_ledger.specs.Runs.{IsRun}
+use Rattle.bag_ledger.specs.Steps.{Legal, LegalWhere, after, has_cause, shared, taken, kept}
+use Rattle.bag_ledger.specs.Runs.{IsRunWhere}
 use Rattle.bag_ledger.specs.Words.{refuses, looks, causes}
 use Rattle.bag_ledger.proofs.Tests.{some_is}
-use Rattle.bag_ledger.proofs.Turns.{IsTurn, turn, declines, is_quiet, changed_is}
-use Rattle.bag_ledger.proofs.Accepted.{fresh_at}
+use Rattle.bag_ledger.proofs.Turns.{IsTurn, turn, declines, fresh_at, is_quiet, changed_is}
 
 -- each server that counts as having declined what a rank does declined it by an entry
 IsHeard : List RankState → List Entry → Type 0
@@ -64,19 +63,19 @@ heard_turn before e now es t is = λ n v s there declined. by_case n v s decline
 IsKnown : Bag → List Entry → Type 0
 IsKnown b es = IsHeard b.ranks es
 
-known_kept : (b : Bag) (e : Entry) (es : List Entry) → Legal b e → IsKnown b es → IsKnown (after b e) (es ++ e ∷ [])
+known_kept : (found : Bag → Bool) (b : Bag) (e : Entry) (es : List Entry) → LegalWhere found b e → IsKnown b es → IsKnown (after b e) (es ++ e ∷ [])
 unfolding IsKnown IsHeard
-known_kept b e es l is = by_case (turn b e l)
+known_kept found b e es l is = by_case (turn found b e l)
   where
     by_case : ((after b e).ranks ≡ b.ranks) ⊎ IsTurn b.ranks e (after b e).ranks → IsHeard (after b e).ranks (es ++ e ∷ [])
     by_case (inl same) = rw same (λ n r s there declined. earlier (declines s n r.status) es e (is n r s there declined))
     by_case (inr t) = heard_turn b.ranks e (after b e).ranks es t is
 
-run_known : (b last : Bag) (done es : List Entry) → IsRun b es last → IsKnown b done → IsKnown last (done ++ es)
-run_known b last done [] run is = rw (append-nil done, ← run) is
-run_known b last done (e ∷ es) run is =
+run_known : (found : Bag → Bool) (b last : Bag) (done es : List Entry) → IsRunWhere found b es last → IsKnown b done → IsKnown last (done ++ es)
+run_known found b last done [] run is = rw (append-nil done, ← run) is
+run_known found b last done (e ∷ es) run is =
     let next : run.0 ≡ after b e = run.1.2 in
-    rw (sym (append_assoc done (e ∷ []) es)) (run_known run.0 last (done ++ e ∷ []) es run.2 (rw next (known_kept b e done run.1.1 is)))
+    rw (sym (append_assoc done (e ∷ []) es)) (run_known found run.0 last (done ++ e ∷ []) es run.2 (rw next (known_kept found b e done run.1.1 is)))
 
 start_known : (ranks servers limit : ℕ) → IsKnown (empty ranks servers limit) []
 unfolding IsKnown IsHeard
@@ -153,11 +152,11 @@ caused_kept b Exhausted es is = λ end h. by_end end h
     by_end ends_by.Exhausted h = latest (causes ends_by.Exhausted) es Exhausted refl
 caused_kept b e es is = λ end h. earlier (causes end) es e (is end h)
 
-run_caused : (b last : Bag) (done es : List Entry) → IsRun b es last → IsCaused b done → IsCaused last (done ++ es)
-run_caused b last done [] run is = rw (append-nil done, ← run) is
-run_caused b last done (e ∷ es) run is =
+run_caused : (found : Bag → Bool) (b last : Bag) (done es : List Entry) → IsRunWhere found b es last → IsCaused b done → IsCaused last (done ++ es)
+run_caused found b last done [] run is = rw (append-nil done, ← run) is
+run_caused found b last done (e ∷ es) run is =
     let next : run.0 ≡ after b e = run.1.2 in
-    rw (sym (append_assoc done (e ∷ []) es)) (run_caused run.0 last (done ++ e ∷ []) es run.2 (rw next (caused_kept b e done is)))
+    rw (sym (append_assoc done (e ∷ []) es)) (run_caused found run.0 last (done ++ e ∷ []) es run.2 (rw next (caused_kept b e done is)))
 
 start_caused : (ranks servers limit : ℕ) → IsCaused (empty ranks servers limit) []
 unfolding IsCaused
@@ -169,15 +168,15 @@ start_caused ranks servers limit = λ end h. by_end end h
 
 -- In a run from the start.
 
-pub rejected_by_all : (ranks servers limit : ℕ) (b : Bag) (es : List Entry) (rank : Rank) (call : ℕ) → IsRun (empty ranks servers limit) es b → Legal b (Rejected rank call) → (s : Server) → s.0 < b.servers → list_any (refuses s rank call) es ≡ true
-rejected_by_all ranks servers limit b es rank call run l s below =
-    rejected_heard b es rank call (run_known (empty ranks servers limit) b [] es run (start_known ranks servers limit)) l s below
+pub rejected_by_all : (found : Bag → Bool) (ranks servers limit : ℕ) (b : Bag) (es : List Entry) (rank : Rank) (call : ℕ) → IsRunWhere found (empty ranks servers limit) es b → Legal b (Rejected rank call) → (s : Server) → s.0 < b.servers → list_any (refuses s rank call) es ≡ true
+rejected_by_all found ranks servers limit b es rank call run l s below =
+    rejected_heard b es rank call (run_known found (empty ranks servers limit) b [] es run (start_known ranks servers limit)) l s below
 
-pub looked_by_all : (ranks servers limit : ℕ) (b : Bag) (es : List Entry) (rank : Rank) (call : ℕ) → IsRun (empty ranks servers limit) es b → Legal b (NoCurrent rank call) → (s : Server) → s.0 < b.servers → list_any (looks s rank call) es ≡ true
-looked_by_all ranks servers limit b es rank call run l s below =
-    no_current_heard b es rank call (run_known (empty ranks servers limit) b [] es run (start_known ranks servers limit)) l s below
+pub looked_by_all : (found : Bag → Bool) (ranks servers limit : ℕ) (b : Bag) (es : List Entry) (rank : Rank) (call : ℕ) → IsRunWhere found (empty ranks servers limit) es b → Legal b (NoCurrent rank call) → (s : Server) → s.0 < b.servers → list_any (looks s rank call) es ≡ true
+looked_by_all found ranks servers limit b es rank call run l s below =
+    no_current_heard b es rank call (run_known found (empty ranks servers limit) b [] es run (start_known ranks servers limit)) l s below
 
-pub over_by_cause : (ranks servers limit : ℕ) (b : Bag) (es : List Entry) (rank : Rank) (call : ℕ) (end : End) → IsRun (empty ranks servers limit) es b → Legal b (Over rank call end) → list_any (causes end) es ≡ true
+pub over_by_cause : (found : Bag → Bool) (ranks servers limit : ℕ) (b : Bag) (es : List Entry) (rank : Rank) (call : ℕ) (end : End) → IsRunWhere found (empty ranks servers limit) es b → Legal b (Over rank call end) → list_any (causes end) es ≡ true
 unfolding IsCaused
-over_by_cause ranks servers limit b es rank call end run l =
-    run_caused (empty ranks servers limit) b [] es run (start_caused ranks servers limit) end l.3
+over_by_cause found ranks servers limit b es rank call end run l =
+    run_caused found (empty ranks servers limit) b [] es run (start_caused ranks servers limit) end l.3

@@ -1,10 +1,10 @@
 -- Legal runs: the function finds the first entry that is no step.
-use Rattle.std.proofs.Common.{◌≡◌, ℕ, zero, suc, ◌+◌, List, [], ◌∷◌, ◌++◌, Option, Some, None, refl, ap, ◌∙◌, arith}
+use Rattle.std.proofs.Common.{◌≡◌, Bool, ℕ, zero, suc, ◌+◌, List, [], ◌∷◌, ◌++◌, Option, Some, None, refl, ap, ◌∙◌, arith}
 use Rattle.bag_ledger.specs.declared.entries.Entry.{Entry}
-use Rattle.bag_ledger.specs.Bag.{Bag}
+use Rattle.bag_ledger.specs.Bag.{Bag, settled}
 use Rattle.bag_ledger.specs.Steps.{Steps}
 use Rattle.bag_ledger.specs.Step.{step}
-use Rattle.bag_ledger.specs.Runs.{IsRun, IsFirstIllegal, first_illegal, first_after}
+use Rattle.bag_ledger.specs.Runs.{IsRun, IsRunWhere, IsFirstIllegal, first_illegal, first_after}
 use Rattle.bag_ledger.proofs.Tests.{some_is}
 use Rattle.bag_ledger.proofs.Bridge.{row_is, is_row}
 
@@ -58,12 +58,15 @@ is_found b from (suc k) (x ∷ es) s =
     rw (row_is b s.2.0 x s.2.1) (later ∙ ap Some place)
 
 -- a run of a list in two parts is a run of each
-pub run_split : (b last : Bag) (xs ys : List Entry) → IsRun b (xs ++ ys) last → (middle : Bag) × IsRun b xs middle × IsRun middle ys last
-run_split b last [] ys run = (b, refl, run)
-run_split b last (x ∷ xs) ys run =
-    let s = run_split run.0 last xs ys run.2 in
+pub run_split : (found : Bag → Bool) (b last : Bag) (xs ys : List Entry) → IsRunWhere found b (xs ++ ys) last → (middle : Bag) × IsRunWhere found b xs middle × IsRunWhere found middle ys last
+run_split found b last [] ys run = (b, refl, run)
+run_split found b last (x ∷ xs) ys run =
+    let s = run_split found run.0 last xs ys run.2 in
     (s.0, (run.0, run.1, s.1), s.2)
 
+pub joined_where : (found : Bag → Bool) (b middle last : Bag) (xs ys : List Entry) → IsRunWhere found b xs middle → IsRunWhere found middle ys last → IsRunWhere found b (xs ++ ys) last
+joined_where found b middle last [] ys first then = rw first then
+joined_where found b middle last (x ∷ xs) ys first then = (first.0, first.1, joined_where found first.0 middle last xs ys first.2 then)
+
 pub run_joined : (b middle last : Bag) (xs ys : List Entry) → IsRun b xs middle → IsRun middle ys last → IsRun b (xs ++ ys) last
-run_joined b middle last [] ys first then = rw first then
-run_joined b middle last (x ∷ xs) ys first then = (first.0, first.1, run_joined first.0 middle last xs ys first.2 then)
+run_joined = joined_where settled

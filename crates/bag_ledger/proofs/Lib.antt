@@ -1,4 +1,3 @@
-pub mod Accepted
 pub mod Batches
 pub mod Bridge
 pub mod Calls
@@ -12,12 +11,10 @@ pub mod Legal
 pub mod Lookups
 pub mod Moves
 mod Mutants
-pub mod Once
 pub mod Pushes
 pub mod Puts
 pub mod Reserves
 pub mod Settled
-pub mod Taken
 pub mod Tests
 pub mod Turns
 mod Worked

@@ -1,5 +1,5 @@
 -- What a step leaves of the ranks.
-use Rattle.std.proofs.Common.{◌≡◌, ℕ, zero, suc, ◌+◌, ◌≤◌, ◌==◌, ◌||◌, ◌⊎◌, inl, inr, Bool, true, false, List, [], ◌∷◌, length, Option, Some, None, refl, sym, ap, ◌∙◌, arith, slice_get}
+use Rattle.std.proofs.Common.{◌≡◌, ℕ, zero, suc, ◌+◌, ◌≤◌, ◌==◌, ◌||◌, ◌⊎◌, inl, inr, Bool, true, false, List, [], ◌∷◌, length, Option, Some, None, refl, sym, ap, ◌∙◌, arith, slice_get, replicate}
 use Rattle.std.specs.Prelude.{option_and_then}
 use Rattle.std.specs.List.{list_any}
 use Rattle.std.proofs.lemmas.Bool.{or_cases}
@@ -15,8 +15,8 @@ use Rattle.bag_ledger.specs.declared.entries.Entry.TheVariants.{Putting, Refused
 use Rattle.bag_ledger.specs.declared.states.RankState.{RankState}
 use Rattle.bag_ledger.specs.declared.states.Status.{Status}
 use Rattle.bag_ledger.specs.declared.states.Status.TheVariants as does
-use Rattle.bag_ledger.specs.Bag.{Bag, rank_at, unit_of, putting, keeping, offer, has_declined}
-use Rattle.bag_ledger.specs.Steps.{Legal, after, change_at, begun, ended, declined_by, own_fetched, shared, taken}
+use Rattle.bag_ledger.specs.Bag.{Bag, fresh, rank_at, unit_of, putting, keeping, offer, has_declined}
+use Rattle.bag_ledger.specs.Steps.{LegalWhere, after, change_at, begun, ended, declined_by, own_fetched, shared, taken}
 use Rattle.bag_ledger.specs.Words.{refuses, looks}
 use Rattle.bag_ledger.proofs.Tests.{some_is, same_number}
 use Rattle.bag_ledger.proofs.Charge.{unit_put}
@@ -157,8 +157,8 @@ fetched_turn before e now place call id (Some common) r there status changed =
     (λ s is. (is, rw status refl))
 
 -- a step leaves the ranks as they are, or one of them has its turn
-pub turn : (b : Bag) (e : Entry) → Legal b e → ((after b e).ranks ≡ b.ranks) ⊎ IsTurn b.ranks e (after b e).ranks
-turn b (Putting rank call kind prio target answer body) l =
+pub turn : (found : Bag → Bool) (b : Bag) (e : Entry) → LegalWhere found b e → ((after b e).ranks ≡ b.ranks) ⊎ IsTurn b.ranks e (after b e).ranks
+turn found b (Putting rank call kind prio target answer body) l =
     let started : call ≡ l.0.next = sym l.1.2 in
     inr (record {
       place = rank.0;
@@ -178,28 +178,34 @@ turn b (Putting rank call kind prio target answer body) l =
 
     number_of : (u : Unit) → record { id = record { rank = rank; number = call }; kind = kind; prio = prio; target = target; answer = answer; common = l.0.batch; body = body } ≡ u → u.id.number ≡ call
     number_of u e = sym (ap (λ (w : Unit). w.id.number) e)
-turn b (Refused server id used) l = inr (waits _ _ _ id.rank.0 server l.0 l.2 refl (λ s here. refused_says s server id used l.1 l.0.status l.3 here))
-turn b (Accepted server id) l =
+turn found b (Refused server id used) l = inr (waits _ _ _ id.rank.0 server l.0 l.2 refl (λ s here. refused_says s server id used l.1 l.0.status l.3 here))
+turn found b (Accepted server id) l =
     inr (ends _ _ _ id.rank.0 l.0 l.2 (ap (change_at ended id.rank.0) (taken_ranks server (option_and_then (λ r. putting r.status) (rank_at b id.rank)) b)))
-turn b (Rejected rank call) l = inr (ends _ _ _ rank.0 l.0 l.2 refl)
-turn b (Keeping rank call common) l = inr (begins _ _ _ rank.0 (does.Keeping call common) l.0 l.1.0 l.1.1 refl (λ u e. absurd (cc)))
-turn b (Kept server batch) l =
+turn found b (Rejected rank call) l = inr (ends _ _ _ rank.0 l.0 l.2 refl)
+turn found b (Keeping rank call common) l = inr (begins _ _ _ rank.0 (does.Keeping call common) l.0 l.1.0 l.1.1 refl (λ u e. absurd (cc)))
+turn found b (Kept server batch) l =
     let kept = unit_put (λ r. keeping r.status) (rank_at b batch.rank) l.0 (batch.number, l.1) l.2 (rw l.3 refl) in
     inr (rw kept (idle _ _ _ batch.rank.0 (λ r. ended (record r { batch = Some (record { batch = batch; server = server; length = _ }) })) l.0 l.2 refl (omega arith) (λ u e. absurd (cc)) (λ s e. absurd (cc))))
-turn b (Closing rank call) l = inr (begins _ _ _ rank.0 (does.Closing call) l.0 l.2.0 l.2.1 refl (λ u e. absurd (cc)))
-turn b (Closed server batch) l = inr (idle _ _ _ batch.rank.0 (λ r. ended (record r { batch = None })) l.0 l.4 refl (omega arith) (λ u e. absurd (cc)) (λ s e. absurd (cc)))
-turn b (Asked rank call types) l = inr (begins _ _ _ rank.0 (does.Asking call types) l.0 l.1.0 l.1.1 refl (λ u e. absurd (cc)))
-turn b (Tried rank call types) l = inr (begins _ _ _ rank.0 (does.Trying call types) l.0 l.1.0 l.1.1 refl (λ u e. absurd (cc)))
-turn b (Granted server rank call id) l = inr (ends _ _ _ rank.0 l.0 l.3 refl)
-turn b (Looked server rank call) l = inr (waits _ _ _ rank.0 server l.0 l.2 refl (λ s here. looked_says s server rank call l.1 l.0.status l.3 here))
-turn b (NoCurrent rank call) l = inr (ends _ _ _ rank.0 l.0 l.2 refl)
-turn b (Fetching rank call id) l = inr (begins _ _ _ rank.0 (does.Fetching call id false) l.0 l.3.0 l.3.1 refl (λ u e. absurd (cc)))
-turn b (Fetched server rank id) l =
+turn found b (Closing rank call) l = inr (begins _ _ _ rank.0 (does.Closing call) l.0 l.2.0 l.2.1 refl (λ u e. absurd (cc)))
+turn found b (Closed server batch) l = inr (idle _ _ _ batch.rank.0 (λ r. ended (record r { batch = None })) l.0 l.4 refl (omega arith) (λ u e. absurd (cc)) (λ s e. absurd (cc)))
+turn found b (Asked rank call types) l = inr (begins _ _ _ rank.0 (does.Asking call types) l.0 l.1.0 l.1.1 refl (λ u e. absurd (cc)))
+turn found b (Tried rank call types) l = inr (begins _ _ _ rank.0 (does.Trying call types) l.0 l.1.0 l.1.1 refl (λ u e. absurd (cc)))
+turn found b (Granted server rank call id) l = inr (ends _ _ _ rank.0 l.0 l.3 refl)
+turn found b (Looked server rank call) l = inr (waits _ _ _ rank.0 server l.0 l.2 refl (λ s here. looked_says s server rank call l.1 l.0.status l.3 here))
+turn found b (NoCurrent rank call) l = inr (ends _ _ _ rank.0 l.0 l.2 refl)
+turn found b (Fetching rank call id) l = inr (begins _ _ _ rank.0 (does.Fetching call id false) l.0 l.3.0 l.3.1 refl (λ u e. absurd (cc)))
+turn found b (Fetched server rank id) l =
     inr (fetched_turn _ _ _ rank.0 l.1 id (option_and_then (λ u. u.unit.common) (unit_of b id)) l.0 l.3 l.4 refl)
-turn b (CommonFetched server rank batch) l = inr (ends _ _ _ rank.0 l.0 l.6 refl)
-turn b (Counting rank call kind) l = inr (begins _ _ _ rank.0 (does.Counting call kind) l.0 l.1.0 l.1.1 refl (λ u e. absurd (cc)))
-turn b (Counted server rank call info) l = inr (ends _ _ _ rank.0 l.0 l.2 refl)
-turn b (Done rank call) l = inr (begins _ _ _ rank.0 does.Running l.0 l.1.0 l.1.1 refl (λ u e. absurd (cc)))
-turn b (Over rank call end) l = inr (idle _ _ _ rank.0 (λ r. ended (record r { end = Some end })) l.0 l.1 refl (omega arith) (λ u e. absurd (cc)) (λ s e. absurd (cc)))
-turn b (Finished rank call) l = inr (begins _ _ _ rank.0 does.Finished l.0 l.1.0 l.1.1 refl (λ u e. absurd (cc)))
-turn b _ l = inl refl
+turn found b (CommonFetched server rank batch) l = inr (ends _ _ _ rank.0 l.0 l.6 refl)
+turn found b (Counting rank call kind) l = inr (begins _ _ _ rank.0 (does.Counting call kind) l.0 l.1.0 l.1.1 refl (λ u e. absurd (cc)))
+turn found b (Counted server rank call info) l = inr (ends _ _ _ rank.0 l.0 l.2 refl)
+turn found b (Done rank call) l = inr (begins _ _ _ rank.0 does.Running l.0 l.1.0 l.1.1 refl (λ u e. absurd (cc)))
+turn found b (Over rank call end) l = inr (idle _ _ _ rank.0 (λ r. ended (record r { end = Some end })) l.0 l.1 refl (omega arith) (λ u e. absurd (cc)) (λ s e. absurd (cc)))
+turn found b (Finished rank call) l = inr (begins _ _ _ rank.0 does.Finished l.0 l.1.0 l.1.1 refl (λ u e. absurd (cc)))
+turn found b _ l = inl refl
+
+-- at the start each rank is as at its start
+pub fresh_at : (n k : ℕ) (r : RankState) → slice_get (replicate n fresh) k ≡ Some r → r ≡ fresh
+fresh_at zero k r e = absurd (cc)
+fresh_at (suc n) zero r e = sym (some_is e)
+fresh_at (suc n) (suc k) r e = fresh_at n k r e

@@ -1,18 +1,17 @@
 //! What holds of the bag and of every legal run.
 
-ghost use Rattle.std.specs.Prelude.{◌≡◌, ◌↔◌, ◌<◌, ◌≤◌, ◌++◌, ◌∷◌, ℕ, List, Some, None, IsTrue, count_by};
+ghost use Rattle.std.specs.Prelude.{◌≡◌, ◌↔◌, ◌<◌, ◌≤◌, ◌++◌, ◌∷◌, ℕ, Bool, List, Some, None, IsTrue};
 ghost use Rattle.std.specs.List.{list_any};
 ghost use Rattle.adlb_unit.specs.declared.configs.Config.{Config};
 ghost use Rattle.adlb_unit.specs.declared.names.Rank.{Rank};
 ghost use Rattle.adlb_unit.specs.declared.names.Server.{Server};
-ghost use Rattle.adlb_unit.specs.declared.names.UnitId.{UnitId};
 ghost use Rattle.adlb_unit.specs.declared.notes.End.{End};
 ghost use Rattle.bag_ledger.specs.declared.entries.Entry.{Entry};
 ghost use Rattle.bag_ledger.specs.Bag.{Bag, start, charge, settled};
 ghost use Rattle.bag_ledger.specs.Steps.{Steps};
 ghost use Rattle.bag_ledger.specs.Step.{step};
-ghost use Rattle.bag_ledger.specs.Runs.{IsRun, IsLegal, IsFirstIllegal, first_illegal};
-ghost use Rattle.bag_ledger.specs.Words.{puts, accepts, grants, fetches, refuses, looks, causes, IsSettled};
+ghost use Rattle.bag_ledger.specs.Runs.{IsLegal, IsRunWhere, IsFirstIllegal, first_illegal};
+ghost use Rattle.bag_ledger.specs.Words.{refuses, looks, causes, IsSettled};
 
 /// The definitions of the bag fit together. A step as a relation is the one that the function `step` makes
 /// (`same_step`), and the test `settled` says what it is read to say (`settled_means`). A ledger is legal exactly where
@@ -29,27 +28,19 @@ pub fn bag_laws()
         IsLegal config (ledger ++ rest) → IsLegal config ledger }
 {}
 
-/// After every legal run each server is charged within its limit (`within_limit`), and no unit was put, accepted,
-/// granted or fetched twice (`put_once`, `accepted_once`, `granted_once`, `fetched_once`). Before a put or a batch
-/// beginning is rejected each server refused it (`rejected_by_all`), before a try is answered that nothing is there each
-/// server looked (`looked_by_all`), and before an end is told it was brought about (`over_by_cause`).
+/// Whatever is asked where exhaustion is found (`found`): after every legal run each server is charged within its limit
+/// (`within_limit`). Before a put or a batch beginning is rejected each server refused it (`rejected_by_all`), before a try is
+/// answered that nothing is there each server looked (`looked_by_all`), and before an end is told it was brought about
+/// (`over_by_cause`). That no unit is put, accepted, granted or fetched twice is a law of `bag_law`.
 pub fn run_laws()
-    ensures within_limit { (config : Config) (ledger : List Entry) (last : Bag) →
-        IsRun (start config) ledger last → (server : Server) → charge last server ≤ config.limit }
-    ensures put_once { (config : Config) (ledger : List Entry) (id : UnitId) →
-        IsLegal config ledger → count_by (puts id) ledger ≤ 1 }
-    ensures accepted_once { (config : Config) (ledger : List Entry) (id : UnitId) →
-        IsLegal config ledger → count_by (accepts id) ledger ≤ 1 }
-    ensures granted_once { (config : Config) (ledger : List Entry) (id : UnitId) →
-        IsLegal config ledger → count_by (grants id) ledger ≤ 1 }
-    ensures fetched_once { (config : Config) (ledger : List Entry) (id : UnitId) →
-        IsLegal config ledger → count_by (fetches id) ledger ≤ 1 }
-    ensures rejected_by_all { (config : Config) (ledger rest : List Entry) (rank : Rank) (call : ℕ) →
-        IsLegal config (ledger ++ Entry.Rejected rank call ∷ rest) →
+    ensures within_limit { (found : Bag → Bool) (config : Config) (ledger : List Entry) (last : Bag) →
+        IsRunWhere found (start config) ledger last → (server : Server) → charge last server ≤ config.limit }
+    ensures rejected_by_all { (found : Bag → Bool) (config : Config) (ledger rest : List Entry) (last : Bag) (rank : Rank) (call : ℕ) →
+        IsRunWhere found (start config) (ledger ++ Entry.Rejected rank call ∷ rest) last →
         (server : Server) → server.0 < config.servers → IsTrue (list_any (refuses server rank call) ledger) }
-    ensures looked_by_all { (config : Config) (ledger rest : List Entry) (rank : Rank) (call : ℕ) →
-        IsLegal config (ledger ++ Entry.NoCurrent rank call ∷ rest) →
+    ensures looked_by_all { (found : Bag → Bool) (config : Config) (ledger rest : List Entry) (last : Bag) (rank : Rank) (call : ℕ) →
+        IsRunWhere found (start config) (ledger ++ Entry.NoCurrent rank call ∷ rest) last →
         (server : Server) → server.0 < config.servers → IsTrue (list_any (looks server rank call) ledger) }
-    ensures over_by_cause { (config : Config) (ledger rest : List Entry) (rank : Rank) (call : ℕ) (end : End) →
-        IsLegal config (ledger ++ Entry.Over rank call end ∷ rest) → IsTrue (list_any (causes end) ledger) }
+    ensures over_by_cause { (found : Bag → Bool) (config : Config) (ledger rest : List Entry) (last : Bag) (rank : Rank) (call : ℕ) (end : End) →
+        IsRunWhere found (start config) (ledger ++ Entry.Over rank call end ∷ rest) last → IsTrue (list_any (causes end) ledger) }
 {}

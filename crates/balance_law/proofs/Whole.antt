@@ -16,7 +16,7 @@ use Rattle.bag_ledger.specs.declared.states.UnitPlace.TheVariants.{Free, Travell
 use Rattle.bag_ledger.specs.Bag.{Bag, start, fresh}
 use Rattle.bag_ledger.specs.Steps.{Is, after}
 use Rattle.bag_ledger.specs.Runs.{IsRun, says, calls}
-use Rattle.bag_ledger.proofs.Accepted.{fresh_at}
+use Rattle.bag_ledger.proofs.Turns.{fresh_at}
 use Rattle.balance_law.specs.Balanced.{over_ranks, IsEndedWell, AreOrderly, IsBalanced}
 use Rattle.balance_law.specs.Parcels.{Parcel, sent, got}
 use Rattle.balance_law.proofs.Paths.{IsPath, of_rank, along, path_of, calls_along, over_same, over_along}

@@ -1,5 +1,5 @@
 use Rattle.std.proofs.Common.{◌≡◌, ◌∙◌, ap, arith, Some}
-use Rattle.bag_ledger.specs.Bag.{start}
+use Rattle.bag_ledger.specs.Bag.{settled, start}
 use Rattle.bag_ledger.proofs.Bridge.{row_is, is_row}
 use Rattle.bag_ledger.proofs.Legal.{run_from, none_found, found_is, is_found, run_split}
 use Rattle.bag_ledger.proofs.Settled.{settled_is, is_settled}
@@ -25,5 +25,5 @@ returns-clause-first_place c = λ config ledger place. (
 
 pub returns-clause-beginnings : goal.returns-clause-beginnings
 returns-clause-beginnings c = λ config ledger rest run.
-    let s = run_split (start config) run.0 ledger rest run.1 in
+    let s = run_split settled (start config) run.0 ledger rest run.1 in
     (s.0, s.1)
