@@ -8,6 +8,7 @@ use Rattle.adlb_unit.specs.declared.names.Rank.{Rank}
 use Rattle.adlb_unit.specs.declared.names.UnitId.{UnitId}
 use Rattle.adlb_unit.specs.declared.names.WorkType.{WorkType}
 use Rattle.work_queue.specs.Best.{ByClass, ByPriority, IsBest, IsOffered, Precedes}
+use Rattle.work_queue.specs.Fits.{IsFirstFit}
 use Rattle.work_queue.specs.Push.{GoesBefore, IsFirstToPush, IsMovable, told}
 use Rattle.work_queue.specs.Queue.{id_of}
 use Rattle.work_queue.specs.declared.placing.Placed.{Placed}
@@ -52,3 +53,17 @@ pub only_push : (units : List Placed) (a b : UnitId × ℕ) → IsFirstToPush un
 only_push units a b x y =
     let same : x.unit ≡ y.unit = only_first IsMovable GoesBefore (λ i j p q. goes_apart p.unit.prio q.unit.prio i j) units x.place y.place x.unit y.unit x.here y.here x.is_movable y.is_movable x.is_first y.is_first in
     sym x.has ∙ ap told same ∙ y.has
+
+order_cases : (i j : ℕ) → (i < j) ⊎ ((i ≡ j) ⊎ (j < i))
+order_cases i j = grind arith
+
+-- and one first fit
+pub only_fit : (asked : List (Rank × Option (List WorkType))) (units : List Placed) (a b : UnitId) → IsFirstFit asked units a → IsFirstFit asked units b → a ≡ b
+only_fit asked units a b x y =
+    let same : x.unit ≡ y.unit = by_order (order_cases x.place y.place) in
+    sym x.has_id ∙ ap id_of same ∙ y.has_id
+  where
+    by_order : ((x.place < y.place) ⊎ ((x.place ≡ y.place) ⊎ (y.place < x.place))) → x.unit ≡ y.unit
+    by_order (inl before) = absurd (y.is_first x.place x.unit before x.here x.is_asked)
+    by_order (inr (inl same)) = same_Some x.unit y.unit (sym x.here ∙ ap (λ k. slice_get units k) same ∙ y.here)
+    by_order (inr (inr after)) = absurd (x.is_first y.place y.unit after y.here y.is_asked)

@@ -6,9 +6,11 @@ use Rattle.adlb_unit.specs.declared.names.Rank.{Rank}
 use Rattle.adlb_unit.specs.declared.names.UnitId.{UnitId}
 use Rattle.adlb_unit.specs.declared.names.WorkType.{WorkType}
 use Rattle.work_queue.proofs.Firsts.{best_is, none_offered, some_offered}
-use Rattle.work_queue.proofs.Only.{only_best, only_push}
+use Rattle.work_queue.proofs.FirstFits.{fit_is, none_asked, some_asked}
+use Rattle.work_queue.proofs.Only.{only_best, only_fit, only_push}
 use Rattle.work_queue.proofs.Pushes.{first_is, none_movable, some_movable}
 use Rattle.work_queue.specs.Best.{IsBest, IsOffered, best_from, best_of, rated_id}
+use Rattle.work_queue.specs.Fits.{IsAsked, IsFirstFit, first_fit}
 use Rattle.work_queue.specs.Push.{IsFirstToPush, IsMovable, first_to_push_of, pick_to_push}
 use Rattle.work_queue.specs.declared.placing.Placed.{Placed}
 use Rattle.work_queue.specs.declared.pushing.Candidate.{Candidate}
@@ -58,3 +60,24 @@ module _ (units : List Placed) where
 
   pub no_push : (first_to_push_of units ≡ None) ↔ ¬ Any IsMovable units
   no_push = none_pushed (fold pick_to_push None units) refl
+
+module _ (asked : List (Rank × Option (List WorkType))) (units : List Placed) where
+  pub fit_asked : (id : UnitId) → IsFirstFit asked units id → Any (IsAsked asked) units
+  fit_asked id is = (is.place, is.unit, slice_get_within units is.place is.unit is.here, get_or_from_slice_get units is.place is.unit is.unit is.here, is.is_asked)
+
+  fit_found : (found : Option UnitId) → found ≡ first_fit asked units → (id : UnitId) → (found ≡ Some id) ↔ IsFirstFit asked units id
+  fit_found None same id = (λ no. absurd (none-some id no), λ is. absurd (none_asked asked units same (fit_asked id is)))
+  fit_found (Some first) same id =
+      let here : IsFirstFit asked units first = fit_is asked units first same in
+      let F : UnitId → Type 0 = λ x. IsFirstFit asked units x in
+      (λ e. subst F (same_Some first id e) here, λ is. ap (λ x. Some x) (only_fit asked units first id here is))
+
+  none_fit : (found : Option UnitId) → found ≡ first_fit asked units → (found ≡ None) ↔ ¬ Any (IsAsked asked) units
+  none_fit None same = (λ e some. none_asked asked units same some, λ none. refl)
+  none_fit (Some first) same = (λ e. absurd (none-some first (sym e)), λ none. absurd (none (some_asked asked units first same)))
+
+  pub fit_walk : (id : UnitId) → (first_fit asked units ≡ Some id) ↔ IsFirstFit asked units id
+  fit_walk = fit_found (first_fit asked units) refl
+
+  pub no_fit : (first_fit asked units ≡ None) ↔ ¬ Any (IsAsked asked) units
+  no_fit = none_fit (first_fit asked units) refl

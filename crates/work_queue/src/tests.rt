@@ -1,6 +1,7 @@
 //! Tests of values that were found by hand, and that the calls succeed when there is memory.
 
-ghost use Rattle.std.specs.Prelude.{◌≡◌, ◌≢◌, ◌≤◌, ◌<◌, ◌+◌, ◌^◌, [], All, IfOk, IsTrue, length};
+ghost use Rattle.std.specs.Prelude.{◌≡◌, ◌≢◌, ◌≤◌, ◌<◌, ◌+◌, [], All, IfOk, IsTrue, length};
+ghost use Rattle.adlb_unit.specs.Limits.{stamp_limit};
 ghost use Rattle.work_queue.specs.Queue.{HasNoPromise, HasNoUnit, id_of};
 
 use super::*;
@@ -54,7 +55,7 @@ fn offer(queue: &mut WorkQueue, unit: Unit) -> Option<AddFault>
     requires lower { All (λ p. (id_of p).number < unit.id.number) queue.old.units }
     requires promises { queue.old.promises ≡ [] }
     requires size { length unit.body ≤ 255 }
-    requires room { queue.old.arrivals < 2 ^ 48 }
+    requires room { queue.old.arrivals < stamp_limit }
 
     ensures lower { All (λ p. (id_of p).number < unit.id.number + 1) queue.new.units }
     ensures promises { queue.new.promises ≡ [] }
@@ -91,7 +92,7 @@ fn takes_units_up_to_the_limit(rt: HostRuntime) -> Result<(), Fail> {
 
 // A queue of units of the numbers 0, 1, ..; each row gives a unit's type, priority and target.
 fn filled(alloc: Global, rows: &[(u32, i32, Target)]) -> Result<WorkQueue, Fail>
-    requires { length rows.now < 2 ^ 48 }
+    requires { length rows.now < stamp_limit }
 {
     let mut queue = WorkQueue::new(alloc, 1000);
     for place in 0..rows.len() {
