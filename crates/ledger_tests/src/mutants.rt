@@ -614,15 +614,6 @@ fn grants_are_checked(rt: HostRuntime) -> Result<(), Fail> {
 }
 
 #[test]
-fn a_soft_unit_is_granted_to_another_rank(rt: HostRuntime) -> Result<(), Fail> {
-    let alloc = rt.alloc();
-    let for_the_putter_first = put_as(alloc, 0, 1, Target::Soft(Rank(0)))?;
-    let edit = Edit::Set(for_the_putter_first);
-    assert_eq!(rt; found(alloc, Base::GotElsewhere, 1, edit)?, None);
-    Ok(())
-}
-
-#[test]
 fn puts_are_checked(rt: HostRuntime) -> Result<(), Fail> {
     let alloc = rt.alloc();
     assert!(rt; fails(alloc, Base::FullServers, 8, Edit::Remove, 9)?);
@@ -701,8 +692,6 @@ fn looks_go_by_type_and_target(rt: HostRuntime) -> Result<(), Fail> {
     assert!(rt; fails(alloc, Base::Shelves, 0, Edit::Set(for_the_rank), 5)?);
     let for_any = put_as(alloc, 0, 1, Target::Any)?;
     assert!(rt; fails(alloc, Base::Shelves, 0, Edit::Set(for_any), 5)?);
-    let for_another_first = put_as(alloc, 0, 1, Target::Soft(Rank(1)))?;
-    assert!(rt; fails(alloc, Base::Shelves, 0, Edit::Set(for_another_first), 5)?);
     let wanted = put_as(alloc, 1, 1, Target::Any)?;
     assert!(rt; fails(alloc, Base::Shelves, 2, Edit::Set(wanted), 5)?);
     assert!(rt; fails(alloc, Base::Shelves, 4, Edit::Set(tried(0, 2)), 5)?);

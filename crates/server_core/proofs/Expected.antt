@@ -19,7 +19,7 @@ use Rattle.adlb_unit.specs.declared.names.Target.TheVariants.{Any as Anyone, Onl
 use Rattle.adlb_unit.specs.declared.names.UnitId.{UnitId}
 use Rattle.adlb_unit.specs.declared.units.Unit.{Unit}
 use Rattle.bag_ledger.proofs.Tests.{same_rank_is}
-use Rattle.work_queue.proofs.Ids.{differs_is, same_is}
+use Rattle.adlb_unit.proofs.Same.{same_unit_from, unit_differs}
 use Rattle.work_queue.specs.Queue.{HasNoPromise, HasNoUnit, HasPinned, HasRoom, HasUnit, Promise, id_of}
 use Rattle.work_queue.specs.declared.placing.Placed.{Placed}
 use Rattle.server_core.specs.Expected.{ExpectedHaveSteps, IsAwaited, IsHome, IsNew, Runs}
@@ -70,7 +70,7 @@ fetch_awaited : (s : ServerModel) (from : Rank) (request : ℕ) (id : UnitId) �
 fetch_awaited s from request id = (
   λ some. let p = pinned_there s from request id some in has_pinned id from s.queue.units p.0 p.1,
   λ has.
-      let passes : is_pinned_as id from has.1 ≡ true = and_from _ _ (same_is (id_of has.1) id has.4.0) (pin_from has.1.pin from has.4.1) in
+      let passes : is_pinned_as id from has.1 ≡ true = and_from _ _ (same_unit_from (id_of has.1) id has.4.0) (pin_from has.1.pin from has.4.1) in
       let p = there_find (is_pinned_as id from) s.queue.units has.1 (has.0, has.2, has.3) passes in
       rw p.1 refl,
 )
@@ -96,7 +96,7 @@ aims_from config (Only rank) aims = lt-ltb rank.0 config.ranks aims
 aims_from config (Soft rank) aims = lt-ltb rank.0 config.ranks aims
 
 apart : (a b : UnitId) → same_unit a b ≡ false → a ≢ b
-apart a b differs same = let is : same_unit a b ≡ true = same_is a b same in cc
+apart a b differs same = let is : same_unit a b ≡ true = same_unit_from a b same in cc
 
 pub new_is : (s : ServerModel) (from : Rank) (unit : Unit) → expects_put s from unit ≡ true → IsNew s from unit
 new_is s from unit expected =
@@ -118,8 +118,8 @@ pub is_new : (s : ServerModel) (from : Rank) (unit : Unit) → IsNew s from unit
 is_new s from unit n =
     let test : Placed → Bool = λ p. same_unit (id_of p) unit.id in
     let room : Promise → Bool = λ p. same_unit p.id unit.id in
-    let no_unit : has_unit unit.id s.queue.units ≡ false = list_any_none test s.queue.units (All-weaker (λ p. id_of p ≢ unit.id) (λ p. test p ≡ false) (λ p differs. differs_is (id_of p) unit.id differs) s.queue.units n.new) in
-    let no_room : has_promise unit.id s.queue.promises ≡ false = list_any_none room s.queue.promises (All-weaker (λ (p : Promise). p.id ≢ unit.id) (λ p. room p ≡ false) (λ p differs. differs_is p.id unit.id differs) s.queue.promises n.unpromised) in
+    let no_unit : has_unit unit.id s.queue.units ≡ false = list_any_none test s.queue.units (All-weaker (λ p. id_of p ≢ unit.id) (λ p. test p ≡ false) (λ p differs. unit_differs (id_of p) unit.id differs) s.queue.units n.new) in
+    let no_room : has_promise unit.id s.queue.promises ≡ false = list_any_none room s.queue.promises (All-weaker (λ (p : Promise). p.id ≢ unit.id) (λ p. room p ≡ false) (λ p differs. unit_differs p.id unit.id differs) s.queue.promises n.unpromised) in
     and_from _ _ (and_from _ _ (and_from _ _ (and_from _ _ (eq-eqb unit.id.rank.0 from.0 (ap (λ (r : Rank). r.0) n.sender)) (not_from_false _ no_unit)) (not_from_false _ no_room)) (le-leb (length unit.body) (2 ^ 20) n.size)) (aims_from s.config unit.target n.target)
 
 put_awaited : (s : ServerModel) (from : Rank) (unit : Unit) → IsSome (respond s from (tells.Put unit)) ↔ IsNew s from unit

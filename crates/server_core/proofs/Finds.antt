@@ -5,7 +5,7 @@ use Rattle.adlb_unit.specs.Ids.{same_unit}
 use Rattle.adlb_unit.specs.declared.names.Rank.{Rank}
 use Rattle.adlb_unit.specs.declared.names.UnitId.{UnitId}
 use Rattle.adlb_unit.specs.declared.names.WorkType.{WorkType}
-use Rattle.work_queue.proofs.Ids.{is_same, same_is}
+use Rattle.adlb_unit.proofs.Same.{same_unit_from, same_unit_is}
 use Rattle.work_queue.proofs.Lists.{free_unit}
 use Rattle.work_queue.specs.Best.{best_of}
 use Rattle.work_queue.specs.Queue.{HasFree, HasPinned, id_of}
@@ -59,11 +59,11 @@ pub record IsUnit (id : UnitId) (units : List Placed) (p : Placed) : Type 0 wher
 pub unit_is : (id : UnitId) (units : List Placed) (p : Placed) → unit_with id units ≡ Some p → IsUnit id units p
 unit_is id units p found =
     let here = find_is (λ q. same_unit (id_of q) id) units p found in
-    record { found = found; is = is_same (id_of p) id here.0; there = here.1 }
+    record { found = found; is = same_unit_is (id_of p) id here.0; there = here.1 }
 
 pub unit_found : (id : UnitId) (units : List Placed) (q : Placed) → Contains units q → id_of q ≡ id → (p : Placed) × IsUnit id units p
 unit_found id units q there is =
-    let found = there_find (λ u. same_unit (id_of u) id) units q there (same_is (id_of q) id is) in
+    let found = there_find (λ u. same_unit (id_of u) id) units q there (same_unit_from (id_of q) id is) in
     (found.0, unit_is id units found.0 found.1)
 
 -- the best unit is found by its id
@@ -84,7 +84,7 @@ pub pinned_is : (id : UnitId) (rank : Rank) (units : List Placed) (p : Placed) �
 pinned_is id rank units p found =
     let here = find_is (is_pinned_as id rank) units p found in
     let parts = and_parts (same_unit (id_of p) id) (is_pin p.pin rank) here.0 in
-    (is_same (id_of p) id parts.0, is_pin_is p.pin rank parts.1, here.1)
+    (same_unit_is (id_of p) id parts.0, is_pin_is p.pin rank parts.1, here.1)
 
 pub has_pinned : (id : UnitId) (rank : Rank) (units : List Placed) (p : Placed) → find (is_pinned_as id rank) units ≡ Some p → HasPinned id rank units
 has_pinned id rank units p found =

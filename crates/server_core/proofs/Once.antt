@@ -9,7 +9,6 @@ use Rattle.adlb_unit.specs.declared.names.UnitId.{UnitId}
 use Rattle.adlb_unit.proofs.Same.{same_unit_from, same_unit_is}
 use Rattle.bag_ledger.specs.Steps.{change_first}
 use Rattle.bag_ledger.specs.declared.states.Placed.{Placed as Lodged}
-use Rattle.work_queue.proofs.Ids.{same_is}
 use Rattle.work_queue.specs.Queue.{id_of}
 use Rattle.work_queue.specs.declared.placing.Placed.{Placed}
 use Rattle.server_core.specs.Agreement.{IsOnce, of_id}
@@ -34,7 +33,7 @@ none_passes {X} test x xs none = by_test (test x) refl none
 pub none_of_id : (id : UnitId) (units : List Placed) → unit_with id units ≡ None → All (λ q. id_of q ≢ id) units
 none_of_id id units none k d within same =
     let q : Placed = get_or units k d in
-    let found = there_find (λ p. same_unit (id_of p) id) units q (k, within, get_or_default units k q d within) (same_is (id_of q) id same) in
+    let found = there_find (λ p. same_unit (id_of p) id) units q (k, within, get_or_default units k q d within) (same_unit_from (id_of q) id same) in
     cc (found.1, none)
 
 pub once_added : (all : List Lodged) (u : Lodged) → IsOnce all → find (of_id u.unit.id) all ≡ None → IsOnce (all ++ u ∷ [])

@@ -8,7 +8,6 @@ use Rattle.adlb_unit.specs.declared.names.Rank.{Rank}
 use Rattle.adlb_unit.specs.declared.names.UnitId.{UnitId}
 use Rattle.adlb_unit.specs.Ids.{same_unit}
 use Rattle.adlb_unit.proofs.Same.{same_unit_from, unit_differs}
-pub use Rattle.adlb_unit.proofs.Same.{same_unit_from as same_is, same_unit_is as is_same, unit_differs as differs_is}
 use Rattle.work_queue.proofs.Named as named
 use Rattle.work_queue.specs.Queue.{HasDistinctIds, IsSmall, has_other_id, id_of, pinned_by, size_of}
 use Rattle.work_queue.specs.declared.placing.Placed.{Placed}
