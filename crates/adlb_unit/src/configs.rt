@@ -10,10 +10,13 @@ use thiserror::Error;
 /// Which number of a configuration is outside its limits.
 #[derive(Clone, Copy, Debug, PartialEq, Eq, Error)]
 pub enum ConfigFault {
+    /// `given` ranks, where 1 to 32 are allowed.
     #[error("{given} ranks, but there are 1 to 32")]
     Ranks { given: u32 },
+    /// `given` servers, where 1 to 8 are allowed.
     #[error("{given} servers, but there are 1 to 8")]
     Servers { given: u32 },
+    /// A limit of `given` bytes, where 64 to 2^30 are allowed.
     #[error("a limit of {given} bytes, but it is 64 to 1073741824")]
     Limit { given: u64 },
 }

@@ -27,11 +27,14 @@ pub struct Server(pub u32);
 #[derive(Clone, Copy, Debug, PartialEq, Eq, PartialOrd, Ord)]
 pub struct WorkType(pub u32);
 
-/// Whom a unit is for: any rank alike, one rank alone, or any rank but best this one.
+/// Whom a unit is for.
 #[derive(Clone, Copy, Debug, PartialEq, Eq)]
 pub enum Target {
+    /// Any rank alike.
     Any,
+    /// This rank alone.
     Only(Rank),
+    /// This rank before others: each rank may have the unit.
     Soft(Rank),
 }
 

@@ -27,13 +27,17 @@ pub struct Info {
 /// Why there is no more work: the problem was called done, or all that was put was used up.
 #[derive(Clone, Copy, Debug, PartialEq, Eq)]
 pub enum End {
+    /// A rank called the problem done.
     NoMoreWork,
+    /// All work was used up.
     Exhausted,
 }
 
 /// Why a run stops without an answer: memory ran out, or a stamp past the last one that is given.
 #[derive(Clone, Copy, Debug, PartialEq, Eq)]
 pub enum Trouble {
+    /// Allocation failed.
     Memory,
+    /// The next event would have this stamp, which is not given.
     TooLong { stamp: u64 },
 }

@@ -12,8 +12,10 @@ use thiserror::Error;
 /// Why a list of types is refused.
 #[derive(Clone, Copy, Debug, PartialEq, Eq, Error)]
 pub enum TypesFault {
+    /// No type is listed.
     #[error("no type is listed")]
     Empty,
+    /// `count` types are listed, more than 16.
     #[error("{count} types are listed")]
     TooMany { count: u64 },
 }

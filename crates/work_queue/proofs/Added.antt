@@ -9,7 +9,7 @@ use Rattle.slab.specs.Slab.{HasRoomFor, Slab, get, Updates}
 use Rattle.work_queue.proofs.Units.{units_one, units_same}
 use Rattle.work_queue.specs.Inside.{IsSound, queue_of}
 use Rattle.work_queue.specs.Queue.{HasApartPromises, HasDistinctPromises, HasNoPromise, HasNoUnit, IsSmall, id_of, promised, size_of}
-use Rattle.work_queue.specs.Units.{units_at}
+use Rattle.work_queue.specs.Inside.Units.{units_at}
 use Rattle.work_queue.specs.declared.placing.Placed.{Placed}
 use Rattle.work_queue.specs.declared.queues.WorkQueue.TheInside.{Inside}
 

@@ -9,7 +9,8 @@ use Rattle.std.proofs.lemmas.List.Sums.{fold_push, sum_by-cons, sum_by_push}
 use Rattle.adlb_unit.specs.declared.names.WorkType.{WorkType}
 use Rattle.adlb_unit.specs.declared.notes.Info.{Info}
 use Rattle.adlb_unit.specs.Infos.{info_of_prios}
-use Rattle.work_queue.specs.Counts.{count_unit, counts_of, info_with, is_counted, prios_of}
+use Rattle.work_queue.specs.Inside.Counting.{count_unit, info_with}
+use Rattle.work_queue.specs.Counts.{counts_of, is_counted, prios_of}
 use Rattle.work_queue.specs.declared.placing.Placed.{Placed}
 
 abbrev told : ℕ → ℤ → ℕ → Info

@@ -9,7 +9,7 @@ use Rattle.slab.specs.Slab.{Slab, get}
 use Rattle.adlb_unit.proofs.Same.{same_unit_from, unit_differs}
 use Rattle.work_queue.proofs.Units.{units_one}
 use Rattle.work_queue.specs.Queue.{id_of, is_unit}
-use Rattle.work_queue.specs.Units.{HasId, units_at}
+use Rattle.work_queue.specs.Inside.Units.{HasId, units_at}
 use Rattle.work_queue.specs.declared.placing.Placed.{Placed}
 
 module _ (test : Placed → Bool) (slots : Slab Placed) (order : List ℕ) where

@@ -15,7 +15,7 @@ use Rattle.work_queue.proofs.Offers.{free_is, is_permitted, permitted_is}
 use Rattle.work_queue.proofs.Searched.{find_first, find_none}
 use Rattle.work_queue.specs.Fits.{IsAsked, IsFirstFit, asked_for, first_fit}
 use Rattle.work_queue.specs.Queue.{HasFree, id_of}
-use Rattle.work_queue.specs.Units.{units_at}
+use Rattle.work_queue.specs.Inside.Units.{units_at}
 use Rattle.work_queue.specs.declared.placing.Placed.{Placed}
 
 module _ (asked : List (Rank × Option (List WorkType))) where

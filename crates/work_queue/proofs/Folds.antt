@@ -8,7 +8,7 @@ use Rattle.adlb_unit.specs.declared.names.WorkType.{WorkType}
 use Rattle.slab.specs.Slab.{Slab, get}
 use Rattle.work_queue.proofs.Units.{units_one}
 use Rattle.work_queue.specs.Best.{best_from, pick}
-use Rattle.work_queue.specs.Units.{units_at}
+use Rattle.work_queue.specs.Inside.Units.{units_at}
 use Rattle.work_queue.specs.declared.placing.Placed.{Placed}
 use Rattle.work_queue.specs.declared.rating.Rated.{Rated}
 

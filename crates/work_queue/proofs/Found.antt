@@ -8,7 +8,7 @@ use Rattle.work_queue.proofs.Ids.{only_one}
 use Rattle.work_queue.proofs.Units.{has_gives, unit_listed}
 use Rattle.work_queue.specs.Inside.{IsSound}
 use Rattle.work_queue.specs.Queue.{IsSmall, id_of}
-use Rattle.work_queue.specs.Units.{HasId, units_at}
+use Rattle.work_queue.specs.Inside.Units.{HasId, units_at}
 use Rattle.work_queue.specs.declared.placing.Placed.{Placed}
 use Rattle.work_queue.specs.declared.queues.WorkQueue.TheInside.{Inside}
 

@@ -9,7 +9,7 @@ use Rattle.slab.specs.Slab.{get}
 use Rattle.work_queue.proofs.Units.{length-units, unit_under}
 use Rattle.work_queue.specs.Inside.{IsSound}
 use Rattle.work_queue.specs.Queue.{seen}
-use Rattle.work_queue.specs.Units.{units_at}
+use Rattle.work_queue.specs.Inside.Units.{units_at}
 use Rattle.work_queue.specs.declared.placing.Placed.{Placed}
 use Rattle.work_queue.specs.declared.queues.WorkQueue.TheInside.{Inside}
 

@@ -12,7 +12,7 @@ use Rattle.work_queue.proofs.Ids.{filter_at}
 use Rattle.work_queue.proofs.Units.{Parts, parts_at, units_besides, units_parted}
 use Rattle.work_queue.specs.Inside.{IsSound, queue_of}
 use Rattle.work_queue.specs.Queue.{HasNoUnit, IsSmall, has_other_id, id_of, size_of, without}
-use Rattle.work_queue.specs.Units.{units_at}
+use Rattle.work_queue.specs.Inside.Units.{units_at}
 use Rattle.work_queue.specs.declared.placing.Placed.{Placed}
 use Rattle.work_queue.specs.declared.queues.WorkQueue.TheInside.{Inside}
 

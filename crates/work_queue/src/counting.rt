@@ -3,7 +3,8 @@
 ghost use Rattle.std.specs.Prelude.{◌≡◌, ◌<◌, ◌≤◌, ◌+◌, ◌^◌, fold};
 ghost use Rattle.std.specs.Option.{option_to_list};
 ghost use Rattle.slab.specs.Slab.{get};
-ghost use Rattle.work_queue.specs.Counts.{count_unit, info_with, is_counted};
+ghost use Rattle.work_queue.specs.Counts.{is_counted};
+ghost use Rattle.work_queue.specs.Inside.Counting.{count_unit, info_with};
 
 use crate::placing::Placed;
 use adlb_unit::{Info, WorkType};

@@ -6,7 +6,7 @@ ghost use Rattle.slab.specs.Slab.{get, slab_len, with_value, Updates};
 ghost use Rattle.work_queue.specs.Best.{best_from};
 ghost use Rattle.work_queue.specs.Facts.{facts_of};
 ghost use Rattle.work_queue.specs.Queue.{HasUnit, IsSmall, is_unit, seen};
-ghost use Rattle.work_queue.specs.Units.{units_at, HasId};
+ghost use Rattle.work_queue.specs.Inside.Units.{units_at, HasId};
 ghost use Rattle.work_queue.specs.declared.placing.Placed.{Placed};
 
 use crate::placing::{Placed, UnitFacts};

@@ -1,7 +1,7 @@
 use Rattle.std.proofs.Common.{◌∙◌, [], ap, fold, arith}
 use Rattle.std.proofs.lemmas.List.Sums.{fold-append}
 use Rattle.adlb_unit.specs.Infos.{info_of_prios}
-use Rattle.work_queue.specs.Counts.{count_unit}
+use Rattle.work_queue.specs.Inside.Counting.{count_unit}
 use Rattle.work_queue.proofs.Counted.{counts_whole}
 use Rattle.work_queue.proofs.Folds.{found_next, found_whole}
 use Rattle.work_queue.proofs.queues.WorkQueue.counts.Goals as goal

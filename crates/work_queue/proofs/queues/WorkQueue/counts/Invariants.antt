@@ -1,7 +1,7 @@
 use Rattle.std.proofs.Common.{◌≡◌, ◌≤◌, [], fold, take}
 use Rattle.adlb_unit.specs.Infos.{info_of_prios}
-use Rattle.work_queue.specs.Counts.{count_unit}
-use Rattle.work_queue.specs.Units.{units_at}
+use Rattle.work_queue.specs.Inside.Counting.{count_unit}
+use Rattle.work_queue.specs.Inside.Units.{units_at}
 use Rattle.work_queue.proofs.queues.WorkQueue.counts.Given as goal
 
 abbrev pub invariant-loop-key : goal.invariant-loop-key

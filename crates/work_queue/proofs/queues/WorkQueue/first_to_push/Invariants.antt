@@ -1,6 +1,6 @@
 use Rattle.std.proofs.Common.{◌≡◌, None, fold, take}
 use Rattle.work_queue.specs.Push.{pick_to_push}
-use Rattle.work_queue.specs.Units.{units_at}
+use Rattle.work_queue.specs.Inside.Units.{units_at}
 use Rattle.work_queue.proofs.queues.WorkQueue.first_to_push.Given as goal
 
 abbrev pub invariant-loop-key : goal.invariant-loop-key

@@ -4,7 +4,7 @@ use Rattle.std.proofs.lemmas.List.{length-append}
 use Rattle.std.proofs.lemmas.List.Sums.{sum_by_push}
 use Rattle.slab.specs.Slab.{HasRoomFor}
 use Rattle.work_queue.specs.Queue.{HasNoPromise, HasNoUnit, Promise, Queue, promised}
-use Rattle.work_queue.specs.Units.{units_at}
+use Rattle.work_queue.specs.Inside.Units.{units_at}
 use Rattle.work_queue.proofs.Grown.{apart_more, once_more, sound_rooms}
 use Rattle.work_queue.proofs.queues.WorkQueue.promise.Goals as goal
 
