@@ -9,6 +9,7 @@ use Rattle.adlb_unit.specs.declared.actors.Actor.TheVariants as by
 use Rattle.adlb_unit.specs.declared.configs.Config.{Config}
 use Rattle.adlb_unit.specs.declared.letters.Letter.{Letter}
 use Rattle.adlb_unit.specs.declared.letters.Sending.{Sending}
+use Rattle.adlb_unit.specs.declared.messages.Message.{Message}
 use Rattle.adlb_unit.specs.declared.messages.Message.TheVariants as tells
 use Rattle.adlb_unit.specs.declared.names.Rank.{Rank}
 use Rattle.adlb_unit.specs.declared.names.Server.{Server}
@@ -32,6 +33,7 @@ use Rattle.bag_ledger.specs.declared.states.Status.TheVariants as does
 use Rattle.bag_ledger.specs.Bag.{Bag}
 use Rattle.bag_ledger.specs.Steps.{begun}
 use Rattle.bag_ledger.proofs.Tests.{some_is}
+use Rattle.rank_client.specs.declared.pendings.Pending.{Pending}
 use Rattle.rank_client.specs.declared.pendings.Pending.TheVariants as waits_for
 use Rattle.rank_client.specs.Calls.{fetches, granted, is_fetched, is_finish}
 use Rattle.rank_client.specs.Rules.{ClientResponse, asks, entry_of, fetch, fetched, first_server as first_asked, open_call, over, put, reserve, unit_put}
@@ -44,7 +46,7 @@ use Rattle.server_core.specs.State.{ServerModel}
 use Rattle.server_core.proofs.Finds.{find_is}
 use Rattle.core_inline.specs.Answers.{CanCall}
 use Rattle.core_inline.specs.Known.{AreKnown, IsNoted, note_with}
-use Rattle.core_inline.specs.Rounds.{IsBeginning, IsIdle, first_server}
+use Rattle.core_inline.specs.Rounds.{IsBeginning, IsIdle, first_server, pending_call}
 use Rattle.core_inline.proofs.Beginning.{IsEntry, IsOverMade, IsSentMade, begin_gives, follows, over_beginning, sent_asked, sent_beginning, sent_units}
 use Rattle.core_inline.proofs.Fetches.{fetch_serving, noted_here}
 use Rattle.core_inline.proofs.Known.{IsPlain, held_fetched, others_left}
@@ -79,6 +81,52 @@ home_is : (config : Config) (rank : Rank) → config.servers ≡ 1 → home conf
 home_is config rank one = let named : ℕ → Server = λ k. record { 0 = k } in ap named (mod_one rank.0 config.servers one)
 
 module _ (c : ClientModel) (s : ServerModel) (ledger : List Entry) (i : IsIdle c s ledger) where
+  -- What the rules of calls make of a client: at once an end that was told, or a letter to the only server.
+
+  over_made : (call : Call) (entry : Entry) (end : End) (puts : ℕ) → c.end ≡ Some end
+      → open_call (ticked c (call_stamp c)) call ≡ Some (over (record (ticked c (call_stamp c)) { puts = puts }) entry call end)
+      → IsOverMade c s ledger call i entry end (made (over (record (ticked c (call_stamp c)) { puts = puts }) entry call end))
+  over_made call entry end puts was_told opens = record {
+    begins = begin_gives c s ledger call i (over (record (ticked c (call_stamp c)) { puts = puts }) entry call end) opens;
+    entries = refl;
+    answers_it = refl;
+    unsent = refl;
+    like = record { config = refl; me = refl; trouble = refl; finished = refl; batch = refl };
+    next = refl;
+    idle = refl;
+    grown = refl;
+    notes_are = refl;
+    clock = refl;
+    end_is = was_told;
+  }
+
+  -- the client that has asked the server: it has put so often, and holds these notes
+  abbrev asking : Entry → Server → Message → Pending → ℕ → List UnitNote → ClientResponse
+  asking entry to message pending puts notes = asks (record (ticked c (call_stamp c)) { puts = puts; handles = notes }) entry to message pending
+
+  abbrev letter_of : Entry → Server → Message → Pending → ℕ → List UnitNote → Letter
+  letter_of entry to message pending puts notes = (posted (asking entry to message pending puts notes).state (record { to = to; message = message })).letter
+
+  sent_made : (call : Call) (entry : Entry) (to : Server) (message : Message) (pending : Pending) (puts : ℕ) (notes : List UnitNote)
+      → to ≡ first_server → pending_call pending ≡ Some call
+      → open_call (ticked c (call_stamp c)) call ≡ Some (asking entry to message pending puts notes)
+      → IsSentMade c s ledger call i entry (letter_of entry to message pending puts notes) (made (asking entry to message pending puts notes))
+  sent_made call entry to message pending puts notes only waits opens =
+      let sends_to : Server → List Sending = λ v. record { to = by.Server v; letter = letter_of entry to message pending puts notes } ∷ [] in
+      record {
+        begins = begin_gives c s ledger call i (asking entry to message pending puts notes) opens;
+        entries = refl;
+        unanswered = refl;
+        sends = ap sends_to only;
+        like = record { config = refl; me = refl; trouble = refl; finished = refl; batch = refl };
+        next = refl;
+        pending = waits;
+        same = refl;
+        clock = refl;
+        end_is = refl;
+        stamped = refl;
+      }
+
   module _ (kind : WorkType) (prio : ℤ) (target : Target) (answer : Option Rank) (body : List ℕ) (size : length body ≤ 2 ^ 20) (aims : Aims target 1) where
     put_opens : open_call (ticked c (call_stamp c)) (calls_to.Put kind prio target answer body) ≡ Some (put (ticked c (call_stamp c)) (unit_put c kind prio target answer body) c.end)
     put_opens =
@@ -97,19 +145,7 @@ module _ (c : ClientModel) (s : ServerModel) (ledger : List Entry) (i : IsIdle c
             let f : RankState → RankState = λ v. begun (does.Putting (record { id = record { rank = c.me; number = c.next }; kind = kind; prio = prio; target = target; answer = answer; common = v.batch; body = body })) v in
             let opens : open_call (ticked c (call_stamp c)) call ≡ Some r = put_opens ∙ ap (λ o. Some (put (ticked c (call_stamp c)) unit o)) was_told in
             let first : IsEntry c s ledger call i (entry_of unit) f = record { after_it = refl; silent_it = refl; pending = refl } in
-            let it : IsOverMade c s ledger call i (entry_of unit) end (made r) = record {
-              begins = begin_gives c s ledger call i r opens;
-              entries = refl;
-              answers_it = refl;
-              unsent = refl;
-              like = record { config = refl; me = refl; trouble = refl; finished = refl; batch = refl };
-              next = refl;
-              idle = refl;
-              grown = refl;
-              notes_are = refl;
-              clock = refl;
-              end_is = was_told;
-            } in
+            let it : IsOverMade c s ledger call i (entry_of unit) end (made r) = over_made call (entry_of unit) end (c.puts + 1) was_told opens in
             over_beginning c s ledger call i (entry_of unit) f end (made r) first it was_told refl refl (ended_plain call end (λ id. refl))
         by_end None untold =
             let call : Call = calls_to.Put kind prio target answer body in
@@ -121,20 +157,7 @@ module _ (c : ClientModel) (s : ServerModel) (ledger : List Entry) (i : IsIdle c
             let f : RankState → RankState = λ v. begun (does.Putting (record { id = record { rank = c.me; number = c.next }; kind = kind; prio = prio; target = target; answer = answer; common = v.batch; body = body })) v in
             let opens : open_call (ticked c (call_stamp c)) call ≡ Some r = put_opens ∙ ap (λ o. Some (put (ticked c (call_stamp c)) unit o)) untold in
             let first : IsEntry c s ledger call i (entry_of unit) f = record { after_it = refl; silent_it = refl; pending = refl } in
-            let sends_to : Server → List Sending = λ v. record { to = by.Server v; letter = letter } ∷ [] in
-            let it : IsSentMade c s ledger call i (entry_of unit) letter x = record {
-              begins = begin_gives c s ledger call i r opens;
-              entries = refl;
-              unanswered = refl;
-              sends = ap sends_to (first_is c target i.joint.one_server);
-              like = record { config = refl; me = refl; trouble = refl; finished = refl; batch = refl };
-              next = refl;
-              pending = refl;
-              same = refl;
-              clock = refl;
-              end_is = refl;
-              stamped = refl;
-            } in
+            let it : IsSentMade c s ledger call i (entry_of unit) letter x = sent_made call (entry_of unit) to (tells.Put unit) (waits_for.Put unit to 0) (c.puts + 1) c.handles (first_is c target i.joint.one_server) refl opens in
             let new : find (of_id unit.id) (follows c s ledger call i x it.begins).0.units ≡ None =
             ap (find (of_id unit.id)) (sent_units c s ledger call i (entry_of unit) f letter x first it i.known) ∙ new_id i.last.units unit.id c.next i.known.lower refl in
             sent_beginning c s ledger call i (entry_of unit) f letter x first it i.known (λ stamp.
@@ -153,19 +176,7 @@ module _ (c : ClientModel) (s : ServerModel) (ledger : List Entry) (i : IsIdle c
           let f : RankState → RankState = begun (does.Asking c.next types) in
           let opens : open_call (ticked c (call_stamp c)) call ≡ Some r = ap (λ (n : ℕ). if n == 1 then Some (reserve (ticked c (call_stamp c)) types c.end) else None) i.joint.one_server ∙ ap (λ o. Some (reserve (ticked c (call_stamp c)) types o)) was_told in
           let first : IsEntry c s ledger call i entry f = record { after_it = refl; silent_it = refl; pending = refl } in
-          let it : IsOverMade c s ledger call i entry end (made r) = record {
-            begins = begin_gives c s ledger call i r opens;
-            entries = refl;
-            answers_it = refl;
-            unsent = refl;
-            like = record { config = refl; me = refl; trouble = refl; finished = refl; batch = refl };
-            next = refl;
-            idle = refl;
-            grown = refl;
-            notes_are = refl;
-            clock = refl;
-            end_is = was_told;
-          } in
+          let it : IsOverMade c s ledger call i entry end (made r) = over_made call entry end c.puts was_told opens in
           over_beginning c s ledger call i entry f end (made r) first it was_told refl refl (ended_plain call end (λ id. refl))
       by_end None untold =
           let call : Call = calls_to.Reserve types in
@@ -177,20 +188,7 @@ module _ (c : ClientModel) (s : ServerModel) (ledger : List Entry) (i : IsIdle c
           let f : RankState → RankState = begun (does.Asking c.next types) in
           let opens : open_call (ticked c (call_stamp c)) call ≡ Some r = ap (λ (n : ℕ). if n == 1 then Some (reserve (ticked c (call_stamp c)) types c.end) else None) i.joint.one_server ∙ ap (λ o. Some (reserve (ticked c (call_stamp c)) types o)) untold in
           let first : IsEntry c s ledger call i entry f = record { after_it = refl; silent_it = refl; pending = refl } in
-          let sends_to : Server → List Sending = λ v. record { to = by.Server v; letter = letter } ∷ [] in
-          let it : IsSentMade c s ledger call i entry letter x = record {
-            begins = begin_gives c s ledger call i r opens;
-            entries = refl;
-            unanswered = refl;
-            sends = ap sends_to (home_is c.config c.me i.joint.one_server);
-            like = record { config = refl; me = refl; trouble = refl; finished = refl; batch = refl };
-            next = refl;
-            pending = refl;
-            same = refl;
-            clock = refl;
-            end_is = refl;
-            stamped = refl;
-          } in
+          let it : IsSentMade c s ledger call i entry letter x = sent_made call entry to (tells.Reserve c.next types) (waits_for.Reserve c.next types) c.puts c.handles (home_is c.config c.me i.joint.one_server) refl opens in
           sent_beginning c s ledger call i entry f letter x first it i.known (λ stamp.
           reserve_serving x.state s (ledger ++ x.entries) letter (follows c s ledger call i x it.begins).0 (sent_asked c s ledger call i entry f letter x first it i.known stamp) c.next types refl refl i.held untold)
 
@@ -209,20 +207,7 @@ module _ (c : ClientModel) (s : ServerModel) (ledger : List Entry) (i : IsIdle c
       let f : RankState → RankState = begun (does.Fetching c.next note.id false) in
       let opens : open_call (ticked c (call_stamp c)) call ≡ Some r = ap (fetch (ticked c (call_stamp c)) note.id) found in
       let first : IsEntry c s ledger call i entry f = record { after_it = refl; silent_it = refl; pending = refl } in
-      let sends_to : Server → List Sending = λ v. record { to = by.Server v; letter = letter } ∷ [] in
-      let it : IsSentMade c s ledger call i entry letter x = record {
-        begins = begin_gives c s ledger call i r opens;
-        entries = refl;
-        unanswered = refl;
-        sends = ap sends_to (noted_here i.last s note i.joint.alone noted ∙ i.joint.first);
-        like = record { config = refl; me = refl; trouble = refl; finished = refl; batch = refl };
-        next = refl;
-        pending = refl;
-        same = refl;
-        clock = refl;
-        end_is = refl;
-        stamped = refl;
-      } in
+      let it : IsSentMade c s ledger call i entry letter x = sent_made call entry note.server (tells.Fetch c.next note.id) (waits_for.Fetch c.next note) c.puts handles (noted_here i.last s note i.joint.alone noted ∙ i.joint.first) refl opens in
       let known : AreKnown i.last.units c.next c.transcript handles = record {
         lower = i.known.lower;
         plain = i.known.plain;
