@@ -1,3 +1,4 @@
 pub mod Events
 pub mod Inside
 pub mod Merging
+pub mod Own

@@ -9,10 +9,13 @@ mod events;
 mod fronts;
 mod histories;
 mod journals;
+mod ledgers;
 mod merging;
+mod twins;
 
 pub use causes::Cause;
 pub use events::Happened;
 pub use histories::History;
 pub use journals::Journal;
+pub use ledgers::ledger_of;
 pub use merging::{MergeFault, merge};
