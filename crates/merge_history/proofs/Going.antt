@@ -1,5 +1,5 @@
 -- A merge of journals, step by step.
-use Rattle.std.proofs.Common.{◌≡◌, ◌<◌, ◌∷◌, ◌++◌, [], ◌∙◌, List, ℕ, true, Some, None, All, length, map, get_or, set, slice_get, ap, sym, refl, subst, arith}
+use Rattle.std.proofs.Common.{◌≡◌, ◌<◌, ◌∷◌, ◌++◌, [], ◌∙◌, List, ℕ, true, Some, None, All, length, map, get_or, set, slice_get, ap, sym, subst, arith}
 use Rattle.std.proofs.lemmas.List.{length-map, map-append}
 use Rattle.std.proofs.lemmas.List.Elements.{All-map, All-push}
 use Rattle.adlb_unit.specs.declared.actors.Actor.{Actor}

@@ -1,5 +1,9 @@
 mod Best
+mod Bridge
 mod Going
-mod Queues
+mod Machine
+mod OneRun
 mod Places
+mod Queues
+mod States
 mod Steps

@@ -1,7 +1,6 @@
 -- Fronts of journals as the lists of their events.
-use Rattle.std.proofs.Common.{◌≡◌, ◌<◌, ℕ, zero, suc, List, [], ◌∷◌, length, map, get_or, set, slice_get, Some, refl, ap, sym, ◌∙◌, ◌+◌, arith, sum_by}
+use Rattle.std.proofs.Common.{◌≡◌, ◌<◌, ℕ, zero, suc, List, [], ◌∷◌, length, map, get_or, set, slice_get, Some, refl, ap, sym, ◌∙◌, arith, sum_by}
 use Rattle.std.proofs.lemmas.List.Sums.{sum_by-cons}
-use Rattle.adlb_unit.specs.declared.actors.Actor.{Actor}
 use Rattle.merge_history.specs.Events.{Event, OfActor}
 
 abbrev pub lists : List OfActor → List (List Event)

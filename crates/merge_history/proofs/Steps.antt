@@ -1,7 +1,6 @@
 -- One step of a merge.
 use Rattle.std.proofs.Common.{◌≡◌, ◌<◌, ℕ, true, false, cond, eqb, List, [], ◌∷◌, ◌++◌, length, get_or, set, refl, sym, ap, ◌∙◌, append_assoc, append-nil, inl, inr, arith, eq-eqb, ne_eqb, All}
 use Rattle.std.proofs.lemmas.List.{get_or_past, get_or-set_same, get_or-set_other, length-set}
-use Rattle.std.proofs.lemmas.List.Elements.{All-from_recursion}
 use Rattle.std.proofs.lemmas.Bool.{cases_lt, cases_eq}
 use Rattle.std.specs.List.{AllByRecursion as Each}
 use Rattle.journal_law.specs.Orders.{of_actor, Rises, IsBefore, IsInOrder, IsMerged}

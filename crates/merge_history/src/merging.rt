@@ -3,6 +3,7 @@
 ghost use Rattle.std.specs.Prelude.{◌≡◌, IfOk, length, map};
 ghost use Rattle.merge_history.specs.Inside.{IsLeast, better};
 ghost use Rattle.merge_history.specs.Merging.{CanMerge, IsMergeOf, stamp_of};
+ghost use Rattle.merge_history.specs.Own.{Compose, Finals, IsCoreRun};
 
 use crate::events::Happened;
 use crate::fronts::{Front, fronts_of};
@@ -70,10 +71,13 @@ fn merged_events(
 }
 
 /// All events of the journals, by stamp and among equal stamps by actor (`IsMergeOf`). There is one journal for each actor
-/// of the run, the ranks before the servers, and in each the stamps rise. Its only error is `Memory`.
+/// of the run, the ranks before the servers, and in each the stamps rise. If besides the journals compose (`Compose`: each
+/// is its actor's own run, and on each link what was got is a prefix of what was sent), the history is one run of all
+/// actors (`IsCoreRun`). Its only error is `Memory`.
 pub fn merge(alloc: Global, config: &Config, journals: Vec<Journal>) -> Result<History, MergeFault>
     requires { CanMerge config.now journals.items }
     ensures merged { IfOk result (λ h. IsMergeOf config.now journals.items h) }
+    ensures run { IfOk result (λ h. (finals : Finals) → Compose config.now finals journals.items → IsCoreRun config.now finals journals.items h) }
 {
     match merged_events(alloc, config, journals) {
         Ok(events) => Ok(History { events }),

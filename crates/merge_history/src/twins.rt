@@ -54,9 +54,18 @@ fn light_twin(entry: &Entry) -> Entry
             call: *call,
             types: types.twin(),
         },
-        Entry::Rejected { rank, call } => Entry::Rejected { rank: *rank, call: *call },
-        Entry::Closing { rank, call } => Entry::Closing { rank: *rank, call: *call },
-        Entry::NoCurrent { rank, call } => Entry::NoCurrent { rank: *rank, call: *call },
+        Entry::Rejected { rank, call } => Entry::Rejected {
+            rank: *rank,
+            call: *call,
+        },
+        Entry::Closing { rank, call } => Entry::Closing {
+            rank: *rank,
+            call: *call,
+        },
+        Entry::NoCurrent { rank, call } => Entry::NoCurrent {
+            rank: *rank,
+            call: *call,
+        },
         Entry::Fetching { rank, call, id } => Entry::Fetching {
             rank: *rank,
             call: *call,
@@ -67,8 +76,14 @@ fn light_twin(entry: &Entry) -> Entry
             call: *call,
             kind: *kind,
         },
-        Entry::Done { rank, call } => Entry::Done { rank: *rank, call: *call },
-        Entry::Finished { rank, call } => Entry::Finished { rank: *rank, call: *call },
+        Entry::Done { rank, call } => Entry::Done {
+            rank: *rank,
+            call: *call,
+        },
+        Entry::Finished { rank, call } => Entry::Finished {
+            rank: *rank,
+            call: *call,
+        },
         other => server_twin(other),
     }
 }
@@ -84,11 +99,39 @@ fn server_twin(entry: &Entry) -> Entry
         Entry::Accepted { server, id } => Entry::Accepted { server, id },
         Entry::Kept { server, batch } => Entry::Kept { server, batch },
         Entry::Closed { server, batch } => Entry::Closed { server, batch },
-        Entry::Granted { server, rank, call, id } => Entry::Granted { server, rank, call, id },
+        Entry::Granted {
+            server,
+            rank,
+            call,
+            id,
+        } => Entry::Granted {
+            server,
+            rank,
+            call,
+            id,
+        },
         Entry::Looked { server, rank, call } => Entry::Looked { server, rank, call },
         Entry::Fetched { server, rank, id } => Entry::Fetched { server, rank, id },
-        Entry::CommonFetched { server, rank, batch } => Entry::CommonFetched { server, rank, batch },
-        Entry::Counted { server, rank, call, info } => Entry::Counted { server, rank, call, info },
+        Entry::CommonFetched {
+            server,
+            rank,
+            batch,
+        } => Entry::CommonFetched {
+            server,
+            rank,
+            batch,
+        },
+        Entry::Counted {
+            server,
+            rank,
+            call,
+            info,
+        } => Entry::Counted {
+            server,
+            rank,
+            call,
+            info,
+        },
         _ => other_twin(entry),
     }
 }

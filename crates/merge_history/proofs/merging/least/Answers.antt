@@ -1,9 +1,8 @@
-use Rattle.std.proofs.Common.{◌≡◌, ◌<◌, ◌∙◌, ap, sym, length, map, get_or, arith}
+use Rattle.std.proofs.Common.{◌≡◌, ◌∙◌, ap, sym, length, arith}
 use Rattle.std.proofs.lemmas.List.{length-map}
-use Rattle.merge_history.specs.Events.{OfActor}
-use Rattle.merge_history.specs.Inside.{better, first_stamp, IsBest}
+use Rattle.merge_history.specs.Inside.{first_stamp}
 use Rattle.merge_history.specs.Merging.{stamp_of}
-use Rattle.merge_history.proofs.Best.{best_more, least_some, least_none}
+use Rattle.merge_history.proofs.Best.{best_more, least_some}
 use Rattle.merge_history.proofs.Queues.{lists, list_read}
 use Rattle.merge_history.proofs.merging.least.Goals as goal
 

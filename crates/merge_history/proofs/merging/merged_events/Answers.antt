@@ -1,7 +1,7 @@
-use Rattle.std.proofs.Common.{◌≡◌, ◌<◌, ◌∷◌, ◌++◌, [], ◌∙◌, ap, sym, subst, length, get_or, set, sum_by, Some, None, List, arith}
+use Rattle.std.proofs.Common.{◌≡◌, ◌<◌, ◌∷◌, ◌++◌, [], ◌∙◌, ap, sym, subst, length, get_or, set, Some, None, List, arith}
 use Rattle.std.proofs.lemmas.List.{length-map}
 use Rattle.adlb_unit.specs.declared.actors.Actor.{Actor}
-use Rattle.merge_history.specs.Events.{Event, OfActor}
+use Rattle.merge_history.specs.Events.{Event}
 use Rattle.merge_history.specs.Inside.{IsLeast}
 use Rattle.merge_history.specs.Merging.{stamp_of}
 use Rattle.merge_history.proofs.Going.{IsGoing, going_start, going_on, going_ended}
