@@ -18,6 +18,7 @@ use Rattle.bag_ledger.specs.Words.{IsTracked}
 use Rattle.bag_law.specs.Sound.{PromisesAreApart}
 use Rattle.bag_law.proofs.Plain.{accepted_is, kept_is, lodged}
 
+-- the promises of a bag
 abbrev pub IsApart : Bag → Type 0
 IsApart b = PromisesAreApart b.units b.promises
 
@@ -32,6 +33,7 @@ apart_moved b id place u there away is = record { each = λ x v p at promised. b
     by_case x v p promised (inl c) = let own : promise_of b id ≡ Some p = rw c.0 at promised in rw c.1 (away p own)
     by_case x v p promised (inr c) = is.each x v p c.1 promised
 
+-- a legal entry keeps promised units apart from their promises
 pub apart_stays : (found : Bag → Bool) (b : Bag) (e : Entry) → LegalWhere found b e → IsTracked b → IsApart b → IsApart (after b e)
 apart_stays found b (Accepted server id) l promised is =
     let a = accepted_is b server id l in

@@ -1,5 +1,5 @@
 -- Batches and their parts.
-use Rattle.std.proofs.Common.{◌≡◌, ℕ, ◌+◌, ◌⊎◌, inl, inr, Bool, true, false, not, ◌&&◌, ◌==◌, List, [], ◌∷◌, ◌++◌, length, find, Option, Some, None, refl, sym, ap, ◌∙◌, subst, slice_get}
+use Rattle.std.proofs.Common.{◌≡◌, ℕ, ◌+◌, ◌⊎◌, inl, inr, Bool, true, false, not, ◌&&◌, ◌==◌, List, [], ◌∷◌, ◌++◌, length, Option, Some, None, refl, sym, ap, ◌∙◌, subst, slice_get}
 use Rattle.std.proofs.lemmas.Bool.{and_parts, eqb-true}
 use Rattle.adlb_unit.specs.declared.names.Server.{Server}
 use Rattle.adlb_unit.specs.declared.names.UnitId.{UnitId}
@@ -21,7 +21,7 @@ use Rattle.bag_law.specs.Counts.{part_in}
 use Rattle.bag_law.specs.Sound.{BatchesAreOpen, HasOpenPart, IdsAreNew, IsBroughtBy, IsOpenBatch, IsRanksBatch}
 use Rattle.bag_law.proofs.Ids.{begun_part_is_new}
 use Rattle.bag_law.proofs.Turn.{PartWas, Turned, found_new, turned, part_is, part_was}
-use Rattle.bag_law.proofs.Plain.{IsAccepted, IsCalm, IsPlain, accepted_is, is_bare, is_special, kept_is, shared_parts, view}
+use Rattle.bag_law.proofs.Plain.{IsAccepted, IsCalm, IsPlain, accepted_is, is_bare, is_special, kept_is, shared_parts, plain_or_special}
 
 -- A rank has its turn, and its batch stays.
 
@@ -73,6 +73,7 @@ puts_calm n r v same (inr bare) is = puts_bare n v v.status bare.1
 
 -- A part changes, and stays its batch's, as open as it was, and where it was.
 
+-- q is the part p, as open as it was
 pub record IsSamePart (p q : Part) : Type 0 where
   pub batch : q.batch ≡ p.batch
   pub closed : q.closed ≡ p.closed
@@ -324,10 +325,11 @@ parts_special found b (Withdrawn server id) s l new is = is
 parts_special found b Exhausted s l new is = is
 parts_special found b _ s l new is = absurd (cc)
 
+-- a legal entry keeps batches and their parts together
 pub batches_stay : (found : Bag → Bool) (b : Bag) (e : Entry) → LegalWhere found b e → IdsAreNew b.ranks b.units b.parts
     → BatchesAreOpen b.ranks b.parts → BatchesAreOpen (after b e).ranks (after b e).parts
 unfolding HasBatches
-batches_stay found b e l new is = by_case (view found b e l)
+batches_stay found b e l new is = by_case (plain_or_special found b e l)
   where
     by_case : IsPlain b (after b e) ⊎ (is_special e ≡ true) → BatchesAreOpen (after b e).ranks (after b e).parts
     by_case (inl p) =

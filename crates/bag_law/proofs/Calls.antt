@@ -34,6 +34,7 @@ use Rattle.bag_law.specs.Sound.{FetchesAreReady, IsFetchOf}
 use Rattle.bag_law.proofs.Turn.{one_le, found_passes}
 use Rattle.bag_law.proofs.Plain.{accepted_is, is_fetch, kept_is, lodged, offer_bare, open_bare, wish_bare}
 
+-- pinned or spent
 abbrev pub is_taken : UnitPlace → Bool
 is_taken (Pinned server rank) = true
 is_taken Spent = true
@@ -115,6 +116,7 @@ IsFreeFor b _ = Prim.Unit {0}
 abbrev IsSaidNow : Bag → Bag → Rank → Said → Type 0
 IsSaidNow b n by s = IsTrueSaid n by s × IsFreeFor b s.answer
 
+-- what was made of an option that is there
 pub and_then_is : {X Y : Type 0} (f : X → Option Y) (o : Option X) (y : Y) → option_and_then f o ≡ Some y
     → (x : X) × (o ≡ Some x) × (f x ≡ Some y)
 and_then_is f None y e = absurd (cc)
@@ -263,6 +265,7 @@ once_more b rank said s id all once (answers.Granted note) is free = by_test (sa
         omega arith
 once_more b rank said s id all once _ is free = omega arith
 
+-- the calls of a rank stay true, and a call that the entry ends is true
 pub calls_stay : (found : Bag → Bool) (b : Bag) (e : Entry) (rank : Rank) (said : List Said) → LegalWhere found b e
     → FetchesAreReady b.ranks b.units → AreTrueCalls rank said b → AreTrueCalls rank (said ++ said_by rank (says b e)) (after b e)
 calls_stay found b e rank said l fetches is = by_said (says b e) refl

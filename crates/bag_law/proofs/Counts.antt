@@ -26,7 +26,7 @@ use Rattle.bag_law.specs.Counts.{accepted_of, common_in, fetched_of, if_so, is_s
 use Rattle.bag_law.specs.Sound.{BatchesAreOpen, FetchesAreReady, IsFetchOf, PartsCount}
 use Rattle.bag_law.proofs.Batches.{put_is_open}
 use Rattle.bag_law.proofs.Turn.{found_passes, sum_kept, sum_same, sum_turned}
-use Rattle.bag_law.proofs.Plain.{IsAccepted, IsCalm, IsPlain, accepted_is, is_bare, is_fetch, is_special, kept_is, lodged, shared_parts, view, wish_bare}
+use Rattle.bag_law.proofs.Plain.{IsAccepted, IsCalm, IsPlain, accepted_is, is_bare, is_fetch, is_special, kept_is, lodged, shared_parts, plain_or_special, wish_bare}
 
 -- Ranks.
 
@@ -287,10 +287,11 @@ counted_special found b (Withdrawn server id) s l fetches parts is = is
 counted_special found b Exhausted s l fetches parts is = is
 counted_special found b _ s l fetches parts is = absurd (cc)
 
+-- a legal entry keeps the counts of parts
 pub counts_stay : (found : Bag → Bool) (b : Bag) (e : Entry) → LegalWhere found b e → FetchesAreReady b.ranks b.units
     → BatchesAreOpen b.ranks b.parts → PartsCount b.ranks b.units b.parts → PartsCount (after b e).ranks (after b e).units (after b e).parts
 unfolding HasCounts
-counts_stay found b e l fetches parts is = by_case (view found b e l)
+counts_stay found b e l fetches parts is = by_case (plain_or_special found b e l)
   where
     by_case : IsPlain b (after b e) ⊎ (is_special e ≡ true) → PartsCount (after b e).ranks (after b e).units (after b e).parts
     by_case (inl p) =

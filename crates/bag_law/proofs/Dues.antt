@@ -35,6 +35,7 @@ accepted_dues b n server id a parts = rw a.parts (by_common a.u.common refl)
         let none : one (is_due (record p.0 { accepted = p.0.accepted + 1 })) ≡ 0 = rw p.2 refl in
         omega arith
 
+-- only the end of a batch and common bytes that come make a part due, one at most
 pub made_due : (found : Bag → Bool) (b : Bag) (e : Entry) → LegalWhere found b e → BatchesAreOpen b.ranks b.parts
     → dues (after b e).parts + frees e ≤ dues b.parts + may_make_due e
 made_due found b (Accepted server id) l parts = let a = accepted_dues b _ server id (accepted_is b server id l) parts in omega arith
@@ -79,6 +80,7 @@ counts_any test (y ∷ ys) e = by_test (counts_any test ys) (test y) refl
     by_test rest true is = let more : 1 + sum_by (λ x. one (test x)) ys ≡ 0 = rw is at all in absurd (omega arith)
     by_test rest false is = let less : 0 + sum_by (λ x. one (test x)) ys ≡ 0 = rw is at all in rw is (rest (omega arith))
 
+-- where no part is due they count to none, and the other way round
 pub none_due : (b : Bag) → has_due b ≡ false → dues b.parts ≡ 0
 none_due b e = any_counts is_due b.parts e
 

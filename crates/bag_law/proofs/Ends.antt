@@ -11,7 +11,7 @@ use Rattle.bag_ledger.specs.Steps.{LegalWhere, after, change_at, ended, has_caus
 use Rattle.bag_ledger.proofs.Tests.{some_is}
 use Rattle.bag_law.specs.Sound.{EndsHaveCauses}
 use Rattle.bag_law.proofs.Turn.{Turned, turned}
-use Rattle.bag_law.proofs.Plain.{IsPlain, accepted_is, is_special, kept_is, view}
+use Rattle.bag_law.proofs.Plain.{IsPlain, accepted_is, is_special, kept_is, plain_or_special}
 
 -- a rank has its turn, and is told no end that has no cause
 causes_turn : (ranks : List RankState) (c : End → Bool) (place : ℕ) (f : RankState → RankState) (r : RankState)
@@ -33,6 +33,7 @@ causes_own : (ranks : List RankState) (c : End → Bool) (place : ℕ) (common :
 causes_own ranks c place None r there is = causes_turn ranks c place ended r there (λ end e. inl e) is
 causes_own ranks c place (Some common) r there is = causes_turn ranks c place (own_fetched (Some common)) r there (λ end e. inl e) is
 
+-- the ends of a bag
 abbrev pub HasEnds : Bag → Type 0
 HasEnds b = EndsHaveCauses b.ranks (has_cause b)
 
@@ -61,8 +62,9 @@ causes_special found b Exhausted s l is = record { each = λ n r end e told. ris
     rises ends_by.Exhausted c = refl
 causes_special found b _ s l is = absurd (cc)
 
+-- a legal entry tells no end without its cause
 pub ends_stay : (found : Bag → Bool) (b : Bag) (e : Entry) → LegalWhere found b e → HasEnds b → HasEnds (after b e)
-ends_stay found b e l is = by_case (view found b e l)
+ends_stay found b e l is = by_case (plain_or_special found b e l)
   where
     by_case : IsPlain b (after b e) ⊎ (is_special e ≡ true) → HasEnds (after b e)
     by_case (inl p) =

@@ -26,6 +26,7 @@ use Rattle.bag_law.proofs.Turn.{found_passes, none_found, one_le, sum_at, sum_fo
 
 -- Puts.
 
+-- a unit that a rank puts is the rank's, is not there yet, and shares the rank's batch
 pub put_is_new : (b : Bag) → IsSoundBag b → (rank : Rank) (r : RankState) (u : Unit) → Is b rank r → r.status ≡ does.Putting u
     → (u.id.rank.0 ≡ rank.0) × (unit_of b u.id ≡ None) × (u.common ≡ r.batch)
 put_is_new b is rank r u there puts =
@@ -48,6 +49,7 @@ counts_one test (y ∷ ys) x at passes = by_case (counts_one test ys x) (contain
     by_case rest (inl here) = rw (sum_by-cons (λ x. one (test x)) y ys, here, passes) (omega arith)
     by_case rest (inr later) = let more = rest later passes in rw (sum_by-cons (λ x. one (test x)) y ys) (omega arith)
 
+-- where a test counts one at most, what passes it is what it finds
 pub single_found : {X : Type 0} (test : X → Bool) (xs : List X) (x : X) → Contains xs x → test x ≡ true → sum_by (λ x. one (test x)) xs ≤ 1
     → find test xs ≡ Some x
 single_found test [] x at passes single = let low = at.1 in absurd (omega arith)
@@ -66,10 +68,12 @@ single_found test (y ∷ ys) x at passes single = by_test (single_found test ys 
     by_test rest (inr later) false is =
         let less : 0 + sum_by (λ x. one (test x)) ys ≤ 1 = rw is at all in rw is (rest later passes (omega arith))
 
+-- an id is used once at most
 pub used_most : (id : UnitId) (o : Option RankState) → if_there (used id.number) o ≤ 1
 used_most id None = omega arith
 used_most id (Some r) = one_le (nat_lt id.number r.next)
 
+-- each unit, part and promise is the one that its id finds
 pub are_found : (b : Bag) → IsSoundBag b → AreFound b
 are_found b is = record {
   unit = λ u at. let n = is.ids.each u.unit.id in
@@ -95,6 +99,7 @@ number_used b id (Some r) e one_there = by_test (nat_lt id.number r.next) refl
     by_test true at = (r, e, ltb-true id.number r.next at)
     by_test false at = let none : 1 ≤ one false = rw at at one_there in absurd (omega arith)
 
+-- the number of each unit and part was used by its rank
 pub are_used : (b : Bag) → IsSoundBag b → AreUsed b
 are_used b is = record {
   unit = λ id u there.
@@ -151,6 +156,7 @@ sum_single w test (y ∷ ys) x found single = by_test (sum_single w test ys x) (
         let r = rest later (omega arith) in
         rw (sum_by-cons (λ x. if_so (test x) (w x)) y ys, is) (omega arith)
 
+-- as many units were accepted as common bytes were fetched, units are not spent, and ranks are owed them
 pub part_counts : (b : Bag) → IsSoundBag b → (batch : BatchId) (p : Part) → part_of b batch ≡ Some p
     → p.accepted ≡ p.fetched + sum_by (unspent batch) b.units + owes batch b.units b.ranks
 part_counts b is batch p there =
@@ -179,6 +185,7 @@ kept_from b is c has open_one =
         let f = (is.batches.freed c.batch has.0 has.1 e).1 in
         absurd (omega arith)
 
+-- the part of a unit that is not spent is kept
 pub unspent_is_kept : (b : Bag) → IsSoundBag b → (id : UnitId) (u : Placed) (c : CommonRef) → unit_of b id ≡ Some u
     → is_spent u.place ≡ false → u.unit.common ≡ Some c → IsKept b c
 unspent_is_kept b is id u c there at shares =
@@ -187,6 +194,7 @@ unspent_is_kept b is id u c there at shares =
     let s = sum_found (unspent c.batch) (λ v. same_unit v.unit.id id) b.units u there in
     kept_from b is c has (omega arith)
 
+-- a unit whose own bytes are fetched is pinned to the rank
 pub fetch_is_pinned : (b : Bag) → IsSoundBag b → (rank : Rank) (r : RankState) (call : ℕ) (id : UnitId) → Is b rank r
     → r.status ≡ does.Fetching call id false → (u : Placed) × (server : Server) × (unit_of b id ≡ Some u) × (u.place ≡ Pinned server rank)
 fetch_is_pinned b is rank r call id there status =
@@ -199,6 +207,7 @@ fetch_is_pinned b is rank r call id there status =
         same_rank_self : (rank.0 == rank.0) ≡ true
         same_rank_self = same_number rank.0
 
+-- the part of a unit whose common bytes a rank is owed is kept
 pub owed_is_kept : (b : Bag) → IsSoundBag b → (rank : Rank) (r : RankState) (call : ℕ) (id : UnitId) → Is b rank r
     → r.status ≡ does.Fetching call id true
     → (u : Placed) × (c : CommonRef) × (unit_of b id ≡ Some u) × (u.place ≡ Spent) × (u.unit.common ≡ Some c) × IsKept b c
@@ -216,6 +225,7 @@ owed_is_kept b is rank r call id there status =
         let s = sum_at (λ (r : RankState). owing c.batch b.units r.status) b.ranks rank.0 r there in
         (u, c, at, spent, shares, kept_from b is c has (omega arith))
 
+-- a rank's batch is an open part
 pub batch_is_open : (b : Bag) → IsSoundBag b → (rank : Rank) (r : RankState) (c : CommonRef) → Is b rank r → r.batch ≡ Some c
     → (c.batch.rank.0 ≡ rank.0)
     × ((p : Part) × (part_of b c.batch ≡ Some p) × (p.closed ≡ false) × (p.freed ≡ false) × (p.server ≡ c.server)
@@ -236,5 +246,6 @@ rest_has_none test k x xs passes single =
     let own : one (test k x) ≡ 1 = ap one passes in
     none_found (test k) xs (omega arith)
 
+-- of each id there is one unit at most
 pub units_single : (b : Bag) → IsSoundBag b → (id : UnitId) → units_named id b.units ≤ 1
 units_single b is id = let n = is.ids.each id in let m = used_most id (slice_get b.ranks id.rank.0) in omega arith

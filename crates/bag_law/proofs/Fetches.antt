@@ -22,7 +22,7 @@ use Rattle.bag_ledger.proofs.Tests.{some_is}
 use Rattle.bag_law.specs.Counts.{common_in}
 use Rattle.bag_law.specs.Sound.{FetchesAreReady, IsFetchOf, IsReady}
 use Rattle.bag_law.proofs.Turn.{Turned, turned}
-use Rattle.bag_law.proofs.Plain.{IsCalm, IsPlain, accepted_is, is_bare, is_special, kept_is, lodged, view}
+use Rattle.bag_law.proofs.Plain.{IsCalm, IsPlain, accepted_is, is_bare, is_special, kept_is, lodged, plain_or_special}
 
 fetch_map : (us vs : List Placed) (n : ℕ) → ((id : UnitId) (own : Bool) → IsReady us n id own → IsReady vs n id own) → (s : Status)
     → IsFetchOf us n s → IsFetchOf vs n s
@@ -114,6 +114,7 @@ fetches_own b server rank call id u r common there status stands is_common is =
         let here = moved_here b id Spent u stands.0 in
         rw status (record u { place = Spent }, c, here, refl, common)
 
+-- the fetches of a bag
 abbrev pub HasFetches : Bag → Type 0
 HasFetches b = FetchesAreReady b.ranks b.units
 
@@ -149,8 +150,9 @@ fetches_special found b (Withdrawn server id) s l is = is
 fetches_special found b Exhausted s l is = is
 fetches_special found b _ s l is = absurd (cc)
 
+-- a legal entry keeps what is fetched where it was, until its bytes come
 pub fetches_stay : (found : Bag → Bool) (b : Bag) (e : Entry) → LegalWhere found b e → HasFetches b → HasFetches (after b e)
-fetches_stay found b e l is = by_case (view found b e l)
+fetches_stay found b e l is = by_case (plain_or_special found b e l)
   where
     by_case : IsPlain b (after b e) ⊎ (is_special e ≡ true) → HasFetches (after b e)
     by_case (inl p) =

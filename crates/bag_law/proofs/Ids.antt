@@ -1,5 +1,5 @@
 -- Ids of units and parts, and what a rank is about to bring.
-use Rattle.std.proofs.Common.{◌≡◌, ℕ, ◌+◌, ◌≤◌, ◌==◌, ◌&&◌, ◌⊎◌, inl, inr, Bool, true, false, List, [], ◌∷◌, ◌++◌, Option, Some, None, refl, sym, ap, ◌∙◌, subst, arith, slice_get, find}
+use Rattle.std.proofs.Common.{◌≡◌, ℕ, ◌+◌, ◌≤◌, ◌==◌, ◌&&◌, ◌⊎◌, inl, inr, Bool, true, false, List, [], ◌∷◌, ◌++◌, Option, Some, None, refl, sym, ap, ◌∙◌, subst, arith, slice_get}
 use Rattle.std.specs.Prelude.{nat_lt}
 use Rattle.std.proofs.lemmas.Bool.{ltb-true, lt-ltb, le-ltb, eqb-true, false_from_ne_true}
 use Rattle.std.proofs.lemmas.List.Sums.{sum_by_push}
@@ -23,8 +23,9 @@ use Rattle.bag_law.specs.Counts.{batch_id, brings, brought, if_there, one, part_
 use Rattle.bag_law.specs.Sound.{IdsAreNew}
 use Rattle.adlb_unit.specs.declared.units.Unit.{Unit}
 use Rattle.bag_law.proofs.Turn.{one_le, Turned, none_found, turned, sum_kept}
-use Rattle.bag_law.proofs.Plain.{IsAccepted, IsCalm, IsPlain, accepted_is, is_bare, is_special, kept_is, lodged, shared_parts, view}
+use Rattle.bag_law.proofs.Plain.{IsAccepted, IsCalm, IsPlain, accepted_is, is_bare, is_special, kept_is, lodged, shared_parts, plain_or_special}
 
+-- a number stays used
 pub used_rises : (n a c : ℕ) → a ≤ c → one (nat_lt n a) ≤ one (nat_lt n c)
 used_rises n a c up = by_test (nat_lt n a) refl
   where
@@ -32,6 +33,7 @@ used_rises n a c up = by_test (nat_lt n a) refl
     by_test true is = let low = ltb-true n a is in rw (lt-ltb n c (omega arith)) (omega arith)
     by_test false is = omega arith
 
+-- a call uses its number
 pub used_begins : (n call : ℕ) → one (call == n) + one (nat_lt n call) ≤ one (nat_lt n (call + 1))
 used_begins n call = by_test (call == n) refl
   where
@@ -94,6 +96,7 @@ new_begun ranks us ps place call f r there number next hand is =
     let now : used n (f r) ≡ one (nat_lt n (call + 1)) = ap (λ m. one (nat_lt n m)) (next ∙ ap (λ m. m + 1) number) in
     omega arith) is
 
+-- a move keeps the ids of units
 pub same_units : (id : UnitId) (x : UnitId) (place : UnitPlace) (us : List Placed)
     → units_named x (change_first (λ u. record u { place = place }) (λ u. same_unit u.unit.id id) us) ≡ units_named x us
 same_units id x place us =
@@ -137,6 +140,7 @@ new_accepted b n server id a is =
     omega arith)
     is))
 
+-- the ids of a bag
 abbrev pub HasIds : Bag → Type 0
 HasIds b = IdsAreNew b.ranks b.units b.parts
 
@@ -189,8 +193,9 @@ new_plain : (b n : Bag) → IsPlain b n → HasIds b → HasIds n
 new_plain b n p is =
     rw (p.ranks, p.units, p.parts) (new_turn b.ranks b.units b.parts p.place p.f p.r p.there (calm_gains p.r (p.f p.r) p.rises p.calm) is)
 
+-- a legal entry makes no id stand twice
 pub ids_stay : (found : Bag → Bool) (b : Bag) (e : Entry) → LegalWhere found b e → HasIds b → HasIds (after b e)
-ids_stay found b e l is = by_case (view found b e l)
+ids_stay found b e l is = by_case (plain_or_special found b e l)
   where
     by_case : IsPlain b (after b e) ⊎ (is_special e ≡ true) → HasIds (after b e)
     by_case (inl p) = new_plain b (after b e) p is
@@ -205,6 +210,7 @@ none_yet ranks us ps id r there hand is =
     let most : used id.number r ≤ 1 = one_le (nat_lt id.number r.next) in
     (omega arith, omega arith)
 
+-- the part of a batch that a rank begins is not there yet
 pub begun_part_is_new : (ranks : List RankState) (us : List Placed) (ps : List Part) (batch : BatchId) (r : RankState) (common : List ℕ)
     → slice_get ranks batch.rank.0 ≡ Some r → r.status ≡ does.Keeping batch.number common → IdsAreNew ranks us ps
     → part_in ps batch ≡ None
@@ -213,6 +219,7 @@ begun_part_is_new ranks us ps batch r common there status is =
     let hand : brought batch.number r ≡ 1 = rw (status, same_number batch.number) refl in
     none_found (λ p. same_batch p.batch batch) ps (none_yet ranks us ps id r there hand is).1
 
+-- the unit that a rank puts is not there yet
 pub put_unit_is_new : (ranks : List RankState) (us : List Placed) (ps : List Part) (id : UnitId) (r : RankState) (u : Unit)
     → slice_get ranks id.rank.0 ≡ Some r → r.status ≡ does.Putting u → u.id ≡ id → IdsAreNew ranks us ps
     → unit_in us id ≡ None

@@ -1,5 +1,5 @@
 -- No unit is put, accepted, granted or fetched twice in a run: each such entry adds to what the bag counts of the id.
-use Rattle.std.proofs.Common.{◌≡◌, ℕ, ◌+◌, ◌≤◌, ◌==◌, ◌⊎◌, inl, inr, Bool, true, false, List, [], ◌∷◌, ◌++◌, count_by, cond, Option, Some, None, refl, sym, ap, ◌∙◌, subst, arith, slice_get}
+use Rattle.std.proofs.Common.{◌≡◌, ℕ, ◌+◌, ◌≤◌, ◌⊎◌, inl, inr, Bool, true, false, List, [], ◌∷◌, count_by, cond, Option, Some, None, refl, ap, ◌∙◌, subst, arith, slice_get}
 use Rattle.std.specs.Prelude.{nat_lt}
 use Rattle.std.proofs.lemmas.List.Sums.{sum_by-cons, sum_by_push}
 use Rattle.adlb_unit.specs.declared.configs.Config.{Config}
@@ -24,7 +24,7 @@ use Rattle.bag_law.proofs.Calls.{is_taken, kept_unit}
 use Rattle.bag_law.proofs.Facts.{units_single, used_most}
 use Rattle.bag_law.proofs.Ids.{pair_differs, pair_same, same_units, used_begins, used_rises}
 use Rattle.bag_law.proofs.Plain.{accepted_is, kept_is, lodged}
-use Rattle.bag_law.proofs.Sound.{run_sound}
+use Rattle.bag_law.proofs.Sound.{run_is_sound}
 use Rattle.bag_law.proofs.Turn.{Turned, one_le, turned}
 
 -- Each counted entry adds one to a weight that no entry lowers.
@@ -62,12 +62,13 @@ accepts_add id found b (Left server to x) l = rw (same_units x id (Travelling to
 accepts_add id found b (Arrived server x) l = rw (same_units x id (Free server) b.units) (omega arith)
 accepts_add id found b _ l = omega arith
 
+-- no unit is accepted twice
 pub accepted_once : (found : Bag → Bool) (config : Config) (ledger : List Entry) (last : Bag) (id : UnitId)
     → IsRunWhere found (start config) ledger last
     → count_by (accepts id) ledger ≤ 1
 accepted_once found config ledger last id run =
     let grows = count_grows (accepts id) (λ b. units_named id b.units) (accepts_add id) found (start config) last ledger run in
-    let most = units_single last (run_sound found config ledger last run) id in
+    let most = units_single last (run_is_sound found config ledger last run) id in
     omega arith
 
 -- Units that were put: their numbers are used.
@@ -118,6 +119,7 @@ puts_add id found b (Putting rank call kind prio target answer body) l =
     put_turn id b.ranks rank call _ l.0 l.1.0 l.1.2 refl
 puts_add id found b e l = let stays = used_stay id found b e l in omega arith
 
+-- no unit is put twice
 pub put_once : (found : Bag → Bool) (config : Config) (ledger : List Entry) (last : Bag) (id : UnitId)
     → IsRunWhere found (start config) ledger last
     → count_by (puts id) ledger ≤ 1
@@ -188,6 +190,7 @@ fetches_add id found b (Fetched server rank x) l =
     (standing_stays is_spent spent_is_taken refl id found b (Fetched server rank x) l)
 fetches_add id found b e l = let stays = standing_stays is_spent spent_is_taken refl id found b e l in omega arith
 
+-- no unit is granted twice
 pub granted_once : (found : Bag → Bool) (config : Config) (ledger : List Entry) (last : Bag) (id : UnitId)
     → IsRunWhere found (start config) ledger last
     → count_by (grants id) ledger ≤ 1
@@ -196,6 +199,7 @@ granted_once found config ledger last id run =
     let most = standing_most is_taken (unit_of last id) in
     omega arith
 
+-- no unit is fetched twice
 pub fetched_once : (found : Bag → Bool) (config : Config) (ledger : List Entry) (last : Bag) (id : UnitId)
     → IsRunWhere found (start config) ledger last
     → count_by (fetches id) ledger ≤ 1

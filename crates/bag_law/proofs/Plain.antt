@@ -29,6 +29,7 @@ abbrev pub is_fetch : Status → Bool
 is_fetch (does.Fetching call id own) = true
 is_fetch _ = false
 
+-- neither a put, a batch beginning nor a fetch
 abbrev pub is_bare : Status → Bool
 is_bare (does.Putting u) = false
 is_bare (does.Keeping call common) = false
@@ -39,6 +40,7 @@ is_bare _ = true
 abbrev pub IsCalm : Status → Status → Type 0
 IsCalm s t = (t ≡ s) ⊎ ((is_fetch s ≡ false) × (is_bare t ≡ true))
 
+-- one rank has its turn; units, parts, promises and its batch stay, and it brings and fetches nothing new
 pub record IsPlain (b n : Bag) : Type 0 where
   pub place : ℕ
   pub f : RankState → RankState
@@ -54,6 +56,7 @@ pub record IsPlain (b n : Bag) : Type 0 where
   pub tells : (end : End) → (f r).end ≡ Some end → (r.end ≡ Some end) ⊎ (has_cause b end ≡ true)
   pub causes : (end : End) → has_cause b end ≡ true → has_cause n end ≡ true
 
+-- the entries of which this is not so
 abbrev pub is_special : Entry → Bool
 is_special (Refused server id used) = false
 is_special (Rejected rank call) = false
@@ -69,6 +72,7 @@ is_special (Over rank call end) = false
 is_special (Finished rank call) = false
 is_special _ = true
 
+-- a rank that brings or wants something fetches nothing
 pub offer_bare : (s : Status) (x : ℕ × ℕ) → offer s ≡ Some x → is_fetch s ≡ false
 offer_bare (does.Fetching call id own) x e = absurd (cc)
 offer_bare _ x e = refl
@@ -113,41 +117,45 @@ done_causes : (b : Bag) (rank : Rank) (call : ℕ) (end : End) → has_cause b e
 done_causes b rank call ends_by.NoMoreWork e = refl
 done_causes b rank call ends_by.Exhausted e = e
 
-pub view : (found : Bag → Bool) (b : Bag) (e : Entry) → LegalWhere found b e → IsPlain b (after b e) ⊎ (is_special e ≡ true)
-view found b (Refused server id used) l =
+-- an entry is plain, or special
+pub plain_or_special : (found : Bag → Bool) (b : Bag) (e : Entry) → LegalWhere found b e → IsPlain b (after b e) ⊎ (is_special e ≡ true)
+plain_or_special found b (Refused server id used) l =
     inl (plain _ _ id.rank.0 (declined_by server) l.0 l.2 refl refl refl refl (omega arith) refl (inl refl) (λ end e. inl e) (λ end c. c))
-view found b (Rejected rank call) l =
+plain_or_special found b (Rejected rank call) l =
     inl (plain _ _ rank.0 ended l.0 l.2 refl refl refl refl (omega arith) refl (inr (offer_bare l.0.status (call, l.1) l.3, refl))
     (λ end e. inl e) (λ end c. c))
-view found b (Closing rank call) l = inl (begins _ _ rank.0 (does.Closing call) l.0 l.2.0 l.2.1 refl refl refl refl refl (λ end c. c))
-view found b (Asked rank call types) l =
+plain_or_special found b (Closing rank call) l = inl (begins _ _ rank.0 (does.Closing call) l.0 l.2.0 l.2.1 refl refl refl refl refl (λ end c. c))
+plain_or_special found b (Asked rank call types) l =
     inl (begins _ _ rank.0 (does.Asking call types) l.0 l.1.0 l.1.1 refl refl refl refl refl (λ end c. c))
-view found b (Tried rank call types) l =
+plain_or_special found b (Tried rank call types) l =
     inl (begins _ _ rank.0 (does.Trying call types) l.0 l.1.0 l.1.1 refl refl refl refl refl (λ end c. c))
-view found b (Looked server rank call) l =
+plain_or_special found b (Looked server rank call) l =
     inl (plain _ _ rank.0 (declined_by server) l.0 l.2 refl refl refl refl (omega arith) refl (inl refl) (λ end e. inl e) (λ end c. c))
-view found b (NoCurrent rank call) l =
+plain_or_special found b (NoCurrent rank call) l =
     inl (plain _ _ rank.0 ended l.0 l.2 refl refl refl refl (omega arith) refl (inr (rw l.3 refl, refl)) (λ end e. inl e) (λ end c. c))
-view found b (Counting rank call kind) l =
+plain_or_special found b (Counting rank call kind) l =
     inl (begins _ _ rank.0 (does.Counting call kind) l.0 l.1.0 l.1.1 refl refl refl refl refl (λ end c. c))
-view found b (Counted server rank call info) l =
+plain_or_special found b (Counted server rank call info) l =
     inl (plain _ _ rank.0 ended l.0 l.2 refl refl refl refl (omega arith) refl (inr (rw l.3 refl, refl)) (λ end e. inl e) (λ end c. c))
-view found b (Done rank call) l = inl (begins _ _ rank.0 does.Running l.0 l.1.0 l.1.1 refl refl refl refl refl (done_causes b rank call))
-view found b (Over rank call end) l =
+plain_or_special found b (Done rank call) l = inl (begins _ _ rank.0 does.Running l.0 l.1.0 l.1.1 refl refl refl refl refl (done_causes b rank call))
+plain_or_special found b (Over rank call end) l =
     inl (plain _ _ rank.0 (λ r. ended (record r { end = Some end })) l.0 l.1 refl refl refl refl (omega arith) refl
     (inr (open_bare l.0.status call l.2, refl)) (λ x e. let same : end ≡ x = some_is e in inr (rw (← same) l.3)) (λ end c. c))
-view found b (Finished rank call) l = inl (begins _ _ rank.0 does.Finished l.0 l.1.0 l.1.1 refl refl refl refl refl (λ end c. c))
-view found b _ l = inr refl
+plain_or_special found b (Finished rank call) l = inl (begins _ _ rank.0 does.Finished l.0 l.1.0 l.1.1 refl refl refl refl refl (λ end c. c))
+plain_or_special found b _ l = inr refl
 
 -- What an Accepted and a Kept do, component by component.
 
+-- the parts where a unit with this common part is accepted
 abbrev pub shared_parts : Option CommonRef → List Part → List Part
 shared_parts None parts = parts
 shared_parts (Some c) parts = change_first (λ p. record p { accepted = p.accepted + 1 }) (λ p. same_batch p.batch c.batch) parts
 
+-- the unit where it is accepted
 abbrev pub lodged : Server → Unit → Placed
 lodged server u = record { unit = u; place = Free server }
 
+-- what Accepted does, component by component
 pub record IsAccepted (b n : Bag) (server : Server) (id : UnitId) : Type 0 where
   pub r : RankState
   pub u : Unit
@@ -193,6 +201,7 @@ taken_is b server id r u (Some c) is there puts named =
       exhausted = rw is refl;
     }
 
+-- Accepted does what `IsAccepted` says
 pub accepted_is : (b : Bag) (server : Server) (id : UnitId) → Legal b (Accepted server id)
     → IsAccepted b (after b (Accepted server id)) server id
 accepted_is b server id l =
@@ -201,6 +210,7 @@ accepted_is b server id l =
     subst (λ o. IsAccepted b (with_rank id.rank ended (taken server o b)) server id) (sym put)
     (taken_is b server id l.0 l.1 l.1.common refl l.2 l.3 l.4)
 
+-- what Kept does
 pub kept_is : (b : Bag) (server : Server) (batch : BatchId) (l : Legal b (Kept server batch))
     → after b (Kept server batch) ≡ kept server batch (Some (batch.number, l.1)) b
 kept_is b server batch l =

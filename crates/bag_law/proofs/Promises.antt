@@ -5,7 +5,7 @@ use Rattle.adlb_unit.specs.declared.names.UnitId.{UnitId}
 use Rattle.adlb_unit.specs.Ids.{same_unit}
 use Rattle.adlb_unit.proofs.Same.{same_unit_is}
 use Rattle.bag_ledger.specs.declared.entries.Entry.{Entry}
-use Rattle.bag_ledger.specs.declared.entries.Entry.TheVariants.{Accepted, Kept, Promised, Arrived, Withdrawn, Exhausted}
+use Rattle.bag_ledger.specs.declared.entries.Entry.TheVariants.{Accepted, Kept, Promised, Arrived, Withdrawn}
 use Rattle.bag_ledger.specs.declared.states.Promise.{Promise}
 use Rattle.bag_ledger.specs.Bag.{Bag}
 use Rattle.bag_ledger.specs.Steps.{LegalWhere, after}
@@ -51,6 +51,7 @@ single_more ps p none is = record { each = λ id. by_test id (same_unit p.id id)
         let s = is.each id in
         omega arith
 
+-- a legal entry makes no second promise of a unit
 pub single_stays : (found : Bag → Bool) (b : Bag) (e : Entry) → LegalWhere found b e → PromisesAreSingle b.promises
     → PromisesAreSingle (after b e).promises
 single_stays found b (Accepted server id) l is = rw (accepted_is b server id l).promises is

@@ -1,5 +1,5 @@
 -- Each unit has the part that it shares.
-use Rattle.std.proofs.Common.{◌≡◌, ◌⊎◌, inl, inr, ◌+◌, Bool, true, false, List, [], ◌∷◌, ◌++◌, length, find, Option, Some, None, refl, sym, ap, ◌∙◌, subst}
+use Rattle.std.proofs.Common.{◌≡◌, ◌⊎◌, inl, inr, ◌+◌, Bool, true, false, List, [], ◌∷◌, ◌++◌, length, Option, Some, None, refl, sym, ap, ◌∙◌, subst}
 use Rattle.adlb_unit.specs.declared.names.Server.{Server}
 use Rattle.adlb_unit.specs.declared.names.UnitId.{UnitId}
 use Rattle.adlb_unit.specs.declared.names.BatchId.{BatchId}
@@ -75,9 +75,11 @@ shared_accepted b n server id a parts is = rw (a.units, a.parts) (by_common a.u.
         shared_changed _ b.parts c.batch (λ p. record p { accepted = p.accepted + 1 })
         (λ p. record { batch = refl; server = refl; common = refl }) (pushed (rw e own))
 
+-- the units of a bag and their parts
 abbrev pub HasShares : Bag → Type 0
 HasShares b = UnitsHaveParts b.units b.parts
 
+-- a legal entry keeps the part of each unit
 pub shares_stay : (found : Bag → Bool) (b : Bag) (e : Entry) → LegalWhere found b e → BatchesAreOpen b.ranks b.parts → HasShares b
     → HasShares (after b e)
 shares_stay found b (Accepted server id) l parts is = shared_accepted b _ server id (accepted_is b server id l) parts is

@@ -27,8 +27,9 @@ use Rattle.bag_law.proofs.Ids.{ids_stay}
 use Rattle.bag_law.proofs.Promises.{single_stays}
 use Rattle.bag_law.proofs.Shares.{shares_stay}
 
-pub step_sound : (found : Bag → Bool) (b : Bag) (e : Entry) → LegalWhere found b e → IsSoundBag b → IsSoundBag (after b e)
-step_sound found b e l is =
+-- a legal entry keeps a sound bag sound
+pub step_keeps_sound : (found : Bag → Bool) (b : Bag) (e : Entry) → LegalWhere found b e → IsSoundBag b → IsSoundBag (after b e)
+step_keeps_sound found b e l is =
     record {
       ids = ids_stay found b e l is.ids;
       batches = batches_stay found b e l is.ids is.batches;
@@ -41,8 +42,9 @@ step_sound found b e l is =
       told = ends_stay found b e l is.told;
     }
 
-pub start_sound : (config : Config) → IsSoundBag (start config)
-start_sound config =
+-- the bag at the start is sound
+pub start_is_sound : (config : Config) → IsSoundBag (start config)
+start_is_sound config =
     let ranks : List RankState = replicate config.ranks fresh in
     record {
       ids = record { each = λ id. by_rank id (slice_get ranks id.rank.0) refl };
@@ -77,33 +79,36 @@ start_sound config =
         let c = sum_by-cons (λ (r : RankState). owing batch [] r.status) fresh (replicate n fresh) in
         let m = none_owed batch n in omega arith
 
-pub run_sound_from : (found : Bag → Bool) (b last : Bag) (es : List Entry) → IsRunWhere found b es last → IsSoundBag b → IsSoundBag last
-run_sound_from found b last [] run is = subst IsSoundBag run is
-run_sound_from found b last (e ∷ es) run is =
-    run_sound_from found run.0 last es run.2 (subst IsSoundBag (sym run.1.2) (step_sound found b e run.1.1 is))
+-- a run keeps a sound bag sound
+pub run_keeps_sound : (found : Bag → Bool) (b last : Bag) (es : List Entry) → IsRunWhere found b es last → IsSoundBag b → IsSoundBag last
+run_keeps_sound found b last [] run is = subst IsSoundBag run is
+run_keeps_sound found b last (e ∷ es) run is =
+    run_keeps_sound found run.0 last es run.2 (subst IsSoundBag (sym run.1.2) (step_keeps_sound found b e run.1.1 is))
 
-pub run_sound : (found : Bag → Bool) (config : Config) (ledger : List Entry) (last : Bag) → IsRunWhere found (start config) ledger last
+-- the bag after a legal run is sound
+pub run_is_sound : (found : Bag → Bool) (config : Config) (ledger : List Entry) (last : Bag) → IsRunWhere found (start config) ledger last
     → IsSoundBag last
-run_sound found config ledger last run = run_sound_from found (start config) last ledger run (start_sound config)
+run_is_sound found config ledger last run = run_keeps_sound found (start config) last ledger run (start_is_sound config)
 
 -- Calls.
 
-run_calls_from : (found : Bag → Bool) (b last : Bag) (es : List Entry) (rank : Rank) (said : List Said) → IsRunWhere found b es last
+more_calls_are_true : (found : Bag → Bool) (b last : Bag) (es : List Entry) (rank : Rank) (said : List Said) → IsRunWhere found b es last
     → IsSoundBag b → AreTrueCalls rank said b → AreTrueCalls rank (said ++ calls_from b es rank) last
-run_calls_from found b last [] rank said run sound is =
+more_calls_are_true found b last [] rank said run sound is =
     subst (λ s. AreTrueCalls rank s last) (sym (append-nil said)) (subst (AreTrueCalls rank said) run is)
-run_calls_from found b last (e ∷ es) rank said run sound is =
+more_calls_are_true found b last (e ∷ es) rank said run sound is =
     let now : AreTrueCalls rank (said ++ said_by rank (says b e)) run.0 =
     subst (AreTrueCalls rank (said ++ said_by rank (says b e))) (sym run.1.2)
     (calls_stay found b e rank said run.1.1 sound.fetches is) in
-    let next : IsSoundBag run.0 = subst IsSoundBag (sym run.1.2) (step_sound found b e run.1.1 sound) in
-    let all = run_calls_from found run.0 last es rank (said ++ said_by rank (says b e)) run.2 next now in
+    let next : IsSoundBag run.0 = subst IsSoundBag (sym run.1.2) (step_keeps_sound found b e run.1.1 sound) in
+    let all = more_calls_are_true found run.0 last es rank (said ++ said_by rank (says b e)) run.2 next now in
     let same : calls_from run.0 es rank ≡ calls_from (after b e) es rank = ap (λ x. calls_from x es rank) run.1.2 in
     subst (λ s. AreTrueCalls rank s last)
     (append_assoc said (said_by rank (says b e)) (calls_from run.0 es rank) ∙ ap (λ x. said ++ (said_by rank (says b e) ++ x)) same) all
 
-pub run_calls : (found : Bag → Bool) (config : Config) (ledger : List Entry) (last : Bag) (rank : Rank)
+-- what a rank was told in a legal run is true of the bag
+pub run_calls_are_true : (found : Bag → Bool) (config : Config) (ledger : List Entry) (last : Bag) (rank : Rank)
     → IsRunWhere found (start config) ledger last → AreTrueCalls rank (calls_from (start config) ledger rank) last
-run_calls found config ledger last rank run =
-    run_calls_from found (start config) last ledger rank [] run (start_sound config)
+run_calls_are_true found config ledger last rank run =
+    more_calls_are_true found (start config) last ledger rank [] run (start_is_sound config)
     (record { each = All-nil (IsTrueSaid (start config) rank); once = λ id. omega arith })

@@ -13,11 +13,13 @@ use Rattle.bag_ledger.specs.declared.states.Part.{Part}
 use Rattle.bag_ledger.proofs.Lookups.{find_changed, find_other}
 use Rattle.bag_ledger.proofs.Tests.{some_is}
 
+-- at place k after the change: changed, or as it was
 abbrev pub Turned : {X : Type 0} → (X → X) → ℕ → List X → X → ℕ → Type 0
 Turned f place xs x k =
     ((place ≡ k) × (slice_get (change_at f place xs) k ≡ Some (f x)) × (slice_get xs k ≡ Some x))
     ⊎ ((place ≡ k → ⊥) × (slice_get (change_at f place xs) k ≡ slice_get xs k))
 
+-- each place is the changed one or another
 pub turned : {X : Type 0} (f : X → X) (place : ℕ) (xs : List X) (x : X) → slice_get xs place ≡ Some x → (k : ℕ) → Turned f place xs x k
 turned f place [] x e k = absurd (cc)
 turned f zero (y ∷ ys) x e zero = inl (refl, ap (λ z. Some (f z)) (some_is e), e)
@@ -29,6 +31,7 @@ turned f (suc place) (y ∷ ys) x e (suc k) = further (turned f place ys x e k)
     further (inl c) = inl (ap suc c.0, c.1, c.2)
     further (inr c) = inr (λ same. c.0 (omega arith), c.1)
 
+-- a sum after one change
 pub sum_turned : {X : Type 0} (g : X → ℕ) (f : X → X) (place : ℕ) (xs : List X) (x : X) → slice_get xs place ≡ Some x
     → sum_by g (change_at f place xs) + g x ≡ sum_by g xs + g (f x)
 sum_turned g f place [] x e = absurd (cc)
@@ -157,10 +160,12 @@ part_is g keeps batch x ps p was = by_test (same_batch batch x) refl
       inl refl,
     )
 
+-- what is appended is found, where nothing was
 pub found_new : {X : Type 0} (test : X → Bool) (xs : List X) (x : X) → find test xs ≡ None → test x ≡ true
     → find test (xs ++ x ∷ []) ≡ Some x
 found_new test xs x none passes = rw (find-append test xs (x ∷ []), none, passes) refl
 
+-- a test counts one at most
 pub one_le : (t : Bool) → one t ≤ 1
 one_le true = omega arith
 one_le false = omega arith

@@ -1,7 +1,7 @@
 -- What the entries of a server make of the rank whose request it handled: its answer comes back.
-use Rattle.core_law.proofs.Taken.{notes_in}
-use Rattle.core_law.proofs.Gone.{IsFact, IsFetching, Knows, knows_added, knows_more, knows_moved, knows_same}
-use Rattle.std.proofs.Common.{◌≡◌, ◌≤◌, ◌<◌, ℕ, ◌+◌, Bool, true, false, ◌⊎◌, inl, inr, List, [], ◌∷◌, ◌++◌, length, Option, Some, None, refl, sym, ap, ◌∙◌, subst, find, get_or, append-nil, arith}
+use Rattle.core_law.proofs.Notes.{notes_in}
+use Rattle.core_law.proofs.Gone.{IsFact, IsGone, Knows, gone_same, is_taken, knows_added, knows_more, knows_moved, knows_same}
+use Rattle.std.proofs.Common.{◌≡◌, ◌<◌, ℕ, ◌+◌, Bool, true, false, ◌⊎◌, inl, inr, List, [], ◌∷◌, ◌++◌, length, Option, Some, None, refl, sym, ap, ◌∙◌, subst, find, get_or, append-nil, arith}
 use Rattle.std.specs.Prelude.{All, option_and_then, Contains}
 use Rattle.std.proofs.lemmas.Bool.{eq-eqb}
 use Rattle.std.proofs.lemmas.List.Elements.{All-push, All-same, All-weaker}
@@ -30,9 +30,11 @@ use Rattle.bag_ledger.specs.declared.states.RankState.{RankState}
 use Rattle.bag_ledger.specs.declared.states.Status.TheVariants as does
 use Rattle.bag_ledger.specs.declared.states.UnitPlace.{UnitPlace}
 use Rattle.bag_ledger.specs.declared.states.UnitPlace.TheVariants.{Free, Pinned, Spent}
-use Rattle.bag_ledger.specs.Bag.{Bag, putting, rank_at, unit_of}
+use Rattle.bag_ledger.specs.Bag.{Bag, putting, rank_at, settled, unit_of}
 use Rattle.bag_ledger.specs.Runs.{IsRun, calls_from, note_of, said_by, says}
 use Rattle.bag_ledger.specs.Runs as runs
+use Rattle.bag_law.specs.Sound.{IsSoundBag}
+use Rattle.bag_law.proofs.Sound.{step_keeps_sound}
 use Rattle.bag_ledger.specs.Steps.{Legal, after, declined_by, ended, moved, own_fetched, shared, taken, with_rank}
 use Rattle.bag_ledger.proofs.Lookups.{find_appended, find_before}
 use Rattle.bag_ledger.proofs.Moves.{moved_here, moved_is, moved_other}
@@ -45,41 +47,25 @@ use Rattle.rank_client.specs.Rules.{asked, call_of}
 use Rattle.rank_client.specs.State.{ClientModel, behind}
 use Rattle.core_law.specs.Own.{IsCall}
 use Rattle.server_core.proofs.Once.{differs_back}
-use Rattle.core_law.proofs.RankShapes.{offered}
 
--- Of the bag's units: so far none has a common part; and those of this rank have numbers below this one.
+-- No unit of the bag has a common part.
 
 pub IsPlain : Bag → Type 0
 IsPlain b = (id : UnitId) (u : Lodged) → unit_of b id ≡ Some u → u.unit.common ≡ None
 
-pub IsBelow : Bag → Rank → ℕ → ℕ → Type 0
-IsBelow b rank more next = (id : UnitId) (u : Lodged) → unit_of b id ≡ Some u → id.rank ≡ rank → id.number + more < next
-
 pub plain_of : (b : Bag) (id : UnitId) (u : Lodged) → IsPlain b → unit_of b id ≡ Some u → u.unit.common ≡ None
 unfolding IsPlain
 plain_of b id u plain at = plain id u at
-
-pub below_of : (b : Bag) (rank : Rank) (more next : ℕ) (id : UnitId) (u : Lodged) → IsBelow b rank more next → unit_of b id ≡ Some u → id.rank ≡ rank → id.number + more < next
-unfolding IsBelow
-below_of b rank more next id u below at of = below id u at of
 
 -- where the units are the same
 pub plain_same : (b c : Bag) → c.units ≡ b.units → IsPlain b → IsPlain c
 unfolding IsPlain
 plain_same b c same plain = λ id u at. plain id u (ap (λ (units : List Lodged). find (λ v. same_unit v.unit.id id) units) (sym same) ∙ at)
 
-pub below_same : (b c : Bag) (rank : Rank) (more less next now : ℕ) → c.units ≡ b.units → less + next ≤ more + now → IsBelow b rank more next → IsBelow c rank less now
-unfolding IsBelow
-below_same b c rank more less next now same few below = λ id u at of. let h = below id u (ap (λ (units : List Lodged). find (λ v. same_unit v.unit.id id) units) (sym same) ∙ at) of in omega arith
-
 -- where there is no unit
 pub none_plain : (b : Bag) → b.units ≡ [] → IsPlain b
 unfolding IsPlain
 none_plain b none = λ id u at. let found : None ≡ Some u = ap (λ (units : List Lodged). find (λ v. same_unit v.unit.id id) units) (sym none) ∙ at in absurd (cc)
-
-pub none_below : (b : Bag) (rank : Rank) (more next : ℕ) → b.units ≡ [] → IsBelow b rank more next
-unfolding IsBelow
-none_below b rank more next none = λ id u at of. let found : None ≡ Some u = ap (λ (units : List Lodged). find (λ v. same_unit v.unit.id id) units) (sym none) ∙ at in absurd (cc)
 
 -- A rank whose request is under way, and one whose answer is.
 
@@ -89,8 +75,9 @@ pub record Waits (c : ClientModel) (p : Pending) (b : Bag) : Type 0 where
   pub caused : IsCaused b (in_call c p None).end
   pub held : All (IsHeld b c.me) (c.handles ++ note_coming p None)
   pub plain : IsPlain b
-  pub below : IsBelow b c.me (offered p None) c.next
-  pub knows : Knows b c.transcript (c.handles ++ note_coming p None)
+  pub sound : IsSoundBag b
+  pub gone : (id : UnitId) → is_taken id c.transcript ≡ true → IsGone b id
+  pub knows : Knows b (c.handles ++ note_coming p None)
   pub call : IsCall c p
 
 pub record Comes (c : ClientModel) (p : Pending) (a : Message) (b next : Bag) (es : List Entry) : Type 0 where
@@ -100,9 +87,7 @@ pub record Comes (c : ClientModel) (p : Pending) (a : Message) (b next : Bag) (e
   pub held : All (IsHeld next c.me) (c.handles ++ note_coming p (Some a))
   pub said : said c p (Some a) ≡ c.transcript ++ calls_from b es c.me
   pub plain : IsPlain next
-  pub below : IsBelow next c.me (offered p (Some a)) c.next
-  pub knows : Knows next c.transcript (c.handles ++ note_coming p (Some a))
-  pub fetching : IsFetching next p
+  pub knows : Knows next (c.handles ++ note_coming p (Some a))
 
 -- One entry.
 
@@ -131,8 +116,6 @@ pub record IsEnded (c : ClientModel) (p : Pending) (request : ℕ) (end : End) :
   pub end_is : (in_call c p (Some (tells.Ended request end))).end ≡ Some end
   pub notes : note_coming p (Some (tells.Ended request end)) ≡ note_coming p None
   pub said : said c p (Some (tells.Ended request end)) ≡ c.transcript ++ record { call = call; answer = answers.Ended end } ∷ []
-  pub none : offered p (Some (tells.Ended request end)) ≡ 0
-  pub fetching : (b : Bag) → IsFetching b p
 
 pub over_comes : (c : ClientModel) (p : Pending) (b next : Bag) (request : ℕ) (end : End) → Waits c p b → IsEnded c p request end → IsRun b (enters.Over c.me request end ∷ []) next
     → Comes c p (tells.Ended request end) b next (enters.Over c.me request end ∷ [])
@@ -148,16 +131,14 @@ over_comes c p b next request end w e run =
       held = rw e.notes w.held;
       said = e.said ∙ ap (λ l. c.transcript ++ l) (sym (one_call b e' c.me (record { call = e.call; answer = answers.Ended end }) told));
       plain = plain_same b (with_rank c.me (overs end) b) refl w.plain;
-      below = below_same b (with_rank c.me (overs end) b) c.me (offered p None) (offered p (Some (tells.Ended request end))) c.next c.next refl (let z = e.none in omega arith) w.below;
-      knows = rw e.notes (knows_same b (with_rank c.me (overs end) b) c.transcript (c.handles ++ note_coming p None) refl refl w.knows);
-      fetching = e.fetching (with_rank c.me (overs end) b);
+      knows = rw e.notes (knows_same b (with_rank c.me (overs end) b) (c.handles ++ note_coming p None) refl refl w.knows);
     })
 
 pub put_ended : (c : ClientModel) (unit : Unit) (first : Server) (tried request : ℕ) (end : End) → IsEnded c (waits_for.Put unit first tried) request end
-put_ended c unit first tried request end = record { call = call_of unit; calls = refl; rank = refl; end_is = refl; notes = refl; said = refl; none = refl; fetching = λ b. tt }
+put_ended c unit first tried request end = record { call = call_of unit; calls = refl; rank = refl; end_is = refl; notes = refl; said = refl }
 
 pub reserve_ended : (c : ClientModel) (request : ℕ) (types : Option (List WorkType)) (to : ℕ) (end : End) → IsEnded c (waits_for.Reserve request types) to end
-reserve_ended c request types to end = record { call = calls_to.Reserve types; calls = refl; rank = refl; end_is = refl; notes = refl; said = refl; none = refl; fetching = λ b. tt }
+reserve_ended c request types to end = record { call = calls_to.Reserve types; calls = refl; rank = refl; end_is = refl; notes = refl; said = refl }
 
 -- The unit is refused.
 
@@ -182,9 +163,7 @@ refused_comes c unit first tried me b next used w is run =
       held = w.held;
       said = sym (append-nil c.transcript) ∙ ap (λ l. c.transcript ++ l) (sym (no_call b e c.me none));
       plain = plain_same b (with_rank c.me (declined_by me) b) refl w.plain;
-      below = below_same b (with_rank c.me (declined_by me) b) c.me 1 1 c.next c.next refl (omega arith) w.below;
-      knows = knows_same b (with_rank c.me (declined_by me) b) c.transcript (c.handles ++ []) refl refl w.knows;
-      fetching = tt;
+      knows = knows_same b (with_rank c.me (declined_by me) b) (c.handles ++ []) refl refl w.knows;
     })
 
 -- The unit is accepted.
@@ -199,14 +178,6 @@ plain_added b u plain all = λ id v at. by_place id v (find_appended (λ (x : Lo
     by_place : (id : UnitId) (v : Lodged) → (unit_of b id ≡ Some v) ⊎ ((same_unit u.unit.id id ≡ true) × (u ≡ v)) → v.unit.common ≡ None
     by_place id v (inl before) = all id v before
     by_place id v (inr last) = rw (← last.1) plain
-
-below_added : (b : Bag) (u : Lodged) (rank : Rank) (next : ℕ) → u.unit.id.number + 1 ≡ next → IsBelow b rank 1 next → IsBelow (with_lodged b u) rank 0 next
-unfolding IsBelow
-below_added b u rank next last all = λ id v at of. by_place id v of (find_appended (λ (x : Lodged). same_unit x.unit.id id) b.units u v at)
-  where
-    by_place : (id : UnitId) (v : Lodged) → id.rank ≡ rank → (unit_of b id ≡ Some v) ⊎ ((same_unit u.unit.id id ≡ true) × (u ≡ v)) → id.number + 0 < next
-    by_place id v of (inl before) = let h = all id v before of in omega arith
-    by_place id v of (inr new) = let same : u.unit.id.number ≡ id.number = ap (λ (i : UnitId). i.number) (same_unit_is u.unit.id id new.0) in omega arith
 
 held_added : (b : Bag) (u : Lodged) (rank : Rank) (notes : List UnitNote) → All (IsHeld b rank) notes → All (IsHeld (with_lodged b u) rank) notes
 held_added b u rank notes all = All-weaker (IsHeld b rank) (IsHeld (with_lodged b u) rank) (λ note h. (h.0, (find_before (λ (x : Lodged). same_unit x.unit.id note.id) b.units (u ∷ []) h.0 h.1.0, h.1.1))) notes all
@@ -231,9 +202,7 @@ accepted_comes c unit first tried me b next w run =
       held = held_added b u c.me (c.handles ++ []) w.held;
       said = ap (λ l. c.transcript ++ l) (sym (one_call b e c.me said_so told));
       plain = plain_same (with_lodged b u) d refl (plain_added b u offer.plain w.plain);
-      below = below_same (with_lodged b u) d c.me 0 0 c.next c.next refl (omega arith) (below_added b u c.me c.next offer.call w.below);
-      knows = knows_same (with_lodged b u) d c.transcript (c.handles ++ []) refl refl (knows_added b u c.transcript (c.handles ++ []) w.knows);
-      fetching = tt;
+      knows = knows_same (with_lodged b u) d (c.handles ++ []) refl refl (knows_added b u (c.handles ++ []) w.knows);
     })
 
 -- A unit is granted.
@@ -245,14 +214,6 @@ plain_moved b id place u there all = λ x v at. by_place x v (moved_is b id x pl
     by_place : (x : UnitId) (v : Lodged) → ((x ≡ id) × (v ≡ record u { place = place })) ⊎ ((same_unit id x ≡ false) × (unit_of b x ≡ Some v)) → v.unit.common ≡ None
     by_place x v (inl here) = rw here.1 (all id u there)
     by_place x v (inr before) = all x v before.1
-
-below_moved : (b : Bag) (id : UnitId) (place : UnitPlace) (u : Lodged) (rank : Rank) (more next : ℕ) → unit_of b id ≡ Some u → IsBelow b rank more next → IsBelow (moved id place b) rank more next
-unfolding IsBelow
-below_moved b id place u rank more next there all = λ x v at of. by_place x v of (moved_is b id x place u v there at)
-  where
-    by_place : (x : UnitId) (v : Lodged) → x.rank ≡ rank → ((x ≡ id) × (v ≡ record u { place = place })) ⊎ ((same_unit id x ≡ false) × (unit_of b x ≡ Some v)) → x.number + more < next
-    by_place x v of (inl here) = all x u (rw here.0 there) of
-    by_place x v of (inr before) = all x v before.1 of
 
 -- another unit that the rank holds
 held_beside : (b : Bag) (id : UnitId) (place : UnitPlace) (rank : Rank) (note : UnitNote) → same_unit id note.id ≡ false → IsHeld b rank note → IsHeld (moved id place b) rank note
@@ -270,9 +231,8 @@ held_through b id me place rank u note there free h = by_test (same_unit id note
         absurd (cc)
     by_test false differs = held_beside b id place rank note differs h
 
-granted_knows : (said : List Said) (handles : List UnitNote) (note : UnitNote) (d : Bag) → Knows d said (handles ++ []) → IsFact d note → Knows d said (handles ++ note ∷ [])
-granted_knows said handles note d k fact = record {
-  taken = k.taken;
+granted_knows : (handles : List UnitNote) (note : UnitNote) (d : Bag) → Knows d (handles ++ []) → IsFact d note → Knows d (handles ++ note ∷ [])
+granted_knows handles note d k fact = record {
   facts = All-push (IsFact d) handles note (All-same (IsFact d) handles (handles ++ []) (sym (append-nil handles)) k.facts) fact;
   no_room = k.no_room;
 }
@@ -298,9 +258,7 @@ granted_comes c request types me work u b next w there same free run =
       held = All-push (IsHeld d c.me) c.handles note left here;
       said = ap (λ l. c.transcript ++ l) (sym (one_call b e c.me said_so told));
       plain = plain_same moved_bag d refl (plain_moved b id (Pinned me c.me) u there w.plain);
-      below = below_same moved_bag d c.me 0 0 c.next c.next refl (omega arith) (below_moved b id (Pinned me c.me) u c.me 0 c.next there w.below);
-      knows = granted_knows c.transcript c.handles note d (knows_same moved_bag d c.transcript (c.handles ++ []) refl refl (knows_moved b id (Pinned me c.me) u c.transcript (c.handles ++ []) there refl w.knows)) (record u { place = Pinned me c.me }, moved_here b id (Pinned me c.me) u there, ap (λ (k : Unit). length k.body) (sym same));
-      fetching = tt;
+      knows = granted_knows c.handles note d (knows_same moved_bag d (c.handles ++ []) refl refl (knows_moved b id (Pinned me c.me) (c.handles ++ []) w.knows)) (record u { place = Pinned me c.me }, moved_here b id (Pinned me c.me) u there, ap (λ (k : Unit). length k.body) (sym same));
     })
 
 -- A unit is fetched.
@@ -333,9 +291,7 @@ fetched_comes c request note me work u b next w there same run =
       held = All-same (IsHeld d c.me) (c.handles ++ []) c.handles (append-nil c.handles) left;
       said = ap (λ l. c.transcript ++ l) (sym (one_call b e c.me said_so told));
       plain = plain_same moved_bag d refl (plain_moved b id Spent u there w.plain);
-      below = below_same moved_bag d c.me 0 0 c.next c.next refl (omega arith) (below_moved b id Spent u c.me 0 c.next there w.below);
-      knows = knows_more d c.transcript c.transcript (c.handles ++ note ∷ []) (c.handles ++ []) (λ i is. inl is) (All-same (Contains (c.handles ++ note ∷ [])) (c.handles ++ []) c.handles (append-nil c.handles) (notes_in c.handles (note ∷ []))) (knows_same moved_bag d c.transcript (c.handles ++ note ∷ []) refl refl (knows_moved b id Spent u c.transcript (c.handles ++ note ∷ []) there refl w.knows));
-      fetching = (record u { place = Spent }, moved_here b id Spent u there, refl);
+      knows = knows_more d (c.handles ++ note ∷ []) (c.handles ++ []) (All-same (Contains (c.handles ++ note ∷ [])) (c.handles ++ []) c.handles (append-nil c.handles) (notes_in c.handles (note ∷ []))) (knows_same moved_bag d (c.handles ++ note ∷ []) refl refl (knows_moved b id Spent (c.handles ++ note ∷ []) w.knows));
     })
 
 -- All work is used up, and the rank that waits is told.
@@ -359,8 +315,9 @@ exhausted_comes c request types to b next w run =
       caused = caused_still b c.end w.caused;
       held = w.held;
       plain = plain_same b mid refl w.plain;
-      below = below_same b mid c.me 0 0 c.next c.next refl (omega arith) w.below;
-      knows = knows_same b mid c.transcript (c.handles ++ []) refl refl w.knows;
+      sound = step_keeps_sound settled b enters.Exhausted run.1.1 w.sound;
+      gone = λ id is. gone_same b mid id refl (w.gone id is);
+      knows = knows_same b mid (c.handles ++ []) refl refl w.knows;
       call = w.call;
     } in
     let comes = over_comes c p mid next to ends_by.Exhausted waits (reserve_ended c request types to ends_by.Exhausted) later in
@@ -371,7 +328,5 @@ exhausted_comes c request types to b next w run =
       held = comes.held;
       said = comes.said;
       plain = comes.plain;
-      below = comes.below;
       knows = comes.knows;
-      fetching = comes.fetching;
     }

@@ -23,7 +23,6 @@ use Rattle.adlb_unit.specs.Ids.{same_unit}
 use Rattle.adlb_unit.specs.declared.units.Unit.{Unit}
 use Rattle.adlb_unit.specs.declared.notes.UnitNote.{UnitNote}
 use Rattle.adlb_unit.specs.declared.names.WorkType.{WorkType}
-use Rattle.adlb_unit.specs.declared.names.Target.{Target}
 use Rattle.std.specs.List.{list_any, list_all}
 use Rattle.std.specs.Option.{option_map}
 use Rattle.std.proofs.Common.{◌≡◌, ◌<◌, true, List, [], ◌∷◌, length, Option, Some, None, refl, sym, ap, ◌∙◌, subst, arith, ◌%◌, ◌==◌, ◌^◌, find, get_or, not, cond, Bool, ◌++◌, ℕ, false, ◌+◌, ◌≤◌, ◌&&◌, ◌⊎◌, inl, inr}
@@ -59,7 +58,8 @@ use Rattle.core_run.specs.World.{World, client_of, is_within, pool_of, start, af
 use Rattle.core_law.proofs.Coming.{Waits}
 use Rattle.core_law.proofs.EveryRun.{IsWell, every_run_well}
 use Rattle.core_law.proofs.UnderWay.{at_front}
-use Rattle.core_law.proofs.Handled.{none_yet, waits_of, never}
+use Rattle.bag_law.proofs.Facts.{put_is_new}
+use Rattle.core_law.proofs.Handled.{waits_of, never}
 use Rattle.core_law.proofs.Joint.{AreLaws, IsLawful, OfCall, letters_are, zeroth, finishes_are, no_sum}
 
 -- What a server expects.
@@ -71,7 +71,7 @@ none_any test (x ∷ xs) none = let parts = none_passes test x xs none in rw par
 put_expected : (c : ClientModel) (unit : Unit) (first : Server) (tried : ℕ) (b : Bag) (t : ServerModel) → Waits c (waits_for.Put unit first tried) b → ServerAgrees b t → t.config ≡ c.config → expects_put t c.me unit ≡ true
 put_expected c unit first tried b t w m same =
     let offer = w.call.0 in
-    let fresh : unit_of b unit.id ≡ None = none_yet b c.me c.next unit w.below offer.rank offer.call in
+    let fresh : unit_of b unit.id ≡ None = (put_is_new b w.sound c.me (in_call c (waits_for.Put unit first tried) None) unit w.rank refl).1 in
     let absent : unit_with unit.id t.queue.units ≡ None = m.units.each unit.id ∙ ap (λ o. option_and_then (slot_of t.me) o) fresh in
     let none : has_unit unit.id t.queue.units ≡ false = none_any (λ p. same_unit (id_of p) unit.id) t.queue.units absent in
     let unpromised : promise_of b unit.id ≡ None = ap (λ (all : List Room). find (λ p. same_unit p.id unit.id) all) (w.knows).no_room in

@@ -1,22 +1,26 @@
 -- What the bag says of the units that a rank has taken, and of those that its notes name.
-use Rattle.std.proofs.Common.{◌≡◌, ◌⊎◌, inl, inr, Bool, true, false, List, [], ◌∷◌, ◌++◌, length, get_or, Some, refl, sym, ap, ◌∙◌, find}
+use Rattle.std.proofs.Common.{◌≡◌, ◌⊎◌, inl, inr, Bool, true, false, ◌||◌, List, [], ◌∷◌, ◌++◌, length, get_or, Some, refl, sym, ap, ◌∙◌, subst, find}
 use Rattle.std.specs.Prelude.{All, Contains}
-use Rattle.std.proofs.lemmas.List.Elements.{All-contains, All-weaker}
-use Rattle.adlb_unit.specs.Ids.{same_unit}
+use Rattle.std.proofs.lemmas.List.Elements.{All-contains, All-head, All-tail, All-weaker}
+use Rattle.adlb_unit.specs.declared.names.Rank.{Rank}
 use Rattle.adlb_unit.specs.declared.names.UnitId.{UnitId}
 use Rattle.adlb_unit.specs.declared.notes.UnitNote.{UnitNote}
 use Rattle.adlb_unit.specs.Ids.{same_unit}
 use Rattle.adlb_unit.proofs.Same.{same_unit_is}
+use Rattle.bag_ledger.specs.declared.entries.Answer.{Answer}
+use Rattle.bag_ledger.specs.declared.entries.Answer.TheVariants as answers
+use Rattle.bag_ledger.specs.declared.entries.Call.{Call}
+use Rattle.bag_ledger.specs.declared.entries.Call.TheVariants as calls_to
 use Rattle.bag_ledger.specs.declared.entries.Said.{Said}
 use Rattle.bag_ledger.specs.declared.states.Placed.{Placed as Lodged}
 use Rattle.bag_ledger.specs.declared.states.UnitPlace.{UnitPlace}
+use Rattle.bag_ledger.specs.declared.states.UnitPlace.TheVariants.{Pinned, Spent}
 use Rattle.bag_ledger.specs.Bag.{Bag, is_free, unit_of}
 use Rattle.bag_ledger.specs.Steps.{moved}
 use Rattle.bag_ledger.proofs.Lookups.{find_before}
-use Rattle.bag_ledger.proofs.Moves.{moved_here, moved_keeps, moved_other}
-use Rattle.rank_client.specs.declared.pendings.Pending.{Pending}
-use Rattle.rank_client.specs.declared.pendings.Pending.TheVariants as waits_for
-use Rattle.core_law.proofs.Taken.{is_taken}
+use Rattle.bag_ledger.proofs.Moves.{moved_keeps}
+use Rattle.bag_law.specs.Calls.{IsTrueAnswer, IsTrueCall, IsTrueSaid}
+use Rattle.rank_client.specs.Calls.{fetches, grants, is_fetched, is_granted}
 
 -- the unit was accepted, and is not free
 abbrev pub IsGone : Bag → UnitId → Type 0
@@ -26,13 +30,8 @@ IsGone b id = (u : Lodged) × (unit_of b id ≡ Some u) × (is_free u.place ≡ 
 abbrev pub IsFact : Bag → UnitNote → Type 0
 IsFact b note = (u : Lodged) × (unit_of b note.id ≡ Some u) × (note.length ≡ length u.unit.body)
 
--- the unit that is fetched is not free
-abbrev pub IsFetching : Bag → Pending → Type 0
-IsFetching b (waits_for.Fetch request note) = IsGone b note.id
-IsFetching b _ = Unit {0}
-
-pub record Knows (b : Bag) (said : List Said) (notes : List UnitNote) : Type 0 where
-  pub taken : (id : UnitId) → is_taken id said ≡ true → IsGone b id
+-- what the bag says of the notes that a rank holds
+pub record Knows (b : Bag) (notes : List UnitNote) : Type 0 where
   pub facts : All (IsFact b) notes
   -- so far no room is promised
   pub no_room : b.promises ≡ []
@@ -45,55 +44,67 @@ gone_same b c id same gone = (gone.0, ap (λ (units : List Lodged). find (λ u. 
 fact_same : (b c : Bag) (note : UnitNote) → c.units ≡ b.units → IsFact b note → IsFact c note
 fact_same b c note same fact = (fact.0, ap (λ (units : List Lodged). find (λ u. same_unit u.unit.id note.id) units) same ∙ fact.1, fact.2)
 
-pub fetching_same : (b c : Bag) (p : Pending) → c.units ≡ b.units → IsFetching b p → IsFetching c p
-fetching_same b c waits_for.Nothing same is = tt
-fetching_same b c (waits_for.Put unit first tried) same is = tt
-fetching_same b c (waits_for.Reserve request types) same is = tt
-fetching_same b c (waits_for.Fetch request note) same is = gone_same b c note.id same is
-
-pub knows_same : (b c : Bag) (said : List Said) (notes : List UnitNote) → c.units ≡ b.units → c.promises ≡ b.promises → Knows b said notes → Knows c said notes
-knows_same b c said notes same room k = record {
-  taken = λ id is. gone_same b c id same (k.taken id is);
+pub knows_same : (b c : Bag) (notes : List UnitNote) → c.units ≡ b.units → c.promises ≡ b.promises → Knows b notes → Knows c notes
+knows_same b c notes same room k = record {
   facts = All-weaker (IsFact b) (IsFact c) (λ note fact. fact_same b c note same fact) notes k.facts;
   no_room = room ∙ k.no_room;
 }
 
-pub knows_added : (b : Bag) (u : Lodged) (said : List Said) (notes : List UnitNote) → Knows b said notes → Knows (record b { units = b.units ++ u ∷ [] }) said notes
-knows_added b u said notes k = record {
-  taken = λ id is. let g = k.taken id is in (g.0, find_before (λ (v : Lodged). same_unit v.unit.id id) b.units (u ∷ []) g.0 g.1, g.2);
+pub knows_added : (b : Bag) (u : Lodged) (notes : List UnitNote) → Knows b notes → Knows (record b { units = b.units ++ u ∷ [] }) notes
+knows_added b u notes k = record {
   facts = All-weaker (IsFact b) (IsFact (record b { units = b.units ++ u ∷ [] })) (λ note f. (f.0, find_before (λ (v : Lodged). same_unit v.unit.id note.id) b.units (u ∷ []) f.0 f.1, f.2)) notes k.facts;
   no_room = k.no_room;
 }
-
--- a unit goes to a place where it is not free
-gone_moved : (b : Bag) (id other : UnitId) (place : UnitPlace) (u : Lodged) → unit_of b id ≡ Some u → is_free place ≡ false → IsGone b other → IsGone (moved id place b) other
-gone_moved b id other place u there busy gone = by_test (same_unit id other) refl
-  where
-    by_test : (t : Bool) → same_unit id other ≡ t → IsGone (moved id place b) other
-    by_test true same = rw (← same_unit_is id other same) (record u { place = place }, moved_here b id place u there, busy)
-    by_test false differs = (gone.0, moved_other b id other place differs ∙ gone.1, gone.2)
 
 fact_moved : (b : Bag) (id : UnitId) (place : UnitPlace) (note : UnitNote) → IsFact b note → IsFact (moved id place b) note
 fact_moved b id place note fact =
     let v = moved_keeps b id note.id place fact.0 fact.1 in
     (v.0, v.1, fact.2 ∙ ap (λ w. length w.body) (sym v.2))
 
-pub knows_moved : (b : Bag) (id : UnitId) (place : UnitPlace) (u : Lodged) (said : List Said) (notes : List UnitNote) → unit_of b id ≡ Some u → is_free place ≡ false → Knows b said notes → Knows (moved id place b) said notes
-knows_moved b id place u said notes there busy k = record {
-  taken = λ other is. gone_moved b id other place u there busy (k.taken other is);
+pub knows_moved : (b : Bag) (id : UnitId) (place : UnitPlace) (notes : List UnitNote) → Knows b notes → Knows (moved id place b) notes
+knows_moved b id place notes k = record {
   facts = All-weaker (IsFact b) (IsFact (moved id place b)) (λ note fact. fact_moved b id place note fact) notes k.facts;
   no_room = k.no_room;
 }
 
--- The rank's transcript and notes change.
-
-pub knows_more : (b : Bag) (said now : List Said) (notes held : List UnitNote) → ((id : UnitId) → is_taken id now ≡ true → (is_taken id said ≡ true) ⊎ IsGone b id) → All (Contains notes) held → Knows b said notes → Knows b now held
-knows_more b said now notes held taken there k = record {
-  taken = λ id is. by_part id (taken id is);
+-- the rank holds no other notes
+pub knows_more : (b : Bag) (notes held : List UnitNote) → All (Contains notes) held → Knows b notes → Knows b held
+knows_more b notes held there k = record {
   facts = λ i d within. All-contains (IsFact b) notes (get_or held i d) k.facts (there i d within);
   no_room = k.no_room;
 }
+
+-- What a rank was told is true of the bag, so a unit that it was granted or has fetched is not free.
+
+-- a unit of this id was granted or fetched
+abbrev pub is_taken : UnitId → List Said → Bool
+is_taken id said = is_granted id said || is_fetched id said
+
+told_gone : (b : Bag) (rank : Rank) (id : UnitId) (answer : Answer) → IsTrueAnswer b rank answer → grants id answer ≡ true → IsGone b id
+told_gone b rank id (answers.Granted note) is e = subst (λ (i : UnitId). IsGone b i) (same_unit_is note.id id e) (is.0, is.1, by_place is.3)
   where
-    by_part : (id : UnitId) → (is_taken id said ≡ true) ⊎ IsGone b id → IsGone b id
-    by_part id (inl before) = k.taken id before
-    by_part id (inr now) = now
+    by_place : (is.0.place ≡ Pinned note.server rank) ⊎ (is.0.place ≡ Spent) → is_free is.0.place ≡ false
+    by_place (inl at) = rw at refl
+    by_place (inr at) = rw at refl
+told_gone b rank id _ is e = absurd (cc)
+
+got_gone : (b : Bag) (id : UnitId) (call : Call) → IsTrueCall b call → fetches id call ≡ true → IsGone b id
+got_gone b id (calls_to.Fetch fetched) is e = subst (λ (i : UnitId). IsGone b i) (same_unit_is fetched id e) (is.0, is.1, rw is.2 refl)
+got_gone b id _ is e = absurd (cc)
+
+parted : (g f a c : Bool) → ((g || a) || (f || c)) ≡ true → (g ≡ true) ⊎ ((f ≡ true) ⊎ ((a || c) ≡ true))
+parted true f a c e = inl refl
+parted false true a c e = inr (inl refl)
+parted false false a c e = inr (inr e)
+
+pub taken_gone : (b : Bag) (rank : Rank) (id : UnitId) (said : List Said) → All (IsTrueSaid b rank) said → is_taken id said ≡ true → IsGone b id
+unfolding is_granted is_fetched
+taken_gone b rank id [] all e = absurd (cc)
+taken_gone b rank id (s ∷ said) all e =
+    by_part (taken_gone b rank id said (All-tail (IsTrueSaid b rank) s said all))
+    (parted (grants id s.answer) (fetches id s.call) (is_granted id said) (is_fetched id said) e)
+  where
+    by_part : (is_taken id said ≡ true → IsGone b id) → (grants id s.answer ≡ true) ⊎ ((fetches id s.call ≡ true) ⊎ (is_taken id said ≡ true)) → IsGone b id
+    by_part before (inl granted) = told_gone b rank id s.answer (All-head (IsTrueSaid b rank) s said all).0 granted
+    by_part before (inr (inl fetched)) = got_gone b id s.call (All-head (IsTrueSaid b rank) s said all).1 fetched
+    by_part before (inr (inr earlier)) = before earlier

@@ -1,6 +1,7 @@
 -- What holds with one rank is kept where a server handles a letter.
-use Rattle.core_law.proofs.Gone.{IsFetching, Knows}
-use Rattle.std.proofs.Common.{◌≡◌, ◌≢◌, ◌≤◌, ◌<◌, ◌⊎◌, inl, inr, ℕ, ◌+◌, ◌==◌, Bool, true, false, cond, ◌&&◌, not, List, [], ◌∷◌, ◌++◌, length, set, Option, Some, None, refl, sym, ap, ◌∙◌, subst, arith, append-nil}
+use Rattle.core_law.proofs.Gone.{Knows, taken_gone}
+use Rattle.std.proofs.Common.{◌≡◌, ◌≢◌, ◌≤◌, ◌<◌, ◌⊎◌, inl, inr, ◌+◌, ◌==◌, Bool, true, false, cond, ◌&&◌, not, List, [], ◌∷◌, ◌++◌, length, set, Option, Some, None, refl, sym, ap, ◌∙◌, subst, arith, append-nil}
+use Rattle.std.specs.Prelude.{All}
 use Rattle.std.proofs.lemmas.Bool.{cases_eq, eq-eqb, false_from_ne_true, lt-ltb}
 use Rattle.adlb_unit.specs.declared.actors.Actor.TheVariants as by
 use Rattle.adlb_unit.specs.declared.configs.Config.{Config}
@@ -12,8 +13,8 @@ use Rattle.adlb_unit.specs.declared.names.Rank.{Rank}
 use Rattle.adlb_unit.specs.declared.names.Server.{Server}
 use Rattle.bag_ledger.specs.declared.entries.Entry.{Entry}
 use Rattle.bag_ledger.specs.declared.states.RankState.{RankState}
-use Rattle.bag_ledger.specs.declared.states.Placed.{Placed as Lodged}
-use Rattle.bag_ledger.specs.Bag.{Bag, rank_at, start as empty_bag, unit_of}
+use Rattle.bag_ledger.specs.declared.entries.Said.{Said}
+use Rattle.bag_ledger.specs.Bag.{Bag, rank_at, settled, start as empty_bag}
 use Rattle.bag_ledger.specs.Runs.{IsRun, calls, calls_from}
 use Rattle.server_core.specs.declared.standings.Standing.TheVariants as does
 use Rattle.server_core.specs.Rules.{ServerResponse, expects_finish, finish, is_running, leave, respond}
@@ -21,7 +22,6 @@ use Rattle.server_core.specs.Agreement.{IsOpen}
 use Rattle.server_core.specs.State.{is_home}
 use Rattle.server_core.specs.Step.{after_event, next_stamp, served, ticked, verdict, waiting_from}
 use Rattle.adlb_unit.specs.declared.names.CommonRef.{CommonRef}
-use Rattle.adlb_unit.specs.declared.units.Unit.{Unit}
 use Rattle.rank_client.specs.State.{behind}
 use Rattle.std.specs.List.{list_any}
 use Rattle.bag_ledger.proofs.Legal.{run_joined}
@@ -40,11 +40,14 @@ use Rattle.core_law.specs.Measures.{measure}
 use Rattle.core_law.specs.Own.{IsCall, IsClient, IsPool}
 use Rattle.core_run.specs.World.{Links, World, after_server, is_within, pool_of, server_named, taken}
 use Rattle.core_law.proofs.Among.{calm, if_is, steps_are_legal_among}
-use Rattle.core_law.proofs.Coming.{Comes, IsBelow, IsPlain, Waits, below_of}
+use Rattle.bag_law.specs.Calls.{IsTrueSaid}
+use Rattle.bag_law.proofs.Facts.{put_is_new}
+use Rattle.bag_law.proofs.Sound.{run_calls_are_true, run_is_sound}
+use Rattle.core_law.proofs.Coming.{Comes, IsPlain, Waits}
 use Rattle.core_law.proofs.EveryRun.{IsWell, are_sent, pool_beside, pool_there}
 use Rattle.core_law.proofs.Fifo.{front_held}
 use Rattle.core_law.proofs.Kept.{request_within}
-use Rattle.core_law.proofs.RankShapes.{asked_busy, offered}
+use Rattle.core_law.proofs.RankShapes.{asked_busy}
 use Rattle.core_law.proofs.Requests.{Answered, only_of, request_answered}
 use Rattle.core_law.proofs.Ring.{not_tried}
 use Rattle.core_law.proofs.ServerShapes.{serves}
@@ -54,14 +57,6 @@ use Rattle.core_law.proofs.UnderWay.{Each, server_on, taken_on}
 use Rattle.core_law.proofs.Joint.{AreLaws, IsLawful, Lawful, OfCall, calls_more, finishes_are, letters_are, none_under_way, zeroth}
 
 -- The call of the letter is pending.
-
--- the unit of a put is not in the bag
-pub none_yet : (b : Bag) (rank : Rank) (next : ℕ) (unit : Unit) → IsBelow b rank 1 next → unit.id.rank ≡ rank → unit.id.number + 1 ≡ next → unit_of b unit.id ≡ None
-none_yet b rank next unit below of last = by_found (unit_of b unit.id) refl
-  where
-    by_found : (o : Option Lodged) → unit_of b unit.id ≡ o → unit_of b unit.id ≡ None
-    by_found None is = is
-    by_found (Some u) is = let h = below_of b rank 1 next unit.id u below is of in absurd (omega arith)
 
 plain_open : (b : Bag) (common : Option CommonRef) → common ≡ None → IsOpen b common
 plain_open b None e = tt
@@ -75,7 +70,7 @@ called c (waits_for.Put unit first tried) b me m w asked =
     let offer = w.call.0 in
     let at : me ≡ behind c.config first tried = asked.1 in
     let fresh = not_tried c.config first tried w.call.1 in
-    subst P (sym asked.0) (refl, rw at fresh, none_yet b c.me c.next unit w.below offer.rank offer.call, plain_open b unit.common offer.plain)
+    subst P (sym asked.0) (refl, rw at fresh, (put_is_new b w.sound c.me (in_call c p None) unit w.rank refl).1, plain_open b unit.common offer.plain)
 called c (waits_for.Reserve request types) b me m w asked =
     let P : Message → Type 0 = λ k. IsCalled b me c.me (in_call c (waits_for.Reserve request types) None) k in
     subst P (sym asked.0) refl
@@ -163,7 +158,8 @@ waits_of w c b l me going call = record {
   caused = rw going at (l.client).caused;
   held = (l.client).held;
   plain = l.plain;
-  below = subst (λ (r : Rank). IsBelow b r (offered c.pending None) c.next) (sym me) l.below;
+  sound = run_is_sound settled w.config w.ledger b l.run;
+  gone = λ id is. taken_gone b zeroth id c.transcript (subst (λ (all : List Said). All (IsTrueSaid b zeroth) all) (sym l.said) (run_calls_are_true settled w.config w.ledger b zeroth l.run).each) is;
   knows = l.knows;
   call = call;
 }
@@ -265,9 +261,7 @@ request_at w next c b me letter rest x laws well only l asked request does = sub
       letters = server_on (OfCall c (Some a)) between me x shaped (none_under_way c (Some a) between shaped own.me none) does.here within (sent_back c me answered.letter x.sends awaited answered.sends);
       said = comes.said ∙ ap (λ s. s ++ calls_from b x.entries c.me) l.said ∙ ap (λ r. calls w.config w.ledger zeroth ++ calls_from b x.entries r) own.me ∙ sym (calls_more w.config w.ledger b x.entries l.run);
       plain = comes.plain;
-      below = subst (λ (r : Rank). IsBelow v.next r (offered c.pending (Some a)) c.next) own.me comes.below;
       knows = comes.knows;
-      fetching = comes.fetching;
     }
 
 -- That the rank has finished is noted.
@@ -387,7 +381,5 @@ finish_at w next c b coming me letter rest x laws well only l is does = subst La
       letters = server_on (OfCall c coming) between me x shaped (taken_on (OfCall c coming) w (by.Rank zeroth) (by.Server me) letter rest well.shape l.letters to_rank to_server does.front) does.here within (rw no_sends tt);
       said = l.said ∙ sym (append-nil (calls w.config w.ledger zeroth)) ∙ ap (λ es. calls w.config w.ledger zeroth ++ calls_from b es zeroth) (sym no_entries) ∙ sym (calls_more w.config w.ledger b x.entries l.run);
       plain = subst (λ (n : Bag). IsPlain n) same l.plain;
-      below = subst (λ (n : Bag). IsBelow n zeroth (offered c.pending coming) c.next) same l.below;
-      knows = subst (λ (n : Bag). Knows n c.transcript (holds c coming)) same l.knows;
-      fetching = subst (λ (n : Bag). IsFetching n c.pending) same l.fetching;
+      knows = subst (λ (n : Bag). Knows n (holds c coming)) same l.knows;
     }

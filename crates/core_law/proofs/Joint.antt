@@ -1,11 +1,7 @@
 -- With one rank: the ledger is a run to a bag for whose rank the client stands, and with which each server agrees.
-use Rattle.adlb_unit.specs.declared.names.UnitId.{UnitId}
-use Rattle.adlb_unit.proofs.Same.{same_unit_is}
-use Rattle.std.proofs.lemmas.List.Elements.{All-contains, Contains-push}
-use Rattle.core_law.proofs.Taken.{IsLast}
-use Rattle.core_law.proofs.Gone.{IsFetching, IsGone, Knows}
-use Rattle.std.proofs.Common.{◌≡◌, ◌≢◌, ◌≤◌, ◌<◌, ℕ, zero, suc, Bool, true, false, cond, not, List, [], ◌∷◌, ◌++◌, length, get_or, Option, Some, None, refl, sym, ap, ◌∙◌, subst, arith, eqb}
-use Rattle.std.specs.Prelude.{All, IsFalse}
+use Rattle.core_law.proofs.Gone.{Knows}
+use Rattle.std.proofs.Common.{◌≡◌, ◌≢◌, ◌<◌, ℕ, zero, suc, Bool, true, false, cond, not, List, [], ◌∷◌, ◌++◌, length, get_or, Option, Some, None, refl, sym, ap, ◌∙◌, subst, arith, eqb}
+use Rattle.std.specs.Prelude.{IsFalse}
 use Rattle.std.proofs.lemmas.Bool.{eq-eqb, eqb-true, false_from_ne_true}
 use Rattle.adlb_unit.specs.declared.actors.Actor.{Actor}
 use Rattle.adlb_unit.specs.declared.actors.Actor.TheVariants as by
@@ -13,19 +9,17 @@ use Rattle.adlb_unit.specs.declared.configs.Config.{Config}
 use Rattle.adlb_unit.specs.declared.letters.Letter.{Letter}
 use Rattle.adlb_unit.specs.declared.letters.Sending.{Sending}
 use Rattle.adlb_unit.specs.declared.messages.Message.{Message}
-use Rattle.adlb_unit.specs.declared.messages.Message.TheVariants as tells
 use Rattle.adlb_unit.specs.declared.names.Rank.{Rank}
 use Rattle.adlb_unit.specs.declared.names.Server.{Server}
 use Rattle.bag_ledger.specs.declared.entries.Call.{Call}
 use Rattle.bag_ledger.specs.declared.entries.Entry.{Entry}
 use Rattle.bag_ledger.specs.declared.states.RankState.{RankState}
-use Rattle.bag_ledger.specs.Bag.{Bag, has_due, start as empty_bag, is_free}
+use Rattle.bag_ledger.specs.Bag.{Bag, has_due, start as empty_bag}
 use Rattle.bag_ledger.specs.Runs.{IsRun, calls, calls_from}
 use Rattle.bag_ledger.specs.Steps.{with_rank}
 use Rattle.bag_ledger.proofs.Calls.{calls_split}
-use Rattle.rank_client.specs.declared.pendings.Pending.{Pending}
 use Rattle.rank_client.specs.declared.pendings.Pending.TheVariants as waits_for
-use Rattle.rank_client.specs.Agreement.{ClientAgrees, IsHeld, Follows, in_call, note_coming, rank_of, said, holds}
+use Rattle.rank_client.specs.Agreement.{ClientAgrees, Follows, in_call, note_coming, rank_of, said, holds}
 use Rattle.rank_client.specs.Rules.{is_idle}
 use Rattle.rank_client.specs.State.{ClientModel}
 use Rattle.rank_client.specs.Step.{Made, begin, hear}
@@ -35,9 +29,9 @@ use Rattle.core_law.proofs.Asked.{IsOfCall}
 use Rattle.core_law.specs.Letters.{at_rank, call_letter, finishes, one, one_letter}
 use Rattle.core_law.specs.Measures.{IsBalanced, due, measure, weigh_at}
 use Rattle.core_run.specs.World.{World, client_of, pool_of, rank_named, server_named}
-use Rattle.core_law.proofs.Coming.{IsBelow, IsPlain}
+use Rattle.core_law.proofs.Coming.{IsPlain}
 use Rattle.server_core.proofs.Entries.{rank_agrees}
-use Rattle.core_law.proofs.RankShapes.{ChangesRank, IsFarewell, It_asks, It_leaves, It_rests, Then, offered}
+use Rattle.core_law.proofs.RankShapes.{ChangesRank, IsFarewell, It_asks, It_leaves, It_rests, Then}
 use Rattle.server_core.proofs.Ranks.{IsRunner, length-change_at}
 use Rattle.core_law.proofs.Steps.{IsShaped}
 use Rattle.core_law.proofs.UnderWay.{Each, OnLinks, each_weaker, weaker, zero_on}
@@ -66,9 +60,7 @@ pub record IsLawful (w : World) (c : ClientModel) (b : Bag) (coming : Option Mes
   pub letters : OnLinks (OfCall c coming) w
   pub said : said c c.pending coming ≡ calls w.config w.ledger zeroth
   pub plain : IsPlain b
-  pub below : IsBelow b zeroth (offered c.pending coming) c.next
-  pub knows : Knows b c.transcript (holds c coming)
-  pub fetching : IsFetching b c.pending
+  pub knows : Knows b (holds c coming)
 
 abbrev pub Lawful : World → Type 0
 Lawful w = (c : ClientModel) × (b : Bag) × (coming : Option Message) × IsLawful w c b coming
@@ -184,37 +176,12 @@ pub idle_said : (c : ClientModel) (coming : Option Message) → c.pending ≡ wa
 idle_said c None idle = refl
 idle_said c (Some m) idle = ap (λ p. said c p (Some m)) idle
 
-pub offered_few : (p : Pending) (o : Option Message) → offered p o ≤ 1
-offered_few waits_for.Nothing o = omega arith
-offered_few (waits_for.Put unit first tried) None = omega arith
-offered_few (waits_for.Put unit first tried) (Some (tells.Full request charge)) = omega arith
-offered_few (waits_for.Put unit first tried) (Some _) = omega arith
-offered_few (waits_for.Reserve request types) o = omega arith
-offered_few (waits_for.Fetch request note) o = omega arith
-
 pub none_due : (w : World) (c : ClientModel) (b : Bag) (coming : Option Message) → IsLawful w c b coming → has_due b ≡ false
 none_due w c b coming l = let some : 0 < w.config.servers = w.config.servers_within.0 in (l.pools (server_named 0) some).settled
 
 -- the calls grow with the ledger
 pub calls_more : (config : Config) (ledger : List Entry) (b : Bag) (es : List Entry) → IsRun (empty_bag config) ledger b → calls config (ledger ++ es) zeroth ≡ calls config ledger zeroth ++ calls_from b es zeroth
 calls_more config ledger b es run = calls_split (empty_bag config) b ledger es zeroth run
-
--- a unit that is fetched is held
-pub fetching_held : (s : ClientModel) (p : Pending) (b : Bag) → All (IsHeld b s.me) (s.handles ++ note_coming p None) → IsFetching b p
-fetching_held s waits_for.Nothing b held = tt
-fetching_held s (waits_for.Put unit first tried) b held = tt
-fetching_held s (waits_for.Reserve request types) b held = tt
-fetching_held s (waits_for.Fetch request note) b held =
-    let here = All-contains (IsHeld b s.me) (s.handles ++ note ∷ []) note held (Contains-push s.handles note) in
-    (here.0, here.1.0, ap is_free here.1.1)
-
--- what an answer grants or brings is not free
-pub last_gone : (s : ClientModel) (p : Pending) (m : Message) (b : Bag) (id : UnitId) → All (IsHeld b s.me) (s.handles ++ note_coming p (Some m)) → IsFetching b p → IsLast p m id → IsGone b id
-last_gone s (waits_for.Reserve request types) (tells.Grant to note) b id held fetching last =
-    let here = All-contains (IsHeld b s.me) (s.handles ++ note ∷ []) note held (Contains-push s.handles note) in
-    subst (λ (i : UnitId). IsGone b i) (same_unit_is note.id id last) (here.0, here.1.0, ap is_free here.1.1)
-last_gone s (waits_for.Fetch request note) (tells.Bytes to body) b id held fetching last = subst (λ (i : UnitId). IsGone b i) (same_unit_is note.id id last) fetching
-last_gone s _ _ b id held fetching last = absurd last
 
 -- What a rank sends is of its call.
 pub sent_of_call : (s : ClientModel) (x : Made) → x.state.me ≡ s.me → Then s x → Each (λ (y : Sending). OfCall x.state None (by.Rank s.me) y.to y.letter) x.sends

@@ -1,6 +1,4 @@
 -- With one rank the ledger of every run is a legal run of the bag, and the transcript is behind it by one call at most.
-use Rattle.adlb_unit.specs.declared.names.UnitId.{UnitId}
-use Rattle.core_law.proofs.Taken.{is_taken}
 use Rattle.core_law.proofs.Gone.{IsFact}
 use Rattle.std.proofs.Common.{◌≡◌, ◌<◌, true, List, [], ◌∷◌, length, Option, Some, None, refl, sym, ap, ◌∙◌, subst, arith, append-nil}
 use Rattle.std.proofs.lemmas.Bool.{lt-ltb, ltb-true}
@@ -22,7 +20,7 @@ use Rattle.std.specs.Prelude.{option_and_then}
 use Rattle.std.proofs.lemmas.List.Elements.{All-nil}
 use Rattle.core_run.specs.declared.events.Event.{Event}
 use Rattle.core_run.specs.Runs.{IsBehind, Runs, Tells, run}
-use Rattle.rank_client.specs.Calls.{plus, is_granted, is_fetched}
+use Rattle.rank_client.specs.Calls.{plus}
 use Rattle.rank_client.specs.Rules.{call_of}
 use Rattle.rank_client.specs.State.{start as new_client}
 use Rattle.server_core.specs.Rules.{respond}
@@ -39,7 +37,7 @@ use Rattle.core_law.specs.Letters.{finishes, is_request, one_letter}
 use Rattle.core_law.specs.Measures.{IsBalanced, measure}
 use Rattle.core_law.specs.Own.{IsClient}
 use Rattle.core_run.specs.World.{World, client_of, is_within, pool_of, rank_named, server_named, happens, start}
-use Rattle.core_law.proofs.Coming.{none_below, none_plain}
+use Rattle.core_law.proofs.Coming.{none_plain}
 use Rattle.core_law.proofs.EveryRun.{IsWell, begins_well, client_at, every_run_well, pool_at, same_config, well_kept}
 use Rattle.core_law.proofs.Kept.{on_some}
 use Rattle.core_law.proofs.ServerShapes.{It_answers, It_finishes, It_parks, Responds, Serving, responds, serves}
@@ -104,10 +102,6 @@ kept_lawful w next laws well only (c, b, coming, l) (A_request {from = from} {me
 
 -- At the start.
 
-none_taken : (id : UnitId) {P : Type 0} → is_taken id [] ≡ true → P
-unfolding is_granted is_fetched
-none_taken id is = absurd (cc)
-
 pub starts_lawful : (config : Config) → StartAgrees → config.ranks ≡ 1 → Lawful (start config)
 starts_lawful config start_agrees only = (new_client config zeroth, empty_bag config, None, l)
   where
@@ -136,9 +130,7 @@ starts_lawful config start_agrees only = (new_client config zeroth, empty_bag co
       letters = none_under_way (new_client config zeroth) None (start config) well.shape refl none;
       said = refl;
       plain = none_plain (empty_bag config) refl;
-      below = none_below (empty_bag config) zeroth 0 0 refl;
-      knows = record { taken = λ id is. none_taken id is; facts = All-nil (IsFact (empty_bag config)); no_room = refl };
-      fetching = tt;
+      knows = record { facts = All-nil (IsFact (empty_bag config)); no_room = refl };
     }
 
 -- Along every run.

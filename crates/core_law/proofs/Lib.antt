@@ -16,6 +16,7 @@ mod Kept
 mod Lawful
 mod Misfits
 mod Moments
+mod Notes
 mod Numbered
 mod OneLetter
 mod OtherCalls
@@ -31,5 +32,4 @@ mod ServerShapes
 mod Stamping
 mod Steps
 mod Sums
-mod Taken
 mod UnderWay

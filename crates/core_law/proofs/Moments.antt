@@ -1,11 +1,9 @@
 -- What holds with one rank is kept by each event.
 use Rattle.adlb_unit.specs.declared.notes.UnitNote.{UnitNote}
-use Rattle.adlb_unit.specs.declared.names.UnitId.{UnitId}
 use Rattle.std.specs.Prelude.{All, Contains}
 use Rattle.std.proofs.lemmas.List.Elements.{All-weaker, Contains-append_left}
-use Rattle.core_law.proofs.Taken.{IsLast, is_taken}
-use Rattle.core_law.proofs.Gone.{IsGone, knows_more, knows_same}
-use Rattle.std.proofs.Common.{◌≡◌, ◌<◌, true, false, List, ◌++◌, length, Option, Some, None, refl, sym, ap, ◌∙◌, subst, arith, inl, inr, ◌⊎◌}
+use Rattle.core_law.proofs.Gone.{knows_more, knows_same}
+use Rattle.std.proofs.Common.{◌≡◌, ◌<◌, true, false, List, ◌++◌, length, Option, Some, None, refl, sym, ap, ◌∙◌, subst, arith}
 use Rattle.std.proofs.lemmas.Bool.{lt-ltb}
 use Rattle.adlb_unit.specs.declared.actors.Actor.TheVariants as by
 use Rattle.adlb_unit.specs.declared.letters.Letter.{Letter}
@@ -28,14 +26,14 @@ use Rattle.core_law.specs.Measures.{measure}
 use Rattle.core_law.specs.Own.{IsClient}
 use Rattle.core_run.specs.World.{World, after_rank, is_within, pool_of, server_named, taken}
 use Rattle.core_law.proofs.Among.{busy_runner}
-use Rattle.core_law.proofs.Coming.{below_same, plain_same}
+use Rattle.core_law.proofs.Coming.{plain_same}
 use Rattle.core_law.proofs.EveryRun.{IsWell, are_sent, client_there}
 use Rattle.core_law.proofs.Kept.{answer_within, call_within, on_some}
-use Rattle.core_law.proofs.RankShapes.{Began, ChangesRank, Heard, begins, hears, offered}
+use Rattle.core_law.proofs.RankShapes.{Began, ChangesRank, Heard, begins, hears}
 use Rattle.core_law.proofs.Steps.{Begins, Hears, IsShaped, taken_shaped, taken_weight}
 use Rattle.core_law.proofs.Sums.{AreWithin}
 use Rattle.core_law.proofs.UnderWay.{Each, at_front, rank_on}
-use Rattle.core_law.proofs.Joint.{AreLaws, IsLawful, Lawful, LeavesServers, OfCall, calls_more, idle_said, idle_stands, letters_are, none_due, none_under_way, offered_few, run_leaves, sent_of_call, zeroth, fetching_held, last_gone}
+use Rattle.core_law.proofs.Joint.{AreLaws, IsLawful, Lawful, LeavesServers, OfCall, calls_more, idle_said, idle_stands, letters_are, none_due, none_under_way, run_leaves, sent_of_call, zeroth}
 
 -- A call begins.
 
@@ -88,9 +86,7 @@ call_at w next c b coming call x laws well only l does = subst Lawful (sym does.
       letters = rank_on (OfCall x.state None) w zeroth x well.shape (none_under_way x.state None w well.shape (shape.own).me none) does.here within (subst (λ (r : Rank). Each (λ (y : Sending). OfCall x.state None (by.Rank r) y.to y.letter) x.sends) own.me (sent_of_call c x ((shape.own).me ∙ sym own.me) shape.after));
       said = f.3 ∙ ap (λ s. s ++ calls_from b x.entries c.me) (sym (idle_said c coming shape.free) ∙ l.said) ∙ ap (λ r. calls w.config w.ledger zeroth ++ calls_from b x.entries r) own.me ∙ sym (calls_more w.config w.ledger b x.entries l.run);
       plain = plain_same b f.0 leaves.units l.plain;
-      below = below_same b f.0 zeroth (offered c.pending coming) (offered x.state.pending None) c.next x.state.next leaves.units (let few = offered_few x.state.pending None in let e = shape.next in omega arith) l.below;
-      knows = knows_same b f.0 x.state.transcript (holds x.state None) leaves.units leaves.room (knows_more b c.transcript x.state.transcript (holds c coming) (holds x.state None) (λ id is. inl (shape.taken id is)) (notes_held c.handles (note_coming c.pending coming) (holds x.state None) shape.notes) l.knows);
-      fetching = fetching_held x.state x.state.pending f.0 (f.2).held;
+      knows = knows_same b f.0 (holds x.state None) leaves.units leaves.room (knows_more b (holds c coming) (holds x.state None) (notes_held c.handles (note_coming c.pending coming) (holds x.state None) shape.notes) l.knows);
     }
 
 -- A letter is heard.
@@ -158,10 +154,6 @@ answer_at w next c b coming from letter rest x laws well only l does = subst Law
         let took = taken_weight (one_letter zeroth) w (by.Server from) (by.Rank zeroth) letter rest well.shape from_server to_rank does.front in
         omega arith
 
-    by_last : (id : UnitId) → (is_taken id c.transcript ≡ true) ⊎ IsLast c.pending letter.message id → (is_taken id c.transcript ≡ true) ⊎ IsGone b id
-    by_last id (inl before) = inl before
-    by_last id (inr last) = inr (last_gone c c.pending letter.message b id stands.held l.fetching last)
-
     now : IsLawful (after_rank w zeroth (taken w (by.Server from) (by.Rank zeroth) rest) x) x.state f.0 None
     now = record {
       is = client_there w zeroth (taken w (by.Server from) (by.Rank zeroth) rest) x inside;
@@ -172,7 +164,5 @@ answer_at w next c b coming from letter rest x laws well only l does = subst Law
       letters = rank_on (OfCall x.state None) between zeroth x shaped (none_under_way x.state None between shaped (shape.own).me none) does.here within (subst (λ (r : Rank). Each (λ (y : Sending). OfCall x.state None (by.Rank r) y.to y.letter) x.sends) own.me (sent_of_call c x ((shape.own).me ∙ sym own.me) shape.after));
       said = f.3 ∙ ap (λ o. said c c.pending o ++ calls_from b x.entries c.me) (sym comes) ∙ ap (λ s. s ++ calls_from b x.entries c.me) l.said ∙ ap (λ r. calls w.config w.ledger zeroth ++ calls_from b x.entries r) own.me ∙ sym (calls_more w.config w.ledger b x.entries l.run);
       plain = plain_same b f.0 leaves.units l.plain;
-      below = below_same b f.0 zeroth (offered c.pending coming) (offered x.state.pending None) c.next x.state.next leaves.units (let few = shape.offers in let same : offered c.pending coming ≡ offered c.pending (Some letter.message) = ap (λ o. offered c.pending o) comes in let e = shape.next in omega arith) l.below;
-      knows = knows_same b f.0 x.state.transcript (holds x.state None) leaves.units leaves.room (knows_more b c.transcript x.state.transcript (holds c coming) (holds x.state None) (λ id is. by_last id (shape.taken id is)) (subst (λ (o : Option Message). All (Contains (holds c o)) (holds x.state None)) (sym comes) shape.notes) l.knows);
-      fetching = fetching_held x.state x.state.pending f.0 (f.2).held;
+      knows = knows_same b f.0 (holds x.state None) leaves.units leaves.room (knows_more b (holds c coming) (holds x.state None) (subst (λ (o : Option Message). All (Contains (holds c o)) (holds x.state None)) (sym comes) shape.notes) l.knows);
     }

@@ -1,8 +1,8 @@
 -- What a step of a rank changes.
-use Rattle.core_law.proofs.Taken.{AddsTaken, is_taken, notes_in, notes_same, taken_granted, taken_more, taken_quiet}
+use Rattle.core_law.proofs.Notes.{notes_in, notes_same}
 use Rattle.server_core.proofs.Finds.{find_is}
 use Rattle.rank_client.specs.Agreement.{holds, note_coming}
-use Rattle.std.proofs.Common.{◌≡◌, ◌≤◌, ◌<◌, ℕ, zero, suc, ◌+◌, ◌^◌, ◌%◌, Bool, true, false, ◌&&◌, not, List, [], ◌∷◌, ◌++◌, length, map, filter, find, Option, Some, None, refl, sym, ap, ◌∙◌, arith, ℤ, inl, append-nil}
+use Rattle.std.proofs.Common.{◌≡◌, ◌≤◌, ◌<◌, ℕ, zero, suc, ◌+◌, ◌^◌, ◌%◌, Bool, true, false, ◌&&◌, not, List, [], ◌∷◌, ◌++◌, length, map, filter, find, Option, Some, None, refl, sym, ap, ◌∙◌, arith, ℤ, append-nil}
 use Rattle.std.specs.Prelude.{if◌then◌else◌, ◌==◌, All, is_none, nat_le, nat_lt, Contains}
 use Rattle.std.specs.List.{range_with_len}
 use Rattle.std.specs.Option.{option_map}
@@ -90,19 +90,12 @@ pub data Then (s : ClientModel) (x : Made) : Type 0 where
 abbrev pub ChangesRank : Rank → Entry → Type 0
 ChangesRank me e = (b : Bag) → (f : RankState → RankState) × (after b e ≡ with_rank me f b)
 
--- 1 where the unit of a pending put was not accepted, nor its put ended, so far
-abbrev pub offered : Pending → Option Message → ℕ
-offered (waits_for.Put unit first tried) None = 1
-offered (waits_for.Put unit first tried) (Some (tells.Full request charge)) = 1
-offered _ _ = 0
-
 pub record Began (run : Config) (me : Rank) (s : ClientModel) (x : Made) : Type 0 where
   pub free : s.pending ≡ waits_for.Nothing
   pub going : s.finished ≡ false
   pub next : x.state.next ≡ s.next + 1
   pub own : IsClient run me x.state
   pub entries : Each (ChangesRank s.me) x.entries
-  pub taken : (id : UnitId) → is_taken id x.state.transcript ≡ true → is_taken id s.transcript ≡ true
   pub notes : All (Contains s.handles) (holds x.state None)
   pub after : Then s x
 
@@ -114,8 +107,6 @@ pub record Heard (run : Config) (me : Rank) (s : ClientModel) (m : Message) (x :
   pub next : x.state.next ≡ s.next
   pub own : IsClient run me x.state
   pub entries : Each (ChangesRank s.me) x.entries
-  pub offers : offered x.state.pending None ≤ offered s.pending (Some m)
-  pub taken : AddsTaken s.transcript s.pending m x.state.transcript
   pub notes : All (Contains (holds s (Some m))) (holds x.state None)
   pub after : Then s x
   pub stays : x.state.finished ≡ false
@@ -182,7 +173,6 @@ put_opens run me s kind prio target answer body (Some end) r size aim = record {
   next = refl;
   own = record { config = r.config; me = r.rank; call = tt; rests = λ is. refl; batch = r.batch; notes = r.notes };
   entries = (λ b. (_, refl), (λ b. (_, refl), tt));
-  taken = λ id is. taken_quiet id s.transcript _ refl is;
   notes = notes_same s.handles;
   after = It_rests (record { pending = refl; finished = r.going; sends = refl });
 }
@@ -199,7 +189,6 @@ put_opens run me s kind prio target answer body None r size aim = record {
     notes = r.notes;
   };
   entries = (λ b. (_, refl), tt);
-  taken = λ id is. is;
   notes = notes_same s.handles;
   after = It_asks (record { to = first_server s target; letter = _; asked = (refl, first_is s target); within = first_within s target; finished = r.going; sends = refl });
 }
@@ -211,7 +200,6 @@ reserve_opens run me s types (Some end) r one = record {
   next = refl;
   own = record { config = r.config; me = r.rank; call = tt; rests = λ is. refl; batch = r.batch; notes = r.notes };
   entries = (λ b. (_, refl), (λ b. (_, refl), tt));
-  taken = λ id is. taken_quiet id s.transcript _ refl is;
   notes = notes_same s.handles;
   after = It_rests (record { pending = refl; finished = r.going; sends = refl });
 }
@@ -221,7 +209,6 @@ reserve_opens run me s types None r one = record {
   next = refl;
   own = record { config = r.config; me = r.rank; call = (refl, one); rests = λ is. absurd (cc (is, r.going)); batch = r.batch; notes = r.notes };
   entries = (λ b. (_, refl), tt);
-  taken = λ id is. is;
   notes = notes_same s.handles;
   after = It_asks (record {
     to = home s.config s.me;
@@ -262,7 +249,6 @@ fetch_opens run me s id (Some note) r is =
         notes = All-filter (λ n. not (same_unit n.id id)) (IsNote s.config) s.handles r.notes;
       };
       entries = (λ b. (_, refl), tt);
-      taken = λ other is. is;
       notes = All-push (Contains s.handles) (filter (λ n. not (same_unit n.id id)) s.handles) note (All-filter (λ n. not (same_unit n.id id)) (Contains s.handles) s.handles (All-contains_itself s.handles)) (find_is (λ n. same_unit n.id id) s.handles note is).1;
       after = It_asks (record { to = note.server; letter = _; asked = (ap (λ i. tells.Fetch s.next i) (sym found.0), refl); within = found.1.there; finished = r.going; sends = refl });
     }
@@ -287,7 +273,6 @@ finish_opens run me s r =
       going = r.going;
       next = ap (λ (t : ClientModel). t.next) state;
       entries = rw (requests_entries z.says x) (λ b. (_, refl), tt);
-      taken = rw state (λ id is. taken_quiet id s.transcript (record { call = calls_to.Finish; answer = answered_by.Fine }) refl is);
       notes = rw state (notes_same s.handles);
       own = rw state (record { config = r.config; me = r.rank; call = tt; rests = λ is. refl; batch = r.batch; notes = r.notes });
       after = It_leaves (record {
@@ -339,7 +324,7 @@ then_later s stamp x (It_asks h) = It_asks (record { to = h.to; letter = h.lette
 then_later s stamp x (It_leaves h) = It_leaves (record { pending = h.pending; finished = h.finished; weight = h.weight; each = h.each })
 
 began_later : (run : Config) (me : Rank) (s : ClientModel) (stamp : ℕ) (x : Made) → Began run me (ticked s stamp) x → Began run me s x
-began_later run me s stamp x b = record { free = b.free; going = b.going; next = b.next; own = b.own; entries = b.entries; taken = b.taken; notes = b.notes; after = then_later s stamp x b.after }
+began_later run me s stamp x b = record { free = b.free; going = b.going; next = b.next; own = b.own; entries = b.entries; notes = b.notes; after = then_later s stamp x b.after }
 
 pub begins : (run : Config) (me : Rank) (s : ClientModel) (call : Call) → IsClient run me s → OnSome (begin s call) (Began run me s)
 begins run me s call own = by_test (is_free s) refl
@@ -372,8 +357,8 @@ Hears run me s m o = OnSome o (λ z. Heard run me s m (made z))
 ended : (run : Config) (me : Rank) (s : ClientModel) (p : Pending) (m : Message) (x : Made) → IsWaiting run me s p → is_to_rank m ≡ true → is_idle p ≡ false → request_of m + 1 ≡ s.next
     → x.state.pending ≡ waits_for.Nothing → x.state.finished ≡ s.finished → x.state.next ≡ s.next → x.state.config ≡ s.config → x.state.me ≡ s.me → x.state.batch ≡ s.batch
     → All (IsNote s.config) x.state.handles → x.sends ≡ [] → Each (ChangesRank s.me) x.entries
-    → AddsTaken s.transcript p m x.state.transcript → All (Contains (s.handles ++ note_coming p (Some m))) x.state.handles → Heard run me s m x
-ended run me s p m x w kind busy number pending finished next config rank batch notes sends entries taken there = record {
+    → All (Contains (s.handles ++ note_coming p (Some m))) x.state.handles → Heard run me s m x
+ended run me s p m x w kind busy number pending finished next config rank batch notes sends entries there = record {
   kind = kind;
   busy = ap is_idle w.pending ∙ busy;
   number = number;
@@ -381,8 +366,6 @@ ended run me s p m x w kind busy number pending finished next config rank batch 
   next = next;
   own = record { config = config ∙ w.config; me = rank ∙ w.rank; call = rw pending tt; rests = λ is. pending; batch = batch ∙ w.batch; notes = rw config notes };
   entries = entries;
-  offers = rw pending (omega arith);
-  taken = rw w.pending taken;
   notes = rw (w.pending, pending) (All-same (Contains (s.handles ++ note_coming p (Some m))) (x.state.handles ++ []) x.state.handles (append-nil x.state.handles) there);
   after = It_rests (record { pending = pending; finished = finished ∙ w.going; sends = sends });
   stays = finished ∙ w.going;
@@ -415,20 +398,18 @@ refused_heard run me s unit first tried to charge true more is w = record {
     notes = w.notes;
   };
   entries = tt;
-  offers = rw w.pending (omega arith);
-  taken = λ id is. inl is;
   notes = rw w.pending (All-contains_itself (s.handles ++ []));
   after = It_asks (record { to = asked s first (tried + 1); letter = _; asked = (refl, refl); within = asked_within s first (tried + 1); finished = w.going; sends = refl });
   stays = w.going;
 }
 refused_heard run me s unit first tried to charge false more is w =
-    ended run me s (waits_for.Put unit first tried) (tells.Full to charge) (made (refused s unit first tried false)) w refl refl (number_of to unit.id.number s.next is w.call.0.call) refl refl refl refl refl refl w.notes refl (λ b. (_, refl), tt) (λ id is. inl (taken_quiet id s.transcript (record { call = call_of unit; answer = answered_by.Rejected }) refl is)) (notes_in s.handles [])
+    ended run me s (waits_for.Put unit first tried) (tells.Full to charge) (made (refused s unit first tried false)) w refl refl (number_of to unit.id.number s.next is w.call.0.call) refl refl refl refl refl refl w.notes refl (λ b. (_, refl), tt) (notes_in s.handles [])
 
 put_heard : (run : Config) (me : Rank) (s : ClientModel) (unit : Unit) (first : Server) (tried : ℕ) (from : Server) (m : Message) → IsWaiting run me s (waits_for.Put unit first tried) → Hears run me s m (hear_put s unit first tried from m)
 put_heard run me s unit first tried from (tells.Accepted to) w = by_test (is_for unit.id.number (asked s first tried) from to) refl
   where
     by_test : (t : Bool) → is_for unit.id.number (asked s first tried) from to ≡ t → Hears run me s (tells.Accepted to) (if t then Some (ends s [] (call_of unit) answered_by.Fine) else None)
-    by_test true is = ended run me s (waits_for.Put unit first tried) (tells.Accepted to) (made (ends s [] (call_of unit) answered_by.Fine)) w refl refl (number_of to unit.id.number s.next (answers unit.id.number (asked s first tried) from to is) w.call.0.call) refl refl refl refl refl refl w.notes refl tt (λ id is. inl (taken_quiet id s.transcript (record { call = call_of unit; answer = answered_by.Fine }) refl is)) (notes_in s.handles [])
+    by_test true is = ended run me s (waits_for.Put unit first tried) (tells.Accepted to) (made (ends s [] (call_of unit) answered_by.Fine)) w refl refl (number_of to unit.id.number s.next (answers unit.id.number (asked s first tried) from to is) w.call.0.call) refl refl refl refl refl refl w.notes refl tt (notes_in s.handles [])
     by_test false is = tt
 put_heard run me s unit first tried from (tells.Full to charge) w = by_test (is_for unit.id.number (asked s first tried) from to) refl
   where
@@ -438,7 +419,7 @@ put_heard run me s unit first tried from (tells.Full to charge) w = by_test (is_
 put_heard run me s unit first tried from (tells.Ended to end) w = by_test (is_for unit.id.number (asked s first tried) from to) refl
   where
     by_test : (t : Bool) → is_for unit.id.number (asked s first tried) from to ≡ t → Hears run me s (tells.Ended to end) (if t then Some (ends (record s { end = Some end }) [] (call_of unit) (answered_by.Ended end)) else None)
-    by_test true is = ended run me s (waits_for.Put unit first tried) (tells.Ended to end) (made (ends (record s { end = Some end }) [] (call_of unit) (answered_by.Ended end))) w refl refl (number_of to unit.id.number s.next (answers unit.id.number (asked s first tried) from to is) w.call.0.call) refl refl refl refl refl refl w.notes refl tt (λ id is. inl (taken_quiet id s.transcript (record { call = call_of unit; answer = answered_by.Ended end }) refl is)) (notes_in s.handles [])
+    by_test true is = ended run me s (waits_for.Put unit first tried) (tells.Ended to end) (made (ends (record s { end = Some end }) [] (call_of unit) (answered_by.Ended end))) w refl refl (number_of to unit.id.number s.next (answers unit.id.number (asked s first tried) from to is) w.call.0.call) refl refl refl refl refl refl w.notes refl tt (notes_in s.handles [])
     by_test false is = tt
 put_heard run me s unit first tried from _ w = tt
 
@@ -455,7 +436,7 @@ reserve_heard run me s request types from (tells.Grant to note) w = by_test (is_
         let known : IsNote s.config note = record { there = ltb-true note.server.0 s.config.servers three.0; plain = none_is note.common three.1 } in
         ended run me s (waits_for.Reserve request types) (tells.Grant to note) (made (ends (record s { handles = s.handles ++ note ∷ [] }) [] (calls_to.Reserve types) (answered_by.Granted note))) w refl refl
         (number_of to request s.next (answers request (home s.config s.me) from to parts.0) w.call.0) refl refl refl refl refl refl (All-push (IsNote s.config) s.handles note w.notes known) refl tt
-        (λ id is. taken_granted id s.transcript (record { call = calls_to.Reserve types; answer = answered_by.Granted note }) (same_unit note.id id) refl is) (All-contains_itself (s.handles ++ note ∷ []))
+        (All-contains_itself (s.handles ++ note ∷ []))
     by_test false is = tt
 reserve_heard run me s request types from (tells.Ended to end) w = by_test (is_for request (home s.config s.me) from to) refl
   where
@@ -463,7 +444,7 @@ reserve_heard run me s request types from (tells.Ended to end) w = by_test (is_f
         → Hears run me s (tells.Ended to end) (if t then Some (ends (record s { end = Some end }) [] (calls_to.Reserve types) (answered_by.Ended end)) else None)
     by_test true is =
         ended run me s (waits_for.Reserve request types) (tells.Ended to end) (made (ends (record s { end = Some end }) [] (calls_to.Reserve types) (answered_by.Ended end))) w refl refl
-        (number_of to request s.next (answers request (home s.config s.me) from to is) w.call.0) refl refl refl refl refl refl w.notes refl tt (λ id is. inl (taken_quiet id s.transcript (record { call = calls_to.Reserve types; answer = answered_by.Ended end }) refl is)) (notes_in s.handles [])
+        (number_of to request s.next (answers request (home s.config s.me) from to is) w.call.0) refl refl refl refl refl refl w.notes refl tt (notes_in s.handles [])
     by_test false is = tt
 reserve_heard run me s request types from _ w = tt
 
@@ -475,7 +456,7 @@ fetch_heard run me s request note from (tells.Bytes to body) w = by_test (is_for
     by_test true is =
         let parts = and_parts (is_for request note.server from to) (length body == note.length) is in
         ended run me s (waits_for.Fetch request note) (tells.Bytes to body) (made (ends s [] (calls_to.Fetch note.id) (answered_by.Body body))) w refl refl
-        (number_of to request s.next (answers request note.server from to parts.0) w.call.0) refl refl refl refl refl refl w.notes refl tt (λ id is. taken_more id s.transcript (record { call = calls_to.Fetch note.id; answer = answered_by.Body body }) is) (notes_in s.handles [])
+        (number_of to request s.next (answers request note.server from to parts.0) w.call.0) refl refl refl refl refl refl w.notes refl tt (notes_in s.handles [])
     by_test false is = tt
 fetch_heard run me s request note from _ w = tt
 
@@ -492,7 +473,7 @@ call_later s stamp (waits_for.Reserve request types) call = call
 call_later s stamp (waits_for.Fetch request note) call = call
 
 heard_later : (run : Config) (me : Rank) (s : ClientModel) (stamp : ℕ) (m : Message) (x : Made) → Heard run me (ticked s stamp) m x → Heard run me s m x
-heard_later run me s stamp m x h = record { kind = h.kind; busy = h.busy; number = h.number; going = h.going; next = h.next; own = h.own; entries = h.entries; offers = h.offers; taken = h.taken; notes = h.notes; after = then_later s stamp x h.after; stays = h.stays }
+heard_later run me s stamp m x h = record { kind = h.kind; busy = h.busy; number = h.number; going = h.going; next = h.next; own = h.own; entries = h.entries; notes = h.notes; after = then_later s stamp x h.after; stays = h.stays }
 
 pub hears : (run : Config) (me : Rank) (s : ClientModel) (from : Server) (letter : Letter) → IsClient run me s → OnSome (hear s from letter) (Heard run me s letter.message)
 hears run me s from letter own = by_test (not s.finished && nat_lt letter.stamp (2 ^ 48)) refl

@@ -1,6 +1,5 @@
 -- With one rank, a server that handles its request answers in the same event.
-use Rattle.core_law.proofs.Taken.{is_taken}
-use Rattle.core_law.proofs.Gone.{IsFact}
+use Rattle.core_law.proofs.Gone.{IsFact, is_taken}
 use Rattle.bag_ledger.specs.declared.states.Placed.{Placed as Lodged}
 use Rattle.bag_ledger.specs.declared.states.UnitPlace.TheVariants.{Free}
 use Rattle.bag_ledger.proofs.Tests.{some_is}
@@ -149,7 +148,7 @@ note_expected c request types t work u b w m same there is free =
     let below : t.me.0 < c.config.servers = let e = m.within in omega arith in
     let plain : work.common ≡ None = ap (λ (k : Unit). k.common) (sym is) ∙ plain_of b work.id u w.plain there in
     let fresh : is_taken work.id c.transcript ≡ false = false_from_ne_true (is_taken work.id c.transcript) (λ taken.
-    let gone = (w.knows).taken work.id taken in
+    let gone = w.gone work.id taken in
     let one : gone.0 ≡ u = some_is (sym gone.1 ∙ there) in
     let busy : is_free u.place ≡ false = ap (λ (v : Lodged). is_free v.place) (sym one) ∙ gone.2 in
     let idle : is_free u.place ≡ true = ap is_free free in
