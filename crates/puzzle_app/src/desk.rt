@@ -8,7 +8,7 @@ ghost use Rattle.puzzle_app.specs.Made.{child_of, fetched_unit, made_by, solutio
 
 use crate::outcomes::PuzzleOutcome;
 use crate::units::{Board, Made, Solution, read_unit};
-use adlb_unit::{NoMemory, UnitNote};
+use adlb_unit::{NoMemory, UnitNote, or_no_memory};
 use std::alloc::Global;
 use std::collections::VecDeque;
 use sudoku_rules::{Expansion, Grid, expand};
@@ -42,8 +42,8 @@ impl Desk {
         }
     }
 
-    /// A unit comes to the rank (`Receives`): a board is worked, and a solution stays. It fails for want of memory
-    /// alone.
+    /// A unit comes to the rank (`Receives`): a board is worked, and a solution stays. Its only error is
+    /// `NoMemory`.
     pub fn receive(&mut self, alloc: Global, grain: u64, made: &Made) -> Result<(), NoMemory>
         requires boards { self.old.boards < 2 ^ 127 }
         requires found { self.old.found < 2 ^ 127 }
@@ -58,8 +58,8 @@ impl Desk {
         }
     }
 
-    /// A unit of this note is fetched, with these bytes (`Brings`); one that has not the form of its type is dropped. It
-    /// fails for want of memory alone.
+    /// A unit of this note is fetched, with these bytes (`Brings`); one that has not the form of its type is
+    /// dropped. Its only error is `NoMemory`.
     pub fn bring(
         &mut self,
         alloc: Global,
@@ -121,10 +121,7 @@ fn note_over(over: bool, numbers: &mut Vec<u32>, number: u32) -> Result<(), NoMe
     if !over || has(numbers, number) {
         return Ok(());
     }
-    match numbers.push(number) {
-        Ok(()) => Ok(()),
-        Err(_) => Err(NoMemory),
-    }
+    or_no_memory(numbers.push(number))
 }
 
 /// The number is among them.

@@ -3,30 +3,25 @@
 ghost use Rattle.std.specs.Prelude.{◌≡◌, ◌++◌, OnOk, decimal};
 ghost use Rattle.puzzle_app.specs.Report.{counted};
 
-use adlb_unit::NoMemory;
+use adlb_unit::{NoMemory, or_no_memory};
 use std::alloc::Global;
 
-/// Appends the piece. It fails for want of memory alone.
+/// Appends the piece. Its only error is `NoMemory`.
 pub fn append(bytes: &mut Vec<u8>, piece: &[u8]) -> Result<(), NoMemory>
     ensures { OnOk result (bytes.new.items ≡ bytes.old.items ++ piece.now) }
 {
-    match bytes.extend_from_slice(piece) {
-        Ok(()) => Ok(()),
-        Err(_) => Err(NoMemory),
-    }
+    or_no_memory(bytes.extend_from_slice(piece))
 }
 
-/// Appends the number in decimal digits. It fails for want of memory alone.
+/// Appends the number in decimal digits. Its only error is `NoMemory`.
 pub fn append_number(alloc: Global, bytes: &mut Vec<u8>, n: u128) -> Result<(), NoMemory>
     ensures { OnOk result (bytes.new.items ≡ bytes.old.items ++ decimal n) }
 {
-    match n.to_string(alloc) {
-        Ok(digits) => append(bytes, digits.as_bytes()),
-        Err(_) => Err(NoMemory),
-    }
+    let digits = or_no_memory(n.to_string(alloc))?;
+    append(bytes, digits.as_bytes())
 }
 
-/// Appends a line of a name and a number. It fails for want of memory alone.
+/// Appends a line of a name and a number. Its only error is `NoMemory`.
 pub fn append_count(
     alloc: Global,
     bytes: &mut Vec<u8>,

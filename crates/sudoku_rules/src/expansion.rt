@@ -13,7 +13,7 @@ ghost use Rattle.sudoku_rules.specs.Expansion.{at_digit, handed_out, met_of, sol
 
 use crate::grid::Grid;
 use crate::look::{Choice, Look};
-use adlb_unit::NoMemory;
+use adlb_unit::{NoMemory, or_no_memory};
 use std::alloc::Global;
 
 /// What the expansion of a board met.
@@ -28,8 +28,8 @@ pub struct Expansion {
 }
 
 /// Works the tree of a grid with this budget. The children of a node with two or more candidates and a
-/// budget above the grain are handed out with their share of the budget; all other nodes are worked here. It
-/// fails for want of memory alone.
+/// budget above the grain are handed out with their share of the budget; all other nodes are worked here.
+/// Its only error is `NoMemory`.
 pub fn expand(alloc: Global, budget: u64, grid: &Grid, grain: u64) -> Result<Expansion, NoMemory>
     ensures { IfOk result (λ e. met_of e ≡ walk grain (tree 3 budget grid.now)) }
 {
@@ -43,8 +43,8 @@ pub fn expand(alloc: Global, budget: u64, grid: &Grid, grain: u64) -> Result<Exp
 }
 
 /// Puts solutions in the order of their texts (`sorted`). Where they are those of a grid's whole tree, and
-/// none of its nodes is over, they are then the list of all solutions of the grid (`law`). It fails for want
-/// of memory alone, and then leaves them as they were (`err`).
+/// none of its nodes is over, they are then the list of all solutions of the grid (`law`). Its only
+/// error is `NoMemory`, and it then leaves them as they were (`err`).
 pub fn in_text_order(solutions: &mut Vec<Grid>) -> Result<(), NoMemory>
     ensures permutation { IsPermutation solutions.old.items solutions.new.items }
     ensures sorted { OnOk result (IsSorted (slice_cmp nat_cmp) solutions.new.items) }
@@ -125,19 +125,13 @@ fn has_digit(options: u16, d: u8) -> bool
 fn keep_solution(grid: Grid, found: &mut Expansion) -> Result<(), NoMemory>
     ensures { OnOk result (met_of found.new ≡ both (met_of found.old) (solved grid)) }
 {
-    match found.solutions.push(grid) {
-        Ok(()) => Ok(()),
-        Err(_) => Err(NoMemory),
-    }
+    or_no_memory(found.solutions.push(grid))
 }
 
 fn keep_child(share: u64, child: Grid, found: &mut Expansion) -> Result<(), NoMemory>
     ensures { OnOk result (met_of found.new ≡ both (met_of found.old) (handed_out share child)) }
 {
-    match found.children.push((share, child)) {
-        Ok(()) => Ok(()),
-        Err(_) => Err(NoMemory),
-    }
+    or_no_memory(found.children.push((share, child)))
 }
 
 // A node with this budget and so many candidates hands its children out.
