@@ -11,9 +11,10 @@ use Rattle.adlb_unit.specs.declared.letters.Letter.{Letter}
 use Rattle.adlb_unit.specs.declared.letters.Sending.{Sending}
 use Rattle.adlb_unit.specs.declared.names.Rank.{Rank}
 use Rattle.adlb_unit.specs.declared.names.Server.{Server}
-use Rattle.rank_client.specs.State.{State as Client, start as new_client}
+use Rattle.rank_client.specs.State.{ClientModel, start as new_client}
 use Rattle.rank_client.specs.Step.{Made, hear}
-use Rattle.server_core.specs.State.{State as Pool, start as new_pool, place_of}
+use Rattle.adlb_unit.specs.Links.{place_of}
+use Rattle.server_core.specs.State.{ServerModel, start as new_pool}
 use Rattle.server_core.specs.Step.{Served, serve}
 use Rattle.core_run.specs.Runs.{Runs}
 use Rattle.core_run.specs.World.{World, Links, actors, after_rank, after_server, client_of, handle, happens, has_ended, is_within, link, pool_of, post, put_link, rank_named, taken}
@@ -75,7 +76,7 @@ pub record IsSized (w : World) : Type 0 where
   pub servers : length w.servers ≡ w.config.servers
 
 module _ (w : World) (sized : IsSized w) where
-  long : length (map {A = Client} {B = Being} inl w.ranks) ≡ w.config.ranks
+  long : length (map {A = ClientModel} {B = Being} inl w.ranks) ≡ w.config.ranks
   long = length-map w.ranks inl ∙ sized.ranks
 
   pub rank_state : (rank : Rank) → rank.0 < w.config.ranks → get_or (states w) rank.0 (first_of w.config) ≡ inl (client_of w rank)
@@ -89,13 +90,13 @@ module _ (w : World) (sized : IsSized w) where
       or_right (map inl w.ranks) (map inr w.servers) (w.config.ranks + server.0) server.0 (first_of w.config) (omega (arith, long))
       ∙ or_map inr w.servers server.0 (new_pool w.config server) (first_of w.config) (omega (arith, sized.servers, below))
 
-  rank_set : (rank : Rank) (s : Client) → rank.0 < w.config.ranks
+  rank_set : (rank : Rank) (s : ClientModel) → rank.0 < w.config.ranks
       → set (states w) rank.0 (inl s) ≡ map inl (set w.ranks rank.0 s) ++ map inr w.servers
   rank_set rank s below =
       set_left (map inl w.ranks) (map inr w.servers) rank.0 (inl s) (omega (arith, long, below))
       ∙ ap (λ l. l ++ map inr w.servers) (set_map inl w.ranks rank.0 s)
 
-  server_set : (server : Server) (s : Pool)
+  server_set : (server : Server) (s : ServerModel)
       → set (states w) (w.config.ranks + server.0) (inr s) ≡ map inl w.ranks ++ map inr (set w.servers server.0 s)
   server_set server s =
       set_right (map inl w.ranks) (map inr w.servers) (w.config.ranks + server.0) server.0 (inr s) (omega (arith, long))

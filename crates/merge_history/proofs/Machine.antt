@@ -5,9 +5,10 @@ use Rattle.std.proofs.lemmas.List.Elements.{recursion_from_All}
 use Rattle.adlb_unit.specs.declared.configs.Config.{Config}
 use Rattle.adlb_unit.specs.declared.letters.Letter.{Letter}
 use Rattle.adlb_unit.specs.declared.letters.Sending.{Sending}
-use Rattle.rank_client.specs.State.{State as Client, start as new_client}
+use Rattle.rank_client.specs.State.{ClientModel, start as new_client}
 use Rattle.rank_client.specs.Step.{Made}
-use Rattle.server_core.specs.State.{State as Pool, start as new_pool, place_of}
+use Rattle.adlb_unit.specs.Links.{place_of}
+use Rattle.server_core.specs.State.{ServerModel, start as new_pool}
 use Rattle.server_core.specs.Step.{Served}
 use Rattle.core_run.specs.World.{actors, rank_named, server_named}
 use Rattle.journal_law.specs.Orders.{of_actor}
@@ -21,7 +22,7 @@ use Rattle.merge_history.specs.Own.{ClientWalks, PoolWalks, IsAbove, IsTimed, cl
 
 -- the state of an actor: of a rank, or of a server
 abbrev pub Being : Type 0
-Being = Client ⊎ Pool
+Being = ClientModel ⊎ ServerModel
 
 abbrev pub cause_of : Config → Cause → Option (ℕ × Letter)
 cause_of config (causes.Called call) = None
@@ -30,14 +31,14 @@ cause_of config (causes.Got from letter) = Some (place_of config from, letter)
 abbrev pub sends_of : Config → List Sending → List (ℕ × Letter)
 sends_of config sends = map (λ y. (place_of config y.to, y.letter)) sends
 
-pub record IsRankStep (config : Config) (s : Client) (e : Event) (t : Being) : Type 0 where
+pub record IsRankStep (config : Config) (s : ClientModel) (e : Event) (t : Being) : Type 0 where
   pub x : Made
   pub step : client_step config s e.cause ≡ Some x
   pub sends : e.sends ≡ x.sends
   pub entries : e.entries ≡ x.entries
   pub is : t ≡ inl x.state
 
-pub record IsServerStep (config : Config) (s : Pool) (e : Event) (t : Being) : Type 0 where
+pub record IsServerStep (config : Config) (s : ServerModel) (e : Event) (t : Being) : Type 0 where
   pub x : Served
   pub step : pool_step config s e.cause ≡ Some x
   pub sends : e.sends ≡ x.sends
@@ -67,7 +68,7 @@ machine config = record {
 }
 
 module _ (config : Config) where
-  pub client_walks : (a : ℕ) (s : Client) (es : List Event) (last : Client) → ClientWalks config s es last → Walks_of (machine config) a (inl s) es (inl last)
+  pub client_walks : (a : ℕ) (s : ClientModel) (es : List Event) (last : ClientModel) → ClientWalks config s es last → Walks_of (machine config) a (inl s) es (inl last)
   client_walks a s [] last w = ap (λ t. inl t) w
   client_walks a s (e ∷ es) last w = (
     inl w.0.state,
@@ -75,7 +76,7 @@ module _ (config : Config) where
     client_walks a w.0.state es last w.5,
   )
 
-  pub pool_walks : (a : ℕ) (s : Pool) (es : List Event) (last : Pool) → PoolWalks config s es last → Walks_of (machine config) a (inr s) es (inr last)
+  pub pool_walks : (a : ℕ) (s : ServerModel) (es : List Event) (last : ServerModel) → PoolWalks config s es last → Walks_of (machine config) a (inr s) es (inr last)
   pool_walks a s [] last w = ap (λ t. inr t) w
   pool_walks a s (e ∷ es) last w = (
     inr w.0.state,

@@ -11,9 +11,10 @@ use Rattle.adlb_unit.specs.declared.actors.Actor.{Actor}
 use Rattle.adlb_unit.specs.declared.actors.Actor.TheVariants as by
 use Rattle.adlb_unit.specs.declared.configs.Config.{Config}
 use Rattle.adlb_unit.specs.declared.letters.Letter.{Letter}
-use Rattle.rank_client.specs.State.{State as Client, start as new_client}
+use Rattle.rank_client.specs.State.{ClientModel, start as new_client}
 use Rattle.rank_client.specs.Step.{Made, hear}
-use Rattle.server_core.specs.State.{State as Pool, start as new_pool, place_of}
+use Rattle.adlb_unit.specs.Links.{place_of}
+use Rattle.server_core.specs.State.{ServerModel, start as new_pool}
 use Rattle.server_core.specs.Step.{Served, serve}
 use Rattle.core_run.specs.World.{World, actors, client_of, has_ended, is_within, link, pool_of, rank_named, server_named, start}
 use Rattle.journal_law.specs.Orders.{Rises}
@@ -33,14 +34,14 @@ use Rattle.merge_history.proofs.Places.{actors_long, place_is}
 
 -- What is got is of one of the actors.
 
-client_got : (config : Config) (s : Client) (cause : Cause) (x : Made) → client_step config s cause ≡ Some x
+client_got : (config : Config) (s : ClientModel) (cause : Cause) (x : Made) → client_step config s cause ≡ Some x
     → Each (λ y. y.0 < actors config) (option_to_list (cause_of config cause))
 client_got config s (causes.Called call) x step = tt
 client_got config s (causes.Got (by.Rank from) letter) x step = absurd cc
 client_got config s (causes.Got (by.Server from) letter) x step =
     (place_below config (by.Server from) (cond_some (ltb from.0 config.servers) (hear s from letter) x step).0, tt)
 
-pool_got : (config : Config) (s : Pool) (cause : Cause) (x : Served) → pool_step config s cause ≡ Some x
+pool_got : (config : Config) (s : ServerModel) (cause : Cause) (x : Served) → pool_step config s cause ≡ Some x
     → Each (λ y. y.0 < actors config) (option_to_list (cause_of config cause))
 pool_got config s (causes.Called call) x step = absurd cc
 pool_got config s (causes.Got of letter) x step =
@@ -72,11 +73,11 @@ starts : (config : Config) → IsStart (machine config) (lists (machine config) 
 starts config =
     let w : World = start config in let n : ℕ = actors config in
     let none : List Letter = [] in let row : List (List Letter) = replicate n none in
-    let clients : length (map {A = Client} {B = Being} inl w.ranks) ≡ config.ranks = length-map w.ranks inl ∙ (at_start config).ranks in
-    let pools : length (map {A = Pool} {B = Being} inr w.servers) ≡ config.servers = length-map w.servers inr ∙ (at_start config).servers in
+    let clients : length (map {A = ClientModel} {B = Being} inl w.ranks) ≡ config.ranks = length-map w.ranks inl ∙ (at_start config).ranks in
+    let pools : length (map {A = ServerModel} {B = Being} inr w.servers) ≡ config.servers = length-map w.servers inr ∙ (at_start config).servers in
     record {
       good = record {
-        states = length-append (map {A = Client} {B = Being} inl w.ranks) (map inr w.servers) ∙ ap₂ (λ x y. x + y) clients pools;
+        states = length-append (map {A = ClientModel} {B = Being} inl w.ranks) (map inr w.servers) ∙ ap₂ (λ x y. x + y) clients pools;
         links = length-replicate n row;
         rows = λ a below. ap length (get_or-replicate n a row [] below) ∙ length-replicate n none;
       };
@@ -97,10 +98,10 @@ starts config =
     zero_more : (k : ℕ) → 0 + k ≡ k
     zero_more k = omega arith
 
-inl_same : (s t : Client) → let x : Being = inl s in let y : Being = inl t in x ≡ y → s ≡ t
+inl_same : (s t : ClientModel) → let x : Being = inl s in let y : Being = inl t in x ≡ y → s ≡ t
 inl_same s t e = cc
 
-inr_same : (s t : Pool) → let x : Being = inr s in let y : Being = inr t in x ≡ y → s ≡ t
+inr_same : (s t : ServerModel) → let x : Being = inr s in let y : Being = inr t in x ≡ y → s ≡ t
 inr_same s t e = cc
 
 -- The journals.

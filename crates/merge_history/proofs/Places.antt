@@ -6,7 +6,7 @@ use Rattle.std.specs.List.{range_with_len}
 use Rattle.adlb_unit.specs.declared.actors.Actor.{Actor}
 use Rattle.adlb_unit.specs.declared.actors.Actor.TheVariants as by
 use Rattle.adlb_unit.specs.declared.configs.Config.{Config}
-use Rattle.server_core.specs.State.{place_of}
+use Rattle.adlb_unit.specs.Links.{place_of}
 use Rattle.core_run.specs.World.{actors, is_within, rank_named, server_named}
 use Rattle.merge_history.specs.Merging.{actors_of}
 

@@ -8,9 +8,10 @@ use Rattle.adlb_unit.specs.declared.letters.Letter.{Letter}
 use Rattle.adlb_unit.specs.declared.letters.Sending.{Sending}
 use Rattle.adlb_unit.specs.declared.names.Rank.{Rank}
 use Rattle.adlb_unit.specs.declared.names.Server.{Server}
-use Rattle.rank_client.specs.State.{State as Client, start as new_client}
+use Rattle.rank_client.specs.State.{ClientModel, start as new_client}
 use Rattle.rank_client.specs.Step.{Made, begin, hear}
-use Rattle.server_core.specs.State.{State as Pool, start as new_pool, place_of}
+use Rattle.adlb_unit.specs.Links.{place_of}
+use Rattle.server_core.specs.State.{ServerModel, start as new_pool}
 use Rattle.server_core.specs.Step.{Served, serve}
 use Rattle.core_run.specs.declared.events.Event.{Event as Occurrence}
 use Rattle.core_run.specs.declared.events.Event.TheVariants as occurs
@@ -24,24 +25,24 @@ use Rattle.merge_history.specs.Merging.{joined, journal_at}
 -- An actor's own run.
 
 -- the step of a rank's client by this cause, and that of a server
-abbrev pub client_step : Config → Client → Cause → Option Made
+abbrev pub client_step : Config → ClientModel → Cause → Option Made
 client_step config s (causes.Called call) = begin s call
 client_step config s (causes.Got (by.Rank from) letter) = None
 client_step config s (causes.Got (by.Server from) letter) = if nat_lt from.0 config.servers then hear s from letter else None
 
-abbrev pub pool_step : Config → Pool → Cause → Option Served
+abbrev pub pool_step : Config → ServerModel → Cause → Option Served
 pool_step config s (causes.Called call) = None
 pool_step config s (causes.Got from letter) = if is_within config from && not (has_ended s) then serve s from letter else None
 
 -- the events, in order, are steps that lead the client, or the server, from one state to another: each has the step's stamp, letters and
 -- entries
-abbrev pub ClientWalks : Config → Client → List Event → Client → Type 0
+abbrev pub ClientWalks : Config → ClientModel → List Event → ClientModel → Type 0
 ClientWalks config s [] last = s ≡ last
 ClientWalks config s (e ∷ es) last =
     (x : Made) × (client_step config s e.cause ≡ Some x) × (e.stamp ≡ x.state.clock) × (e.sends ≡ x.sends) × (e.entries ≡ x.entries)
     × ClientWalks config x.state es last
 
-abbrev pub PoolWalks : Config → Pool → List Event → Pool → Type 0
+abbrev pub PoolWalks : Config → ServerModel → List Event → ServerModel → Type 0
 PoolWalks config s [] last = s ≡ last
 PoolWalks config s (e ∷ es) last =
     (x : Served) × (pool_step config s e.cause ≡ Some x) × (e.stamp ≡ x.state.clock) × (e.sends ≡ x.sends) × (e.entries ≡ x.entries)
@@ -49,8 +50,8 @@ PoolWalks config s (e ∷ es) last =
 
 -- the states in which the actors' journals end
 pub record Finals : Type 0 where
-  pub client : Rank → Client
-  pub pool : Server → Pool
+  pub client : Rank → ClientModel
+  pub pool : Server → ServerModel
 
 -- from the actor's start to its last state
 abbrev pub Walks : Config → Finals → Actor → List Event → Type 0
