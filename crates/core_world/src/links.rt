@@ -5,7 +5,7 @@ ghost use Rattle.adlb_unit.specs.Links.{place_of};
 ghost use Rattle.adlb_unit.specs.declared.letters.Letter.{Letter};
 ghost use Rattle.core_run.specs.World.{link, post, put_link};
 
-use adlb_unit::{Actor, Config, Letter, NoMemory, Sending};
+use adlb_unit::{Actor, Config, Letter, NoMemory, Sending, or_no_memory};
 use std::alloc::Global;
 use std::collections::VecDeque;
 use std::marker::Model;
@@ -37,10 +37,7 @@ impl Link {
     fn push(&mut self, letter: Letter) -> Result<(), NoMemory>
         ensures { OnOk result (self.new ≡ self.old ++ letter ∷ []) }
     {
-        match self.letters.push_back(letter) {
-            Ok(()) => Ok(()),
-            Err(_) => Err(NoMemory),
-        }
+        or_no_memory(self.letters.push_back(letter))
     }
 
     fn pop(&mut self) -> Option<Letter>

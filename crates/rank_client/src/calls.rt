@@ -18,7 +18,7 @@ use crate::rooms::{Farewell, Offer, Room};
 use crate::steps::ClientStep;
 use adlb_unit::{
     BODY_LIMIT, End, Message, NoMemory, Payload, STAMP_LIMIT, Sending, Server, Target, Trouble,
-    Types, Unit, UnitId, UnitNote,
+    Types, Unit, UnitId, UnitNote, or_no_memory,
 };
 use bag_ledger::{Answer, Call, Entry, Said};
 use std::alloc::Global;
@@ -52,15 +52,12 @@ pub(crate) fn put_call(unit: Unit) -> Call
     }
 }
 
-// A list with room for so many elements.
+// A list with room for `room` elements.
 fn with_room<T>(alloc: Global, room: usize) -> Result<Vec<T>, NoMemory>
     ensures items { IfOk result (λ v. v.items ≡ []) }
     ensures room { IfOk result (λ v. vec_capacity v ≡ room) }
 {
-    match Vec::with_capacity(alloc, room) {
-        Ok(list) => Ok(list),
-        Err(_) => Err(NoMemory),
-    }
+    or_no_memory(Vec::with_capacity(alloc, room))
 }
 
 // What it takes to offer a unit with these bytes to so many servers.

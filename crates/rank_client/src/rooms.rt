@@ -2,7 +2,7 @@
 
 ghost use Rattle.std.specs.Prelude.{◌≡◌, IfOk};
 
-use adlb_unit::{NoMemory, Payload, Sending};
+use adlb_unit::{NoMemory, Payload, Sending, or_no_memory};
 use bag_ledger::Entry;
 use std::alloc::Global;
 use std::marker::Model;
@@ -30,10 +30,8 @@ impl Offer {
         ensures { IfOk result (λ o. o ≡ body.now) }
     {
         let body = body.twin(alloc)?;
-        match Vec::with_capacity(alloc, 1) {
-            Ok(sends) => Ok(Offer { body, sends }),
-            Err(_) => Err(NoMemory),
-        }
+        let sends = or_no_memory(Vec::with_capacity(alloc, 1))?;
+        Ok(Offer { body, sends })
     }
 }
 
