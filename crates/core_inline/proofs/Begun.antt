@@ -8,7 +8,7 @@ use Rattle.bag_ledger.specs.declared.entries.Said.{Said}
 use Rattle.bag_ledger.specs.declared.states.RankState.{RankState}
 use Rattle.bag_ledger.specs.Bag.{Bag, start}
 use Rattle.bag_ledger.specs.Runs.{IsRun, call_of, calls}
-use Rattle.core_inline.specs.Begun.{after_all, begun_in, first_open, pending_in}
+use Rattle.core_inline.specs.inside.Begun.{after_all, begun_in, first_open, pending_in}
 use Rattle.core_inline.specs.Inline.{IsOpen, IsTold, zeroth}
 
 drop_seam : {X : Type 0} (xs ys : List X) → drop (length xs) (xs ++ ys) ≡ ys
@@ -19,7 +19,11 @@ pub after_all_is : (b last : Bag) (ledger : List Entry) → IsRun b ledger last 
 after_all_is b last [] run = run
 after_all_is b last (e ∷ es) run = ap (λ v. after_all v es) (sym run.1.2) ∙ after_all_is run.0 last es run.2
 
-first_is : (pending : Option Call) (more : List Said) (begun : Option Call) → IsOpen pending more begun → first_open pending more ≡ begun
+-- the ends of two runs of a ledger
+pub same_end : (b last other : Bag) (ledger : List Entry) → IsRun b ledger last → IsRun b ledger other → last ≡ other
+same_end b last other ledger run again = sym (after_all_is b last ledger run) ∙ after_all_is b other ledger again
+
+pub first_is : (pending : Option Call) (more : List Said) (begun : Option Call) → IsOpen pending more begun → first_open pending more ≡ begun
 first_is pending [] begun is = sym is
 first_is pending (s ∷ []) begun is = sym is.1
 first_is pending (s ∷ t ∷ more) begun is = absurd is

@@ -1,5 +1,5 @@
 -- The fields of a run in line, call by call.
-use Rattle.std.proofs.Common.{◌≡◌, ◌⊎◌, inl, inr, ℕ, zero, suc, ◌+◌, ◌<◌, ◌^◌, ◌||◌, ◌&&◌, get_or, Bool, true, false, List, [], ◌∷◌, length, take, Option, None, Some, refl, sym, ap, ◌∙◌, subst, arith, append-nil}
+use Rattle.std.proofs.Common.{◌≡◌, ◌⊎◌, inl, inr, ℕ, zero, suc, ◌+◌, ◌||◌, ◌&&◌, get_or, Bool, true, false, List, [], ◌∷◌, length, take, Option, None, Some, refl, sym, ap, ◌∙◌, subst, arith}
 use Rattle.std.proofs.lemmas.List.{length_push}
 use Rattle.adlb_unit.specs.declared.configs.Config.{Config}
 use Rattle.adlb_unit.specs.declared.notes.Trouble.{Trouble}
@@ -8,20 +8,16 @@ use Rattle.bag_ledger.specs.declared.entries.Answer.{Answer}
 use Rattle.bag_ledger.specs.declared.entries.Answer.TheVariants as answers
 use Rattle.bag_ledger.specs.declared.entries.Call.{Call}
 use Rattle.bag_ledger.specs.declared.entries.Call.TheVariants as calls_to
-use Rattle.rank_client.specs.Agreement.{running as running_rank}
+use Rattle.bag_ledger.specs.declared.entries.Said.{Said}
 use Rattle.rank_client.specs.Calls.{Began, has_finished, plus}
+use Rattle.rank_client.proofs.Transcripts.{finished_more}
 use Rattle.server_core.specs.State.{ServerModel}
 use Rattle.core_inline.specs.declared.runs.InlineRun.TheInside.{Inside}
-use Rattle.core_inline.specs.Begun.{begun_in}
-use Rattle.core_inline.specs.Inline.{IsTold}
-use Rattle.core_inline.specs.Inside.{IsInside, run_of}
-use Rattle.core_inline.specs.Pairs.{IsPair, rank_in, server_in}
-use Rattle.core_inline.specs.Rounds.{IsAnswered, IsFailed, IsFinished, is_ended, with_call}
+use Rattle.core_inline.specs.inside.Begun.{begun_in}
+use Rattle.core_inline.specs.inside.Fields.{IsInside, run_of}
+use Rattle.core_inline.specs.inside.Pairs.{IsAnswered, IsFailed, IsFinished, IsReady, IsTrue, is_ended, rank_in, server_in, with_call}
 use Rattle.core_world.specs.Seen.{Seen}
 use Rattle.core_inline.proofs.Begun.{begun_is, retold}
-use Rattle.core_inline.proofs.Beginning.{rank_runs}
-use Rattle.rank_client.proofs.Transcripts.{finished_more}
-use Rattle.core_inline.proofs.Lefts.{left_is}
 
 pub take_all : {X : Type 0} (n : ℕ) (xs : List X) → n ≡ length xs → take n xs ≡ xs
 take_all zero [] is = refl
@@ -45,72 +41,68 @@ or_true false = refl
 pub began_none : (failed now : Option Trouble) (before : Option Call) (call : Call) (begun : Option Call) → failed ≡ None → now ≡ None → begun ≡ None → Began failed before call now begun
 began_none failed now before call begun whole goes_on none = rw (whole, goes_on) none
 
--- A call was answered.
-
-module _ (i : Inside) (now : Seen) (call : Call) (answer : Answer) (before : IsInside i) (whole : i.world.trouble ≡ None) (running : has_finished (run_of i).transcript ≡ false)
-    (done : IsAnswered (rank_in i.world).transcript call answer (rank_in now) (server_in now) now.world.ledger) (two : IsPair now [] []) (early : (rank_in now).clock < 2 ^ 48) where
+-- A call that did not fail adds its answer, and nothing is open.
+module _ (i : Inside) (now : Seen) (call : Call) (answer : Answer) (before : IsInside i) (whole : i.world.trouble ≡ None) (goes_on : now.trouble ≡ None)
+    (true_now : IsTrue now) (grown : (rank_in now).transcript ≡ with_call (rank_in i.world).transcript call answer) where
   long : i.answered + 1 ≡ length (rank_in now).transcript
-  long = omega (arith, before.all whole, ap length done.grown, length_push (rank_in i.world).transcript (record { call = call; answer = answer }))
+  long = omega (arith, before.all whole, ap length grown, length_push (rank_in i.world).transcript (record { call = call; answer = answer }))
 
-  all_answered : take (i.answered + 1) (rank_in now).transcript ≡ (rank_in now).transcript
-  all_answered = take_all (i.answered + 1) (rank_in now).transcript long
+  all_said : take (i.answered + 1) (rank_in now).transcript ≡ (rank_in now).transcript
+  all_said = take_all (i.answered + 1) (rank_in now).transcript long
 
-  pub answered_transcript : take (i.answered + 1) (rank_in now).transcript ≡ plus (run_of i).transcript call (Some answer)
-  answered_transcript = all_answered ∙ done.grown ∙ ap (λ l. with_call l call answer) (sym (take_all i.answered (rank_in i.world).transcript (before.all whole)))
+  pub grown_transcript : take (i.answered + 1) (rank_in now).transcript ≡ plus (run_of i).transcript call (Some answer)
+  grown_transcript = all_said ∙ grown ∙ ap (λ l. with_call l call answer) (sym (take_all i.answered (rank_in i.world).transcript (before.all whole)))
 
-  abbrev idle_told : IsTold (rank_in now).config now.world.ledger (rank_in now).transcript None
-  idle_told = record {
-    last = done.idle.last;
-    legal = done.idle.joint.legal;
-    more = [];
-    calls_are = done.idle.joint.calls_are ∙ sym (append-nil (rank_in now).transcript);
-    rank = running_rank (rank_in now);
-    there = rank_runs (rank_in now) (server_in now) now.world.ledger call done.idle;
-    open_call = refl;
+  pub grown_begun : begun_in now.world.config now.world.ledger (take (i.answered + 1) (rank_in now).transcript) ≡ None
+  grown_begun = begun_is now.world.config now.world.ledger (take (i.answered + 1) (rank_in now).transcript) None
+      (retold now.world.config now.world.config now.world.ledger (rank_in now).transcript (take (i.answered + 1) (rank_in now).transcript) None None true_now.told refl (sym all_said) refl)
+
+  pub grown_inside : (finished : Bool) → now.world.config ≡ i.world.world.config → finished ≡ has_finished (rank_in now).transcript → is_ended (server_in now) ≡ finished
+      → (has_finished (rank_in now).transcript ≡ false → IsReady now) → IsInside (record i { world = now; answered = i.answered + 1; finished = finished })
+  grown_inside finished same called ended ready = record {
+    inline = record {
+      one_rank = ap (λ (g : Config). g.ranks) same ∙ before.inline.one_rank;
+      one_server = ap (λ (g : Config). g.servers) same ∙ before.inline.one_server;
+      told = retold now.world.config now.world.config now.world.ledger (rank_in now).transcript (take (i.answered + 1) (rank_in now).transcript) None
+          (begun_in now.world.config now.world.ledger (take (i.answered + 1) (rank_in now).transcript)) true_now.told refl (sym all_said) grown_begun;
+      whole = λ none. record { begun = grown_begun; left = true_now.left; finished = called ∙ sym (ap has_finished all_said); ended = ended };
+      short = omega (arith, ap length all_said, true_now.short);
+      late = λ stamp is. absurd (cc (is, goes_on));
+    };
+    answered = omega (arith, long);
+    ready = λ none going. ready (sym (ap has_finished all_said) ∙ going);
+    all = λ none. long;
+    short = omega (arith, long, true_now.short);
   }
 
-  pub answered_begun : begun_in now.world.config now.world.ledger (take (i.answered + 1) (rank_in now).transcript) ≡ None
-  answered_begun = begun_is now.world.config now.world.ledger (take (i.answered + 1) (rank_in now).transcript) None
-      (retold (rank_in now).config now.world.config now.world.ledger (rank_in now).transcript (take (i.answered + 1) (rank_in now).transcript) None None idle_told two.same (sym all_answered) refl)
+-- A call was answered.
+pub answered_inside : (i : Inside) (now : Seen) (call : Call) (answer : Answer) → IsInside i → i.world.trouble ≡ None → has_finished (run_of i).transcript ≡ false → IsAnswered (rank_in i.world).transcript call answer now → now.world.config ≡ i.world.world.config
+    → IsInside (record i { world = now; answered = i.answered + 1 })
+answered_inside i now call answer before whole running done same =
+    let going : i.finished ≡ false = (before.inline.whole whole).finished ∙ running in
+    let rests = done.ready.rests in
+    grown_inside i now call answer before whole done.ready.two.whole done.true_now done.grown i.finished same (going ∙ sym rests.rank.unfinished) (not_ended (server_in now) rests.server.unhandled ∙ sym going) (λ none. done.ready)
 
-  pub answered_inside : IsInside (record i { world = now; answered = i.answered + 1 })
-  answered_inside =
-      let idle = done.idle in
-      record {
-        inline = record {
-          one_rank = two.one_rank;
-          one_server = two.one_server;
-          told = retold (rank_in now).config now.world.config now.world.ledger (rank_in now).transcript (take (i.answered + 1) (rank_in now).transcript) None
-              (begun_in now.world.config now.world.ledger (take (i.answered + 1) (rank_in now).transcript)) idle_told two.same (sym all_answered) answered_begun;
-          whole = λ none. record {
-            begun = answered_begun;
-            left = left_is idle.last (server_in now) idle.joint.server idle.joint.alone;
-            finished = (before.inline.whole whole).finished ∙ running ∙ sym (ap has_finished all_answered ∙ idle.joint.unfinished);
-            ended = not_ended (server_in now) idle.joint.unhandled ∙ sym ((before.inline.whole whole).finished ∙ running);
-          };
-          short = omega (arith, ap length all_answered, idle.counted, early);
-          late = λ stamp is. absurd (cc (is, two.whole));
-        };
-        answered = omega (arith, long);
-        ready = λ none going. record { two = two; idle = idle };
-        all = λ none. long;
-        short = omega (arith, long, idle.counted, early);
-      }
+-- The rank has finished.
+pub left_inside : (i : Inside) (now : Seen) → IsInside i → i.world.trouble ≡ None → IsFinished (rank_in i.world).transcript now → now.world.config ≡ i.world.world.config → IsInside (record i { world = now; answered = i.answered + 1; finished = true })
+left_inside i now before whole done same =
+    let said : Said = record { call = calls_to.Finish; answer = answers.Fine } in
+    let all : has_finished (rank_in now).transcript ≡ true = ap has_finished done.grown ∙ finished_more (rank_in i.world).transcript said ∙ or_true (has_finished (rank_in i.world).transcript) in
+    grown_inside i now calls_to.Finish answers.Fine before whole done.whole done.true_now done.grown true same (sym all) done.heard (λ none. absurd (cc (all, none)))
 
 -- A call failed.
 
 module _ (i : Inside) (now : Seen) (call : Call) (trouble : Trouble) (before : IsInside i) (whole : i.world.trouble ≡ None)
-    (failed : IsFailed i.world.world.config (rank_in i.world).transcript call trouble (rank_in now).transcript now.world.ledger)
-    (is : now.trouble ≡ Some trouble) (same : now.world.config ≡ i.world.world.config) where
+    (failed : IsFailed i.world.world.config (rank_in i.world).transcript call trouble now) (is : now.trouble ≡ Some trouble) (same : now.world.config ≡ i.world.world.config) where
   pub failed_transcript : take i.answered (rank_in now).transcript ≡ (run_of i).transcript
   failed_transcript = ap (λ n. take n (rank_in now).transcript) (before.all whole) ∙ failed.kept ∙ sym (take_all i.answered (rank_in i.world).transcript (before.all whole))
 
-  all_said : (rank_in i.world).transcript ≡ take i.answered (rank_in now).transcript
-  all_said = sym (take_all i.answered (rank_in i.world).transcript (before.all whole)) ∙ sym failed_transcript
+  was_said : (rank_in i.world).transcript ≡ take i.answered (rank_in now).transcript
+  was_said = sym (take_all i.answered (rank_in i.world).transcript (before.all whole)) ∙ sym failed_transcript
 
   failed_begun : begun_in now.world.config now.world.ledger (take i.answered (rank_in now).transcript) ≡ failed.begun
   failed_begun = begun_is now.world.config now.world.ledger (take i.answered (rank_in now).transcript) failed.begun
-      (retold i.world.world.config now.world.config now.world.ledger (rank_in i.world).transcript (take i.answered (rank_in now).transcript) failed.begun failed.begun failed.told (sym same) all_said refl)
+      (retold i.world.world.config now.world.config now.world.ledger (rank_in i.world).transcript (take i.answered (rank_in now).transcript) failed.begun failed.begun failed.told (sym same) was_said refl)
 
   pub failed_began : Began i.world.trouble (run_of i).begun call now.trouble (begun_in now.world.config now.world.ledger (take i.answered (rank_in now).transcript))
   failed_began =
@@ -124,10 +116,10 @@ module _ (i : Inside) (now : Seen) (call : Call) (trouble : Trouble) (before : I
       one_rank = ap (λ (g : Config). g.ranks) same ∙ before.inline.one_rank;
       one_server = ap (λ (g : Config). g.servers) same ∙ before.inline.one_server;
       told = retold i.world.world.config now.world.config now.world.ledger (rank_in i.world).transcript (take i.answered (rank_in now).transcript) failed.begun
-          (begun_in now.world.config now.world.ledger (take i.answered (rank_in now).transcript)) failed.told (sym same) all_said failed_begun;
+          (begun_in now.world.config now.world.ledger (take i.answered (rank_in now).transcript)) failed.told (sym same) was_said failed_begun;
       whole = λ none. absurd (cc (is, none));
       short = omega (arith, ap length failed_transcript, before.inline.short);
-      late = λ stamp late. let h = failed.late stamp (inner trouble stamp (sym is ∙ late)) in (h.0, omega (arith, h.1, ap length all_said));
+      late = λ stamp late. let h = failed.late stamp (inner trouble stamp (sym is ∙ late)) in (h.0, omega (arith, h.1, ap length was_said));
     };
     answered = omega (arith, failed.within, before.all whole);
     ready = λ none going. absurd (cc (is, none));
@@ -137,57 +129,3 @@ module _ (i : Inside) (now : Seen) (call : Call) (trouble : Trouble) (before : I
     where
       inner : (t : Trouble) (stamp : ℕ) → Some t ≡ Some (TooLong stamp) → t ≡ TooLong stamp
       inner t stamp e = cc
-
--- The rank has finished.
-
-module _ (i : Inside) (now : Seen) (before : IsInside i) (whole : i.world.trouble ≡ None) (done : IsFinished i.world.world.config (rank_in i.world).transcript (rank_in now) (server_in now) now.world.ledger)
-    (goes_on : now.trouble ≡ None) (same : now.world.config ≡ i.world.world.config) where
-  left_long : i.answered + 1 ≡ length (rank_in now).transcript
-  left_long = omega (arith, before.all whole, ap length done.grown, length_push (rank_in i.world).transcript (record { call = calls_to.Finish; answer = answers.Fine }))
-
-  left_all : take (i.answered + 1) (rank_in now).transcript ≡ (rank_in now).transcript
-  left_all = take_all (i.answered + 1) (rank_in now).transcript left_long
-
-  pub left_transcript : take (i.answered + 1) (rank_in now).transcript ≡ plus (run_of i).transcript calls_to.Finish (Some answers.Fine)
-  left_transcript = left_all ∙ done.grown ∙ ap (λ l. with_call l calls_to.Finish answers.Fine) (sym (take_all i.answered (rank_in i.world).transcript (before.all whole)))
-
-  left_finished : has_finished (take (i.answered + 1) (rank_in now).transcript) ≡ true
-  left_finished = ap has_finished (left_all ∙ done.grown) ∙ finished_more (rank_in i.world).transcript (record { call = calls_to.Finish; answer = answers.Fine }) ∙ or_true (has_finished (rank_in i.world).transcript)
-
-  pub left_begun : begun_in now.world.config now.world.ledger (take (i.answered + 1) (rank_in now).transcript) ≡ None
-  left_begun = begun_is now.world.config now.world.ledger (take (i.answered + 1) (rank_in now).transcript) None
-      (retold i.world.world.config now.world.config now.world.ledger (rank_in now).transcript (take (i.answered + 1) (rank_in now).transcript) None None done.told (sym same) (sym left_all) refl)
-
-  pub left_inside : IsInside (record i { world = now; answered = i.answered + 1; finished = true })
-  left_inside = record {
-    inline = record {
-      one_rank = ap (λ (g : Config). g.ranks) same ∙ before.inline.one_rank;
-      one_server = ap (λ (g : Config). g.servers) same ∙ before.inline.one_server;
-      told = retold i.world.world.config now.world.config now.world.ledger (rank_in now).transcript (take (i.answered + 1) (rank_in now).transcript) None
-          (begun_in now.world.config now.world.ledger (take (i.answered + 1) (rank_in now).transcript)) done.told (sym same) (sym left_all) left_begun;
-      whole = λ none. record { begun = left_begun; left = done.left; finished = sym left_finished; ended = done.heard };
-      short = omega (arith, ap length left_all, done.short);
-      late = λ stamp is. absurd (cc (is, goes_on));
-    };
-    answered = omega (arith, left_long);
-    ready = λ none going. absurd (cc (left_finished, going));
-    all = λ none. left_long;
-    short = omega (arith, left_long, done.short);
-  }
-
--- only that the rank's finish was called is kept, of a run that has failed
-pub called_inside : (i : Inside) (trouble : Trouble) → IsInside i → i.world.trouble ≡ Some trouble → IsInside (record i { finished = true })
-called_inside i trouble before is = record {
-  inline = record {
-    one_rank = before.inline.one_rank;
-    one_server = before.inline.one_server;
-    told = before.inline.told;
-    whole = λ none. absurd (cc (is, none));
-    short = before.inline.short;
-    late = before.inline.late;
-  };
-  answered = before.answered;
-  ready = λ none going. absurd (cc (is, none));
-  all = before.all;
-  short = before.short;
-}

@@ -1,8 +1,9 @@
 -- What the events of a world of one rank and one server come to.
-use Rattle.std.proofs.Common.{◌≡◌, ℕ, ◌+◌, true, false, ◌&&◌, nat_lt, List, [], ◌∷◌, ◌++◌, cond, None, Some, refl, sym, ap, ◌∙◌, subst}
+use Rattle.std.proofs.Common.{◌≡◌, ℕ, ◌+◌, ◌<◌, Option, true, false, ◌&&◌, nat_lt, List, [], ◌∷◌, ◌++◌, cond, None, Some, refl, sym, ap, ◌∙◌, subst}
 use Rattle.std.specs.Prelude.{option_and_then}
 use Rattle.std.specs.Option.{option_map}
 use Rattle.adlb_unit.specs.Links.{place_of}
+use Rattle.adlb_unit.specs.Limits.{stamp_limit}
 use Rattle.adlb_unit.specs.declared.actors.Actor.{Actor}
 use Rattle.adlb_unit.specs.declared.actors.Actor.TheVariants as by
 use Rattle.adlb_unit.specs.declared.configs.Config.{Config}
@@ -10,19 +11,24 @@ use Rattle.adlb_unit.specs.declared.letters.Letter.{Letter}
 use Rattle.adlb_unit.specs.declared.letters.Sending.{Sending}
 use Rattle.bag_ledger.specs.declared.entries.Call.{Call}
 use Rattle.bag_ledger.specs.declared.entries.Entry.{Entry}
+use Rattle.rank_client.proofs.Entries.{some_is}
 use Rattle.rank_client.specs.State.{ClientModel}
 use Rattle.rank_client.specs.Step.{Made, begin, hear, letter_stamp}
 use Rattle.server_core.specs.State.{ServerModel}
 use Rattle.server_core.specs.Step.{Served, next_stamp, serve}
 use Rattle.core_run.specs.declared.events.Event.{Event}
 use Rattle.core_run.specs.declared.events.Event.TheVariants as occurs
-use Rattle.core_run.specs.World.{Links, World, after_rank, after_server, client_of, handle, happens, has_ended, link, pool_of, post, put_link, taken}
+use Rattle.core_run.specs.Runs.{NoneIsStuck, Runs}
+use Rattle.core_run.specs.World.{Links, World, after_rank, after_server, client_of, handle, happens, has_ended, link, pool_of, post, put_link, start, taken}
 use Rattle.core_world.specs.Applied.{event_answer, event_stamp, front_answer, front_stamp}
 use Rattle.core_inline.specs.Inline.{zeroth}
-use Rattle.core_inline.specs.Pairs.{IsPair, pair, rank_in, server_in}
-use Rattle.core_inline.specs.Rounds.{Sends, by_rank, first_server}
+use Rattle.core_inline.specs.inside.Pairs.{IsPair, IsReached, first_server, pair, rank_in, server_in}
 use Rattle.core_world.specs.Seen.{Seen, under_way}
 use Rattle.core_world.proofs.Posting.{post_none, post_one}
+use Rattle.core_inline.proofs.Clients.{Sends}
+
+abbrev pub by_rank : Actor
+by_rank = by.Rank zeroth
 
 abbrev pub to_server : Event
 to_server = occurs.Deliver by_rank (by.Server first_server)
@@ -38,6 +44,10 @@ post_letter : (config : Config) (links : Links) (n : ℕ) (sends : List Sending)
 post_letter config links n sends to letter is =
     let x : Sending = record { to = to; letter = letter } in
     ap (post config links n) is ∙ post_one config links n x [] ∙ post_none config (put_link links n (place_of config to) (link links n (place_of config to) ++ letter ∷ [])) n
+
+mapped : {X Y : Type 0} (f : X → Y) (o : Option X) (y : Y) → option_map f o ≡ Some y → (x : X) × (o ≡ Some x)
+mapped f None y e = absurd (cc)
+mapped f (Some x) y e = (x, refl)
 
 module _ (config : Config) (c : ClientModel) (s : ServerModel) (ledger : List Entry) (one_rank : config.ranks ≡ 1) (one_server : config.servers ≡ 1) where
   -- the place of the server
@@ -74,15 +84,27 @@ module _ (config : Config) (c : ClientModel) (s : ServerModel) (ledger : List En
       ap (λ n. cond (nat_lt 0 config.servers && nat_lt 0 n) (link w.links (n + 0) 0) []) one_rank ∙ ap (λ n. cond (nat_lt 0 n && true) (letter ∷ []) []) one_server
 
   -- the server handles the rank's letter
-  pub handles : (letter : Letter) (x : Served) → serve s by_rank letter ≡ Some x → has_ended s ≡ false
-      → happens (pair config c s (letter ∷ []) [] ledger) to_server ≡ Some (after_server (pair config c s (letter ∷ []) [] ledger) first_server (taken (pair config c s (letter ∷ []) [] ledger) by_rank (by.Server first_server) []) x)
-  handles letter x gave going =
+  served_by : (letter : Letter) → has_ended s ≡ false → happens (pair config c s (letter ∷ []) [] ledger) to_server
+      ≡ option_map (after_server (pair config c s (letter ∷ []) [] ledger) first_server (taken (pair config c s (letter ∷ []) [] ledger) by_rank (by.Server first_server) [])) (serve s by_rank letter)
+  served_by letter going =
       let w : World = pair config c s (letter ∷ []) [] ledger in
       let links : Links = taken w by_rank (by.Server first_server) [] in
       ap (λ n. cond (nat_lt 0 n && nat_lt 0 config.servers) (handle w by_rank (by.Server first_server) (link w.links 0 (n + 0))) None) one_rank
       ∙ ap (λ n. cond (nat_lt 0 n) (handle w by_rank (by.Server first_server) (letter ∷ [])) None) one_server
       ∙ ap (λ b. cond b None (option_map (after_server w first_server links) (serve s by_rank letter))) going
-      ∙ ap (option_map (after_server w first_server links)) gave
+
+  pub handles : (letter : Letter) (x : Served) → serve s by_rank letter ≡ Some x → has_ended s ≡ false
+      → happens (pair config c s (letter ∷ []) [] ledger) to_server ≡ Some (after_server (pair config c s (letter ∷ []) [] ledger) first_server (taken (pair config c s (letter ∷ []) [] ledger) by_rank (by.Server first_server) []) x)
+  handles letter x gave going =
+      let w : World = pair config c s (letter ∷ []) [] ledger in
+      served_by letter going ∙ ap (option_map (after_server w first_server (taken w by_rank (by.Server first_server) []))) gave
+
+  -- it is expected
+  pub is_served : (letter : Letter) → NoneIsStuck (pair config c s (letter ∷ []) [] ledger) → letter.stamp < stamp_limit → has_ended s ≡ false → (x : Served) × (serve s by_rank letter ≡ Some x)
+  is_served letter stuck early going =
+      let w : World = pair config c s (letter ∷ []) [] ledger in
+      let some = stuck by_rank (by.Server first_server) letter [] (ap (nat_lt 0) one_rank) (ap (nat_lt 0) one_server) (ap (λ n. link w.links 0 n) second) early in
+      mapped (after_server w first_server (taken w by_rank (by.Server first_server) [])) (serve s by_rank letter) some.0 (sym (served_by letter going) ∙ some.1)
 
   pub handles_replying : (letter reply : Letter) (x : Served) → serve s by_rank letter ≡ Some x → has_ended s ≡ false → Sends x.sends by_rank reply
       → happens (pair config c s (letter ∷ []) [] ledger) to_server ≡ Some (pair config c x.state [] (reply ∷ []) (ledger ++ x.entries))
@@ -94,6 +116,20 @@ module _ (config : Config) (c : ClientModel) (s : ServerModel) (ledger : List En
       handles letter x gave going ∙ ap (λ (l : Links). Some (record w { servers = x.state ∷ []; links = l; ledger = ledger ++ x.entries })) posted
 
   -- the rank hears the server's letter
+  heard_by : (letter : Letter) → happens (pair config c s [] (letter ∷ []) ledger) to_rank
+      ≡ option_map (after_rank (pair config c s [] (letter ∷ []) ledger) zeroth (taken (pair config c s [] (letter ∷ []) ledger) (by.Server first_server) by_rank [])) (hear c first_server letter)
+  heard_by letter =
+      let w : World = pair config c s [] (letter ∷ []) ledger in
+      ap (λ n. cond (nat_lt 0 config.servers && nat_lt 0 n) (handle w (by.Server first_server) by_rank (link w.links (n + 0) 0)) None) one_rank
+      ∙ ap (λ n. cond (nat_lt 0 n && true) (handle w (by.Server first_server) by_rank (letter ∷ [])) None) one_server
+
+  -- it is expected
+  pub is_heard : (letter : Letter) → NoneIsStuck (pair config c s [] (letter ∷ []) ledger) → letter.stamp < stamp_limit → (x : Made) × (hear c first_server letter ≡ Some x)
+  is_heard letter stuck early =
+      let w : World = pair config c s [] (letter ∷ []) ledger in
+      let some = stuck (by.Server first_server) by_rank letter [] (ap (nat_lt 0) one_server) (ap (nat_lt 0) one_rank) (ap (λ n. link w.links n 0) second) early in
+      mapped (after_rank w zeroth (taken w (by.Server first_server) by_rank [])) (hear c first_server letter) some.0 (sym (heard_by letter) ∙ some.1)
+
   pub hears : (letter : Letter) (x : Made) → hear c first_server letter ≡ Some x → x.sends ≡ []
       → happens (pair config c s [] (letter ∷ []) ledger) to_rank ≡ Some (pair config x.state s [] [] (ledger ++ x.entries))
   hears letter x gave silent =
@@ -101,10 +137,7 @@ module _ (config : Config) (c : ClientModel) (s : ServerModel) (ledger : List En
       let links : Links = taken w (by.Server first_server) by_rank [] in
       let posted : post config links 0 x.sends ≡ (([] ∷ [] ∷ []) ∷ ([] ∷ [] ∷ []) ∷ []) =
       post_silent config links 0 x.sends silent ∙ ap (λ n. put_link w.links n 0 []) second in
-      let heard : happens w to_rank ≡ Some (after_rank w zeroth links x) =
-      ap (λ n. cond (nat_lt 0 config.servers && nat_lt 0 n) (handle w (by.Server first_server) by_rank (link w.links (n + 0) 0)) None) one_rank
-      ∙ ap (λ n. cond (nat_lt 0 n && true) (handle w (by.Server first_server) by_rank (letter ∷ [])) None) one_server ∙ ap (option_map (after_rank w zeroth links)) gave in
-      heard ∙ ap (λ (l : Links). Some (record w { ranks = x.state ∷ []; links = l; ledger = ledger ++ x.entries })) posted
+      heard_by letter ∙ ap (option_map (after_rank w zeroth links)) gave ∙ ap (λ (l : Links). Some (record w { ranks = x.state ∷ []; links = l; ledger = ledger ++ x.entries })) posted
 
   -- the stamps of these events, and the answers that they give
   pub asked_stamp : (letter : Letter) (told : List Letter) → event_stamp (pair config c s (letter ∷ []) told ledger) to_server ≡ next_stamp s letter
@@ -116,29 +149,37 @@ module _ (config : Config) (c : ClientModel) (s : ServerModel) (ledger : List En
   pub told_answer : (letter : Letter) (asked : List Letter) (x : Made) → hear c first_server letter ≡ Some x → event_answer (pair config c s asked (letter ∷ []) ledger) to_rank ≡ x.answer
   told_answer letter asked x gave = ap (front_answer (pair config c s asked (letter ∷ []) ledger) (by.Server first_server) by_rank) (told_letters letter asked) ∙ ap (option_and_then (λ (x : Made). x.answer)) gave
 
--- A world that is of this form.
+-- Along a run.
 
-pub record IsNow (now : Seen) (c : ClientModel) (s : ServerModel) (asked told : List Letter) (ledger : List Entry) : Type 0 where
+run_more : (w middle next : World) (events : List Event) (e : Event) → Runs w events middle → happens middle e ≡ Some next → Runs w (events ++ e ∷ []) next
+run_more w middle next [] e run happened = (next, ap (λ v. happens v e) run ∙ happened, refl)
+run_more w middle next (d ∷ events) e run happened = (run.0, run.1, run_more run.0 middle next events e run.2 happened)
+
+pub reached_next : (w next : World) (e : Event) → IsReached w → happens w e ≡ Some next → next.config ≡ w.config → IsReached next
+reached_next w next e reached happened same =
+    (reached.0 ++ e ∷ [], subst (λ (g : Config). Runs (start g) (reached.0 ++ e ∷ []) next) (sym same) (run_more (start w.config) w next reached.0 e reached.1 happened))
+
+-- The event led to a world of this form.
+
+pub record IsNow (now : Seen) (c : ClientModel) (s : ServerModel) (asked told : List Letter) : Type 0 where
   pub two : IsPair now asked told
   pub rank_is : rank_in now ≡ c
   pub server_is : server_in now ≡ s
-  pub ledger_is : now.world.ledger ≡ ledger
 
-pub made_now : (now : Seen) (config : Config) (c : ClientModel) (s : ServerModel) (asked told : List Letter) (ledger : List Entry) → config.ranks ≡ 1 → config.servers ≡ 1 → c.config ≡ config → now.trouble ≡ None
-    → now.world ≡ pair config c s asked told ledger → IsNow now c s asked told ledger
-made_now now config c s asked told ledger one_rank one_server same whole is =
-    let rank_is : rank_in now ≡ c = ap (λ (v : World). client_of v zeroth) is in
-    let config_is : now.world.config ≡ config = ap (λ (v : World). v.config) is in
+pub made_now : (w now : Seen) (before after : List Letter) (e : Event) (c : ClientModel) (s : ServerModel) (asked told : List Letter) (ledger : List Entry) → IsPair w before after → happens w.world e ≡ Some now.world → now.trouble ≡ None
+    → happens w.world e ≡ Some (pair w.world.config c s asked told ledger) → IsNow now c s asked told
+made_now w now before after e c s asked told ledger i happened whole leads =
+    let is : now.world ≡ pair w.world.config c s asked told ledger = some_is (sym happened ∙ leads) in
+    let config_is : now.world.config ≡ w.world.config = ap (λ (v : World). v.config) is in
     let P : World → Type 0 = λ v. v ≡ pair v.config (client_of v zeroth) (pool_of v first_server) asked told v.ledger in
     record {
       two = record {
         whole = whole;
-        one_rank = ap (λ (g : Config). g.ranks) config_is ∙ one_rank;
-        one_server = ap (λ (g : Config). g.servers) config_is ∙ one_server;
-        same = ap (λ (k : ClientModel). k.config) rank_is ∙ same ∙ sym config_is;
+        one_rank = ap (λ (g : Config). g.ranks) config_is ∙ i.one_rank;
+        one_server = ap (λ (g : Config). g.servers) config_is ∙ i.one_server;
+        reached = reached_next w.world now.world e i.reached happened config_is;
         is = subst P (sym is) refl;
       };
-      rank_is = rank_is;
+      rank_is = ap (λ (v : World). client_of v zeroth) is;
       server_is = ap (λ (v : World). pool_of v first_server) is;
-      ledger_is = ap (λ (v : World). v.ledger) is;
     }

@@ -1,42 +1,31 @@
 -- A run at the start, and at the end.
-use Rattle.std.proofs.Common.{◌≡◌, ℕ, ◌+◌, ◌<◌, ◌≤◌, ◌^◌, true, false, List, [], ◌∷◌, ◌++◌, length, Option, None, Some, All, is_some, refl, sym, ap, ◌∙◌, subst, arith, append-nil}
+use Rattle.std.proofs.Common.{◌≡◌, ℕ, ◌+◌, ◌≤◌, ◌^◌, true, false, List, [], ◌∷◌, ◌++◌, length, Option, None, Some, is_some, refl, sym, ap, ◌∙◌, subst, arith, append-nil}
 use Rattle.std.specs.Prelude.{map, replicate}
 use Rattle.std.specs.List.{range_with_len}
 use Rattle.adlb_unit.specs.declared.configs.Config.{Config}
 use Rattle.adlb_unit.specs.declared.configs.ConfigFault.{ConfigFault}
 use Rattle.adlb_unit.specs.declared.configs.ConfigFault.TheVariants.{Ranks, Servers, Limit}
 use Rattle.adlb_unit.specs.Limits.{Refuses}
-use Rattle.adlb_unit.specs.declared.names.UnitId.{UnitId}
 use Rattle.bag_ledger.specs.declared.entries.Call.{Call}
-use Rattle.bag_ledger.specs.declared.entries.Call.TheVariants as calls_to
 use Rattle.bag_ledger.specs.declared.entries.Said.{Said}
-use Rattle.bag_ledger.specs.declared.states.Placed.{Placed}
-use Rattle.bag_ledger.specs.Bag.{Bag, fresh, rank_at}
-use Rattle.bag_ledger.specs.Bag as bag
-use Rattle.bag_ledger.specs.Runs.{IsRun, call_of, calls}
-use Rattle.rank_client.specs.Agreement.{IsHeld}
-use Rattle.rank_client.specs.Calls.{granted, has_finished, is_fetched, is_granted}
+use Rattle.bag_ledger.specs.Runs.{call_of}
+use Rattle.rank_client.specs.Calls.{granted, has_finished}
 use Rattle.rank_client.specs.State.{ClientModel}
 use Rattle.rank_client.specs.State as client
+use Rattle.rank_client.proofs.Granted.{grants_come_first}
 use Rattle.rank_client.proofs.Transcripts.{none_finished, none_told}
 use Rattle.server_core.specs.declared.standings.Standing.TheVariants.{Running}
 use Rattle.server_core.specs.Left.{left_of}
-use Rattle.server_core.specs.State.{ServerModel}
 use Rattle.server_core.specs.State as host
-use Rattle.core_run.specs.World.{World, rank_named, server_named, start}
-use Rattle.server_core.proofs.Starting.{start_agrees}
-use Rattle.core_inline.specs.Begun.{begun_in}
-use Rattle.core_inline.specs.Inline.{IsEnd, IsInline, IsOpen, IsStart, IsTold, Run, zeroth}
-use Rattle.core_inline.specs.Inside.{IsInside, run_of}
-use Rattle.core_inline.specs.Known.{AreHeld, IsNoted}
-use Rattle.core_inline.specs.Left.{IsLeft}
-use Rattle.core_inline.specs.Pairs.{pair}
-use Rattle.core_inline.specs.Rounds.{IsIdle, first_server, is_ended}
+use Rattle.core_run.specs.World.{World, client_of, pool_of, rank_named, server_named, start}
 use Rattle.core_world.specs.Seen.{Seen, new_world}
-use Rattle.core_inline.proofs.Begun.{begun_is}
-use Rattle.core_inline.proofs.Pairing.{IsNow, made_now}
-use Rattle.core_inline.proofs.Beginning.{rank_runs}
-use Rattle.core_inline.proofs.Lefts.{left_is}
+use Rattle.core_inline.specs.Inline.{IsEnd, IsInline, IsOpen, IsStart, IsTold, Run, zeroth}
+use Rattle.core_inline.specs.inside.Begun.{begun_in}
+use Rattle.core_inline.specs.inside.Fields.{IsInside, run_of}
+use Rattle.core_inline.specs.inside.Pairs.{AreHeld, IsIdle, IsPair, IsTrue, first_server, is_ended, pair, rank_in, server_in}
+use Rattle.core_inline.proofs.Begun.{begun_is, retold}
+use Rattle.core_inline.proofs.Exchanging.{true_after}
+use Rattle.core_inline.proofs.Told.{AreLaws}
 
 -- these numbers are within their limits
 pub accepts : (limit : ℕ) (fault : ConfigFault) → 64 ≤ limit → limit ≤ 2 ^ 30 → Refuses 1 1 limit fault → ⊥
@@ -44,61 +33,7 @@ accepts limit (Ranks given) least most refused = refused.0 (omega arith, omega a
 accepts limit (Servers given) least most refused = refused.1 (omega arith, omega arith)
 accepts limit (Limit given) least most refused = refused.2 (least, most)
 
-none_known : (id : UnitId) → (is_granted id [] ≡ false) × (is_fetched id [] ≡ false)
-unfolding is_granted is_fetched
-none_known id = (refl, refl)
-
-none_held : AreHeld [] []
-unfolding granted
-none_held note g = absurd (omega (arith, g.1.1))
-
-nothing : {X : Type 0} (P : X → Type 0) → All P []
-nothing P = λ k d within. absurd (omega (arith, within))
-
-module _ (config : Config) (one_rank : config.ranks ≡ 1) (one_server : config.servers ≡ 1) where
-  abbrev start_idle : IsIdle (client.start config zeroth) (host.start config first_server) []
-  start_idle =
-      let both = start_agrees config first_server (omega (arith, one_server)) in
-      let there : rank_at (bag.start config) zeroth ≡ Some fresh = rw one_rank refl in
-      record {
-        last = bag.start config;
-        joint = record {
-          same = refl;
-          one_rank = one_rank;
-          one_server = one_server;
-          me = refl;
-          first = refl;
-          legal = refl;
-          calls_are = refl;
-          server = both.0;
-          alone = both.1 one_rank one_server;
-          runs = ap (λ n. replicate n Running) one_rank;
-          unhandled = ap (λ n. replicate n false) one_rank;
-          no_room = refl;
-          no_parts = refl;
-          undone = refl;
-          sound = refl;
-          whole = refl;
-          going = refl;
-          batch = refl;
-          told = none_told;
-          unfinished = none_finished;
-        };
-        idle = refl;
-        rank = record { rank = there; servers = refl; caused = tt; held = nothing (IsHeld (bag.start config) zeroth) };
-        known = record {
-          lower = nothing (λ (u : Placed). u.unit.id.number < 0);
-          plain = nothing (λ (u : Placed). u.unit.common ≡ None);
-          fresh = λ id untaken. none_known id;
-          noted = nothing (IsNoted []);
-        };
-        held = none_held;
-        unexhausted = λ none. refl;
-        behind = omega arith;
-        counted = omega arith;
-        few = omega arith;
-      }
-
+module _ (laws : AreLaws) (config : Config) (one_rank : config.ranks ≡ 1) (one_server : config.servers ≡ 1) (now : Seen) (is : now ≡ new_world config) where
   -- the world at the start
   start_world : start config ≡ pair config (client.start config zeroth) (host.start config first_server) [] [] []
   start_world =
@@ -108,77 +43,86 @@ module _ (config : Config) (one_rank : config.ranks ≡ 1) (one_server : config.
       ∙ ap (λ n. record w { ranks = client.start config zeroth ∷ []; servers = map (λ k. host.start config (server_named k)) (range_with_len 0 n) }) one_server
       ∙ ap (λ n. record w { ranks = client.start config zeroth ∷ []; servers = host.start config first_server ∷ []; links = replicate n (replicate n []) }) two
 
-  pub start_now : (now : Seen) → now ≡ new_world config → IsNow now (client.start config zeroth) (host.start config first_server) [] [] []
-  start_now now is =
-      made_now now config (client.start config zeroth) (host.start config first_server) [] [] [] one_rank one_server refl (ap (λ (v : Seen). v.trouble) is) (ap (λ (v : Seen). v.world) is ∙ start_world)
+  world_is : now.world ≡ pair config (client.start config zeroth) (host.start config first_server) [] [] []
+  world_is = ap (λ (v : Seen). v.world) is ∙ start_world
 
-  module _ (now : Seen) (is : now ≡ new_world config) where
-    same_config : now.world.config ≡ config
-    same_config = ap (λ (v : Seen). v.world.config) is
+  rank_is : rank_in now ≡ client.start config zeroth
+  rank_is = ap (λ (v : World). client_of v zeroth) world_is
 
-    abbrev start_told : IsTold config [] [] None
-    start_told =
-        let idle : IsIdle (client.start config zeroth) (host.start config first_server) [] = start_idle in
-        record {
-          last = idle.last;
-          legal = idle.joint.legal;
-          more = [];
-          calls_are = idle.joint.calls_are;
-          rank = fresh;
-          there = rank_runs (client.start config zeroth) (host.start config first_server) [] calls_to.Finish idle;
-          open_call = refl;
-        }
+  server_is : server_in now ≡ host.start config first_server
+  server_is = ap (λ (v : World). pool_of v first_server) world_is
 
-    start_begun : begun_in now.world.config now.world.ledger [] ≡ None
-    start_begun = ap (λ (v : Seen). begun_in v.world.config v.world.ledger []) is ∙ begun_is config [] [] None start_told
+  config_is : now.world.config ≡ config
+  config_is = ap (λ (v : World). v.config) world_is
 
-    pub start_inside : IsInside (record { world = now; answered = 0; finished = false })
-    start_inside =
-        let idle : IsIdle (client.start config zeroth) (host.start config first_server) [] = start_idle in
-        let n = start_now now is in
-        record {
-          inline = record {
-            one_rank = n.two.one_rank;
-            one_server = n.two.one_server;
-            told = record {
-              last = idle.last;
-              legal = subst (λ (v : Seen). IsRun (bag.start v.world.config) v.world.ledger (bag.start config)) (sym is) refl;
-              more = [];
-              calls_are = subst (λ (v : Seen). calls v.world.config v.world.ledger zeroth ≡ []) (sym is) idle.joint.calls_are;
-              rank = fresh;
-              there = rank_runs (client.start config zeroth) (host.start config first_server) [] calls_to.Finish idle;
-              open_call = start_begun;
-            };
-            whole = λ none. record {
-              begun = start_begun;
-              left = subst (λ (h : ServerModel). IsLeft idle.last (left_of h)) (sym n.server_is) (left_is idle.last (host.start config first_server) idle.joint.server idle.joint.alone);
-              finished = sym none_finished;
-              ended = ap is_ended n.server_is;
-            };
-            short = omega arith;
-            late = λ stamp late. absurd (cc (late, n.two.whole));
-          };
-          answered = omega arith;
-          ready = λ none going. record { two = n.two; idle = rw (n.rank_is, n.server_is, n.ledger_is) idle };
-          all = λ none. sym (ap (λ (k : ClientModel). length k.transcript) n.rank_is);
-          short = omega arith;
-        }
+  two : IsPair now [] []
+  two =
+      let P : World → Type 0 = λ v. v ≡ pair v.config (client_of v zeroth) (pool_of v first_server) [] [] v.ledger in
+      record {
+        whole = ap (λ (v : Seen). v.trouble) is;
+        one_rank = ap (λ (g : Config). g.ranks) config_is ∙ one_rank;
+        one_server = ap (λ (g : Config). g.servers) config_is ∙ one_server;
+        reached = ([], subst (λ (v : Seen). start v.world.config ≡ v.world) (sym is) refl);
+        is = subst P (sym world_is) refl;
+      }
 
-    pub start_run : (limit : ℕ) → config.limit ≡ limit → IsStart limit (run_of (record { world = now; answered = 0; finished = false }))
-    start_run limit limit_is =
-        let n = start_now now is in
-        record {
-          one_rank = n.two.one_rank;
-          one_server = n.two.one_server;
-          limit_is = ap (λ (g : Config). g.limit) same_config ∙ limit_is;
-          ledger = n.ledger_is;
-          transcript = refl;
-          left = ap left_of n.server_is;
-          failed = n.two.whole;
-          begun = start_begun;
-          finished = refl;
-          ended = ap is_ended n.server_is;
-        }
+  none_held : AreHeld [] []
+  unfolding granted
+  none_held note g = absurd (omega (arith, g.1.1))
+
+  rests : IsIdle (rank_in now) (server_in now)
+  rests =
+      let idle : IsIdle (client.start config zeroth) (host.start config first_server) = record {
+        idle = refl;
+        rank = record { going = refl; unfinished = none_finished; told = none_told; first = grants_come_first.at_start config zeroth; held = none_held };
+        server = record { runs = ap (λ n. replicate n Running) one_rank; unhandled = ap (λ n. replicate n false) one_rank };
+        behind = omega arith;
+        counted = omega arith;
+        few = omega arith;
+      } in
+      rw (rank_is, server_is) idle
+
+  true_now : IsTrue now
+  true_now = true_after laws now two.reached two.one_rank two.one_server rests.idle (rw (ap (λ (k : ClientModel). length k.transcript) rank_is) (omega arith))
+
+  none_said : (rank_in now).transcript ≡ []
+  none_said = ap (λ (k : ClientModel). k.transcript) rank_is
+
+  told : IsTold now.world.config now.world.ledger [] None
+  told = retold now.world.config now.world.config now.world.ledger (rank_in now).transcript [] None None true_now.told refl none_said refl
+
+  start_begun : begun_in now.world.config now.world.ledger [] ≡ None
+  start_begun = begun_is now.world.config now.world.ledger [] None told
+
+  pub start_inside : IsInside (record { world = now; answered = 0; finished = false })
+  start_inside = record {
+    inline = record {
+      one_rank = two.one_rank;
+      one_server = two.one_server;
+      told = retold now.world.config now.world.config now.world.ledger (rank_in now).transcript [] None (begun_in now.world.config now.world.ledger []) true_now.told refl none_said start_begun;
+      whole = λ none. record { begun = start_begun; left = true_now.left; finished = sym none_finished; ended = ap is_ended server_is };
+      short = omega arith;
+      late = λ stamp late. absurd (cc (late, two.whole));
+    };
+    answered = omega arith;
+    ready = λ none going. record { two = two; rests = rests };
+    all = λ none. sym (ap length none_said);
+    short = omega arith;
+  }
+
+  pub start_run : (limit : ℕ) → config.limit ≡ limit → IsStart limit (run_of (record { world = now; answered = 0; finished = false }))
+  start_run limit limit_is = record {
+    one_rank = two.one_rank;
+    one_server = two.one_server;
+    limit_is = ap (λ (g : Config). g.limit) config_is ∙ limit_is;
+    ledger = ap (λ (v : World). v.ledger) world_is;
+    transcript = refl;
+    left = ap left_of server_is;
+    failed = two.whole;
+    begun = start_begun;
+    finished = refl;
+    ended = ap is_ended server_is;
+  }
 
 -- The end.
 

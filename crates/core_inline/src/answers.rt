@@ -1,7 +1,7 @@
 //! The answers of a rank's calls, as each call tells them.
 
 ghost use Rattle.std.specs.Prelude.{◌≡◌, None, Some, Err, IfOk, IfErr, true};
-ghost use Rattle.core_inline.specs.Answers.{answered, answers_fetch, answers_put, answers_reserve, troubled};
+ghost use Rattle.core_inline.specs.inside.Answers.{answered, answers_fetch, answers_put, answers_reserve, troubled};
 ghost use Rattle.rank_client.specs.Calls.{end_answer, end_trouble, fetch_answer, fetch_trouble, put_answer, put_trouble};
 
 use adlb_unit::{End, Handle, Payload, Trouble};

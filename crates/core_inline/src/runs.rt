@@ -4,12 +4,13 @@ ghost use Rattle.std.specs.Prelude.{◌≡◌, ◌<◌, ◌≤◌, ◌^◌, ◌�
 ghost use Rattle.adlb_unit.specs.declared.notes.Trouble.{Trouble};
 ghost use Rattle.bag_ledger.specs.declared.entries.Call.{Call};
 ghost use Rattle.rank_client.specs.Calls.{Began, Repeats, TellsAgain, end_told, has_finished, is_finish, plus};
-ghost use Rattle.core_inline.specs.Answers.{CanCall, IsAnswer, answered, answers_call, heeds_end, troubled};
+ghost use Rattle.core_inline.specs.inside.Answers.{CanCall, IsAnswer, answered, answers_call, heeds_end, troubled};
 ghost use Rattle.core_inline.specs.Inline.{IsEnd, IsInline, IsStart, finish_answer};
 
 use crate::pairs::{exchange, finish};
 use adlb_unit::{Config, NoMemory, Rank, Server, Trouble};
 use bag_ledger::{Answer, Call, Ledger, Said};
+use core_law::{core_run_laws, letter_laws};
 use core_world::World;
 use server_core::LeftUnit;
 use std::alloc::Global;
@@ -28,7 +29,7 @@ impl Model for InlineRun {
 
     ghost Value = { Run };
 
-    ghost use Rattle.core_inline.specs.Inside.{run_of, IsInside};
+    ghost use Rattle.core_inline.specs.inside.Fields.{run_of, IsInside};
 
     ghost view = { run_of };
 
@@ -43,6 +44,8 @@ impl InlineRun {
         ensures start { IfOk result (λ run. IsStart limit run) }
         ensures holds { IfOk result IsInline }
     {
+        core_run_laws();
+        letter_laws();
         let Ok(config) = Config::new(1, 1, limit) else {
             unreachable!()
         };

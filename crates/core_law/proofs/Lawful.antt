@@ -27,7 +27,7 @@ use Rattle.server_core.specs.Rules.{respond}
 use Rattle.server_core.specs.Step.{next_stamp, ticked}
 use Rattle.rank_client.specs.declared.pendings.Pending.{Pending}
 use Rattle.rank_client.specs.declared.pendings.Pending.TheVariants as waits_for
-use Rattle.rank_client.specs.Agreement.{IsHeld, fetch_coming, put_coming, reserve_coming, running, said}
+use Rattle.rank_client.specs.Agreement.{ClientAgrees, IsHeld, fetch_coming, put_coming, reserve_coming, running, said}
 use Rattle.rank_client.specs.State.{ClientModel}
 use Rattle.server_core.specs.Agreement.{ServerAgrees, StartAgrees}
 use Rattle.server_core.specs.State.{ServerModel}
@@ -36,6 +36,7 @@ use Rattle.core_law.proofs.Asked.{IsOfCall}
 use Rattle.core_law.specs.Letters.{finishes, is_request, one_letter}
 use Rattle.core_law.specs.Measures.{IsBalanced, measure}
 use Rattle.core_law.specs.Own.{IsClient}
+use Rattle.core_law.specs.Seats.{HasSeat, IsSeated}
 use Rattle.core_run.specs.World.{World, client_of, is_within, pool_of, rank_named, server_named, happens, start}
 use Rattle.core_law.proofs.Coming.{none_plain}
 use Rattle.core_law.proofs.EveryRun.{IsWell, begins_well, client_at, every_run_well, pool_at, same_config, well_kept}
@@ -184,6 +185,23 @@ ledger_tells laws start_agrees config events w rank only within run =
     tells_of w c b coming l =
         let P : ClientModel → Type 0 = λ s. IsBehind s.transcript (calls w.config w.ledger zeroth) × (s.pending ≡ waits_for.Nothing → calls w.config w.ledger zeroth ≡ s.transcript) in
         subst P (sym l.is) (subst (λ (all : List Said). IsBehind c.transcript all) l.said (said_behind c c.pending coming), λ idle. sym l.said ∙ idle_said c coming idle)
+
+-- Each actor and the bag.
+
+pub actors_seated : AreLaws → StartAgrees → (config : Config) (events : List Event) (w : World) → config.ranks ≡ 1 → Runs (start config) events w → (b : Bag) × IsSeated w b
+actors_seated laws start_agrees config events w only run =
+    let l = every_run_lawful config events w laws start_agrees only run in
+    let alone : w.config.ranks ≡ 1 = ap (λ (k : Config). k.ranks) (run_config (start config) w events run) ∙ only in
+    (l.1, record { run = l.3.run; ranks = λ me within. seat w l.0 l.1 l.2 l.3 alone me within; servers = l.3.pools; alone = λ one. l.3.alone })
+  where
+    seat : (w : World) (c : ClientModel) (b : Bag) (coming : Option Message) → IsLawful w c b coming → w.config.ranks ≡ 1 → (me : Rank) → me.0 < w.config.ranks → HasSeat w b me
+    seat w c b coming l alone me within =
+        let here : HasSeat w b zeroth = record {
+          coming = coming;
+          stands = subst (λ (k : ClientModel). ClientAgrees k coming b) (sym l.is) l.client;
+          says = subst (λ (k : ClientModel). said k k.pending coming ≡ calls w.config w.ledger zeroth) (sym l.is) l.said;
+        } in
+        subst (λ (r : Rank). HasSeat w b r) (sym (only_rank w me alone within)) here
 
 -- A run as a relation and as a function.
 

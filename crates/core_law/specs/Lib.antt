@@ -4,3 +4,4 @@ pub mod Lines
 pub mod Measures
 pub mod Others
 pub mod Own
+pub mod Seats

@@ -15,6 +15,7 @@ ghost use Rattle.core_law.specs.Lines.{IsInLine};
 ghost use Rattle.core_law.specs.Measures.{IsBalanced};
 ghost use Rattle.core_law.specs.Others.{CallsStay, ClientsStay, ServersStay};
 ghost use Rattle.core_law.specs.Own.{AreOwn};
+ghost use Rattle.core_law.specs.Seats.{IsSeated};
 ghost use Rattle.core_run.specs.Runs.{NoneIsStuck, Runs, Tells, run};
 ghost use Rattle.core_run.specs.World.{World, is_within, pool_of, start};
 
@@ -53,9 +54,9 @@ pub fn among_laws()
 
 /// With one rank and every number of servers, whatever the order of calls and letters: the ledger so far is a legal run
 /// of the bag (`legal`), and the bag agrees with each server (`agrees`). The rank's transcript is what the ledger says of
-/// its calls, but for at most one more, the pending one (`calls`). The front letter of each list is expected, so no event
-/// is stuck while stamps are given (`expected`). A run as a relation is the one that the function `run` makes
-/// (`same_run`).
+/// its calls, but for at most one more, the pending one (`calls`). What each actor is to the bag, is told at once by
+/// `seated`. The front letter of each list is expected, so no event is stuck while stamps are given (`expected`). A run as a
+/// relation is the one that the function `run` makes (`same_run`).
 pub fn core_run_laws()
     ensures same_run { (w last : World) (events : List Event) → Runs w events last ↔ (run w events ≡ Some last) }
     ensures legal { (config : Config) (events : List Event) (w : World) →
@@ -66,6 +67,8 @@ pub fn core_run_laws()
         → ServerAgrees b (pool_of w server)) }
     ensures calls { (config : Config) (events : List Event) (w : World) (rank : Rank) →
         config.ranks ≡ 1 → rank.0 < config.ranks → Runs (start config) events w → Tells w rank }
+    ensures seated { (config : Config) (events : List Event) (w : World) →
+        config.ranks ≡ 1 → Runs (start config) events w → (b : Bag) × IsSeated w b }
     ensures expected { (config : Config) (events : List Event) (w : World) →
         config.ranks ≡ 1 → Runs (start config) events w → NoneIsStuck w }
 {

@@ -2,12 +2,12 @@ use Rattle.std.proofs.Common.{◌≡◌, None, List, sym, ap, ◌∙◌, subst, 
 use Rattle.bag_ledger.specs.declared.entries.Said.{Said}
 use Rattle.rank_client.specs.Calls.{Began, has_finished}
 use Rattle.rank_client.proofs.Awaited.{none_left}
-use Rattle.core_inline.specs.Answers.{CanCall}
-use Rattle.core_inline.specs.Begun.{begun_in}
+use Rattle.core_inline.specs.inside.Answers.{CanCall}
+use Rattle.core_inline.specs.inside.Begun.{begun_in}
 use Rattle.core_inline.specs.Inline.{Run}
-use Rattle.core_inline.specs.Inside.{run_of}
-use Rattle.core_inline.specs.Pairs.{rank_in}
-use Rattle.core_inline.proofs.Kept.{answered_begun, answered_inside, began_none, failed_began, failed_inside, take_all}
+use Rattle.core_inline.specs.inside.Fields.{run_of}
+use Rattle.core_inline.specs.inside.Pairs.{rank_in}
+use Rattle.core_inline.proofs.Kept.{answered_inside, began_none, failed_began, failed_inside, grown_begun, take_all}
 use Rattle.core_inline.proofs.runs.InlineRun.call.Goals as goal
 
 pub exchange-requires : goal.exchange-requires
@@ -53,7 +53,7 @@ invariant_of-self-2 c =
     let whole : i.world.trouble ≡ None = none_left i.world.trouble (λ x e. c.in_default.not-Some x (c.trouble.ensures ∙ e)) in
     let running : has_finished (run_of i).transcript ≡ false = ap (λ (r : Run). has_finished r.transcript) c.self.view_is ∙ c.requires.running in
     let e = c.in_ok-answer.ensures in
-    answered_inside i c.exchange.new.world c.args.call c.in_ok-answer.answer c.self.invariant whole running e.answered e.two e.early
+    answered_inside i c.exchange.new.world c.args.call c.in_ok-answer.answer c.self.invariant whole running e.answered c.exchange.ensures.config
 
 pub returns-clause-began : goal.returns-clause-began
 returns-clause-began c =
@@ -61,8 +61,8 @@ returns-clause-began c =
     let whole : i.world.trouble ≡ None = none_left i.world.trouble (λ x e. c.in_default.not-Some x (c.trouble.ensures ∙ e)) in
     let running : has_finished (run_of i).transcript ≡ false = ap (λ (r : Run). has_finished r.transcript) c.self.view_is ∙ c.requires.running in
     let e = c.in_ok-answer.ensures in
-    let none = answered_begun i c.exchange.new.world c.args.call c.in_ok-answer.answer c.self.invariant whole running e.answered e.two e.early in
-    began_none c.args.self.now.failed c.exchange.new.world.trouble c.args.self.now.begun c.args.call _ (ap (λ (r : Run). r.failed) (sym c.self.view_is) ∙ whole) e.two.whole none
+    let none = grown_begun i c.exchange.new.world c.args.call c.in_ok-answer.answer c.self.invariant whole e.answered.ready.two.whole e.answered.true_now e.answered.grown in
+    began_none c.args.self.now.failed c.exchange.new.world.trouble c.args.self.now.begun c.args.call _ (ap (λ (r : Run). r.failed) (sym c.self.view_is) ∙ whole) e.answered.ready.two.whole none
 
 pub returns-clause-holds : goal.returns-clause-holds
 returns-clause-holds c =
@@ -70,4 +70,4 @@ returns-clause-holds c =
     let whole : i.world.trouble ≡ None = none_left i.world.trouble (λ x e. c.in_default.not-Some x (c.trouble.ensures ∙ e)) in
     let running : has_finished (run_of i).transcript ≡ false = ap (λ (r : Run). has_finished r.transcript) c.self.view_is ∙ c.requires.running in
     let e = c.in_ok-answer.ensures in
-    (answered_inside i c.exchange.new.world c.args.call c.in_ok-answer.answer c.self.invariant whole running e.answered e.two e.early).inline
+    (answered_inside i c.exchange.new.world c.args.call c.in_ok-answer.answer c.self.invariant whole running e.answered c.exchange.ensures.config).inline

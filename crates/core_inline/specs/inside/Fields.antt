@@ -4,10 +4,9 @@ use Rattle.adlb_unit.specs.Limits.{stamp_limit}
 use Rattle.rank_client.specs.Calls.{has_finished}
 use Rattle.server_core.specs.Left.{left_of}
 use Rattle.core_inline.specs.declared.runs.InlineRun.TheInside.{Inside}
-use Rattle.core_inline.specs.Begun.{begun_in}
+use Rattle.core_inline.specs.inside.Begun.{begun_in}
 use Rattle.core_inline.specs.Inline.{IsInline, Run}
-use Rattle.core_inline.specs.Pairs.{IsReady, rank_in, server_in}
-use Rattle.core_inline.specs.Rounds.{is_ended}
+use Rattle.core_inline.specs.inside.Pairs.{IsReady, is_ended, rank_in, server_in}
 
 abbrev pub run_of : Inside → Run
 run_of i = record {
