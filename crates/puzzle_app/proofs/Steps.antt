@@ -154,11 +154,6 @@ going_so p said new d is same = record {
   goes = subst (λ t. Goes p.settings.grain (going (roots_of p) [] []) t (going d.waiting.items is.worked d.kept.items)) (sym same) is.goes;
 }
 
--- the same where no unit was fetched
-pub part_so : (p : PuzzleProgram) (said new : List Said) (d : Desk) → HasPut p said d → (new ≡ said) ⊎ ((note : UnitNote) × (new ≡ said ++ grant note ∷ [])) → IsSoFar p new
-part_so p said new d put (inl same) = going_so p said new d put.going same
-part_so p said new d put (inr more) = granted_so p said new d more.0 put more.1
-
 pub stopped_so : (p : PuzzleProgram) (said : List Said) (d : Desk) → IsStopped p said d → IsSoFar p said
 stopped_so p said d is = record { last = shut is.left is.worked d.kept.items; goes = is.goes }
 
