@@ -1,5 +1,5 @@
 -- The calls of a rank whose link fails.
-use Rattle.std.proofs.Common.{◌≡◌, List, [], ◌∷◌, ◌++◌, Option, Some, None, refl, sym, ap, subst, inl, inr, ◌⊎◌}
+use Rattle.std.proofs.Common.{◌≡◌, List, [], ◌∷◌, ◌++◌, Option, Some, None, refl, sym, ap, subst, inl, inr}
 use Rattle.adlb_unit.specs.declared.notes.End.TheVariants.{Exhausted}
 use Rattle.adlb_unit.specs.declared.notes.Trouble.{Trouble}
 use Rattle.bag_ledger.specs.declared.entries.Answer.{Answer}
