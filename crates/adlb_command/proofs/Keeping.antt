@@ -12,6 +12,7 @@ use Rattle.puzzle_app.specs.Jobs.{AreJobs, puzzles}
 use Rattle.puzzle_app.specs.Report.{AreWhole, made_in}
 use Rattle.puzzle_law.proofs.Joining.{joined_spent, joined_whole}
 use Rattle.rank_client.specs.Calls.{plus}
+use Rattle.rank_client.specs.Seat.{Seat}
 use Rattle.sudoku_law.specs.Grid.{IsGrid}
 use Rattle.sudoku_rules.proofs.Reading.{reads_is_grid}
 use Rattle.adlb_command.specs.Ends.{fault_by}
@@ -23,7 +24,7 @@ use Rattle.bag_ledger.specs.declared.entries.Said.{Said}
 use Rattle.bag_ledger.specs.declared.states.UnitPlace.TheVariants.{Spent}
 use Rattle.bag_ledger.specs.Bag.{Bag, empty, start}
 use Rattle.bag_ledger.specs.Runs.{IsRun, calls, calls_from}
-use Rattle.core_inline.specs.Inline.{IsEnd, IsStart, Run, finish_answer, zeroth}
+use Rattle.core_inline.specs.Inline.{IsEnd, IsStart, Run, finish_answer, seat_of, zeroth}
 use Rattle.core_inline.specs.Left.{IsLeft}
 use Rattle.core_inline.proofs.Lefts.{nothing_left}
 use Rattle.puzzle_app.specs.declared.jobs.Job.{Job}
@@ -143,3 +144,11 @@ jobs_are_few bytes jobs are = let one : length jobs ≡ 1 = ap length are.2 in o
 pub kept_whole : (settings : Settings) (jobs : List Job) (r : Reported PuzzleOutcome) → r.config.ranks ≡ 1 → settings.budget < 2 ^ 64 → ((bytes : List ℕ) × AreJobs bytes jobs) → IsKept settings jobs r → AreWhole settings.budget settings.grain jobs r.outcomes
 kept_whole settings jobs r one small some kept =
     joined_whole balanced r.config r.ledger kept.last settings jobs r.outcomes (omega (arith, one)) kept.legal (jobs_are_grids some.0 jobs some.1) (jobs_are_few some.0 jobs some.1) small kept.ranks
+
+-- a link of the same seat has the same numbers
+pub seat_numbers : (before after : Run) → seat_of after ≡ seat_of before → HasNumbers before.config after
+seat_numbers before after same = record {
+  ranks = ap (λ (s : Seat). s.ranks) same;
+  servers = ap (λ (s : Seat). s.servers) same;
+  limit = ap (λ (s : Seat). s.limit) same;
+}

@@ -1,6 +1,6 @@
 //! What a run of ranks and servers gives.
 //!
-//! So far it holds the type of its report alone. `specs/Reports.antt` is what contracts see of it.
+//! It holds the type of its report. `specs/Reports.antt` is what contracts see of it.
 #![tactic(auto)]
 
 mod reports;

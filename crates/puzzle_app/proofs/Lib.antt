@@ -6,3 +6,4 @@ pub mod Pieces
 pub mod Steps
 pub mod Tallies
 pub mod Transcripts
+pub mod UnderWay

@@ -1,5 +1,5 @@
 -- One more call of a rank, and what it leaves.
-use Rattle.std.proofs.Common.{◌≡◌, ℕ, zero, suc, ◌+◌, ◌*◌, ◌^◌, ◌<◌, ◌≤◌, Bool, false, ◌||◌, List, [], ◌∷◌, ◌++◌, length, Option, Some, None, refl, sym, ap, ◌∙◌, subst, arith, append-nil, append_assoc, drop, get_or, count_by, MatchBool, true, lit<, slice_index, inl, inr, ◌⊎◌}
+use Rattle.std.proofs.Common.{◌≡◌, ℕ, zero, suc, ◌+◌, ◌*◌, ◌^◌, ◌<◌, ◌≤◌, Bool, false, ◌||◌, List, [], ◌∷◌, ◌++◌, length, Option, Some, None, refl, sym, ap, ◌∙◌, subst, arith, append-nil, append_assoc, drop, get_or, count_by, MatchBool, true, lit<, slice_index}
 use Rattle.std.proofs.lemmas.List.{drop_all, drop_more, length_push}
 use Rattle.std.proofs.lemmas.List.Folds.{list_any-append}
 use Rattle.adlb_unit.specs.declared.notes.End.{End}
@@ -153,11 +153,6 @@ going_so p said new d is same = record {
   last = going d.waiting.items is.worked d.kept.items;
   goes = subst (λ t. Goes p.settings.grain (going (roots_of p) [] []) t (going d.waiting.items is.worked d.kept.items)) (sym same) is.goes;
 }
-
--- the same where no unit was fetched
-pub part_so : (p : PuzzleProgram) (said new : List Said) (d : Desk) → HasPut p said d → (new ≡ said) ⊎ ((note : UnitNote) × (new ≡ said ++ grant note ∷ [])) → IsSoFar p new
-part_so p said new d put (inl same) = going_so p said new d put.going same
-part_so p said new d put (inr more) = granted_so p said new d more.0 put more.1
 
 pub stopped_so : (p : PuzzleProgram) (said : List Said) (d : Desk) → IsStopped p said d → IsSoFar p said
 stopped_so p said d is = record { last = shut is.left is.worked d.kept.items; goes = is.goes }

@@ -1,11 +1,13 @@
 -- What the calls of a rank add to its transcript.
-use Rattle.std.specs.Prelude.{◌≡◌, List, [], ◌∷◌, ◌++◌, length, None}
+use Rattle.std.specs.Prelude.{◌≡◌, ◌⊎◌, List, [], ◌∷◌, ◌++◌, length, Option, None}
 use Rattle.adlb_unit.specs.Totals.{total_of}
 use Rattle.adlb_unit.specs.declared.notes.UnitNote.{UnitNote}
 use Rattle.bag_ledger.specs.declared.entries.Answer.{Answer}
 use Rattle.bag_ledger.specs.declared.entries.Answer.TheVariants as answers
+use Rattle.bag_ledger.specs.declared.entries.Call.{Call}
 use Rattle.bag_ledger.specs.declared.entries.Call.TheVariants.{Reserve, Fetch}
 use Rattle.bag_ledger.specs.declared.entries.Said.{Said}
+use Rattle.rank_client.specs.Calls.{Pends}
 use Rattle.puzzle_app.specs.Books.{said_of}
 use Rattle.puzzle_app.specs.declared.calls.Reply.{Reply}
 use Rattle.puzzle_app.specs.declared.calls.Reply.TheVariants as replies
@@ -26,6 +28,11 @@ grant note = said_of (Reserve None) (answers.Granted note)
 abbrev pub Takes : List Said → List Said → Taken → Type 0
 Takes before after (takes.Unit note body) = after ≡ (before ++ grant note ∷ []) ++ said_of (Fetch note.id) (answers.Body body) ∷ []
 Takes before after (takes.Ended end) = after ≡ before ++ said_of (Reserve None) (answers.Ended end) ∷ []
+
+-- the reservation failed, or a unit was granted and its fetch failed; perhaps what failed was begun
+abbrev pub Fails : List Said → List Said → Option Call → Type 0
+Fails before after begun =
+    ((after ≡ before) × Pends begun (Reserve None)) ⊎ ((note : UnitNote) × (after ≡ before ++ grant note ∷ []) × Pends begun (Fetch note.id))
 
 -- a fetch gives as many bytes as the note says
 abbrev pub IsWhole : Taken → Type 0

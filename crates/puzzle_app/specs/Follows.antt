@@ -1,8 +1,10 @@
 -- What the calls of a rank can be, and its outcome.
-use Rattle.std.specs.Prelude.{◌≡◌, ◌<◌, ◌≤◌, ◌^◌, ◌==◌, ◌&&◌, ℕ, List, [], ◌++◌, count_by, slice_index}
+use Rattle.std.specs.Prelude.{◌≡◌, ◌<◌, ◌≤◌, ◌^◌, ◌==◌, ◌&&◌, ℕ, List, [], ◌∷◌, ◌++◌, Option, Some, None, count_by, slice_index}
 use Rattle.std.specs.List.{flat_map, list_any}
+use Rattle.bag_ledger.specs.declared.entries.Answer.{Answer}
+use Rattle.bag_ledger.specs.declared.entries.Call.{Call}
 use Rattle.bag_ledger.specs.declared.entries.Said.{Said}
-use Rattle.puzzle_app.specs.Books.{Books, Goes, going, shut}
+use Rattle.puzzle_app.specs.Books.{Books, Goes, going, said_of, shut}
 use Rattle.puzzle_app.specs.Made.{counts, made_by, roots, walk_of}
 use Rattle.puzzle_app.specs.declared.outcomes.PuzzleOutcome.{PuzzleOutcome}
 use Rattle.puzzle_app.specs.declared.program.PuzzleProgram.{PuzzleProgram}
@@ -26,6 +28,11 @@ all_made p worked = roots_of p ++ flat_map (made_by p.settings.grain) worked
 pub record IsSoFar (p : PuzzleProgram) (said : List Said) : Type 0 where
   pub last : Books
   pub goes : Goes p.settings.grain (going (roots_of p) [] []) said last
+
+-- the same, and the call that it has begun behind them and that is not answered, if there is one: with some answer it is the next
+abbrev pub IsUnderWay : PuzzleProgram → List Said → Option Call → Type 0
+IsUnderWay p said None = IsSoFar p said
+IsUnderWay p said (Some call) = (answer : Answer) × IsSoFar p (said ++ said_of call answer ∷ [])
 
 -- the calls that it has made at its end, which was told, and its outcome: the solutions that stay with it, the numbers of the
 -- puzzles that are over, and how many units it made; what still waited then was put nowhere

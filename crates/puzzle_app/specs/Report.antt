@@ -86,7 +86,8 @@ abbrev pub AreHeld : ℕ → ℕ → List Cells → List PuzzleOutcome → Type 
 AreHeld budget n [] outcomes = Unit {0}
 AreHeld budget n (g ∷ gs) outcomes = IsHeld budget n g outcomes × AreHeld budget (n + 1) gs outcomes
 
--- the outcomes together hold what these jobs are to give, and count what is made of them
+-- the outcomes together hold what these jobs are to give, and count what is made of them; that each of these counts is below 2^128 is
+-- a condition of `render` by itself
 pub record AreWhole (budget grain : ℕ) (jobs : List Job) (outcomes : List PuzzleOutcome) : Type 0 where
   pub held : AreHeld budget 1 (puzzles jobs) outcomes
   pub boards_made : made_in 0 outcomes ≡ all_boards budget grain (puzzles jobs)

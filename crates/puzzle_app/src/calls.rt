@@ -1,13 +1,12 @@
 //! The calls of the puzzle program over any link.
 
-ghost use Rattle.std.specs.Prelude.{◌≡◌, ◌<◌, ◌≤◌, ◌^◌, ◌++◌, ◌∷◌, [], ◌⊎◌, ℕ, ℤ, length, Some, Err, false, IfOk, OnErr};
-ghost use Rattle.adlb_unit.specs.Totals.{total_of};
-ghost use Rattle.adlb_unit.specs.declared.notes.UnitNote.{UnitNote};
-ghost use Rattle.bag_ledger.specs.declared.entries.Call.{Call};
+ghost use Rattle.std.specs.Prelude.{◌≡◌, ◌<◌, ◌≤◌, ◌^◌, ◌++◌, ◌∷◌, [], ℕ, ℤ, length, Some, None, Err, false, IfOk, OnOk, OnErr};
 ghost use Rattle.adlb_unit.specs.Targets.{Aims};
-ghost use Rattle.rank_client.specs.Calls.{has_finished};
+ghost use Rattle.adlb_unit.specs.Totals.{total_of};
+ghost use Rattle.bag_ledger.specs.declared.entries.Call.{Call};
+ghost use Rattle.rank_client.specs.Calls.{Pends, has_finished, unanswered};
 ghost use Rattle.puzzle_app.specs.Books.{said_of};
-ghost use Rattle.puzzle_app.specs.Calls.{IsWhole, Takes, answer_of, grant};
+ghost use Rattle.puzzle_app.specs.Calls.{Fails, IsWhole, Takes, answer_of};
 ghost use Rattle.puzzle_app.specs.Made.{put_of};
 
 use crate::units::Made;
@@ -44,9 +43,12 @@ pub enum Taken {
 /// Puts a unit that was made (`put_of`).
 pub fn put<A: Adlb>(alloc: Global, link: &mut A, made: &Made) -> Result<Reply, Trouble>
     requires running { has_finished (A.transcript link.old) ≡ false }
+    requires whole { A.failed link.old ≡ None }
     requires ranks { 0 < (A.seat link.old).ranks }
     ensures says { IfOk result (λ reply. A.transcript link.new ≡ A.transcript link.old ++ said_of (put_of made.now) (answer_of reply) ∷ []) }
     ensures same { OnErr result (A.transcript link.new ≡ A.transcript link.old) }
+    ensures begun { Pends (unanswered (A.failed link.new) (A.begun link.new)) (put_of made.now) }
+    ensures fine { OnOk result (A.failed link.new ≡ None) }
     ensures seat { A.seat link.new ≡ A.seat link.old }
     ensures batch { A.batch link.old ≡ false → A.batch link.new ≡ false }
     ensures too_long { (stamp : ℕ) → result ≡ Err (Trouble.TooLong stamp) → A.failed link.new ≡ Some (Trouble.TooLong stamp) }
@@ -79,10 +81,13 @@ fn put_unit<A: Adlb>(
     body: Payload,
 ) -> Result<Reply, Trouble>
     requires running { has_finished (A.transcript link.old) ≡ false }
+    requires whole { A.failed link.old ≡ None }
     requires body { length body ≤ 2 ^ 20 }
     requires target { Aims target (A.seat link.old).ranks }
     ensures says { IfOk result (λ reply. A.transcript link.new ≡ A.transcript link.old ++ said_of (Call.Put kind prio target answer body) (answer_of reply) ∷ []) }
     ensures same { OnErr result (A.transcript link.new ≡ A.transcript link.old) }
+    ensures begun { Pends (unanswered (A.failed link.new) (A.begun link.new)) (Call.Put kind prio target answer body) }
+    ensures fine { OnOk result (A.failed link.new ≡ None) }
     ensures seat { A.seat link.new ≡ A.seat link.old }
     ensures batch { A.batch link.old ≡ false → A.batch link.new ≡ false }
     ensures too_long { (stamp : ℕ) → result ≡ Err (Trouble.TooLong stamp) → A.failed link.new ≡ Some (Trouble.TooLong stamp) }
@@ -100,9 +105,11 @@ fn put_unit<A: Adlb>(
 /// Reserves a unit of any type and fetches it, or is told an end (`Takes`). Where the fetch fails, the grant stands.
 pub fn take<A: Adlb>(link: &mut A) -> Result<Taken, Trouble>
     requires running { has_finished (A.transcript link.old) ≡ false }
+    requires whole { A.failed link.old ≡ None }
     ensures takes { IfOk result (λ taken. Takes (A.transcript link.old) (A.transcript link.new) taken) }
     ensures whole { IfOk result IsWhole }
-    ensures part { OnErr result ((A.transcript link.new ≡ A.transcript link.old) ⊎ ((note : UnitNote) × (A.transcript link.new ≡ A.transcript link.old ++ grant note ∷ []))) }
+    ensures part { OnErr result (Fails (A.transcript link.old) (A.transcript link.new) (unanswered (A.failed link.new) (A.begun link.new))) }
+    ensures fine { OnOk result (A.failed link.new ≡ None) }
     ensures seat { A.seat link.new ≡ A.seat link.old }
     ensures batch { A.batch link.old ≡ false → A.batch link.new ≡ false }
     ensures too_long { (stamp : ℕ) → result ≡ Err (Trouble.TooLong stamp) → A.failed link.new ≡ Some (Trouble.TooLong stamp) }

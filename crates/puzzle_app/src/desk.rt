@@ -25,7 +25,7 @@ pub struct Desk {
 }
 
 impl Desk {
-    /// A desk on which nothing lies.
+    /// An empty desk.
     pub fn new(alloc: Global) -> Desk
         ensures waiting { result.waiting.items ≡ [] }
         ensures kept { result.kept.items ≡ [] }

@@ -81,7 +81,7 @@ impl Jobs {
     }
 }
 
-/// Why an input line is refused. Today the only form is one puzzle line, and all else comes later.
+/// Why an input line is refused. The only form that is built is one puzzle line; all else is refused as `Later`.
 #[derive(Clone, Copy, Debug, PartialEq, Eq, Error)]
 pub enum LineWhy {
     #[error("later")]
@@ -97,8 +97,8 @@ pub enum JobsFault {
     Memory,
 }
 
-/// Reads the jobs of an input (`AreJobs`). Today it is refused, at line 1 as `Later`, exactly
-/// where it is not one puzzle line; `Memory` may come of any input that is read.
+/// Reads the jobs of an input (`AreJobs`). It is refused, at line 1 as `Later`, exactly if it is not one puzzle line; `Memory` may
+/// come of any input that is read.
 pub fn read_jobs(alloc: Global, bytes: &[u8]) -> Result<Jobs, JobsFault>
     ensures jobs { IfOk result (AreJobs bytes.now) }
     ensures refused { (line : ℕ) (why : LineWhy) → (result ≡ Err (JobsFault.Refused line why)) ↔ ((IsAccepted bytes.now → ⊥) × (line ≡ 1) × (why ≡ LineWhy.Later)) }

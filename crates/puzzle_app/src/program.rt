@@ -1,9 +1,9 @@
 //! The puzzle program of a rank.
 
-ghost use Rattle.std.specs.Prelude.{◌≡◌, ◌<◌, ◌≤◌, ◌^◌, ◌++◌, ◌+◌, [], ℕ, List, length, Some, Err, true, false, IfOk, MatchBool};
+ghost use Rattle.std.specs.Prelude.{◌≡◌, ◌<◌, ◌≤◌, ◌^◌, ◌++◌, ◌+◌, [], ℕ, List, length, Some, None, Err, true, false, IfOk, OnOk, MatchBool};
 ghost use Rattle.bag_ledger.specs.declared.entries.Said.{Said};
-ghost use Rattle.rank_client.specs.Calls.{has_finished};
-ghost use Rattle.puzzle_app.specs.Follows.{Follows, IsSoFar, roots_of};
+ghost use Rattle.rank_client.specs.Calls.{has_finished, unanswered};
+ghost use Rattle.puzzle_app.specs.Follows.{Follows, IsUnderWay, roots_of};
 ghost use Rattle.puzzle_app.specs.Working.{HasPut, IsGoing, IsStopped};
 ghost use Rattle.puzzle_app.specs.Made.{roots_from};
 ghost use Rattle.puzzle_app.specs.Jobs.{puzzles};
@@ -63,8 +63,10 @@ impl PuzzleProgram {
     fn put_all<A: Adlb>(&self, link: &mut A, desk: &mut Desk) -> Result<bool, Trouble>
         requires going { IsGoing self.now (A.transcript link.old) desk.old }
         requires ranks { 0 < (A.seat link.old).ranks }
+        requires whole { A.failed link.old ≡ None }
         ensures told { IfOk result (λ all. MatchBool all (HasPut self.now (A.transcript link.new) desk.new) (IsStopped self.now (A.transcript link.new) desk.new)) }
-        ensures so_far { IsSoFar self.now (A.transcript link.new) }
+        ensures so_far { IsUnderWay self.now (A.transcript link.new) (unanswered (A.failed link.new) (A.begun link.new)) }
+        ensures whole { OnOk result (A.failed link.new ≡ None) }
         ensures more { length (A.transcript link.old) ≤ length (A.transcript link.new) }
         ensures seat { A.seat link.new ≡ A.seat link.old }
         ensures batch { A.batch link.old ≡ false → A.batch link.new ≡ false }
@@ -87,9 +89,10 @@ impl PuzzleProgram {
     // Puts, takes and works until an end is told.
     fn work<A: Adlb>(&self, link: &mut A) -> Result<Desk, Trouble>
         requires ranks { 0 < (A.seat link.old).ranks }
+        requires whole { A.failed link.old ≡ None }
         requires empty { A.transcript link.old ≡ [] }
         ensures stopped { IfOk result (IsStopped self.now (A.transcript link.new)) }
-        ensures so_far { IsSoFar self.now (A.transcript link.new) }
+        ensures so_far { IsUnderWay self.now (A.transcript link.new) (unanswered (A.failed link.new) (A.begun link.new)) }
         ensures seat { A.seat link.new ≡ A.seat link.old }
         ensures batch { A.batch link.old ≡ false → A.batch link.new ≡ false }
         ensures too_long { (stamp : ℕ) → result ≡ Err (Trouble.TooLong stamp) → A.failed link.new ≡ Some (Trouble.TooLong stamp) }
@@ -144,7 +147,7 @@ impl RankProgram for PuzzleProgram {
 
     ghost fits = { λ p ranks. Unit {0} };
 
-    ghost so_far = { λ p rank said. IsSoFar p said };
+    ghost so_far = { λ p rank said begun. IsUnderWay p said begun };
 
     ghost follows = { λ p rank said outcome. Follows p said outcome };
 

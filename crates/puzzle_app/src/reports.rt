@@ -13,8 +13,9 @@ use adlb_unit::NoMemory;
 use std::alloc::Global;
 use sudoku_rules::{Grid, in_text_order};
 
-/// The report of the jobs, from the outcomes of all ranks. Where these together hold what the jobs are to give
-/// (`AreWhole`), it is their report (`IsReport`). It fails for want of memory alone.
+/// The report of the jobs, from the outcomes of all ranks. If these together hold what the jobs are to give (`AreWhole`), it is
+/// their report (`IsReport`). Its condition, which `AreWhole` does not have, is that all together made fewer than `2^128` units
+/// of each type, since the report has these sums. Its only error is `NoMemory`.
 pub fn render(alloc: Global, jobs: &Jobs, outcomes: &[PuzzleOutcome]) -> Result<Vec<u8>, NoMemory>
     requires room { (k : ℕ) → made_in k outcomes.now < 2 ^ 128 }
     ensures { (budget grain : ℕ) → AreWhole budget grain jobs.now outcomes.now → IfOk result (λ text. IsReport budget grain jobs.now text.items) }

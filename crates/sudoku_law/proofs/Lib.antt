@@ -1,6 +1,7 @@
 pub mod Below
 pub mod Bound
 pub mod Complete
+pub mod Counterexamples
 pub mod Depth
 pub mod Digits
 pub mod Distinct

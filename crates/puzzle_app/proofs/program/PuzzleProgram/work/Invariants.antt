@@ -1,10 +1,11 @@
-use Rattle.std.proofs.Common.{◌≡◌, ◌-◌, ◌^◌, length, false}
+use Rattle.std.proofs.Common.{◌≡◌, ◌-◌, ◌^◌, length, None, false}
 use Rattle.puzzle_app.specs.Working.{IsGoing}
 use Rattle.puzzle_app.proofs.program.PuzzleProgram.work.Given as goal
 
 abbrev pub invariant-rounds : goal.invariant-rounds
 invariant-rounds g l = record {
   going : IsGoing l.self (g.A.Adlb.transcript l.link) l.desk;
+  whole : g.A.Adlb.failed l.link ≡ None;
   seat : g.A.Adlb.seat l.link ≡ g.A.Adlb.seat l.fn.link;
   batch : g.A.Adlb.batch l.fn.link ≡ false → g.A.Adlb.batch l.link ≡ false;
 }
