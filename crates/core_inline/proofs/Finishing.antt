@@ -19,7 +19,7 @@ use Rattle.bag_ledger.specs.Runs.{IsRun, calls, calls_from}
 use Rattle.bag_ledger.specs.Steps.{begun, with_rank}
 use Rattle.bag_ledger.proofs.Legal.{run_joined}
 use Rattle.rank_client.specs.Agreement.{running}
-use Rattle.rank_client.specs.Rules.{Saying, answered, farewell}
+use Rattle.rank_client.specs.Rules.{answered, farewell}
 use Rattle.rank_client.specs.Rules as client_rules
 use Rattle.rank_client.specs.State.{ClientModel}
 use Rattle.rank_client.specs.Step.{Made, begin, call_stamp, post, posted, ticked as client_ticked}

@@ -11,7 +11,7 @@ use Rattle.bag_ledger.specs.declared.entries.Call.{Call}
 use Rattle.bag_ledger.specs.declared.entries.Call.TheVariants as calls_to
 use Rattle.bag_ledger.specs.declared.entries.Said.{Said}
 use Rattle.bag_ledger.specs.declared.states.Placed.{Placed}
-use Rattle.bag_ledger.specs.Bag.{Bag, fresh, rank_at}
+use Rattle.bag_ledger.specs.Bag.{fresh, rank_at}
 use Rattle.bag_ledger.specs.Bag as bag
 use Rattle.bag_ledger.specs.Runs.{IsRun, call_of, calls}
 use Rattle.rank_client.specs.Agreement.{IsHeld}

@@ -1,5 +1,5 @@
 -- Which answers a call can have.
-use Rattle.std.specs.Prelude.{◌≡◌, ◌≤◌, ◌^◌, Bool, true, false, List, length, Option, None, Some, Result, Ok, Err}
+use Rattle.std.specs.Prelude.{◌≡◌, ◌≤◌, Bool, true, false, List, length, Option, None, Some, Result, Ok, Err}
 use Rattle.adlb_unit.specs.Limits.{body_limit}
 use Rattle.adlb_unit.specs.Targets.{Aims}
 use Rattle.adlb_unit.specs.declared.notes.Trouble.{Trouble}
