@@ -13,7 +13,7 @@ use Rattle.adlb_unit.specs.declared.names.Server.{Server}
 use Rattle.rank_client.specs.Rules.{farewell}
 use Rattle.rank_client.specs.State.{ClientModel}
 use Rattle.rank_client.specs.Step.{Made, begin, hear}
-use Rattle.server_core.specs.Rules.{ServerResponse, Saying}
+use Rattle.server_core.specs.Rules.{ServerResponse, ServerSaying}
 use Rattle.server_core.specs.State.{ServerModel}
 use Rattle.server_core.specs.Step.{told, waiting_from}
 use Rattle.core_law.specs.Letters.{finish_handled, finish_letter, finishes, is_finish, is_request, one}
@@ -32,7 +32,7 @@ request_no_finish _ e = refl
 -- A server.
 
 -- it writes no Finish
-none_said : (rank : Rank) (server me : Server) (says : List Saying) → weigh (λ y. finish_letter rank server (by.Server me) y.to y.message) says ≡ 0
+none_said : (rank : Rank) (server me : Server) (says : List ServerSaying) → weigh (λ y. finish_letter rank server (by.Server me) y.to y.message) says ≡ 0
 none_said rank server me [] = refl
 none_said rank server me (y ∷ says) = let later = none_said rank server me says in omega arith
 

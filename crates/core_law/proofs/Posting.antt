@@ -8,9 +8,9 @@ use Rattle.adlb_unit.specs.declared.actors.Actor.TheVariants as by
 use Rattle.adlb_unit.specs.declared.configs.Config.{Config}
 use Rattle.adlb_unit.specs.declared.letters.Letter.{Letter}
 use Rattle.adlb_unit.specs.declared.letters.Sending.{Sending}
-use Rattle.rank_client.specs.Rules.{Saying as Request}
+use Rattle.rank_client.specs.Rules.{ClientSaying}
 use Rattle.rank_client.specs.Step.{Made, post as post_requests, posted as request_posted}
-use Rattle.server_core.specs.Rules.{Saying as Answer}
+use Rattle.server_core.specs.Rules.{ServerSaying}
 use Rattle.server_core.specs.Step.{Served, post as post_answers, posted as answer_posted}
 use Rattle.core_law.specs.Lines.{AreConsecutive, AreStamped, rank_sent, server_sent}
 use Rattle.core_run.specs.World.{actors, is_within}
@@ -71,10 +71,10 @@ one_more config sends y before now later clock p here stamp others = record {
 
 -- A rank.
 
-abbrev pub AreAsked : Config → List Request → Type 0
-AreAsked config says = Each (λ (y : Request). y.to.0 < config.servers) says
+abbrev pub AreAsked : Config → List ClientSaying → Type 0
+AreAsked config says = Each (λ (y : ClientSaying). y.to.0 < config.servers) says
 
-pub requests_posted : (config : Config) (says : List Request) (x : Made) (before : Actor → ℕ) → length x.state.sent ≡ config.servers → AreAsked config says → IsPosted config x.sends before (rank_sent x.state) x.state.clock
+pub requests_posted : (config : Config) (says : List ClientSaying) (x : Made) (before : Actor → ℕ) → length x.state.sent ≡ config.servers → AreAsked config says → IsPosted config x.sends before (rank_sent x.state) x.state.clock
     → IsPosted config (post_requests x says).sends before (rank_sent (post_requests x says).state) (post_requests x says).state.clock
 requests_posted config [] x before counts asked p = p
 requests_posted config (y ∷ says) x before counts asked p =
@@ -96,10 +96,10 @@ requests_posted config (y ∷ says) x before counts asked p =
 
 -- A server.
 
-abbrev pub AreAnswered : Config → List Answer → Type 0
-AreAnswered config says = Each (λ (y : Answer). is_within config y.to ≡ true) says
+abbrev pub AreAnswered : Config → List ServerSaying → Type 0
+AreAnswered config says = Each (λ (y : ServerSaying). is_within config y.to ≡ true) says
 
-pub answers_posted : (config : Config) (says : List Answer) (x : Served) (before : Actor → ℕ) → x.state.config ≡ config → length x.state.sent ≡ actors config → AreAnswered config says → IsPosted config x.sends before (server_sent config x.state) x.state.clock
+pub answers_posted : (config : Config) (says : List ServerSaying) (x : Served) (before : Actor → ℕ) → x.state.config ≡ config → length x.state.sent ≡ actors config → AreAnswered config says → IsPosted config x.sends before (server_sent config x.state) x.state.clock
     → IsPosted config (post_answers x says).sends before (server_sent config (post_answers x says).state) (post_answers x says).state.clock
 answers_posted config [] x before run counts asked p = p
 answers_posted config (y ∷ says) x before run counts asked p =

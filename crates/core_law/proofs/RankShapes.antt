@@ -40,7 +40,7 @@ use Rattle.bag_ledger.specs.Steps.{after, with_rank}
 use Rattle.bag_ledger.proofs.Tests.{some_is}
 use Rattle.rank_client.specs.declared.pendings.Pending.{Pending}
 use Rattle.rank_client.specs.declared.pendings.Pending.TheVariants as waits_for
-use Rattle.rank_client.specs.Rules.{ClientResponse, Saying, answer_call, asked, call_of, ends, expects_note, farewell, fetch, finish, first_server, hear_fetch, hear_put, hear_reserve, held, is_for, is_free, is_idle, open_call, put, refused, reserve, unit_put}
+use Rattle.rank_client.specs.Rules.{ClientResponse, ClientSaying, answer_call, asked, call_of, ends, expects_note, farewell, fetch, finish, first_server, hear_fetch, hear_put, hear_reserve, held, is_for, is_free, is_idle, open_call, put, refused, reserve, unit_put}
 use Rattle.rank_client.specs.State.{ClientModel, behind}
 use Rattle.rank_client.specs.Step.{Made, begin, call_stamp, hear, letter_stamp, made, ticked}
 use Rattle.core_law.proofs.Asked.{IsAsked}
@@ -253,7 +253,7 @@ fetch_opens run me s id (Some note) r is =
       after = It_asks (record { to = note.server; letter = _; asked = (ap (λ i. tells.Fetch s.next i) (sym found.0), refl); within = found.1.there; finished = r.going; sends = refl });
     }
 
-farewells : (n from servers : ℕ) → from + n ≤ servers → (P : Actor → Message → Type 0) → ((to : Server) → to.0 < servers → P (by.Server to) tells.Finish) → Each (λ (y : Saying). P (by.Server y.to) y.message) (map farewell (range_with_len from n))
+farewells : (n from servers : ℕ) → from + n ≤ servers → (P : Actor → Message → Type 0) → ((to : Server) → to.0 < servers → P (by.Server to) tells.Finish) → Each (λ (y : ClientSaying). P (by.Server y.to) y.message) (map farewell (range_with_len from n))
 farewells zero from servers within P each = tt
 farewells (suc n) from servers within P each = (each (server_named from) (omega arith), farewells n (from + 1) servers (omega arith) P each)
 

@@ -14,7 +14,7 @@ use Rattle.bag_ledger.specs.declared.entries.Entry.TheVariants as enters
 use Rattle.adlb_unit.specs.declared.names.WorkType.{WorkType}
 use Rattle.server_core.specs.declared.standings.Standing.{Standing}
 use Rattle.server_core.specs.declared.standings.Standing.TheVariants as does
-use Rattle.server_core.specs.Rules.{ServerResponse, Saying, respond, leave}
+use Rattle.server_core.specs.Rules.{ServerResponse, ServerSaying, respond, leave}
 use Rattle.server_core.specs.State.{ServerModel, is_home}
 use Rattle.server_core.specs.Step.{Served, after_event, next_stamp, over, post, resumed, serve, served, ticked, told, waiting_from}
 use Rattle.core_law.specs.Measures.{Weights, sends_weight, weigh}
@@ -145,13 +145,13 @@ served_own config me s from letter x own e =
 abbrev pub Within : Config → Actor → Message → Type 0
 Within config to m = is_within config to ≡ true
 
-pub waiting_within : (config : Config) (n : ℕ) (standings : List Standing) → n + length standings ≤ config.ranks → Each (λ (y : Saying). Within config y.to y.message) (map told (waiting_from n standings))
+pub waiting_within : (config : Config) (n : ℕ) (standings : List Standing) → n + length standings ≤ config.ranks → Each (λ (y : ServerSaying). Within config y.to y.message) (map told (waiting_from n standings))
 waiting_within config n [] few = tt
 waiting_within config n (does.Parked request types ∷ standings) few = (lt-ltb n config.ranks (omega arith), waiting_within config (n + 1) standings (omega arith))
 waiting_within config n (does.Running ∷ standings) few = waiting_within config (n + 1) standings (omega arith)
 waiting_within config n (does.Finished ∷ standings) few = waiting_within config (n + 1) standings (omega arith)
 
-pub rule_within : (config : Config) (s : ServerModel) (from : Rank) (m : Message) (z : ServerResponse) → from.0 < config.ranks → Responds s from m z → Each (λ (y : Saying). Within config y.to y.message) z.says
+pub rule_within : (config : Config) (s : ServerModel) (from : Rank) (m : Message) (z : ServerResponse) → from.0 < config.ranks → Responds s from m z → Each (λ (y : ServerSaying). Within config y.to y.message) z.says
 rule_within config s from m z here (It_answers h) = rw h.says (lt-ltb from.0 config.ranks here, tt)
 rule_within config s from m z here (It_parks h) = rw h.says tt
 rule_within config s from m z here (It_finishes h) = rw h.says tt

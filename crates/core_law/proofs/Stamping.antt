@@ -26,10 +26,10 @@ use Rattle.bag_ledger.proofs.Tests.{some_is}
 use Rattle.work_queue.specs.declared.placing.Placed.{Placed}
 use Rattle.rank_client.specs.declared.pendings.Pending.{Pending}
 use Rattle.rank_client.specs.declared.pendings.Pending.TheVariants as waits_for
-use Rattle.rank_client.specs.Rules.{ClientResponse, Saying as Request, answer_call, asked, expects_note, fetch, finish, held, is_for, is_free, open_call, put, refused, reserve, unit_put}
+use Rattle.rank_client.specs.Rules.{ClientResponse, ClientSaying, answer_call, asked, expects_note, fetch, finish, held, is_for, is_free, open_call, put, refused, reserve, unit_put}
 use Rattle.rank_client.specs.State.{ClientModel}
 use Rattle.rank_client.specs.Step.{Made, begin, call_stamp, hear, letter_stamp, made, post as post_requests, posted as request_posted, ticked as tick}
-use Rattle.server_core.specs.Rules.{ServerResponse, Saying as Answer, best_unit, expects_finish, expects_put, expects_reserve, fetch as fetch_at, finish as finish_at, is_over, is_pinned_as, put as put_at, reserve as reserve_at, respond}
+use Rattle.server_core.specs.Rules.{ServerResponse, ServerSaying, best_unit, expects_finish, expects_put, expects_reserve, fetch as fetch_at, finish as finish_at, is_over, is_pinned_as, put as put_at, reserve as reserve_at, respond}
 use Rattle.server_core.specs.State.{ServerModel}
 use Rattle.server_core.specs.Step.{Served, after_event, next_stamp, post as post_answers, serve, served, ticked, told, waiting_from}
 use Rattle.core_law.specs.Lines.{rank_sent, server_sent}
@@ -97,14 +97,14 @@ within_split : (config : Config) (xs ys : List Sending) → AreWithin config (xs
 within_split config [] ys are = (tt, are)
 within_split config (x ∷ xs) ys are = let rest = within_split config xs ys are.1 in ((are.0, rest.0), rest.1)
 
-requests_back : (config : Config) (says : List Request) (x : Made) → AreWithin config (post_requests x says).sends → AreWithin config x.sends × AreAsked config says
+requests_back : (config : Config) (says : List ClientSaying) (x : Made) → AreWithin config (post_requests x says).sends → AreWithin config x.sends × AreAsked config says
 requests_back config [] x are = (are, tt)
 requests_back config (y ∷ says) x are =
     let later = requests_back config says _ are in
     let parts = within_split config x.sends (request_posted x.state y ∷ []) later.0 in
     (parts.0, (ltb-true y.to.0 config.servers parts.1.0, later.1))
 
-requests_counts : (says : List Request) (x : Made) → length (post_requests x says).state.sent ≡ length x.state.sent
+requests_counts : (says : List ClientSaying) (x : Made) → length (post_requests x says).state.sent ≡ length x.state.sent
 requests_counts [] x = refl
 requests_counts (y ∷ says) x = requests_counts says _ ∙ length-set x.state.sent y.to.0 (get_or x.state.sent y.to.0 0 + 1)
 
@@ -187,7 +187,7 @@ respond_stays s from (tells.Fetch request id) = fetch_stays s from request id (f
 respond_stays s from tells.Finish = when_stays s (expects_finish s from) (finish_at s from) (refl, refl)
 respond_stays s from _ = tt
 
-answers_counts : (says : List Answer) (x : Served) → length (post_answers x says).state.sent ≡ length x.state.sent
+answers_counts : (says : List ServerSaying) (x : Served) → length (post_answers x says).state.sent ≡ length x.state.sent
 answers_counts [] x = refl
 answers_counts (y ∷ says) x = answers_counts says _ ∙ length-set x.state.sent (place_of x.state.config y.to) (get_or x.state.sent (place_of x.state.config y.to) 0 + 1)
 

@@ -85,7 +85,7 @@ answer_leaves s (waits_for.Reserve request types) from message = hear_reserve_le
 answer_leaves s (waits_for.Fetch request note) from message = hear_fetch_leaves s request note from message
 
 -- letters leave it
-post_leaves : (x : rank_step.Made) (says : List rank_rules.Saying) → (rank_step.post x says).state.trouble ≡ x.state.trouble
+post_leaves : (x : rank_step.Made) (says : List rank_rules.ClientSaying) → (rank_step.post x says).state.trouble ≡ x.state.trouble
 post_leaves x [] = refl
 post_leaves x (y ∷ says) =
     post_leaves (record x { state = rank_step.counted x.state y.to; sends = x.sends ++ rank_step.posted x.state y ∷ [] }) says
@@ -148,7 +148,7 @@ respond_stays s from (tells.Fetch request id) = fetch_stays s from request id (f
 respond_stays s from tells.Finish = stays_if s.trouble _ (server_rules.finish s from) refl
 respond_stays s from _ = tt
 
-post_stays : (x : server_step.Served) (says : List server_rules.Saying) → (server_step.post x says).state.trouble ≡ x.state.trouble
+post_stays : (x : server_step.Served) (says : List server_rules.ServerSaying) → (server_step.post x says).state.trouble ≡ x.state.trouble
 post_stays x [] = refl
 post_stays x (y ∷ says) =
     post_stays (record x { state = server_step.counted x.state y.to; sends = x.sends ++ server_step.posted x.state y ∷ [] }) says

@@ -30,7 +30,7 @@ use Rattle.bag_ledger.specs.Steps.{Legal, Stands, Steps, after, begun, ended, wi
 use Rattle.rank_client.specs.declared.pendings.Pending.{Pending}
 use Rattle.rank_client.specs.declared.pendings.Pending.TheVariants as waits_for
 use Rattle.rank_client.specs.Agreement.{ClientAgrees, Follows, IsCaused, IsHeld, running}
-use Rattle.rank_client.specs.Rules.{ClientResponse, Saying, entry_of, fetch, fetched, finish, held, is_free, is_idle, open_call, over, put, reserve, unit_put}
+use Rattle.rank_client.specs.Rules.{ClientResponse, ClientSaying, entry_of, fetch, fetched, finish, held, is_free, is_idle, open_call, over, put, reserve, unit_put}
 use Rattle.rank_client.specs.State.{ClientModel}
 use Rattle.rank_client.specs.Step.{Made, begin, call_stamp, made, post, ticked}
 use Rattle.rank_client.proofs.Entries.{rank_changed, saying, same_unit_is, silent, some_is, step_of, then_saying}
@@ -40,15 +40,15 @@ use Rattle.rank_client.proofs.Entries.{rank_changed, saying, same_unit_is, silen
 abbrev pub bare : ClientResponse → Made
 bare z = record { state = z.state; sends = []; entries = z.entries; answer = z.answer }
 
-post_agrees : (says : List Saying) (x : Made) (b : Bag) → ClientAgrees x.state None b → ClientAgrees (post x says).state None b
+post_agrees : (says : List ClientSaying) (x : Made) (b : Bag) → ClientAgrees x.state None b → ClientAgrees (post x says).state None b
 post_agrees [] x b a = a
 post_agrees (y ∷ says) x b a = post_agrees says _ b (record { rank = a.rank; servers = a.servers; caused = a.caused; held = a.held })
 
-post_entries : (says : List Saying) (x : Made) → (post x says).entries ≡ x.entries
+post_entries : (says : List ClientSaying) (x : Made) → (post x says).entries ≡ x.entries
 post_entries [] x = refl
 post_entries (y ∷ says) x = post_entries says _
 
-post_transcript : (says : List Saying) (x : Made) → (post x says).state.transcript ≡ x.state.transcript
+post_transcript : (says : List ClientSaying) (x : Made) → (post x says).state.transcript ≡ x.state.transcript
 post_transcript [] x = refl
 post_transcript (y ∷ says) x = post_transcript says _
 

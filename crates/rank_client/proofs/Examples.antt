@@ -9,7 +9,7 @@ use Rattle.adlb_unit.specs.declared.names.Rank.{Rank}
 use Rattle.adlb_unit.specs.declared.names.Target.{Target}
 use Rattle.adlb_unit.specs.declared.names.Target.TheVariants as targets
 use Rattle.bag_ledger.specs.declared.entries.Call.TheVariants as calls_to
-use Rattle.rank_client.specs.State.{ClientModel, start}
+use Rattle.rank_client.specs.State.{start}
 use Rattle.rank_client.specs.Step.{Made, begin}
 
 -- five ranks and three servers

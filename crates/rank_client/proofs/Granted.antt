@@ -26,7 +26,7 @@ use Rattle.rank_client.specs.declared.pendings.Pending.{Pending}
 use Rattle.rank_client.specs.declared.pendings.Pending.TheVariants as waits_for
 use Rattle.rank_client.specs.Calls.{fetches, grants, is_fetched, is_granted}
 use Rattle.rank_client.specs.Granted.{AreGranted, GrantsComeFirst, IsGrantedFirst}
-use Rattle.rank_client.specs.Rules.{ClientResponse, Saying, answer_call, call_of, fetch, hear_fetch, hear_put, hear_reserve, held, is_free, open_call, put, refused, reserve, unit_put}
+use Rattle.rank_client.specs.Rules.{ClientResponse, ClientSaying, answer_call, call_of, fetch, hear_fetch, hear_put, hear_reserve, held, is_free, open_call, put, refused, reserve, unit_put}
 use Rattle.rank_client.specs.State.{ClientModel, start}
 use Rattle.rank_client.specs.Step.{Made, begin, call_stamp, hear, letter_stamp, made, post, ticked}
 use Rattle.rank_client.proofs.Begins.{found_is}
@@ -83,7 +83,7 @@ unit_granted said notes pending types note g =
     record { held = All-push Q notes note over.held now; fetching = tt; fetched = over.fetched }
 
 -- Letters that go out change nothing of it.
-post_keeps : (says : List Saying) (x : Made) → IsGrantedFirst x.state → IsGrantedFirst (post x says).state
+post_keeps : (says : List ClientSaying) (x : Made) → IsGrantedFirst x.state → IsGrantedFirst (post x says).state
 post_keeps [] x g = g
 post_keeps (y ∷ says) x g = post_keeps says _ g
 

@@ -4,7 +4,6 @@ use Rattle.std.specs.List.{range_with_len}
 use Rattle.adlb_unit.specs.Targets.{home, in_ranks}
 use Rattle.adlb_unit.specs.Ids.{same_unit}
 use Rattle.adlb_unit.specs.Limits.{body_limit}
-use Rattle.adlb_unit.specs.declared.configs.Config.{Config}
 use Rattle.adlb_unit.specs.declared.messages.Message.{Message}
 use Rattle.adlb_unit.specs.declared.messages.Message.TheVariants as tells
 use Rattle.adlb_unit.specs.declared.names.Rank.{Rank}
@@ -29,14 +28,14 @@ use Rattle.rank_client.specs.Calls.{is_fetched, is_granted, plus}
 use Rattle.rank_client.specs.State.{ClientModel, behind}
 
 -- a message to a server
-pub record Saying : Type 0 where
+pub record ClientSaying : Type 0 where
   pub to : Server
   pub message : Message
 
 -- what the client becomes, what it says, what it enters in the ledger, and the answer if the call ends
 pub record ClientResponse : Type 0 where
   pub state : ClientModel
-  pub says : List Saying
+  pub says : List ClientSaying
   pub entries : List Entry
   pub answer : Option Answer
 
@@ -127,7 +126,7 @@ fetch s id (Some note) = Some (fetched s id note)
 
 -- Finish.
 
-abbrev pub farewell : ℕ → Saying
+abbrev pub farewell : ℕ → ClientSaying
 farewell server = record { to = record { 0 = server }; message = tells.Finish }
 
 -- each server is told, from 0 on

@@ -14,7 +14,7 @@ use Rattle.adlb_unit.specs.declared.notes.Trouble.TheVariants as troubles
 use Rattle.bag_ledger.specs.declared.entries.Answer.{Answer}
 use Rattle.bag_ledger.specs.declared.entries.Call.{Call}
 use Rattle.bag_ledger.specs.declared.entries.Entry.{Entry}
-use Rattle.rank_client.specs.Rules.{ClientResponse, Saying, answer_call, is_free, open_call}
+use Rattle.rank_client.specs.Rules.{ClientResponse, ClientSaying, answer_call, is_free, open_call}
 use Rattle.rank_client.specs.State.{ClientModel}
 
 -- what a step makes of the client, the letters that it sends, its entries, and the answer if the call ends
@@ -43,10 +43,10 @@ sent_to s to = slice_index_or s.sent to.0 0
 abbrev pub counted : ClientModel → Server → ClientModel
 counted s to = record s { sent = slice_set s.sent to.0 (sent_to s to + 1) }
 
-abbrev pub posted : ClientModel → Saying → Sending
+abbrev pub posted : ClientModel → ClientSaying → Sending
 posted s x = sending s.clock (sent_to s x.to) (by.Server x.to) x.message
 
-abbrev pub post : Made → List Saying → Made
+abbrev pub post : Made → List ClientSaying → Made
 post x [] = x
 post x (y ∷ says) = post (record x { state = counted x.state y.to; sends = x.sends ++ posted x.state y ∷ [] }) says
 

@@ -25,17 +25,17 @@ use Rattle.server_core.specs.declared.standings.Standing.TheVariants as does
 use Rattle.server_core.specs.State.{ServerModel, is_home, standing}
 
 -- a message to an actor
-pub record Saying : Type 0 where
+pub record ServerSaying : Type 0 where
   pub to : Actor
   pub message : Message
 
 -- what the server becomes, what it says, and what it enters in the ledger
 pub record ServerResponse : Type 0 where
   pub state : ServerModel
-  pub says : List Saying
+  pub says : List ServerSaying
   pub entries : List Entry
 
-abbrev pub to_rank : Rank → Message → Saying
+abbrev pub to_rank : Rank → Message → ServerSaying
 to_rank rank message = record { to = by.Rank rank; message = message }
 
 -- the rank's call is answered by an end

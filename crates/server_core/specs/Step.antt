@@ -17,7 +17,7 @@ use Rattle.bag_ledger.specs.declared.entries.Entry.{Entry}
 use Rattle.bag_ledger.specs.declared.entries.Entry.TheVariants as enters
 use Rattle.server_core.specs.declared.standings.Standing.{Standing}
 use Rattle.server_core.specs.declared.standings.Standing.TheVariants as does
-use Rattle.server_core.specs.Rules.{ServerResponse, Saying, best_unit, is_running, respond, to_rank}
+use Rattle.server_core.specs.Rules.{ServerResponse, ServerSaying, best_unit, is_running, respond, to_rank}
 use Rattle.server_core.specs.State.{ServerModel}
 
 -- what a letter makes of the server, the letters that it sends, and its entries
@@ -43,10 +43,10 @@ sent_to s to = slice_index_or s.sent (place_of s.config to) 0
 abbrev pub counted : ServerModel → Actor → ServerModel
 counted s to = record s { sent = slice_set s.sent (place_of s.config to) (sent_to s to + 1) }
 
-abbrev pub posted : ServerModel → Saying → Sending
+abbrev pub posted : ServerModel → ServerSaying → Sending
 posted s x = sending s.clock (sent_to s x.to) x.to x.message
 
-abbrev pub post : Served → List Saying → Served
+abbrev pub post : Served → List ServerSaying → Served
 post x [] = x
 post x (y ∷ says) = post (record x { state = counted x.state y.to; sends = x.sends ++ posted x.state y ∷ [] }) says
 
@@ -82,7 +82,7 @@ resumed (does.Parked request types) = does.Running
 resumed does.Running = does.Running
 resumed does.Finished = does.Finished
 
-abbrev pub told : Waiting → Saying
+abbrev pub told : Waiting → ServerSaying
 told w = to_rank w.rank (tells.Ended w.request ends_by.Exhausted)
 
 abbrev pub over : Waiting → Entry

@@ -5,7 +5,7 @@ ghost use Rattle.std.specs.Vec.{vec_len};
 ghost use Rattle.adlb_unit.specs.Limits.{stamp_limit};
 ghost use Rattle.server_core.specs.Inside.{IsFresh, IsSettled};
 ghost use Rattle.server_core.specs.Out.{Out};
-ghost use Rattle.server_core.specs.Rules.{Saying, is_running};
+ghost use Rattle.server_core.specs.Rules.{ServerSaying, is_running};
 ghost use Rattle.server_core.specs.Left.{left_of};
 ghost use Rattle.server_core.specs.Expected.{IsHome, Runs};
 ghost use Rattle.server_core.specs.Quiet.{IsQuiet};

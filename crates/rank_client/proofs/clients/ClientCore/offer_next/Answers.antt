@@ -1,11 +1,11 @@
-use Rattle.std.proofs.Common.{◌≡◌, ◌∙◌, ◌+◌, ◌<◌, ℕ, List, MatchOption, None, Some, true, ap, sym, subst, arith}
+use Rattle.std.proofs.Common.{◌≡◌, ◌∙◌, ◌+◌, ℕ, List, MatchOption, Some, true, ap, sym, subst, arith}
 use Rattle.std.specs.Vec.{vec_len, vec_capacity}
 use Rattle.std.proofs.lemmas.List.Elements.{All-pop}
 use Rattle.rank_client.specs.declared.pendings.Pending.{Pending}
-use Rattle.rank_client.specs.Inside.{HasRoom, IsFresh, Put, awaited, gives, put_of, state_of}
+use Rattle.rank_client.specs.Inside.{HasRoom, IsFresh, Put, awaited, state_of}
 use Rattle.rank_client.specs.Rules.{refused}
 use Rattle.rank_client.specs.State.{ClientModel}
-use Rattle.rank_client.specs.Step.{Made, made}
+use Rattle.rank_client.specs.Step.{made}
 use Rattle.rank_client.proofs.Awaited.{put_is, retried_sound, retry_gives}
 use Rattle.rank_client.proofs.Insides.{first_letter}
 use Rattle.rank_client.proofs.clients.ClientCore.offer_next.Goals as goal
