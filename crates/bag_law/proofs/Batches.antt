@@ -222,7 +222,8 @@ parts_kept b server batch l new is =
 -- A batch ends.
 parts_closed : (ranks : List RankState) (ps : List Part) (batch : BatchId) (r : RankState) (common : CommonRef)
     → slice_get ranks batch.rank.0 ≡ Some r → r.batch ≡ Some common → common.batch ≡ batch → BatchesAreOpen ranks ps
-    → BatchesAreOpen (change_at (λ r. ended (record r { batch = None })) batch.rank.0 ranks) (change_first (λ p. record p { closed = true }) (λ q. same_batch q.batch batch) ps)
+    → BatchesAreOpen (change_at (λ r. ended (record r { batch = None })) batch.rank.0 ranks)
+    (change_first (λ p. record p { closed = true }) (λ q. same_batch q.batch batch) ps)
 parts_closed ranks ps batch r common there has names is = record {
   brought = λ n v e. named n v e (turned f₀ batch.rank.0 ranks r there n);
   batch = λ n v e. batch_is n v e (turned f₀ batch.rank.0 ranks r there n);

@@ -242,7 +242,8 @@ counted_common : (b : Bag) (rank : Rank) (call : ℕ) (id : UnitId) (u : Placed)
     → slice_get b.ranks rank.0 ≡ Some r → r.status ≡ does.Fetching call id true → unit_of b id ≡ Some u → u.unit.common ≡ Some common
     → part_in b.parts common.batch ≡ Some p
     → HasCounts b
-    → PartsCount (change_at ended rank.0 b.ranks) b.units (change_first (λ p. record p { fetched = p.fetched + 1 }) (λ q. same_batch q.batch common.batch) b.parts)
+    → PartsCount (change_at ended rank.0 b.ranks) b.units
+    (change_first (λ p. record p { fetched = p.fetched + 1 }) (λ q. same_batch q.batch common.batch) b.parts)
 unfolding HasCounts
 counted_common b rank call id u common p r there status stands shares found is = record {
   each = λ batch.

@@ -124,7 +124,8 @@ plain_or_special found b (Refused server id used) l =
 plain_or_special found b (Rejected rank call) l =
     inl (plain _ _ rank.0 ended l.0 l.2 refl refl refl refl (omega arith) refl (inr (offer_bare l.0.status (call, l.1) l.3, refl))
     (λ end e. inl e) (λ end c. c))
-plain_or_special found b (Closing rank call) l = inl (begins _ _ rank.0 (does.Closing call) l.0 l.2.0 l.2.1 refl refl refl refl refl (λ end c. c))
+plain_or_special found b (Closing rank call) l =
+    inl (begins _ _ rank.0 (does.Closing call) l.0 l.2.0 l.2.1 refl refl refl refl refl (λ end c. c))
 plain_or_special found b (Asked rank call types) l =
     inl (begins _ _ rank.0 (does.Asking call types) l.0 l.1.0 l.1.1 refl refl refl refl refl (λ end c. c))
 plain_or_special found b (Tried rank call types) l =
@@ -137,11 +138,13 @@ plain_or_special found b (Counting rank call kind) l =
     inl (begins _ _ rank.0 (does.Counting call kind) l.0 l.1.0 l.1.1 refl refl refl refl refl (λ end c. c))
 plain_or_special found b (Counted server rank call info) l =
     inl (plain _ _ rank.0 ended l.0 l.2 refl refl refl refl (omega arith) refl (inr (rw l.3 refl, refl)) (λ end e. inl e) (λ end c. c))
-plain_or_special found b (Done rank call) l = inl (begins _ _ rank.0 does.Running l.0 l.1.0 l.1.1 refl refl refl refl refl (done_causes b rank call))
+plain_or_special found b (Done rank call) l =
+    inl (begins _ _ rank.0 does.Running l.0 l.1.0 l.1.1 refl refl refl refl refl (done_causes b rank call))
 plain_or_special found b (Over rank call end) l =
     inl (plain _ _ rank.0 (λ r. ended (record r { end = Some end })) l.0 l.1 refl refl refl refl (omega arith) refl
     (inr (open_bare l.0.status call l.2, refl)) (λ x e. let same : end ≡ x = some_is e in inr (rw (← same) l.3)) (λ end c. c))
-plain_or_special found b (Finished rank call) l = inl (begins _ _ rank.0 does.Finished l.0 l.1.0 l.1.1 refl refl refl refl refl (λ end c. c))
+plain_or_special found b (Finished rank call) l =
+    inl (begins _ _ rank.0 does.Finished l.0 l.1.0 l.1.1 refl refl refl refl refl (λ end c. c))
 plain_or_special found b _ l = inr refl
 
 -- What an Accepted and a Kept do, component by component.
