@@ -1,8 +1,11 @@
 //! The program `adlbrun`: reads a puzzle, works its boards through a queue of units, and writes all its solutions.
 //!
 //! It hands the words of its command line, standard input and standard output to `run_adlb` of `adlb_command`, tells the fault on
-//! standard error, if there is one, and ends with the status. Nothing is proved of `main`.
+//! standard error, if there is one, and ends with the status. Nothing is proved of `main`; `unread` says which fault it is if the
+//! words cannot be read.
 #![tactic(auto)]
+
+ghost use Rattle.std.specs.Prelude.{◌≡◌};
 
 use adlb_command::{RunEnd, RunFault, run_adlb};
 use adlb_io::{StdinSource, StdoutSink};
@@ -29,8 +32,7 @@ fn main(rt: HostRuntime) -> ExitCode {
 fn words_of(rt: &HostRuntime) -> Result<Vec<String>, RunFault> {
     let mut given = match env::args(rt) {
         Ok(given) => given,
-        Err(error) if error.kind() == ErrorKind::OutOfMemory => return Err(RunFault::Memory),
-        Err(_) => return Err(RunFault::Usage),
+        Err(error) => return Err(unread(error.kind())),
     };
     let _ = given.next();
     let mut words = Vec::new(rt.alloc());
@@ -40,4 +42,15 @@ fn words_of(rt: &HostRuntime) -> Result<Vec<String>, RunFault> {
         }
     }
     Ok(words)
+}
+
+// Why the words were not read: an allocation failed, or one of them is not UTF-8, and so is no word of the command line.
+fn unread(kind: ErrorKind) -> RunFault
+    ensures memory { kind ≡ ErrorKind.OutOfMemory → result ≡ RunFault.Memory }
+    ensures usage { (kind ≡ ErrorKind.OutOfMemory → ⊥) → result ≡ RunFault.Usage }
+{
+    match kind {
+        ErrorKind::OutOfMemory => RunFault::Memory,
+        _ => RunFault::Usage,
+    }
 }
