@@ -23,20 +23,25 @@ after_all_is b last (e ∷ es) run = ap (λ v. after_all v es) (sym run.1.2) ∙
 pub same_end : (b last other : Bag) (ledger : List Entry) → IsRun b ledger last → IsRun b ledger other → last ≡ other
 same_end b last other ledger run again = sym (after_all_is b last ledger run) ∙ after_all_is b other ledger again
 
-pub first_is : (pending : Option Call) (more : List Said) (begun : Option Call) → IsOpen pending more begun → first_open pending more ≡ begun
+pub first_is : (pending : Option Call) (more : List Said) (begun : Option Call) → IsOpen pending more begun
+    → first_open pending more ≡ begun
 first_is pending [] begun is = sym is
 first_is pending (s ∷ []) begun is = sym is.1
 first_is pending (s ∷ t ∷ more) begun is = absurd is
 
-pub begun_is : (config : Config) (ledger : List Entry) (said : List Said) (begun : Option Call) → IsTold config ledger said begun → begun_in config ledger said ≡ begun
+pub begun_is : (config : Config) (ledger : List Entry) (said : List Said) (begun : Option Call) → IsTold config ledger said begun
+    → begun_in config ledger said ≡ begun
 begun_is config ledger said begun t =
     let last : pending_in (after_all (start config) ledger) ≡ call_of t.rank.status =
-    ap pending_in (after_all_is (start config) t.last ledger t.legal) ∙ ap (option_and_then (λ (r : RankState). call_of r.status)) t.there in
+    ap pending_in (after_all_is (start config) t.last ledger t.legal)
+    ∙ ap (option_and_then (λ (r : RankState). call_of r.status)) t.there in
     let more : drop (length said) (calls config ledger zeroth) ≡ t.more = ap (drop (length said)) t.calls_are ∙ drop_seam said t.more in
-    ap (λ l. first_open (pending_in (after_all (start config) ledger)) l) more ∙ ap (λ o. first_open o t.more) last ∙ first_is (call_of t.rank.status) t.more begun t.open_call
+    ap (λ l. first_open (pending_in (after_all (start config) ledger)) l) more ∙ ap (λ o. first_open o t.more) last
+    ∙ first_is (call_of t.rank.status) t.more begun t.open_call
 
 -- what is told, in other words
-abbrev pub retold : (config config' : Config) (ledger : List Entry) (said said' : List Said) (begun begun' : Option Call) → IsTold config ledger said begun
+abbrev pub retold : (config config' : Config) (ledger : List Entry) (said said' : List Said) (begun begun' : Option Call)
+    → IsTold config ledger said begun
     → config ≡ config' → said ≡ said' → begun' ≡ begun → IsTold config' ledger said' begun'
 retold config config' ledger said said' begun begun' t config_is said_is begun_is = record {
   last = t.last;

@@ -1,5 +1,6 @@
 -- The fields of a run in line, call by call.
-use Rattle.std.proofs.Common.{◌≡◌, ◌⊎◌, inl, inr, ℕ, zero, suc, ◌+◌, ◌||◌, ◌&&◌, get_or, Bool, true, false, List, [], ◌∷◌, length, take, Option, None, Some, refl, sym, ap, ◌∙◌, subst, arith}
+use Rattle.std.proofs.Common.{◌≡◌, ◌⊎◌, inl, inr, ℕ, zero, suc, ◌+◌, ◌||◌, ◌&&◌, get_or, Bool, true, false, List, [], ◌∷◌, length, take}
+use Rattle.std.proofs.Common.{Option, None, Some, refl, sym, ap, ◌∙◌, subst, arith}
 use Rattle.std.proofs.lemmas.List.{length_push}
 use Rattle.adlb_unit.specs.declared.configs.Config.{Config}
 use Rattle.adlb_unit.specs.declared.notes.Trouble.{Trouble}
@@ -38,34 +39,45 @@ or_true true = refl
 or_true false = refl
 
 -- nothing is begun after a call that did not fail
-pub began_none : (failed now : Option Trouble) (before : Option Call) (call : Call) (begun : Option Call) → failed ≡ None → now ≡ None → begun ≡ None → Began failed before call now begun
+pub began_none : (failed now : Option Trouble) (before : Option Call) (call : Call) (begun : Option Call) → failed ≡ None → now ≡ None
+    → begun ≡ None → Began failed before call now begun
 began_none failed now before call begun whole goes_on none = rw (whole, goes_on) none
 
 -- A call that did not fail adds its answer, and nothing is open.
-module _ (i : Inside) (now : Seen) (call : Call) (answer : Answer) (before : IsInside i) (whole : i.world.trouble ≡ None) (goes_on : now.trouble ≡ None)
+module _ (i : Inside) (now : Seen) (call : Call) (answer : Answer) (before : IsInside i) (whole : i.world.trouble ≡ None)
+    (goes_on : now.trouble ≡ None)
     (true_now : IsTrue now) (grown : (rank_in now).transcript ≡ with_call (rank_in i.world).transcript call answer) where
   long : i.answered + 1 ≡ length (rank_in now).transcript
-  long = omega (arith, before.all whole, ap length grown, length_push (rank_in i.world).transcript (record { call = call; answer = answer }))
+  long =
+      omega (arith, before.all whole, ap length grown, length_push (rank_in i.world).transcript (record { call = call; answer = answer }))
 
   all_said : take (i.answered + 1) (rank_in now).transcript ≡ (rank_in now).transcript
   all_said = take_all (i.answered + 1) (rank_in now).transcript long
 
   pub grown_transcript : take (i.answered + 1) (rank_in now).transcript ≡ plus (run_of i).transcript call (Some answer)
-  grown_transcript = all_said ∙ grown ∙ ap (λ l. with_call l call answer) (sym (take_all i.answered (rank_in i.world).transcript (before.all whole)))
+  grown_transcript =
+      all_said ∙ grown ∙ ap (λ l. with_call l call answer) (sym (take_all i.answered (rank_in i.world).transcript (before.all whole)))
 
   pub grown_begun : begun_in now.world.config now.world.ledger (take (i.answered + 1) (rank_in now).transcript) ≡ None
   grown_begun = begun_is now.world.config now.world.ledger (take (i.answered + 1) (rank_in now).transcript) None
-      (retold now.world.config now.world.config now.world.ledger (rank_in now).transcript (take (i.answered + 1) (rank_in now).transcript) None None true_now.told refl (sym all_said) refl)
+      (retold now.world.config now.world.config now.world.ledger (rank_in now).transcript (take (i.answered + 1) (rank_in now).transcript)
+      None None true_now.told refl (sym all_said) refl)
 
-  pub grown_inside : (finished : Bool) → now.world.config ≡ i.world.world.config → finished ≡ has_finished (rank_in now).transcript → is_ended (server_in now) ≡ finished
-      → (has_finished (rank_in now).transcript ≡ false → IsReady now) → IsInside (record i { world = now; answered = i.answered + 1; finished = finished })
+  pub grown_inside : (finished : Bool) → now.world.config ≡ i.world.world.config → finished ≡ has_finished (rank_in now).transcript
+      → is_ended (server_in now) ≡ finished
+      → (has_finished (rank_in now).transcript ≡ false → IsReady now)
+      → IsInside (record i { world = now; answered = i.answered + 1; finished = finished })
   grown_inside finished same called ended ready = record {
     inline = record {
       one_rank = ap (λ (g : Config). g.ranks) same ∙ before.inline.one_rank;
       one_server = ap (λ (g : Config). g.servers) same ∙ before.inline.one_server;
-      told = retold now.world.config now.world.config now.world.ledger (rank_in now).transcript (take (i.answered + 1) (rank_in now).transcript) None
-          (begun_in now.world.config now.world.ledger (take (i.answered + 1) (rank_in now).transcript)) true_now.told refl (sym all_said) grown_begun;
-      whole = λ none. record { begun = grown_begun; left = true_now.left; finished = called ∙ sym (ap has_finished all_said); ended = ended };
+      told =
+          retold now.world.config now.world.config now.world.ledger (rank_in now).transcript
+          (take (i.answered + 1) (rank_in now).transcript) None
+          (begun_in now.world.config now.world.ledger (take (i.answered + 1) (rank_in now).transcript)) true_now.told refl (sym all_said)
+          grown_begun;
+      whole =
+          λ none. record { begun = grown_begun; left = true_now.left; finished = called ∙ sym (ap has_finished all_said); ended = ended };
       short = omega (arith, ap length all_said, true_now.short);
       late = λ stamp is. absurd (cc (is, goes_on));
     };
@@ -76,47 +88,63 @@ module _ (i : Inside) (now : Seen) (call : Call) (answer : Answer) (before : IsI
   }
 
 -- A call was answered.
-pub answered_inside : (i : Inside) (now : Seen) (call : Call) (answer : Answer) → IsInside i → i.world.trouble ≡ None → has_finished (run_of i).transcript ≡ false → IsAnswered (rank_in i.world).transcript call answer now → now.world.config ≡ i.world.world.config
+pub answered_inside : (i : Inside) (now : Seen) (call : Call) (answer : Answer) → IsInside i → i.world.trouble ≡ None
+    → has_finished (run_of i).transcript ≡ false → IsAnswered (rank_in i.world).transcript call answer now
+    → now.world.config ≡ i.world.world.config
     → IsInside (record i { world = now; answered = i.answered + 1 })
 answered_inside i now call answer before whole running done same =
     let going : i.finished ≡ false = (before.inline.whole whole).finished ∙ running in
     let rests = done.ready.rests in
-    grown_inside i now call answer before whole done.ready.two.whole done.true_now done.grown i.finished same (going ∙ sym rests.rank.unfinished) (not_ended (server_in now) rests.server.unhandled ∙ sym going) (λ none. done.ready)
+    grown_inside i now call answer before whole done.ready.two.whole done.true_now done.grown i.finished same
+    (going ∙ sym rests.rank.unfinished) (not_ended (server_in now) rests.server.unhandled ∙ sym going) (λ none. done.ready)
 
 -- The rank has finished.
-pub left_inside : (i : Inside) (now : Seen) → IsInside i → i.world.trouble ≡ None → IsFinished (rank_in i.world).transcript now → now.world.config ≡ i.world.world.config → IsInside (record i { world = now; answered = i.answered + 1; finished = true })
+pub left_inside : (i : Inside) (now : Seen) → IsInside i → i.world.trouble ≡ None → IsFinished (rank_in i.world).transcript now
+    → now.world.config ≡ i.world.world.config → IsInside (record i { world = now; answered = i.answered + 1; finished = true })
 left_inside i now before whole done same =
     let said : Said = record { call = calls_to.Finish; answer = answers.Fine } in
-    let all : has_finished (rank_in now).transcript ≡ true = ap has_finished done.grown ∙ finished_more (rank_in i.world).transcript said ∙ or_true (has_finished (rank_in i.world).transcript) in
-    grown_inside i now calls_to.Finish answers.Fine before whole done.whole done.true_now done.grown true same (sym all) done.heard (λ none. absurd (cc (all, none)))
+    let all : has_finished (rank_in now).transcript ≡ true =
+    ap has_finished done.grown ∙ finished_more (rank_in i.world).transcript said ∙ or_true (has_finished (rank_in i.world).transcript) in
+    grown_inside i now calls_to.Finish answers.Fine before whole done.whole done.true_now done.grown true same (sym all) done.heard
+    (λ none. absurd (cc (all, none)))
 
 -- A call failed.
 
 module _ (i : Inside) (now : Seen) (call : Call) (trouble : Trouble) (before : IsInside i) (whole : i.world.trouble ≡ None)
-    (failed : IsFailed i.world.world.config (rank_in i.world).transcript call trouble now) (is : now.trouble ≡ Some trouble) (same : now.world.config ≡ i.world.world.config) where
+    (failed : IsFailed i.world.world.config (rank_in i.world).transcript call trouble now) (is : now.trouble ≡ Some trouble)
+    (same : now.world.config ≡ i.world.world.config) where
   pub failed_transcript : take i.answered (rank_in now).transcript ≡ (run_of i).transcript
-  failed_transcript = ap (λ n. take n (rank_in now).transcript) (before.all whole) ∙ failed.kept ∙ sym (take_all i.answered (rank_in i.world).transcript (before.all whole))
+  failed_transcript =
+      ap (λ n. take n (rank_in now).transcript) (before.all whole) ∙ failed.kept
+      ∙ sym (take_all i.answered (rank_in i.world).transcript (before.all whole))
 
   was_said : (rank_in i.world).transcript ≡ take i.answered (rank_in now).transcript
   was_said = sym (take_all i.answered (rank_in i.world).transcript (before.all whole)) ∙ sym failed_transcript
 
   failed_begun : begun_in now.world.config now.world.ledger (take i.answered (rank_in now).transcript) ≡ failed.begun
   failed_begun = begun_is now.world.config now.world.ledger (take i.answered (rank_in now).transcript) failed.begun
-      (retold i.world.world.config now.world.config now.world.ledger (rank_in i.world).transcript (take i.answered (rank_in now).transcript) failed.begun failed.begun failed.told (sym same) was_said refl)
+      (retold i.world.world.config now.world.config now.world.ledger (rank_in i.world).transcript
+      (take i.answered (rank_in now).transcript) failed.begun failed.begun failed.told (sym same) was_said refl)
 
-  pub failed_began : Began i.world.trouble (run_of i).begun call now.trouble (begun_in now.world.config now.world.ledger (take i.answered (rank_in now).transcript))
+  pub failed_began : Began i.world.trouble (run_of i).begun call now.trouble
+      (begun_in now.world.config now.world.ledger (take i.answered (rank_in now).transcript))
   failed_began =
       let begun : Option Call = begun_in now.world.config now.world.ledger (take i.answered (rank_in now).transcript) in
-      let began : (begun ≡ None) ⊎ (begun ≡ Some call) = elim failed.began [ inl none ↦ inl (failed_begun ∙ none) | inr some ↦ inr (failed_begun ∙ some) ] in
-      subst (λ (o : Option Trouble). Began o (run_of i).begun call now.trouble begun) (sym whole) (subst (λ (o : Option Trouble). Began None (run_of i).begun call o begun) (sym is) began)
+      let began : (begun ≡ None) ⊎ (begun ≡ Some call) =
+      elim failed.began [ inl none ↦ inl (failed_begun ∙ none) | inr some ↦ inr (failed_begun ∙ some) ] in
+      subst (λ (o : Option Trouble). Began o (run_of i).begun call now.trouble begun) (sym whole)
+      (subst (λ (o : Option Trouble). Began None (run_of i).begun call o begun) (sym is) began)
 
   pub failed_inside : (finished : Bool) → IsInside (record i { world = now; finished = finished })
   failed_inside finished = record {
     inline = record {
       one_rank = ap (λ (g : Config). g.ranks) same ∙ before.inline.one_rank;
       one_server = ap (λ (g : Config). g.servers) same ∙ before.inline.one_server;
-      told = retold i.world.world.config now.world.config now.world.ledger (rank_in i.world).transcript (take i.answered (rank_in now).transcript) failed.begun
-          (begun_in now.world.config now.world.ledger (take i.answered (rank_in now).transcript)) failed.told (sym same) was_said failed_begun;
+      told =
+          retold i.world.world.config now.world.config now.world.ledger (rank_in i.world).transcript
+          (take i.answered (rank_in now).transcript) failed.begun
+          (begun_in now.world.config now.world.ledger (take i.answered (rank_in now).transcript)) failed.told (sym same) was_said
+          failed_begun;
       whole = λ none. absurd (cc (is, none));
       short = omega (arith, ap length failed_transcript, before.inline.short);
       late = λ stamp late. let h = failed.late stamp (inner trouble stamp (sym is ∙ late)) in (h.0, omega (arith, h.1, ap length was_said));

@@ -1,5 +1,6 @@
 -- The units that are left.
-use Rattle.std.proofs.Common.{◌≡◌, ◌≢◌, Bool, true, false, cond, ◌==◌, ◌||◌, List, [], ◌∷◌, map, find, Option, None, Some, All, refl, sym, ap, ◌∙◌, arith}
+use Rattle.std.proofs.Common.{◌≡◌, ◌≢◌, Bool, true, false, cond, ◌==◌, ◌||◌, List, [], ◌∷◌, map, find, Option, None, Some, All, refl, sym}
+use Rattle.std.proofs.Common.{ap, ◌∙◌, arith}
 use Rattle.std.specs.Prelude.{option_and_then}
 use Rattle.std.specs.List.{AllPairs, list_all}
 use Rattle.std.specs.Option.{option_map}
@@ -41,7 +42,9 @@ pub nothing_left : (last : Bag) (left : List LeftUnit) → All (λ u. u.place �
 nothing_left last [] spent is = refl
 nothing_left last (l ∷ left) spent is =
     let P : Lodged → Type 0 = λ u. u.place ≡ Spent in
-    let none : option_and_then left_of (unit_of last l.id) ≡ None = spent_none (unit_of last l.id) (λ u found. All-contains P last.units u spent (find_is (λ v. same_unit v.unit.id l.id) last.units u found).1) in
+    let none : option_and_then left_of (unit_of last l.id) ≡ None =
+    spent_none (unit_of last l.id)
+    (λ u found. All-contains P last.units u spent (find_is (λ v. same_unit v.unit.id l.id) last.units u found).1) in
     let both : Some l ≡ None = sym (found_first l left) ∙ is.each l.id ∙ none in
     absurd (cc)
 
@@ -50,33 +53,46 @@ nothing_left last (l ∷ left) spent is =
 slot_left : (me : Server) (u : Lodged) → stays me u ≡ true → option_map (left_unit me) (slot_of me u) ≡ left_of u
 slot_left me u stays_here = by_place u.place stays_here
   where
-    by_place : (place : UnitPlace) → stays me (record { unit = u.unit; place = place }) ≡ true → option_map (left_unit me) (slot_of me (record { unit = u.unit; place = place })) ≡ left_at u.unit.id place
+    by_place : (place : UnitPlace) → stays me (record { unit = u.unit; place = place }) ≡ true
+        → option_map (left_unit me) (slot_of me (record { unit = u.unit; place = place })) ≡ left_at u.unit.id place
     by_place (Free at) here = by_test (at.0 == me.0) refl here
       where
-        by_test : (t : Bool) → (at.0 == me.0) ≡ t → (t || false) ≡ true → option_map (left_unit me) (option_map (λ (pin : Option Rank). record { unit = u.unit; pin = pin }) (cond t (Some None) None)) ≡ left_at u.unit.id (Free at)
+        by_test : (t : Bool) → (at.0 == me.0) ≡ t → (t || false) ≡ true
+            → option_map (left_unit me)
+            (option_map (λ (pin : Option Rank). record { unit = u.unit; pin = pin }) (cond t (Some None) None)) ≡ left_at u.unit.id
+            (Free at)
         by_test true same is = let one : at ≡ me = same_server_is at me same in rw one refl
         by_test false same is = absurd (cc)
     by_place (Pinned at rank) here = by_test (at.0 == me.0) refl here
       where
-        by_test : (t : Bool) → (at.0 == me.0) ≡ t → (t || false) ≡ true → option_map (left_unit me) (option_map (λ (pin : Option Rank). record { unit = u.unit; pin = pin }) (cond t (Some (Some rank)) None)) ≡ left_at u.unit.id (Pinned at rank)
+        by_test : (t : Bool) → (at.0 == me.0) ≡ t → (t || false) ≡ true
+            → option_map (left_unit me)
+            (option_map (λ (pin : Option Rank). record { unit = u.unit; pin = pin }) (cond t (Some (Some rank)) None)) ≡ left_at u.unit.id
+            (Pinned at rank)
         by_test true same is = let one : at ≡ me = same_server_is at me same in rw one refl
         by_test false same is = absurd (cc)
     by_place (Travelling to) here = absurd (cc)
     by_place Spent here = refl
 
-pub found_passes : (test which : Lodged → Bool) (units : List Lodged) (u : Lodged) → list_all test units ≡ true → find which units ≡ Some u → test u ≡ true
+pub found_passes : (test which : Lodged → Bool) (units : List Lodged) (u : Lodged) → list_all test units ≡ true
+    → find which units ≡ Some u → test u ≡ true
 found_passes test which [] u all found = absurd (cc)
-found_passes test which (v ∷ units) u all found = by_test (and_parts (test v) (list_all test units) all) (λ rest later. found_passes test which units u rest later) (which v) found
+found_passes test which (v ∷ units) u all found =
+    by_test (and_parts (test v) (list_all test units) all) (λ rest later. found_passes test which units u rest later) (which v) found
   where
-    by_test : (test v ≡ true) × (list_all test units ≡ true) → (list_all test units ≡ true → find which units ≡ Some u → test u ≡ true) → (t : Bool) → cond t (Some v) (find which units) ≡ Some u → test u ≡ true
+    by_test : (test v ≡ true) × (list_all test units ≡ true) → (list_all test units ≡ true → find which units ≡ Some u → test u ≡ true)
+        → (t : Bool) → cond t (Some v) (find which units) ≡ Some u → test u ≡ true
     by_test all later true here = let is : v ≡ u = some_is here in ap test (sym is) ∙ all.0
     by_test all later false there = later all.1 there
 
-find_left : (me : Server) (id : UnitId) (units : List Placed) → left_with id (map (left_unit me) units) ≡ option_map (left_unit me) (unit_with id units)
+find_left : (me : Server) (id : UnitId) (units : List Placed)
+    → left_with id (map (left_unit me) units) ≡ option_map (left_unit me) (unit_with id units)
 find_left me id [] = refl
 find_left me id (p ∷ units) = by_test (same_unit (id_of p) id) refl (find_left me id units)
   where
-    by_test : (t : Bool) → same_unit (id_of p) id ≡ t → left_with id (map (left_unit me) units) ≡ option_map (left_unit me) (unit_with id units) → left_with id (map (left_unit me) (p ∷ units)) ≡ option_map (left_unit me) (unit_with id (p ∷ units))
+    by_test : (t : Bool) → same_unit (id_of p) id ≡ t
+        → left_with id (map (left_unit me) units) ≡ option_map (left_unit me) (unit_with id units)
+        → left_with id (map (left_unit me) (p ∷ units)) ≡ option_map (left_unit me) (unit_with id (p ∷ units))
     by_test true is rest = rw is refl
     by_test false is rest = rw is rest
 
@@ -86,14 +102,18 @@ distinct_left me (p ∷ units) distinct i j d before inside =
     let long = length-map (p ∷ units) (left_unit me) in
     let first = get_or-map (left_unit me) (p ∷ units) i p d (omega (arith, long, inside, before)) in
     let second = get_or-map (left_unit me) (p ∷ units) j p d (omega (arith, long, inside)) in
-    λ same. distinct i j p before (omega (arith, long, inside)) (sym (ap (λ (l : LeftUnit). l.id) first) ∙ same ∙ ap (λ (l : LeftUnit). l.id) second)
+    λ same. distinct i j p before (omega (arith, long, inside))
+    (sym (ap (λ (l : LeftUnit). l.id) first) ∙ same ∙ ap (λ (l : LeftUnit). l.id) second)
 
 pub left_is : (b : Bag) (s : ServerModel) → ServerAgrees b s → IsAlone b s → IsLeft b (left_list s)
 left_is b s agrees alone = record {
-  each = λ id. find_left s.me id s.queue.units ∙ ap (option_map (left_unit s.me)) (agrees.units.each id) ∙ by_found id (find (of_id id) b.units) refl;
+  each =
+      λ id. find_left s.me id s.queue.units ∙ ap (option_map (left_unit s.me)) (agrees.units.each id)
+      ∙ by_found id (find (of_id id) b.units) refl;
   distinct = distinct_left s.me s.queue.units agrees.units.distinct;
 }
   where
-    by_found : (id : UnitId) (o : Option Lodged) → find (of_id id) b.units ≡ o → option_map (left_unit s.me) (option_and_then (slot_of s.me) o) ≡ option_and_then left_of o
+    by_found : (id : UnitId) (o : Option Lodged) → find (of_id id) b.units ≡ o
+        → option_map (left_unit s.me) (option_and_then (slot_of s.me) o) ≡ option_and_then left_of o
     by_found id None found = refl
     by_found id (Some u) found = slot_left s.me u (found_passes (stays s.me) (of_id id) b.units u alone.here found)

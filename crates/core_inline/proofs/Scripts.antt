@@ -12,23 +12,31 @@ use Rattle.rank_client.specs.declared.faults.EndFault.{EndFault}
 use Rattle.rank_client.proofs.Transcripts.{fetched_more, finished_more, granted_last}
 
 -- a call other than Finish
-pub still_running : (said now : List Said) (call : Call) (answer : Option Answer) → now ≡ plus said call answer → has_finished said ≡ false → is_finish call ≡ false → has_finished now ≡ false
+pub still_running : (said now : List Said) (call : Call) (answer : Option Answer) → now ≡ plus said call answer
+    → has_finished said ≡ false → is_finish call ≡ false → has_finished now ≡ false
 still_running said now call None is running other = ap has_finished is ∙ running
 still_running said now call (Some answer) is running other =
-    ap has_finished is ∙ finished_more said (record { call = call; answer = answer }) ∙ or_from (has_finished said) (is_finish call) running other
+    ap has_finished is ∙ finished_more said (record { call = call; answer = answer })
+    ∙ or_from (has_finished said) (is_finish call) running other
 
 -- the unit that was granted last
-pub last_granted : (said now : List Said) (call : Call) (note : UnitNote) → now ≡ plus said call (Some (answers.Granted note)) → granted note now
+pub last_granted : (said now : List Said) (call : Call) (note : UnitNote) → now ≡ plus said call (Some (answers.Granted note))
+    → granted note now
 last_granted said now call note is = subst (λ (l : List Said). granted note l) (sym is) (granted_last said call note)
 
-pub last_unfetched : (said now : List Said) (call : Call) (note : UnitNote) → now ≡ plus said call (Some (answers.Granted note)) → is_fetched note.id said ≡ false → fetches note.id call ≡ false → is_fetched note.id now ≡ false
+pub last_unfetched : (said now : List Said) (call : Call) (note : UnitNote) → now ≡ plus said call (Some (answers.Granted note))
+    → is_fetched note.id said ≡ false → fetches note.id call ≡ false → is_fetched note.id now ≡ false
 last_unfetched said now call note is before other =
-    ap (is_fetched note.id) is ∙ fetched_more note.id said (record { call = call; answer = answers.Granted note }) ∙ or_from (is_fetched note.id said) (fetches note.id call) before other
+    ap (is_fetched note.id) is ∙ fetched_more note.id said (record { call = call; answer = answers.Granted note })
+    ∙ or_from (is_fetched note.id said) (fetches note.id call) before other
 
-pub granted_result : (said now : List Said) (call : Call) (r : Result UnitNote EndFault) → now ≡ plus said call (end_answer r) → IfOk r (λ note. granted note now)
+pub granted_result : (said now : List Said) (call : Call) (r : Result UnitNote EndFault) → now ≡ plus said call (end_answer r)
+    → IfOk r (λ note. granted note now)
 granted_result said now call (Ok note) is = last_granted said now call note is
 granted_result said now call (Err fault) is = tt
 
-pub unfetched_result : (said now : List Said) (call : Call) (r : Result UnitNote EndFault) → now ≡ plus said call (end_answer r) → ((id : UnitId) → fetches id call ≡ false) → IfOk r (λ note. is_fetched note.id said ≡ false) → IfOk r (λ note. is_fetched note.id now ≡ false)
+pub unfetched_result : (said now : List Said) (call : Call) (r : Result UnitNote EndFault) → now ≡ plus said call (end_answer r)
+    → ((id : UnitId) → fetches id call ≡ false) → IfOk r (λ note. is_fetched note.id said ≡ false)
+    → IfOk r (λ note. is_fetched note.id now ≡ false)
 unfetched_result said now call (Ok note) is other before = last_unfetched said now call note is before (other note.id)
 unfetched_result said now call (Err fault) is other before = tt

@@ -1,5 +1,6 @@
 -- A run at the start, and at the end.
-use Rattle.std.proofs.Common.{◌≡◌, ℕ, ◌+◌, ◌≤◌, ◌^◌, true, false, List, [], ◌∷◌, ◌++◌, length, Option, None, Some, is_some, refl, sym, ap, ◌∙◌, subst, arith, append-nil}
+use Rattle.std.proofs.Common.{◌≡◌, ℕ, ◌+◌, ◌≤◌, ◌^◌, true, false, List, [], ◌∷◌, ◌++◌, length, Option, None, Some, is_some, refl, sym, ap}
+use Rattle.std.proofs.Common.{◌∙◌, subst, arith, append-nil}
 use Rattle.std.specs.Prelude.{map, replicate}
 use Rattle.std.specs.List.{range_with_len}
 use Rattle.adlb_unit.specs.declared.configs.Config.{Config}
@@ -22,10 +23,10 @@ use Rattle.core_world.specs.Seen.{Seen, new_world}
 use Rattle.core_inline.specs.Inline.{IsEnd, IsInline, IsOpen, IsStart, IsTold, Run, zeroth}
 use Rattle.core_inline.specs.inside.Begun.{begun_in}
 use Rattle.core_inline.specs.inside.Fields.{IsInside, run_of}
+use Rattle.core_inline.specs.inside.Laws.{AreLaws}
 use Rattle.core_inline.specs.inside.Pairs.{AreHeld, IsIdle, IsPair, IsTrue, first_server, is_ended, pair, rank_in, server_in}
 use Rattle.core_inline.proofs.Begun.{begun_is, retold}
 use Rattle.core_inline.proofs.Exchanging.{true_after}
-use Rattle.core_inline.proofs.Told.{AreLaws}
 
 -- these numbers are within their limits
 pub accepts : (limit : ℕ) (fault : ConfigFault) → 64 ≤ limit → limit ≤ 2 ^ 30 → Refuses 1 1 limit fault → ⊥
@@ -33,15 +34,25 @@ accepts limit (Ranks given) least most refused = refused.0 (omega arith, omega a
 accepts limit (Servers given) least most refused = refused.1 (omega arith, omega arith)
 accepts limit (Limit given) least most refused = refused.2 (least, most)
 
-module _ (laws : AreLaws) (config : Config) (one_rank : config.ranks ≡ 1) (one_server : config.servers ≡ 1) (now : Seen) (is : now ≡ new_world config) where
+module _ (laws : AreLaws) (config : Config) (one_rank : config.ranks ≡ 1) (one_server : config.servers ≡ 1) (now : Seen)
+    (is : now ≡ new_world config) where
   -- the world at the start
   start_world : start config ≡ pair config (client.start config zeroth) (host.start config first_server) [] [] []
   start_world =
       let two : config.ranks + config.servers ≡ 2 = omega (arith, one_rank, one_server) in
       let w : World = start config in
       ap (λ n. record w { ranks = map (λ k. client.start config (rank_named k)) (range_with_len 0 n) }) one_rank
-      ∙ ap (λ n. record w { ranks = client.start config zeroth ∷ []; servers = map (λ k. host.start config (server_named k)) (range_with_len 0 n) }) one_server
-      ∙ ap (λ n. record w { ranks = client.start config zeroth ∷ []; servers = host.start config first_server ∷ []; links = replicate n (replicate n []) }) two
+      ∙ ap (λ n. record w {
+        ranks = client.start config zeroth ∷ [];
+        servers = map (λ k. host.start config (server_named k))
+            (range_with_len 0 n);
+      }) one_server
+      ∙ ap (λ n. record w {
+        ranks = client.start config zeroth ∷ [];
+        servers = host.start config first_server ∷ [];
+        links = replicate n
+            (replicate n []);
+      }) two
 
   world_is : now.world ≡ pair config (client.start config zeroth) (host.start config first_server) [] [] []
   world_is = ap (λ (v : Seen). v.world) is ∙ start_world
@@ -74,7 +85,14 @@ module _ (laws : AreLaws) (config : Config) (one_rank : config.ranks ≡ 1) (one
   rests =
       let idle : IsIdle (client.start config zeroth) (host.start config first_server) = record {
         idle = refl;
-        rank = record { going = refl; unfinished = none_finished; told = none_told; first = grants_come_first.at_start config zeroth; held = none_held };
+        rank =
+            record {
+              going = refl;
+              unfinished = none_finished;
+              told = none_told;
+              first = grants_come_first.at_start config zeroth;
+              held = none_held;
+            };
         server = record { runs = ap (λ n. replicate n Running) one_rank; unhandled = ap (λ n. replicate n false) one_rank };
         behind = omega arith;
         counted = omega arith;
@@ -83,7 +101,9 @@ module _ (laws : AreLaws) (config : Config) (one_rank : config.ranks ≡ 1) (one
       rw (rank_is, server_is) idle
 
   true_now : IsTrue now
-  true_now = true_after laws now two.reached two.one_rank two.one_server rests.idle (rw (ap (λ (k : ClientModel). length k.transcript) rank_is) (omega arith))
+  true_now =
+      true_after laws now two.reached two.one_rank two.one_server rests.idle
+      (rw (ap (λ (k : ClientModel). length k.transcript) rank_is) (omega arith))
 
   none_said : (rank_in now).transcript ≡ []
   none_said = ap (λ (k : ClientModel). k.transcript) rank_is
@@ -99,7 +119,9 @@ module _ (laws : AreLaws) (config : Config) (one_rank : config.ranks ≡ 1) (one
     inline = record {
       one_rank = two.one_rank;
       one_server = two.one_server;
-      told = retold now.world.config now.world.config now.world.ledger (rank_in now).transcript [] None (begun_in now.world.config now.world.ledger []) true_now.told refl none_said start_begun;
+      told =
+          retold now.world.config now.world.config now.world.ledger (rank_in now).transcript [] None
+          (begun_in now.world.config now.world.ledger []) true_now.told refl none_said start_begun;
       whole = λ none. record { begun = start_begun; left = true_now.left; finished = sym none_finished; ended = ap is_ended server_is };
       short = omega arith;
       late = λ stamp late. absurd (cc (late, two.whole));
@@ -134,7 +156,9 @@ none_open pending (s ∷ t ∷ more) is = absurd is
 pub end_is : (run : Run) → IsInline run → run.failed ≡ None → IsEnd run run.ledger run.transcript run.left
 end_is run inline none =
     let whole = inline.whole none in
-    let more : inline.told.more ≡ [] = none_open (call_of inline.told.rank.status) inline.told.more (subst (λ o. IsOpen (call_of inline.told.rank.status) inline.told.more o) whole.begun inline.told.open_call) in
+    let more : inline.told.more ≡ [] =
+    none_open (call_of inline.told.rank.status) inline.told.more
+    (subst (λ o. IsOpen (call_of inline.told.rank.status) inline.told.more o) whole.begun inline.told.open_call) in
     record {
       last = inline.told.last;
       legal = inline.told.legal;

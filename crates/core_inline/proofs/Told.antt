@@ -1,6 +1,6 @@
 -- What the law of runs tells of a world of one rank and one server.
-use Rattle.std.proofs.Common.{◌≡◌, ◌⊎◌, inl, inr, Bool, true, false, List, [], ◌∷◌, ◌++◌, Option, None, Some, refl, sym, ap, ◌∙◌, arith, append-nil}
-use Rattle.adlb_unit.specs.declared.configs.Config.{Config}
+use Rattle.std.proofs.Common.{◌≡◌, ◌⊎◌, inl, inr, Bool, true, false, List, [], ◌∷◌, ◌++◌, Option, None, Some, refl, sym, ap, ◌∙◌, arith}
+use Rattle.std.proofs.Common.{append-nil}
 use Rattle.adlb_unit.specs.declared.messages.Message.{Message}
 use Rattle.adlb_unit.specs.declared.messages.Message.TheVariants as tells
 use Rattle.bag_ledger.specs.declared.entries.Call.{Call}
@@ -12,26 +12,21 @@ use Rattle.rank_client.specs.declared.pendings.Pending.TheVariants as waits_for
 use Rattle.rank_client.specs.Agreement.{in_call, rank_of, said as said_with}
 use Rattle.rank_client.specs.State.{ClientModel}
 use Rattle.server_core.specs.Left.{left_of}
-use Rattle.core_law.specs.Own.{AreOwn, IsClient, IsPool}
+use Rattle.core_law.specs.Own.{IsClient, IsPool}
 use Rattle.core_law.specs.Seats.{HasSeat, IsSeated}
-use Rattle.core_run.specs.declared.events.Event.{Event}
-use Rattle.core_run.specs.Runs.{NoneIsStuck, Runs}
-use Rattle.core_run.specs.World.{World, client_of, pool_of, start}
+use Rattle.core_run.specs.Runs.{NoneIsStuck}
+use Rattle.core_run.specs.World.{World, client_of, pool_of}
 use Rattle.core_inline.specs.Inline.{IsOpen, IsTold, zeroth}
 use Rattle.core_inline.specs.Left.{IsLeft}
+use Rattle.core_inline.specs.inside.Laws.{AreLaws}
 use Rattle.core_inline.specs.inside.Pairs.{IsReached, first_server}
 use Rattle.core_inline.proofs.Clients.{pending_call}
 use Rattle.core_inline.proofs.Lefts.{left_is}
 use Rattle.core_inline.proofs.Opened.{IsToldOf}
 
--- of the laws of every run, those that are used here
-pub record AreLaws : Type 0 where
-  pub seated : (config : Config) (events : List Event) (w : World) → config.ranks ≡ 1 → Runs (start config) events w → (b : Bag) × IsSeated w b
-  pub expected : (config : Config) (events : List Event) (w : World) → config.ranks ≡ 1 → Runs (start config) events w → NoneIsStuck w
-  pub own : (config : Config) (events : List Event) (w : World) → Runs (start config) events w → AreOwn w
-
 -- no call is pending in the bag of a rank whose client waits for nothing
-rests : (c : ClientModel) (coming : Option Message) (finished : Bool) → c.pending ≡ waits_for.Nothing → call_of (rank_of c finished coming).status ≡ None
+rests : (c : ClientModel) (coming : Option Message) (finished : Bool) → c.pending ≡ waits_for.Nothing
+    → call_of (rank_of c finished coming).status ≡ None
 rests c coming true idle = refl
 rests c coming false idle = ap (λ p. call_of (in_call c p coming).status) idle
 
@@ -47,23 +42,34 @@ record IsBeyond (c : ClientModel) (p : Pending) (coming : Option Message) (call 
   open_call : IsOpen (call_of (in_call c p coming).status) more begun
   of_it : (begun ≡ None) ⊎ (begun ≡ Some call)
 
-still : (c : ClientModel) (p : Pending) (coming : Option Message) (call : Call) → said_with c p coming ≡ c.transcript → call_of (in_call c p coming).status ≡ Some call → IsBeyond c p coming call
-still c p coming call same is = record { more = []; begun = Some call; says = same ∙ sym (append-nil c.transcript); open_call = sym is; of_it = inr refl }
+still : (c : ClientModel) (p : Pending) (coming : Option Message) (call : Call) → said_with c p coming ≡ c.transcript
+    → call_of (in_call c p coming).status ≡ Some call → IsBeyond c p coming call
+still c p coming call same is =
+    record { more = []; begun = Some call; says = same ∙ sym (append-nil c.transcript); open_call = sym is; of_it = inr refl }
 
 beyond : (c : ClientModel) (p : Pending) (coming : Option Message) (call : Call) → pending_call p ≡ Some call → IsBeyond c p coming call
 beyond c waits_for.Nothing coming call is = absurd (cc)
 beyond c (waits_for.Put unit first tried) None call is = still c (waits_for.Put unit first tried) None call refl is
-beyond c (waits_for.Put unit first tried) (Some (tells.Full to charge)) call is = still c (waits_for.Put unit first tried) (Some (tells.Full to charge)) call refl is
-beyond c (waits_for.Put unit first tried) (Some (tells.Accepted to)) call is = record { more = _ ∷ []; begun = _; says = refl; open_call = (refl, refl); of_it = inr is }
-beyond c (waits_for.Put unit first tried) (Some (tells.Ended to end)) call is = record { more = _ ∷ []; begun = _; says = refl; open_call = (refl, refl); of_it = inr is }
-beyond c (waits_for.Put unit first tried) (Some _) call is = record { more = []; begun = None; says = sym (append-nil c.transcript); open_call = refl; of_it = inl refl }
+beyond c (waits_for.Put unit first tried) (Some (tells.Full to charge)) call is =
+    still c (waits_for.Put unit first tried) (Some (tells.Full to charge)) call refl is
+beyond c (waits_for.Put unit first tried) (Some (tells.Accepted to)) call is =
+    record { more = _ ∷ []; begun = _; says = refl; open_call = (refl, refl); of_it = inr is }
+beyond c (waits_for.Put unit first tried) (Some (tells.Ended to end)) call is =
+    record { more = _ ∷ []; begun = _; says = refl; open_call = (refl, refl); of_it = inr is }
+beyond c (waits_for.Put unit first tried) (Some _) call is =
+    record { more = []; begun = None; says = sym (append-nil c.transcript); open_call = refl; of_it = inl refl }
 beyond c (waits_for.Reserve request types) None call is = still c (waits_for.Reserve request types) None call refl is
-beyond c (waits_for.Reserve request types) (Some (tells.Grant to note)) call is = record { more = _ ∷ []; begun = _; says = refl; open_call = (refl, refl); of_it = inr is }
-beyond c (waits_for.Reserve request types) (Some (tells.Ended to end)) call is = record { more = _ ∷ []; begun = _; says = refl; open_call = (refl, refl); of_it = inr is }
-beyond c (waits_for.Reserve request types) (Some _) call is = record { more = []; begun = None; says = sym (append-nil c.transcript); open_call = refl; of_it = inl refl }
+beyond c (waits_for.Reserve request types) (Some (tells.Grant to note)) call is =
+    record { more = _ ∷ []; begun = _; says = refl; open_call = (refl, refl); of_it = inr is }
+beyond c (waits_for.Reserve request types) (Some (tells.Ended to end)) call is =
+    record { more = _ ∷ []; begun = _; says = refl; open_call = (refl, refl); of_it = inr is }
+beyond c (waits_for.Reserve request types) (Some _) call is =
+    record { more = []; begun = None; says = sym (append-nil c.transcript); open_call = refl; of_it = inl refl }
 beyond c (waits_for.Fetch request note) None call is = still c (waits_for.Fetch request note) None call refl is
-beyond c (waits_for.Fetch request note) (Some (tells.Bytes to body)) call is = record { more = _ ∷ []; begun = _; says = refl; open_call = (refl, refl); of_it = inr is }
-beyond c (waits_for.Fetch request note) (Some _) call is = record { more = []; begun = None; says = sym (append-nil c.transcript); open_call = refl; of_it = inl refl }
+beyond c (waits_for.Fetch request note) (Some (tells.Bytes to body)) call is =
+    record { more = _ ∷ []; begun = _; says = refl; open_call = (refl, refl); of_it = inr is }
+beyond c (waits_for.Fetch request note) (Some _) call is =
+    record { more = []; begun = None; says = sym (append-nil c.transcript); open_call = refl; of_it = inl refl }
 
 module _ (laws : AreLaws) (w : World) (reached : IsReached w) (one_rank : w.config.ranks ≡ 1) (one_server : w.config.servers ≡ 1) where
   abbrev c : ClientModel
@@ -88,7 +94,8 @@ module _ (laws : AreLaws) (w : World) (reached : IsReached w) (one_rank : w.conf
   there = ap (rank_at bag.0) (sym own_rank.me) ∙ seat.stands.rank
 
   -- no call is pending
-  pub true_idle : c.pending ≡ waits_for.Nothing → (told : IsTold w.config w.ledger c.transcript None) × IsLeft told.last (left_of (pool_of w first_server))
+  pub true_idle : c.pending ≡ waits_for.Nothing
+      → (told : IsTold w.config w.ledger c.transcript None) × IsLeft told.last (left_of (pool_of w first_server))
   true_idle idle = (
     record {
       last = bag.0;
@@ -106,7 +113,8 @@ module _ (laws : AreLaws) (w : World) (reached : IsReached w) (one_rank : w.conf
   told_idle call idle = (None, (true_idle idle).0, inl refl)
 
   -- the last call is answered
-  pub told_answered : (said : List Said) (s : Said) → c.pending ≡ waits_for.Nothing → c.transcript ≡ said ++ s ∷ [] → IsToldOf w.config said s.call w.ledger
+  pub told_answered : (said : List Said) (s : Said) → c.pending ≡ waits_for.Nothing → c.transcript ≡ said ++ s ∷ []
+      → IsToldOf w.config said s.call w.ledger
   told_answered said s idle grown = (
     Some s.call,
     record {

@@ -6,9 +6,9 @@ ghost use Rattle.core_inline.specs.inside.Answers.{CanCall};
 ghost use Rattle.core_inline.specs.inside.Pairs.{IsAnswered, IsFailed, IsFinished, IsReady, rank_in};
 ghost use Rattle.rank_client.specs.Calls.{is_finish};
 
+use crate::laws::run_laws;
 use adlb_unit::{Actor, Rank, Server, Trouble};
 use bag_ledger::{Answer, Call};
-use core_law::{core_run_laws, letter_laws};
 use core_run::Event;
 use core_world::World;
 
@@ -22,8 +22,7 @@ pub(crate) fn exchange(world: &mut World, call: Call) -> Result<Answer, Trouble>
     ensures trouble { IfErr result (λ t. world.new.trouble ≡ Some t) }
     ensures config { world.new.world.config ≡ world.old.world.config }
 {
-    core_run_laws();
-    letter_laws();
+    run_laws();
     match world.carry_out(Event::Call(Rank(0), call))? {
         Some(answer) => Ok(answer),
         None => {
@@ -44,8 +43,7 @@ pub(crate) fn finish(world: &mut World) -> Result<(), Trouble>
     ensures trouble { IfErr result (λ t. world.new.trouble ≡ Some t) }
     ensures config { world.new.world.config ≡ world.old.world.config }
 {
-    core_run_laws();
-    letter_laws();
+    run_laws();
     world.carry_out(Event::Call(Rank(0), Call::Finish))?;
     world.carry_out(Event::Deliver(Actor::Rank(Rank(0)), Actor::Server(Server(0))))?;
     Ok(())

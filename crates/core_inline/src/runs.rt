@@ -7,10 +7,10 @@ ghost use Rattle.rank_client.specs.Calls.{Began, Repeats, TellsAgain, end_told, 
 ghost use Rattle.core_inline.specs.inside.Answers.{CanCall, IsAnswer, answered, answers_call, heeds_end, troubled};
 ghost use Rattle.core_inline.specs.Inline.{IsEnd, IsInline, IsStart, finish_answer};
 
+use crate::laws::run_laws;
 use crate::pairs::{exchange, finish};
 use adlb_unit::{Config, NoMemory, Rank, Server, Trouble};
 use bag_ledger::{Answer, Call, Ledger, Said};
-use core_law::{core_run_laws, letter_laws};
 use core_world::World;
 use server_core::LeftUnit;
 use std::alloc::Global;
@@ -44,8 +44,7 @@ impl InlineRun {
         ensures start { IfOk result (λ run. IsStart limit run) }
         ensures holds { IfOk result IsInline }
     {
-        core_run_laws();
-        letter_laws();
+        run_laws();
         let Ok(config) = Config::new(1, 1, limit) else {
             unreachable!()
         };

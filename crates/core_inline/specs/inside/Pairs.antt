@@ -1,5 +1,6 @@
 -- A world of one rank and one server between two calls, and what a call leaves of it.
-use Rattle.std.specs.Prelude.{ℕ, ◌+◌, ◌*◌, ◌≡◌, ◌⊎◌, ◌<◌, ◌≤◌, Bool, true, false, ◌&&◌, slice_index_or, List, [], ◌∷◌, ◌++◌, find, length, take, Option, None, Some}
+use Rattle.std.specs.Prelude.{ℕ, ◌+◌, ◌*◌, ◌≡◌, ◌⊎◌, ◌<◌, ◌≤◌, Bool, true, false, ◌&&◌, slice_index_or, List, [], ◌∷◌, ◌++◌, find, length}
+use Rattle.std.specs.Prelude.{take, Option, None, Some}
 use Rattle.adlb_unit.specs.Ids.{same_unit}
 use Rattle.adlb_unit.specs.Limits.{stamp_limit}
 use Rattle.adlb_unit.specs.declared.configs.Config.{Config}

@@ -3,10 +3,14 @@ use Rattle.core_inline.proofs.Scripts.{granted_result, still_running, unfetched_
 use Rattle.core_inline.proofs.tests.reserve.Goals as goal
 
 pub returns-clause-running : goal.returns-clause-running
-returns-clause-running c = still_running c.args.world.now.run.transcript c.reserve.new.self.run.transcript _ _ c.reserve.ensures.says c.requires refl
+returns-clause-running c =
+    still_running c.args.world.now.run.transcript c.reserve.new.self.run.transcript _ _ c.reserve.ensures.says c.requires refl
 
 pub returns-clause-granted : goal.returns-clause-granted
-returns-clause-granted c = granted_result c.args.world.now.run.transcript c.reserve.new.self.run.transcript _ c.reserve.result c.reserve.ensures.says
+returns-clause-granted c =
+    granted_result c.args.world.now.run.transcript c.reserve.new.self.run.transcript _ c.reserve.result c.reserve.ensures.says
 
 pub returns-clause-once : goal.returns-clause-once
-returns-clause-once c = unfetched_result c.args.world.now.run.transcript c.reserve.new.self.run.transcript _ c.reserve.result c.reserve.ensures.says (λ id. refl) c.reserve.ensures.unfetched
+returns-clause-once c =
+    unfetched_result c.args.world.now.run.transcript c.reserve.new.self.run.transcript _ c.reserve.result c.reserve.ensures.says
+    (λ id. refl) c.reserve.ensures.unfetched
