@@ -3,16 +3,15 @@
 ghost use Rattle.std.specs.Prelude.{◌≡◌, ◌<◌, ◌≤◌, ◌-◌, ◌==◌, ℕ, List, length, false};
 ghost use Rattle.std.specs.Prelude.{OnOk, OnErr, IfOk, IsPermutation, IsSorted};
 ghost use Rattle.std.specs.Cmp.Lexicographic.{slice_cmp};
-ghost use Rattle.std.specs.Int.{bit_at};
 ghost use Rattle.std.specs.Ordering.{nat_cmp};
-ghost use Rattle.sudoku_law.specs.Grid.{IsGrid};
+ghost use Rattle.sudoku_law.specs.Grid.{IsBlank, IsGrid, used};
 ghost use Rattle.sudoku_law.specs.Solutions.{IsSolutionList};
 ghost use Rattle.sudoku_law.specs.Tree.{both, hands_out, is_over, solutions as solutions_of, tree, walk};
-ghost use Rattle.sudoku_rules.specs.Look.{AreOptions};
+ghost use Rattle.sudoku_rules.specs.Inside.Marked.{IsCarried};
 ghost use Rattle.sudoku_rules.specs.Expansion.{at_digit, handed_out, met_of, solved};
 
 use crate::grid::Grid;
-use crate::look::{Choice, Look};
+use crate::marked::{Marked, take_lowest};
 use adlb_unit::{NoMemory, or_no_memory};
 use std::alloc::Global;
 
@@ -38,7 +37,10 @@ pub fn expand(alloc: Global, budget: u64, grid: &Grid, grain: u64) -> Result<Exp
         children: Vec::new(alloc),
         over: false,
     };
-    work(budget, grid, grain, &mut found)?;
+    let Some(mut marked) = grid.marked() else {
+        return Ok(found);
+    };
+    work(budget, &mut marked, grain, &mut found)?;
     Ok(found)
 }
 
@@ -59,16 +61,16 @@ pub fn in_text_order(solutions: &mut Vec<Grid>) -> Result<(), NoMemory>
     }
 }
 
-// Works one node, and what stands below it.
+// Works one node, and what stands below it, and leaves the grid as it was.
 #[cycle(work)]
-fn work(budget: u64, grid: &Grid, grain: u64, found: &mut Expansion) -> Result<(), NoMemory>
-    ensures { OnOk result
-        (met_of found.new ≡ both (met_of found.old) (walk grain (tree 3 budget grid.now))) }
+fn work(budget: u64, marked: &mut Marked, grain: u64, found: &mut Expansion) -> Result<(), NoMemory>
+    requires { IsCarried marked.old }
+    ensures met { OnOk result
+        (met_of found.new ≡ both (met_of found.old) (walk grain (tree 3 budget marked.old.cells))) }
+    ensures kept { OnOk result (marked.new ≡ marked.old) }
 {
-    let choice = match grid.look() {
-        Look::Dead => return Ok(()),
-        Look::Full => return keep_solution(*grid, found),
-        Look::Open(choice) => choice,
+    let Some(choice) = marked.fewest() else {
+        return keep_solution(Grid::of(marked), found);
     };
     if budget == 0 {
         found.over = true;
@@ -79,47 +81,43 @@ fn work(budget: u64, grid: &Grid, grain: u64, found: &mut Expansion) -> Result<(
     }
     let share = (budget - 1) / choice.count as u64;
     let hands = is_handing_out(budget, grain, choice.count);
-    for d in 1..10 {
-        work_digit(share, grid, grain, hands, choice, d, found)?;
+    let mut left = choice.options;
+    while left != 0 {
+        let digit = take_lowest(&mut left) as u8 + 1;
+        work_digit(share, marked, grain, hands, choice.cell, digit, found)?;
     }
     Ok(())
 }
 
-// Works the child with this digit, or hands it out; a digit that is no candidate has none.
+// Works the child with this candidate, or hands it out, and leaves the grid as it was.
 #[cycle(work)]
 fn work_digit(
     share: u64,
-    grid: &Grid,
+    marked: &mut Marked,
     grain: u64,
     hands: bool,
-    choice: Choice,
-    d: u8,
+    cell: usize,
+    digit: u8,
     found: &mut Expansion,
 ) -> Result<(), NoMemory>
-    requires cell { choice.cell < length grid.now }
-    requires options { AreOptions grid.now choice.cell choice.options }
-    requires least { 1 ≤ d }
-    requires most { d ≤ 9 }
-    ensures { OnOk result
-        (met_of found.new ≡ both (met_of found.old) (at_digit hands grain share grid.now choice.cell d)) }
+    requires carried { IsCarried marked.old }
+    requires blank { IsBlank marked.old.cells cell }
+    requires least { 1 ≤ digit }
+    requires most { digit ≤ 9 }
+    requires unused { used 3 marked.old.cells cell digit ≡ false }
+    ensures met { OnOk result
+        (met_of found.new ≡ both (met_of found.old) (at_digit hands grain share marked.old.cells cell digit)) }
+    ensures kept { OnOk result (marked.new ≡ marked.old) }
 {
-    if !has_digit(choice.options, d) {
-        return Ok(());
-    }
-    let child = grid.with(choice.cell, d);
+    let marks = marked.marks(cell);
+    marked.put(cell, digit);
     if hands {
-        return keep_child(share, child, found);
+        keep_child(share, Grid::of(marked), found)?;
+    } else {
+        work(share, marked, grain, found)?;
     }
-    work(share, &child, grain, found)
-}
-
-// The digit is among these candidates.
-fn has_digit(options: u16, d: u8) -> bool
-    requires least { 1 ≤ d }
-    requires most { d ≤ 9 }
-    ensures { result ≡ (bit_at options (d - 1) == 1) }
-{
-    options >> (d - 1) & 1 == 1
+    marked.put_back(cell, marks);
+    Ok(())
 }
 
 fn keep_solution(grid: Grid, found: &mut Expansion) -> Result<(), NoMemory>
@@ -134,7 +132,7 @@ fn keep_child(share: u64, child: Grid, found: &mut Expansion) -> Result<(), NoMe
     or_no_memory(found.children.push((share, child)))
 }
 
-// A node with this budget and so many candidates hands its children out.
+// A node with this budget and `count` candidates hands its children out.
 fn is_handing_out(budget: u64, grain: u64, count: u32) -> bool
     ensures { result ≡ hands_out grain budget count }
 {

@@ -1,14 +1,15 @@
 //! Grids, and their text.
 
 ghost use Rattle.std.specs.Prelude.{◌≡◌, ◌≢◌, ◌↔◌, ◌<◌, ◌≤◌, ◌-◌, ◌==◌, ℕ, List, length, false, not};
-ghost use Rattle.std.specs.Prelude.{IsTrue, Ok, Err, count_by, slice_set};
+ghost use Rattle.std.specs.Prelude.{IsTrue, MatchOption, Ok, Err, count_by, true};
 ghost use Rattle.std.specs.Int.{IsBitSet};
-ghost use Rattle.sudoku_law.specs.Grid.{HasConflict, IsBlank, conflict, used};
+ghost use Rattle.sudoku_law.specs.Grid.{HasConflict, IsBlank, IsGrid, conflict, used};
+ghost use Rattle.sudoku_rules.specs.Inside.Marked.{IsCarried};
 ghost use Rattle.sudoku_law.specs.Text.{text_of};
-ghost use Rattle.sudoku_rules.specs.Look.{Finds};
 ghost use Rattle.sudoku_rules.specs.Reading.{IsCellSign, Reads, IsFirstBad, digit_of};
 
-use crate::look::{Look, Masks, look_at};
+use crate::look::Masks;
+use crate::marked::Marked;
 use std::marker::Model;
 use thiserror::Error;
 
@@ -102,22 +103,22 @@ impl Grid {
         Masks::of(&self.cells).options(cell as usize)
     }
 
-    // What the grid is as a node of the tree.
-    pub(crate) fn look(&self) -> Look
-        ensures { Finds self.now result }
+    // The grid with its masks, or `None` if it has a conflict.
+    pub(crate) fn marked(&self) -> Option<Marked>
+        ensures { MatchOption result (conflict 3 self.now ≡ true)
+            (λ m. IsCarried m × (m.cells ≡ self.now)) }
     {
-        look_at(&self.cells)
+        Marked::of(&self.cells)
     }
 
-    // The grid with a digit at a cell.
-    pub(crate) fn with(&self, cell: usize, digit: u8) -> Grid
-        requires cell { cell < length self.now }
-        requires digit { digit ≤ 9 }
-        ensures { result ≡ slice_set self.now cell digit }
+    // The grid that a walk stands at.
+    pub(crate) fn of(marked: &Marked) -> Grid
+        requires { IsGrid 3 marked.now.cells }
+        ensures { result ≡ marked.now.cells }
     {
-        let mut cells = self.cells;
-        cells[cell] = digit;
-        Grid { cells }
+        Grid {
+            cells: marked.cells,
+        }
     }
 
     /// The text of the grid: its 81 cells by rows, each as its digit, where a blank cell is `0`.

@@ -1,9 +1,9 @@
-//! A look at a grid: the digits of its rows, columns and boxes as masks, made once in one pass, and what
-//! follows from them.
+//! The digits of a grid's rows, columns and boxes as masks, and what follows from them: whether two clash, the
+//! candidates of a cell, and the better of two cells to try next.
 
-ghost use Rattle.std.specs.Prelude.{◌≡◌, ◌<◌, ◌≤◌, ◌+◌, ◌-◌, ◌^◌, ℕ, List, length, slice_index};
+ghost use Rattle.std.specs.Prelude.{◌≡◌, ◌<◌, ◌≤◌, ◌+◌, ◌-◌, ◌*◌, ◌^◌, ℕ, List, length, slice_index};
 ghost use Rattle.sudoku_law.specs.Grid.{IsGrid, box_of};
-ghost use Rattle.sudoku_rules.specs.Look.{AreMasks, AreOptions, Finds, IsBest, around_of};
+ghost use Rattle.sudoku_rules.specs.Inside.Masks.{AreMasks, AreOptions, IsBest, around_of};
 
 /// The digits of each row, column and box: bit `d - 1` of a mask is set where the digit `d` stands there.
 /// `clash` tells that a digit stands twice in one of them.
@@ -23,34 +23,9 @@ pub struct Choice {
     pub count: u32,
 }
 
-/// What a grid is as a node of the tree.
-#[derive(Clone, Copy)]
-pub enum Look {
-    /// A digit stands twice in a row, column or box.
-    Dead,
-    /// No cell is blank, and no digit stands twice.
-    Full,
-    /// The blank cell with the fewest candidates, the first in reading order on a tie.
-    Open(Choice),
-}
-
-/// What these cells are as a node.
-pub fn look_at(cells: &[u8; 81]) -> Look
-    requires { IsGrid 3 cells.now }
-    ensures { Finds cells.now result }
-{
-    let masks = Masks::of(cells);
-    if masks.clash {
-        return Look::Dead;
-    }
-    match masks.fewest(cells) {
-        Some(choice) => Look::Open(choice),
-        None => Look::Full,
-    }
-}
-
 // The bit that stands for a digit.
-fn bit_of(digit: u8) -> u16
+#[inline]
+pub fn bit_of(digit: u8) -> u16
     requires least { 1 ≤ digit }
     requires most { digit ≤ 9 }
     ensures { result ≡ 2 ^ (digit - 1) }
@@ -59,7 +34,8 @@ fn bit_of(digit: u8) -> u16
 }
 
 // The box of a cell, by rows of boxes.
-fn box_at(cell: usize) -> usize
+#[inline]
+pub fn box_at(cell: usize) -> usize
     requires { cell < 81 }
     ensures place { result ≡ box_of 3 cell }
     ensures few { result < 9 }
@@ -119,32 +95,31 @@ impl Masks {
         !self.around(cell) & 0x1ff
     }
 
-    /// The blank cell with the fewest candidates, the first in reading order on a tie.
-    pub fn fewest(&self, cells: &[u8; 81]) -> Option<Choice>
-        requires { AreMasks cells.now (length cells.now) self.now }
-        ensures { IsBest cells.now (length cells.now) result }
+    // The candidates of the cell in this row and column.
+    #[inline]
+    fn options_at(&self, row: usize, column: usize) -> u16
+        requires row { row < 9 }
+        requires column { column < 9 }
+        ensures { (g : List ℕ) → AreMasks g (length g) self.now → AreOptions g (row * 9 + column) result }
     {
-        let mut best = None;
-        for (cell, &digit) in cells.iter().enumerate() {
-            best = self.better(cell, digit, best);
-        }
-        best
+        let place = row / 3 * 3 + column / 3;
+        !(self.rows[row] | self.columns[column] | self.boxes[place]) & 0x1ff
     }
 
-    // This cell, where it is blank and has fewer candidates than the best of those before it, and else that
-    // one.
-    fn better(&self, cell: usize, digit: u8, best: Option<Choice>) -> Option<Choice>
-        requires { cell < 81 }
-        ensures { (g : List ℕ) → cell < length g → slice_index g cell ≡ digit →
-            AreMasks g (length g) self.now → IsBest g cell best → IsBest g (cell + 1) result }
+    /// The blank cell in this row and column if it has fewer candidates than the best of those before it,
+    /// otherwise that one.
+    #[inline]
+    pub fn better(&self, row: usize, column: usize, best: Option<Choice>) -> Option<Choice>
+        requires row { row < 9 }
+        requires column { column < 9 }
+        ensures { (g : List ℕ) → row * 9 + column < length g → slice_index g (row * 9 + column) ≡ 0 →
+            AreMasks g (length g) self.now → IsBest g (row * 9 + column) best →
+            IsBest g (row * 9 + column + 1) result }
     {
-        if digit != 0 {
-            return best;
-        }
-        let options = self.options(cell);
+        let options = self.options_at(row, column);
         let count = options.count_ones();
         let this = Some(Choice {
-            cell,
+            cell: row * 9 + column,
             options,
             count,
         });

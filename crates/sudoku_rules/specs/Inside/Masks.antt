@@ -1,11 +1,9 @@
--- What a look at a grid finds: the digits of each row, column and box as masks, and the cell to try next.
-use Rattle.std.specs.Prelude.{◌≡◌, ◌<◌, ℕ, ◌+◌, ◌==◌, Bool, true, false, ◌&&◌, List, length, slice_index, Option, Some, None, bit_or, if◌then◌else◌}
+-- The digits of each row, column and box as masks, and the cell to try next.
+use Rattle.std.specs.Prelude.{◌≡◌, ◌<◌, ℕ, ◌+◌, ◌==◌, Bool, ◌&&◌, List, length, slice_index, Option, Some, None, bit_or, if◌then◌else◌}
 use Rattle.std.specs.Int.{bit_at}
-use Rattle.sudoku_law.specs.Grid.{Cells, any_below, row_of, column_of, box_of, clash, conflict, used, choices, fewest, fewest_below}
+use Rattle.sudoku_law.specs.Grid.{Cells, any_below, row_of, column_of, box_of, clash, used, choices, fewest_below}
 use Rattle.sudoku_rules.specs.declared.look.Masks.{Masks}
 use Rattle.sudoku_rules.specs.declared.look.Choice.{Choice}
-use Rattle.sudoku_rules.specs.declared.look.Look.{Look}
-use Rattle.sudoku_rules.specs.declared.look.Look.TheVariants.{Dead, Full, Open}
 
 -- one of the first n cells has the digit and is in this row, column or box
 abbrev pub seen : (ℕ → ℕ) → Cells → ℕ → ℕ → ℕ → Bool
@@ -35,12 +33,6 @@ pub record IsChoice (g : Cells) (choice : Choice) : Type 0 where
   pub options : AreOptions g choice.cell choice.options
   pub count : choice.count ≡ choices 3 g choice.cell
 
--- what a node is: dead, full, or open with the cell to try next
-abbrev pub Finds : Cells → Look → Type 0
-Finds g Dead = conflict 3 g ≡ true
-Finds g Full = (conflict 3 g ≡ false) × (fewest 3 g ≡ None)
-Finds g (Open choice) = (conflict 3 g ≡ false) × (fewest 3 g ≡ Some choice.cell) × IsChoice g choice
-
 -- the best choice of the first n cells
 abbrev pub IsBest : Cells → ℕ → Option Choice → Type 0
 IsBest g n None = fewest_below 3 g n ≡ None
@@ -49,4 +41,5 @@ IsBest g n (Some choice) = (fewest_below 3 g n ≡ Some choice.cell) × IsChoice
 -- the masks of the cell's row, column and box together
 abbrev pub around_of : Masks → ℕ → ℕ
 around_of masks cell =
-    bit_or (bit_or (slice_index masks.rows (row_of 3 cell)) (slice_index masks.columns (column_of 3 cell))) (slice_index masks.boxes (box_of 3 cell))
+    bit_or (bit_or (slice_index masks.rows (row_of 3 cell)) (slice_index masks.columns (column_of 3 cell)))
+    (slice_index masks.boxes (box_of 3 cell))

@@ -1,0 +1,5 @@
+use Rattle.sudoku_rules.specs.Inside.Marked.{IsBlankRow}
+use Rattle.sudoku_rules.proofs.marked.blanks_in.Given as goal
+
+abbrev pub invariant-loop-column : goal.invariant-loop-column
+invariant-loop-column l = IsBlankRow l.cells l.row l.column l.blanks
