@@ -5,5 +5,6 @@ mod Machine
 mod OneRun
 mod Places
 mod Queues
+mod Rising
 mod States
 mod Steps

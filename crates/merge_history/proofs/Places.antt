@@ -1,5 +1,5 @@
 -- The actors of a run and their places.
-use Rattle.std.proofs.Common.{◌≡◌, ◌<◌, ◌+◌, ◌-◌, ℕ, zero, suc, true, List, [], ◌∷◌, ◌++◌, length, map, Some, slice_get, refl, sym, ap, ◌∙◌}
+use Rattle.std.proofs.Common.{◌≡◌, ◌≤◌, ◌<◌, ◌+◌, ◌-◌, ℕ, zero, suc, true, List, [], ◌∷◌, ◌++◌, length, map, Some, slice_get, refl, sym, ap, ◌∙◌}
 use Rattle.std.proofs.Common.{inl, inr, arith, lt-ltb, length-append}
 use Rattle.std.proofs.lemmas.Bool.{cases_lt}
 use Rattle.std.specs.List.{range_with_len}
@@ -61,3 +61,24 @@ place_is config k a at =
           let is : a ≡ server_at j = r.1 ∙ ap server_at (omega arith) in
           rw is (there, lt-ltb j config.servers r.0)
     ]
+
+in_range : {T : Type 0} (f : ℕ → T) (from n k : ℕ) → k < n → slice_get (map f (range_with_len from n)) k ≡ Some (f (from + k))
+in_range f from zero k h = absurd (omega (arith, h))
+in_range f from (suc n) zero h = ap (λ j. Some (f j)) (omega arith)
+in_range f from (suc n) (suc k) h = in_range f (from + 1) n k (omega (arith, h)) ∙ ap (λ j. Some (f j)) (omega arith)
+
+-- the actors that stand at a place
+pub rank_there : (config : Config) (k : ℕ) → k < config.ranks → slice_get (actors_of config) k ≡ Some (rank_at k)
+rank_there config k below =
+    let ranks : List Actor = map rank_at (range_with_len 0 config.ranks) in
+    let servers : List Actor = map server_at (range_with_len 0 config.servers) in
+    get_left ranks servers k (omega (arith, below, long_range rank_at 0 config.ranks)) ∙ in_range rank_at 0 config.ranks k below
+    ∙ ap (λ j. Some (rank_at j)) (omega arith)
+
+pub server_there : (config : Config) (k : ℕ) → config.ranks ≤ k → k < actors config → slice_get (actors_of config) k ≡ Some (server_at (k - config.ranks))
+server_there config k above below =
+    let ranks : List Actor = map rank_at (range_with_len 0 config.ranks) in
+    let servers : List Actor = map server_at (range_with_len 0 config.servers) in
+    let j : ℕ = k - config.ranks in
+    get_right ranks servers k j (omega (arith, above, long_range rank_at 0 config.ranks)) ∙ in_range server_at 0 config.servers j (omega (arith, above, below))
+    ∙ ap (λ i. Some (server_at i)) (omega arith)

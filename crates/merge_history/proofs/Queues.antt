@@ -1,6 +1,7 @@
 -- Fronts of journals as the lists of their events.
 use Rattle.std.proofs.Common.{◌≡◌, ◌<◌, ℕ, zero, suc, List, [], ◌∷◌, length, map, get_or, set, slice_get, Some, refl, ap, sym, ◌∙◌, arith, sum_by}
 use Rattle.std.proofs.lemmas.List.Sums.{sum_by-cons}
+use Rattle.adlb_unit.specs.declared.actors.Actor.{Actor}
 use Rattle.merge_history.specs.Events.{Event, OfActor}
 
 abbrev pub lists : List OfActor → List (List Event)
@@ -33,3 +34,14 @@ pub fewer_left : (ls : List (List Event)) (k : ℕ) (e : Event) (rest : List Eve
 fewer_left [] k e rest h = absurd cc
 fewer_left (d ∷ ds) zero e rest h = rw (sum_by-cons length rest ds, sum_by-cons length d ds) (let long : length d ≡ length (e ∷ rest) = ap length h in omega (arith, long))
 fewer_left (d ∷ ds) (suc k) e rest h = rw (sum_by-cons length d (set ds k rest), sum_by-cons length d ds) (let less = fewer_left ds k e rest h in omega arith)
+
+-- journals that are each of the actor at its place are the actors'
+pub actors_from : (js : List OfActor) (actors : List Actor) → length js ≡ length actors
+    → ((k : ℕ) (d : OfActor) → k < length js → slice_get actors k ≡ Some (get_or js k d).actor) → map (λ j. j.actor) js ≡ actors
+actors_from [] [] long h = refl
+actors_from [] (a ∷ as') long h = absurd (omega (arith, long))
+actors_from (j ∷ js) [] long h = absurd (omega (arith, long))
+actors_from (j ∷ js) (a ∷ as') long h =
+    let first : Some a ≡ Some j.actor = h 0 j (omega arith) in
+    let head : j.actor ≡ a = cc in
+    λ i. head i ∷ actors_from js as' (omega (arith, long)) (λ k d below. h (suc k) d (omega (arith, below))) i

@@ -5,6 +5,7 @@
 #![tactic(auto)]
 
 mod causes;
+mod conditions;
 mod events;
 mod fronts;
 mod histories;
@@ -14,6 +15,7 @@ mod merging;
 mod twins;
 
 pub use causes::Cause;
+pub use conditions::can_merge;
 pub use events::Happened;
 pub use histories::History;
 pub use journals::Journal;

@@ -1,0 +1,74 @@
+//! A merge of many journals against a sort.
+
+use adlb_unit::{Actor, Config, Rank, Server};
+use bag_ledger::Call;
+use merge_history::{Cause, Happened, Journal, can_merge, merge};
+use std::alloc::{AllocError, Global};
+use std::test::Fail;
+
+/// How many ranks, beside one server.
+const RANKS: u32 = 32;
+
+// The next pseudo-random word.
+fn next(word: u64) -> u64 {
+    word.wrapping_mul(6364136223846793005)
+        .wrapping_add(1442695040888963407)
+}
+
+// An event with this stamp, which says nothing.
+fn event(alloc: Global, stamp: u64) -> Happened {
+    Happened {
+        stamp,
+        cause: Cause::Called(Call::EndBatch),
+        sends: Vec::new(alloc),
+        entries: Vec::new(alloc),
+    }
+}
+
+// A journal of up to 40 events, whose stamps rise by up to 4.
+fn journal(alloc: Global, actor: Actor, seed: u64) -> Result<Journal, AllocError> {
+    let mut word = next(seed);
+    let mut events = Vec::new(alloc);
+    let mut stamp = 0u64;
+    for _ in 0..word >> 33 & 63 {
+        word = next(word);
+        stamp = stamp.wrapping_add(1 + (word >> 33 & 3));
+        events.push(event(alloc, stamp))?;
+    }
+    Ok(Journal { actor, events })
+}
+
+// The actor at a place.
+fn actor(place: u32) -> Actor {
+    if place < RANKS {
+        Actor::Rank(Rank(place))
+    } else {
+        Actor::Server(Server(place.wrapping_sub(RANKS)))
+    }
+}
+
+#[test]
+fn a_merge_is_a_sort(rt: HostRuntime) -> Result<(), Fail> {
+    let alloc = rt.alloc();
+    let config = Config::new(RANKS, 1, 64).ok().ok_or("configuration")?;
+    let mut journals = Vec::new(alloc);
+    let mut sorted = Vec::new(alloc);
+    for place in 0..=RANKS {
+        let journal = journal(alloc, actor(place), u64::from(place))?;
+        for event in &journal.events {
+            sorted.push((event.stamp, journal.actor))?;
+        }
+        journals.push(journal)?;
+    }
+    sorted.sort()?;
+    if !can_merge(&config, &journals) {
+        return Err("journals that cannot be merged".into());
+    }
+    let history = merge(alloc, &config, journals).ok().ok_or("memory")?;
+    assert!(rt; sorted.len() > 500);
+    assert_eq!(rt; history.events.len(), sorted.len());
+    for ((actor, event), expected) in history.events.iter().zip(&sorted) {
+        assert_eq!(rt; (event.stamp, *actor), *expected);
+    }
+    Ok(())
+}
