@@ -19,7 +19,6 @@ use Rattle.bag_ledger.specs.declared.states.Placed.{Placed as Lodged}
 use Rattle.bag_ledger.specs.declared.states.Promise.{Promise as Room}
 use Rattle.adlb_unit.specs.Links.{place_of}
 use Rattle.adlb_unit.specs.Targets.{in_ranks}
-use Rattle.adlb_unit.specs.Ids.{same_unit}
 use Rattle.adlb_unit.specs.declared.units.Unit.{Unit}
 use Rattle.adlb_unit.specs.declared.notes.UnitNote.{UnitNote}
 use Rattle.adlb_unit.specs.declared.names.WorkType.{WorkType}
@@ -49,7 +48,6 @@ use Rattle.rank_client.specs.Agreement.{IsHeld, in_call, rank_of}
 use Rattle.rank_client.specs.State.{ClientModel}
 use Rattle.server_core.specs.Agreement.{ServerAgrees, StartAgrees, IsAs, room_at, room_for, slot_of}
 use Rattle.server_core.specs.State.{ServerModel, is_home, standing}
-use Rattle.server_core.specs.Step.{Served}
 use Rattle.core_law.proofs.Asked.{IsOfCall, IsAsked, awaits}
 use Rattle.core_law.specs.Letters.{finishes, is_request, one_letter, is_parked, call_letter, finish_handled, finish_letter, fits_link, is_finish, kinds, one, parked_as}
 use Rattle.core_law.specs.Measures.{IsBalanced, measure, due}

@@ -18,21 +18,17 @@ use Rattle.bag_ledger.specs.Bag.{Bag, rank_at, settled, start as empty_bag}
 use Rattle.bag_ledger.specs.Runs.{IsRun, calls, calls_from}
 use Rattle.server_core.specs.declared.standings.Standing.TheVariants as does
 use Rattle.server_core.specs.Rules.{ServerResponse, expects_finish, finish, is_running, leave, respond}
-use Rattle.server_core.specs.Agreement.{IsOpen}
-use Rattle.server_core.specs.State.{is_home}
-use Rattle.server_core.specs.Step.{after_event, next_stamp, served, ticked, verdict, waiting_from}
+use Rattle.server_core.specs.Agreement.{IsOpen, ServerAgrees, IsAlone, IsCalled, IsPending}
+use Rattle.server_core.specs.State.{is_home, ServerModel}
+use Rattle.server_core.specs.Step.{after_event, next_stamp, served, ticked, verdict, waiting_from, Served, serve}
 use Rattle.adlb_unit.specs.declared.names.CommonRef.{CommonRef}
-use Rattle.rank_client.specs.State.{behind}
+use Rattle.rank_client.specs.State.{behind, ClientModel}
 use Rattle.std.specs.List.{list_any}
 use Rattle.bag_ledger.proofs.Legal.{run_joined}
 use Rattle.rank_client.specs.declared.pendings.Pending.{Pending}
 use Rattle.rank_client.specs.declared.pendings.Pending.TheVariants as waits_for
 use Rattle.rank_client.specs.Agreement.{ClientAgrees, in_call, rank_of, holds}
 use Rattle.rank_client.specs.Rules.{is_idle}
-use Rattle.rank_client.specs.State.{ClientModel}
-use Rattle.server_core.specs.Agreement.{ServerAgrees, IsAlone, IsCalled, IsPending}
-use Rattle.server_core.specs.State.{ServerModel}
-use Rattle.server_core.specs.Step.{Served, serve}
 use Rattle.core_law.specs.Among.{KeepsOthers}
 use Rattle.core_law.proofs.Asked.{IsAsked, awaits}
 use Rattle.core_law.specs.Letters.{call_letter, finish_letter, finishes, is_request, one, one_letter}

@@ -24,14 +24,13 @@ use Rattle.rank_client.specs.Calls.{plus}
 use Rattle.rank_client.specs.Rules.{call_of}
 use Rattle.rank_client.specs.State.{start as new_client}
 use Rattle.server_core.specs.Rules.{respond}
-use Rattle.server_core.specs.Step.{next_stamp, ticked}
+use Rattle.server_core.specs.Step.{next_stamp, ticked, Served}
 use Rattle.rank_client.specs.declared.pendings.Pending.{Pending}
 use Rattle.rank_client.specs.declared.pendings.Pending.TheVariants as waits_for
 use Rattle.rank_client.specs.Agreement.{ClientAgrees, IsHeld, fetch_coming, put_coming, reserve_coming, running, said}
 use Rattle.rank_client.specs.State.{ClientModel}
 use Rattle.server_core.specs.Agreement.{ServerAgrees, StartAgrees}
 use Rattle.server_core.specs.State.{ServerModel}
-use Rattle.server_core.specs.Step.{Served}
 use Rattle.core_law.proofs.Asked.{IsOfCall}
 use Rattle.core_law.specs.Letters.{finishes, is_request, one_letter}
 use Rattle.core_law.specs.Measures.{IsBalanced, measure}

@@ -28,7 +28,6 @@ use Rattle.adlb_unit.specs.declared.names.WorkType.{WorkType}
 use Rattle.adlb_unit.specs.declared.notes.End.{End}
 use Rattle.adlb_unit.specs.declared.notes.UnitNote.{UnitNote}
 use Rattle.adlb_unit.specs.declared.units.Unit.{Unit}
-use Rattle.adlb_unit.specs.Ids.{same_unit}
 use Rattle.adlb_unit.proofs.Same.{same_unit_is}
 use Rattle.bag_ledger.specs.declared.entries.Answer.TheVariants as answered_by
 use Rattle.bag_ledger.specs.declared.entries.Call.{Call}

@@ -23,7 +23,7 @@ use Rattle.adlb_unit.specs.declared.units.Unit.{Unit}
 use Rattle.bag_ledger.specs.declared.entries.Entry.{Entry}
 use Rattle.bag_ledger.specs.Bag.{Bag, is_free, unit_of}
 use Rattle.bag_ledger.specs.Runs.{IsRun, note_of}
-use Rattle.work_queue.specs.Queue.{charge_of}
+use Rattle.work_queue.specs.Queue.{charge_of, id_of, HasDistinctIds}
 use Rattle.work_queue.specs.declared.placing.Placed.{Placed}
 use Rattle.rank_client.specs.declared.pendings.Pending.{Pending}
 use Rattle.rank_client.specs.declared.pendings.Pending.TheVariants as waits_for
@@ -33,7 +33,7 @@ use Rattle.rank_client.specs.State.{ClientModel}
 use Rattle.server_core.specs.declared.standings.Standing.{Standing}
 use Rattle.server_core.specs.declared.standings.Standing.TheVariants as does
 use Rattle.server_core.specs.Agreement.{ServerAgrees}
-use Rattle.server_core.specs.Rules.{ServerResponse, best_unit, expects_put, expects_reserve, fetched, is_over, is_pinned_as, is_running, park, put, reserve, respond, to_rank}
+use Rattle.server_core.specs.Rules.{ServerResponse, best_unit, expects_put, expects_reserve, fetched, is_over, is_pinned_as, is_running, park, put, reserve, respond, to_rank, unit_with}
 use Rattle.server_core.specs.State.{ServerModel, is_home, standing}
 use Rattle.server_core.specs.Step.{Served, Waiting, after_event, exhaust, fits, next_stamp, over, sent_to, serve, served, ticked, verdict, waiting_from}
 use Rattle.core_law.proofs.Asked.{IsAsked, awaits}
@@ -43,10 +43,7 @@ use Rattle.core_law.proofs.Coming.{Comes, Waits, accepted_comes, exhausted_comes
 use Rattle.server_core.proofs.Grants.{best_unit_is, free_place, lodged}
 use Rattle.server_core.proofs.Finds.{pinned_is, unit_found}
 use Rattle.adlb_unit.specs.declared.names.UnitId.{UnitId}
-use Rattle.work_queue.specs.Queue.{id_of}
 use Rattle.work_queue.proofs.Ids.{only_one}
-use Rattle.work_queue.specs.Queue.{HasDistinctIds}
-use Rattle.server_core.specs.Rules.{unit_with}
 use Rattle.core_law.proofs.Posts.{answers_entries, answers_state}
 use Rattle.server_core.proofs.Ranks.{IsRunner}
 use Rattle.core_law.proofs.ServerShapes.{serves}

@@ -3,7 +3,6 @@
 ghost use Rattle.std.specs.Prelude.{◌≡◌, ◌==◌, ◌&&◌, ◌%◌, ◌+◌, ◌≤◌, is_none, not, nat_lt, length, true};
 ghost use Rattle.adlb_unit.specs.Ids.{same_unit};
 ghost use Rattle.adlb_unit.specs.Permit.{permitted};
-ghost use Rattle.adlb_unit.specs.Ids.{same_unit};
 ghost use Rattle.bag_ledger.specs.declared.entries.Entry.TheVariants.{Putting, Refused, Accepted, Rejected, Keeping, Kept, Closing, Closed, Freed, Asked, Tried, Granted, Looked, NoCurrent, Fetching, Fetched, CommonFetched, Promised, Left, Arrived, Withdrawn, Counting, Counted, Done, Exhausted, Over, Finished};
 ghost use Rattle.bag_ledger.specs.Bag.{rank_at, unit_of, part_of, promise_of, putting, keeping, offer, wish, open_call, has_declined, all_declined, charge, is_due, is_free_at, is_placed_at, is_travelling, has_fit_at, info_of};
 ghost use Rattle.bag_ledger.specs.Step.{has, begins, anything, fits, is_closing, is_of, is_pinned, is_pinned_to, is_server, is_travelling_to, keeps, legal, trying, counting, fetching, same_info};
