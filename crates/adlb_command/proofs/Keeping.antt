@@ -1,8 +1,10 @@
 -- What is kept of a run of one rank over one server.
-use Rattle.std.proofs.Common.{◌≡◌, ◌<◌, ◌≤◌, ◌^◌, ◌+◌, ℕ, zero, suc, List, [], ◌∷◌, ◌++◌, length, Option, Some, None, All, refl, sym, ap, ◌∙◌, subst, arith, slice_get, slice_index}
+use Rattle.std.proofs.Common.{◌≡◌, ◌<◌, ◌≤◌, ◌^◌, ◌+◌, ℕ, zero, suc, List, [], ◌∷◌, ◌++◌, length, Option, Some, None, Result, Ok, Err, IfOk, All, map, refl, sym, ap, ◌∙◌, subst, arith, slice_get, slice_index}
+use Rattle.std.proofs.lemmas.Result.{IfOk-at_ok}
 use Rattle.std.proofs.lemmas.List.Elements.{All-nil, All-push}
 use Rattle.std.proofs.lemmas.List.Sums.{sum_by-cons}
 use Rattle.adlb_threads.specs.Reports.{Reported}
+use Rattle.adlb_unit.specs.declared.actors.Actor.{Actor}
 use Rattle.adlb_unit.specs.declared.notes.Trouble.{Trouble}
 use Rattle.adlb_unit.specs.declared.notes.Trouble.TheVariants as troubles
 use Rattle.adlb_unit.specs.declared.notes.Trouble.TheVariants.{TooLong}
@@ -27,6 +29,7 @@ use Rattle.bag_ledger.specs.Runs.{IsRun, calls, calls_from}
 use Rattle.core_inline.specs.Inline.{IsEnd, IsStart, Run, finish_answer, seat_of, zeroth}
 use Rattle.core_inline.specs.Left.{IsLeft}
 use Rattle.core_inline.proofs.Lefts.{nothing_left}
+use Rattle.merge_history.specs.Events.{Event}
 use Rattle.puzzle_app.specs.declared.jobs.Job.{Job}
 use Rattle.puzzle_app.specs.declared.outcomes.PuzzleOutcome.{PuzzleOutcome}
 use Rattle.puzzle_app.specs.declared.outcomes.Settings.{Settings}
@@ -34,8 +37,9 @@ use Rattle.puzzle_app.specs.declared.program.PuzzleProgram.{PuzzleProgram}
 use Rattle.puzzle_app.specs.Follows.{Follows}
 use Rattle.puzzle_law.specs.Joined.{IsPuzzleRun, IsRankRun}
 use Rattle.server_core.specs.declared.states.LeftUnit.{LeftUnit}
-use Rattle.adlb_command.specs.Inside.{HasNumbers, IsRunFault, one_report}
+use Rattle.adlb_command.specs.Inside.{HasNumbers, HasWorked, IsReportOf, IsRunFault, one_report}
 use Rattle.adlb_command.specs.Kept.{IsKept}
+use Rattle.adlb_command.specs.declared.ends.RunFault.{RunFault}
 
 -- the bag at the start has the numbers of the run and nothing else
 same_start : (config : Config) (run : Run) → HasNumbers config run → start run.config ≡ start config
@@ -96,6 +100,25 @@ module _ (config : Config) (settings : Settings) (jobs : List Job) (program : Pu
     run_is_kept =
         let spent : All (λ u. u.place ≡ Spent) ends.last.units = joined_spent balanced config ledger ends.last settings jobs (outcome ∷ []) (omega (arith, one_rank)) legal puzzle_run in
         kept spent (nothing_left ends.last left spent)
+
+-- where the report is of what the program found, it is kept
+pub reports_kept : (config : Config) (settings : Settings) (jobs : List Job) (last : Run) (said transcript : List Said) (ledger : List Entry) (left : List LeftUnit) (outcome : Result PuzzleOutcome RunFault) (result : Result (Reported PuzzleOutcome) RunFault) → config.ranks ≡ 1 → HasNumbers config last → IfOk outcome (HasWorked settings jobs said) → transcript ≡ said ++ finish ∷ [] → IsEnd last ledger transcript left → IfOk result (λ r. IsReportOf config ledger transcript left outcome r) → IfOk result (IsKept settings jobs)
+reports_kept config settings jobs last said transcript ledger left outcome (Err fault) one numbers worked finished ends is = tt
+reports_kept config settings jobs last said transcript ledger left outcome (Ok r) one numbers worked finished ends is =
+    let P : PuzzleOutcome → Type 0 = HasWorked settings jobs said in
+    let w : HasWorked settings jobs said is.found = IfOk-at_ok P is.is worked in
+    let whole : IsKept settings jobs (one_report config ledger transcript left is.found) = run_is_kept config settings jobs w.program is.found last said ledger transcript left one numbers w.settings_are w.jobs_are w.follows finished ends in
+    subst (λ k. IsKept settings jobs k) (sym is.report) whole
+
+-- a report of one transcript, one outcome and no history
+abbrev report_with : Config → List Entry → List (Actor × Event) → List (List Said) → List PuzzleOutcome → List LeftUnit → Reported PuzzleOutcome
+report_with config ledger history transcripts outcomes left = record { config = config; ledger = ledger; history = history; transcripts = transcripts; outcomes = outcomes; left = left }
+
+pub reported : {V : Type 0} (config : Config) (ledger : List Entry) (left : List LeftUnit) (history : List (Actor × Event)) (seen_as : V → List Said) (transcripts : List V) (transcript : V) (outcomes : List PuzzleOutcome) (outcome : PuzzleOutcome) → history ≡ [] → transcripts ≡ transcript ∷ [] → outcomes ≡ outcome ∷ [] → report_with config ledger history (map seen_as transcripts) outcomes left ≡ one_report config ledger (seen_as transcript) left outcome
+reported config ledger left history seen_as transcripts transcript outcomes outcome none one found =
+    ap (λ (h : List (Actor × Event)). report_with config ledger h (map seen_as transcripts) outcomes left) none
+    ∙ ap (λ ts. report_with config ledger [] (map seen_as ts) outcomes left) one
+    ∙ ap (λ (os : List PuzzleOutcome). report_with config ledger [] (seen_as transcript ∷ []) os left) found
 
 -- the fault of a run is that of its trouble, which a world that failed tells
 pub trouble_fault : (trouble : Trouble) (run : Run) → ((stamp : ℕ) → run.failed ≡ Some (TooLong stamp) → 2 ^ 48 ≤ stamp) → ((n : ℕ) → trouble ≡ TooLong n → run.failed ≡ Some (TooLong n)) → IsRunFault (fault_by trouble)

@@ -1,5 +1,5 @@
 -- What stands between the parts of a run: why its input gave no answer, what its world was, and how the writing ended.
-use Rattle.std.specs.Prelude.{◌≡◌, ◌≤◌, ◌^◌, ◌⊎◌, ◌==◌, ℕ, Bool, true, List, [], ◌∷◌, length, take, Option, Some, None, if◌then◌else◌}
+use Rattle.std.specs.Prelude.{◌≡◌, ◌≤◌, ◌^◌, ◌⊎◌, ◌==◌, ℕ, Bool, true, List, [], ◌∷◌, length, take, Option, Some, None, Result, Ok, if◌then◌else◌}
 use Rattle.adlb_io.specs.Outside.{Rises, Takes}
 use Rattle.adlb_io.specs.declared.sinks.SinkFault.{SinkFault}
 use Rattle.adlb_io.specs.declared.sinks.SinkFault.TheVariants as sinks
@@ -9,7 +9,11 @@ use Rattle.adlb_threads.specs.Reports.{Reported}
 use Rattle.bag_ledger.specs.declared.entries.Entry.{Entry}
 use Rattle.bag_ledger.specs.declared.entries.Said.{Said}
 use Rattle.core_inline.specs.Inline.{Run}
+use Rattle.puzzle_app.specs.declared.jobs.Job.{Job}
 use Rattle.puzzle_app.specs.declared.outcomes.PuzzleOutcome.{PuzzleOutcome}
+use Rattle.puzzle_app.specs.declared.outcomes.Settings.{Settings}
+use Rattle.puzzle_app.specs.declared.program.PuzzleProgram.{PuzzleProgram}
+use Rattle.puzzle_app.specs.Follows.{Follows}
 use Rattle.puzzle_app.specs.Input.{IsAccepted}
 use Rattle.server_core.specs.declared.states.LeftUnit.{LeftUnit}
 use Rattle.adlb_command.specs.Ends.{IsFirst, fault_of}
@@ -47,6 +51,13 @@ pub record HasNumbers (config : Config) (run : Run) : Type 0 where
   pub servers : run.config.servers ≡ config.servers
   pub limit : run.config.limit ≡ config.limit
 
+-- the program of these jobs found this, where its rank had said so much
+pub record HasWorked (settings : Settings) (jobs : List Job) (said : List Said) (outcome : PuzzleOutcome) : Type 0 where
+  pub program : PuzzleProgram
+  pub settings_are : program.settings ≡ settings
+  pub jobs_are : program.jobs ≡ Some jobs
+  pub follows : Follows program said outcome
+
 -- the report of a run with one rank and no history
 abbrev pub one_report : Config → List Entry → List Said → List LeftUnit → PuzzleOutcome → Reported PuzzleOutcome
 one_report config ledger transcript left outcome = record {
@@ -57,6 +68,12 @@ one_report config ledger transcript left outcome = record {
   outcomes = outcome ∷ [];
   left = left;
 }
+
+-- the report of such a run, whose rank had an outcome
+pub record IsReportOf (config : Config) (ledger : List Entry) (transcript : List Said) (left : List LeftUnit) (outcome : Result PuzzleOutcome RunFault) (r : Reported PuzzleOutcome) : Type 0 where
+  pub found : PuzzleOutcome
+  pub is : outcome ≡ Ok found
+  pub report : r ≡ one_report config ledger transcript left found
 
 -- How the writing ended.
 

@@ -1,16 +1,15 @@
 //! The program of one rank over one server, from its jobs to its report.
 
-ghost use Rattle.std.specs.Prelude.{◌≡◌, ℕ, List, [], None, true, false, IfOk, IfErr, OnOk};
+ghost use Rattle.std.specs.Prelude.{◌≡◌, ℕ, List, [], ◌∷◌, None, true, false, IfOk, IfErr, OnOk};
 ghost use Rattle.core_inline.specs.Inline.{IsEnd};
-ghost use Rattle.puzzle_app.specs.Follows.{Follows};
 ghost use Rattle.puzzle_app.specs.Jobs.{AreJobs};
 ghost use Rattle.rank_client.specs.Calls.{has_finished};
-ghost use Rattle.adlb_command.specs.Inside.{HasNumbers, IsRunFault, one_report};
+ghost use Rattle.adlb_command.specs.Inside.{HasNumbers, HasWorked, IsReportOf, IsRunFault};
 ghost use Rattle.adlb_command.specs.Kept.{IsKept};
 
 use crate::ends::RunFault;
 use adlb_threads::Report;
-use adlb_unit::{Config, NoMemory, Rank};
+use adlb_unit::{Config, NoMemory, Rank, or_no_memory};
 use bag_ledger::{Ledger, Said};
 use core_inline::InlineWorld;
 use merge_history::History;
@@ -35,24 +34,28 @@ pub fn run_program(
     ensures history { IfOk result (λ r. r.history ≡ []) }
     ensures faults { IfErr result IsRunFault }
 {
-    let program = PuzzleProgram::new(alloc, settings, Some(jobs));
     let mut world = InlineWorld::new(alloc, config.limit)?;
-    let outcome = work(&program, &mut world)?;
+    let outcome = work(alloc, settings, jobs, &mut world);
     world.finish_inline();
     let parts = end(world)?;
-    let report = report_of(alloc, config, parts, outcome)?;
-    Ok(report)
+    report_of(alloc, config, parts, outcome)
 }
 
-// The calls of the program over a world at its start.
-fn work(program: &PuzzleProgram, world: &mut InlineWorld) -> Result<PuzzleOutcome, RunFault>
+// The calls of the program over these jobs, in a world at its start.
+fn work(
+    alloc: Global,
+    settings: Settings,
+    jobs: Jobs,
+    world: &mut InlineWorld,
+) -> Result<PuzzleOutcome, RunFault>
     requires empty { world.old.run.transcript ≡ [] }
     requires whole { world.old.run.failed ≡ None }
-    ensures follows { IfOk result (Follows program.now world.new.run.transcript) }
+    ensures follows { IfOk result (HasWorked settings jobs world.new.run.transcript) }
     ensures open { has_finished world.new.run.transcript ≡ false }
     ensures config { HasNumbers world.old.run.config world.new.run }
     ensures faults { IfErr result IsRunFault }
 {
+    let program = PuzzleProgram::new(alloc, settings, Some(jobs));
     Ok(program.run(Rank(0), world)?)
 }
 
@@ -67,24 +70,20 @@ fn end(world: InlineWorld) -> Result<(Ledger, Vec<Said>, Vec<LeftUnit>), RunFaul
     Ok(world.end()?)
 }
 
-// The report of a run with one rank and no history.
+// The report of a run with one rank and no history, if the rank has an outcome.
 fn report_of(
     alloc: Global,
     config: Config,
     parts: (Ledger, Vec<Said>, Vec<LeftUnit>),
-    outcome: PuzzleOutcome,
-) -> Result<Report<PuzzleOutcome>, NoMemory>
-    ensures { IfOk result (λ r. r ≡ one_report config parts.0 parts.1.items parts.2.items outcome) }
+    outcome: Result<PuzzleOutcome, RunFault>,
+) -> Result<Report<PuzzleOutcome>, RunFault>
+    requires { IfErr outcome IsRunFault }
+    ensures report { IfOk result (λ r. IsReportOf config parts.0 parts.1.items parts.2.items outcome r) }
+    ensures faults { IfErr result IsRunFault }
 {
     let (ledger, transcript, left) = parts;
-    let (Ok(mut transcripts), Ok(mut outcomes)) = (
-        Vec::with_capacity(alloc, 1),
-        Vec::with_capacity(alloc, 1),
-    ) else {
-        return Err(NoMemory);
-    };
-    transcripts.push_reserved(transcript);
-    outcomes.push_reserved(outcome);
+    let outcomes = one(alloc, outcome?)?;
+    let transcripts = one(alloc, transcript)?;
     Ok(Report {
         config,
         ledger,
@@ -93,4 +92,13 @@ fn report_of(
         outcomes,
         left,
     })
+}
+
+// The list of one element.
+fn one<T: Drop>(alloc: Global, element: T) -> Result<Vec<T>, NoMemory>
+    ensures { IfOk result (λ list. list.items ≡ element ∷ []) }
+{
+    let mut list = or_no_memory(Vec::with_capacity(alloc, 1))?;
+    list.push_reserved(element);
+    Ok(list)
 }
