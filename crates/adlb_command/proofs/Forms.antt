@@ -1,5 +1,5 @@
 -- The form of an input in a room that was filled from a source, and its jobs.
-use Rattle.std.proofs.Common.{◌≡◌, ◌↔◌, Bool, IsTrue, ℕ, ◌+◌, ◌<◌, ◌≤◌, suc, List, [], ◌∷◌, ◌++◌, length, take, get_or, Option, Some, None, Result, Ok, Err, IfErr, refl, sym, ap, ◌∙◌, subst, arith, inl, inr, ◌⊎◌, length-append}
+use Rattle.std.proofs.Common.{◌≡◌, ◌↔◌, Bool, IsTrue, ℕ, ◌+◌, ◌<◌, ◌≤◌, suc, List, [], ◌∷◌, ◌++◌, length, take, get_or, Option, Some, None, Result, Ok, Err, IfOk, IfErr, refl, sym, ap, ◌∙◌, subst, arith, inl, inr, ◌⊎◌, length-append}
 use Rattle.std.specs.Str.{bytes_eq}
 use Rattle.std.proofs.lemmas.Slice.Eq.{bytes_eq-Decides}
 use Rattle.std.proofs.lemmas.List.{take_all, drop_all, length-take-le}
@@ -18,6 +18,7 @@ use Rattle.sudoku_rules.specs.Reading.{Reads}
 use Rattle.adlb_command.specs.Ends.{fault_in}
 use Rattle.adlb_command.specs.Input.{IsAtEnd}
 use Rattle.adlb_command.specs.Inside.{Refuses, RefusesBytes}
+use Rattle.adlb_command.specs.declared.reading.Asked.{Asked}
 use Rattle.adlb_command.specs.declared.ends.RunFault.{RunFault}
 use Rattle.adlb_command.specs.declared.ends.RunFault.TheVariants.{Input, Usage, Read, Write, Memory, TooLong}
 
@@ -113,6 +114,11 @@ pub jobs_once : (bytes : List ℕ) (xs ys : List Job) → AreJobs bytes xs → A
 jobs_once bytes xs ys a b =
     let g : a.0 ≡ b.0 = form_once bytes a.0 b.0 a.1 b.1 in
     a.2 ∙ ap (λ (c : Cells). Puzzle c ∷ []) g ∙ sym b.2
+
+-- the jobs that were read twice are the same
+pub read_same : (bytes : List ℕ) (r : Result Asked RunFault) → IfOk r (λ a. AreJobs bytes a.jobs) → IfOk r (λ a. AreJobs bytes a.shown) → IfOk r (λ a. a.shown ≡ a.jobs)
+read_same bytes (Ok a) jobs shown = jobs_once bytes a.shown a.jobs shown jobs
+read_same bytes (Err fault) jobs shown = tt
 
 -- a list of one element
 pub one_element : {X : Type 0} (xs : List X) (d : X) → 1 ≤ length xs → length xs < 2 → xs ≡ get_or xs 0 d ∷ []
