@@ -7,7 +7,7 @@ use bag_ledger::Call;
 use ledger_checker::first_illegal;
 use merge_history::{Cause, Happened, Journal, can_merge, ledger_of, merge};
 use rank_client::ClientCore;
-use server_core::ServerState;
+use server_core::{ServerState, Step};
 use std::alloc::Global;
 use std::test::Fail;
 
@@ -80,24 +80,30 @@ fn begin(
     Ok((sends, happened))
 }
 
-// The server handles a letter of the rank: what it sends, and its event.
+// The server handles a letter of this actor.
+fn step(server: &mut ServerState, from: Actor, letter: Letter) -> Result<Step, Fail> {
+    if server.broken().is_some() {
+        return Err("broken".into());
+    }
+    if !server.expects(from, &letter) {
+        return Err("not expected by the server".into());
+    }
+    Ok(server.step(from, letter).ok().ok_or("step")?)
+}
+
+// The server handles a letter of this actor: what it sends, and its event.
 fn serve(
     alloc: Global,
     server: &mut ServerState,
+    from: Actor,
     letter: Letter,
 ) -> Result<(Vec<Sending>, Happened), Fail> {
-    if server.broken().is_some() || !server.expects(RANK, &letter) {
-        return Err("not expected by the server".into());
-    }
     let twin = letter.twin(alloc)?;
-    let step = server.step(RANK, letter).ok().ok_or("step")?;
+    let step = step(server, from, letter)?;
     let sends = twins(alloc, &step.sends)?;
     let happened = Happened {
         stamp: step.stamp,
-        cause: Cause::Got {
-            from: RANK,
-            letter: twin,
-        },
+        cause: Cause::Got { from, letter: twin },
         sends: step.sends,
         entries: step.entries,
     };
@@ -124,6 +130,9 @@ fn hear(alloc: Global, client: &mut ClientCore, letter: Letter) -> Result<Happen
 
 // The journals of the rank and of the server.
 fn journals(alloc: Global, config: Config) -> Result<Vec<Journal>, Fail> {
+    if config.ranks != 1 {
+        return Err("one rank is stepped".into());
+    }
     let mut client = ClientCore::new(alloc, config, Rank(0))?;
     let mut server = ServerState::new(alloc, config, Server(0))?;
     let mut of_rank = Vec::new(alloc);
@@ -132,7 +141,7 @@ fn journals(alloc: Global, config: Config) -> Result<Vec<Journal>, Fail> {
         let (sends, happened) = begin(alloc, &mut client, number)?;
         of_rank.push(happened)?;
         for sending in sends {
-            let (answers, happened) = serve(alloc, &mut server, sending.letter)?;
+            let (answers, happened) = serve(alloc, &mut server, RANK, sending.letter)?;
             of_server.push(happened)?;
             for answer in answers {
                 of_rank.push(hear(alloc, &mut client, answer.letter)?)?;
