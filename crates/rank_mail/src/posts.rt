@@ -1,6 +1,6 @@
 //! One actor as the sender of each mailbox.
 
-ghost use Rattle.std.specs.Prelude.{◌≡◌, ◌<◌, ℕ, length, map, IfOk, OnOk, slice_get, Some};
+ghost use Rattle.std.specs.Prelude.{◌≡◌, ◌<◌, ◌↔◌, ℕ, length, map, IfOk, IsTrue, OnOk, slice_get, Some};
 ghost use Rattle.rank_mail.specs.Inside.{LineModel, line_of, with_line, closed_by};
 ghost use Rattle.rank_mail.specs.Mailboxes.{InboxModel, PostModel, after_sending, fresh_post, places_of};
 
@@ -35,6 +35,13 @@ impl Post {
         let from = self.number;
         let line = &mut self.lines[to as usize];
         line.send(rt, from, letter);
+    }
+
+    /// Whether there is an actor of this number.
+    pub fn reaches(&self, to: u32) -> bool
+        ensures { IsTrue result ↔ (to < length self.now.places) }
+    {
+        (to as usize) < self.lines.len()
     }
 
     /// A new sender of each mailbox. Its only error is `AllocError`.

@@ -1,8 +1,23 @@
 //! Letters between actors.
 
-use crate::mailboxes;
+use crate::{Inbox, Post, mailboxes};
 use adlb_unit::{Letter, Message};
+use std::alloc::Global;
+use std::sync::Wait;
 use std::test::Fail;
+use std::thread;
+use std::thread::Threads;
+use std::time::{Clock, Duration};
+
+/// Actors that receive, and all actors: the others send.
+const RECEIVERS: u32 = 4;
+
+const ACTORS: u32 = 12;
+
+/// How many letters each sender sends, and each receiver receives.
+const SENT: u64 = 10_000;
+
+const RECEIVED: u64 = 20_000;
 
 fn letter(place: u64) -> Letter {
     Letter {
@@ -22,5 +37,82 @@ fn two_letters_arrive_in_order(rt: HostRuntime) -> Result<(), Fail> {
         assert_eq!(rt; from, 0);
         assert_eq!(rt; got.place, place);
     }
+    Ok(())
+}
+
+// Sends a letter, if there is such an actor.
+fn send_one<R: Wait>(rt: &R, post: &mut Post, to: u32, place: u64) -> bool {
+    if !post.reaches(to) {
+        return false;
+    }
+    post.send(rt, to, letter(place));
+    true
+}
+
+// Sends letters to the receivers in turn; to each their places rise from 0.
+fn send_all<R: Wait + Clock>(rt: &R, mut post: Post, pauses: bool) -> bool {
+    for number in 0..SENT {
+        if !send_one(rt, &mut post, (number % 4) as u32, number / 4) {
+            return false;
+        }
+        if pauses && number % 500 == 0 {
+            thread::sleep(rt, Duration::from_micros(200));
+        }
+    }
+    true
+}
+
+// Receives all letters. Those of each sender come in order, each once.
+fn receive_all<R: Wait>(rt: &R, mut inbox: Inbox) -> bool {
+    let mut next = [0u64; ACTORS as usize];
+    for _ in 0..RECEIVED {
+        let (from, letter) = inbox.receive(rt);
+        let Some(place) = next.get_mut(from as usize) else {
+            return false;
+        };
+        if letter.place != *place {
+            return false;
+        }
+        *place = place.wrapping_add(1);
+    }
+    true
+}
+
+// Eight threads send to the mailboxes of four others.
+fn all_arrive<R: Threads + Wait + Clock + Copy + Send + 'static>(
+    rt: R,
+    alloc: Global,
+    pauses: bool,
+) -> Result<bool, Fail> {
+    let (posts, inboxes) = mailboxes(alloc, ACTORS, 4)?;
+    let mut threads = Vec::new(alloc);
+    for (number, inbox) in inboxes.into_iter().enumerate() {
+        if number < RECEIVERS as usize {
+            let started = thread::spawn(&rt, move || receive_all(&rt, inbox));
+            threads.push(started.ok().ok_or("thread")?)?;
+        }
+    }
+    for (number, post) in posts.into_iter().enumerate() {
+        if number >= RECEIVERS as usize {
+            let started = thread::spawn(&rt, move || send_all(&rt, post, pauses));
+            threads.push(started.ok().ok_or("thread")?)?;
+        }
+    }
+    let mut all = true;
+    for thread in threads {
+        all = thread.join(&rt) && all;
+    }
+    Ok(all)
+}
+
+#[test]
+fn letters_of_eight_threads_arrive_in_order(rt: HostRuntime) -> Result<(), Fail> {
+    assert!(rt; all_arrive(rt, rt.alloc(), false)?);
+    Ok(())
+}
+
+#[test]
+fn letters_of_eight_threads_that_pause_arrive_in_order(rt: HostRuntime) -> Result<(), Fail> {
+    assert!(rt; all_arrive(rt, rt.alloc(), true)?);
     Ok(())
 }
