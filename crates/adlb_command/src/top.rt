@@ -44,6 +44,7 @@ pub fn run_adlb<S: Source, K: Sink>(
     // Why it ends with a fault.
     ensures usage { result.fault ≡ Some RunFault.Usage → AreAccepted (map string_bytes words.now) → ⊥ }
     ensures words_refused { (AreAccepted (map string_bytes words.now) → ⊥) → result.fault ≡ Some RunFault.Usage }
+    ensures unread { result.fault ≡ Some RunFault.Usage → S.left input.new ≡ S.left input.old }
     ensures read { result.fault ≡ Some RunFault.Read → Rises (S.faults input.old) (S.faults input.new) }
     ensures write { result.fault ≡ Some RunFault.Write → Rises (K.faults output.old) (K.faults output.new) }
     ensures input { IsInputFault result.fault → IsRefused (S.left input.old) }
