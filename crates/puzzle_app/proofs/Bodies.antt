@@ -1,16 +1,16 @@
 -- The bodies of units, written and read.
-use Rattle.std.proofs.Common.{◌≡◌, ◌↔◌, ℕ, zero, suc, ◌+◌, ◌-◌, ◌^◌, ◌<◌, ◌==◌, ◌&&◌, Bool, true, false, cond, List, [], ◌∷◌, ◌++◌, length, map, take, drop, get_or, Option, Some, None, refl, sym, ap, ◌∙◌, subst, arith, eqb, ltb, length-append, length-drop, lit<, inl, inr}
+use Rattle.std.proofs.Common.{◌≡◌, ◌↔◌, ℕ, zero, suc, ◌+◌, ◌-◌, ◌^◌, ◌<◌, ◌≤◌, ◌&&◌, Bool, true, false, cond, List, [], ◌∷◌, ◌++◌, length, map, take, drop, get_or, Option, Some, None, refl, sym, ap, ◌∙◌, subst, arith, length-append, length-drop, lit<}
 use Rattle.std.specs.Int.{to_be_bytes, from_be_bytes, w32, w64}
 use Rattle.std.specs.Str.{bytes_eq}
-use Rattle.std.proofs.lemmas.Bool.{eqb-true, eq-eqb, cases_eq, cases_lt, cond-true, cond-false, ne_eqb, lt-ltb, le-ltb}
 use Rattle.std.proofs.lemmas.Slice.Eq.{bytes_eq-Decides}
-use Rattle.std.proofs.lemmas.List.{take-append-drop, length-map, length-take-le, get_or-drop, get_or-map}
-use Rattle.std.proofs.lemmas.List.Elements.{All-from_get_or}
+use Rattle.std.proofs.lemmas.List.{take-append-drop, length-map, length-take-le, get_or-drop}
 use Rattle.std.proofs.lemmas.Nat.{be_bytes_4, be_bytes_8, from_be_bytes-to_be_bytes_4, from_be_bytes-to_be_bytes_8}
-use Rattle.sudoku_law.specs.Grid.{Cells, IsGrid}
+use Rattle.sudoku_law.specs.Grid.{Cells}
 use Rattle.sudoku_law.specs.Text.{text_of, sign}
-use Rattle.sudoku_rules.specs.Reading.{Reads, IsCellSign, digit_of}
-use Rattle.sudoku_rules.proofs.Reading.{reads_is_grid, text_reads}
+use Rattle.sudoku_rules.specs.Reading.{Reads, digit_of}
+use Rattle.sudoku_rules.specs.Sides.{IsSudoku, is_sudoku}
+use Rattle.sudoku_rules.proofs.Reading.{text_reads}
+use Rattle.sudoku_rules.proofs.Sides.{sudoku_test, test_sudoku}
 use Rattle.puzzle_app.specs.Bodies.{board_body, board_in, board_of, solution_body, solution_in, solution_of}
 use Rattle.puzzle_app.specs.declared.units.Board.{Board}
 use Rattle.puzzle_app.specs.declared.units.Solution.{Solution}
@@ -20,20 +20,20 @@ pub reads_once : (text : List ℕ) (g h : Cells) → Reads text g → Reads text
 reads_once text g h of_g of_h = of_g.cells ∙ sym of_h.cells
 
 -- where the grid was read of the text, and has this very text, it is the one grid with it
-pub text_found : (text : List ℕ) (found : Cells) → Reads text found → text ≡ text_of found → (g : Cells) → IsGrid 3 g → (Some found ≡ Some g) ↔ (text ≡ text_of g)
+pub text_found : (text : List ℕ) (found : Cells) → Reads text found → text ≡ text_of found → (g : Cells) → IsSudoku g → (Some found ≡ Some g) ↔ (text ≡ text_of g)
 text_found text found reads same g grid = (
   λ e. let is : found ≡ g = cc in same ∙ ap text_of is,
   λ e. ap Some (reads_once text found g reads (subst (λ t. Reads t g) (sym e) (text_reads g grid))),
 )
 
-pub text_unlike : (text : List ℕ) (found : Cells) → Reads text found → (text ≡ text_of found → ⊥) → (g : Cells) → IsGrid 3 g → (None ≡ Some g) ↔ (text ≡ text_of g)
+pub text_unlike : (text : List ℕ) (found : Cells) → Reads text found → (text ≡ text_of found → ⊥) → (g : Cells) → IsSudoku g → (None ≡ Some g) ↔ (text ≡ text_of g)
 text_unlike text found reads differs g grid = (
   λ e. absurd (cc),
   λ e. absurd (let is : found ≡ g = reads_once text found g reads (subst (λ t. Reads t g) (sym e) (text_reads g grid)) in differs (e ∙ ap text_of (sym is))),
 )
 
 -- no grid was read of the text
-pub none_read : (text : List ℕ) {found : Option Cells} → ((h : Cells) → Reads text h → found ≡ Some h) → found ≡ None → (g : Cells) → IsGrid 3 g → (None ≡ Some g) ↔ (text ≡ text_of g)
+pub none_read : (text : List ℕ) {found : Option Cells} → ((h : Cells) → Reads text h → found ≡ Some h) → found ≡ None → (g : Cells) → IsSudoku g → (None ≡ Some g) ↔ (text ≡ text_of g)
 none_read text {found} reads none g grid = (
   λ e. absurd (cc),
   λ e. sym none ∙ reads g (subst (λ t. Reads t g) (sym e) (text_reads g grid)),
@@ -48,34 +48,6 @@ bytes_take (suc n) (x ∷ l) bytes (suc i) = bytes_take n l (λ j. bytes (suc j)
 
 bytes_drop : (n : ℕ) (l : List ℕ) → ((i : ℕ) → get_or l i 0 < 256) → (i : ℕ) → get_or (drop n l) i 0 < 256
 bytes_drop n l bytes i = rw (get_or-drop n l i 0) (bytes (n + i))
-
--- a byte that is the sign of its own digit is the sign of a cell
-its_sign : (b : ℕ) → b ≡ sign (digit_of b) → IsCellSign b
-its_sign b e = elim (cases_eq b 46) [
-  | inl dot ↦ inl dot
-  | inr other ↦
-      let d : digit_of b ≡ b - 48 = cond-false (eqb b 46) 0 (b - 48) (ne_eqb b 46 other) in
-      elim (cases_lt (b - 48) 10) [
-        | inl few ↦
-            let s : sign (b - 48) ≡ 48 + (b - 48) = cond-true (ltb (b - 48) 10) (48 + (b - 48)) (55 + (b - 48)) (lt-ltb (b - 48) 10 few) in
-            let w : b ≡ 48 + (b - 48) = e ∙ ap sign d ∙ s in
-            inr (omega arith, omega arith)
-        | inr many ↦
-            let s : sign (b - 48) ≡ 55 + (b - 48) = cond-false (ltb (b - 48) 10) (48 + (b - 48)) (55 + (b - 48)) (le-ltb (b - 48) 10 many) in
-            let w : b ≡ 55 + (b - 48) = e ∙ ap sign d ∙ s in
-            absurd (omega arith)
-      ]
-]
-
--- a text of 81 bytes that its own digits have is that of a grid
-its_grid : (text : List ℕ) → length text ≡ 81 → text ≡ text_of (map digit_of text) → IsGrid 3 (map digit_of text)
-its_grid text long e =
-    let P : ℕ → Type 0 = λ byte. IsCellSign byte in
-    let at : (k : ℕ) → k < length text → P (get_or text k 0) = λ k h.
-    let digits : get_or (map digit_of text) k 0 ≡ digit_of (get_or text k 0) = get_or-map digit_of text k 0 0 h in
-    let signs : get_or (text_of (map digit_of text)) k 0 ≡ sign (get_or (map digit_of text) k 0) = get_or-map sign (map digit_of text) k 0 0 (omega (arith, length-map text digit_of)) in
-    its_sign (get_or text k 0) (ap (λ t. get_or t k 0) e ∙ signs ∙ ap sign digits) in
-    reads_is_grid text (map digit_of text) (record { long = long; signs = All-from_get_or P text 0 at; cells = refl })
 
 -- a test of two parts that gives a value
 if_some : {X : Type 0} (a b : Bool) (x y : X) → cond (a && b) (Some x) None ≡ Some y → (a ≡ true) × (b ≡ true) × (x ≡ y)
@@ -111,9 +83,9 @@ pub board_end : (b : Board) → drop 8 (drop 4 (board_body b)) ≡ text_of b.gri
 unfolding board_body
 board_end b = refl
 
-pub board_long : (b : Board) → IsGrid 3 b.grid → length (board_body b) ≡ 93
-board_long b grid =
-    let long : length (text_of b.grid) ≡ 81 = length-map b.grid sign ∙ grid.long in
+pub board_long : (b : Board) → length (board_body b) ≡ 12 + length b.grid
+board_long b =
+    let long : length (text_of b.grid) ≡ length b.grid = length-map b.grid sign in
     let front : List ℕ = to_be_bytes w32 b.puzzle in
     let middle : List ℕ = to_be_bytes w64 b.budget in
     let four : length front ≡ 4 = refl in
@@ -136,47 +108,41 @@ same_board a b p n g =
     ap with_puzzle p ∙ ap with_budget n ∙ ap with_grid g
 
 -- a board is what stands in its body
-board_in_is : (b : Board) → b.puzzle < 2 ^ 32 → b.budget < 2 ^ 64 → IsGrid 3 b.grid → board_in (board_body b) ≡ b
+board_in_is : (b : Board) → b.puzzle < 2 ^ 32 → b.budget < 2 ^ 64 → IsSudoku b.grid → board_in (board_body b) ≡ b
 board_in_is b small_puzzle small_budget grid = same_board (board_in (board_body b)) b
     (ap (λ x. from_be_bytes w32 x) (board_front b) ∙ from_be_bytes-to_be_bytes_4 b.puzzle small_puzzle)
     (ap (λ x. from_be_bytes w64 x) (board_middle b) ∙ from_be_bytes-to_be_bytes_8 b.budget small_budget)
     (ap (λ x. map digit_of x) (board_end b) ∙ sym (text_reads b.grid grid).cells)
 
 -- what is read of a body has this body
-pub board_of_is : (body : List ℕ) (b : Board) → board_of body ≡ Some b → (length body ≡ 93) × (body ≡ board_body b) × (board_in body ≡ b)
+pub board_of_is : (body : List ℕ) (b : Board) → board_of body ≡ Some b → IsSudoku b.grid × (body ≡ board_body b) × (board_in body ≡ b)
 unfolding board_of
 board_of_is body b e =
-    let parts = if_some (length body == 93) (bytes_eq body (board_body (board_in body))) (board_in body) b e in
-    (eqb-true (length body) 93 parts.0, (bytes_eq-Decides body (board_body (board_in body))).0 parts.1 ∙ ap board_body parts.2, parts.2)
+    let parts = if_some (is_sudoku (board_in body).grid) (bytes_eq body (board_body (board_in body))) (board_in body) b e in (
+      subst (λ (x : Board). IsSudoku x.grid) parts.2 (test_sudoku (board_in body).grid parts.0),
+      (bytes_eq-Decides body (board_body (board_in body))).0 parts.1 ∙ ap board_body parts.2,
+      parts.2,
+    )
 
-pub board_of_same : (body : List ℕ) → length body ≡ 93 → body ≡ board_body (board_in body) → board_of body ≡ Some (board_in body)
+pub board_of_same : (body : List ℕ) → IsSudoku (board_in body).grid → body ≡ board_body (board_in body) → board_of body ≡ Some (board_in body)
 unfolding board_of
-board_of_same body long same = if_both (length body == 93) (bytes_eq body (board_body (board_in body))) (board_in body) (eq-eqb (length body) 93 long) ((bytes_eq-Decides body (board_body (board_in body))).1 same)
-
--- the board that is read of a body has a grid
-pub board_of_grid : (body : List ℕ) (b : Board) → board_of body ≡ Some b → IsGrid 3 b.grid
-board_of_grid body b e =
-    let is = board_of_is body b e in
-    let text : List ℕ = drop 8 (drop 4 body) in
-    let here : text ≡ text_of (map digit_of text) = ap (λ x. drop 8 (drop 4 x)) is.1 ∙ board_end b ∙ ap (λ (x : Board). text_of x.grid) (sym is.2) in
-    let long : length text ≡ 81 = omega (arith, length-drop 8 (drop 4 body), length-drop 4 body, is.0) in
-    subst (λ (x : Board). IsGrid 3 x.grid) is.2 (its_grid text long here)
+board_of_same body grid same = if_both (is_sudoku (board_in body).grid) (bytes_eq body (board_body (board_in body))) (board_in body) (sudoku_test (board_in body).grid grid) ((bytes_eq-Decides body (board_body (board_in body))).1 same)
 
 -- a board is read of its body alone
-pub board_law : (body : List ℕ) (b : Board) → b.puzzle < 2 ^ 32 → b.budget < 2 ^ 64 → IsGrid 3 b.grid → (board_of body ≡ Some b) ↔ (body ≡ board_body b)
+pub board_law : (body : List ℕ) (b : Board) → b.puzzle < 2 ^ 32 → b.budget < 2 ^ 64 → IsSudoku b.grid → (board_of body ≡ Some b) ↔ (body ≡ board_body b)
 board_law body b small_puzzle small_budget grid = (
   λ e. (board_of_is body b e).1,
   λ e.
       let back : board_in (board_body b) ≡ b = board_in_is b small_puzzle small_budget grid in
-      let own : board_of (board_body b) ≡ Some (board_in (board_body b)) = board_of_same (board_body b) (board_long b grid) (ap board_body (sym back)) in
+      let own : board_of (board_body b) ≡ Some (board_in (board_body b)) = board_of_same (board_body b) (subst (λ (x : Board). IsSudoku x.grid) (sym back) grid) (ap board_body (sym back)) in
       ap board_of e ∙ own ∙ ap Some back,
 )
 
-pub board_exact : (body : List ℕ) (o : Option Board) → o ≡ board_of body → (b : Board) → b.puzzle < 2 ^ 32 → b.budget < 2 ^ 64 → IsGrid 3 b.grid → (o ≡ Some b) ↔ (body ≡ board_body b)
+pub board_exact : (body : List ℕ) (o : Option Board) → o ≡ board_of body → (b : Board) → b.puzzle < 2 ^ 32 → b.budget < 2 ^ 64 → IsSudoku b.grid → (o ≡ Some b) ↔ (body ≡ board_body b)
 board_exact body o is b p n g = let law = board_law body b p n g in (λ e. law.0 (sym is ∙ e), λ e. is ∙ law.1 e)
 
 -- the numbers that are read of these parts, and the grid, are the board of the body
-pub board_read : (body : List ℕ) (found : Board) → length body ≡ 93 → ((i : ℕ) → get_or body i 0 < 256) → found.puzzle ≡ from_be_bytes w32 (take 4 body) → found.budget ≡ from_be_bytes w64 (take 8 (drop 4 body)) → drop 8 (drop 4 body) ≡ text_of found.grid → IsGrid 3 found.grid → Some found ≡ board_of body
+pub board_read : (body : List ℕ) (found : Board) → 12 ≤ length body → ((i : ℕ) → get_or body i 0 < 256) → found.puzzle ≡ from_be_bytes w32 (take 4 body) → found.budget ≡ from_be_bytes w64 (take 8 (drop 4 body)) → drop 8 (drop 4 body) ≡ text_of found.grid → IsSudoku found.grid → Some found ≡ board_of body
 board_read body found long bytes puzzle budget text grid =
     let front : List ℕ = take 4 body in
     let rest : List ℕ = drop 4 body in
@@ -186,15 +152,16 @@ board_read body found long bytes puzzle budget text grid =
     let of_middle : to_be_bytes w64 found.budget ≡ middle = be_bytes_8 middle found.budget (length-take-le 8 rest (omega arith)) (bytes_take 8 rest (bytes_drop 4 body bytes)) budget in
     let whole : body ≡ board_body found = board_whole body found of_front of_middle text in
     let is : found ≡ board_in body = same_board found (board_in body) puzzle budget ((text_reads found.grid grid).cells ∙ ap (λ x. map digit_of x) (sym text)) in
-    ap Some is ∙ sym (board_of_same body long (whole ∙ ap board_body is))
+    ap Some is ∙ sym (board_of_same body (subst (λ (x : Board). IsSudoku x.grid) is grid) (whole ∙ ap board_body is))
 
-pub board_short : (body : List ℕ) → (length body ≡ 93 → ⊥) → None ≡ board_of body
-board_short body short = only_none (board_of body) (λ b e. short (board_of_is body b e).0)
+pub board_short : (body : List ℕ) → length body < 12 → None ≡ board_of body
+board_short body short = only_none (board_of body) (λ b e.
+    let long : length body ≡ 12 + length b.grid = ap length (board_of_is body b e).1 ∙ board_long b in omega arith)
 
-pub board_unread : (body : List ℕ) → ((g : Cells) → IsGrid 3 g → (None ≡ Some g) ↔ (drop 8 (drop 4 body) ≡ text_of g)) → None ≡ board_of body
+pub board_unread : (body : List ℕ) → ((g : Cells) → IsSudoku g → (None ≡ Some g) ↔ (drop 8 (drop 4 body) ≡ text_of g)) → None ≡ board_of body
 board_unread body none = only_none (board_of body) (λ b e.
     let text : drop 8 (drop 4 body) ≡ text_of b.grid = ap (λ x. drop 8 (drop 4 x)) (board_of_is body b e).1 ∙ board_end b in
-    let no_grid : None ≡ Some b.grid = (none b.grid (board_of_grid body b e)).1 text in cc)
+    let no_grid : None ≡ Some b.grid = (none b.grid (board_of_is body b e).0).1 text in cc)
 
 -- Solutions.
 
@@ -210,9 +177,9 @@ pub solution_end : (s : Solution) → drop 4 (solution_body s) ≡ text_of s.gri
 unfolding solution_body
 solution_end s = refl
 
-pub solution_long : (s : Solution) → IsGrid 3 s.grid → length (solution_body s) ≡ 85
-solution_long s grid =
-    let long : length (text_of s.grid) ≡ 81 = length-map s.grid sign ∙ grid.long in
+pub solution_long : (s : Solution) → length (solution_body s) ≡ 4 + length s.grid
+solution_long s =
+    let long : length (text_of s.grid) ≡ length s.grid = length-map s.grid sign in
     let front : List ℕ = to_be_bytes w32 s.puzzle in
     let four : length front ≡ 4 = refl in
     ap length (solution_is s) ∙ omega (arith, length-append front (text_of s.grid), long, four)
@@ -230,56 +197,51 @@ same_solution a b p g =
     let with_grid : Cells → Solution = λ x. record { puzzle = b.puzzle; grid = x } in
     ap with_puzzle p ∙ ap with_grid g
 
-solution_in_is : (s : Solution) → s.puzzle < 2 ^ 32 → IsGrid 3 s.grid → solution_in (solution_body s) ≡ s
+solution_in_is : (s : Solution) → s.puzzle < 2 ^ 32 → IsSudoku s.grid → solution_in (solution_body s) ≡ s
 solution_in_is s small_puzzle grid = same_solution (solution_in (solution_body s)) s
     (ap (λ x. from_be_bytes w32 x) (solution_front s) ∙ from_be_bytes-to_be_bytes_4 s.puzzle small_puzzle)
     (ap (λ x. map digit_of x) (solution_end s) ∙ sym (text_reads s.grid grid).cells)
 
 -- what is read of a body has this body
-pub solution_of_is : (body : List ℕ) (s : Solution) → solution_of body ≡ Some s → (length body ≡ 85) × (body ≡ solution_body s) × (solution_in body ≡ s)
+pub solution_of_is : (body : List ℕ) (s : Solution) → solution_of body ≡ Some s → IsSudoku s.grid × (body ≡ solution_body s) × (solution_in body ≡ s)
 unfolding solution_of
 solution_of_is body s e =
-    let parts = if_some (length body == 85) (bytes_eq body (solution_body (solution_in body))) (solution_in body) s e in
-    (eqb-true (length body) 85 parts.0, (bytes_eq-Decides body (solution_body (solution_in body))).0 parts.1 ∙ ap solution_body parts.2, parts.2)
+    let parts = if_some (is_sudoku (solution_in body).grid) (bytes_eq body (solution_body (solution_in body))) (solution_in body) s e in (
+      subst (λ (x : Solution). IsSudoku x.grid) parts.2 (test_sudoku (solution_in body).grid parts.0),
+      (bytes_eq-Decides body (solution_body (solution_in body))).0 parts.1 ∙ ap solution_body parts.2,
+      parts.2,
+    )
 
-pub solution_of_same : (body : List ℕ) → length body ≡ 85 → body ≡ solution_body (solution_in body) → solution_of body ≡ Some (solution_in body)
+pub solution_of_same : (body : List ℕ) → IsSudoku (solution_in body).grid → body ≡ solution_body (solution_in body) → solution_of body ≡ Some (solution_in body)
 unfolding solution_of
-solution_of_same body long same = if_both (length body == 85) (bytes_eq body (solution_body (solution_in body))) (solution_in body) (eq-eqb (length body) 85 long) ((bytes_eq-Decides body (solution_body (solution_in body))).1 same)
-
--- the solution that is read of a body has a grid
-pub solution_of_grid : (body : List ℕ) (s : Solution) → solution_of body ≡ Some s → IsGrid 3 s.grid
-solution_of_grid body s e =
-    let is = solution_of_is body s e in
-    let text : List ℕ = drop 4 body in
-    let here : text ≡ text_of (map digit_of text) = ap (λ x. drop 4 x) is.1 ∙ solution_end s ∙ ap (λ (x : Solution). text_of x.grid) (sym is.2) in
-    let long : length text ≡ 81 = omega (arith, length-drop 4 body, is.0) in
-    subst (λ (x : Solution). IsGrid 3 x.grid) is.2 (its_grid text long here)
+solution_of_same body grid same = if_both (is_sudoku (solution_in body).grid) (bytes_eq body (solution_body (solution_in body))) (solution_in body) (sudoku_test (solution_in body).grid grid) ((bytes_eq-Decides body (solution_body (solution_in body))).1 same)
 
 -- a solution is read of its body alone
-pub solution_law : (body : List ℕ) (s : Solution) → s.puzzle < 2 ^ 32 → IsGrid 3 s.grid → (solution_of body ≡ Some s) ↔ (body ≡ solution_body s)
+pub solution_law : (body : List ℕ) (s : Solution) → s.puzzle < 2 ^ 32 → IsSudoku s.grid → (solution_of body ≡ Some s) ↔ (body ≡ solution_body s)
 solution_law body s small_puzzle grid = (
   λ e. (solution_of_is body s e).1,
   λ e.
       let back : solution_in (solution_body s) ≡ s = solution_in_is s small_puzzle grid in
-      let own : solution_of (solution_body s) ≡ Some (solution_in (solution_body s)) = solution_of_same (solution_body s) (solution_long s grid) (ap solution_body (sym back)) in
+      let own : solution_of (solution_body s) ≡ Some (solution_in (solution_body s)) = solution_of_same (solution_body s) (subst (λ (x : Solution). IsSudoku x.grid) (sym back) grid) (ap solution_body (sym back)) in
       ap solution_of e ∙ own ∙ ap Some back,
 )
 
-pub solution_exact : (body : List ℕ) (o : Option Solution) → o ≡ solution_of body → (s : Solution) → s.puzzle < 2 ^ 32 → IsGrid 3 s.grid → (o ≡ Some s) ↔ (body ≡ solution_body s)
+pub solution_exact : (body : List ℕ) (o : Option Solution) → o ≡ solution_of body → (s : Solution) → s.puzzle < 2 ^ 32 → IsSudoku s.grid → (o ≡ Some s) ↔ (body ≡ solution_body s)
 solution_exact body o is s p g = let law = solution_law body s p g in (λ e. law.0 (sym is ∙ e), λ e. is ∙ law.1 e)
 
-pub solution_read : (body : List ℕ) (found : Solution) → length body ≡ 85 → ((i : ℕ) → get_or body i 0 < 256) → found.puzzle ≡ from_be_bytes w32 (take 4 body) → drop 4 body ≡ text_of found.grid → IsGrid 3 found.grid → Some found ≡ solution_of body
+pub solution_read : (body : List ℕ) (found : Solution) → 4 ≤ length body → ((i : ℕ) → get_or body i 0 < 256) → found.puzzle ≡ from_be_bytes w32 (take 4 body) → drop 4 body ≡ text_of found.grid → IsSudoku found.grid → Some found ≡ solution_of body
 solution_read body found long bytes puzzle text grid =
     let front : List ℕ = take 4 body in
     let of_front : to_be_bytes w32 found.puzzle ≡ front = be_bytes_4 front found.puzzle (length-take-le 4 body (omega arith)) (bytes_take 4 body bytes) puzzle in
     let whole : body ≡ solution_body found = solution_whole body found of_front text in
     let is : found ≡ solution_in body = same_solution found (solution_in body) puzzle ((text_reads found.grid grid).cells ∙ ap (λ x. map digit_of x) (sym text)) in
-    ap Some is ∙ sym (solution_of_same body long (whole ∙ ap solution_body is))
+    ap Some is ∙ sym (solution_of_same body (subst (λ (x : Solution). IsSudoku x.grid) is grid) (whole ∙ ap solution_body is))
 
-pub solution_short : (body : List ℕ) → (length body ≡ 85 → ⊥) → None ≡ solution_of body
-solution_short body short = only_none (solution_of body) (λ s e. short (solution_of_is body s e).0)
+pub solution_short : (body : List ℕ) → length body < 4 → None ≡ solution_of body
+solution_short body short = only_none (solution_of body) (λ s e.
+    let long : length body ≡ 4 + length s.grid = ap length (solution_of_is body s e).1 ∙ solution_long s in omega arith)
 
-pub solution_unread : (body : List ℕ) → ((g : Cells) → IsGrid 3 g → (None ≡ Some g) ↔ (drop 4 body ≡ text_of g)) → None ≡ solution_of body
+pub solution_unread : (body : List ℕ) → ((g : Cells) → IsSudoku g → (None ≡ Some g) ↔ (drop 4 body ≡ text_of g)) → None ≡ solution_of body
 solution_unread body none = only_none (solution_of body) (λ s e.
     let text : drop 4 body ≡ text_of s.grid = ap (λ x. drop 4 x) (solution_of_is body s e).1 ∙ solution_end s in
-    let no_grid : None ≡ Some s.grid = (none s.grid (solution_of_grid body s e)).1 text in cc)
+    let no_grid : None ≡ Some s.grid = (none s.grid (solution_of_is body s e).0).1 text in cc)

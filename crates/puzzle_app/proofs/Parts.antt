@@ -2,9 +2,10 @@
 use Rattle.std.proofs.Common.{◌≡◌, ℕ, ◌+◌, ◌<◌, ◌≤◌, ◌==◌, true, false, List, [], ◌∷◌, ◌++◌, length, drop, get_or, refl, sym, ap, ◌∙◌, subst, append_assoc, append-nil, MatchBool, IsPermutation}
 use Rattle.std.proofs.lemmas.Bool.{cond-true, cond-false, eq-eqb, ne_eqb}
 use Rattle.std.proofs.lemmas.List.{drop_all, drop_more}
-use Rattle.sudoku_law.specs.Grid.{Cells, IsGrid}
+use Rattle.sudoku_law.specs.Grid.{Cells}
+use Rattle.sudoku_rules.specs.Sides.{IsSudoku, box_side, tree_of}
 use Rattle.sudoku_law.specs.Solutions.{IsSolutionList}
-use Rattle.sudoku_law.specs.Tree.{tree, solutions, is_over}
+use Rattle.sudoku_law.specs.Tree.{solutions, is_over}
 use Rattle.puzzle_app.specs.Jobs.{puzzles}
 use Rattle.puzzle_app.specs.Report.{AreHeld, AreParts, AreWhole, IsHeld, IsPuzzlePart, IsReport, all_boards, all_solutions, found, found_in, made_in, over_part, solutions_part, told_over, totals}
 use Rattle.puzzle_app.specs.declared.jobs.Item.{Item}
@@ -37,14 +38,14 @@ all_added n i sols grids all past so_far =
 
 pub over_is : (n : ℕ) (outcomes : List PuzzleOutcome) → told_over n outcomes ≡ true → (budget : ℕ) (g : Cells) → IsHeld budget n g outcomes → IsPuzzlePart budget n g (over_part n)
 over_is n outcomes over budget g held =
-    let is : true ≡ is_over (tree 3 budget g) = sym over ∙ held.over in
-    subst (λ b. MatchBool b (over_part n ≡ over_part n) ((xs : List Cells) × IsSolutionList 3 g xs × (over_part n ≡ solutions_part n xs))) is refl
+    let is : true ≡ is_over (tree_of budget g) = sym over ∙ held.over in
+    subst (λ b. MatchBool b (over_part n ≡ over_part n) ((xs : List Cells) × IsSolutionList (box_side g) g xs × (over_part n ≡ solutions_part n xs))) is refl
 
-pub listed_is : (n : ℕ) (outcomes : List PuzzleOutcome) (grids sorted : List Cells) → told_over n outcomes ≡ false → grids ≡ found n outcomes → ((b : ℕ) (g : Cells) → IsGrid 3 g → is_over (tree 3 b g) ≡ false → IsPermutation (solutions (tree 3 b g)) grids → IsSolutionList 3 g sorted) → (budget : ℕ) (g : Cells) → IsHeld budget n g outcomes → IsPuzzlePart budget n g (solutions_part n sorted)
+pub listed_is : (n : ℕ) (outcomes : List PuzzleOutcome) (grids sorted : List Cells) → told_over n outcomes ≡ false → grids ≡ found n outcomes → ((b : ℕ) (g : Cells) → IsSudoku g → is_over (tree_of b g) ≡ false → IsPermutation (solutions (tree_of b g)) grids → IsSolutionList (box_side g) g sorted) → (budget : ℕ) (g : Cells) → IsHeld budget n g outcomes → IsPuzzlePart budget n g (solutions_part n sorted)
 listed_is n outcomes grids sorted whole all law budget g held =
-    let is : false ≡ is_over (tree 3 budget g) = sym whole ∙ held.over in
-    let list : IsSolutionList 3 g sorted = law budget g held.grid (sym is) (subst (λ xs. IsPermutation (solutions (tree 3 budget g)) xs) (sym all) held.nodes) in
-    subst (λ b. MatchBool b (solutions_part n sorted ≡ over_part n) ((xs : List Cells) × IsSolutionList 3 g xs × (solutions_part n sorted ≡ solutions_part n xs))) is (sorted, list, refl)
+    let is : false ≡ is_over (tree_of budget g) = sym whole ∙ held.over in
+    let list : IsSolutionList (box_side g) g sorted = law budget g held.grid (sym is) (subst (λ xs. IsPermutation (solutions (tree_of budget g)) xs) (sym all) held.nodes) in
+    subst (λ b. MatchBool b (solutions_part n sorted ≡ over_part n) ((xs : List Cells) × IsSolutionList (box_side g) g xs × (solutions_part n sorted ≡ solutions_part n xs))) is (sorted, list, refl)
 
 -- what is known of the text before the puzzles that are left
 abbrev pub IsBefore : List Cells → ℕ → List Cells → List PuzzleOutcome → List ℕ → Type 0

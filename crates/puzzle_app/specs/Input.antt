@@ -1,11 +1,12 @@
--- The form of an input: one puzzle line.
-use Rattle.std.specs.Prelude.{◌≡◌, ◌⊎◌, ℕ, List, [], ◌∷◌, ◌++◌}
+-- The form of an input: one puzzle line of side 9.
+use Rattle.std.specs.Prelude.{◌≡◌, ◌⊎◌, ℕ, List, [], ◌∷◌, ◌++◌, length}
 use Rattle.sudoku_law.specs.Grid.{Cells}
 use Rattle.sudoku_rules.specs.Reading.{Reads}
 
--- the bytes are the text of the grid, and then one line feed or the end
+-- the bytes are 81 bytes, the text of the grid, and then one line feed or the end
 pub record HasForm (bytes : List ℕ) (g : Cells) : Type 0 where
   pub text : List ℕ
+  pub long : length text ≡ 81
   pub reads : Reads text g
   pub ends : (bytes ≡ text) ⊎ (bytes ≡ text ++ 10 ∷ [])
 

@@ -6,7 +6,8 @@ use Rattle.adlb_unit.specs.declared.notes.UnitNote.{UnitNote}
 use Rattle.bag_ledger.specs.declared.entries.Call.{Call}
 use Rattle.bag_ledger.specs.declared.entries.Call.TheVariants.{Put}
 use Rattle.sudoku_law.specs.Grid.{Cells}
-use Rattle.sudoku_law.specs.Tree.{Met, tree, walk}
+use Rattle.sudoku_law.specs.Tree.{Met, walk}
+use Rattle.sudoku_rules.specs.Sides.{tree_of}
 use Rattle.puzzle_app.specs.Bodies.{board_body, board_of, solution_body, solution_of}
 use Rattle.puzzle_app.specs.Jobs.{puzzles}
 use Rattle.puzzle_app.specs.declared.jobs.Job.{Job}
@@ -29,7 +30,7 @@ put_of (made.Solution s) = Put (record { 0 = 1 }) (pos 100) (Only answer_rank) N
 
 -- what one unit's work on a board meets
 abbrev pub walk_of : ℕ → Board → Met
-walk_of grain b = walk grain (tree 3 b.budget b.grid)
+walk_of grain b = walk grain (tree_of b.budget b.grid)
 
 abbrev pub child_of : ℕ → ℕ × Cells → Made
 child_of puzzle c = made.Board (record { puzzle = puzzle; budget = c.0; grid = c.1 })

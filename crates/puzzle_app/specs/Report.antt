@@ -1,10 +1,11 @@
 -- The report of the jobs of an input, and what outcomes together hold.
 use Rattle.std.specs.Prelude.{◌≡◌, ℕ, ◌+◌, ◌==◌, Bool, List, [], ◌∷◌, ◌++◌, length, codes, decimal, sum_by, slice_index, MatchBool, IsPermutation, if◌then◌else◌}
 use Rattle.std.specs.List.{flat_map, list_any}
-use Rattle.sudoku_law.specs.Grid.{Cells, IsGrid}
+use Rattle.sudoku_law.specs.Grid.{Cells}
 use Rattle.sudoku_law.specs.Solutions.{IsSolutionList}
 use Rattle.sudoku_law.specs.Text.{text_of}
-use Rattle.sudoku_law.specs.Tree.{tree, solutions, is_over, boards}
+use Rattle.sudoku_law.specs.Tree.{solutions, is_over, boards}
+use Rattle.sudoku_rules.specs.Sides.{IsSudoku, box_side, tree_of}
 use Rattle.puzzle_app.specs.Jobs.{puzzles}
 use Rattle.puzzle_app.specs.declared.jobs.Job.{Job}
 use Rattle.puzzle_app.specs.declared.outcomes.PuzzleOutcome.{PuzzleOutcome}
@@ -30,13 +31,13 @@ over_part n = line (codes "puzzle " ++ decimal n ++ codes " over")
 
 -- how many boards, solutions, jobs and answers were made
 abbrev pub totals : ℕ → ℕ → ℕ → ℕ → List ℕ
-totals boards found jobs answers =
-    line (codes "totals") ++ counted (codes "board") boards ++ counted (codes "solution") found ++ counted (codes "job") jobs ++ counted (codes "answer") answers
+totals boards solved jobs answers =
+    line (codes "totals") ++ counted (codes "board") boards ++ counted (codes "solution") solved ++ counted (codes "job") jobs ++ counted (codes "answer") answers
 
 -- the part of puzzle n: all its solutions in text order, or that it is over where some node of its tree is
 abbrev pub IsPuzzlePart : ℕ → ℕ → Cells → List ℕ → Type 0
 IsPuzzlePart budget n g part =
-    MatchBool (is_over (tree 3 budget g)) (part ≡ over_part n) ((xs : List Cells) × IsSolutionList 3 g xs × (part ≡ solutions_part n xs))
+    MatchBool (is_over (tree_of budget g)) (part ≡ over_part n) ((xs : List Cells) × IsSolutionList (box_side g) g xs × (part ≡ solutions_part n xs))
 
 -- the parts of the puzzles from number n on, one after the other
 abbrev pub AreParts : ℕ → ℕ → List Cells → List ℕ → Type 0
@@ -46,10 +47,10 @@ AreParts budget n (g ∷ gs) text =
 
 -- how many boards and solutions are made of the puzzles
 abbrev pub all_boards : ℕ → ℕ → List Cells → ℕ
-all_boards budget grain gs = sum_by (λ g. boards grain (tree 3 budget g)) gs
+all_boards budget grain gs = sum_by (λ g. boards grain (tree_of budget g)) gs
 
 abbrev pub all_solutions : ℕ → List Cells → ℕ
-all_solutions budget gs = sum_by (λ g. length (solutions (tree 3 budget g))) gs
+all_solutions budget gs = sum_by (λ g. length (solutions (tree_of budget g))) gs
 
 -- the report: the part of each puzzle in input order, and the totals
 pub record IsReport (budget grain : ℕ) (jobs : List Job) (bytes : List ℕ) : Type 0 where
@@ -77,9 +78,9 @@ made_in k outcomes = sum_by (λ (o : PuzzleOutcome). slice_index o.made k) outco
 
 -- the outcomes together hold the solution nodes of puzzle n, each once, and tell whether it is over
 pub record IsHeld (budget n : ℕ) (g : Cells) (outcomes : List PuzzleOutcome) : Type 0 where
-  pub grid : IsGrid 3 g
-  pub nodes : IsPermutation (solutions (tree 3 budget g)) (found n outcomes)
-  pub over : told_over n outcomes ≡ is_over (tree 3 budget g)
+  pub grid : IsSudoku g
+  pub nodes : IsPermutation (solutions (tree_of budget g)) (found n outcomes)
+  pub over : told_over n outcomes ≡ is_over (tree_of budget g)
 
 -- the same of the puzzles from number n on
 abbrev pub AreHeld : ℕ → ℕ → List Cells → List PuzzleOutcome → Type 0

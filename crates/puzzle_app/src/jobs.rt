@@ -1,15 +1,17 @@
 //! The jobs of an input.
 
-ghost use Rattle.std.specs.Prelude.{◌≡◌, ◌↔◌, ℕ, List, Some, Err, IfOk, IfSome, IsNone};
-ghost use Rattle.sudoku_law.specs.Grid.{IsGrid};
+ghost use Rattle.std.specs.Prelude.{◌≡◌, ◌↔◌, ℕ, List, Some, Err, IfOk, IsNone};
 ghost use Rattle.puzzle_app.specs.Input.{HasForm, IsAccepted, IsLine};
 ghost use Rattle.puzzle_app.specs.Jobs.{AreJobs};
 
 use adlb_unit::Payload;
 use std::alloc::Global;
 use std::marker::Model;
-use sudoku_rules::{Grid, parse81};
+use sudoku_rules::{Grid, parse_grid};
 use thiserror::Error;
+
+/// The bytes of a puzzle line, which has a grid of side 9.
+const LINE_BYTES: usize = 81;
 
 /// What is asked of the bytes of a batch: how many are from `lo` to `hi`, their sum, or the greatest.
 #[derive(Clone, Copy, Debug, PartialEq, Eq)]
@@ -119,10 +121,13 @@ pub fn read_jobs(alloc: Global, bytes: &[u8]) -> Result<Jobs, JobsFault>
 // The grid of an input of one puzzle line.
 fn grid_of(bytes: &[u8]) -> Option<Grid>
     ensures some { (g : List ℕ) → (result ≡ Some g) ↔ HasForm bytes.now g }
-    ensures grid { IfSome result (IsGrid 3) }
     ensures none { IsNone result → IsAccepted bytes.now → ⊥ }
 {
-    parse81(without_line_feed(bytes)).ok()
+    let line = without_line_feed(bytes);
+    if line.len() != LINE_BYTES {
+        return None;
+    }
+    parse_grid(line).ok()
 }
 
 // The bytes without a line feed at their end.

@@ -131,7 +131,7 @@ fn append_grids(text: &mut Vec<u8>, grids: &[Grid]) -> Result<(), NoMemory>
     ensures { OnOk result (text.new.items ≡ text.old.items ++ grid_lines grids.now) }
 {
     for grid in grids {
-        append(text, &grid.text())?;
+        append(text, grid.text().as_slice())?;
         append(text, b"\n")?;
     }
     Ok(())

@@ -12,7 +12,7 @@ use fake::Fake;
 use rank_client::RankProgram;
 use std::alloc::Global;
 use std::test::Fail;
-use sudoku_rules::parse81;
+use sudoku_rules::parse_grid;
 
 /// The settings of a run without options.
 const SETTINGS: Settings = Settings {
@@ -36,36 +36,70 @@ const TWO: &str =
 const OTHER: &str =
     "534678912672195348198342567859763421426851793713924856961537284287419635345286179";
 
+// The numbers of the first bytes, and the rest as text.
+fn shown(alloc: Global, bytes: &[u8], head: usize) -> Result<String, Fail> {
+    if bytes.len() < head {
+        return Err("too short".into());
+    }
+    let (front, rest) = bytes.split_at(head);
+    let rest = str::from_utf8(rest).unwrap_or("?");
+    Ok(format!(in alloc; "{front:?} {rest}")?)
+}
+
+// How a board's body is read back, with its first byte and without it.
+fn board_read(body: &[u8], board: Board) -> (bool, bool) {
+    if body.is_empty() {
+        return (false, false);
+    }
+    (
+        Board::read(body) == Some(board),
+        Board::read(&body[1..]) == None,
+    )
+}
+
+// The body of a board, and how it is read back.
+fn board_body(alloc: Global, board: Board) -> Result<(String, (bool, bool)), Fail> {
+    let body = board.body(alloc)?;
+    let read = board_read(body.bytes(), board);
+    Ok((shown(alloc, body.bytes(), 12)?, read))
+}
+
+// The body of a solution, and whether it is read back as one, and not as a board.
+fn solution_body(alloc: Global, solution: Solution) -> Result<(String, (bool, bool)), Fail> {
+    let body = solution.body(alloc)?;
+    let read = (
+        Solution::read(body.bytes()) == Some(solution),
+        Board::read(body.bytes()) == None,
+    );
+    Ok((shown(alloc, body.bytes(), 4)?, read))
+}
+
 #[test]
-fn bodies_are_read_back(rt: HostRuntime) -> Result<(), Fail> {
-    let grid = parse81(TWO.as_bytes())?;
-    let board = Board {
-        puzzle: 1,
-        budget: 0x100_0000,
-        grid,
-    };
-    let body = board.body(rt.alloc())?;
-    let front = [0, 0, 0, 1, 0, 0, 0, 0, 1, 0, 0, 0];
-    assert_eq!(rt; body.len(), 93);
-    assert_eq!(rt; &body.bytes()[..12], front.as_slice());
-    assert_eq!(rt; &body.bytes()[12..], TWO.as_bytes());
-    assert!(rt; Board::read(body.bytes()) == Some(board));
-    assert!(rt; Board::read(&body.bytes()[1..]) == None);
+fn boards_are_read_back(rt: HostRuntime) -> Result<(), Fail> {
+    let grid = parse_grid(TWO.as_bytes())?;
+    let rows = [
+        (0x100_0000, "[0, 0, 0, 1, 0, 0, 0, 0, 1, 0, 0, 0]"),
+        (0x7f_ffff, "[0, 0, 0, 1, 0, 0, 0, 0, 0, 127, 255, 255]"),
+    ];
+    for (budget, head) in rows {
+        let board = Board {
+            puzzle: 1,
+            budget,
+            grid,
+        };
+        let (body, read) = board_body(rt.alloc(), board)?;
+        let wanted = format!(in rt.alloc(); "{head} {TWO}")?;
+        assert_eq!(rt; (body.as_str(), read), (wanted.as_str(), (true, true)));
+    }
+    Ok(())
+}
 
-    let child = Board {
-        puzzle: 1,
-        budget: 0x7f_ffff,
-        grid,
-    };
-    let budget = [0, 0, 0, 0, 0, 0x7f, 0xff, 0xff];
-    assert_eq!(rt; &child.body(rt.alloc())?.bytes()[4..12], budget.as_slice());
-
-    let solution = Solution { puzzle: 258, grid };
-    let body = solution.body(rt.alloc())?;
-    assert_eq!(rt; body.len(), 85);
-    assert_eq!(rt; &body.bytes()[..4], [0, 0, 1, 2].as_slice());
-    assert!(rt; Solution::read(body.bytes()) == Some(solution));
-    assert!(rt; Board::read(body.bytes()) == None);
+#[test]
+fn solutions_are_read_back(rt: HostRuntime) -> Result<(), Fail> {
+    let grid = parse_grid(TWO.as_bytes())?;
+    let (body, read) = solution_body(rt.alloc(), Solution { puzzle: 258, grid })?;
+    let wanted = format!(in rt.alloc(); "[0, 0, 1, 2] {TWO}")?;
+    assert_eq!(rt; (body.as_str(), read), (wanted.as_str(), (true, true)));
     Ok(())
 }
 

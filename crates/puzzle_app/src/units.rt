@@ -1,9 +1,9 @@
 //! The units that the work on puzzles makes, and their bodies.
 
-ghost use Rattle.std.specs.Prelude.{◌≡◌, ◌↔◌, ◌<◌, ◌^◌, ℕ, List, length, Some, IfSome, IfOk, option_map};
+ghost use Rattle.std.specs.Prelude.{◌≡◌, ◌↔◌, ◌<◌, ◌≤◌, ◌+◌, ◌^◌, ℕ, List, length, Some, IfSome, IfOk, option_map};
 ghost use Rattle.adlb_unit.specs.Totals.{total_of};
-ghost use Rattle.sudoku_law.specs.Grid.{IsGrid};
 ghost use Rattle.sudoku_law.specs.Text.{text_of};
+ghost use Rattle.sudoku_rules.specs.Sides.{IsSudoku};
 ghost use Rattle.puzzle_app.specs.Bodies.{board_body, board_of, solution_body, solution_of};
 ghost use Rattle.puzzle_app.specs.Made.{fetched_unit, is_for};
 ghost use Rattle.puzzle_app.specs.declared.units.Board.{Board};
@@ -12,13 +12,13 @@ ghost use Rattle.puzzle_app.specs.declared.units.Solution.{Solution};
 use crate::texts::append;
 use adlb_unit::{NoMemory, Payload, Rank, UnitNote};
 use std::alloc::Global;
-use sudoku_rules::{Grid, parse81};
+use sudoku_rules::{Grid, parse_grid};
 
-/// The bytes of a board unit.
-const BOARD_BYTES: usize = 93;
+/// The bytes of a board unit before the text of its grid.
+const BOARD_HEAD: usize = 12;
 
-/// The bytes of a solution unit.
-const SOLUTION_BYTES: usize = 85;
+/// The bytes of a solution unit before the text of its grid.
+const SOLUTION_HEAD: usize = 4;
 
 /// A board: a grid of a puzzle with the budget for its tree. Puzzles are numbered from 1.
 #[derive(Clone, Copy, Debug, PartialEq, Eq)]
@@ -46,24 +46,27 @@ impl Board {
     /// The body of the board's unit (`board_body`). It fails for want of memory alone.
     pub fn body(&self, alloc: Global) -> Result<Payload, NoMemory>
         ensures body { IfOk result (λ p. p ≡ board_body self.now) }
-        ensures long { IfOk result (λ p. length p ≡ 93) }
+        ensures long { IfOk result (λ p. length p ≡ 12 + length self.now.grid) }
+        ensures few { IfOk result (λ p. length p ≤ 268) }
     {
-        let Ok(mut bytes) = Vec::with_capacity(alloc, BOARD_BYTES) else {
+        let text = self.grid.text();
+        let signs = text.as_slice();
+        let Ok(mut bytes) = Vec::with_capacity(alloc, BOARD_HEAD + signs.len()) else {
             return Err(NoMemory);
         };
         append(&mut bytes, &self.puzzle.to_be_bytes())?;
         append(&mut bytes, &self.budget.to_be_bytes())?;
-        append(&mut bytes, &self.grid.text())?;
+        append(&mut bytes, signs)?;
         Ok(Payload::from_vec(bytes))
     }
 
     /// The board whose unit has this body (`board_of`), if any: exactly the one of which it is the body (`exact`).
     pub fn read(body: &[u8]) -> Option<Board>
         ensures read { result ≡ board_of body.now }
-        ensures exact { (b : Board) → b.puzzle < 2 ^ 32 → b.budget < 2 ^ 64 → IsGrid 3 b.grid →
+        ensures exact { (b : Board) → b.puzzle < 2 ^ 32 → b.budget < 2 ^ 64 → IsSudoku b.grid →
             (result ≡ Some b) ↔ (body.now ≡ board_body b) }
     {
-        if body.len() != BOARD_BYTES {
+        if body.len() < BOARD_HEAD {
             return None;
         }
         let (puzzle, rest) = body.split_at(4);
@@ -81,13 +84,16 @@ impl Solution {
     /// The body of the solution's unit (`solution_body`). It fails for want of memory alone.
     pub fn body(&self, alloc: Global) -> Result<Payload, NoMemory>
         ensures body { IfOk result (λ p. p ≡ solution_body self.now) }
-        ensures long { IfOk result (λ p. length p ≡ 85) }
+        ensures long { IfOk result (λ p. length p ≡ 4 + length self.now.grid) }
+        ensures few { IfOk result (λ p. length p ≤ 260) }
     {
-        let Ok(mut bytes) = Vec::with_capacity(alloc, SOLUTION_BYTES) else {
+        let text = self.grid.text();
+        let signs = text.as_slice();
+        let Ok(mut bytes) = Vec::with_capacity(alloc, SOLUTION_HEAD + signs.len()) else {
             return Err(NoMemory);
         };
         append(&mut bytes, &self.puzzle.to_be_bytes())?;
-        append(&mut bytes, &self.grid.text())?;
+        append(&mut bytes, signs)?;
         Ok(Payload::from_vec(bytes))
     }
 
@@ -95,10 +101,10 @@ impl Solution {
     /// (`exact`).
     pub fn read(body: &[u8]) -> Option<Solution>
         ensures read { result ≡ solution_of body.now }
-        ensures exact { (s : Solution) → s.puzzle < 2 ^ 32 → IsGrid 3 s.grid →
+        ensures exact { (s : Solution) → s.puzzle < 2 ^ 32 → IsSudoku s.grid →
             (result ≡ Some s) ↔ (body.now ≡ solution_body s) }
     {
-        if body.len() != SOLUTION_BYTES {
+        if body.len() < SOLUTION_HEAD {
             return None;
         }
         let (puzzle, text) = body.split_at(4);
@@ -112,11 +118,11 @@ impl Solution {
 
 // The grid that has this text.
 fn grid_of(text: &[u8]) -> Option<Grid>
-    ensures exact { (g : List ℕ) → IsGrid 3 g → (result ≡ Some g) ↔ (text.now ≡ text_of g) }
+    ensures exact { (g : List ℕ) → IsSudoku g → (result ≡ Some g) ↔ (text.now ≡ text_of g) }
     ensures some { IfSome result (λ g. text.now ≡ text_of g) }
-    ensures grid { IfSome result (IsGrid 3) }
+    ensures grid { IfSome result IsSudoku }
 {
-    let grid = parse81(text).ok()?;
+    let grid = parse_grid(text).ok()?;
     if grid.text().as_slice() == text {
         Some(grid)
     } else {

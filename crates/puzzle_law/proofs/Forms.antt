@@ -4,8 +4,9 @@ use Rattle.std.specs.Prelude.{option_map}
 use Rattle.std.specs.Int.{to_be_bytes, from_be_bytes, w32, w64}
 use Rattle.std.proofs.lemmas.List.Elements.{All-nil, All-cons, All-append, All-head, All-map, All-tail, All-weaker}
 use Rattle.adlb_unit.specs.declared.notes.UnitNote.{UnitNote}
-use Rattle.sudoku_law.specs.Grid.{Cells, IsGrid}
-use Rattle.sudoku_law.proofs.Nodes.{children_below, solutions_grids}
+use Rattle.sudoku_law.specs.Grid.{Cells}
+use Rattle.sudoku_rules.specs.Sides.{IsSudoku}
+use Rattle.sudoku_rules.proofs.Trees.{children_sudoku, nodes_sudoku}
 use Rattle.puzzle_app.specs.Bodies.{board_body, board_of, solution_body, solution_of}
 use Rattle.puzzle_app.specs.Made.{answer_rank, child_of, fetched_unit, made_by, own_bytes, roots, roots_from, solution_at, unit_of, walk_of}
 use Rattle.puzzle_app.specs.Jobs.{puzzles}
@@ -14,13 +15,13 @@ use Rattle.puzzle_app.specs.declared.units.Board.{Board}
 use Rattle.puzzle_app.specs.declared.units.Made.{Made}
 use Rattle.puzzle_app.specs.declared.units.Made.TheVariants as made
 use Rattle.puzzle_app.specs.declared.units.Solution.{Solution}
-use Rattle.puzzle_app.proofs.Bodies.{board_front, board_law, board_middle, board_of_grid, board_of_is, solution_front, solution_law, solution_of_grid, solution_of_is}
+use Rattle.puzzle_app.proofs.Bodies.{board_front, board_law, board_middle, board_of_is, solution_front, solution_law, solution_of_is}
 
 -- the numbers of a unit fit its body, and its grid is one
 pub record IsFit (puzzle budget : ℕ) (grid : Cells) : Type 0 where
   pub puzzle_fits : puzzle < 2 ^ 32
   pub budget_fits : budget < 2 ^ 64
-  pub grid_fits : IsGrid 3 grid
+  pub grid_fits : IsSudoku grid
 
 -- the unit is read back from its body; a solution has no budget
 abbrev pub IsGood : Made → Type 0
@@ -62,7 +63,7 @@ read_board body b e =
     record {
       puzzle_fits = subst (λ n. n < 2 ^ 32) puzzle (four_bytes b.puzzle);
       budget_fits = subst (λ n. n < 2 ^ 64) budget (eight_bytes b.budget);
-      grid_fits = board_of_grid body b e;
+      grid_fits = is.0;
     }
 
 read_solution : (body : List ℕ) (s : Solution) → solution_of body ≡ Some s → IsGood (made.Solution s)
@@ -73,7 +74,7 @@ read_solution body s e =
     record {
       puzzle_fits = subst (λ n. n < 2 ^ 32) puzzle (four_bytes s.puzzle);
       budget_fits = omega arith;
-      grid_fits = solution_of_grid body s e;
+      grid_fits = is.0;
     }
 
 -- what is read of a fetch is good
@@ -106,32 +107,32 @@ fetched_good note bytes unit e = subst IsGoodIf e (fetched_read note bytes)
 
 pub made_good : (grain : ℕ) (b : Board) → IsGood (made.Board b) → All IsGood (made_by grain b)
 made_good grain b good =
-    let below : All (λ c. IsGrid 3 c.1 × (c.0 < b.budget)) (walk_of grain b).children = children_below 3 grain b.budget b.grid good.grid_fits in
-    let found : All (λ g. IsGrid 3 g) (walk_of grain b).solutions = solutions_grids 3 grain b.budget b.grid good.grid_fits in
+    let below : All (λ c. IsSudoku c.1 × (c.0 < b.budget)) (walk_of grain b).children = children_sudoku grain b.budget b.grid good.grid_fits in
+    let found : All IsSudoku (walk_of grain b).solutions = nodes_sudoku grain b.budget b.grid good.grid_fits in
     All-append IsGood (map (child_of b.puzzle) (walk_of grain b).children) (map (solution_at b.puzzle) (walk_of grain b).solutions)
     (All-map IsGood (child_of b.puzzle) (walk_of grain b).children
-    (All-weaker (λ c. IsGrid 3 c.1 × (c.0 < b.budget)) (λ c. IsGood (child_of b.puzzle c))
+    (All-weaker (λ c. IsSudoku c.1 × (c.0 < b.budget)) (λ c. IsGood (child_of b.puzzle c))
     (λ c below. let less : c.0 < b.budget = below.1 in record { puzzle_fits = good.puzzle_fits; budget_fits = omega (arith, good.budget_fits, less); grid_fits = below.0 })
     (walk_of grain b).children below))
     (All-map IsGood (solution_at b.puzzle) (walk_of grain b).solutions
-    (All-weaker (λ g. IsGrid 3 g) (λ g. IsGood (solution_at b.puzzle g))
+    (All-weaker IsSudoku (λ g. IsGood (solution_at b.puzzle g))
     (λ g grid. record { puzzle_fits = good.puzzle_fits; budget_fits = omega arith; grid_fits = grid })
     (walk_of grain b).solutions found))
 
 -- the boards of the puzzles, where their numbers and the budget fit
-pub roots_good : (budget n : ℕ) (gs : List Cells) → budget < 2 ^ 64 → n + length gs ≤ 2 ^ 32 → All (IsGrid 3) gs → All IsGood (roots_from budget n gs)
+pub roots_good : (budget n : ℕ) (gs : List Cells) → budget < 2 ^ 64 → n + length gs ≤ 2 ^ 32 → All IsSudoku gs → All IsGood (roots_from budget n gs)
 unfolding roots_from
 roots_good budget n [] small few grids = All-nil IsGood
 roots_good budget n (g ∷ gs) small few grids =
     All-cons IsGood (child_of n (budget, g)) (roots_from budget (n + 1) gs)
-    (record { puzzle_fits = omega (arith, few); budget_fits = small; grid_fits = All-head (IsGrid 3) g gs grids })
-    (roots_good budget (n + 1) gs small (omega (arith, few)) (All-tail (IsGrid 3) g gs grids))
+    (record { puzzle_fits = omega (arith, few); budget_fits = small; grid_fits = All-head IsSudoku g gs grids })
+    (roots_good budget (n + 1) gs small (omega (arith, few)) (All-tail IsSudoku g gs grids))
 
 -- the puzzles are grids, and their numbers and the budget fit a body
 pub record AreFit (budget : ℕ) (gs : List Cells) : Type 0 where
   pub budget_fits : budget < 2 ^ 64
   pub few : length gs ≤ 2 ^ 24
-  pub grids : All (IsGrid 3) gs
+  pub grids : All IsSudoku gs
 
 -- what a rank makes first
 pub first_good : (budget : ℕ) (jobs : List Job) (has_jobs : Bool) → AreFit budget (puzzles jobs) → All IsGood (roots budget (cond has_jobs (Some jobs) None))

@@ -4,7 +4,8 @@ use Rattle.std.specs.List.{list_any}
 use Rattle.std.proofs.lemmas.Bool.{eq-eqb, ne_eqb}
 use Rattle.std.proofs.lemmas.List.Elements.{All-head, All-tail}
 use Rattle.std.proofs.lemmas.List.Sums.{sum_by-cons}
-use Rattle.sudoku_law.specs.Grid.{Cells, IsGrid}
+use Rattle.sudoku_law.specs.Grid.{Cells}
+use Rattle.sudoku_rules.specs.Sides.{IsSudoku, tree_of}
 use Rattle.sudoku_law.specs.Tree.{boards, is_over, solutions, tree}
 use Rattle.puzzle_app.specs.Made.{child_of, roots_from}
 use Rattle.puzzle_app.specs.Report.{AreHeld, found, found_in, told_over}
@@ -84,8 +85,8 @@ by_count false false count all some none low high = refl
 
 module _ (budget grain : ℕ) (all : List Cells) (outcomes : List PuzzleOutcome) (are : AreTogether budget grain all outcomes) where
   -- its solution nodes are found, each once
-  nodes_held : (n : ℕ) (g : Cells) (gs : List Cells) → AreLast budget all n (g ∷ gs) → IsPermutation (solutions (tree 3 budget g)) (found n outcomes)
-  nodes_held n g gs last = grids_by_counts (solutions (tree 3 budget g)) (found n outcomes) (λ p.
+  nodes_held : (n : ℕ) (g : Cells) (gs : List Cells) → AreLast budget all n (g ∷ gs) → IsPermutation (solutions (tree_of budget g)) (found n outcomes)
+  nodes_held n g gs last = grids_by_counts (solutions (tree_of budget g)) (found n outcomes) (λ p.
       let v : Made → ℕ = weight (is_of n) (passing p) (one_if p) in
       let left : sum_by (λ b. 0) are.worked + sum_by v (map kept_unit (kept_in outcomes)) ≡ sum_by v (roots_from budget 1 all) =
       just grain (roots_from budget 1 all) are.worked (kept_in outcomes) are.same v (λ b. 0) (passing_law grain n p) in
@@ -93,7 +94,7 @@ module _ (budget grain : ℕ) (all : List Cells) (outcomes : List PuzzleOutcome)
       omega (arith, left, root, sum_none are.worked, kept_passing n p (kept_in outcomes), ap (count_by p) (found_is n outcomes)))
 
   -- it is told to be over just where it is
-  over_held : (n : ℕ) (g : Cells) (gs : List Cells) → AreLast budget all n (g ∷ gs) → told_over n outcomes ≡ is_over (tree 3 budget g)
+  over_held : (n : ℕ) (g : Cells) (gs : List Cells) → AreLast budget all n (g ∷ gs) → told_over n outcomes ≡ is_over (tree_of budget g)
   over_held n g gs last =
       let first : List Made = roots_from budget 1 all in
       let kept : List (ℕ × Cells) = kept_in outcomes in
@@ -105,17 +106,17 @@ module _ (budget grain : ℕ) (all : List Cells) (outcomes : List PuzzleOutcome)
       let root_one : sum_by (weight (is_of n) over_one no_weight) first ≡ over_one budget g = last n over_one no_weight (omega arith) ∙ its_root over_one no_weight budget n g gs in
       let root_all : sum_by (weight (is_of n) (over_all grain) no_weight) first ≡ over_all grain budget g = last n (over_all grain) no_weight (omega arith) ∙ its_root (over_all grain) no_weight budget n g gs in
       are.overs n
-      ∙ by_count (list_any (is_over_at grain n) are.worked) (is_over (tree 3 budget g)) count (boards grain (tree 3 budget g))
+      ∙ by_count (list_any (is_over_at grain n) are.worked) (is_over (tree_of budget g)) count (boards grain (tree_of budget g))
       (some_counted (is_over_at grain n) are.worked) (none_counted (is_over_at grain n) are.worked)
       (omega (arith, low, root_one, none_kept (is_of n) over_one kept))
       (omega (arith, high, root_all, none_kept (is_of n) (over_all grain) kept))
 
-  held_from : (n : ℕ) (gs : List Cells) → All (IsGrid 3) gs → AreLast budget all n gs → AreHeld budget n gs outcomes
+  held_from : (n : ℕ) (gs : List Cells) → All IsSudoku gs → AreLast budget all n gs → AreHeld budget n gs outcomes
   held_from n [] grids last = tt
   held_from n (g ∷ gs) grids last = (
-    record { grid = All-head (IsGrid 3) g gs grids; nodes = nodes_held n g gs last; over = over_held n g gs last },
-    held_from (n + 1) gs (All-tail (IsGrid 3) g gs grids) (λ k f h behind. last k f h (omega arith) ∙ other_root f h budget k n g gs (λ e. omega arith)),
+    record { grid = All-head IsSudoku g gs grids; nodes = nodes_held n g gs last; over = over_held n g gs last },
+    held_from (n + 1) gs (All-tail IsSudoku g gs grids) (λ k f h behind. last k f h (omega arith) ∙ other_root f h budget k n g gs (λ e. omega arith)),
   )
 
-  pub all_held : All (IsGrid 3) all → AreHeld budget 1 all outcomes
+  pub all_held : All IsSudoku all → AreHeld budget 1 all outcomes
   all_held grids = held_from 1 all grids (λ k f h behind. refl)

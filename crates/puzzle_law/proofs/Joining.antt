@@ -14,14 +14,14 @@ use Rattle.puzzle_app.specs.Report.{AreWhole}
 use Rattle.puzzle_law.specs.Joined.{IsPuzzleRun}
 use Rattle.puzzle_law.proofs.Orderly.{run_is_orderly}
 use Rattle.puzzle_law.proofs.Whole.{run_is_whole}
-use Rattle.sudoku_law.specs.Grid.{IsGrid}
+use Rattle.sudoku_rules.specs.Sides.{IsSudoku}
 
 -- what is conserved in every legal run of orderly ranks
 abbrev Conserves : Type 0
 Conserves =
     (config : Config) (ledger : List Entry) (last : Bag) → 0 < config.ranks → IsRun (start config) ledger last → AreOrderly config ledger → IsBalanced config ledger last
 
-pub joined_whole : Conserves → (config : Config) (ledger : List Entry) (last : Bag) (settings : Settings) (jobs : List Job) (outcomes : List PuzzleOutcome) → 0 < config.ranks → IsRun (start config) ledger last → All (IsGrid 3) (puzzles jobs) → length jobs ≤ 2 ^ 24 → settings.budget < 2 ^ 64 → IsPuzzleRun config ledger settings jobs outcomes → AreWhole settings.budget settings.grain jobs outcomes
+pub joined_whole : Conserves → (config : Config) (ledger : List Entry) (last : Bag) (settings : Settings) (jobs : List Job) (outcomes : List PuzzleOutcome) → 0 < config.ranks → IsRun (start config) ledger last → All IsSudoku (puzzles jobs) → length jobs ≤ 2 ^ 24 → settings.budget < 2 ^ 64 → IsPuzzleRun config ledger settings jobs outcomes → AreWhole settings.budget settings.grain jobs outcomes
 joined_whole conserves config ledger last settings jobs outcomes some legal grids few small run =
     let balanced : IsBalanced config ledger last = conserves config ledger last some legal (run_is_orderly config ledger settings jobs outcomes run) in
     run_is_whole config ledger last settings jobs outcomes some balanced grids few small run

@@ -7,8 +7,9 @@ use Rattle.std.proofs.lemmas.List.Concat.{length-flat_map}
 use Rattle.std.proofs.lemmas.List.Sorted.{length_permutation, sum_by-IsPermutation}
 use Rattle.std.proofs.lemmas.List.Sums.{sum_by-append, sum_by-cons}
 use Rattle.sudoku_law.specs.Grid.{Cells}
-use Rattle.sudoku_law.specs.Tree.{boards, handed, is_over, solutions, tree}
-use Rattle.sudoku_law.proofs.Handed.{boards_add, over_adds, solutions_add}
+use Rattle.sudoku_law.specs.Tree.{boards, handed, is_over, solutions}
+use Rattle.sudoku_rules.specs.Sides.{tree_of}
+use Rattle.sudoku_rules.proofs.Trees.{handed_add, nodes_add, over_add}
 use Rattle.puzzle_app.specs.Made.{is_board, is_solution, made_by, walk_of}
 use Rattle.puzzle_app.specs.declared.units.Board.{Board}
 use Rattle.puzzle_app.specs.declared.units.Made.TheVariants as made
@@ -20,7 +21,7 @@ use Rattle.puzzle_law.proofs.Weights.{made_weighs, weight}
 -- of a board with this budget and grid: its tree's solution nodes, how many of them pass a test, how many boards the tree hands
 -- out, and whether some node is over, as 0 or 1, or as 0 or the number of its boards
 abbrev pub nodes : ℕ → Cells → List Cells
-nodes budget g = solutions (tree 3 budget g)
+nodes budget g = solutions (tree_of budget g)
 
 abbrev pub passing : (Cells → Bool) → ℕ → Cells → ℕ
 passing p budget g = count_by p (nodes budget g)
@@ -29,13 +30,13 @@ abbrev pub found : ℕ → Cells → ℕ
 found budget g = length (nodes budget g)
 
 abbrev pub handed_out : ℕ → ℕ → Cells → ℕ
-handed_out grain budget g = handed grain (tree 3 budget g)
+handed_out grain budget g = handed grain (tree_of budget g)
 
 abbrev pub over_one : ℕ → Cells → ℕ
-over_one budget g = cond (is_over (tree 3 budget g)) 1 0
+over_one budget g = cond (is_over (tree_of budget g)) 1 0
 
 abbrev pub over_all : ℕ → ℕ → Cells → ℕ
-over_all grain budget g = cond (is_over (tree 3 budget g)) (boards grain (tree 3 budget g)) 0
+over_all grain budget g = cond (is_over (tree_of budget g)) (boards grain (tree_of budget g)) 0
 
 abbrev pub is_of : ℕ → ℕ → Bool
 is_of n k = k == n
@@ -63,7 +64,7 @@ passing_adds : (grain : ℕ) (p : Cells → Bool) (b : Board) → passing p b.bu
 unfolding nodes_below
 passing_adds grain p b =
     let met : List Cells = (walk_of grain b).solutions in
-    let all : count_by p (met ++ nodes_below grain b) ≡ passing p b.budget b.grid = sum_by-IsPermutation (one_if p) (nodes b.budget b.grid) (met ++ nodes_below grain b) (solutions_add 3 grain b.budget b.grid) in
+    let all : count_by p (met ++ nodes_below grain b) ≡ passing p b.budget b.grid = sum_by-IsPermutation (one_if p) (nodes b.budget b.grid) (met ++ nodes_below grain b) (nodes_add grain b.budget b.grid) in
     omega (arith, all, sum_flat (one_if p) (λ (c : ℕ × Cells). nodes c.0 c.1) (walk_of grain b).children, sum_by-append (one_if p) met (nodes_below grain b))
 
 pub passing_law : (grain n : ℕ) (p : Cells → Bool) (b : Board) → weight (is_of n) (passing p) (one_if p) (made.Board b) ≡ 0 + sum_by (weight (is_of n) (passing p) (one_if p)) (made_by grain b)
@@ -75,7 +76,7 @@ found_adds : (grain : ℕ) (b : Board) → found b.budget b.grid ≡ length (wal
 unfolding nodes_below
 found_adds grain b =
     let met : List Cells = (walk_of grain b).solutions in
-    let all : length (met ++ nodes_below grain b) ≡ found b.budget b.grid = length_permutation (nodes b.budget b.grid) (met ++ nodes_below grain b) (solutions_add 3 grain b.budget b.grid) in
+    let all : length (met ++ nodes_below grain b) ≡ found b.budget b.grid = length_permutation (nodes b.budget b.grid) (met ++ nodes_below grain b) (nodes_add grain b.budget b.grid) in
     omega (arith, all, length-append met (nodes_below grain b), length-flat_map (λ (c : ℕ × Cells). nodes c.0 c.1) (walk_of grain b).children)
 
 pub found_law : (grain : ℕ) (b : Board) → weight any_puzzle found no_weight (made.Board b) ≡ count_by is_solution (made_by grain b) + sum_by (weight any_puzzle found no_weight) (made_by grain b)
@@ -86,16 +87,16 @@ found_law grain b = omega (arith, found_adds grain b, solutions_by grain b, sum_
 pub handed_law : (grain : ℕ) (b : Board) → weight any_puzzle (handed_out grain) no_weight (made.Board b) ≡ count_by is_board (made_by grain b) + sum_by (weight any_puzzle (handed_out grain) no_weight) (made_by grain b)
 handed_law grain b =
     let cs : Trees = (walk_of grain b).children in
-    omega (arith, boards_by grain b, boards_add 3 grain b.budget b.grid, sum_one_more (λ (c : ℕ × Cells). handed_out grain c.0 c.1) cs, sum_none (walk_of grain b).solutions, made_weighs any_puzzle (handed_out grain) no_weight grain b)
+    omega (arith, boards_by grain b, handed_add grain b.budget b.grid, sum_one_more (λ (c : ℕ × Cells). handed_out grain c.0 c.1) cs, sum_none (walk_of grain b).solutions, made_weighs any_puzzle (handed_out grain) no_weight grain b)
 
 -- Over nodes.
 
 abbrev over_in : Trees → Bool
-over_in cs = list_any (λ c. is_over (tree 3 c.0 c.1)) cs
+over_in cs = list_any (λ c. is_over (tree_of c.0 c.1)) cs
 
 some_over : (cs : Trees) → cond (over_in cs) 1 0 ≤ over_trees over_one cs
 some_over [] = omega arith
-some_over (c ∷ cs) = omega (arith, sum_by-cons (λ (d : ℕ × Cells). over_one d.0 d.1) c cs, either (is_over (tree 3 c.0 c.1)) (over_in cs), some_over cs)
+some_over (c ∷ cs) = omega (arith, sum_by-cons (λ (d : ℕ × Cells). over_one d.0 d.1) c cs, either (is_over (tree_of c.0 c.1)) (over_in cs), some_over cs)
   where
     either : (a b : Bool) → cond (a || b) 1 0 ≤ cond a 1 0 + cond b 1 0
     either true b = omega arith
@@ -104,15 +105,15 @@ some_over (c ∷ cs) = omega (arith, sum_by-cons (λ (d : ℕ × Cells). over_on
 none_over : (grain : ℕ) (cs : Trees) → over_in cs ≡ false → over_trees (over_all grain) cs ≡ 0
 none_over grain [] none = refl
 none_over grain (c ∷ cs) none =
-    let parts = or_parts (is_over (tree 3 c.0 c.1)) (over_in cs) none in
-    let this : Bool → ℕ = λ o. cond o (boards grain (tree 3 c.0 c.1)) 0 in
+    let parts = or_parts (is_over (tree_of c.0 c.1)) (over_in cs) none in
+    let this : Bool → ℕ = λ o. cond o (boards grain (tree_of c.0 c.1)) 0 in
     let here : over_all grain c.0 c.1 ≡ 0 = ap this parts.0 in
     omega (arith, here, none_over grain cs parts.1, sum_by-cons (λ (d : ℕ × Cells). over_all grain d.0 d.1) c cs)
 
-over_few : (grain : ℕ) (cs : Trees) → over_trees (over_all grain) cs ≤ sum_by (λ c. boards grain (tree 3 c.0 c.1)) cs
+over_few : (grain : ℕ) (cs : Trees) → over_trees (over_all grain) cs ≤ sum_by (λ c. boards grain (tree_of c.0 c.1)) cs
 over_few grain [] = omega arith
 over_few grain (c ∷ cs) =
-    omega (arith, at_most (is_over (tree 3 c.0 c.1)) (boards grain (tree 3 c.0 c.1)), over_few grain cs, sum_by-cons (λ (d : ℕ × Cells). over_all grain d.0 d.1) c cs, sum_by-cons (λ (d : ℕ × Cells). boards grain (tree 3 d.0 d.1)) c cs)
+    omega (arith, at_most (is_over (tree_of c.0 c.1)) (boards grain (tree_of c.0 c.1)), over_few grain cs, sum_by-cons (λ (d : ℕ × Cells). over_all grain d.0 d.1) c cs, sum_by-cons (λ (d : ℕ × Cells). boards grain (tree_of d.0 d.1)) c cs)
   where
     at_most : (b : Bool) (n : ℕ) → cond b n 0 ≤ n
     at_most true n = omega arith
@@ -123,7 +124,7 @@ pub over_one_law : (grain n : ℕ) (b : Board) → weight (is_of n) over_one no_
 over_one_law grain n b =
     let cs : Trees = (walk_of grain b).children in
     let met : Bool = (walk_of grain b).over in
-    let is : over_one b.budget b.grid ≤ cond met 1 0 + over_trees over_one cs = joined (is_over (tree 3 b.budget b.grid)) met (over_in cs) (over_trees over_one cs) (over_adds 3 grain b.budget b.grid) (some_over cs) in
+    let is : over_one b.budget b.grid ≤ cond met 1 0 + over_trees over_one cs = joined (is_over (tree_of b.budget b.grid)) met (over_in cs) (over_trees over_one cs) (over_add grain b.budget b.grid) (some_over cs) in
     omega (arith, made_weighs (is_of n) over_one no_weight grain b, of_puzzle (b.puzzle == n) met (over_one b.budget b.grid) (over_trees over_one cs) (sum_by no_weight (walk_of grain b).solutions) is)
   where
     joined : (a met below : Bool) (m : ℕ) → a ≡ (met || below) → cond below 1 0 ≤ m → cond a 1 0 ≤ cond met 1 0 + m
@@ -139,8 +140,8 @@ over_all_law grain n b =
     let cs : Trees = (walk_of grain b).children in
     let met : Bool = (walk_of grain b).over in
     let below : ℕ = over_trees (over_all grain) cs in
-    let few : 1 + below ≤ boards grain (tree 3 b.budget b.grid) = omega (arith, over_few grain cs, boards_add 3 grain b.budget b.grid) in
-    let is : cond met 1 0 + below ≤ over_all grain b.budget b.grid = joined (is_over (tree 3 b.budget b.grid)) met (over_in cs) (boards grain (tree 3 b.budget b.grid)) below (over_adds 3 grain b.budget b.grid) few (none_over grain cs) in
+    let few : 1 + below ≤ boards grain (tree_of b.budget b.grid) = omega (arith, over_few grain cs, handed_add grain b.budget b.grid) in
+    let is : cond met 1 0 + below ≤ over_all grain b.budget b.grid = joined (is_over (tree_of b.budget b.grid)) met (over_in cs) (boards grain (tree_of b.budget b.grid)) below (over_add grain b.budget b.grid) few (none_over grain cs) in
     omega (arith, made_weighs (is_of n) (over_all grain) no_weight grain b, of_puzzle (b.puzzle == n) met (over_all grain b.budget b.grid) below (sum_by no_weight (walk_of grain b).solutions) (sum_none (walk_of grain b).solutions) is)
   where
     joined : (a met below : Bool) (all m : ℕ) → a ≡ (met || below) → 1 + m ≤ all → (below ≡ false → m ≡ 0) → cond met 1 0 + m ≤ cond a all 0

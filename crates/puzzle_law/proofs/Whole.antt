@@ -5,7 +5,8 @@ use Rattle.adlb_unit.specs.declared.configs.Config.{Config}
 use Rattle.bag_ledger.specs.declared.entries.Entry.{Entry}
 use Rattle.bag_ledger.specs.Bag.{Bag}
 use Rattle.balance_law.specs.Balanced.{IsBalanced}
-use Rattle.sudoku_law.specs.Grid.{Cells, IsGrid}
+use Rattle.sudoku_law.specs.Grid.{Cells}
+use Rattle.sudoku_rules.specs.Sides.{IsSudoku}
 use Rattle.puzzle_app.specs.Jobs.{puzzles}
 use Rattle.puzzle_app.specs.Made.{child_of, is_board, is_solution, made_by, roots_from}
 use Rattle.puzzle_app.specs.Report.{AreWhole, all_boards, all_solutions, made_in}
@@ -74,7 +75,7 @@ few_puzzles (Puzzle g ∷ jobs) = omega (arith, few_puzzles jobs)
 few_puzzles (Batch common items ∷ jobs) = omega (arith, few_puzzles jobs)
 
 -- where each accepted unit was fetched, and each rank ran its program to its end
-pub run_is_whole : (config : Config) (ledger : List Entry) (last : Bag) (settings : Settings) (jobs : List Job) (outcomes : List PuzzleOutcome) → 0 < config.ranks → IsBalanced config ledger last → All (IsGrid 3) (puzzles jobs) → length jobs ≤ 2 ^ 24 → settings.budget < 2 ^ 64 → IsPuzzleRun config ledger settings jobs outcomes → AreWhole settings.budget settings.grain jobs outcomes
+pub run_is_whole : (config : Config) (ledger : List Entry) (last : Bag) (settings : Settings) (jobs : List Job) (outcomes : List PuzzleOutcome) → 0 < config.ranks → IsBalanced config ledger last → All IsSudoku (puzzles jobs) → length jobs ≤ 2 ^ 24 → settings.budget < 2 ^ 64 → IsPuzzleRun config ledger settings jobs outcomes → AreWhole settings.budget settings.grain jobs outcomes
 run_is_whole config ledger last settings jobs outcomes some balanced grids few small run =
     let gs : List Cells = puzzles jobs in
     let fit : AreFit settings.budget gs = record { budget_fits = small; few = omega (arith, few_puzzles jobs); grids = grids } in

@@ -15,7 +15,7 @@ ghost use Rattle.puzzle_app.specs.declared.outcomes.Settings.{Settings};
 ghost use Rattle.puzzle_app.specs.Jobs.{puzzles};
 ghost use Rattle.puzzle_app.specs.Report.{AreWhole};
 ghost use Rattle.puzzle_law.specs.Joined.{IsPuzzleRun};
-ghost use Rattle.sudoku_law.specs.Grid.{IsGrid};
+ghost use Rattle.sudoku_rules.specs.Sides.{IsSudoku};
 
 use balance_law::balance_laws;
 
@@ -24,7 +24,7 @@ use balance_law::balance_laws;
 /// each accepted unit was fetched, so nothing is left (`spent`).
 pub fn joining_laws()
     ensures whole { (config : Config) (ledger : List Entry) (last : Bag) (settings : Settings) (jobs : List Job) (outcomes : List PuzzleOutcome) →
-        0 < config.ranks → IsRun (start config) ledger last → All (IsGrid 3) (puzzles jobs) → length jobs ≤ 2 ^ 24 → settings.budget < 2 ^ 64 →
+        0 < config.ranks → IsRun (start config) ledger last → All IsSudoku (puzzles jobs) → length jobs ≤ 2 ^ 24 → settings.budget < 2 ^ 64 →
         IsPuzzleRun config ledger settings jobs outcomes → AreWhole settings.budget settings.grain jobs outcomes }
     ensures spent { (config : Config) (ledger : List Entry) (last : Bag) (settings : Settings) (jobs : List Job) (outcomes : List PuzzleOutcome) →
         0 < config.ranks → IsRun (start config) ledger last →

@@ -1,10 +1,15 @@
 -- One node of the walk, as the code takes it.
 use Rattle.std.proofs.Common.{◌≡◌, ◌<◌, ◌≤◌, ℕ, zero, suc, ◌+◌, ◌-◌, ◌/◌, Bool, true, false, cond, ◌||◌, not, List, [], ◌∷◌, ◌++◌, length, set, filter, Option, Some, None, refl, sym, ap, ◌∙◌, arith, append-nil, append_assoc}
 use Rattle.std.proofs.Math.Bool.{or-false}
-use Rattle.sudoku_law.specs.Grid.{Cells, conflict, candidates, choices, fewest, used, count_up}
+use Rattle.sudoku_law.specs.Grid.{Cells, side, conflict, candidates, choices, fewest, used, count_up}
 use Rattle.sudoku_law.specs.Tree.{Tree, end, branches, at_cell, tree, hands_out, Met, nothing, both, walk}
 use Rattle.sudoku_law.proofs.Depth.{tree_is_node, share_falls}
-use Rattle.sudoku_rules.specs.Expansion.{at_digit, handed_out, solved}
+use Rattle.sudoku_rules.specs.Inside.Pieces.{handed_out, solved}
+
+-- what one digit of a cell gives: nothing if it is used, otherwise a board handed out or a node of this walk
+abbrev pub at_digit : ℕ → Bool → ℕ → ℕ → Cells → ℕ → ℕ → Met
+at_digit m hands grain share g cell d =
+    cond (used m g cell d) nothing (cond hands (handed_out share (set g cell d)) (walk grain (tree m share (set g cell d))))
 
 or_assoc : (a b c : Bool) → ((a || b) || c) ≡ (a || (b || c))
 or_assoc true b c = refl
@@ -14,114 +19,115 @@ pub both_nothing : (m : Met) → both m nothing ≡ m
 both_nothing m = rw (append-nil m.solutions, append-nil m.children, or-false m.over) refl
 
 pub both_assoc : (a b c : Met) → both (both a b) c ≡ both a (both b c)
-both_assoc a b c = rw (
-  append_assoc a.solutions b.solutions c.solutions,
-  append_assoc a.children b.children c.children,
-  or_assoc a.over b.over c.over,
-) refl
+both_assoc a b c = rw
+    (append_assoc a.solutions b.solutions c.solutions, append_assoc a.children b.children c.children, or_assoc a.over b.over c.over) refl
 
 -- the trees of the children
-abbrev pub below : ℕ → Cells → Tree
-below b h = tree 3 b h
+abbrev pub below : ℕ → ℕ → Cells → Tree
+below m b h = tree m b h
 
-pub node_dead : (grain b : ℕ) (g : Cells) → conflict 3 g ≡ true → walk grain (tree 3 b g) ≡ nothing
-node_dead grain b g clash = ap (λ t. walk grain t) (tree_is_node 3 b g ∙ ap (λ c. cond c end (at_cell 3 below b g (fewest 3 g))) clash)
+pub node_dead : (m : ℕ) (grain b : ℕ) (g : Cells) → conflict m g ≡ true → walk grain (tree m b g) ≡ nothing
+node_dead m grain b g clash =
+    ap (λ t. walk grain t) (tree_is_node m b g ∙ ap (λ c. cond c end (at_cell m (below m) b g (fewest m g))) clash)
 
-node_cell : (grain b : ℕ) (g : Cells) (o : Option ℕ) → conflict 3 g ≡ false → fewest 3 g ≡ o
-    → walk grain (tree 3 b g) ≡ walk grain (at_cell 3 below b g o)
-node_cell grain b g o fine chosen =
-    ap (λ t. walk grain t) (tree_is_node 3 b g ∙ ap (λ c. cond c end (at_cell 3 below b g (fewest 3 g))) fine
-    ∙ ap (λ x. at_cell 3 below b g x) chosen)
+node_cell : (m : ℕ) (grain b : ℕ) (g : Cells) (o : Option ℕ) → conflict m g ≡ false → fewest m g ≡ o
+    → walk grain (tree m b g) ≡ walk grain (at_cell m (below m) b g o)
+node_cell m grain b g o fine chosen =
+    ap (λ t. walk grain t)
+    (tree_is_node m b g ∙ ap (λ c. cond c end (at_cell m (below m) b g (fewest m g))) fine
+    ∙ ap (λ x. at_cell m (below m) b g x) chosen)
 
 abbrev pub spent : Met
 spent = record { solutions = []; children = []; over = true }
 
-pub node_full : (grain b : ℕ) (g : Cells) → conflict 3 g ≡ false → fewest 3 g ≡ None → walk grain (tree 3 b g) ≡ solved g
+pub node_full : (m : ℕ) (grain b : ℕ) (g : Cells) → conflict m g ≡ false → fewest m g ≡ None → walk grain (tree m b g) ≡ solved g
 unfolding at_cell
-node_full grain b g fine full = node_cell grain b g None fine full
+node_full m grain b g fine full = node_cell m grain b g None fine full
 
-pub node_over : (grain b : ℕ) (g : Cells) (cell : ℕ) → conflict 3 g ≡ false → fewest 3 g ≡ Some cell → b ≡ 0
-    → walk grain (tree 3 b g) ≡ spent
+pub node_over : (m : ℕ) (grain b : ℕ) (g : Cells) (cell : ℕ) → conflict m g ≡ false → fewest m g ≡ Some cell → b ≡ 0
+    → walk grain (tree m b g) ≡ spent
 unfolding at_cell
-node_over grain b g cell fine chosen none = node_cell grain b g (Some cell) fine chosen
-    ∙ ap (λ k. walk grain (at_cell 3 below k g (Some cell))) none
+node_over m grain b g cell fine chosen none = node_cell m grain b g (Some cell) fine chosen
+    ∙ ap (λ k. walk grain (at_cell m (below m) k g (Some cell))) none
 
 -- what is left of an open node from these digits on
-abbrev pub rest_of : ℕ → ℕ → ℕ → ℕ → Cells → ℕ → List ℕ → Met
-rest_of grain budget k share g cell ds = walk grain (branches below budget k share g cell ds)
+abbrev pub rest_of : ℕ → ℕ → ℕ → ℕ → ℕ → Cells → ℕ → List ℕ → Met
+rest_of m grain budget k share g cell ds = walk grain (branches (below m) budget k share g cell ds)
 
 -- the candidates from this digit on
-unfoldable pub from_digit : Cells → ℕ → ℕ → List ℕ
-from_digit g cell d = filter (λ x. not (used 3 g cell x)) (count_up d (10 - d))
+unfoldable pub from_digit : ℕ → Cells → ℕ → ℕ → List ℕ
+from_digit m g cell d = filter (λ x. not (used m g cell x)) (count_up d (side m + 1 - d))
 
-digits_from_one : (g : Cells) (cell : ℕ) → from_digit g cell 1 ≡ candidates 3 g cell
+digits_from_one : (m : ℕ) (g : Cells) (cell : ℕ) → from_digit m g cell 1 ≡ candidates m g cell
 unfolding from_digit
-digits_from_one g cell = refl
+digits_from_one m g cell = let e : side m + 1 - 1 ≡ side m = omega arith in rw e refl
 
-up_more : (d : ℕ) → d < 10 → count_up d (10 - d) ≡ d ∷ count_up (d + 1) (10 - (d + 1))
+up_more : (n d : ℕ) → d < n + 1 → count_up d (n + 1 - d) ≡ d ∷ count_up (d + 1) (n + 1 - (d + 1))
 unfolding count_up
-up_more d less = let e : 10 - d ≡ suc (10 - (d + 1)) = omega arith in rw e refl
+up_more n d less = let e : n + 1 - d ≡ suc (n + 1 - (d + 1)) = omega arith in rw e refl
 
-rest_more : (grain budget k share : ℕ) (g : Cells) (cell d : ℕ) (ds : List ℕ)
-    → rest_of grain budget k share g cell (cond (not (used 3 g cell d)) (d ∷ ds) ds) ≡ both
-    (at_digit (hands_out grain budget k) grain share g cell d) (rest_of grain budget k share g cell ds)
+rest_more : (m : ℕ) (grain budget k share : ℕ) (g : Cells) (cell d : ℕ) (ds : List ℕ)
+    → rest_of m grain budget k share g cell (cond (not (used m g cell d)) (d ∷ ds) ds) ≡
+    both (at_digit m (hands_out grain budget k) grain share g cell d) (rest_of m grain budget k share g cell ds)
 unfolding branches
-rest_more grain budget k share g cell d ds = by_use (used 3 g cell d) (hands_out grain budget k) refl
+rest_more m grain budget k share g cell d ds = by_use (used m g cell d) (hands_out grain budget k) refl
   where
     by_use : (u h : Bool) → hands_out grain budget k ≡ h
-        → rest_of grain budget k share g cell (cond (not u) (d ∷ ds) ds) ≡ both
-        (cond u nothing (cond h (handed_out share (set g cell d)) (walk grain (tree 3 share (set g cell d)))))
-        (rest_of grain budget k share g cell ds)
+        → rest_of m grain budget k share g cell (cond (not u) (d ∷ ds) ds) ≡
+        both (cond u nothing (cond h (handed_out share (set g cell d)) (walk grain (tree m share (set g cell d)))))
+        (rest_of m grain budget k share g cell ds)
     by_use true h is = refl
     by_use false true is = rw is refl
     by_use false false is = rw is refl
 
-pub digit_next : (grain budget k share : ℕ) (g : Cells) (cell d : ℕ) → d < 10
-    → rest_of grain budget k share g cell (from_digit g cell d) ≡ both (at_digit (hands_out grain budget k) grain share g cell d)
-    (rest_of grain budget k share g cell (from_digit g cell (d + 1)))
+pub digit_next : (m : ℕ) (grain budget k share : ℕ) (g : Cells) (cell d : ℕ) → d < side m + 1
+    → rest_of m grain budget k share g cell (from_digit m g cell d) ≡
+    both (at_digit m (hands_out grain budget k) grain share g cell d) (rest_of m grain budget k share g cell (from_digit m g cell (d + 1)))
 unfolding from_digit
-digit_next grain budget k share g cell d less =
-    ap (λ ds. rest_of grain budget k share g cell (filter (λ x. not (used 3 g cell x)) ds)) (up_more d less)
-    ∙ rest_more grain budget k share g cell d (from_digit g cell (d + 1))
+digit_next m grain budget k share g cell d less =
+    ap (λ ds. rest_of m grain budget k share g cell (filter (λ x. not (used m g cell x)) ds)) (up_more (side m) d less)
+    ∙ rest_more m grain budget k share g cell d (from_digit m g cell (d + 1))
 
-pub digits_end : (grain budget k share : ℕ) (g : Cells) (cell d : ℕ) → 10 ≤ d
-    → rest_of grain budget k share g cell (from_digit g cell d) ≡ nothing
+pub digits_end : (m : ℕ) (grain budget k share : ℕ) (g : Cells) (cell d : ℕ) → side m + 1 ≤ d
+    → rest_of m grain budget k share g cell (from_digit m g cell d) ≡ nothing
 unfolding from_digit branches count_up
-digits_end grain budget k share g cell d past = let e : 10 - d ≡ 0 = omega arith in rw e refl
+digits_end m grain budget k share g cell d past = let e : side m + 1 - d ≡ 0 = omega arith in rw e refl
 
 -- digits that are used have no child
-digit_used : (g : Cells) (cell d : ℕ) → d < 10 → used 3 g cell d ≡ true → from_digit g cell d ≡ from_digit g cell (d + 1)
+digit_used : (m : ℕ) (g : Cells) (cell d : ℕ) → d < side m + 1 → used m g cell d ≡ true
+    → from_digit m g cell d ≡ from_digit m g cell (d + 1)
 unfolding from_digit
-digit_used g cell d less is = ap (λ ds. filter (λ x. not (used 3 g cell x)) ds) (up_more d less)
-    ∙ ap (λ b. cond (not b) (d ∷ from_digit g cell (d + 1)) (from_digit g cell (d + 1))) is
+digit_used m g cell d less is = ap (λ ds. filter (λ x. not (used m g cell x)) ds) (up_more (side m) d less)
+    ∙ ap (λ b. cond (not b) (d ∷ from_digit m g cell (d + 1)) (from_digit m g cell (d + 1))) is
 
-pub digits_skip : (g : Cells) (cell d k : ℕ) → d + k ≤ 10 → ((j : ℕ) → d ≤ j → j < d + k → used 3 g cell j ≡ true)
-    → from_digit g cell d ≡ from_digit g cell (d + k)
-digits_skip g cell d zero few all = let e : d ≡ d + 0 = omega arith in ap (λ i. from_digit g cell i) e
-digits_skip g cell d (suc k) few all =
+pub digits_skip : (m : ℕ) (g : Cells) (cell d k : ℕ) → d + k ≤ side m + 1 → ((j : ℕ) → d ≤ j → j < d + k → used m g cell j ≡ true)
+    → from_digit m g cell d ≡ from_digit m g cell (d + k)
+digits_skip m g cell d zero few all = let e : d ≡ d + 0 = omega arith in ap (λ i. from_digit m g cell i) e
+digits_skip m g cell d (suc k) few all =
     let e : d + 1 + k ≡ d + suc k = omega arith in
-    digit_used g cell d (omega arith) (all d (omega arith) (omega arith))
-    ∙ digits_skip g cell (d + 1) k (omega arith) (λ j above below. all j (omega arith) (omega arith))
-    ∙ ap (λ i. from_digit g cell i) e
+    digit_used m g cell d (omega arith) (all d (omega arith) (omega arith))
+    ∙ digits_skip m g cell (d + 1) k (omega arith) (λ j above below. all j (omega arith) (omega arith))
+    ∙ ap (λ i. from_digit m g cell i) e
 
-pub node_open : (grain b : ℕ) (g : Cells) (cell count : ℕ) → conflict 3 g ≡ false → fewest 3 g ≡ Some cell → 0 < b
-    → count ≡ choices 3 g cell → rest_of grain b count ((b - 1) / count) g cell (from_digit g cell 1) ≡ walk grain (tree 3 b g)
+pub node_open : (m : ℕ) (grain b : ℕ) (g : Cells) (cell count : ℕ) → conflict m g ≡ false → fewest m g ≡ Some cell → 0 < b
+    → count ≡ choices m g cell → rest_of m grain b count ((b - 1) / count) g cell (from_digit m g cell 1) ≡ walk grain (tree m b g)
 unfolding at_cell
-node_open grain zero g cell count fine chosen some is = absurd (omega arith)
-node_open grain (suc b) g cell count fine chosen some is =
+node_open m grain zero g cell count fine chosen some is = absurd (omega arith)
+node_open m grain (suc b) g cell count fine chosen some is =
     let e : suc b - 1 ≡ b = omega arith in
-    rw (e, is, digits_from_one g cell) (sym (node_cell grain (suc b) g (Some cell) fine chosen))
+    rw (e, is, digits_from_one m g cell) (sym (node_cell m grain (suc b) g (Some cell) fine chosen))
 
 pub share_less : (b k : ℕ) → 0 < b → (b - 1) / k < b
 share_less b k some = let le : (b - 1) / k ≤ b - 1 = share_falls (b - 1) k in omega arith
 
 -- an open node with no candidate is dead
-pub no_candidates : (grain b : ℕ) (g : Cells) (cell count : ℕ) → conflict 3 g ≡ false → fewest 3 g ≡ Some cell → 0 < b
-    → count ≡ choices 3 g cell → count ≡ 0 → walk grain (tree 3 b g) ≡ nothing
+pub no_candidates : (m : ℕ) (grain b : ℕ) (g : Cells) (cell count : ℕ) → conflict m g ≡ false → fewest m g ≡ Some cell → 0 < b
+    → count ≡ choices m g cell → count ≡ 0 → walk grain (tree m b g) ≡ nothing
 unfolding branches
-no_candidates grain b g cell count fine chosen some is none =
-    sym (node_open grain b g cell count fine chosen some is)
-    ∙ ap (λ ds. rest_of grain b count ((b - 1) / count) g cell ds) (digits_from_one g cell ∙ empty (candidates 3 g cell) (sym is ∙ none))
+no_candidates m grain b g cell count fine chosen some is none =
+    sym (node_open m grain b g cell count fine chosen some is)
+    ∙ ap (λ ds. rest_of m grain b count ((b - 1) / count) g cell ds)
+    (digits_from_one m g cell ∙ empty (candidates m g cell) (sym is ∙ none))
   where
     empty : (ds : List ℕ) → length ds ≡ 0 → ds ≡ []
     empty [] e = refl
@@ -136,8 +142,8 @@ pub both_solved : (m : Met) (g : Cells) (s : List Cells) → s ≡ m.solutions +
 both_solved m g s is = rw (is, append-nil m.children, or-false m.over) refl
 
 pub both_handed : (m : Met) (share : ℕ) (g : Cells) (cs : List (ℕ × Cells)) → cs ≡ m.children ++ (share, g) ∷ []
-    → record { solutions = m.solutions; children = cs; over = m.over } ≡ both m
-    (record { solutions = []; children = (share, g) ∷ []; over = false })
+    → record { solutions = m.solutions; children = cs; over = m.over } ≡
+    both m (record { solutions = []; children = (share, g) ∷ []; over = false })
 both_handed m share g cs is = rw (is, append-nil m.solutions, or-false m.over) refl
 
 pub both_spent : (m : Met) → record { solutions = m.solutions; children = m.children; over = true } ≡ both m spent

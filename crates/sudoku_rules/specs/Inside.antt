@@ -1,3 +1,5 @@
--- For the crate itself. The masks of a grid, and a grid that carries them along a walk.
-pub mod Marked
+-- For the crate itself: the cells of a grid in place, its masks, and a grid that carries them along a walk.
+pub mod Forms
 pub mod Masks
+pub mod Marked
+pub mod Pieces

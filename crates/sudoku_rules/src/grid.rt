@@ -1,31 +1,35 @@
-//! Grids, and their text.
+//! Grids of side 4, 9 and 16.
 
-ghost use Rattle.std.specs.Prelude.{◌≡◌, ◌≢◌, ◌↔◌, ◌<◌, ◌≤◌, ◌-◌, ◌==◌, ℕ, List, length, false, not};
-ghost use Rattle.std.specs.Prelude.{IsTrue, MatchOption, Ok, Err, count_by, true};
+ghost use Rattle.std.specs.Prelude.{◌≡◌, ◌↔◌, ◌<◌, ◌≤◌, ◌-◌, ◌^◌, ◌==◌, ℕ, List, length, false, not, nat_eq, refl};
+ghost use Rattle.std.specs.Prelude.{IsTrue, Some, count_by};
+ghost use Rattle.std.specs.Cmp.{on_equiv, partial_equiv_from_equiv};
+ghost use Rattle.std.specs.Cmp.Lexicographic.{nat_list_cmp_total, nat_list_eq_equiv, pointwise, slice_cmp, texts_po, texts_ties};
+ghost use Rattle.std.specs.Ordering.{nat_cmp};
 ghost use Rattle.std.specs.Int.{IsBitSet};
-ghost use Rattle.sudoku_law.specs.Grid.{HasConflict, IsBlank, IsGrid, conflict, used};
-ghost use Rattle.sudoku_rules.specs.Inside.Marked.{IsCarried};
+ghost use Rattle.sudoku_law.specs.Grid.{HasConflict, IsBlank, IsGrid, conflict, side, used};
 ghost use Rattle.sudoku_law.specs.Text.{text_of};
-ghost use Rattle.sudoku_rules.specs.Reading.{IsCellSign, Reads, IsFirstBad, digit_of};
+ghost use Rattle.sudoku_rules.specs.Sides.{IsSudoku, box_side};
+ghost use Rattle.sudoku_rules.specs.Inside.Masks.{IsSized};
+ghost use Rattle.sudoku_rules.specs.Inside.Forms.{IsForm, cells_of};
 
 use crate::look::Masks;
-use crate::marked::Marked;
+use crate::text::GridText;
+use std::cmp::Ordering;
 use std::marker::Model;
-use thiserror::Error;
 
-/// Why a text is not that of a grid.
-#[derive(Clone, Copy, Debug, PartialEq, Eq, Error)]
-pub enum GridFault {
-    #[error("{got} bytes in place of 81")]
-    Length { got: u64 },
-    #[error("byte {place} is neither a digit nor a dot")]
-    Character { place: u64 },
+/// The cells of a grid by rows, in an array for each side.
+#[derive(Clone, Copy, Debug)]
+pub enum Form {
+    Four([u8; 16]),
+    Nine([u8; 81]),
+    Sixteen([u8; 256]),
 }
 
-/// 81 cells by rows, each a digit from 1 to 9 or 0 for blank. It is seen as the list of its cells.
-#[derive(Clone, Copy, Debug, PartialEq, Eq, PartialOrd, Ord)]
+/// A grid of side 4, 9 or 16: its cells by rows, each a digit from 1 to the side or 0 for blank. It is seen as
+/// the list of its cells, which are 16, 81 or 256. Grids are in the order of these lists.
+#[derive(Clone, Copy, Debug)]
 pub struct Grid {
-    cells: [u8; 81],
+    form: Form,
 }
 
 impl Model for Grid {
@@ -33,166 +37,162 @@ impl Model for Grid {
 
     ghost Value = { List ℕ };
 
-    ghost use Rattle.sudoku_law.specs.Grid.{IsGrid};
+    ghost use Rattle.std.proofs.Common.{ap};
+    ghost use Rattle.sudoku_rules.specs.Inside.Forms.{IsForm, cells_of, form_of, form_back};
 
-    ghost view = { λ g. g.cells };
+    ghost view = { λ g. cells_of g.form };
 
-    ghost invariant = { λ g. IsGrid 3 g.cells };
+    ghost invariant = { λ g. IsForm g.form };
 
-    ghost inverse = { λ g. record { cells = g } };
+    ghost inverse = { λ g. record { form = form_of g } };
+
+    ghost inverse_ok = { λ g is. ap (λ f. record { form = f }) (form_back g.form is) };
 }
 
-/// Reads a grid from its text: 81 bytes by rows, each a digit or a dot, where `0` and a dot are blank. A text
-/// of another length is refused by its length, and else one with another byte by the first such byte,
-/// counted from 0.
-pub fn parse81(text: &[u8]) -> Result<Grid, GridFault>
-    ensures read { (g : List ℕ) → (result ≡ Ok g) ↔ Reads text.now g }
-    ensures length { (n : ℕ) →
-        (result ≡ Err (GridFault.Length n)) ↔ ((length text.now ≢ 81) × (n ≡ length text.now)) }
-    ensures character { (k : ℕ) → (result ≡ Err (GridFault.Character k)) ↔ IsFirstBad text.now k }
-{
-    if text.len() != 81 {
-        return Err(GridFault::Length {
-            got: text.len() as u64,
-        });
+impl PartialEq for Grid {
+    ghost eq = { λ a b. pointwise nat_eq a b };
+
+    ghost laws = { partial_equiv_from_equiv nat_list_eq_equiv };
+
+    fn eq(&self, other: &Grid) -> bool {
+        self.cells() == other.cells()
     }
-    let mut cells = [0; 81];
-    for (place, &byte) in text.iter().enumerate() {
-        if !is_cell_sign(byte) {
-            return Err(GridFault::Character {
-                place: place as u64,
-            });
-        }
-        cells[place] = value_of(byte);
+}
+
+impl Eq for Grid {
+    ghost laws = { nat_list_eq_equiv };
+}
+
+impl PartialOrd for Grid {
+    ghost partial_cmp = { λ a b. Some (slice_cmp nat_cmp a b) };
+
+    ghost laws = { texts_po };
+
+    fn partial_cmp(&self, other: &Grid) -> Option<Ordering> {
+        Some(self.cmp(other))
     }
-    Ok(Grid { cells })
 }
 
-// The byte is a digit or a dot.
-fn is_cell_sign(byte: u8) -> bool
-    ensures { IsTrue result ↔ IsCellSign byte }
-{
-    byte == b'.' || byte.is_ascii_digit()
-}
+impl Ord for Grid {
+    ghost cmp = { λ a b. slice_cmp nat_cmp a b };
 
-// What a cell of this sign has.
-fn value_of(byte: u8) -> u8
-    requires { IsCellSign byte }
-    ensures { result ≡ digit_of byte }
-{
-    if byte == b'.' { 0 } else { byte - b'0' }
+    ghost total = { nat_list_cmp_total };
+
+    ghost matches_partial_cmp = { λ a b. refl };
+
+    ghost matches_eq = { λ a b. texts_ties a b };
+
+    fn cmp(&self, other: &Grid) -> Ordering {
+        self.cells().cmp(other.cells())
+    }
 }
 
 impl Grid {
     /// Some row, column or box has a digit twice.
     pub fn conflict(&self) -> bool
-        ensures meaning { IsTrue result ↔ HasConflict 3 self.now }
-        ensures test { result ≡ conflict 3 self.now }
+        ensures meaning { IsTrue result ↔ HasConflict (box_side self.now) self.now }
+        ensures test { result ≡ conflict (box_side self.now) self.now }
     {
-        Masks::of(&self.cells).clash
+        match &self.form {
+            Form::Four(cells) => has_conflict::<2, 4, 16>(cells),
+            Form::Nine(cells) => has_conflict::<3, 9, 81>(cells),
+            Form::Sixteen(cells) => has_conflict::<4, 16, 256>(cells),
+        }
     }
 
     /// The candidates of a blank cell, cells counted by rows from 0: bit `d - 1` is set exactly where the
-    /// digit `d`, from 1 to 9, stands nowhere in its row, column or box. No other bit is set.
+    /// digit `d`, from 1 to the side, stands nowhere in its row, column or box. No other bit is set.
     pub fn candidates(&self, cell: u32) -> u16
         requires blank { IsBlank self.now cell }
-        ensures bits { (d : ℕ) → 1 ≤ d → d ≤ 9 →
-            IsBitSet result (d - 1) ↔ (used 3 self.now cell d ≡ false) }
-        ensures few { result < 512 }
+        ensures bits { (d : ℕ) → 1 ≤ d → d ≤ side (box_side self.now) →
+            IsBitSet result (d - 1) ↔ (used (box_side self.now) self.now cell d ≡ false) }
+        ensures few { result < 2 ^ side (box_side self.now) }
     {
-        Masks::of(&self.cells).options(cell as usize)
-    }
-
-    // The grid with its masks, or `None` if it has a conflict.
-    pub(crate) fn marked(&self) -> Option<Marked>
-        ensures { MatchOption result (conflict 3 self.now ≡ true)
-            (λ m. IsCarried m × (m.cells ≡ self.now)) }
-    {
-        Marked::of(&self.cells)
-    }
-
-    // The grid that a walk stands at.
-    pub(crate) fn of(marked: &Marked) -> Grid
-        requires { IsGrid 3 marked.now.cells }
-        ensures { result ≡ marked.now.cells }
-    {
-        Grid {
-            cells: marked.cells,
+        let cell = cell as usize;
+        match &self.form {
+            Form::Four(cells) => candidates_of::<2, 4, 16>(cells, cell),
+            Form::Nine(cells) => candidates_of::<3, 9, 81>(cells, cell),
+            Form::Sixteen(cells) => candidates_of::<4, 16, 256>(cells, cell),
         }
     }
 
-    /// The text of the grid: its 81 cells by rows, each as its digit, where a blank cell is `0`.
-    pub fn text(&self) -> [u8; 81]
-        ensures { result ≡ text_of self.now }
+    /// The text of the grid: its cells by rows, each as its digit's sign, where a blank cell is `0`.
+    pub fn text(&self) -> GridText
+        ensures text { result ≡ text_of self.now }
+        ensures grid { IsSudoku self.now }
     {
-        let mut text = [b'0'; 81];
-        for (place, &digit) in self.cells.iter().enumerate() {
-            text[place] = b'0' + digit;
-        }
-        text
+        GridText::of(self.cells())
     }
 
-    /// How many cells are not blank, 81 at most.
+    /// How many cells are not blank, 256 at most.
     pub fn filled(&self) -> u32
         ensures exact { result ≡ count_by (λ digit. not (digit == 0)) self.now }
-        ensures few { result ≤ 81 }
+        ensures few { result ≤ 256 }
     {
-        self.cells.iter().filter(|&&digit| digit != 0).count() as u32
+        self.cells().iter().filter(|&&digit| digit != 0).count() as u32
+    }
+
+    // The cells in their array.
+    pub(crate) fn form(&self) -> &Form
+        ensures cells { cells_of result.now ≡ self.now }
+        ensures grid { IsForm result.now }
+    {
+        &self.form
+    }
+
+    // The cells by rows.
+    pub(crate) fn cells(&self) -> &[u8]
+        ensures same { result.now ≡ self.now }
+        ensures grid { IsSudoku self.now }
+        ensures few { length self.now ≤ 256 }
+    {
+        match &self.form {
+            Form::Four(cells) => cells,
+            Form::Nine(cells) => cells,
+            Form::Sixteen(cells) => cells,
+        }
+    }
+
+    // The grid of these cells.
+    #[inline]
+    pub(crate) fn of(cells: &[u8]) -> Grid
+        requires { IsSudoku cells.now }
+        ensures { result ≡ cells.now }
+    {
+        let form = if let Ok(cells) = cells.try_into() {
+            Form::Four(cells)
+        } else if let Ok(cells) = cells.try_into() {
+            Form::Nine(cells)
+        } else {
+            let mut wide = [0; 256];
+            wide.copy_from_slice(cells);
+            Form::Sixteen(wide)
+        };
+        Grid { form }
     }
 }
 
-#[cfg(test)]
-mod tests {
-    use super::*;
-    use std::test::Fail;
+// Some row, column or box of these cells has a digit twice.
+fn has_conflict<const M: usize, const SIDE: usize, const CELLS: usize>(cells: &[u8; CELLS]) -> bool
+    requires sized { IsSized M SIDE CELLS }
+    requires grid { IsGrid M cells.now }
+    ensures meaning { IsTrue result ↔ HasConflict (box_side cells.now) cells.now }
+    ensures test { result ≡ conflict (box_side cells.now) cells.now }
+{
+    Masks::<SIDE>::of::<M, CELLS>(cells).clash
+}
 
-    const FULL: &str =
-        "534678912672195348198342567859761423426853791713924856961537284287419635345286179";
-
-    #[test]
-    fn refuses_texts(rt: HostRuntime) -> Result<(), Fail> {
-        let dots = [b'.'; 82];
-        let mut letter = [b'0'; 81];
-        letter[7] = b'x';
-        let mut slash = dots;
-        slash[80] = b'/';
-        let table: [(&[u8], GridFault); 4] = [
-            (&dots[..80], GridFault::Length { got: 80 }),
-            (&dots, GridFault::Length { got: 82 }),
-            (&letter, GridFault::Character { place: 7 }),
-            (&slash[..81], GridFault::Character { place: 80 }),
-        ];
-        for (text, fault) in table {
-            assert_eq!(rt; parse81(text), Err(fault));
-        }
-        let length = to_text(&rt, GridFault::Length { got: 80 })?;
-        assert_eq!(rt; length.as_str(), "80 bytes in place of 81");
-        let character = to_text(&rt, GridFault::Character { place: 7 })?;
-        assert_eq!(rt; character.as_str(), "byte 7 is neither a digit nor a dot");
-        Ok(())
-    }
-
-    fn to_text(rt: &HostRuntime, fault: GridFault) -> Result<String, Fail> {
-        Ok(format!(in rt.alloc(); "{fault}")?)
-    }
-
-    #[test]
-    fn reads_cells(rt: HostRuntime) -> Result<(), Fail> {
-        assert_eq!(rt; parse81(&[b'.'; 81])?, parse81(&[b'0'; 81])?);
-        let full = parse81(FULL.as_bytes())?;
-        assert_eq!(rt; full.text().as_slice(), FULL.as_bytes());
-        assert_eq!(rt; full.filled(), 81);
-        assert_eq!(rt; full.conflict(), false);
-        let clash = parse81(
-            b"634678912672195348198342567859761423426853791713924856961537284287419635345286179",
-        )?;
-        assert_eq!(rt; clash.conflict(), true);
-        let open = parse81(
-            b"530070000600195000098000060800060003400803001700020006060000280000419005000080079",
-        )?;
-        assert_eq!(rt; open.filled(), 30);
-        assert_eq!(rt; open.cells[2], 0);
-        assert_eq!(rt; open.candidates(2), 0b1011, "1, 2 and 4");
-        Ok(())
-    }
+// The candidates of one of these cells, which is blank, as a mask.
+fn candidates_of<const M: usize, const SIDE: usize, const CELLS: usize>(
+    cells: &[u8; CELLS],
+    cell: usize,
+) -> u16
+    requires sized { IsSized M SIDE CELLS }
+    requires grid { IsGrid M cells.now }
+    requires cell { cell < length cells.now }
+    ensures bits { (d : ℕ) → 1 ≤ d → d ≤ side (box_side cells.now) →
+        IsBitSet result (d - 1) ↔ (used (box_side cells.now) cells.now cell d ≡ false) }
+    ensures few { result < 2 ^ side (box_side cells.now) }
+{
+    Masks::<SIDE>::of::<M, CELLS>(cells).options_at::<M>(cell / SIDE, cell % SIDE)
 }

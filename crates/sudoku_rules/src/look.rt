@@ -1,17 +1,19 @@
 //! The digits of a grid's rows, columns and boxes as masks, and what follows from them: whether two clash, the
 //! candidates of a cell, and the better of two cells to try next.
+//!
+//! `M` is the side of a box, `SIDE` that of the grid and `CELLS` how many cells it has (`IsSized`).
 
-ghost use Rattle.std.specs.Prelude.{◌≡◌, ◌<◌, ◌≤◌, ◌+◌, ◌-◌, ◌*◌, ◌^◌, ℕ, List, length, slice_index};
-ghost use Rattle.sudoku_law.specs.Grid.{IsGrid, box_of};
-ghost use Rattle.sudoku_rules.specs.Inside.Masks.{AreMasks, AreOptions, IsBest, around_of};
+ghost use Rattle.std.specs.Prelude.{◌≡◌, ◌<◌, ◌≤◌, ◌+◌, ◌-◌, ◌*◌, ◌/◌, ◌^◌, ℕ, List, length, slice_index};
+ghost use Rattle.sudoku_law.specs.Grid.{IsGrid, side, size};
+ghost use Rattle.sudoku_rules.specs.Inside.Masks.{AreMasks, AreOptions, IsBest, IsSized};
 
 /// The digits of each row, column and box: bit `d - 1` of a mask is set where the digit `d` stands there.
 /// `clash` tells that a digit stands twice in one of them.
 #[derive(Clone, Copy)]
-pub struct Masks {
-    pub rows: [u16; 9],
-    pub columns: [u16; 9],
-    pub boxes: [u16; 9],
+pub struct Masks<const SIDE: usize> {
+    pub rows: [u16; SIDE],
+    pub columns: [u16; SIDE],
+    pub boxes: [u16; SIDE],
     pub clash: bool,
 }
 
@@ -27,99 +29,107 @@ pub struct Choice {
 #[inline]
 pub fn bit_of(digit: u8) -> u16
     requires least { 1 ≤ digit }
-    requires most { digit ≤ 9 }
+    requires most { digit ≤ 16 }
     ensures { result ≡ 2 ^ (digit - 1) }
 {
     1 << (digit - 1)
 }
 
-// The box of a cell, by rows of boxes.
+// The box of the cell in this row and column, by rows of boxes.
 #[inline]
-pub fn box_at(cell: usize) -> usize
-    requires { cell < 81 }
-    ensures place { result ≡ box_of 3 cell }
-    ensures few { result < 9 }
+pub fn box_at<const M: usize>(row: usize, column: usize) -> usize
+    requires low { 2 ≤ M }
+    requires high { M ≤ 4 }
+    requires row { row < side M }
+    requires column { column < side M }
+    ensures place { result ≡ row / M * M + column / M }
+    ensures few { result < side M }
 {
-    cell / 9 / 3 * 3 + cell % 9 / 3
+    row / M * M + column / M
 }
 
-impl Masks {
+impl<const SIDE: usize> Masks<SIDE> {
     /// The masks of these cells.
-    pub fn of(cells: &[u8; 81]) -> Masks
-        requires { IsGrid 3 cells.now }
-        ensures { AreMasks cells.now (length cells.now) result }
+    pub fn of<const M: usize, const CELLS: usize>(cells: &[u8; CELLS]) -> Masks<SIDE>
+        requires sized { IsSized M SIDE CELLS }
+        requires grid { IsGrid M cells.now }
+        ensures { AreMasks M cells.now (length cells.now) result }
     {
         let mut masks = Masks {
-            rows: [0; 9],
-            columns: [0; 9],
-            boxes: [0; 9],
+            rows: [0; SIDE],
+            columns: [0; SIDE],
+            boxes: [0; SIDE],
             clash: false,
         };
         for (cell, &digit) in cells.iter().enumerate() {
-            masks.add(cell, digit);
+            masks.add::<M>(cell, digit);
         }
         masks
     }
 
     // Notes the digit of one more cell, or nothing for a blank one.
-    fn add(&mut self, cell: usize, digit: u8)
-        requires cell { cell < 81 }
-        requires digit { digit ≤ 9 }
+    fn add<const M: usize>(&mut self, cell: usize, digit: u8)
+        requires low { 2 ≤ M }
+        requires high { M ≤ 4 }
+        requires side { SIDE ≡ side M }
+        requires cell { cell < size M }
+        requires digit { digit ≤ side M }
         ensures { (g : List ℕ) → slice_index g cell ≡ digit →
-            AreMasks g cell self.old → AreMasks g (cell + 1) self.new }
+            AreMasks M g cell self.old → AreMasks M g (cell + 1) self.new }
     {
         if digit == 0 {
             return;
         }
         let bit = bit_of(digit);
-        let clash = self.around(cell) & bit != 0;
+        let row = cell / SIDE;
+        let column = cell % SIDE;
+        let place = box_at::<M>(row, column);
+        let clash = (self.rows[row] | self.columns[column] | self.boxes[place]) & bit != 0;
         self.clash |= clash;
-        self.rows[cell / 9] |= bit;
-        self.columns[cell % 9] |= bit;
-        self.boxes[box_at(cell)] |= bit;
+        self.rows[row] |= bit;
+        self.columns[column] |= bit;
+        self.boxes[place] |= bit;
     }
 
-    // The digits of the cell's row, column and box.
-    fn around(&self, cell: usize) -> u16
-        requires { cell < 81 }
-        ensures { result ≡ around_of self.now cell }
-    {
-        self.rows[cell / 9] | self.columns[cell % 9] | self.boxes[box_at(cell)]
-    }
-
-    /// The digits that stand neither in the cell's row nor in its column nor in its box.
-    pub fn options(&self, cell: usize) -> u16
-        requires { cell < 81 }
-        ensures { (g : List ℕ) → AreMasks g (length g) self.now → AreOptions g cell result }
-    {
-        !self.around(cell) & 0x1ff
-    }
-
-    // The candidates of the cell in this row and column.
+    /// The digits that stand neither in the row nor in the column nor in the box of the cell in this row and
+    /// column.
     #[inline]
-    fn options_at(&self, row: usize, column: usize) -> u16
-        requires row { row < 9 }
-        requires column { column < 9 }
-        ensures { (g : List ℕ) → AreMasks g (length g) self.now → AreOptions g (row * 9 + column) result }
+    pub fn options_at<const M: usize>(&self, row: usize, column: usize) -> u16
+        requires low { 2 ≤ M }
+        requires high { M ≤ 4 }
+        requires side { SIDE ≡ side M }
+        requires row { row < side M }
+        requires column { column < side M }
+        ensures { (g : List ℕ) → AreMasks M g (length g) self.now →
+            AreOptions M g (row * side M + column) result }
     {
-        let place = row / 3 * 3 + column / 3;
-        !(self.rows[row] | self.columns[column] | self.boxes[place]) & 0x1ff
+        let around = self.rows[row] | self.columns[column] | self.boxes[box_at::<M>(row, column)];
+        !around & (u16::MAX >> (16 - SIDE))
     }
 
     /// The blank cell in this row and column if it has fewer candidates than the best of those before it,
     /// otherwise that one.
     #[inline]
-    pub fn better(&self, row: usize, column: usize, best: Option<Choice>) -> Option<Choice>
-        requires row { row < 9 }
-        requires column { column < 9 }
-        ensures { (g : List ℕ) → row * 9 + column < length g → slice_index g (row * 9 + column) ≡ 0 →
-            AreMasks g (length g) self.now → IsBest g (row * 9 + column) best →
-            IsBest g (row * 9 + column + 1) result }
+    pub fn better<const M: usize>(
+        &self,
+        row: usize,
+        column: usize,
+        best: Option<Choice>,
+    ) -> Option<Choice>
+        requires low { 2 ≤ M }
+        requires high { M ≤ 4 }
+        requires side { SIDE ≡ side M }
+        requires row { row < side M }
+        requires column { column < side M }
+        ensures { (g : List ℕ) → row * side M + column < length g →
+            slice_index g (row * side M + column) ≡ 0 →
+            AreMasks M g (length g) self.now → IsBest M g (row * side M + column) best →
+            IsBest M g (row * side M + column + 1) result }
     {
-        let options = self.options_at(row, column);
+        let options = self.options_at::<M>(row, column);
         let count = options.count_ones();
         let this = Some(Choice {
-            cell: row * 9 + column,
+            cell: row * SIDE + column,
             options,
             count,
         });

@@ -1,8 +1,10 @@
 //! A link of one rank, which keeps its own units.
 
-ghost use Rattle.std.specs.Prelude.{◌≡◌, ◌<◌, ◌≤◌, ◌^◌, ◌++◌, ◌∷◌, [], length, Some, None, Err, false, true, OnOk, OnErr, IfErr};
+ghost use Rattle.std.specs.Prelude.{◌≡◌, ◌<◌, ◌≤◌, ◌^◌, ◌++◌, ◌∷◌, [], Option, length, Some, None, Ok, Err, false, true, OnOk, OnErr, IfOk, IfErr};
 ghost use Rattle.adlb_unit.specs.Ids.{same_unit};
-ghost use Rattle.rank_client.specs.Calls.{end_answer, end_of, end_told, end_trouble, fetches, grants, is_fetched, is_granted, put_answer, put_trouble};
+ghost use Rattle.adlb_unit.specs.declared.notes.End.{End};
+ghost use Rattle.adlb_unit.specs.declared.notes.Trouble.{Trouble};
+ghost use Rattle.rank_client.specs.Calls.{Repeats, TellsAgain, end_answer, end_of, end_told, end_trouble, fetches, grants, is_fetched, is_granted, plus, put_answer, put_trouble};
 
 use adlb_unit::{
     End, Handle, Payload, Rank, Server, Target, Trouble, Types, UnitId, UnitNote, WorkType,
@@ -202,6 +204,23 @@ fn put_end(end: End) -> PutFault
     }
 }
 
+// The answer of a put that ends so, or the trouble with which it fails.
+fn of_put(told: Result<(), PutFault>) -> Result<Answer, Trouble>
+    ensures answer { IfOk result (λ a. put_answer told ≡ Some a) }
+    ensures fine { OnOk result (put_trouble told ≡ None) }
+    ensures trouble { IfErr result (λ t. put_trouble told ≡ Some t) }
+    ensures none { OnErr result (put_answer told ≡ None) }
+{
+    match told {
+        Ok(()) => Ok(Answer::Fine),
+        Err(PutFault::Rejected) => Ok(Answer::Rejected),
+        Err(PutFault::NoMoreWork) => Ok(Answer::Ended(End::NoMoreWork)),
+        Err(PutFault::Exhausted) => Ok(Answer::Ended(End::Exhausted)),
+        Err(PutFault::Memory) => Err(Trouble::Memory),
+        Err(PutFault::TooLong { stamp }) => Err(Trouble::TooLong { stamp }),
+    }
+}
+
 fn end_fault(trouble: Trouble) -> EndFault
     ensures trouble { end_trouble (Err result) ≡ Some trouble }
     ensures answer { end_answer (Err result) ≡ None }
@@ -219,6 +238,157 @@ fn end_end(end: End) -> EndFault
     match end {
         End::NoMoreWork => EndFault::NoMoreWork,
         End::Exhausted => EndFault::Exhausted,
+    }
+}
+
+// The answer of a reserve that ends so, or the trouble with which it fails.
+fn of_reserve(told: Result<UnitNote, EndFault>) -> Result<Answer, Trouble>
+    ensures answer { IfOk result (λ a. end_answer told ≡ Some a) }
+    ensures fine { OnOk result (end_trouble told ≡ None) }
+    ensures trouble { IfErr result (λ t. end_trouble told ≡ Some t) }
+    ensures none { OnErr result (end_answer told ≡ None) }
+{
+    match told {
+        Ok(note) => Ok(Answer::Granted(note)),
+        Err(EndFault::NoMoreWork) => Ok(Answer::Ended(End::NoMoreWork)),
+        Err(EndFault::Exhausted) => Ok(Answer::Ended(End::Exhausted)),
+        Err(EndFault::Memory) => Err(Trouble::Memory),
+        Err(EndFault::TooLong { stamp }) => Err(Trouble::TooLong { stamp }),
+    }
+}
+
+impl Fake {
+    // Tells the put how it ends.
+    fn told_put(
+        &mut self,
+        kind: WorkType,
+        prio: i32,
+        answer: Option<Rank>,
+        body: &Payload,
+    ) -> Result<(), PutFault>
+        requires body { length body.now ≤ 2 ^ 20 }
+        ensures said { self.new.said ≡ self.old.said }
+        ensures told { TellsAgain (end_told self.old.said.items) (put_answer result) }
+        ensures repeats { Repeats self.old.trouble (put_trouble result) }
+    {
+        if let Some(trouble) = self.trouble {
+            return Err(put_fault(trouble));
+        }
+        if let Some(end) = end_in(&self.said) {
+            return Err(put_end(end));
+        }
+        if self.rejects() {
+            return Err(PutFault::Rejected);
+        }
+        match self.keep(kind, prio, answer, body) {
+            Ok(()) => Ok(()),
+            Err(trouble) => Err(put_fault(trouble)),
+        }
+    }
+
+    // The put ends so, if its answer can be kept.
+    fn end_put(&mut self, call: Call, told: Result<(), PutFault>) -> Result<(), PutFault>
+        ensures says { self.new.said.items ≡ plus self.old.said.items call (put_answer result) }
+        ensures told { (end : Option End) → TellsAgain end (put_answer told) → TellsAgain end (put_answer result) }
+        ensures failed { self.new.trouble ≡ put_trouble result }
+        ensures repeats { (t : Trouble) → put_trouble told ≡ Some t → put_trouble result ≡ Some t }
+    {
+        match of_put(told) {
+            Ok(answer) => match self.say(call, answer) {
+                Ok(()) => told,
+                Err(trouble) => Err(put_fault(trouble)),
+            },
+            Err(trouble) => {
+                self.trouble = Some(trouble);
+                told
+            }
+        }
+    }
+
+    // The next unit, if no end was told.
+    fn told_reserve(&self) -> Result<UnitNote, EndFault>
+        ensures told { TellsAgain (end_told self.now.said.items) (end_answer result) }
+        ensures once { IfOk result (λ note. is_granted note.id self.now.said.items ≡ false) }
+        ensures unfetched { IfOk result (λ note. is_fetched note.id self.now.said.items ≡ false) }
+        ensures repeats { Repeats self.now.trouble (end_trouble result) }
+    {
+        if let Some(trouble) = self.trouble {
+            return Err(end_fault(trouble));
+        }
+        if let Some(end) = end_in(&self.said) {
+            return Err(end_end(end));
+        }
+        match self.next() {
+            Some(note) if is_known(note.id, &self.said) => Err(EndFault::Memory),
+            Some(note) => Ok(note),
+            None => Err(EndFault::Exhausted),
+        }
+    }
+
+    // The reserve ends so, if its answer can be kept.
+    fn end_reserve(
+        &mut self,
+        call: Call,
+        told: Result<UnitNote, EndFault>,
+    ) -> Result<UnitNote, EndFault>
+        ensures says { self.new.said.items ≡ plus self.old.said.items call (end_answer result) }
+        ensures told { (end : Option End) → TellsAgain end (end_answer told) → TellsAgain end (end_answer result) }
+        ensures same { IfOk result (λ note. told ≡ Ok note) }
+        ensures failed { self.new.trouble ≡ end_trouble result }
+        ensures repeats { (t : Trouble) → end_trouble told ≡ Some t → end_trouble result ≡ Some t }
+    {
+        match of_reserve(told) {
+            Ok(answer) => match self.say(call, answer) {
+                Ok(()) => told,
+                Err(trouble) => Err(end_fault(trouble)),
+            },
+            Err(trouble) => {
+                self.trouble = Some(trouble);
+                told
+            }
+        }
+    }
+
+    // Two twins of the bytes of the next unit, which is to have so many.
+    fn next_bodies(&mut self, total: u64) -> Result<(Payload, Payload), Trouble>
+        ensures said { self.new.said ≡ self.old.said }
+        ensures total { IfOk result (λ two. length two.0 ≡ total) }
+        ensures same { IfOk result (λ two. two.0 ≡ two.1) }
+    {
+        let Some((_, body)) = self.units.pop_front() else {
+            return Err(Trouble::Memory);
+        };
+        if body.len() as u64 != total {
+            return Err(Trouble::Memory);
+        }
+        match body.twin(self.alloc) {
+            Ok(shown) => Ok((body, shown)),
+            Err(_) => Err(Trouble::Memory),
+        }
+    }
+
+    // Fetches the next unit, which has this id and so many bytes.
+    fn fetch(&mut self, id: UnitId, total: u64) -> Result<Payload, Trouble>
+        ensures says { IfOk result (λ body. self.new.said.items ≡ self.old.said.items ++ record { call = Call.Fetch id; answer = Answer.Body body } ∷ []) }
+        ensures kept { OnErr result (self.new.said.items ≡ self.old.said.items) }
+        ensures total { IfOk result (λ body. length body ≡ total) }
+        ensures fine { OnOk result (self.new.trouble ≡ None) }
+        ensures failed { IfErr result (λ t. self.new.trouble ≡ Some t) }
+        ensures repeats { (t : Trouble) → self.old.trouble ≡ Some t → result ≡ Err t }
+    {
+        if let Some(trouble) = self.trouble {
+            return Err(trouble);
+        }
+        match self.next_bodies(total) {
+            Ok((body, shown)) => match self.say(Call::Fetch { id }, Answer::Body(shown)) {
+                Ok(()) => Ok(body),
+                Err(trouble) => Err(trouble),
+            },
+            Err(trouble) => {
+                self.trouble = Some(trouble);
+                Err(trouble)
+            }
+        }
     }
 }
 
@@ -241,17 +411,7 @@ impl Adlb for Fake {
         answer: Option<Rank>,
         body: Payload,
     ) -> Result<(), PutFault> {
-        if let Some(trouble) = self.trouble {
-            return Err(put_fault(trouble));
-        }
-        let told = end_in(&self.said);
-        let rejected = self.rejects();
-        if told.is_none() && !rejected {
-            if let Err(trouble) = self.keep(kind, prio, answer, &body) {
-                self.trouble = Some(trouble);
-                return Err(put_fault(trouble));
-            }
-        }
+        let told = self.told_put(kind, prio, answer, &body);
         let call = Call::Put {
             kind,
             prio,
@@ -259,69 +419,25 @@ impl Adlb for Fake {
             answer,
             body,
         };
-        if let Some(end) = told {
-            return match self.say(call, Answer::Ended(end)) {
-                Ok(()) => Err(put_end(end)),
-                Err(trouble) => Err(put_fault(trouble)),
-            };
-        }
-        if rejected {
-            return match self.say(call, Answer::Rejected) {
-                Ok(()) => Err(PutFault::Rejected),
-                Err(trouble) => Err(put_fault(trouble)),
-            };
-        }
-        match self.say(call, Answer::Fine) {
-            Ok(()) => Ok(()),
-            Err(trouble) => Err(put_fault(trouble)),
-        }
+        self.end_put(call, told)
     }
 
     fn reserve(&mut self, types: &Types) -> Result<Handle, EndFault> {
-        if let Some(trouble) = self.trouble {
-            return Err(end_fault(trouble));
-        }
         let call = Call::Reserve {
             types: types.twin(),
         };
-        let told = end_in(&self.said);
-        let next = self.next();
-        if let (None, Some(note)) = (told, next) {
-            if is_known(note.id, &self.said) {
-                self.trouble = Some(Trouble::Memory);
-                return Err(EndFault::Memory);
-            }
-            return match self.say(call, Answer::Granted(note)) {
-                Ok(()) => Ok(Handle::of(note)),
-                Err(trouble) => Err(end_fault(trouble)),
-            };
-        }
-        let end = told.unwrap_or(End::Exhausted);
-        match self.say(call, Answer::Ended(end)) {
-            Ok(()) => Err(end_end(end)),
-            Err(trouble) => Err(end_fault(trouble)),
+        let told = self.told_reserve();
+        match self.end_reserve(call, told) {
+            Ok(note) => Ok(Handle::of(note)),
+            Err(fault) => Err(fault),
         }
     }
 
     fn get_reserved(&mut self, handle: Handle) -> Result<Payload, (Handle, Trouble)> {
-        if let Some(trouble) = self.trouble {
-            return Err((handle, trouble));
-        }
-        let Some((note, body)) = self.units.pop_front() else {
-            self.trouble = Some(Trouble::Memory);
-            return Err((handle, Trouble::Memory));
-        };
-        if body.len() as u64 != handle.total() {
-            self.trouble = Some(Trouble::Memory);
-            return Err((handle, Trouble::Memory));
-        }
-        let Ok(shown) = body.twin(self.alloc) else {
-            self.trouble = Some(Trouble::Memory);
-            return Err((handle, Trouble::Memory));
-        };
         let id = handle.note().id;
-        match self.say(Call::Fetch { id }, Answer::Body(shown)) {
-            Ok(()) => {
+        let total = handle.total();
+        match self.fetch(id, total) {
+            Ok(body) => {
                 let _ = handle.spend();
                 Ok(body)
             }

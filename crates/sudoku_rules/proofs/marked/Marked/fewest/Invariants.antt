@@ -1,6 +1,7 @@
 use Rattle.std.proofs.Common.{◌*◌}
+use Rattle.sudoku_law.specs.Grid.{side}
 use Rattle.sudoku_rules.specs.Inside.Masks.{IsBest}
 use Rattle.sudoku_rules.proofs.marked.Marked.fewest.Given as goal
 
 abbrev pub invariant-loop-row : goal.invariant-loop-row
-invariant-loop-row l = IsBest l.self.cells (l.row * 9) l.best
+invariant-loop-row g l = IsBest g.row.M l.self.cells (l.row * side g.row.M) l.best

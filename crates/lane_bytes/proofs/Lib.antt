@@ -1,0 +1,5 @@
+mod Lanes
+mod Maxima
+mod Parts
+mod Used
+mod Worked

@@ -1,0 +1,10 @@
+mod Bytes
+mod Plain
+mod Readers
+mod Entries
+mod Parsing
+mod TypeLists
+mod Digits
+mod Written
+mod Beginnings
+mod LinesRead

@@ -1,0 +1,7 @@
+use Rattle.std.proofs.Common.{◌≡◌, ◌++◌, take}
+use Rattle.std.specs.List.{flat_map}
+use Rattle.ledger_file.specs.Fields.{hex}
+use Rattle.ledger_file.proofs.fields.append_body.Given as goal
+
+abbrev pub invariant-loop-b : goal.invariant-loop-b
+invariant-loop-b l = l.bytes.items ≡ l.initial.bytes.items ++ flat_map hex (take l.b-index l.body)

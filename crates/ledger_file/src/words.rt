@@ -1,0 +1,127 @@
+//! The fields of an entry, read from the words of a line one after the other.
+
+ghost use Rattle.ledger_file.specs.Inside.Reading.{Gives, first, parts_left, whole, rank_in, server_in, kind_in, length_in, number_in, prio_in, unit_in, batch_in, target_in, answer_in, top_in, types_in, bytes_in, end_in};
+ghost use Rattle.std.specs.Prelude.{◌≡◌, ◌∷◌, [], MatchResult};
+
+use crate::choices::{answer, end, target, top};
+use crate::cursor::Parts;
+use crate::faults::LineFault;
+use crate::lists::{payload, types};
+use crate::numbers::{id, number, prio, short};
+use adlb_unit::{BatchId, End, Payload, Rank, Server, Target, Types, UnitId, WorkType};
+use std::alloc::Global;
+
+/// Each reads the next word as a field, and fails as `Bad` exactly if there is none or it is no such field.
+impl<'a> Parts<'a> {
+    /// The next word. `Bad` exactly if there is none.
+    pub fn word(&mut self) -> Result<&'a [u8], LineFault>
+        ensures { MatchResult result (λ w. parts_left self.old ≡ w.now ∷ parts_left self.new) (λ fault. (fault ≡ LineFault.Bad) × (parts_left self.old ≡ [])) }
+    {
+        match self.next() {
+            Some(word) => Ok(word),
+            None => Err(LineFault::Bad),
+        }
+    }
+
+    pub fn rank(&mut self) -> Result<Rank, LineFault>
+        ensures { Gives (λ x. (x, parts_left self.new)) result (first rank_in (parts_left self.old)) }
+    {
+        Ok(Rank(short(self.word()?)?))
+    }
+
+    pub fn server(&mut self) -> Result<Server, LineFault>
+        ensures { Gives (λ x. (x, parts_left self.new)) result (first server_in (parts_left self.old)) }
+    {
+        Ok(Server(short(self.word()?)?))
+    }
+
+    pub fn kind(&mut self) -> Result<WorkType, LineFault>
+        ensures { Gives (λ x. (x, parts_left self.new)) result (first kind_in (parts_left self.old)) }
+    {
+        Ok(WorkType(short(self.word()?)?))
+    }
+
+    pub fn length(&mut self) -> Result<u32, LineFault>
+        ensures { Gives (λ x. (x, parts_left self.new)) result (first length_in (parts_left self.old)) }
+    {
+        short(self.word()?)
+    }
+
+    pub fn number(&mut self) -> Result<u64, LineFault>
+        ensures { Gives (λ x. (x, parts_left self.new)) result (first number_in (parts_left self.old)) }
+    {
+        number(self.word()?)
+    }
+
+    pub fn prio(&mut self) -> Result<i32, LineFault>
+        ensures { Gives (λ x. (x, parts_left self.new)) result (first prio_in (parts_left self.old)) }
+    {
+        prio(self.word()?)
+    }
+
+    pub fn unit(&mut self) -> Result<UnitId, LineFault>
+        ensures { Gives (λ x. (x, parts_left self.new)) result (first unit_in (parts_left self.old)) }
+    {
+        let (rank, number) = id(self.word()?)?;
+        Ok(UnitId {
+            rank: Rank(rank),
+            number,
+        })
+    }
+
+    pub fn batch(&mut self) -> Result<BatchId, LineFault>
+        ensures { Gives (λ x. (x, parts_left self.new)) result (first batch_in (parts_left self.old)) }
+    {
+        let (rank, number) = id(self.word()?)?;
+        Ok(BatchId {
+            rank: Rank(rank),
+            number,
+        })
+    }
+
+    pub fn target(&mut self) -> Result<Target, LineFault>
+        ensures { Gives (λ x. (x, parts_left self.new)) result (first target_in (parts_left self.old)) }
+    {
+        target(self.word()?)
+    }
+
+    pub fn answer(&mut self) -> Result<Option<Rank>, LineFault>
+        ensures { Gives (λ x. (x, parts_left self.new)) result (first answer_in (parts_left self.old)) }
+    {
+        answer(self.word()?)
+    }
+
+    pub fn top(&mut self) -> Result<Option<i32>, LineFault>
+        ensures { Gives (λ x. (x, parts_left self.new)) result (first top_in (parts_left self.old)) }
+    {
+        top(self.word()?)
+    }
+
+    pub fn types(&mut self) -> Result<Types, LineFault>
+        ensures { Gives (λ x. (x, parts_left self.new)) result (first types_in (parts_left self.old)) }
+    {
+        types(self.word()?)
+    }
+
+    pub fn payload(&mut self, alloc: Global) -> Result<Payload, LineFault>
+        ensures { Gives (λ x. (x, parts_left self.new)) result (first bytes_in (parts_left self.old)) }
+    {
+        payload(alloc, self.word()?)
+    }
+
+    pub fn end(&mut self) -> Result<End, LineFault>
+        ensures { Gives (λ x. (x, parts_left self.new)) result (first end_in (parts_left self.old)) }
+    {
+        end(self.word()?)
+    }
+
+    /// The value, if no word is left. Otherwise `Bad`.
+    pub fn last<T: Drop>(&mut self, value: T) -> Result<T, LineFault>
+        ensures { Gives (λ x. x) result (whole value (parts_left self.old)) }
+    {
+        match self.next() {
+            None => Ok(value),
+            Some(_) => Err(LineFault::Bad),
+        }
+    }
+}

@@ -1,0 +1,13 @@
+-- The cells of a grid in place are those of a grid.
+use Rattle.std.proofs.Common.{◌≡◌, ◌<◌, ◌≤◌, ℕ, length, arith}
+use Rattle.sudoku_law.specs.Grid.{Cells, IsGrid}
+use Rattle.sudoku_rules.specs.Sides.{IsSudoku}
+use Rattle.sudoku_rules.specs.Inside.Forms.{IsForm, cells_of}
+use Rattle.sudoku_rules.specs.declared.grid.Form.{Form}
+use Rattle.sudoku_rules.specs.declared.grid.Form.TheVariants.{Four, Nine, Sixteen}
+use Rattle.sudoku_rules.proofs.Sides.{grid_sudoku}
+
+pub form_sudoku : (form : Form) → IsForm form → IsSudoku (cells_of form)
+form_sudoku (Four cells) is = grid_sudoku 2 (omega arith) (omega arith) cells is
+form_sudoku (Nine cells) is = grid_sudoku 3 (omega arith) (omega arith) cells is
+form_sudoku (Sixteen cells) is = grid_sudoku 4 (omega arith) (omega arith) cells is
