@@ -1,14 +1,17 @@
 -- A queue with one unit more.
 use Rattle.std.proofs.Common.{◌≡◌, ◌≢◌, ◌<◌, ◌≤◌, ◌^◌, ℕ, ◌+◌, List, [], ◌∷◌, ◌++◌, length, get_or, Some, None, refl, sym, ap, ◌∙◌, All, sum_by, arith, IsSome, is_some, true}
+use Rattle.std.specs.List.Sorted.{IsPermutation}
 use Rattle.std.specs.Vec.{vec_capacity, vec_len}
 use Rattle.std.proofs.lemmas.List.Elements.{All-push, All-weaker, filter_map-append}
 use Rattle.std.proofs.lemmas.List.Quantifiers.{all_pairs_push}
 use Rattle.std.proofs.lemmas.List.Sums.{sum_by_push}
 use Rattle.adlb_unit.specs.declared.units.Unit.{Unit}
 use Rattle.slab.specs.Slab.{HasRoomFor, Slab, get, Updates}
+use Rattle.work_queue.proofs.Indexed.{indexed_come}
 use Rattle.work_queue.proofs.Units.{units_one, units_same}
 use Rattle.work_queue.specs.Inside.{IsSound, queue_of}
 use Rattle.work_queue.specs.Queue.{HasApartPromises, HasDistinctPromises, HasNoPromise, HasNoUnit, IsSmall, id_of, promised, size_of}
+use Rattle.work_queue.specs.Inside.Index.{IsInOrder, entry_of}
 use Rattle.work_queue.specs.Inside.Units.{units_at}
 use Rattle.work_queue.specs.declared.placing.Placed.{Placed}
 use Rattle.work_queue.specs.declared.queues.WorkQueue.TheInside.{Inside}
@@ -44,8 +47,14 @@ pub record Comes (w v : Inside) (key : ℕ) (unit : Unit) : Type 0 where
   pub unpromised : HasNoPromise unit.id v.rooms
   pub charge : v.charge ≡ sum_by size_of (units_at w.slots w.order.items) + length unit.body + sum_by promised v.rooms + v.common
   pub within : v.charge ≤ v.limit
+  pub entries : IsPermutation (entry_of (record { unit = unit; pin = None }) w.arrivals ∷ w.index.entries.items) v.index.entries.items
+  pub in_order : IsInOrder v.index.entries.items
+  pub stamps : v.index.stamps.items ≡ w.index.stamps.items ++ w.arrivals ∷ []
+  pub arrivals : v.arrivals ≡ w.arrivals + 1
   pub slots_room : HasRoomFor v.slots (length v.rooms)
   pub order_room : vec_len v.order + length v.rooms ≤ vec_capacity v.order
+  pub entries_room : vec_len v.index.entries + length v.rooms ≤ vec_capacity v.index.entries
+  pub stamps_room : vec_len v.index.stamps + length v.rooms ≤ vec_capacity v.index.stamps
 
 module _ (w v : Inside) (key : ℕ) (unit : Unit) (sound : IsSound w) (comes : Comes w v key unit) where
   pub units_come : units_at v.slots v.order.items ≡ units_at w.slots w.order.items ++ record { unit = unit; pin = None } ∷ []
@@ -79,8 +88,11 @@ module _ (w v : Inside) (key : ℕ) (unit : Unit) (sound : IsSound w) (comes : C
         apart = rw units_come apart_still;
         charge = comes.charge ∙ rw units_come (omega (arith, sum_by_push size_of units now));
         within = comes.within;
+        indexed = rw (units_come, comes.arrivals) (indexed_come units w.arrivals w.index sound.indexed v.index now refl comes.entries comes.in_order comes.stamps);
         slots_room = comes.slots_room;
         order_room = comes.order_room;
+        entries_room = comes.entries_room;
+        stamps_room = comes.stamps_room;
       }
 
   pub view_come : queue_of v ≡ record { units = units_at w.slots w.order.items ++ record { unit = unit; pin = None } ∷ []; promises = v.rooms; common = v.common; arrivals = v.arrivals; limit = v.limit }

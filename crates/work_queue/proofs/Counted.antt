@@ -1,22 +1,18 @@
 -- What a count tells, one unit after another.
-use Rattle.std.proofs.Common.{◌≡◌, ◌+◌, ◌≤ℤ◌, ℕ, ℤ, int_le, int_lt, Bool, true, false, cond, List, [], ◌∷◌, ◌++◌, length, map, fold, count_by, sum_by, Some, refl, sym, ap, ◌∙◌, All, arith, append_assoc, append-nil}
+use Rattle.std.proofs.Common.{◌≡◌, ◌+◌, ◌≤ℤ◌, ℕ, ℤ, int_le, int_lt, Bool, true, false, cond, List, [], ◌∷◌, ◌++◌, length, fold, count_by, sum_by, Some, refl, ap, ◌∙◌, All, arith}
 use Rattle.std.specs.Int.{int_max}
-use Rattle.std.specs.List.{filter}
 use Rattle.std.proofs.lemmas.Int.{clamps, fold-int_max_bounds, ints}
-use Rattle.std.proofs.lemmas.List.{length-append, map-append}
-use Rattle.std.proofs.lemmas.List.Elements.{All-cons, All-head, All-tail, All-weaker, filter-append}
+use Rattle.std.proofs.lemmas.List.{length-append}
+use Rattle.std.proofs.lemmas.List.Elements.{All-cons, All-head, All-tail, All-weaker}
 use Rattle.std.proofs.lemmas.List.Sums.{fold_push, sum_by-cons, sum_by_push}
-use Rattle.adlb_unit.specs.declared.names.WorkType.{WorkType}
 use Rattle.adlb_unit.specs.declared.notes.Info.{Info}
 use Rattle.adlb_unit.specs.Infos.{info_of_prios}
-use Rattle.work_queue.specs.Inside.Counting.{count_unit, info_with}
-use Rattle.work_queue.specs.Counts.{counts_of, is_counted, prios_of}
-use Rattle.work_queue.specs.declared.placing.Placed.{Placed}
+use Rattle.work_queue.specs.Inside.Counting.{info_with}
 
-abbrev told : ℕ → ℤ → ℕ → Info
+abbrev pub told : ℕ → ℤ → ℕ → Info
 told free top at_top = record { free = free; top = Some top; at_top = at_top }
 
-same_told : (f g : ℕ) (t u : ℤ) (a b : ℕ) → f ≡ g → t ≡ u → a ≡ b → told f t a ≡ told g u b
+pub same_told : (f g : ℕ) (t u : ℤ) (a b : ℕ) → f ≡ g → t ≡ u → a ≡ b → told f t a ≡ told g u b
 same_told f g t u a b same_free same_top same_at = ap (λ n. told n t a) same_free ∙ ap (λ x. told g x a) same_top ∙ ap (λ n. told g u n) same_at
 
 count_none : (test : ℤ → Bool) (xs : List ℤ) → All (λ x. test x ≡ false) xs → count_by test xs ≡ 0
@@ -55,7 +51,7 @@ info_to q qs p m n top at =
     same_told (length (q ∷ (qs ++ p ∷ []))) (length (q ∷ qs) + 1) (fold int_max q (qs ++ p ∷ [])) m (count_by (int_le (fold int_max q (qs ++ p ∷ []))) (q ∷ (qs ++ p ∷ []))) n
     (length-append (q ∷ qs) (p ∷ [])) highest (ap (λ x. count_by (int_le x) (q ∷ (qs ++ p ∷ []))) highest ∙ pushed ∙ at)
 
-info_push : (ps : List ℤ) (p : ℤ) → info_of_prios (ps ++ p ∷ []) ≡ info_with (info_of_prios ps) p
+pub info_push : (ps : List ℤ) (p : ℤ) → info_of_prios (ps ++ p ∷ []) ≡ info_with (info_of_prios ps) p
 info_push [] p = same_told 1 1 p p (count_by (int_le p) (p ∷ [])) 1 refl refl (ap (λ t. 0 + cond t 1 0) (le_self p))
 info_push (q ∷ qs) p = by_test (int_lt (fold int_max q qs) p) refl (int_lt p (fold int_max q qs)) refl
   where
@@ -76,25 +72,3 @@ info_push (q ∷ qs) p = by_test (int_lt (fold int_max q qs) p) refl (int_lt p (
         let t = fold int_max q qs in
         let n = count_by (int_le t) (q ∷ qs) in
         rw (higher, lower) (info_to q qs p t (n + 1) (max_first t p higher) (ap (λ b. n + cond b 1 0) (at_top t p lower)))
-
-counts_push : (kind : WorkType) (units : List Placed) (p : Placed) → counts_of kind (units ++ p ∷ []) ≡ count_unit kind (counts_of kind units) p
-counts_push kind units p = by_test (is_counted kind p) refl
-  where
-    by_test : (b : Bool) → is_counted kind p ≡ b → counts_of kind (units ++ p ∷ []) ≡ count_unit kind (counts_of kind units) p
-    by_test true is =
-        let kept : filter (is_counted kind) (units ++ p ∷ []) ≡ filter (is_counted kind) units ++ p ∷ [] = filter-append (is_counted kind) units (p ∷ []) ∙ rw is refl in
-        rw is (ap (λ l. info_of_prios (map (λ (u : Placed). u.unit.prio) l)) kept ∙ ap info_of_prios (map-append (λ (u : Placed). u.unit.prio) (filter (is_counted kind) units) (p ∷ [])) ∙ info_push (prios_of kind units) p.unit.prio)
-    by_test false is =
-        let kept : filter (is_counted kind) (units ++ p ∷ []) ≡ filter (is_counted kind) units = filter-append (is_counted kind) units (p ∷ []) ∙ rw is (append-nil (filter (is_counted kind) units)) in
-        rw is (ap (λ l. info_of_prios (map (λ (u : Placed). u.unit.prio) l)) kept)
-
-counts_more : (kind : WorkType) (units more : List Placed) → counts_of kind (units ++ more) ≡ fold (count_unit kind) (counts_of kind units) more
-counts_more kind units [] = ap (λ l. counts_of kind l) (append-nil units)
-counts_more kind units (p ∷ more) =
-    ap (λ l. counts_of kind l) (sym (append_assoc units (p ∷ []) more))
-    ∙ counts_more kind (units ++ p ∷ []) more
-    ∙ ap (λ i. fold (count_unit kind) i more) (counts_push kind units p)
-
--- what is counted of all units
-pub counts_whole : (kind : WorkType) (units : List Placed) → fold (count_unit kind) (info_of_prios []) units ≡ counts_of kind units
-counts_whole kind units = sym (counts_more kind [] units)

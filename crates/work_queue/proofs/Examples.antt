@@ -1,14 +1,12 @@
 -- The order of four units, worked by hand: in arrival order any with priority 9, Soft of rank 1 with 5, Only of rank 0 with 0,
 -- and Soft of rank 0 with 1.
-use Rattle.std.proofs.Common.{◌≡◌, ◌-◌, ℕ, zero, suc, List, [], ◌∷◌, Option, Some, None, pos, ℤ, map, refl}
+use Rattle.std.proofs.Common.{◌≡◌, ℕ, zero, suc, List, [], ◌∷◌, Option, Some, None, pos, map, refl}
 use Rattle.adlb_unit.specs.declared.names.Rank.{Rank}
 use Rattle.adlb_unit.specs.declared.names.Target.{Target}
 use Rattle.adlb_unit.specs.declared.names.Target.TheVariants.{Any, Only, Soft}
 use Rattle.adlb_unit.specs.declared.names.UnitId.{UnitId}
-use Rattle.adlb_unit.specs.declared.names.WorkType.{WorkType}
-use Rattle.work_queue.proofs.Only.{only_best}
-use Rattle.work_queue.proofs.Walks.{best_walk, no_best, push_walk}
-use Rattle.work_queue.specs.Best.{IsBest, IsOffered, best_of}
+use Rattle.work_queue.proofs.Walks.{best_walk, push_walk}
+use Rattle.work_queue.specs.Best.{IsBest, best_of}
 use Rattle.work_queue.specs.Push.{IsFirstToPush, first_to_push_of}
 use Rattle.work_queue.specs.Queue.{pinned_by}
 use Rattle.work_queue.specs.declared.placing.Placed.{Placed}

@@ -1,5 +1,5 @@
 -- The unit that a search found.
-use Rattle.std.proofs.Common.{◌≡◌, ◌<◌, ◌≤◌, ◌^◌, ℕ, List, length, get_or, Option, None, Some, IfSome, refl, subst, sym, ◌∙◌, Contains}
+use Rattle.std.proofs.Common.{◌≡◌, ◌<◌, ℕ, List, length, get_or, Some, sym, ◌∙◌, Contains}
 use Rattle.std.proofs.lemmas.List.{get_or_default}
 use Rattle.std.proofs.lemmas.List.Elements.{All-contains, Contains-get_or}
 use Rattle.adlb_unit.specs.declared.names.UnitId.{UnitId}
@@ -41,14 +41,3 @@ module _ (w : Inside) (place key : ℕ) (p : Placed) (id : UnitId) (sound : IsSo
   -- it is the only unit of this id
   pub only_found : (k : ℕ) (d : Placed) → k < length (units_at w.slots w.order.items) → id_of (get_or (units_at w.slots w.order.items) k d) ≡ id → get_or (units_at w.slots w.order.items) k d ≡ p
   only_found k d within same = only_one (units_at w.slots w.order.items) k d p sound.distinct listed within (same ∙ sym at.has_id)
-
--- the unit under a listed key has a small body
-pub small_under : (w : Inside) (items : List ℕ) (place : ℕ) → IsSound w → items ≡ w.order.items → place < length items → IfSome (get w.slots (get_or items place 0)) IsSmall
-small_under w items place sound same within = by_slot (get w.slots (get_or items place 0)) refl
-  where
-    by_slot : (o : Option Placed) → get w.slots (get_or items place 0) ≡ o → IfSome o IsSmall
-    by_slot None found = tt
-    by_slot (Some p) found =
-        let P : Placed → Type 0 = λ q. IsSmall q in
-        let key_in : Contains w.order.items (get_or items place 0) = let C : List ℕ → Type 0 = λ l. Contains l (get_or items place 0) in subst C same (Contains-get_or items place 0 within) in
-        All-contains P (units_at w.slots w.order.items) p sound.small (unit_listed w.slots w.order.items (get_or items place 0) p found key_in)

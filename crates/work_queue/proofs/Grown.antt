@@ -17,8 +17,13 @@ use Rattle.work_queue.specs.declared.queues.WorkQueue.TheInside.{Inside}
 pub record IsGrown (w v : Inside) : Type 0 where
   pub slots : v.slots ≡ record w.slots { capacity = v.slots.capacity }
   pub items : v.order.items ≡ w.order.items
+  pub entries : v.index.entries.items ≡ w.index.entries.items
+  pub stamps : v.index.stamps.items ≡ w.index.stamps.items
+  pub arrivals : v.arrivals ≡ w.arrivals
   pub slots_room : HasRoomFor v.slots (length v.rooms)
   pub order_room : vec_len v.order + length v.rooms ≤ vec_capacity v.order
+  pub entries_room : vec_len v.index.entries + length v.rooms ≤ vec_capacity v.index.entries
+  pub stamps_room : vec_len v.index.stamps + length v.rooms ≤ vec_capacity v.index.stamps
 
 module _ (w v : Inside) (sound : IsSound w) (grown : IsGrown w v) where
   pub units_kept : units_at v.slots v.order.items ≡ units_at w.slots w.order.items
@@ -34,8 +39,17 @@ module _ (w v : Inside) (sound : IsSound w) (grown : IsGrown w v) where
     apart = rw units_kept apart;
     charge = rw units_kept charge;
     within = within;
+    indexed = record {
+      held = rw (units_kept, grown.entries, grown.stamps) sound.indexed.held;
+      in_order = rw grown.entries sound.indexed.in_order;
+      rising = rw grown.stamps sound.indexed.rising;
+      below = rw (grown.stamps, grown.arrivals) sound.indexed.below;
+      long = rw (units_kept, grown.stamps) sound.indexed.long;
+    };
     slots_room = grown.slots_room;
     order_room = grown.order_room;
+    entries_room = grown.entries_room;
+    stamps_room = grown.stamps_room;
   }
 
   pub view_rooms : queue_of v ≡ record { units = units_at w.slots w.order.items; promises = v.rooms; common = v.common; arrivals = v.arrivals; limit = v.limit }
@@ -56,3 +70,8 @@ pub apart_left : (units : List Placed) (promises : List Promise) (id : UnitId) �
 apart_left units promises id apart =
     let P : Promise → Type 0 = λ p. HasNoUnit p.id units in
     All-filter (is_for_other id) P promises apart
+
+-- a queue that has the promises of w, too, is sound
+pub sound_grown : (w v : Inside) → IsSound w → IsGrown w v → v.rooms ≡ w.rooms → v.common ≡ w.common → v.charge ≡ w.charge → v.limit ≡ w.limit → IsSound v
+sound_grown w v sound grown rooms common charge limit =
+    sound_rooms w v sound grown (rw rooms sound.once) (rw rooms sound.apart) (rw (charge, rooms, common) sound.charge) (rw (charge, limit) sound.within)

@@ -1,7 +1,7 @@
 -- The tests of the best unit, and what they say.
 use Rattle.std.proofs.Common.{◌≡◌, ◌<◌, ◌<ℤ◌, ◌⊎◌, ◌==◌, ℤ, ℕ, List, [], ◌∷◌, Bool, true, false, ◌&&◌, ◌||◌, Option, Some, None, is_none, int_lt, refl, ap, ◌∙◌, arith, inl, inr, eqb, nat_lt, Contains}
 use Rattle.std.specs.List.{list_any}
-use Rattle.std.proofs.lemmas.Bool.{and_parts, and_from, eqb-true, eq-eqb, or_cases, or_left, or_right, false≢true, true≢false}
+use Rattle.std.proofs.lemmas.Bool.{and_parts, and_from, eqb-true, eq-eqb, or_cases, or_left, or_right, false≢true}
 use Rattle.std.proofs.lemmas.Bool.Decides.{nat_tests}
 use Rattle.std.proofs.lemmas.Int.{ints}
 use Rattle.slab.proofs.SlabLemmas.{Contains-cons, Contains-cons_cases}

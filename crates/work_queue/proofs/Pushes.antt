@@ -1,8 +1,9 @@
 -- The unit that goes first among those that can be moved.
-use Rattle.std.proofs.Common.{◌≡◌, ◌<◌, ◌⊎◌, ◌<ℤ◌, ℤ, int_le, true, false, List, Option, Some, None, Any, fold, refl, sym, ap, ◌∙◌, subst, inl, inr, is_none, arith}
+use Rattle.std.proofs.Common.{◌≡◌, ◌<◌, ◌⊎◌, ◌<ℤ◌, ℕ, ℤ, int_le, true, false, List, Option, Some, None, Any, fold, refl, sym, ap, ◌∙◌, subst, inl, inr, is_none, arith}
 use Rattle.std.proofs.lemmas.Bool.{and_parts, and_from, false≢true}
 use Rattle.std.proofs.lemmas.Int.{ints}
 use Rattle.std.proofs.lemmas.Option.{get_or_from_slice_get, slice_get_within}
+use Rattle.adlb_unit.specs.declared.names.UnitId.{UnitId}
 use Rattle.adlb_unit.specs.declared.names.Target.{Target}
 use Rattle.adlb_unit.specs.declared.names.Target.TheVariants as aim
 use Rattle.work_queue.proofs.Leading.{Found, IsOrder, IsPick, Leads, found_all, none_may, some_may}
@@ -12,7 +13,7 @@ use Rattle.work_queue.specs.Queue.{HasFree}
 use Rattle.work_queue.specs.declared.placing.Placed.{Placed}
 use Rattle.work_queue.specs.declared.pushing.Candidate.{Candidate}
 
-any_is : (target : Target) → is_any target ≡ true → target ≡ aim.Any
+pub any_is : (target : Target) → is_any target ≡ true → target ≡ aim.Any
 any_is aim.Any test = refl
 any_is (aim.Only rank) test = absurd (false≢true test)
 any_is (aim.Soft rank) test = absurd (false≢true test)
@@ -78,8 +79,9 @@ module _ (units : List Placed) (c : Candidate) (same : Some c ≡ fold pick_to_p
       let some = some_may movable candidate goes_first GoesBefore pick_to_push by_prio picks units c leads in
       (some.0, some.1, some.2, some.3, movable_is some.1 some.4)
 
-  pub first_is_free : HasFree c.id units
-  first_is_free = (leads.place, leads.unit, slice_get_within units leads.place leads.unit leads.here, get_or_from_slice_get units leads.place leads.unit leads.unit leads.here, (ap (λ (r : Candidate). r.id) leads.rated, (movable_is leads.unit leads.is).0))
+-- the unit that is pushed first is free
+pub free_from_push : (units : List Placed) (is : UnitId × ℕ) → IsFirstToPush units is → HasFree is.0 units
+free_from_push units is first = (first.place, first.unit, slice_get_within units first.place first.unit first.here, get_or_from_slice_get units first.place first.unit first.unit first.here, (ap (λ (r : UnitId × ℕ). r.0) first.has, first.is_movable.0))
 
 pub none_movable : (units : List Placed) → None ≡ fold pick_to_push None units → Any IsMovable units → ⊥
 none_movable units same some = none_may movable candidate goes_first GoesBefore pick_to_push by_prio picks units (found_so units None same) (some.0, some.1, some.2, some.3, is_movable some.1 some.4)

@@ -1,63 +1,78 @@
 //! What is counted of the free units of a type.
 
-ghost use Rattle.std.specs.Prelude.{◌≡◌, ◌<◌, ◌≤◌, ◌+◌, ◌^◌, fold};
-ghost use Rattle.std.specs.Option.{option_to_list};
-ghost use Rattle.slab.specs.Slab.{get};
-ghost use Rattle.work_queue.specs.Counts.{is_counted};
-ghost use Rattle.work_queue.specs.Inside.Counting.{count_unit, info_with};
+ghost use Rattle.std.specs.Prelude.{◌≡◌, ◌<◌, ◌≤◌, ◌+◌, ◌^◌, length, not, int_lt, true, false};
+ghost use Rattle.std.specs.List.Sorted.{IsPartitionPoint};
+ghost use Rattle.adlb_unit.specs.Infos.{info_of_prios};
+ghost use Rattle.work_queue.specs.Inside.Counting.{run_with};
+ghost use Rattle.work_queue.specs.Inside.Index.{IsInOrder, as_high, prios_in};
 
-use crate::placing::Placed;
+use crate::entries::{Entry, run_comes_first};
+use crate::indexing::run_at;
 use adlb_unit::{Info, WorkType};
-use slab::Slab;
 
-// The unit is free and of the type.
-fn counts_for(placed: &Placed, kind: WorkType) -> bool
-    ensures { result ≡ is_counted kind placed.now }
+// How many entries are of an earlier run, or of this run and of no lower priority than its first.
+fn top_end(entries: &[Entry], first: &Entry) -> usize
+    requires { IsInOrder entries.now }
+    ensures within { result ≤ length entries.now }
+    ensures point { IsPartitionPoint (λ x. as_high first.now x ≡ true) (λ x. as_high first.now x ≡ false) entries.now result }
 {
-    placed.pin.is_none() && placed.unit.kind == kind
+    entries.partition_point(|x| run_comes_first(x, first, !(x.prio < first.prio)))
 }
 
-// One more unit of this priority is counted.
-fn with_one_more(info: Info, prio: i32) -> Info
-    requires free { info.free + 1 < 2 ^ 64 }
+// `n` more units are counted, of which `at` have the highest priority of them, that of `first`.
+fn with_run(info: Info, n: u64, first: &Entry, at: u64) -> Info
+    requires free { info.free + n < 2 ^ 64 }
     requires at_top { info.at_top ≤ info.free }
-    ensures { result ≡ info_with info prio }
+    requires at { at ≤ n }
+    ensures { result ≡ run_with info n first.now.prio at }
 {
-    let first = Info {
-        free: info.free + 1,
+    let free = info.free + n;
+    let prio = first.prio;
+    let only = Info {
+        free,
         top: Some(prio),
-        at_top: 1,
+        at_top: at,
     };
     let Some(top) = info.top else {
-        return first;
+        return only;
     };
     if top < prio {
-        return first;
+        return only;
     }
     Info {
-        free: info.free + 1,
+        free,
         top: Some(top),
         at_top: if prio < top {
             info.at_top
         } else {
-            info.at_top + 1
+            info.at_top + at
         },
     }
 }
 
-// What was counted before, and the unit under the key, if it counts.
-pub(crate) fn count_one(slots: &Slab<Placed>, key: usize, kind: WorkType, info: Info) -> Info
-    requires free { info.free + 1 < 2 ^ 64 }
-    requires at_top { info.at_top ≤ info.free }
-    ensures counted { result ≡ fold (count_unit kind) info (option_to_list (get slots.now key)) }
-    ensures free { result.free ≤ info.free + 1 }
-    ensures at_top { result.at_top ≤ result.free }
+// What is counted of the entries of the type: each run is counted by the places where it and its highest priority end.
+pub(crate) fn count_kind(entries: &[Entry], kind: WorkType) -> Info
+    requires { IsInOrder entries.now }
+    ensures { result ≡ info_of_prios (prios_in kind entries.now) }
 {
-    let Some(placed) = slots.get(key) else {
-        return info;
+    let mut info = Info {
+        free: 0,
+        top: None,
+        at_top: 0,
     };
-    if !counts_for(placed, kind) {
-        return info;
+    let mut place = 0;
+    while place < entries.len() {
+        let run = run_at(entries, place);
+        if run.first.kind == kind {
+            let top = top_end(entries, &run.first).min(run.end);
+            info = with_run(
+                info,
+                (run.end - place) as u64,
+                &run.first,
+                (top - place) as u64,
+            );
+        }
+        place = run.end;
     }
-    with_one_more(info, placed.unit.prio)
+    info
 }

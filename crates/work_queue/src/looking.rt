@@ -7,11 +7,11 @@ ghost use Rattle.work_queue.specs.Fits.{IsAsked, IsFirstFit, first_fit};
 ghost use Rattle.work_queue.specs.Push.{IsFirstToPush, IsMovable, first_to_push_of};
 ghost use Rattle.work_queue.specs.Queue.{HasDistinctIds, HasFree, HasPinned, HasUnit, IsSmall, id_of, is_unit};
 
-use crate::counting::count_one;
+use crate::counting::count_kind;
 use crate::fitting::fit_at;
 use crate::placing::{Placed, UnitFacts};
-use crate::pushing::consider_push;
 use crate::queues::WorkQueue;
+use crate::ranking::first_to_move;
 use crate::searching::unit_of;
 use adlb_unit::{Info, Rank, Target, Types, UnitId, WorkType};
 
@@ -65,13 +65,9 @@ impl WorkQueue {
         ensures free { IfSome result (λ is. HasFree is.0 self.now.units) }
         ensures fold { result ≡ first_to_push_of self.now.units }
     {
-        let mut found = None;
-        for key in &self.order {
-            found = consider_push(&self.slots, *key, found);
-        }
-        match found {
+        match first_to_move(&self.index.entries) {
             None => None,
-            Some(first) => Some((first.id, first.length)),
+            Some(entry) => Some((entry.id, entry.length)),
         }
     }
 
@@ -97,15 +93,7 @@ impl WorkQueue {
     pub fn counts(&self, kind: WorkType) -> Info
         ensures { result ≡ counts_of kind self.now.units }
     {
-        let mut info = Info {
-            free: 0,
-            top: None,
-            at_top: 0,
-        };
-        for key in &self.order {
-            info = count_one(&self.slots, *key, kind, info);
-        }
-        info
+        count_kind(&self.index.entries, kind)
     }
 
     // The unit of this id.

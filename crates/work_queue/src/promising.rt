@@ -4,6 +4,7 @@ ghost use Rattle.std.specs.Prelude.{◌≡◌, ◌<◌, ◌↔◌, ℕ, Some, Er
 ghost use Rattle.adlb_unit.specs.Limits.{stamp_limit};
 ghost use Rattle.work_queue.specs.Queue.{Exceeds, HasNoPromise, HasNoUnit, HasPromise, HasRoom, charge_of, with_arrival, with_promise, without_promise};
 
+use crate::entries::entry_for;
 use crate::growth::make_room;
 use crate::placing::Placed;
 use crate::queues::{AddFault, WorkQueue};
@@ -27,7 +28,7 @@ impl WorkQueue {
             return Err(AddFault::Full { charge });
         }
         let more = self.rooms.len() + 1;
-        if make_room(&mut self.slots, &mut self.order, more).is_err() {
+        if make_room(&mut self.slots, &mut self.order, &mut self.index, more).is_err() {
             return Err(AddFault::Memory);
         }
         if self.rooms.add(id, n).is_err() {
@@ -46,7 +47,9 @@ impl WorkQueue {
         ensures { self.new ≡ with_arrival self.old unit }
     {
         self.rooms.remove(unit.id);
-        let key = self.slots.insert_reserved(Placed { unit, pin: None });
+        let placed = Placed { unit, pin: None };
+        self.index.add(entry_for(&placed, self.arrivals));
+        let key = self.slots.insert_reserved(placed);
         self.order.push_reserved(key);
         self.arrivals += 1;
     }

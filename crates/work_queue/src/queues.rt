@@ -8,11 +8,13 @@ ghost use Rattle.work_queue.specs.Best.{IsBest, IsOffered, best_of};
 ghost use Rattle.work_queue.specs.Facts.{facts_of};
 ghost use Rattle.work_queue.specs.Queue.{Queue, Promise, HasApartPromises, HasDistinctIds, HasDistinctPromises, HasFree, HasPinned, HasUnit, IsSmall, Overfills, charge_of, id_of, seen, with_pin, with_unit, without};
 
+use crate::entries::{entry_for, entry_under, free_entry};
 use crate::growth::make_room;
+use crate::indexing::Index;
 use crate::placing::{Placed, UnitFacts};
-use crate::rating::Rated;
+use crate::ranking::best_entry;
 use crate::rooms::Rooms;
-use crate::searching::{consider, pin_at, place_of, seen_at, take_at};
+use crate::searching::{pin_at, place_of, seen_at, take_at};
 use adlb_unit::{Payload, Rank, Types, Unit, UnitId};
 use slab::Slab;
 use std::alloc::Global;
@@ -37,8 +39,10 @@ pub enum AddFault {
 pub struct WorkQueue {
     // The units, each under a key that it keeps as long as it stays.
     pub(crate) slots: Slab<Placed>,
-    // The keys in arrival order. Both have room for each unit that is promised room.
+    // The keys in arrival order. All three have room for each unit that is promised room.
     pub(crate) order: Vec<usize>,
+    // The free units in order.
+    pub(crate) index: Index,
     pub(crate) rooms: Rooms,
     // The bytes of common parts.
     pub(crate) common: u64,
@@ -68,6 +72,7 @@ impl WorkQueue {
         WorkQueue {
             slots: Slab::new(alloc),
             order: Vec::new(alloc),
+            index: Index::new(alloc),
             rooms: Rooms::new(alloc),
             common: 0,
             charge: 0,
@@ -119,10 +124,12 @@ impl WorkQueue {
             return Err((unit, AddFault::Full { charge }));
         }
         let more = self.rooms.len() + 1;
-        if make_room(&mut self.slots, &mut self.order, more).is_err() {
+        if make_room(&mut self.slots, &mut self.order, &mut self.index, more).is_err() {
             return Err((unit, AddFault::Memory));
         }
-        let key = self.slots.insert_reserved(Placed { unit, pin: None });
+        let placed = Placed { unit, pin: None };
+        self.index.add(entry_for(&placed, self.arrivals));
+        let key = self.slots.insert_reserved(placed);
         self.order.push_reserved(key);
         self.charge += length;
         self.arrivals += 1;
@@ -138,13 +145,9 @@ impl WorkQueue {
         ensures free { IfSome result (λ id. HasFree id self.now.units) }
         ensures fold { result ≡ best_of rank types.now self.now.units }
     {
-        let mut best: Option<Rated> = None;
-        for key in &self.order {
-            best = consider(&self.slots, *key, rank, types, best);
-        }
-        match best {
+        match best_entry(&self.index.entries, rank, types) {
             None => None,
-            Some(rated) => Some(rated.id),
+            Some(entry) => Some(entry.id),
         }
     }
 
@@ -158,6 +161,8 @@ impl WorkQueue {
     {
         let place = place_of(&self.slots, &self.order, id);
         let key = self.order[place];
+        let entry = entry_under(&self.slots, key, self.index.stamps[place]);
+        self.index.leave(&entry);
         pin_at(&mut self.slots, key, rank)
     }
 
@@ -189,6 +194,8 @@ impl WorkQueue {
     {
         let place = place_of(&self.slots, &self.order, id);
         let key = self.order.remove(place);
+        let entry = free_entry(&self.slots, key, self.index.stamps[place]);
+        self.index.forget(place, entry);
         let unit = take_at(&mut self.slots, key);
         self.charge -= unit.body.len() as u64;
         unit

@@ -3,39 +3,14 @@
 ghost use Rattle.std.specs.Prelude.{◌≡◌, ◌<◌, ◌^◌, ◌≤◌, ◌↔◌, IfSome, IsSome, IsTrue, None, Some, ◌+◌, find, length, slice_index};
 ghost use Rattle.std.specs.Option.{option_copied, option_map, option_to_list};
 ghost use Rattle.slab.specs.Slab.{get, slab_len, with_value, Updates};
-ghost use Rattle.work_queue.specs.Best.{best_from};
 ghost use Rattle.work_queue.specs.Facts.{facts_of};
 ghost use Rattle.work_queue.specs.Queue.{HasUnit, IsSmall, is_unit, seen};
 ghost use Rattle.work_queue.specs.Inside.Units.{units_at, HasId};
 ghost use Rattle.work_queue.specs.declared.placing.Placed.{Placed};
 
 use crate::placing::{Placed, UnitFacts};
-use crate::rating::{Rated, better_of, is_offered, rate};
-use adlb_unit::{Rank, Types, Unit, UnitId};
+use adlb_unit::{Rank, Unit, UnitId};
 use slab::Slab;
-
-// The better of what was found before and the unit under the key, if that is offered.
-pub(crate) fn consider(
-    slots: &Slab<Placed>,
-    key: usize,
-    rank: Rank,
-    types: &Types,
-    best: Option<Rated>,
-) -> Option<Rated>
-    ensures { result ≡ best_from rank types.now best (option_to_list (get slots.now key)) }
-{
-    let Some(placed) = slots.get(key) else {
-        return best;
-    };
-    if !is_offered(placed, rank, types) {
-        return best;
-    }
-    let rated = rate(placed, rank);
-    match best {
-        None => Some(rated),
-        Some(first) => Some(better_of(first, rated)),
-    }
-}
 
 // The place of the unit's key.
 pub(crate) fn place_of(slots: &Slab<Placed>, order: &[usize], id: UnitId) -> usize

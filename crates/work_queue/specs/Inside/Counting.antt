@@ -1,9 +1,6 @@
--- What is counted of the free units of a type, one unit after another.
-use Rattle.std.specs.Prelude.{◌+◌, ℤ, int_lt, Option, Some, None, if◌then◌else◌}
-use Rattle.adlb_unit.specs.declared.names.WorkType.{WorkType}
+-- What is counted of the free units of a type, one unit or one run after another.
+use Rattle.std.specs.Prelude.{◌+◌, ℕ, ℤ, int_lt, Option, Some, None, if◌then◌else◌}
 use Rattle.adlb_unit.specs.declared.notes.Info.{Info}
-use Rattle.work_queue.specs.Counts.{is_counted}
-use Rattle.work_queue.specs.declared.placing.Placed.{Placed}
 
 -- one more unit of this priority, if the highest before was this
 abbrev pub info_above : Info → ℤ → Option ℤ → Info
@@ -16,6 +13,13 @@ info_above info prio (Some top) =
 abbrev pub info_with : Info → ℤ → Info
 info_with info prio = info_above info prio info.top
 
--- what was counted before, and this unit, if it counts
-abbrev pub count_unit : WorkType → Info → Placed → Info
-count_unit kind info p = if is_counted kind p then info_with info p.unit.prio else info
+-- a run of `n` more units, of which `at` have the priority `prio` and the others a lower one, if the highest before was this
+abbrev pub run_above : Info → ℕ → ℤ → ℕ → Option ℤ → Info
+run_above info n prio at None = record { free = info.free + n; top = Some prio; at_top = at }
+run_above info n prio at (Some top) =
+    if int_lt top prio
+    then record { free = info.free + n; top = Some prio; at_top = at }
+    else record { free = info.free + n; top = Some top; at_top = if int_lt prio top then info.at_top else info.at_top + at }
+
+abbrev pub run_with : Info → ℕ → ℤ → ℕ → Info
+run_with info n prio at = run_above info n prio at info.top

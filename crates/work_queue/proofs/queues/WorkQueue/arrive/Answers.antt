@@ -1,15 +1,17 @@
-use Rattle.std.proofs.Common.{◌≡◌, ◌+◌, ◌++◌, ◌∷◌, [], None, ap, ◌∙◌, sym, subst, arith, length}
+use Rattle.std.proofs.Common.{◌≡◌, ◌+◌, ◌++◌, ◌∷◌, [], None, refl, ap, ◌∙◌, sym, subst, arith, length}
 use Rattle.std.specs.List.{filter}
 use Rattle.work_queue.specs.Queue.{HasRoom, Queue, is_for_other, with_unit}
 use Rattle.work_queue.specs.Inside.Units.{units_at}
 use Rattle.work_queue.specs.declared.queues.WorkQueue.TheInside.{Inside}
+use Rattle.work_queue.specs.declared.entries.Entry.{Entry}
+use Rattle.work_queue.proofs.Indexed.{stamps_below}
 use Rattle.work_queue.proofs.Added.{Comes, sound_come, view_come}
 use Rattle.work_queue.proofs.Grown.{apart_left, once_left}
 use Rattle.work_queue.proofs.Promises.{none_left, room_apart, room_told}
 use Rattle.work_queue.proofs.queues.WorkQueue.arrive.Goals as goal
 
 abbrev after : goal.After-self-1 → Inside
-after c = record { slots = c.insert_reserved-key.new.self; order = c.push_reserved.new.self; rooms = c.remove.new.self; common = c.self.inside.common; charge = c.self.inside.charge; arrivals = c.self.inside.arrivals + 1; limit = c.self.inside.limit }
+after c = record { slots = c.insert_reserved-key.new.self; order = c.push_reserved.new.self; index = c.add.new.self; rooms = c.remove.new.self; common = c.self.inside.common; charge = c.self.inside.charge; arrivals = c.self.inside.arrivals + 1; limit = c.self.inside.limit }
 
 comes : (c : goal.After-self-1) → Comes c.self.inside (after c) c.insert_reserved-key.result c.args.unit
 comes c =
@@ -30,8 +32,14 @@ comes c =
       unpromised = rw c.remove.ensures.removed (none_left id w.rooms);
       charge = omega arith;
       within = c.self.invariant.within;
+      entries = rw (sym c.entry_for.ensures) c.add.ensures.entries;
+      in_order = c.add.ensures.order;
+      stamps = c.add.ensures.stamps ∙ ap (λ (e : Entry). c.self.inside.index.stamps.items ++ e.stamp ∷ []) c.entry_for.ensures;
+      arrivals = refl;
       slots_room = omega arith;
       order_room = omega arith;
+      entries_room = omega arith;
+      stamps_room = omega arith;
     }
 
 pub invariant_of-self : goal.invariant_of-self
@@ -42,3 +50,6 @@ returns c =
     view_come c.self.inside (after c) c.insert_reserved-key.result c.args.unit c.self.invariant (comes c)
     ∙ ap (λ (q : Queue). record q { units = q.units ++ record { unit = c.args.unit; pin = None } ∷ []; promises = c.remove.new.self; arrivals = q.arrivals + 1 }) c.self.view_is
     ∙ ap (λ promises. record (with_unit c.args.self.now c.args.unit) { promises = promises }) (c.remove.ensures.removed ∙ ap (λ (q : Queue). filter (is_for_other c.args.unit.id) q.promises) c.self.view_is)
+
+pub add-requires-clause-last : goal.add-requires-clause-last
+add-requires-clause-last c = rw c.entry_for.ensures (stamps_below _ c.self.inside.arrivals c.self.inside.index c.self.invariant.indexed)

@@ -1,34 +1,38 @@
-use Rattle.std.proofs.Common.{None, ap, refl, sym, ◌∙◌}
+use Rattle.std.proofs.Common.{None, Some, Any, length, refl, subst, sym}
 use Rattle.std.proofs.lemmas.Bool.{false≢true}
-use Rattle.work_queue.proofs.Firsts.{best_is, none_offered, some_offered}
-use Rattle.work_queue.proofs.Folds.{best_from-append, found_next, found_whole}
+use Rattle.work_queue.proofs.Bridges.{best_leads, none_leads}
 use Rattle.work_queue.proofs.Lists.{free_from_best}
-use Rattle.work_queue.specs.Best.{best_from}
+use Rattle.work_queue.proofs.Walks.{best_offered, best_walk, no_best}
+use Rattle.work_queue.specs.Best.{IsBest, IsOffered}
+use Rattle.work_queue.specs.Inside.Index.{IsLeading, may_have, suits_better}
+use Rattle.work_queue.specs.Queue.{Queue}
 use Rattle.work_queue.proofs.queues.WorkQueue.best.Goals as goal
-
-pub loop-key-preserved : goal.loop-key-preserved
-loop-key-preserved c = found_next (best_from c.args.rank c.args.types.now) (best_from-append c.args.rank c.args.types.now) None c.self.inside.slots c.self.inside.order.items _ _ _ _ c.deref-key-items.ensures.value c.loop-key-test.true c.loop-key.invariant c.consider-best.ensures
-
-pub returns-in-None-clause-some : goal.returns-in-None-clause-some
-returns-in-None-clause-some c =
-    let whole =
-    found_whole (best_from c.args.rank c.args.types.now) (best_from-append c.args.rank c.args.types.now) None c.self.inside.slots c.self.inside.order.items _ _ _ c.deref-key-items.ensures.value c.loop-key-test.false c.loop-key.invariant
-    ∙ ap (λ q. best_from c.args.rank c.args.types.now None q.units) c.self.view_is in
-    (λ no_such. absurd (false≢true no_such), λ some. absurd (none_offered c.args.rank c.args.types.now c.args.self.now.units (sym c.in-None.is ∙ whole) some))
 
 pub returns-in-Some-clause-best : goal.returns-in-Some-clause-best
 returns-in-Some-clause-best c =
-    let whole =
-    found_whole (best_from c.args.rank c.args.types.now) (best_from-append c.args.rank c.args.types.now) None c.self.inside.slots c.self.inside.order.items _ _ _ c.deref-key-items.ensures.value c.loop-key-test.false c.loop-key.invariant
-    ∙ ap (λ q. best_from c.args.rank c.args.types.now None q.units) c.self.view_is in
-    best_is c.args.rank c.args.types.now c.args.self.now.units c.in-Some.rated (sym c.in-Some.is ∙ whole)
+    let entries = c.self.inside.index.entries.items in
+    let leads : IsLeading (may_have c.args.rank c.args.types.now) (suits_better c.args.rank) entries (length entries) (Some c.in-Some.entry) = rw (c.in-Some.is, c.deref.ensures.value) at c.best_entry.ensures in
+    let Best : Queue → Type 0 = λ q. IsBest c.args.rank c.args.types.now q.units c.in-Some.entry.id in
+    subst Best c.self.view_is (best_leads _ c.self.inside.arrivals c.self.inside.index c.self.invariant.indexed c.args.rank c.args.types.now c.in-Some.entry leads)
 
 pub returns-in-Some-clause-some : goal.returns-in-Some-clause-some
-returns-in-Some-clause-some c =
-    let whole =
-    found_whole (best_from c.args.rank c.args.types.now) (best_from-append c.args.rank c.args.types.now) None c.self.inside.slots c.self.inside.order.items _ _ _ c.deref-key-items.ensures.value c.loop-key-test.false c.loop-key.invariant
-    ∙ ap (λ q. best_from c.args.rank c.args.types.now None q.units) c.self.view_is in
-    (λ _. some_offered c.args.rank c.args.types.now c.args.self.now.units c.in-Some.rated (sym c.in-Some.is ∙ whole), λ _. refl)
+returns-in-Some-clause-some c = (λ _. best_offered c.args.rank c.args.types.now c.args.self.now.units c.in-Some.entry.id (returns-in-Some-clause-best c), λ _. refl)
 
 pub returns-in-Some-clause-free : goal.returns-in-Some-clause-free
-returns-in-Some-clause-free c = free_from_best c.args.rank c.args.types.now c.args.self.now.units c.in-Some.rated.id (returns-in-Some-clause-best c)
+returns-in-Some-clause-free c = free_from_best c.args.rank c.args.types.now c.args.self.now.units c.in-Some.entry.id (returns-in-Some-clause-best c)
+
+pub returns-in-Some-clause-fold : goal.returns-in-Some-clause-fold
+returns-in-Some-clause-fold c = sym ((best_walk c.args.rank c.args.types.now c.args.self.now.units c.in-Some.entry.id).1 (returns-in-Some-clause-best c))
+
+none_left : (c : goal.In-None) → Any (IsOffered c.args.rank c.args.types.now) c.args.self.now.units → ⊥
+none_left c some =
+    let entries = c.self.inside.index.entries.items in
+    let leads : IsLeading (may_have c.args.rank c.args.types.now) (suits_better c.args.rank) entries (length entries) None = rw (c.in-None.is, c.deref.ensures.value) at c.best_entry.ensures in
+    let Some_of : Queue → Type 0 = λ q. Any (IsOffered c.args.rank c.args.types.now) q.units in
+    none_leads _ c.self.inside.arrivals c.self.inside.index c.self.invariant.indexed c.args.rank c.args.types.now leads (subst Some_of (sym c.self.view_is) some)
+
+pub returns-in-None-clause-some : goal.returns-in-None-clause-some
+returns-in-None-clause-some c = (λ no_such. absurd (false≢true no_such), λ some. absurd (none_left c some))
+
+pub returns-in-None-clause-fold : goal.returns-in-None-clause-fold
+returns-in-None-clause-fold c = sym ((no_best c.args.rank c.args.types.now c.args.self.now.units).1 (none_left c))

@@ -1,9 +1,10 @@
-use Rattle.std.proofs.Common.{◌≡◌, All, ap, ◌∙◌, subst, sym}
+use Rattle.std.proofs.Common.{◌≡◌, All, ap, arith, ◌∙◌, subst, sym}
 use Rattle.work_queue.proofs.Found.{found_at, only_found, small_found}
 use Rattle.work_queue.proofs.Lists.{pinned_from_free}
+use Rattle.work_queue.proofs.Standing.{LeavesIndex, entry_is, entry_listed, free_found, stamp_within}
 use Rattle.work_queue.proofs.Pinned.{sound_pinned, view_pinned}
 use Rattle.work_queue.specs.Facts.{facts_of}
-use Rattle.work_queue.specs.Queue.{HasPinned, Queue, id_of, with_pin}
+use Rattle.work_queue.specs.Queue.{HasFree, HasPinned, Queue, id_of, with_pin}
 use Rattle.work_queue.proofs.queues.WorkQueue.pin.Goals as goal
 
 pub pin_at-requires-clause-small : goal.pin_at-requires-clause-small
@@ -14,12 +15,23 @@ pin_at-requires-clause-small c =
 pub invariant_of-self : goal.invariant_of-self
 invariant_of-self c =
     let h = found_at c.self.inside _ c.place_of-place.result c.index-key.result.now c.args.id c.deref.ensures.value c.place_of-place.ensures.within c.place_of-place.ensures.found c.index-key.ensures in
-    rw (c.pin_at.ensures.pinned h.0 h.1.found) (sound_pinned c.self.inside _ _ h.0 c.args.id c.args.rank c.self.invariant h.1)
+    let Free : Queue → Type 0 = λ q. HasFree c.args.id q.units in
+    let free = free_found c.self.inside _ _ h.0 c.args.id c.self.invariant h.1 (subst Free (sym c.self.view_is) c.requires) in
+    let is = entry_is c.self.inside _ _ h.0 c.args.id c.self.invariant h.1 _ _ (c.entry_under-entry.ensures h.0 h.1.found) c.index.ensures in
+    let leaves : LeavesIndex c.self.inside c.place_of-place.result h.0 c.leave.new.self = record {
+      left = rw is at c.leave.ensures.entries;
+      gone = rw is at c.leave.ensures.gone;
+      in_order = c.leave.ensures.order;
+      stamps = c.leave.ensures.stamps;
+      fewer = c.leave.ensures.entries_len;
+      same = c.leave.ensures.entries_same;
+    } in
+    rw (c.pin_at.ensures.pinned h.0 h.1.found) (sound_pinned c.self.inside _ _ h.0 c.args.id c.args.rank c.leave.new.self c.self.invariant h.1 free leaves)
 
 pub returns-clause-pinned : goal.returns-clause-pinned
 returns-clause-pinned c =
     let h = found_at c.self.inside _ c.place_of-place.result c.index-key.result.now c.args.id c.deref.ensures.value c.place_of-place.ensures.within c.place_of-place.ensures.found c.index-key.ensures in
-    rw (c.pin_at.ensures.pinned h.0 h.1.found) (view_pinned c.self.inside _ _ h.0 c.args.id c.args.rank c.self.invariant h.1 ∙ ap (λ q. with_pin q c.args.id c.args.rank) c.self.view_is)
+    rw (c.pin_at.ensures.pinned h.0 h.1.found) (view_pinned c.self.inside _ _ h.0 c.args.id c.args.rank c.leave.new.self c.self.invariant h.1 ∙ ap (λ q. with_pin q c.args.id c.args.rank) c.self.view_is)
 
 pub returns-clause-facts : goal.returns-clause-facts
 returns-clause-facts c =
@@ -31,3 +43,22 @@ pub returns-clause-held : goal.returns-clause-held
 returns-clause-held c =
     let Held : Queue → Type 0 = λ q. HasPinned c.args.id c.args.rank q.units in
     subst Held (sym (returns-clause-pinned c)) (pinned_from_free c.args.id c.args.rank c.args.self.now.units c.requires)
+
+pub index-requires : goal.index-requires
+index-requires c =
+    let h = found_at c.self.inside _ c.place_of-place.result c.index-key.result.now c.args.id c.deref.ensures.value c.place_of-place.ensures.within c.place_of-place.ensures.found c.index-key.ensures in
+    let within = stamp_within c.self.inside _ _ h.0 c.args.id c.self.invariant h.1 in
+    omega (arith, within)
+
+pub entry_under-entry-requires-clause-small : goal.entry_under-entry-requires-clause-small
+entry_under-entry-requires-clause-small c =
+    let h = found_at c.self.inside _ c.place_of-place.result c.index-key.result.now c.args.id c.deref.ensures.value c.place_of-place.ensures.within c.place_of-place.ensures.found c.index-key.ensures in
+    rw h.1.found (small_found c.self.inside _ _ h.0 c.args.id c.self.invariant h.1)
+
+pub leave-requires-clause-there : goal.leave-requires-clause-there
+leave-requires-clause-there c =
+    let h = found_at c.self.inside _ c.place_of-place.result c.index-key.result.now c.args.id c.deref.ensures.value c.place_of-place.ensures.within c.place_of-place.ensures.found c.index-key.ensures in
+    let Free : Queue → Type 0 = λ q. HasFree c.args.id q.units in
+    let free = free_found c.self.inside _ _ h.0 c.args.id c.self.invariant h.1 (subst Free (sym c.self.view_is) c.requires) in
+    let is = entry_is c.self.inside _ _ h.0 c.args.id c.self.invariant h.1 _ _ (c.entry_under-entry.ensures h.0 h.1.found) c.index.ensures in
+    entry_listed c.self.inside _ _ h.0 c.args.id c.self.invariant h.1 _ is free

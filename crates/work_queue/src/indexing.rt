@@ -1,0 +1,148 @@
+//! The index of the free units.
+
+ghost use Rattle.std.specs.Prelude.{◌≡◌, ◌≢◌, ◌<◌, ◌≤◌, ◌+◌, ◌++◌, ◌∷◌, [], All, Contains, IfNone, IfSome, OnOk, length, true, false};
+ghost use Rattle.std.specs.List.{AllPairs, remove};
+ghost use Rattle.std.specs.List.Sorted.{IsPermutation, IsPartitionPoint};
+ghost use Rattle.std.specs.Vec.{vec_capacity, vec_len};
+ghost use Rattle.work_queue.specs.Inside.Index.{IsInOrder, IsRun, goes_before, runs_before};
+ghost use Rattle.work_queue.specs.declared.entries.Entry.{Entry};
+
+use crate::entries::{Entry, comes_before, is_of_earlier_run};
+use std::alloc::{AllocError, Global};
+
+// The entries of the free units in order; and for each unit, free or pinned, in arrival order, how many had come
+// before it.
+#[derive(Drop)]
+pub struct Index {
+    pub(crate) entries: Vec<Entry>,
+    pub(crate) stamps: Vec<u64>,
+}
+
+// How many entries stand before this one.
+fn place_for(entries: &[Entry], entry: &Entry) -> usize
+    requires { IsInOrder entries.now }
+    ensures within { result ≤ length entries.now }
+    ensures point { IsPartitionPoint (λ x. goes_before x entry.now ≡ true) (λ x. goes_before x entry.now ≡ false) entries.now result }
+{
+    entries.partition_point(|x| comes_before(x, entry))
+}
+
+// Entries of one type and target, which stand side by side: the first, the last, and the place after that.
+#[derive(Clone, Copy, Debug, PartialEq, Eq)]
+pub struct Run {
+    pub first: Entry,
+    pub last: Entry,
+    pub end: usize,
+}
+
+// How many entries are not of a run after that of this one.
+fn run_end(entries: &[Entry], entry: &Entry) -> usize
+    requires { IsInOrder entries.now }
+    ensures within { result ≤ length entries.now }
+    ensures point { IsPartitionPoint (λ x. runs_before entry.now x ≡ false) (λ x. runs_before entry.now x ≡ true) entries.now result }
+{
+    entries.partition_point(|x| !is_of_earlier_run(entry, x))
+}
+
+// The run that begins at this place, whose end is found by binary search.
+pub(crate) fn run_at(entries: &[Entry], place: usize) -> Run
+    requires order { IsInOrder entries.now }
+    requires there { place < length entries.now }
+    ensures { IsRun entries.now place result }
+{
+    let first = entries[place];
+    let end = run_end(entries, &first);
+    Run {
+        first,
+        last: entries[end - 1],
+        end,
+    }
+}
+
+impl Index {
+    pub(crate) fn new(alloc: Global) -> Index
+        ensures entries { result.entries.items ≡ [] }
+        ensures stamps { result.stamps.items ≡ [] }
+        ensures entries_len { vec_len result.entries ≡ 0 }
+        ensures stamps_len { vec_len result.stamps ≡ 0 }
+    {
+        Index {
+            entries: Vec::new(alloc),
+            stamps: Vec::new(alloc),
+        }
+    }
+
+    // Makes room for `more` units.
+    pub(crate) fn reserve(&mut self, more: usize) -> Result<(), AllocError>
+        ensures entries { self.new.entries.items ≡ self.old.entries.items }
+        ensures stamps { self.new.stamps.items ≡ self.old.stamps.items }
+        ensures entries_len { vec_len self.new.entries ≡ vec_len self.old.entries }
+        ensures stamps_len { vec_len self.new.stamps ≡ vec_len self.old.stamps }
+        ensures entries_grown { vec_capacity self.old.entries ≤ vec_capacity self.new.entries }
+        ensures stamps_grown { vec_capacity self.old.stamps ≤ vec_capacity self.new.stamps }
+        ensures entries_room { OnOk result (vec_len self.new.entries + more ≤ vec_capacity self.new.entries) }
+        ensures stamps_room { OnOk result (vec_len self.new.stamps + more ≤ vec_capacity self.new.stamps) }
+    {
+        self.entries.reserve(more)?;
+        self.stamps.reserve(more)
+    }
+
+    // One more free unit comes, which is the last.
+    pub(crate) fn add(&mut self, entry: Entry)
+        requires order { IsInOrder self.old.entries.items }
+        requires last { All (λ x. x.stamp < entry.stamp) self.old.entries.items }
+        requires entries_room { vec_len self.old.entries < vec_capacity self.old.entries }
+        requires stamps_room { vec_len self.old.stamps < vec_capacity self.old.stamps }
+        ensures entries { IsPermutation (entry ∷ self.old.entries.items) self.new.entries.items }
+        ensures order { IsInOrder self.new.entries.items }
+        ensures stamps { self.new.stamps.items ≡ self.old.stamps.items ++ entry.stamp ∷ [] }
+        ensures entries_len { vec_len self.new.entries ≡ vec_len self.old.entries + 1 }
+        ensures stamps_len { vec_len self.new.stamps ≡ vec_len self.old.stamps + 1 }
+        ensures entries_grown { vec_capacity self.old.entries ≤ vec_capacity self.new.entries }
+        ensures stamps_grown { vec_capacity self.old.stamps ≤ vec_capacity self.new.stamps }
+    {
+        let place = place_for(&self.entries, &entry);
+        self.stamps.push_reserved(entry.stamp);
+        let added = self.entries.insert(place, entry);
+        match added {
+            Ok(()) => {}
+            Err(_) => unreachable!(),
+        }
+    }
+
+    // A unit is free no longer.
+    pub(crate) fn leave(&mut self, entry: &Entry)
+        requires order { IsInOrder self.old.entries.items }
+        requires there { Contains self.old.entries.items entry.now }
+        ensures entries { IsPermutation self.old.entries.items (entry.now ∷ self.new.entries.items) }
+        ensures gone { All (λ x. x ≢ entry.now) self.new.entries.items }
+        ensures order { IsInOrder self.new.entries.items }
+        ensures stamps { self.new.stamps ≡ self.old.stamps }
+        ensures entries_len { vec_len self.new.entries + 1 ≡ vec_len self.old.entries }
+        ensures entries_same { vec_capacity self.new.entries ≡ vec_capacity self.old.entries }
+    {
+        let place = place_for(&self.entries, entry);
+        self.entries.remove(place);
+    }
+
+    // The unit at this place of the arrival order is gone. This is its entry, if it was free.
+    pub(crate) fn forget(&mut self, place: usize, entry: Option<Entry>)
+        requires order { IsInOrder self.old.entries.items }
+        requires there { IfSome entry (λ e. Contains self.old.entries.items e) }
+        requires within { place < length self.old.stamps.items }
+        ensures kept { IfNone entry (self.new.entries.items ≡ self.old.entries.items) }
+        ensures left { IfSome entry (λ e. IsPermutation self.old.entries.items (e ∷ self.new.entries.items)) }
+        ensures gone { IfSome entry (λ e. All (λ x. x ≢ e) self.new.entries.items) }
+        ensures order { IsInOrder self.new.entries.items }
+        ensures stamps { self.new.stamps.items ≡ remove self.old.stamps.items place }
+        ensures entries_len { vec_len self.new.entries ≤ vec_len self.old.entries }
+        ensures entries_same { vec_capacity self.new.entries ≡ vec_capacity self.old.entries }
+        ensures stamps_len { vec_len self.new.stamps + 1 ≡ vec_len self.old.stamps }
+        ensures stamps_same { vec_capacity self.new.stamps ≡ vec_capacity self.old.stamps }
+    {
+        if let Some(entry) = entry {
+            self.leave(&entry);
+        }
+        self.stamps.remove(place);
+    }
+}
