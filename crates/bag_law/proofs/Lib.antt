@@ -12,5 +12,6 @@ pub mod Plain
 pub mod Promises
 pub mod Shares
 pub mod Sound
+pub mod There
 pub mod Turn
 mod Worked

@@ -26,6 +26,7 @@ use Rattle.bag_law.proofs.Fetches.{fetches_stay}
 use Rattle.bag_law.proofs.Ids.{ids_stay}
 use Rattle.bag_law.proofs.Promises.{single_stays}
 use Rattle.bag_law.proofs.Shares.{shares_stay}
+use Rattle.bag_law.proofs.There.{there_stays}
 
 -- a legal entry keeps a sound bag sound
 pub step_keeps_sound : (found : Bag → Bool) (b : Bag) (e : Entry) → LegalWhere found b e → IsSoundBag b → IsSoundBag (after b e)
@@ -33,6 +34,7 @@ step_keeps_sound found b e l is =
     record {
       ids = ids_stay found b e l is.ids;
       batches = batches_stay found b e l is.ids is.batches;
+      there = there_stays found b e l is.there;
       shares = shares_stay found b e l is.batches is.shares;
       counts = counts_stay found b e l is.fetches is.batches is.counts;
       fetches = fetches_stay found b e l is.fetches;
@@ -54,6 +56,7 @@ start_is_sound config =
         open_is = λ batch p e opened. absurd (cc);
         freed = λ batch p e freed. absurd (cc);
       };
+      there = record { each = λ batch p e. absurd (cc) };
       shares = record { each = λ id u e. absurd (cc) };
       fetches = record { each = λ n r e. rw (fresh_at config.ranks n r e) tt };
       counts = record { each = λ batch. sym (none_owed batch config.ranks) };

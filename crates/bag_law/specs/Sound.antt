@@ -57,6 +57,10 @@ pub record BatchesAreOpen (ranks : List RankState) (parts : List Part) : Type 0 
   pub freed : (batch : BatchId) (p : Part) → part_in parts batch ≡ Some p → p.freed ≡ true →
       (p.closed ≡ true) × (p.fetched ≡ p.accepted)
 
+-- each part is at a server of the run
+pub record PartsAreThere (parts : List Part) (servers : ℕ) : Type 0 where
+  pub each : (batch : BatchId) (p : Part) → part_in parts batch ≡ Some p → p.server.0 < servers
+
 -- the part that is referred to is there, at that server and of that length
 abbrev pub HasPart : List Part → Option CommonRef → Type 0
 HasPart parts None = Prim.Unit {0}
@@ -108,6 +112,7 @@ pub record EndsHaveCauses (ranks : List RankState) (has : End → Bool) : Type 0
 pub record IsSoundBag (b : Bag) : Type 0 where
   pub ids : IdsAreNew b.ranks b.units b.parts
   pub batches : BatchesAreOpen b.ranks b.parts
+  pub there : PartsAreThere b.parts b.servers
   pub shares : UnitsHaveParts b.units b.parts
   pub counts : PartsCount b.ranks b.units b.parts
   pub fetches : FetchesAreReady b.ranks b.units
