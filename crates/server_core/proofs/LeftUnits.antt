@@ -9,9 +9,13 @@ use Rattle.work_queue.specs.Queue.{seen}
 use Rattle.work_queue.specs.declared.placing.Placed.{Placed}
 use Rattle.server_core.specs.declared.states.LeftUnit.{LeftUnit}
 use Rattle.server_core.specs.Left.{left_unit}
-use Rattle.server_core.proofs.Finds.{some_is}
+use Rattle.bag_ledger.proofs.Tests.{some_is}
 
-left_suc : (server : Server) (units : List Placed) (place : ℕ) (id : UnitId) (pin : Option Rank) → option_map seen (slice_get units place) ≡ Some (id, pin) → (place < length units) × (map (left_unit server) (take (suc place) units) ≡ map (left_unit server) (take place units) ++ record { id = id; server = server; pinned = pin } ∷ [])
+left_suc : (server : Server) (units : List Placed) (place : ℕ) (id : UnitId) (pin : Option Rank)
+    → option_map seen (slice_get units place) ≡ Some (id, pin)
+    → (place < length units)
+    × (map (left_unit server) (take (suc place) units)
+    ≡ map (left_unit server) (take place units) ++ record { id = id; server = server; pinned = pin } ∷ [])
 left_suc server [] place id pin at = absurd (cc)
 left_suc server (p ∷ units) zero id pin at =
     let is : seen p ≡ (id, pin) = some_is at in
@@ -22,5 +26,9 @@ left_suc server (p ∷ units) (suc place) id pin at =
     (omega (arith, rest.0), ap (λ l. left_unit server p ∷ l) rest.1)
 
 -- one more of them
-pub left_more : (server : Server) (units : List Placed) (place : ℕ) (id : UnitId) (pin : Option Rank) → option_map seen (slice_get units place) ≡ Some (id, pin) → (place < length units) × (map (left_unit server) (take (place + 1) units) ≡ map (left_unit server) (take place units) ++ record { id = id; server = server; pinned = pin } ∷ [])
+pub left_more : (server : Server) (units : List Placed) (place : ℕ) (id : UnitId) (pin : Option Rank)
+    → option_map seen (slice_get units place) ≡ Some (id, pin)
+    → (place < length units)
+    × (map (left_unit server) (take (place + 1) units)
+    ≡ map (left_unit server) (take place units) ++ record { id = id; server = server; pinned = pin } ∷ [])
 left_more server units place id pin at = rw add-one (left_suc server units place id pin at)

@@ -1,13 +1,10 @@
-pub mod Calm
-pub mod Entries
-mod Examples
-pub mod Expected
-pub mod Finds
-pub mod Following
-pub mod Grants
+pub mod Going
+pub mod Keeping
 pub mod LeftUnits
-pub mod Once
-pub mod Ranks
-pub mod Slots
-pub mod Starting
-pub mod Whole
+pub mod Parts
+pub mod Places
+pub mod Quiet
+pub mod Seats
+pub mod Settled
+pub mod Takers
+pub mod Unknown

@@ -1,48 +1,65 @@
 -- The fields of a server.
-use Rattle.std.specs.Prelude.{◌≡◌, ◌⊎◌, ◌+◌, ◌<◌, ◌≤◌, [], ◌∷◌, length, true, All}
+use Rattle.std.specs.Prelude.{◌≢◌, ◌≡◌, ◌+◌, ◌*◌, ◌<◌, ◌≤◌, ℕ, [], length, map, sum_by, All}
+use Rattle.std.specs.List.{AllPairs}
+use Rattle.std.specs.Vec.{vec_capacity}
 use Rattle.adlb_unit.specs.Limits.{stamp_limit}
-use Rattle.server_core.specs.declared.standings.Standing.TheVariants.{Running, Finished}
+use Rattle.adlb_unit.specs.Ring.{others}
+use Rattle.adlb_unit.specs.declared.configs.Config.{Config}
+use Rattle.adlb_unit.specs.declared.names.BatchId.{BatchId}
+use Rattle.adlb_unit.specs.declared.names.Server.{Server}
+use Rattle.batch_store.specs.Store.{Store}
+use Rattle.batch_store.specs.declared.parts.Part.{Part}
+use Rattle.server_core.specs.Out.{event_letters}
 use Rattle.server_core.specs.declared.states.ServerState.TheInside.{Inside}
-use Rattle.server_core.specs.State.{ServerModel}
+use Rattle.server_core.specs.declared.waiting.Waiting.{Waiting as Seat}
+use Rattle.server_law.specs.State.{ServerModel, Waiting, idle}
+
+-- a rank that waits: no server is asked for it, and all others are still to be asked
+abbrev pub idle_of : Config → Server → Seat → Waiting
+idle_of config me w = idle (record { rank = w.rank; request = w.request; types = w.types }) (others config me)
 
 abbrev pub state_of : Inside → ServerModel
 state_of i = record {
   config = i.config;
   me = i.me;
-  queue = i.queue;
-  ranks = i.ranks.items;
-  finished = i.finished.items;
-  done = i.done;
-  exhausted = i.exhausted;
-  shut = i.shut;
-  activity = i.activity;
   clock = i.clock;
+  activity = i.activity;
   sent = i.sent.items;
   trouble = i.trouble;
+  kept = record {
+    queue = i.queue;
+    parts = i.parts;
+    parked = record { waiting = map (idle_of i.config i.me) i.waiting.items; wishes = [] };
+    finished = i.finished.items;
+    done = i.done;
+    exhausted = i.exhausted;
+    shut = i.shut;
+  };
 }
 
--- where this is the only server: the only rank runs, or it has finished and the server is shut. Where there are several, nothing
--- follows an event
-abbrev pub IsSettled : ServerModel → Type 0
-IsSettled s = s.config.servers ≡ 1 → (s.ranks ≡ Running ∷ []) ⊎ ((s.ranks ≡ Finished ∷ []) × (s.shut ≡ true))
+-- how many bytes the parts have together
+abbrev pub bytes_of : BatchId × Part → ℕ
+bytes_of e = length e.1.bytes
+
+abbrev pub bytes_in : Store → ℕ
+bytes_in parts = sum_by bytes_of parts
 
 pub record IsSound (s : ServerModel) : Type 0 where
-  pub one_rank : s.config.ranks ≡ 1
   pub there : s.me.0 < s.config.servers
-  pub settled : IsSettled s
-  pub ranks : length s.ranks ≡ 1
-  pub finished : length s.finished ≡ 1
-  pub actors : length s.sent ≡ 1 + s.config.servers
-  -- an event brings at most one unit, and sends each actor at most one letter
-  pub arrivals : s.queue.arrivals ≤ s.clock
+  pub finished : length s.kept.finished ≡ s.config.ranks
+  pub actors : length s.sent ≡ s.config.ranks + s.config.servers
+  -- ranks of the run wait, each once
+  pub seated : All (λ (e : Waiting). e.wish.rank.0 < s.config.ranks) s.kept.parked.waiting
+  pub once : AllPairs (λ (e f : Waiting). e.wish.rank.0 ≢ f.wish.rank.0) s.kept.parked.waiting
+  -- an event brings at most one unit, and sends fewer letters than `event_letters`
+  pub arrivals : s.kept.queue.arrivals ≤ s.clock
+  -- the bytes of the parts that are kept are charged to the queue
+  pub charged : bytes_in s.kept.parts ≤ s.kept.queue.common
   pub activity : s.activity ≤ s.clock
-  pub sent : All (λ n. n ≤ s.clock) s.sent
+  pub sent : All (λ n. n ≤ event_letters * s.clock) s.sent
   pub clock : s.clock < stamp_limit
 
-abbrev pub IsInside : Inside → Type 0
-IsInside i = IsSound (state_of i)
-
--- in an event that has not brought a unit and has not sent a letter
-pub record IsFresh (s : ServerModel) : Type 0 where
-  pub arrivals : s.queue.arrivals < s.clock
-  pub sent : All (λ n. n < s.clock) s.sent
+pub record IsInside (i : Inside) : Type 0 where
+  pub sound : IsSound (state_of i)
+  -- each rank of the run finds room to wait
+  pub room : i.config.ranks ≤ vec_capacity i.waiting

@@ -1,9 +1,4 @@
-pub mod Agreement
-pub mod Expected
 pub mod Inside
 pub mod Left
 pub mod Out
-pub mod Quiet
-pub mod Rules
-pub mod State
-pub mod Step
+pub mod Places

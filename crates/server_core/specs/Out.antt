@@ -1,17 +1,44 @@
--- What an event sends and enters.
-use Rattle.std.specs.Prelude.{List, []}
+-- What an event has sent and entered so far.
+use Rattle.std.specs.Prelude.{ℕ, ◌+◌, ◌-◌, ◌*◌, ◌≤◌, List, [], ◌∷◌, ◌++◌, length, All}
 use Rattle.adlb_unit.specs.declared.letters.Sending.{Sending}
 use Rattle.bag_ledger.specs.declared.entries.Entry.{Entry}
-use Rattle.server_core.specs.State.{ServerModel}
-use Rattle.server_core.specs.Step.{Served}
+use Rattle.server_law.specs.Acts.{Act}
+use Rattle.server_law.specs.Carried.{Served, carried, joined}
+use Rattle.server_law.specs.State.{ServerModel}
 
 pub record Out : Type 0 where
   pub sends : List Sending
   pub entries : List Entry
+  -- how many entries more there is room for, each with a letter
+  pub room : ℕ
 
-abbrev pub nothing : Out
-nothing = record { sends = []; entries = [] }
+abbrev pub nothing : ℕ → Out
+nothing room = record { sends = []; entries = []; room = room }
 
--- the server with what the event sends and enters
+-- one entry more, and one with a letter
+abbrev pub with_entry : Out → Entry → Out
+with_entry out entry = record { sends = out.sends; entries = out.entries ++ entry ∷ []; room = out.room - 1 }
+
+abbrev pub with_answer : Out → Sending → Entry → Out
+with_answer out sending entry = record { sends = out.sends ++ sending ∷ []; entries = out.entries ++ entry ∷ []; room = out.room - 1 }
+
+-- the server with what it has sent and entered
 abbrev pub made : ServerModel → Out → Served
 made s out = record { state = s; sends = out.sends; entries = out.entries }
+
+-- the acts, after what was sent and entered before
+abbrev pub going_on : Out → List Act → ServerModel → Served
+going_on out acts s = joined out.sends out.entries (carried acts s)
+
+-- more letters than an event sends
+abbrev pub event_letters : ℕ
+event_letters = 64
+
+-- there are numbers for the places of the letters that there is room for
+abbrev pub HasPlaces : ServerModel → Out → Type 0
+HasPlaces s out = All (λ n. n + out.room ≤ event_letters * s.clock) s.sent
+
+-- and there is room to tell each rank that waits, and for `more` entries besides
+pub record HasRoom (s : ServerModel) (out : Out) (more : ℕ) : Type 0 where
+  pub tells : length s.kept.parked.waiting + more ≤ out.room
+  pub places : HasPlaces s out

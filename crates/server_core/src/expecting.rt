@@ -1,14 +1,15 @@
 //! Which letters a server expects.
 
-ghost use Rattle.std.specs.Prelude.{◌≡◌, ◌≢◌, ◌<◌, ◌↔◌, All, IsTrue, IsSome, false};
-ghost use Rattle.adlb_unit.specs.declared.messages.Message.{Message};
-ghost use Rattle.server_core.specs.Expected.{IsAwaited, IsExpected, IsHome, IsNew, Runs};
-ghost use Rattle.server_core.specs.Rules.{is_finished};
-ghost use Rattle.server_core.specs.Step.{serve};
+ghost use Rattle.std.specs.Prelude.{◌≡◌, ◌<◌, ◌↔◌, IsTrue, IsSome, None};
+ghost use Rattle.batch_store.specs.Store.{CanClose, CanFetch, Keeps, part_in};
+ghost use Rattle.server_law.specs.Acts.{batch_of};
+ghost use Rattle.server_law.specs.Expected.{IsAwaited, IsExpected, IsNew};
+ghost use Rattle.server_law.specs.State.{Kept, ServerModel};
+ghost use Rattle.server_law.specs.Step.{serve};
 ghost use Rattle.work_queue.specs.Queue.{HasNoPromise, HasNoUnit, HasPinned};
 
 use crate::states::ServerState;
-use adlb_unit::{Actor, BODY_LIMIT, Letter, Message, Rank, STAMP_LIMIT, Unit, UnitId};
+use adlb_unit::{Actor, BODY_LIMIT, BatchId, Letter, Message, Rank, STAMP_LIMIT, Unit, UnitId};
 
 impl ServerState {
     /// The letter is expected (`IsExpected`): it comes from a rank of the run, its stamp is below `2^48`, and the row of
@@ -34,9 +35,18 @@ impl ServerState {
     {
         match message {
             Message::Put { unit } => self.is_new(from, unit),
-            Message::Reserve { .. } => self.runs_here(from),
+            Message::Reserve { .. } => self.is_home(from) && self.runs(from),
             Message::Fetch { id, .. } => self.is_pinned(*id, from),
-            Message::Finish => self.may_finish(from),
+            Message::KeepCommon { request, common } => {
+                self.keeps_none(from, *request) && common.len() <= BODY_LIMIT
+            }
+            Message::CloseBatch {
+                batch,
+                accepted,
+                ..
+            } => batch.rank.0 == from.0 && self.can_close(*batch, *accepted),
+            Message::FetchCommon { batch, .. } => self.can_share(*batch),
+            Message::Finish => self.runs(from),
             _ => false,
         }
     }
@@ -53,26 +63,47 @@ impl ServerState {
 
     // No unit and no promise of the id is here.
     fn is_unknown(&self, id: UnitId) -> bool
-        ensures { IsTrue result ↔ (HasNoUnit id self.now.queue.units × HasNoPromise id self.now.queue.promises) }
+        ensures { IsTrue result ↔ (HasNoUnit id self.now.kept.queue.units × HasNoPromise id self.now.kept.queue.promises) }
     {
         !self.queue.has_unit(id) && self.queue.promised(id).is_none()
     }
 
     // The unit is here and pinned to the rank.
     fn is_pinned(&self, id: UnitId, rank: Rank) -> bool
-        ensures { IsTrue result ↔ HasPinned id rank self.now.queue.units }
+        ensures { IsTrue result ↔ HasPinned id rank self.now.kept.queue.units }
     {
-        match self.queue.pinned_to(id) {
-            Some(to) => to.0 == rank.0,
-            None => false,
+        self.queue.pinned_to(id) == Some(rank)
+    }
+
+    // Nothing is kept of the batch that begins in the rank's call of this number.
+    fn keeps_none(&self, rank: Rank, request: u64) -> bool
+        ensures { IsTrue result ↔ (part_in self.now.kept.parts (batch_of rank request) ≡ None) }
+    {
+        let batch = BatchId {
+            rank,
+            number: request,
+        };
+        self.parts.part(batch).is_none()
+    }
+
+    // The part of the batch is here, open, and was fetched at most `accepted` times.
+    fn can_close(&self, batch: BatchId, accepted: u64) -> bool
+        ensures { IsTrue result ↔ Keeps self.now.kept.parts batch self.now.kept.queue.common (CanClose accepted) }
+    {
+        match self.parts.part(batch) {
+            Some((fetches, None)) => fetches <= accepted,
+            _ => false,
         }
     }
 
-    // No Finish of the rank was handled, and at its home it runs.
-    fn may_finish(&self, from: Rank) -> bool
-        requires { from.0 < self.now.config.ranks }
-        ensures { IsTrue result ↔ ((is_finished self.now from ≡ false) × (IsHome self.now from → Runs self.now from)) }
+    // The part of the batch is here, and, if closed, was fetched fewer times than units of the batch were accepted.
+    fn can_share(&self, batch: BatchId) -> bool
+        ensures { IsTrue result ↔ Keeps self.now.kept.parts batch self.now.kept.queue.common CanFetch }
     {
-        !self.finished[from.0 as usize] && (!self.is_home(from) || self.runs(from))
+        match self.parts.part(batch) {
+            Some((fetches, Some(accepted))) => fetches < accepted,
+            Some((_, None)) => true,
+            None => false,
+        }
     }
 }

@@ -1,26 +1,25 @@
 //! One server: what it keeps, and what it does with each letter.
 //!
-//! It stands on the letters of `adlb_unit`, the queue of `work_queue` and the ledger's entries of `bag_ledger`.
-//! `specs/State.antt` is what contracts see of a server, `specs/Rules.antt` has the rule of each letter,
-//! `specs/Step.antt` the step with what follows each event, and `specs/Agreement.antt` which part of the bag of units
-//! a server stands for; `server_laws` states that the entries of a step are steps of the bag. `specs/Expected.antt` says
-//! which letters have a step. The code serves one rank, among any number of servers.
+//! It stands on the letters of `adlb_unit`, the queue of `work_queue`, the common parts of `batch_store`, the ledger's
+//! entries of `bag_ledger`, and the definitions of `server_law`: contracts see a server as `specs/State.antt` has it
+//! there, and a step carries out the acts that `specs/Step.antt` names. A file for each family of letters has what is
+//! done with them; what follows each event is in `src/ending.rt`. The code serves any number of ranks. No server asks
+//! another for units.
 #![tactic(auto)]
 
+mod batches;
+mod ending;
 mod expecting;
 mod fetches;
 mod finishing;
-mod laws;
 mod outgoing;
 mod puts;
 mod reserves;
-mod standings;
 mod states;
 mod steps;
 #[cfg(test)]
 mod tests;
+mod waiting;
 
-pub use laws::server_laws;
-pub use standings::Standing;
 pub use states::{LeftUnit, ServerState};
 pub use steps::Step;

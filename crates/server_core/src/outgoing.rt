@@ -1,14 +1,14 @@
 //! What an event sends and enters.
 
-ghost use Rattle.std.specs.Prelude.{◌≡◌, ◌<◌, ◌++◌, ◌∷◌, [], length, IfOk};
-ghost use Rattle.server_core.specs.Out.{Out, nothing};
+ghost use Rattle.std.specs.Prelude.{◌≡◌, ◌<◌, IfOk};
+ghost use Rattle.server_core.specs.Out.{Out, nothing, with_answer, with_entry};
 
 use adlb_unit::{NoMemory, Sending};
 use bag_ledger::Entry;
 use std::alloc::Global;
 use std::marker::Model;
 
-// The letter and the entries of one event, with room for one letter and two entries from its making.
+// The letters and the entries of one event. There is room for as many as it may have from its making.
 #[derive(Drop)]
 pub(crate) struct Outgoing {
     sends: Vec<Sending>,
@@ -16,41 +16,44 @@ pub(crate) struct Outgoing {
 }
 
 impl Model for Outgoing {
-    ghost use Rattle.std.specs.Prelude.{◌≤◌};
+    ghost use Rattle.std.specs.Prelude.{◌≤◌, ◌+◌, ◌-◌, length};
     ghost use Rattle.std.specs.Vec.{vec_capacity};
     ghost use Rattle.server_core.specs.Out.{Out};
 
     ghost Value = { Out };
 
-    ghost view = { λ o. record { sends = o.sends.items; entries = o.entries.items } };
+    ghost view = { λ o. record { sends = o.sends.items; entries = o.entries.items; room = vec_capacity o.entries - length o.entries.items } };
 
-    ghost invariant = { λ o. (1 ≤ vec_capacity o.sends) × (2 ≤ vec_capacity o.entries) };
+    ghost invariant = { λ o. vec_capacity o.entries + length o.sends.items ≤ vec_capacity o.sends + length o.entries.items };
 }
 
 impl Outgoing {
-    pub(crate) fn new(alloc: Global) -> Result<Outgoing, NoMemory>
-        ensures { IfOk result (λ o. o ≡ nothing) }
+    pub(crate) fn new(alloc: Global, room: usize) -> Result<Outgoing, NoMemory>
+        ensures { IfOk result (λ o. o ≡ nothing room) }
     {
-        let Ok(sends) = Vec::with_capacity(alloc, 1) else {
+        let Ok(sends) = Vec::with_capacity(alloc, room) else {
             return Err(NoMemory);
         };
-        let Ok(entries) = Vec::with_capacity(alloc, 2) else {
+        let Ok(entries) = Vec::with_capacity(alloc, room) else {
             return Err(NoMemory);
         };
         Ok(Outgoing { sends, entries })
     }
 
-    pub(crate) fn send(&mut self, sending: Sending)
-        requires { self.old.sends ≡ [] }
-        ensures { self.new ≡ record self.old { sends = sending ∷ [] } }
+    // An entry that no letter tells of.
+    pub(crate) fn enter(&mut self, entry: Entry)
+        requires { 0 < self.old.room }
+        ensures { self.new ≡ with_entry self.old entry }
     {
-        self.sends.push_reserved(sending);
+        self.entries.push_reserved(entry);
     }
 
-    pub(crate) fn enter(&mut self, entry: Entry)
-        requires { length self.old.entries < 2 }
-        ensures { self.new ≡ record self.old { entries = self.old.entries ++ entry ∷ [] } }
+    // A letter, and the entry that it tells of.
+    pub(crate) fn answer(&mut self, sending: Sending, entry: Entry)
+        requires { 0 < self.old.room }
+        ensures { self.new ≡ with_answer self.old sending entry }
     {
+        self.sends.push_reserved(sending);
         self.entries.push_reserved(entry);
     }
 

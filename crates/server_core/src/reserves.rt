@@ -1,51 +1,53 @@
 //! The letter Reserve.
 
-ghost use Rattle.std.specs.Prelude.{◌≡◌, ◌≢◌, ◌<◌, ◌++◌, ◌∷◌, [], true, false, length, slice_set, All};
-ghost use Rattle.server_core.specs.Inside.{IsFresh};
-ghost use Rattle.server_core.specs.Out.{Out, made, nothing};
-ghost use Rattle.server_core.specs.Rules.{expects_reserve, grant, reserve_now, to_rank};
-ghost use Rattle.server_core.specs.State.{ServerModel};
-ghost use Rattle.server_core.specs.Step.{after_event, counted, posted, served};
+ghost use Rattle.std.specs.Prelude.{◌≡◌, ◌<◌, ◌+◌, ℕ, ◌∷◌, [], true, All, List, Option};
+ghost use Rattle.adlb_unit.specs.declared.names.WorkType.{WorkType};
+ghost use Rattle.server_core.specs.Out.{HasPlaces, HasRoom, Out, going_on, made, with_answer};
+ghost use Rattle.server_law.specs.Acts.{Act, Grants, to_rank};
+ghost use Rattle.server_law.specs.Carried.{counted, posted};
+ghost use Rattle.server_law.specs.Reserves.{expects_reserve, reserve_now};
+ghost use Rattle.server_law.specs.State.{Kept, ServerModel};
 ghost use Rattle.work_queue.specs.Queue.{HasFree, id_of};
 
 use crate::outgoing::Outgoing;
-use crate::standings::Standing;
 use crate::states::ServerState;
-use adlb_unit::{Actor, End, Message, Rank, Types, UnitId, UnitNote};
+use crate::waiting::Waiting;
+use adlb_unit::{Actor, End, Message, Rank, UnitId, UnitNote};
 use bag_ledger::Entry;
 
 impl ServerState {
-    pub(crate) fn reserve(&mut self, from: Rank, request: u64, types: Types, out: &mut Outgoing)
-        requires rank { from.0 < self.old.config.ranks }
-        requires expected { expects_reserve self.old from ≡ true }
-        requires fresh { IsFresh self.old }
-        requires nothing { out.old ≡ nothing }
+    // The rank gets the best free unit; if there is none, it waits.
+    pub(crate) fn reserve(&mut self, asks: Waiting, out: &mut Outgoing)
+        requires rank { asks.rank.0 < self.old.config.ranks }
+        requires expected { expects_reserve self.old asks.rank ≡ true }
+        requires room { HasRoom self.old out.old 2 }
 
-        ensures { made self.new out.new ≡ after_event (served (reserve_now self.old from request types)) }
+        ensures made { made self.new out.new ≡ going_on out.old (reserve_now self.old.kept (record { rank = asks.rank; request = asks.request; types = asks.types }) ∷ []) self.old }
+        ensures room { HasRoom self.new out.new 1 }
     {
         if self.done {
-            self.end_call(from, request, End::NoMoreWork, out);
+            self.end_call(asks.rank, asks.request, End::NoMoreWork, out);
         } else if self.exhausted {
-            self.end_call(from, request, End::Exhausted, out);
+            self.end_call(asks.rank, asks.request, End::Exhausted, out);
         } else {
-            match self.queue.best(from, &types) {
-                Some(id) => self.grant(from, request, id, out),
-                None if self.config.servers == 1 => self.exhaust(from, request, out),
-                None => self.park(from, request, types),
+            match self.queue.best(asks.rank, &asks.types) {
+                Some(id) => self.grant(asks.rank, asks.request, id, out),
+                None => self.park(asks),
             }
         }
     }
 
     // The unit is the rank's.
-    fn grant(&mut self, from: Rank, request: u64, id: UnitId, out: &mut Outgoing)
-        requires rank { from.0 < self.old.config.ranks }
-        requires free { HasFree id self.old.queue.units }
-        requires fresh { IsFresh self.old }
-        requires nothing { out.old ≡ nothing }
+    pub(crate) fn grant(&mut self, rank: Rank, request: u64, id: UnitId, out: &mut Outgoing)
+        requires rank { rank.0 < self.old.config.ranks }
+        requires free { HasFree id self.old.kept.queue.units }
+        requires room { 0 < out.old.room }
+        requires places { HasPlaces self.old out.old }
 
-        ensures { All (λ p. id_of p ≡ id → made self.new out.new ≡ served (grant self.old from request p)) self.old.queue.units }
+        ensures made { (types : Option (List WorkType)) → All (λ p. id_of p ≡ id → made self.new out.new ≡ going_on out.old (Grants (record { rank = rank; request = request; types = types }) p.unit ∷ []) self.old) self.old.kept.queue.units }
+        ensures room { (more : ℕ) → HasRoom self.old out.old (more + 1) → HasRoom self.new out.new more }
     {
-        let facts = self.queue.pin(id, from);
+        let facts = self.queue.pin(id, rank);
         let note = UnitNote {
             id,
             kind: facts.kind,
@@ -55,53 +57,30 @@ impl ServerState {
             common: facts.common,
             length: facts.length,
         };
-        out.enter(Entry::Granted {
+        let granted = Entry::Granted {
             server: self.me,
-            rank: from,
+            rank,
             call: request,
             id,
-        });
-        self.say(from, Message::Grant { request, note }, out);
-    }
-
-    // The rank waits.
-    fn park(&mut self, from: Rank, request: u64, types: Types)
-        requires rank { from.0 < self.old.config.ranks }
-        requires others { self.old.config.servers ≢ 1 }
-        ensures { self.new ≡ record self.old { ranks = slice_set self.old.ranks from.0 (Standing.Parked request types) } }
-    {
-        self.ranks[from.0 as usize] = Standing::Parked { request, types };
-    }
-
-    // No unit is left, and the only rank waits: with one server nothing can bring another, so all work is used up.
-    fn exhaust(&mut self, from: Rank, request: u64, out: &mut Outgoing)
-        requires rank { from.0 < self.old.config.ranks }
-        requires fresh { IsFresh self.old }
-        requires nothing { out.old ≡ nothing }
-
-        ensures counted { self.new ≡ counted (record self.old { exhausted = true }) (Actor.Rank from) }
-        ensures told { out.new ≡ record { sends = posted self.old (to_rank from (Message.Ended request End.Exhausted)) ∷ []; entries = Entry.Exhausted ∷ Entry.Over from request End.Exhausted ∷ [] } }
-    {
-        out.enter(Entry::Exhausted);
-        self.exhausted = true;
-        self.end_call(from, request, End::Exhausted, out);
+        };
+        self.answer(rank, Message::Grant { request, note }, granted, out);
     }
 
     // The rank's call is answered by an end.
-    pub(crate) fn end_call(&mut self, from: Rank, request: u64, end: End, out: &mut Outgoing)
-        requires rank { from.0 < self.old.config.ranks }
-        requires fresh { IsFresh self.old }
-        requires silent { out.old.sends ≡ [] }
-        requires room { length out.old.entries < 2 }
+    pub(crate) fn end_call(&mut self, rank: Rank, request: u64, end: End, out: &mut Outgoing)
+        requires rank { rank.0 < self.old.config.ranks }
+        requires room { 0 < out.old.room }
+        requires places { HasPlaces self.old out.old }
 
-        ensures counted { self.new ≡ counted self.old (Actor.Rank from) }
-        ensures told { out.new ≡ record { sends = posted self.old (to_rank from (Message.Ended request end)) ∷ []; entries = out.old.entries ++ Entry.Over from request end ∷ [] } }
+        ensures counted { self.new ≡ counted self.old (Actor.Rank rank) }
+        ensures told { out.new ≡ with_answer out.old (posted self.old (to_rank rank (Message.Ended request end))) (Entry.Over rank request end) }
+        ensures room { (more : ℕ) → HasRoom self.old out.old (more + 1) → HasRoom self.new out.new more }
     {
-        out.enter(Entry::Over {
-            rank: from,
+        let over = Entry::Over {
+            rank,
             call: request,
             end,
-        });
-        self.say(from, Message::Ended { request, end }, out);
+        };
+        self.answer(rank, Message::Ended { request, end }, over, out);
     }
 }

@@ -1,20 +1,19 @@
 //! What a server keeps.
 
-ghost use Rattle.std.specs.Prelude.{◌≡◌, ◌<◌, ◌+◌, ◌∷◌, [], ◌↔◌, length, map, All, IfOk, IsTrue, slice_index_or};
-ghost use Rattle.std.specs.Vec.{vec_len};
+ghost use Rattle.std.specs.Prelude.{◌≡◌, ◌<◌, ◌+◌, ◌*◌, ◌≤◌, ℕ, ◌↔◌, length, map, All, IfOk, IsTrue};
 ghost use Rattle.adlb_unit.specs.Limits.{stamp_limit};
-ghost use Rattle.server_core.specs.Inside.{IsFresh, IsSettled};
-ghost use Rattle.server_core.specs.Out.{Out};
-ghost use Rattle.server_core.specs.Rules.{ServerSaying, is_running};
 ghost use Rattle.server_core.specs.Left.{left_of};
-ghost use Rattle.server_core.specs.Expected.{IsHome, Runs};
-ghost use Rattle.server_core.specs.Quiet.{IsQuiet};
-ghost use Rattle.server_core.specs.State.{ServerModel, is_home, standing, start};
-ghost use Rattle.server_core.specs.Step.{counted, posted, ticked};
+ghost use Rattle.server_core.specs.Out.{event_letters, HasPlaces, HasRoom, Out, with_answer};
+ghost use Rattle.server_law.specs.Acts.{ServerSaying, to_rank};
+ghost use Rattle.server_law.specs.Carried.{counted, posted};
+ghost use Rattle.server_law.specs.State.{Kept, ServerModel, is_home, start};
+ghost use Rattle.server_law.specs.Step.{ticked};
 
 use crate::outgoing::Outgoing;
-use crate::standings::Standing;
+use crate::waiting::Waiting;
 use adlb_unit::{Actor, Config, Letter, Message, NoMemory, Rank, Sending, Server, Trouble, UnitId};
+use bag_ledger::Entry;
+use batch_store::BatchStore;
 use std::alloc::Global;
 use std::marker::Model;
 use work_queue::WorkQueue;
@@ -33,7 +32,10 @@ pub struct ServerState {
     pub(crate) config: Config,
     pub(crate) me: Server,
     pub(crate) queue: WorkQueue,
-    pub(crate) ranks: Vec<Standing>,
+    // The common parts of batches. Their bytes are charged to the queue.
+    pub(crate) parts: BatchStore,
+    // The ranks that wait, in the order in which they came.
+    pub(crate) waiting: Vec<Waiting>,
     pub(crate) finished: Vec<bool>,
     pub(crate) done: bool,
     pub(crate) exhausted: bool,
@@ -46,7 +48,7 @@ pub struct ServerState {
 }
 
 impl Model for ServerState {
-    ghost use Rattle.server_core.specs.State.{ServerModel};
+    ghost use Rattle.server_law.specs.State.{ServerModel};
 
     ghost Value = { ServerModel };
 
@@ -58,26 +60,26 @@ impl Model for ServerState {
 }
 
 impl ServerState {
-    /// One of the servers of a run of one rank, at its start. Its only error is `NoMemory`.
+    /// One of the servers of a run, at its start. Its only error is `NoMemory`.
     pub fn new(alloc: Global, config: Config, me: Server) -> Result<ServerState, NoMemory>
-        requires one_rank { config.ranks ≡ 1 }
-        requires me { me.0 < config.servers }
+        requires { me.0 < config.servers }
         ensures { IfOk result (λ s. s ≡ start config me) }
     {
-        let actors = config.ranks as usize + config.servers as usize;
-        let (Ok(mut ranks), Ok(finished), Ok(sent)) = (
-            Vec::with_capacity(alloc, 1),
-            vec![in alloc; false; config.ranks as usize],
+        let ranks = config.ranks as usize;
+        let actors = ranks + config.servers as usize;
+        let (Ok(waiting), Ok(finished), Ok(sent)) = (
+            Vec::with_capacity(alloc, ranks),
+            vec![in alloc; false; ranks],
             vec![in alloc; 0; actors],
         ) else {
             return Err(NoMemory);
         };
-        ranks.push_reserved(Standing::Running);
         Ok(ServerState {
             config,
             me,
             queue: WorkQueue::new(alloc, config.limit),
-            ranks,
+            parts: BatchStore::new(alloc),
+            waiting,
             finished,
             done: false,
             exhausted: false,
@@ -99,21 +101,9 @@ impl ServerState {
 
     /// The server is shut, and each rank's Finish letter was handled.
     pub fn ended(&self) -> bool
-        ensures { IsTrue result ↔ (IsTrue self.now.shut × All IsTrue self.now.finished) }
+        ensures { IsTrue result ↔ (IsTrue self.now.kept.shut × All IsTrue self.now.kept.finished) }
     {
         self.shut && self.finished.iter().all(|finished| *finished)
-    }
-
-    /// Each rank whose home this is waits here or has finished (`IsQuiet`).
-    pub fn is_quiet(&self) -> bool
-        ensures { IsTrue result ↔ IsQuiet self.now }
-    {
-        for number in 0..self.config.ranks {
-            if self.runs_here(Rank(number)) {
-                return false;
-            }
-        }
-        true
     }
 
     /// The units that are here, in arrival order. Its only error is `NoMemory`.
@@ -138,25 +128,9 @@ impl ServerState {
 
     // The server is the rank's home.
     pub(crate) fn is_home(&self, rank: Rank) -> bool
-        ensures { result ≡ is_home self.now rank }
+        ensures { result ≡ is_home self.now.config self.now.me rank }
     {
         self.config.home(rank).0 == self.me.0
-    }
-
-    // The rank runs, as far as its home knows.
-    pub(crate) fn runs(&self, rank: Rank) -> bool
-        requires { rank.0 < self.now.config.ranks }
-        ensures { result ≡ is_running (standing self.now rank) }
-    {
-        matches!(self.ranks[rank.0 as usize], Standing::Running)
-    }
-
-    // The rank's home is here, and it runs.
-    pub(crate) fn runs_here(&self, rank: Rank) -> bool
-        requires { rank.0 < self.now.config.ranks }
-        ensures { IsTrue result ↔ (IsHome self.now rank × Runs self.now rank) }
-    {
-        self.is_home(rank) && self.runs(rank)
     }
 
     // The event has this stamp.
@@ -164,31 +138,37 @@ impl ServerState {
         requires rises { self.old.clock < stamp }
         requires within { stamp < stamp_limit }
         ensures ticked { self.new ≡ ticked self.old stamp }
-        ensures fresh { IsFresh self.new }
-        ensures settled { IsSettled self.new }
+        ensures fresh { self.new.kept.queue.arrivals < self.new.clock }
+        ensures places { All (λ n. n + event_letters ≤ event_letters * self.new.clock) self.new.sent }
     {
         self.clock = stamp;
         self.activity += 1;
     }
 
-    // Sends the rank a letter.
-    pub(crate) fn say(&mut self, to: Rank, message: Message, out: &mut Outgoing)
+    // Sends the rank a letter, and enters what it tells of.
+    pub(crate) fn answer(&mut self, to: Rank, message: Message, entry: Entry, out: &mut Outgoing)
         requires rank { to.0 < self.old.config.ranks }
-        requires fresh { All (λ n. n < self.old.clock) self.old.sent }
-        requires first { out.old.sends ≡ [] }
+        requires room { 0 < out.old.room }
+        requires places { HasPlaces self.old out.old }
+
         ensures counted { self.new ≡ counted self.old (Actor.Rank to) }
-        ensures posted { out.new ≡ record out.old { sends = posted self.old (record { to = Actor.Rank to; message = message }) ∷ [] } }
+        ensures told { out.new ≡ with_answer out.old (posted self.old (to_rank to message)) entry }
+        ensures room { (more : ℕ) → HasRoom self.old out.old (more + 1) → HasRoom self.new out.new more }
     {
         let at = to.0 as usize;
         let place = self.sent[at];
         self.sent[at] = place + 1;
-        out.send(Sending {
-            to: Actor::Rank(to),
-            letter: Letter {
-                stamp: self.clock,
-                place,
-                message,
+        let letter = Letter {
+            stamp: self.clock,
+            place,
+            message,
+        };
+        out.answer(
+            Sending {
+                to: Actor::Rank(to),
+                letter,
             },
-        });
+            entry,
+        );
     }
 }

@@ -1,15 +1,17 @@
 //! One step of a server.
 
-ghost use Rattle.std.specs.Prelude.{◌≡◌, ◌≤◌, ◌<◌, ℕ, ◌↔◌, None, Some, Err, IsSome, IfOk, IfErr, OnOk, OnErr, slice_set, true, if◌then◌else◌};
-ghost use Rattle.adlb_unit.specs.Limits.{stamp_limit};
-ghost use Rattle.server_core.specs.Inside.{IsFresh, IsSettled};
-ghost use Rattle.server_core.specs.Out.{made, nothing};
-ghost use Rattle.server_core.specs.Rules.{respond};
-ghost use Rattle.server_core.specs.Step.{after_event, heard_finish, next_stamp, serve, served};
+ghost use Rattle.std.specs.Prelude.{◌≡◌, ◌≤◌, ◌<◌, ℕ, ◌↔◌, ◌∷◌, None, Some, Err, IsSome, IfOk, IfErr, OnOk, OnErr, slice_set, true, if◌then◌else◌};
 ghost use Rattle.std.specs.Option.{option_map};
+ghost use Rattle.adlb_unit.specs.Limits.{stamp_limit};
+ghost use Rattle.server_core.specs.Out.{HasRoom, Out, going_on, made};
+ghost use Rattle.server_law.specs.Carried.{done};
+ghost use Rattle.server_law.specs.Plan.{Plan, decided};
+ghost use Rattle.server_law.specs.State.{Kept, ServerModel};
+ghost use Rattle.server_law.specs.Step.{acts, heard_finish, next_stamp, rule, serve};
 
 use crate::outgoing::Outgoing;
 use crate::states::ServerState;
+use crate::waiting::Waiting;
 use adlb_unit::{Actor, Letter, Message, NoMemory, Rank, STAMP_LIMIT, Sending, Trouble};
 use bag_ledger::Entry;
 
@@ -35,7 +37,7 @@ impl ServerState {
 
         // What stands after a failure.
         ensures broken { IfErr result (λ trouble. self.new.trouble ≡ Some trouble) }
-        ensures heard { IfErr result (λ trouble. self.new.finished ≡ heard_finish self.old.finished from letter.message) }
+        ensures heard { IfErr result (λ trouble. self.new.kept.finished ≡ heard_finish self.old.kept.finished from letter.message) }
     {
         let Actor::Rank(from) = from else {
             unreachable!()
@@ -45,7 +47,8 @@ impl ServerState {
         if stamp >= STAMP_LIMIT {
             return Err(self.fail(from, finishes, Trouble::TooLong { stamp }));
         }
-        let Ok(mut out) = Outgoing::new(self.alloc) else {
+        // An event answers its letter, frees a part, finds exhaustion, and answers each rank that waits.
+        let Ok(mut out) = Outgoing::new(self.alloc, self.waiting.len() + 3) else {
             return Err(self.fail(from, finishes, Trouble::Memory));
         };
         self.tick(stamp);
@@ -60,21 +63,50 @@ impl ServerState {
         })
     }
 
-    // Handles what a letter says.
+    // Handles what a letter says, and then what follows the event.
     fn handle(&mut self, from: Rank, message: Message, out: &mut Outgoing) -> Result<(), NoMemory>
         requires rank { from.0 < self.old.config.ranks }
-        requires expected { IsSome (respond self.old from message) }
-        requires fresh { IsFresh self.old }
-        requires settled { IsSettled self.old }
-        requires nothing { out.old ≡ nothing }
+        requires expected { IsSome (rule self.old (Actor.Rank from) message) }
+        requires fresh { self.old.kept.queue.arrivals < self.old.clock }
+        requires room { HasRoom self.old out.old 3 }
 
-        ensures ok { OnOk result (option_map (λ x. after_event (served x)) (respond self.old from message) ≡ Some (made self.new out.new)) }
+        ensures ok { OnOk result (option_map (λ list. going_on out.old list self.old) (acts self.old (Actor.Rank from) message) ≡ Some (made self.new out.new)) }
+        ensures err { OnErr result (self.new ≡ self.old) }
+    {
+        self.follow(from, message, out)?;
+        self.end_event(out);
+        Ok(())
+    }
+
+    // Does what the rule of the letter says.
+    fn follow(&mut self, from: Rank, message: Message, out: &mut Outgoing) -> Result<(), NoMemory>
+        requires rank { from.0 < self.old.config.ranks }
+        requires expected { IsSome (rule self.old (Actor.Rank from) message) }
+        requires fresh { self.old.kept.queue.arrivals < self.old.clock }
+        requires room { HasRoom self.old out.old 3 }
+
+        ensures ok { OnOk result ((p : Plan) → rule self.old (Actor.Rank from) message ≡ Some p → made self.new out.new ≡ going_on out.old (p.first ∷ decided p.follow (done p.first self.old)) self.old) }
+        ensures room { OnOk result (HasRoom self.new out.new 1) }
         ensures err { OnErr result (self.new ≡ self.old) }
     {
         match message {
             Message::Put { unit } => self.put(from, unit, out),
-            Message::Reserve { request, types } => Ok(self.reserve(from, request, types, out)),
+            Message::Reserve { request, types } => {
+                let asks = Waiting {
+                    rank: from,
+                    request,
+                    types,
+                };
+                Ok(self.reserve(asks, out))
+            }
             Message::Fetch { request, id } => Ok(self.fetch(from, request, id, out)),
+            Message::KeepCommon { request, common } => self.keep(from, request, common, out),
+            Message::CloseBatch {
+                request,
+                batch,
+                accepted,
+            } => Ok(self.close(request, batch, accepted, out)),
+            Message::FetchCommon { request, batch } => self.share(from, request, batch, out),
             Message::Finish => Ok(self.finish(from)),
             _ => unreachable!(),
         }
@@ -84,7 +116,7 @@ impl ServerState {
     fn fail(&mut self, from: Rank, finishes: bool, trouble: Trouble) -> Trouble
         requires { from.0 < self.old.config.ranks }
         ensures trouble { self.new.trouble ≡ Some trouble }
-        ensures heard { self.new.finished ≡ (if finishes then slice_set self.old.finished from.0 true else self.old.finished) }
+        ensures heard { self.new.kept.finished ≡ (if finishes then slice_set self.old.kept.finished from.0 true else self.old.kept.finished) }
         ensures result { result ≡ trouble }
     {
         if finishes {

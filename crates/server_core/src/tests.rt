@@ -4,234 +4,482 @@ ghost use Rattle.std.specs.Prelude.{◌<◌};
 
 use super::*;
 use adlb_unit::{
-    Actor, Config, Letter, Message, Payload, Rank, Server, Target, Trouble, Types, Unit, UnitId,
+    Actor, BatchId, Config, Letter, Message, Payload, Rank, Server, Target, Types, Unit, UnitId,
     WorkType,
 };
 use std::alloc::Global;
 use std::process::Abort;
 use std::test::Fail;
 
-// A server of a run with one rank and so many servers, and with the lowest limit.
-fn server(alloc: Global, servers: u32, me: u32) -> Result<ServerState, Fail>
-    requires { me < servers }
-{
-    let config = Config::new(1, servers, 64)?;
-    Ok(ServerState::new(alloc, config, Server(me))?)
+const RANK: Actor = Actor::Rank(Rank(0));
+
+// What a letter says.
+#[derive(Clone, Copy)]
+enum Says {
+    // A put of this rank's unit of this number, with so many bytes, each 7, for this target.
+    Put(u32, u64, usize, Target),
+    // A reserve of this request, of any type.
+    Reserve(u64),
+    // A fetch of this request, of rank 0's first unit.
+    Fetch(u64),
+    // The batch that begins in this request has a common part of so many bytes, each 7.
+    Keep(u64, usize),
+    // In this request ends rank 0's batch of this number, of which so many units were accepted.
+    Close(u64, u64, u64),
+    // A fetch, in this request, of the common part of rank 0's batch of this number.
+    Share(u64, u64),
+    Done(u64),
+    Finish,
 }
 
-// A unit of the rank with a body of so many bytes, each 7.
+// A line of a scene: what is done with the server, or what is asked of it.
+#[derive(Clone, Copy)]
+enum Line {
+    // It handles a letter of this rank: the stamp of the step, its letters and its entries.
+    Hears(u32, Says),
+    // Whether it expects such a letter of this actor.
+    Expects(Actor, Says),
+    // Whether it expects a Finish letter of rank 0 with this stamp.
+    ExpectsAt(u64),
+    // Whether each rank that is at home there waits or has finished.
+    IsQuiet,
+    // Whether it has ended.
+    HasEnded,
+    // What broke it, if anything did.
+    Broken,
+    // Which units are left.
+    Left,
+}
+
+// Rank 0 puts its first unit, and it is accepted as the first thing that happens.
+const ACCEPTS_FIRST: &str = "1 [Sending { to: Rank(Rank(0)), letter: Letter { stamp: 1, place: 0, \
+    message: Accepted { request: 0 } } }] \
+    [Accepted { server: Server(0), id: UnitId { rank: Rank(0), number: 0 } }]";
+
+// The grant of the unit of rank 0 to it, as the second thing that happens.
+const GRANTS_SECOND: &str = "2 [Sending { to: Rank(Rank(0)), letter: Letter { stamp: 2, place: 1, \
+    message: Grant { request: 1, note: UnitNote { id: UnitId { rank: Rank(0), number: 0 }, \
+    kind: WorkType(5), prio: 3, answer: None, server: Server(0), common: None, length: 2 } } } }] \
+    [Granted { server: Server(0), rank: Rank(0), call: 1, id: UnitId { rank: Rank(0), number: 0 } }]";
+
+// Rank 0 begins a batch, and its common part is kept as the first thing that happens.
+const KEEPS_FIRST: &str = "1 [Sending { to: Rank(Rank(0)), letter: Letter { stamp: 1, place: 0, \
+    message: Accepted { request: 0 } } }] \
+    [Kept { server: Server(0), batch: BatchId { rank: Rank(0), number: 0 } }]";
+
+fn message(alloc: Global, says: Says) -> Result<Message, Fail> {
+    Ok(match says {
+        Says::Put(rank, number, size, target) => Message::Put {
+            unit: unit(alloc, rank, number, size, target)?,
+        },
+        Says::Reserve(request) => Message::Reserve {
+            request,
+            types: Types::any(),
+        },
+        Says::Fetch(request) => Message::Fetch {
+            request,
+            id: unit_id(0, 0),
+        },
+        Says::Keep(request, size) => Message::KeepCommon {
+            request,
+            common: bytes(alloc, size)?,
+        },
+        Says::Close(request, number, accepted) => Message::CloseBatch {
+            request,
+            batch: batch_id(number),
+            accepted,
+        },
+        Says::Share(request, number) => Message::FetchCommon {
+            request,
+            batch: batch_id(number),
+        },
+        Says::Done(request) => Message::Done { request },
+        Says::Finish => Message::Finish,
+    })
+}
+
 fn unit(alloc: Global, rank: u32, number: u64, size: usize, target: Target) -> Result<Unit, Fail> {
-    let bytes = vec![in alloc; 7_u8; size]?;
-    let rank = Rank(rank);
     Ok(Unit {
-        id: UnitId { rank, number },
+        id: unit_id(rank, number),
         kind: WorkType(5),
         prio: 3,
         target,
         answer: None,
         common: None,
-        body: Payload::from_vec(bytes),
+        body: bytes(alloc, size)?,
     })
 }
 
-// The letter that says so, the first of its event.
-fn said(message: Message) -> Letter {
-    Letter {
-        stamp: 0,
-        place: 0,
-        message,
+// So many bytes, each 7.
+fn bytes(alloc: Global, size: usize) -> Result<Payload, Fail> {
+    Ok(Payload::from_vec(vec![in alloc; 7_u8; size]?))
+}
+
+fn batch_id(number: u64) -> BatchId {
+    BatchId {
+        rank: Rank(0),
+        number,
     }
 }
 
-// The server handles a letter of the rank, which it expects.
-fn hear(rt: &impl Abort, server: &mut ServerState, message: Message) -> Result<Step, Trouble> {
-    let rank = Actor::Rank(Rank(0));
-    let letter = said(message);
-    assert!(rt; server.broken().is_none());
-    assert!(rt; server.expects(rank, &letter));
-    server.step(rank, letter)
+fn unit_id(rank: u32, number: u64) -> UnitId {
+    UnitId {
+        rank: Rank(rank),
+        number,
+    }
 }
 
-fn put(rt: &impl Abort, server: &mut ServerState, unit: Unit) -> Result<Step, Trouble> {
-    hear(rt, server, Message::Put { unit })
+// The letter that says so, the first of its event.
+fn letter(alloc: Global, stamp: u64, says: Says) -> Result<Letter, Fail> {
+    Ok(Letter {
+        stamp,
+        place: 0,
+        message: message(alloc, says)?,
+    })
 }
 
-fn reserve(rt: &impl Abort, server: &mut ServerState, request: u64) -> Result<Step, Trouble> {
-    let types = Types::any();
-    hear(rt, server, Message::Reserve { request, types })
-}
-
-// Whether the server expects a letter that says so.
-fn expects(server: &ServerState, from: Actor, message: Message) -> bool {
-    server.expects(from, &said(message))
-}
-
-// Whether it expects of rank 0 a put of such a unit.
-fn expects_put(
-    server: &ServerState,
+fn expects(
     alloc: Global,
-    row: (u32, u64, usize, Target),
+    server: &ServerState,
+    from: Actor,
+    stamp: u64,
+    says: Says,
 ) -> Result<bool, Fail> {
-    let (rank, number, size, target) = row;
-    let unit = unit(alloc, rank, number, size, target)?;
-    Ok(expects(server, Actor::Rank(Rank(0)), Message::Put { unit }))
+    let letter = letter(alloc, stamp, says)?;
+    Ok(server.expects(from, &letter))
 }
 
-// The letter of a step with what it says, and its entries, as they are shown.
-fn shown(alloc: Global, step: &Step) -> Result<(String, String), Fail> {
-    let letters = format!(in alloc; "{:?}", step.sends)?;
-    let entries = format!(in alloc; "{:?}", step.entries)?;
-    Ok((letters, entries))
+// The server, which is not broken, handles a letter that it expects.
+fn step(alloc: Global, server: &mut ServerState, from: Actor, says: Says) -> Result<Step, Fail> {
+    let letter = letter(alloc, 0, says)?;
+    if server.broken().is_some() {
+        return Err("broken".into());
+    }
+    if !server.expects(from, &letter) {
+        return Err("not expected".into());
+    }
+    Ok(server.step(from, letter)?)
+}
+
+fn hears(alloc: Global, server: &mut ServerState, from: Actor, says: Says) -> Result<String, Fail> {
+    let Step {
+        stamp,
+        sends,
+        entries,
+    } = step(alloc, server, from, says)?;
+    Ok(format!(in alloc; "{stamp} {sends:?} {entries:?}")?)
+}
+
+// What a line of a scene gives, as it is shown.
+fn shown(alloc: Global, server: &mut ServerState, line: Line) -> Result<String, Fail> {
+    match line {
+        Line::Hears(rank, says) => hears(alloc, server, Actor::Rank(Rank(rank)), says),
+        Line::Expects(from, says) => yes(alloc, expects(alloc, server, from, 0, says)?),
+        Line::ExpectsAt(stamp) => yes(alloc, expects(alloc, server, RANK, stamp, Says::Finish)?),
+        Line::IsQuiet => yes(alloc, server.is_quiet()),
+        Line::HasEnded => yes(alloc, server.ended()),
+        Line::Broken => broken(alloc, server),
+        Line::Left => left(alloc, server),
+    }
+}
+
+fn left(alloc: Global, server: &ServerState) -> Result<String, Fail> {
+    let left = server.left()?;
+    Ok(format!(in alloc; "{left:?}")?)
+}
+
+fn broken(alloc: Global, server: &ServerState) -> Result<String, Fail> {
+    let broken = server.broken();
+    Ok(format!(in alloc; "{broken:?}")?)
+}
+
+fn yes(alloc: Global, holds: bool) -> Result<String, Fail> {
+    Ok(String::from_str(alloc, if holds { "yes" } else { "no" })?)
+}
+
+// A server of a run with `ranks` ranks and `servers` servers, and with the lowest limit, gives what stands beside
+// each line.
+fn play(
+    rt: &impl Abort,
+    alloc: Global,
+    ranks: u32,
+    servers: u32,
+    me: u32,
+    scene: &[(Line, &str)],
+) -> Result<(), Fail>
+    requires { me < servers }
+{
+    let config = Config::new(ranks, servers, 64)?;
+    let mut server = ServerState::new(alloc, config, Server(me))?;
+    for (at, (line, expected)) in scene.iter().enumerate() {
+        let given = shown(alloc, &mut server, *line)?;
+        assert_eq!(rt; given.as_str(), *expected, "line {at}");
+    }
+    Ok(())
 }
 
 #[test]
 fn accepts_until_it_is_full(rt: HostRuntime) -> Result<(), Fail> {
-    let alloc = rt.alloc();
-    let mut server = server(alloc, 1, 0)?;
-    let first = put(&rt, &mut server, unit(alloc, 0, 0, 60, Target::Any)?)?;
-    let second = put(&rt, &mut server, unit(alloc, 0, 1, 5, Target::Any)?)?;
-    assert_eq!(rt; (first.stamp, second.stamp), (1, 2));
-    let (letters, entries) = shown(alloc, &first)?;
-    assert_eq!(rt;
-        letters.as_str(),
-        "[Sending { to: Rank(Rank(0)), letter: Letter { stamp: 1, place: 0, message: Accepted { request: 0 } } }]"
-    );
-    assert_eq!(rt;
-        entries.as_str(),
-        "[Accepted { server: Server(0), id: UnitId { rank: Rank(0), number: 0 } }]"
-    );
-    let (letters, entries) = shown(alloc, &second)?;
-    assert_eq!(rt;
-        letters.as_str(),
-        "[Sending { to: Rank(Rank(0)), letter: Letter { stamp: 2, place: 1, message: Full { request: 1, charge: 60 } } }]"
-    );
-    assert_eq!(rt;
-        entries.as_str(),
-        "[Refused { server: Server(0), id: UnitId { rank: Rank(0), number: 1 }, used: 60 }]"
-    );
-    Ok(())
+    let scene = [
+        (
+            Line::Hears(0, Says::Put(0, 0, 60, Target::Any)),
+            ACCEPTS_FIRST,
+        ),
+        (
+            Line::Hears(0, Says::Put(0, 1, 5, Target::Any)),
+            "2 [Sending { to: Rank(Rank(0)), letter: Letter { stamp: 2, place: 1, \
+                message: Full { request: 1, charge: 60 } } }] \
+                [Refused { server: Server(0), id: UnitId { rank: Rank(0), number: 1 }, used: 60 }]",
+        ),
+    ];
+    play(&rt, rt.alloc(), 1, 1, 0, &scene)
 }
 
 #[test]
 fn grants_and_then_is_exhausted(rt: HostRuntime) -> Result<(), Fail> {
-    let alloc = rt.alloc();
-    let mut server = server(alloc, 1, 0)?;
-    put(&rt, &mut server, unit(alloc, 0, 0, 2, Target::Any)?)?;
-    let granted = reserve(&rt, &mut server, 1)?;
-    let (letters, entries) = shown(alloc, &granted)?;
-    assert_eq!(rt;
-        letters.as_str(),
-        "[Sending { to: Rank(Rank(0)), letter: Letter { stamp: 2, place: 1, message: Grant { request: 1, note: UnitNote { id: UnitId { rank: Rank(0), number: 0 }, kind: WorkType(5), prio: 3, answer: None, server: Server(0), common: None, length: 2 } } } }]"
-    );
-    assert_eq!(rt;
-        entries.as_str(),
-        "[Granted { server: Server(0), rank: Rank(0), call: 1, id: UnitId { rank: Rank(0), number: 0 } }]"
-    );
-    let left = server.left()?;
-    let id = UnitId {
-        rank: Rank(0),
-        number: 0,
-    };
-    assert_eq!(rt;
-        left.as_slice(),
-        [LeftUnit {
-            id,
-            server: Server(0),
-            pinned: Some(Rank(0))
-        }]
-        .as_slice()
-    );
-    let over = reserve(&rt, &mut server, 2)?;
-    let (letters, entries) = shown(alloc, &over)?;
-    assert_eq!(rt;
-        letters.as_str(),
-        "[Sending { to: Rank(Rank(0)), letter: Letter { stamp: 3, place: 2, message: Ended { request: 2, end: Exhausted } } }]"
-    );
-    assert_eq!(rt;
-        entries.as_str(),
-        "[Exhausted, Over { rank: Rank(0), call: 2, end: Exhausted }]"
-    );
-    Ok(())
+    let scene = [
+        (
+            Line::Hears(0, Says::Put(0, 0, 2, Target::Any)),
+            ACCEPTS_FIRST,
+        ),
+        (Line::Hears(0, Says::Reserve(1)), GRANTS_SECOND),
+        (
+            Line::Left,
+            "[LeftUnit { id: UnitId { rank: Rank(0), number: 0 }, server: Server(0), \
+                pinned: Some(Rank(0)) }]",
+        ),
+        (
+            Line::Hears(0, Says::Reserve(2)),
+            "3 [Sending { to: Rank(Rank(0)), letter: Letter { stamp: 3, place: 2, \
+                message: Ended { request: 2, end: Exhausted } } }] \
+                [Exhausted, Over { rank: Rank(0), call: 2, end: Exhausted }]",
+        ),
+    ];
+    play(&rt, rt.alloc(), 1, 1, 0, &scene)
 }
 
 #[test]
 fn finishing_shuts_the_server(rt: HostRuntime) -> Result<(), Fail> {
-    let alloc = rt.alloc();
-    let mut server = server(alloc, 1, 0)?;
-    put(&rt, &mut server, unit(alloc, 0, 0, 2, Target::Any)?)?;
-    assert!(rt; !server.ended());
-    let last = hear(&rt, &mut server, Message::Finish)?;
-    assert_eq!(rt; last.stamp, 2);
-    assert!(rt; last.sends.is_empty() && last.entries.is_empty());
-    assert!(rt; server.ended());
-    assert_eq!(rt; server.broken(), None);
-    Ok(())
+    let scene = [
+        (
+            Line::Hears(0, Says::Put(0, 0, 2, Target::Any)),
+            ACCEPTS_FIRST,
+        ),
+        (Line::HasEnded, "no"),
+        (Line::Hears(0, Says::Finish), "2 [] []"),
+        (Line::HasEnded, "yes"),
+        (Line::Broken, "None"),
+    ];
+    play(&rt, rt.alloc(), 1, 1, 0, &scene)
 }
 
 #[test]
 fn one_of_several_waits_and_is_not_shut(rt: HostRuntime) -> Result<(), Fail> {
-    let alloc = rt.alloc();
-    let mut home = server(alloc, 2, 0)?;
-    assert!(rt; !home.is_quiet());
-    let waits = reserve(&rt, &mut home, 0)?;
-    assert!(rt; waits.sends.is_empty() && waits.entries.is_empty());
-    assert!(rt; home.is_quiet());
-    let mut other = server(alloc, 2, 1)?;
-    assert!(rt; other.is_quiet());
-    let types = Types::any();
-    let rank = Actor::Rank(Rank(0));
-    assert!(rt; !expects(&other, rank, Message::Reserve { request: 1, types }));
-    let last = hear(&rt, &mut other, Message::Finish)?;
-    assert!(rt; last.sends.is_empty() && last.entries.is_empty());
-    assert!(rt; !other.ended());
-    Ok(())
+    let home = [
+        (Line::IsQuiet, "no"),
+        (Line::Hears(0, Says::Reserve(0)), "1 [] []"),
+        (Line::IsQuiet, "yes"),
+    ];
+    play(&rt, rt.alloc(), 1, 2, 0, &home)?;
+    let other = [
+        (Line::IsQuiet, "yes"),
+        (Line::Expects(RANK, Says::Reserve(1)), "no"),
+        (Line::Hears(0, Says::Finish), "1 [] []"),
+        (Line::HasEnded, "no"),
+    ];
+    play(&rt, rt.alloc(), 1, 2, 1, &other)
 }
 
 #[test]
 fn expects_a_put_of_a_new_unit(rt: HostRuntime) -> Result<(), Fail> {
-    let alloc = rt.alloc();
     let most = 1 << 20;
-    let mut server = server(alloc, 1, 0)?;
-    put(&rt, &mut server, unit(alloc, 0, 0, 2, Target::Any)?)?;
-    let rows = [
-        ((0, 1, most, Target::Only(Rank(0))), true),
-        ((0, 0, 2, Target::Any), false),
-        ((1, 1, 2, Target::Any), false),
-        ((0, 1, most + 1, Target::Any), false),
-        ((0, 1, 2, Target::Only(Rank(1))), false),
+    let scene = [
+        (
+            Line::Hears(0, Says::Put(0, 0, 2, Target::Any)),
+            ACCEPTS_FIRST,
+        ),
+        (
+            Line::Expects(RANK, Says::Put(0, 1, most, Target::Only(Rank(0)))),
+            "yes",
+        ),
+        (Line::Expects(RANK, Says::Put(0, 0, 2, Target::Any)), "no"),
+        (Line::Expects(RANK, Says::Put(1, 1, 2, Target::Any)), "no"),
+        (
+            Line::Expects(RANK, Says::Put(0, 1, most + 1, Target::Any)),
+            "no",
+        ),
+        (
+            Line::Expects(RANK, Says::Put(0, 1, 2, Target::Only(Rank(1)))),
+            "no",
+        ),
     ];
-    for (row, expected) in rows {
-        assert_eq!(rt; expects_put(&server, alloc, row)?, expected);
-    }
-    Ok(())
+    play(&rt, rt.alloc(), 1, 1, 0, &scene)
 }
 
 #[test]
 fn expects_each_letter_by_its_row(rt: HostRuntime) -> Result<(), Fail> {
-    let alloc = rt.alloc();
-    let rank = Actor::Rank(Rank(0));
-    let types = Types::any();
-    let id = UnitId {
-        rank: Rank(0),
-        number: 0,
-    };
-    let mut server = server(alloc, 1, 0)?;
-    put(&rt, &mut server, unit(alloc, 0, 0, 2, Target::Any)?)?;
-    assert!(rt; !expects(&server, rank, Message::Fetch { request: 1, id }));
-    reserve(&rt, &mut server, 1)?;
-    assert!(rt; expects(&server, rank, Message::Fetch { request: 2, id }));
-    assert!(rt; expects(&server, rank, Message::Reserve { request: 2, types }));
-    assert!(rt; expects(&server, rank, Message::Finish));
-    assert!(rt; !expects(&server, rank, Message::Done { request: 2 }));
-    assert!(rt; !expects(&server, Actor::Rank(Rank(1)), Message::Finish));
-    assert!(rt; !expects(&server, Actor::Server(Server(0)), Message::Finish));
-    let late = Letter {
-        stamp: 1 << 48,
-        place: 0,
-        message: Message::Finish,
-    };
-    assert!(rt; !server.expects(rank, &late));
-    hear(&rt, &mut server, Message::Finish)?;
-    assert!(rt; !expects(&server, rank, Message::Finish));
-    Ok(())
+    let scene = [
+        (
+            Line::Hears(0, Says::Put(0, 0, 2, Target::Any)),
+            ACCEPTS_FIRST,
+        ),
+        (Line::Expects(RANK, Says::Fetch(1)), "no"),
+        (Line::Hears(0, Says::Reserve(1)), GRANTS_SECOND),
+        (Line::Expects(RANK, Says::Fetch(2)), "yes"),
+        (Line::Expects(RANK, Says::Reserve(2)), "yes"),
+        (Line::Expects(RANK, Says::Finish), "yes"),
+        (Line::Expects(RANK, Says::Done(2)), "no"),
+        (Line::Expects(Actor::Rank(Rank(1)), Says::Finish), "no"),
+        (Line::Expects(Actor::Server(Server(0)), Says::Finish), "no"),
+        (Line::ExpectsAt(1 << 48), "no"),
+        (Line::Hears(0, Says::Finish), "3 [] []"),
+        (Line::Expects(RANK, Says::Finish), "no"),
+    ];
+    play(&rt, rt.alloc(), 1, 1, 0, &scene)
+}
+
+#[test]
+fn gives_a_unit_to_one_that_waits(rt: HostRuntime) -> Result<(), Fail> {
+    let scene = [
+        (Line::Hears(1, Says::Reserve(0)), "1 [] []"),
+        (Line::Hears(0, Says::Reserve(0)), "2 [] []"),
+        (Line::IsQuiet, "no"),
+        (
+            Line::Hears(2, Says::Put(2, 0, 1, Target::Soft(Rank(0)))),
+            "3 [Sending { to: Rank(Rank(2)), letter: Letter { stamp: 3, place: 0, \
+                message: Accepted { request: 0 } } }, \
+                Sending { to: Rank(Rank(0)), letter: Letter { stamp: 3, place: 0, \
+                message: Grant { request: 0, note: UnitNote { \
+                id: UnitId { rank: Rank(2), number: 0 }, kind: WorkType(5), prio: 3, answer: None, \
+                server: Server(0), common: None, length: 1 } } } }] \
+                [Accepted { server: Server(0), id: UnitId { rank: Rank(2), number: 0 } }, \
+                Granted { server: Server(0), rank: Rank(0), call: 0, \
+                id: UnitId { rank: Rank(2), number: 0 } }]",
+        ),
+        (
+            Line::Hears(2, Says::Put(2, 1, 1, Target::Any)),
+            "4 [Sending { to: Rank(Rank(2)), letter: Letter { stamp: 4, place: 1, \
+                message: Accepted { request: 1 } } }, \
+                Sending { to: Rank(Rank(1)), letter: Letter { stamp: 4, place: 0, \
+                message: Grant { request: 0, note: UnitNote { \
+                id: UnitId { rank: Rank(2), number: 1 }, kind: WorkType(5), prio: 3, answer: None, \
+                server: Server(0), common: None, length: 1 } } } }] \
+                [Accepted { server: Server(0), id: UnitId { rank: Rank(2), number: 1 } }, \
+                Granted { server: Server(0), rank: Rank(1), call: 0, \
+                id: UnitId { rank: Rank(2), number: 1 } }]",
+        ),
+    ];
+    play(&rt, rt.alloc(), 3, 1, 0, &scene)
+}
+
+#[test]
+fn tells_the_end_in_arrival_order(rt: HostRuntime) -> Result<(), Fail> {
+    let scene = [
+        (
+            Line::Hears(0, Says::Put(0, 0, 1, Target::Only(Rank(0)))),
+            ACCEPTS_FIRST,
+        ),
+        (Line::Hears(1, Says::Reserve(4)), "2 [] []"),
+        (
+            Line::Hears(0, Says::Reserve(1)),
+            "3 [Sending { to: Rank(Rank(0)), letter: Letter { stamp: 3, place: 1, \
+                message: Grant { request: 1, note: UnitNote { \
+                id: UnitId { rank: Rank(0), number: 0 }, kind: WorkType(5), prio: 3, answer: None, \
+                server: Server(0), common: None, length: 1 } } } }] \
+                [Granted { server: Server(0), rank: Rank(0), call: 1, \
+                id: UnitId { rank: Rank(0), number: 0 } }]",
+        ),
+        (
+            Line::Hears(0, Says::Reserve(2)),
+            "4 [Sending { to: Rank(Rank(1)), letter: Letter { stamp: 4, place: 0, \
+                message: Ended { request: 4, end: Exhausted } } }, \
+                Sending { to: Rank(Rank(0)), letter: Letter { stamp: 4, place: 2, \
+                message: Ended { request: 2, end: Exhausted } } }] \
+                [Exhausted, Over { rank: Rank(1), call: 4, end: Exhausted }, \
+                Over { rank: Rank(0), call: 2, end: Exhausted }]",
+        ),
+    ];
+    play(&rt, rt.alloc(), 2, 1, 0, &scene)
+}
+
+#[test]
+fn a_rank_finishes_while_another_waits(rt: HostRuntime) -> Result<(), Fail> {
+    let scene = [
+        (Line::Hears(0, Says::Reserve(0)), "1 [] []"),
+        (Line::Expects(RANK, Says::Finish), "no"),
+        (
+            Line::Hears(1, Says::Finish),
+            "2 [Sending { to: Rank(Rank(0)), letter: Letter { stamp: 2, place: 0, \
+                message: Ended { request: 0, end: Exhausted } } }] \
+                [Exhausted, Over { rank: Rank(0), call: 0, end: Exhausted }]",
+        ),
+        (Line::HasEnded, "no"),
+        (Line::Hears(0, Says::Finish), "3 [] []"),
+        (Line::HasEnded, "yes"),
+    ];
+    play(&rt, rt.alloc(), 2, 1, 0, &scene)
+}
+
+#[test]
+fn frees_a_part_after_its_last_fetch(rt: HostRuntime) -> Result<(), Fail> {
+    let scene = [
+        (Line::Hears(0, Says::Keep(0, 2)), KEEPS_FIRST),
+        (Line::Expects(RANK, Says::Keep(0, 2)), "no"),
+        (
+            Line::Hears(1, Says::Share(0, 0)),
+            "2 [Sending { to: Rank(Rank(1)), letter: Letter { stamp: 2, place: 0, \
+                message: Bytes { request: 0, body: Payload { held: Shared([7, 7]) } } } }] \
+                [CommonFetched { server: Server(0), rank: Rank(1), \
+                batch: BatchId { rank: Rank(0), number: 0 } }]",
+        ),
+        (Line::Expects(RANK, Says::Close(1, 0, 0)), "no"),
+        (
+            Line::Hears(0, Says::Close(1, 0, 2)),
+            "3 [Sending { to: Rank(Rank(0)), letter: Letter { stamp: 3, place: 1, \
+                message: Closed { request: 1 } } }] \
+                [Closed { server: Server(0), batch: BatchId { rank: Rank(0), number: 0 } }]",
+        ),
+        (Line::Expects(RANK, Says::Close(2, 0, 2)), "no"),
+        (
+            Line::Hears(1, Says::Share(1, 0)),
+            "4 [Sending { to: Rank(Rank(1)), letter: Letter { stamp: 4, place: 1, \
+                message: Bytes { request: 1, body: Payload { held: Shared([7, 7]) } } } }] \
+                [CommonFetched { server: Server(0), rank: Rank(1), \
+                batch: BatchId { rank: Rank(0), number: 0 } }, \
+                Freed { server: Server(0), batch: BatchId { rank: Rank(0), number: 0 } }]",
+        ),
+        (Line::Expects(RANK, Says::Share(2, 0)), "no"),
+    ];
+    play(&rt, rt.alloc(), 2, 1, 0, &scene)
+}
+
+#[test]
+fn keeps_parts_as_there_is_room(rt: HostRuntime) -> Result<(), Fail> {
+    let scene = [
+        (Line::Hears(0, Says::Keep(0, 60)), KEEPS_FIRST),
+        (
+            Line::Hears(0, Says::Keep(1, 5)),
+            "2 [Sending { to: Rank(Rank(0)), letter: Letter { stamp: 2, place: 1, \
+                message: Full { request: 1, charge: 60 } } }] \
+                [Refused { server: Server(0), id: UnitId { rank: Rank(0), number: 1 }, used: 60 }]",
+        ),
+        (
+            Line::Expects(Actor::Rank(Rank(1)), Says::Close(0, 0, 0)),
+            "no",
+        ),
+        (
+            Line::Hears(0, Says::Close(2, 0, 0)),
+            "3 [Sending { to: Rank(Rank(0)), letter: Letter { stamp: 3, place: 2, \
+                message: Closed { request: 2 } } }] \
+                [Closed { server: Server(0), batch: BatchId { rank: Rank(0), number: 0 } }, \
+                Freed { server: Server(0), batch: BatchId { rank: Rank(0), number: 0 } }]",
+        ),
+        (
+            Line::Hears(0, Says::Keep(3, 5)),
+            "4 [Sending { to: Rank(Rank(0)), letter: Letter { stamp: 4, place: 3, \
+                message: Accepted { request: 3 } } }] \
+                [Kept { server: Server(0), batch: BatchId { rank: Rank(0), number: 3 } }]",
+        ),
+    ];
+    play(&rt, rt.alloc(), 2, 1, 0, &scene)
 }

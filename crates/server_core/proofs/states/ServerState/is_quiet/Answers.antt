@@ -1,9 +1,49 @@
-use Rattle.std.proofs.Common.{◌<◌, subst}
-use Rattle.server_core.specs.State.{ServerModel}
+use Rattle.std.proofs.Common.{◌≡◌, true, false, ◌&&◌, ◌+◌, sym, ap, ◌∙◌, arith}
+use Rattle.server_law.specs.Endings.{is_quiet, rests}
+use Rattle.server_law.specs.State.{ServerModel}
+use Rattle.server_core.proofs.Quiet.{quiet_tells, rest_all, rest_from, rest_next, rest_none}
 use Rattle.server_core.proofs.states.ServerState.is_quiet.Goals as goal
 
-pub returns-then-runs_here : goal.returns-then-runs_here
-returns-then-runs_here c =
-    let here = c.runs_here.ensures.0 c.if-runs_here.true in
-    let there : c.loop-number.number < c.args.self.now.config.ranks = subst (λ (s : ServerModel). c.loop-number.number < s.config.ranks) c.self.view_is c.loop-number-test.true in
-    (λ no. absurd (cc), λ quiet. absurd (quiet (record { 0 = c.loop-number.number }) there here.0 here.1))
+pub loop-number-init : goal.loop-number-init
+loop-number-init c =
+    let same = ap (λ (s : ServerModel). s.config.ranks) c.self.view_is in
+    record { left = ap (λ n. rest_from c.args.self.now n 0) same ∙ rest_all c.args.self.now; end = same }
+
+-- a rank that does not rest
+one_runs : (c : goal.Then-not-rests) → false ≡ is_quiet c.args.self.now
+one_runs c =
+    let s = c.args.self.now in
+    let end = c.self.inside.config.ranks in
+    let runs : rests s (record { 0 = c.loop-number.number }) ≡ false = sym c.rests.ensures ∙ c.if-not-rests.true in
+    sym (ap (λ b. b && rest_from s end (c.loop-number.number + 1)) runs)
+    ∙ sym (rest_next s end c.loop-number.number c.loop-number-test.true) ∙ c.loop-number.invariant.left
+
+pub returns-then-not-rests-clause-quiet : goal.returns-then-not-rests-clause-quiet
+returns-then-not-rests-clause-quiet c = quiet_tells c.args.self.now false (one_runs c)
+
+pub returns-then-not-rests-clause-test : goal.returns-then-not-rests-clause-test
+returns-then-not-rests-clause-test c = one_runs c
+
+pub loop-number-preserved : goal.loop-number-preserved
+loop-number-preserved c =
+    let s = c.args.self.now in
+    let end = c.self.inside.config.ranks in
+    let rest : rests s (record { 0 = c.loop-number.number }) ≡ true = sym c.rests.ensures ∙ c.if-not-rests.false in
+    record {
+      left = sym (ap (λ b. b && rest_from s end (c.loop-number.number + 1)) rest)
+          ∙ sym (rest_next s end c.loop-number.number c.loop-number-test.true) ∙ c.loop-number.invariant.left;
+      end = c.loop-number.invariant.end;
+    }
+
+all_rest : (c : goal.After-loop-number) → true ≡ is_quiet c.args.self.now
+all_rest c =
+    let s = c.args.self.now in
+    let end = c.self.inside.config.ranks in
+    let last : c.loop-number.number ≡ end = omega arith in
+    sym (rest_none s end) ∙ ap (λ n. rest_from s end n) (sym last) ∙ c.loop-number.invariant.left
+
+pub returns-clause-quiet : goal.returns-clause-quiet
+returns-clause-quiet c = quiet_tells c.args.self.now true (all_rest c)
+
+pub returns-clause-test : goal.returns-clause-test
+returns-clause-test c = all_rest c

@@ -1,27 +1,37 @@
-use Rattle.std.proofs.Common.{◌≡◌, false, Some, subst, sym, ap, ◌∙◌}
+use Rattle.std.proofs.Common.{◌≡◌, ◌∷◌, [], Bool, false, Option, subst, sym, ap, ◌∙◌}
 use Rattle.std.proofs.lemmas.List.Elements.{All-contains}
-use Rattle.server_core.specs.Inside.{IsSettled}
-use Rattle.server_core.specs.Out.{made}
-use Rattle.server_core.specs.Rules.{grant}
-use Rattle.server_core.specs.State.{ServerModel}
-use Rattle.server_core.specs.Step.{served}
-use Rattle.server_core.proofs.Calm.{calm_grant}
-use Rattle.server_core.proofs.Finds.{best_found}
 use Rattle.work_queue.specs.Best.{best_of}
 use Rattle.work_queue.specs.Queue.{HasFree, id_of}
 use Rattle.work_queue.specs.declared.placing.Placed.{Placed}
+use Rattle.server_law.specs.Acts.{Grants}
+use Rattle.server_law.specs.Carried.{Served}
+use Rattle.server_law.specs.Finding.{best_for}
+use Rattle.server_law.specs.Reserves.{reserve}
+use Rattle.server_law.specs.State.{ServerModel, Wish}
+use Rattle.server_law.proofs.Found.{best_there}
+use Rattle.server_core.specs.Out.{going_on, made}
 use Rattle.server_core.proofs.states.ServerState.reserve.Goals as goal
 
-pub returns-in-Some : goal.returns-in-Some
-returns-in-Some c =
+pub grant-requires-clause-free : goal.grant-requires-clause-free
+grant-requires-clause-free c =
+    subst (λ (s : ServerModel). HasFree c.in-Some.id s.kept.queue.units) c.self.view_is c.in-Some.ensures.free
+
+pub returns-in-Some-clause-made : goal.returns-in-Some-clause-made
+returns-in-Some-clause-made c =
     let s = c.args.self.now in
     let view = c.self.view_is in
-    let best : best_of c.args.from c.args.types s.queue.units ≡ Some c.in-Some.id = ap (λ (t : ServerModel). best_of c.args.from c.args.types t.queue.units) (sym view) ∙ sym c.best.ensures.fold ∙ c.in-Some.is in
-    let F : ServerModel → Type 0 = λ t. HasFree c.in-Some.id t.queue.units in
-    let p = best_found c.args.from c.args.types s.queue.units c.in-Some.id best (subst F view c.in-Some.ensures.free) in
-    let G : Placed → Type 0 = λ q. id_of q ≡ c.in-Some.id → made c.grant.new.self c.grant.new.out ≡ served (grant s c.args.from c.args.request q) in
-    let is : made c.grant.new.self c.grant.new.out ≡ served (grant s c.args.from c.args.request p.0) = All-contains G s.queue.units p.0 c.grant.ensures p.2.there p.2.is in
-    let done : s.done ≡ false = ap (λ (t : ServerModel). t.done) (sym view) ∙ c.if-self.false in
-    let exhausted : s.exhausted ≡ false = ap (λ (t : ServerModel). t.exhausted) (sym view) ∙ c.if-self-2.false in
-    let settled : IsSettled s = subst IsSettled view c.self.invariant.settled in
-    rw (done, exhausted, p.1, calm_grant s c.args.from c.args.request p.0 settled) is
+    let asks = c.args.asks in
+    let wish : Wish = record { rank = asks.rank; request = asks.request; types = asks.types } in
+    let seen = ap (λ (t : ServerModel). best_of asks.rank asks.types t.kept.queue.units) (sym view) in
+    let p = best_there s.kept wish c.in-Some.id (seen ∙ sym c.best.ensures.fold ∙ c.in-Some.is) in
+    let Gets : Placed → Type 0 =
+    λ q. id_of q ≡ c.in-Some.id → made c.grant.new.self c.grant.new.out ≡ going_on c.args.out.now (Grants wish q.unit ∷ []) s in
+    let granted = All-contains Gets s.kept.queue.units p.0 (c.grant.ensures.made asks.types) p.2.there p.2.is in
+    let done = ap (λ (t : ServerModel). t.kept.done) (sym view) ∙ c.if-self.false in
+    let exhausted = ap (λ (t : ServerModel). t.kept.exhausted) (sym view) ∙ c.if-self-2.false in
+    let R : Bool → Bool → Option Placed → Served = λ d e o. going_on c.args.out.now (reserve d e o wish ∷ []) s in
+    let best = best_for s.kept wish in
+    granted ∙ sym (ap (λ d. R d s.kept.exhausted best) done ∙ ap (λ e. R false e best) exhausted ∙ ap (λ o. R false false o) p.1)
+
+pub returns-in-Some-clause-room : goal.returns-in-Some-clause-room
+returns-in-Some-clause-room c = c.grant.ensures.room 1 c.requires.room

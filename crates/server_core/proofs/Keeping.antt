@@ -1,0 +1,97 @@
+-- Common parts: what a server stays, and the acts of keeping one.
+use Rattle.std.proofs.Common.{◌≡◌, ◌≤◌, ◌+◌, ℕ, Bool, true, false, List, [], ◌∷◌, length, refl, sym, subst, arith}
+use Rattle.std.specs.Prelude.{if◌then◌else◌}
+use Rattle.std.proofs.lemmas.Bool.{false_from_ne_true, lt-ltb, ltb-true}
+use Rattle.adlb_unit.specs.declared.actors.Actor.TheVariants as by
+use Rattle.adlb_unit.specs.declared.messages.Message.TheVariants as tells
+use Rattle.adlb_unit.specs.declared.names.BatchId.{BatchId}
+use Rattle.adlb_unit.specs.declared.names.Rank.{Rank}
+use Rattle.bag_ledger.specs.declared.entries.Entry.TheVariants as enters
+use Rattle.work_queue.specs.Queue.{Exceeds, Queue, charge_of, with_common, without_common}
+use Rattle.batch_store.specs.Store.{Store, changed, frees, part_in, released, size_of, with_fresh, fresh}
+use Rattle.batch_store.specs.declared.parts.Part.{Part}
+use Rattle.server_law.specs.Acts.{batch_of, to_rank, unit_of}
+use Rattle.server_law.specs.Batches.{keep_now}
+use Rattle.server_law.specs.Carried.{counted, posted}
+use Rattle.server_law.specs.Finding.{exceeds}
+use Rattle.server_law.specs.State.{ServerModel}
+use Rattle.server_core.specs.Inside.{IsSound, bytes_in}
+use Rattle.server_core.specs.Out.{Out, going_on, made, with_answer}
+use Rattle.server_core.proofs.Parts.{changed_within, kept_within}
+
+-- the server with this queue and these parts
+abbrev pub with_parts : ServerModel → Queue → Store → ServerModel
+with_parts s queue parts = record s { kept = record s.kept { queue = queue; parts = parts } }
+
+-- where no unit came and the bytes of parts are charged, it is sound
+stays_sound : (s : ServerModel) (queue : Queue) (parts : Store) → IsSound s → queue.arrivals ≡ s.kept.queue.arrivals
+    → bytes_in parts ≤ queue.common → IsSound (with_parts s queue parts)
+stays_sound s queue parts sound same charged = record {
+  there = sound.there;
+  finished = sound.finished;
+  actors = sound.actors;
+  seated = sound.seated;
+  once = sound.once;
+  arrivals = subst (λ n. n ≤ s.clock) (sym same) sound.arrivals;
+  charged = charged;
+  activity = sound.activity;
+  sent = sound.sent;
+  clock = sound.clock;
+}
+
+-- a part is kept
+pub keep_sound : (s : ServerModel) (queue : Queue) (parts : Store) (batch : BatchId) (bytes : List ℕ) → IsSound s
+    → parts ≡ with_fresh s.kept.parts batch bytes
+    → queue ≡ with_common s.kept.queue (length bytes) → IsSound (with_parts s queue parts)
+keep_sound s queue parts batch bytes sound kept charged =
+    let more = kept_within s.kept.parts batch (fresh bytes) in
+    let was = sound.charged in
+    let all : bytes_in (with_fresh s.kept.parts batch bytes) ≤ s.kept.queue.common + length bytes = omega (arith, more, was) in
+    let now = with_common s.kept.queue (length bytes) in
+    rw (kept, charged) (stays_sound s now (with_fresh s.kept.parts batch bytes) sound refl all)
+
+-- a part is changed
+pub change_sound : (f : Part → Part) → ((p : Part) → (f p).bytes ≡ p.bytes) → (s : ServerModel) (queue : Queue) (parts : Store)
+    → (batch : BatchId) → IsSound s → parts ≡ changed f s.kept.parts batch
+    → queue ≡ released f s.kept.parts batch s.kept.queue → IsSound (with_parts s queue parts)
+change_sound f keeps s queue parts batch sound turned freed =
+    let q = s.kept.queue in
+    let all = changed_within f keeps s.kept.parts batch q sound.charged in
+    let same = by_due (frees f s.kept.parts batch) in
+    rw (turned, freed) (stays_sound s (released f s.kept.parts batch q) (changed f s.kept.parts batch) sound same all)
+  where
+    by_due : (t : Bool)
+        → (if t then without_common s.kept.queue (size_of (part_in s.kept.parts batch)) else s.kept.queue).arrivals
+        ≡ s.kept.queue.arrivals
+    by_due true = refl
+    by_due false = refl
+
+-- The acts.
+
+module _ (s : ServerModel) (out end : Out) (t : ServerModel) (from : Rank) (request : ℕ) (common : List ℕ)
+    (working : s.kept.done ≡ false) where
+  -- where there is room
+  pub keeps_now : (queue : Queue) (parts : Store) → (Exceeds s.kept.queue (length common) → ⊥)
+      → parts ≡ with_fresh s.kept.parts (batch_of from request) common → queue ≡ with_common s.kept.queue (length common)
+      → t ≡ counted (with_parts s queue parts) (by.Rank from)
+      → end ≡ with_answer out (posted (with_parts s queue parts) (to_rank from (tells.Accepted request)))
+      (enters.Kept s.me (batch_of from request))
+      → made t end ≡ going_on out (keep_now s.kept from request common ∷ []) s
+  keeps_now queue parts within kept charged after told =
+      let q = s.kept.queue in
+      let room : exceeds q (length common) ≡ false =
+      false_from_ne_true _ (λ is. within (ltb-true q.limit (charge_of q + length common) is)) in
+      rw (after, told, kept, charged, working, room) refl
+
+  -- where there is none
+  pub refuses_now : (queue : Queue) (parts : Store) (charge : ℕ) → Exceeds s.kept.queue (length common)
+      → charge ≡ charge_of s.kept.queue
+      → parts ≡ s.kept.parts → queue ≡ s.kept.queue
+      → t ≡ counted (with_parts s queue parts) (by.Rank from)
+      → end ≡ with_answer out (posted (with_parts s queue parts) (to_rank from (tells.Full request charge)))
+      (enters.Refused s.me (unit_of from request) charge)
+      → made t end ≡ going_on out (keep_now s.kept from request common ∷ []) s
+  refuses_now queue parts charge beyond is kept charged after told =
+      let q = s.kept.queue in
+      let full : exceeds q (length common) ≡ true = lt-ltb q.limit (charge_of q + length common) beyond in
+      rw (after, told, kept, charged, working, full, is) refl

@@ -1,0 +1,410 @@
+-- Steps of a server, worked by hand.
+use Rattle.std.proofs.Common.{◌≡◌, ◌-◌, ◌^◌, ℕ, ℤ, pos, Bool, true, false, List, [], ◌∷◌, ◌++◌, drop, map, Option, Some, None, refl, replicate, arith}
+use Rattle.std.specs.Prelude.{is_some, option_and_then}
+use Rattle.std.specs.List.{flat_map}
+use Rattle.std.specs.Option.{option_map}
+use Rattle.adlb_unit.specs.Limits.{InRanks, InServers}
+use Rattle.adlb_unit.specs.Links.{sending}
+use Rattle.adlb_unit.specs.declared.actors.Actor.{Actor}
+use Rattle.adlb_unit.specs.declared.actors.Actor.TheVariants as by
+use Rattle.adlb_unit.specs.declared.configs.Config.{Config}
+use Rattle.adlb_unit.specs.declared.letters.Sending.{Sending}
+use Rattle.adlb_unit.specs.declared.messages.Message.{Message}
+use Rattle.adlb_unit.specs.declared.messages.Message.TheVariants as tells
+use Rattle.adlb_unit.specs.declared.names.Rank.{Rank}
+use Rattle.adlb_unit.specs.declared.names.Server.{Server}
+use Rattle.adlb_unit.specs.declared.names.Target.{Target}
+use Rattle.adlb_unit.specs.declared.names.Target.TheVariants as targets
+use Rattle.adlb_unit.specs.declared.names.UnitId.{UnitId}
+use Rattle.adlb_unit.specs.declared.names.WorkType.{WorkType}
+use Rattle.adlb_unit.specs.declared.notes.End.TheVariants as ends_by
+use Rattle.adlb_unit.specs.declared.units.Unit.{Unit as Work}
+use Rattle.bag_ledger.specs.declared.entries.Entry.{Entry}
+use Rattle.bag_ledger.specs.declared.entries.Entry.TheVariants as enters
+use Rattle.bag_ledger.specs.Runs.{note_of}
+use Rattle.work_queue.specs.Queue.{with_unit}
+use Rattle.server_law.specs.Acts.{Act, Around, Finds, Tells}
+use Rattle.server_law.specs.Carried.{Served}
+use Rattle.server_law.specs.Endings.{ends_event, tells_all}
+use Rattle.server_law.specs.Finding.{taker}
+use Rattle.server_law.specs.State.{Kept, ServerModel, Waiting, Wish, idle, start}
+use Rattle.server_law.specs.Step.{serve}
+
+-- Runs, of servers with a limit of 64 bytes.
+
+abbrev run_of : (ranks servers : ℕ) → InRanks ranks → InServers servers → Config
+run_of ranks servers many several = record {
+  ranks = ranks;
+  servers = servers;
+  limit = 64;
+  ranks_within = many;
+  servers_within = several;
+  limit_within = (omega arith, omega arith);
+}
+
+abbrev one_rank : Config
+one_rank = run_of 1 1 (omega arith, omega arith) (omega arith, omega arith)
+
+abbrev two_ranks : Config
+two_ranks = run_of 2 1 (omega arith, omega arith) (omega arith, omega arith)
+
+abbrev three_ranks : Config
+three_ranks = run_of 3 1 (omega arith, omega arith) (omega arith, omega arith)
+
+abbrev two_servers : Config
+two_servers = run_of 1 2 (omega arith, omega arith) (omega arith, omega arith)
+
+abbrev rank : ℕ → Rank
+rank number = record { 0 = number }
+
+abbrev server : ℕ → Server
+server number = record { 0 = number }
+
+-- server 0 at its start
+abbrev begun : Config → ServerModel
+begun config = start config (server 0)
+
+-- Units of rank 0.
+
+abbrev id : ℕ → UnitId
+id number = record { rank = rank 0; number = number }
+
+abbrev sized_unit : ℕ → ℕ → ℤ → Target → Work
+sized_unit size number prio target =
+    record { id = id number; kind = record { 0 = 2 }; prio = prio; target = target; answer = None; common = None; body = replicate size 7 }
+
+abbrev unit : ℕ → Target → Work
+unit number target = sized_unit 4 number (pos 0) target
+
+-- Letters, and what is seen of the events that handle them.
+
+record Said : Type 0 where
+  from : Actor
+  stamp : ℕ
+  message : Message
+
+-- of rank 0, with a stamp
+abbrev stamped : ℕ → Message → Said
+stamped stamp message = record { from = by.Rank (rank 0); stamp = stamp; message = message }
+
+abbrev says : ℕ → Message → Said
+says from message = record { from = by.Rank (rank from); stamp = 0; message = message }
+
+abbrev puts : ℕ → Work → Said
+puts from unit = says from (tells.Put unit)
+
+abbrev reserves : ℕ → ℕ → Said
+reserves from request = says from (tells.Reserve request None)
+
+record Seen : Type 0 where
+  sends : List Sending
+  entries : List Entry
+  waits : List ℕ
+
+abbrev heard : ServerModel → Said → Option Served
+heard s x = serve s x.from (record { stamp = x.stamp; place = 0; message = x.message })
+
+abbrev seen : Served → Seen
+seen x = record { sends = x.sends; entries = x.entries; waits = map (λ (e : Waiting). e.wish.rank.0) x.state.kept.parked.waiting }
+
+-- up to the first letter that is not expected
+abbrev further : (ServerModel → List Seen) → Option Served → List Seen
+further later None = []
+further later (Some x) = seen x ∷ later x.state
+
+abbrev events : ServerModel → List Said → List Seen
+events s [] = []
+events s (x ∷ xs) = further (λ t. events t xs) (heard s x)
+
+-- what is entered, in order
+abbrev entered : ServerModel → List Said → List Entry
+entered s letters = flat_map (λ (x : Seen). x.entries) (events s letters)
+
+abbrev is_expected : ServerModel → Said → Bool
+is_expected s x = is_some (heard s x)
+
+-- the server after these letters, if each is expected
+abbrev after : Option ServerModel → List Said → Option ServerModel
+after s [] = s
+after s (x ∷ letters) = after (option_map (λ (y : Served). y.state) (option_and_then (λ t. heard t x) s)) letters
+
+abbrev is_shut : Config → List Said → Option Bool
+is_shut config letters = option_map (λ (s : ServerModel). s.kept.shut) (after (Some (begun config)) letters)
+
+-- what server 0 says to a rank: by the event's stamp, and the place among its letters to the rank
+abbrev tells_to : ℕ → ℕ → ℕ → Message → Sending
+tells_to stamp place to message = sending stamp place (by.Rank (rank to)) message
+
+abbrev grant : ℕ → Work → Message
+grant request unit = tells.Grant request (note_of (server 0) unit)
+
+abbrev used_up : ℕ → Message
+used_up request = tells.Ended request ends_by.Exhausted
+
+-- what it enters
+abbrev accepts : ℕ → Entry
+accepts number = enters.Accepted (server 0) (id number)
+
+abbrev grants : ℕ → ℕ → ℕ → Entry
+grants to request number = enters.Granted (server 0) (rank to) request (id number)
+
+abbrev gives_bytes : ℕ → ℕ → Entry
+gives_bytes to number = enters.Fetched (server 0) (rank to) (id number)
+
+abbrev over : ℕ → ℕ → Entry
+over from request = enters.Over (rank from) request ends_by.Exhausted
+
+-- One rank and one server. The stamp of an event is one more than the greater of the letter's and the last event's.
+
+abbrev board : Work
+board = sized_unit 40 0 (pos 0) targets.Any
+
+a_rank_alone :
+    events (begun one_rank)
+    (puts 0 board ∷ puts 0 (sized_unit 25 1 (pos 0) targets.Any) ∷ reserves 0 2 ∷ stamped 9 (tells.Fetch 3 (id 0)) ∷ reserves 0 4
+    ∷ reserves 0 5 ∷ says 0 tells.Finish ∷ [])
+    ≡ record { sends = tells_to 1 0 0 (tells.Accepted 0) ∷ []; entries = accepts 0 ∷ []; waits = [] }
+    ∷ record { sends = tells_to 2 1 0 (tells.Full 1 40) ∷ []; entries = enters.Refused (server 0) (id 1) 40 ∷ []; waits = [] }
+    ∷ record { sends = tells_to 3 2 0 (grant 2 board) ∷ []; entries = grants 0 2 0 ∷ []; waits = [] }
+    ∷ record { sends = tells_to 10 3 0 (tells.Bytes 3 board.body) ∷ []; entries = gives_bytes 0 0 ∷ []; waits = [] }
+    ∷ record { sends = tells_to 11 4 0 (used_up 4) ∷ []; entries = enters.Exhausted ∷ over 0 4 ∷ []; waits = [] }
+    ∷ record { sends = tells_to 12 5 0 (used_up 5) ∷ []; entries = over 0 5 ∷ []; waits = [] }
+    ∷ record { sends = []; entries = []; waits = [] }
+    ∷ []
+a_rank_alone = refl
+
+-- Two ranks. Where both wait and nothing is left, both are told, in the order in which they came.
+
+both_wait :
+    events (begun two_ranks) (reserves 1 0 ∷ reserves 0 0 ∷ reserves 0 1 ∷ says 1 tells.Finish ∷ says 0 tells.Finish ∷ [])
+    ≡ record { sends = []; entries = []; waits = 1 ∷ [] }
+    ∷ record {
+      sends = tells_to 2 0 1 (used_up 0) ∷ tells_to 2 0 0 (used_up 0) ∷ [];
+      entries = enters.Exhausted ∷ over 1 0 ∷ over 0 0 ∷ [];
+      waits = [];
+    }
+    ∷ record { sends = tells_to 3 1 0 (used_up 1) ∷ []; entries = over 0 1 ∷ []; waits = [] }
+    ∷ record { sends = []; entries = []; waits = [] }
+    ∷ record { sends = []; entries = []; waits = [] }
+    ∷ []
+both_wait = refl
+
+-- a unit that no rank that waits may have is left where it is
+abbrev wants : ℕ → Option (List WorkType) → Said
+wants from types = says from (tells.Reserve 0 types)
+
+a_unit_that_suits_nobody_is_left :
+    entered (begun two_ranks) (puts 0 (unit 0 (targets.Only (rank 1))) ∷ wants 1 (Some (record { 0 = 3 } ∷ [])) ∷ wants 0 None ∷ [])
+    ≡ accepts 0 ∷ enters.Exhausted ∷ over 1 0 ∷ over 0 0 ∷ []
+a_unit_that_suits_nobody_is_left = refl
+
+-- where one finishes while the other waits, this is found then, and the other is told
+one_finishes :
+    events (begun two_ranks) (reserves 1 0 ∷ says 0 tells.Finish ∷ says 1 tells.Finish ∷ [])
+    ≡ record { sends = []; entries = []; waits = 1 ∷ [] }
+    ∷ record { sends = tells_to 2 0 1 (used_up 0) ∷ []; entries = enters.Exhausted ∷ over 1 0 ∷ []; waits = [] }
+    ∷ record { sends = []; entries = []; waits = [] }
+    ∷ []
+one_finishes = refl
+
+-- the last Finish letter shuts the server
+the_first_finish_does_not_shut : is_shut two_ranks (reserves 1 0 ∷ says 0 tells.Finish ∷ []) ≡ Some false
+the_first_finish_does_not_shut = refl
+
+the_last_finish_shuts : is_shut two_ranks (reserves 1 0 ∷ says 0 tells.Finish ∷ says 1 tells.Finish ∷ []) ≡ Some true
+the_last_finish_shuts = refl
+
+a_rank_alone_shuts : is_shut one_rank (says 0 tells.Finish ∷ []) ≡ Some true
+a_rank_alone_shuts = refl
+
+-- Three ranks, of which rank 2 waits first, and then rank 1. A put of rank 0 goes to the first that may have it.
+
+a_put_goes_to_the_first :
+    events (begun three_ranks) (reserves 2 0 ∷ reserves 1 0 ∷ puts 0 (unit 0 targets.Any) ∷ puts 0 (unit 1 targets.Any) ∷ [])
+    ≡ record { sends = []; entries = []; waits = 2 ∷ [] }
+    ∷ record { sends = []; entries = []; waits = 2 ∷ 1 ∷ [] }
+    ∷ record {
+      sends = tells_to 3 0 0 (tells.Accepted 0) ∷ tells_to 3 0 2 (grant 0 (unit 0 targets.Any)) ∷ [];
+      entries = accepts 0 ∷ grants 2 0 0 ∷ [];
+      waits = 1 ∷ [];
+    }
+    ∷ record {
+      sends = tells_to 4 1 0 (tells.Accepted 1) ∷ tells_to 4 0 1 (grant 0 (unit 1 targets.Any)) ∷ [];
+      entries = accepts 1 ∷ grants 1 0 1 ∷ [];
+      waits = [];
+    }
+    ∷ []
+a_put_goes_to_the_first = refl
+
+a_put_goes_to_the_rank_that_its_target_names_before_others :
+    events (begun three_ranks) (reserves 2 0 ∷ reserves 1 0 ∷ puts 0 (unit 0 (targets.Soft (rank 1))) ∷ [])
+    ≡ record { sends = []; entries = []; waits = 2 ∷ [] }
+    ∷ record { sends = []; entries = []; waits = 2 ∷ 1 ∷ [] }
+    ∷ record {
+      sends = tells_to 3 0 0 (tells.Accepted 0) ∷ tells_to 3 0 1 (grant 0 (unit 0 (targets.Soft (rank 1)))) ∷ [];
+      entries = accepts 0 ∷ grants 1 0 0 ∷ [];
+      waits = 2 ∷ [];
+    }
+    ∷ []
+a_put_goes_to_the_rank_that_its_target_names_before_others = refl
+
+-- what is entered where rank 2 wants these types, rank 1 any, and rank 0 puts a unit of type 2 with this target
+abbrev settled : Option (List WorkType) → Target → List Entry
+settled types target = entered (begun three_ranks) (wants 2 types ∷ wants 1 None ∷ puts 0 (unit 0 target) ∷ [])
+
+before_a_rank_that_does_not_wait_it_goes_to_the_first : settled None (targets.Soft (rank 0)) ≡ accepts 0 ∷ grants 2 0 0 ∷ []
+before_a_rank_that_does_not_wait_it_goes_to_the_first = refl
+
+for_the_second_alone_it_goes_there : settled None (targets.Only (rank 1)) ≡ accepts 0 ∷ grants 1 0 0 ∷ []
+for_the_second_alone_it_goes_there = refl
+
+for_a_rank_alone_that_does_not_wait_it_stays : settled None (targets.Only (rank 0)) ≡ accepts 0 ∷ []
+for_a_rank_alone_that_does_not_wait_it_stays = refl
+
+of_another_type_it_goes_to_the_second : settled (Some (record { 0 = 3 } ∷ [])) targets.Any ≡ accepts 0 ∷ grants 1 0 0 ∷ []
+of_another_type_it_goes_to_the_second = refl
+
+of_another_type_its_first_rank_does_not_get_it :
+    settled (Some (record { 0 = 3 } ∷ [])) (targets.Soft (rank 2)) ≡ accepts 0 ∷ grants 1 0 0 ∷ []
+of_another_type_its_first_rank_does_not_get_it = refl
+
+-- What a reserve is granted first: what is for the rank alone, then what is for it before others, then what is for any, then what is
+-- for another rank before it, whatever the priorities.
+
+abbrev four_puts : List Said
+four_puts =
+    puts 0 (sized_unit 4 0 (pos 9) targets.Any) ∷ puts 0 (sized_unit 4 1 (pos 5) (targets.Soft (rank 1)))
+    ∷ puts 0 (sized_unit 4 2 (pos 0) (targets.Only (rank 0))) ∷ puts 0 (sized_unit 4 3 (pos 1) (targets.Soft (rank 0))) ∷ []
+
+abbrev granted_of_four : ℕ → List ℕ → List Entry
+granted_of_four to requests = drop 4 (entered (begun three_ranks) (four_puts ++ map (reserves to) requests))
+
+rank_zero_gets_them_by_target : granted_of_four 0 (4 ∷ 5 ∷ 6 ∷ 7 ∷ 8 ∷ []) ≡ grants 0 4 2 ∷ grants 0 5 3 ∷ grants 0 6 0 ∷ grants 0 7 1 ∷ []
+rank_zero_gets_them_by_target = refl
+
+rank_one_gets_none_of_another_alone : granted_of_four 1 (0 ∷ 1 ∷ 2 ∷ 3 ∷ []) ≡ grants 1 0 1 ∷ grants 1 1 0 ∷ grants 1 2 3 ∷ []
+rank_one_gets_none_of_another_alone = refl
+
+-- Two servers: a rank that reserves waits, the other server is to be asked for it, and nothing follows.
+
+nothing_follows : events (begun two_servers) (reserves 0 0 ∷ []) ≡ record { sends = []; entries = []; waits = 0 ∷ [] } ∷ []
+nothing_follows = refl
+
+the_other_is_to_be_asked :
+    option_map (λ (s : ServerModel). s.kept.parked.waiting) (after (Some (begun two_servers)) (reserves 0 0 ∷ []))
+    ≡ Some (idle (record { rank = rank 0; request = 0; types = None }) (server 1 ∷ []) ∷ [])
+the_other_is_to_be_asked = refl
+
+one_of_two_servers_is_not_shut : is_shut two_servers (says 0 tells.Finish ∷ []) ≡ Some false
+one_of_two_servers_is_not_shut = refl
+
+-- Servers made by hand: for rank 1 a server is asked and has not answered, and rank 0 is idle.
+
+abbrev wish : ℕ → Wish
+wish from = record { rank = rank from; request = 0; types = None }
+
+abbrev asked : Waiting
+asked = record { wish = wish 1; asked = Some (server 1); to_ask = [] }
+
+abbrev rests : Waiting
+rests = idle (wish 0) []
+
+abbrev behind_asked : Around
+behind_asked = record { before = asked ∷ []; behind = [] }
+
+a_unit_passes_who_is_not_idle : taker (unit 0 targets.Any) (asked ∷ rests ∷ []) ≡ Some (record { at = behind_asked; here = rests })
+a_unit_passes_who_is_not_idle = refl
+
+the_end_passes_who_is_not_idle : tells_all ends_by.Exhausted [] (asked ∷ rests ∷ []) ≡ Tells behind_asked (wish 0) [] ends_by.Exhausted ∷ []
+the_end_passes_who_is_not_idle = refl
+
+-- one server of two ranks, which wait
+abbrev made : List Waiting → Kept → ServerModel
+made waiting k = record (begun two_ranks) { kept = record k { parked = record { waiting = waiting; wishes = [] } } }
+
+abbrev empty : Kept
+empty = (begun two_ranks).kept
+
+a_server_is_not_quiet_while_one_is_asked : ends_event (made (asked ∷ rests ∷ []) empty) ≡ []
+a_server_is_not_quiet_while_one_is_asked = refl
+
+abbrev both : List Waiting
+both = idle (wish 1) [] ∷ rests ∷ []
+
+abbrev all_is_used_up : List Act
+all_is_used_up =
+    Finds ∷ Tells (record { before = []; behind = rests ∷ [] }) (wish 1) [] ends_by.Exhausted
+    ∷ Tells (record { before = []; behind = [] }) (wish 0) [] ends_by.Exhausted ∷ []
+
+where_both_are_idle_it_is : ends_event (made both empty) ≡ all_is_used_up
+where_both_are_idle_it_is = refl
+
+-- nothing follows while a free unit is permitted to one of them, nor where all work was found used up before
+abbrev one_fits : Kept
+one_fits = record empty { queue = with_unit empty.queue (unit 0 (targets.Only (rank 0))) }
+
+while_a_unit_fits_nothing_follows : ends_event (made both one_fits) ≡ []
+while_a_unit_fits_nothing_follows = refl
+
+it_is_found_once : ends_event (made both (record empty { exhausted = true })) ≡ []
+it_is_found_once = refl
+
+-- Which letters are expected, with three ranks, after some letters.
+
+abbrev is_expected_after : List Said → Said → Option Bool
+is_expected_after letters x = option_map (λ s. is_expected s x) (after (Some (begun three_ranks)) letters)
+
+the_last_rank_may_be_named : is_expected_after [] (puts 0 (unit 0 (targets.Only (rank 2)))) ≡ Some true
+the_last_rank_may_be_named = refl
+
+a_rank_beyond_may_not : is_expected_after [] (puts 0 (unit 0 (targets.Only (rank 3)))) ≡ Some false
+a_rank_beyond_may_not = refl
+
+a_rank_beyond_may_not_come_before_others : is_expected_after [] (puts 0 (unit 0 (targets.Soft (rank 3)))) ≡ Some false
+a_rank_beyond_may_not_come_before_others = refl
+
+a_unit_of_another_is_not_expected : is_expected_after [] (puts 1 (unit 0 targets.Any)) ≡ Some false
+a_unit_of_another_is_not_expected = refl
+
+a_unit_is_not_put_twice : is_expected_after (puts 0 (unit 0 targets.Any) ∷ []) (puts 0 (unit 0 targets.Any)) ≡ Some false
+a_unit_is_not_put_twice = refl
+
+a_rank_that_waits_does_not_reserve : is_expected_after (reserves 1 0 ∷ []) (reserves 1 1) ≡ Some false
+a_rank_that_waits_does_not_reserve = refl
+
+a_rank_that_waits_does_not_finish : is_expected_after (reserves 1 0 ∷ []) (says 1 tells.Finish) ≡ Some false
+a_rank_that_waits_does_not_finish = refl
+
+a_rank_does_not_finish_twice : is_expected_after (says 1 tells.Finish ∷ []) (says 1 tells.Finish) ≡ Some false
+a_rank_does_not_finish_twice = refl
+
+a_rank_reserves_at_its_home_alone : is_some (heard (start two_servers (server 1)) (reserves 0 0)) ≡ false
+a_rank_reserves_at_its_home_alone = refl
+
+a_rank_finishes_at_each_server : is_some (heard (start two_servers (server 1)) (says 0 tells.Finish)) ≡ true
+a_rank_finishes_at_each_server = refl
+
+a_unit_is_not_fetched_before_it_is_granted :
+    is_expected_after (puts 0 (unit 0 targets.Any) ∷ []) (says 0 (tells.Fetch 1 (id 0))) ≡ Some false
+a_unit_is_not_fetched_before_it_is_granted = refl
+
+abbrev fetches : Said
+fetches = says 0 (tells.Fetch 2 (id 0))
+
+a_unit_that_is_granted_is_fetched : is_expected_after (puts 0 (unit 0 targets.Any) ∷ reserves 0 1 ∷ []) fetches ≡ Some true
+a_unit_that_is_granted_is_fetched = refl
+
+a_unit_is_fetched_once : is_expected_after (puts 0 (unit 0 targets.Any) ∷ reserves 0 1 ∷ fetches ∷ []) fetches ≡ Some false
+a_unit_is_fetched_once = refl
+
+the_last_stamp_may_be_given : is_expected (begun one_rank) (stamped (2 ^ 48 - 1) tells.Finish) ≡ true
+the_last_stamp_may_be_given = refl
+
+a_stamp_beyond_may_not : is_expected (begun one_rank) (stamped (2 ^ 48) tells.Finish) ≡ false
+a_stamp_beyond_may_not = refl
+
+a_rank_beyond_is_not_expected : is_expected (begun one_rank) (says 1 tells.Finish) ≡ false
+a_rank_beyond_is_not_expected = refl
+
+a_server_says_nothing_yet : is_expected (begun one_rank) (record { from = by.Server (server 0); stamp = 0; message = tells.Finish }) ≡ false
+a_server_says_nothing_yet = refl

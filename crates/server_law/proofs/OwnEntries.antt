@@ -1,0 +1,179 @@
+-- The entries of a server's acts are steps of the bag that agrees with it, and the bag agrees afterwards.
+use Rattle.std.proofs.Common.{◌≡◌, ℕ, ◌+◌, ◌≤◌, ◌<◌, ◌==◌, Bool, true, false, cond, List, [], ◌∷◌, ◌++◌, length, map, filter, Option, Some, None, refl, sym, ap, ◌∙◌, subst, sum_by, arith}
+use Rattle.std.specs.Prelude.{IsTrue, option_and_then}
+use Rattle.std.proofs.lemmas.Bool.{false_from_ne_true, ltb-false, ltb-true}
+use Rattle.adlb_unit.specs.Permit.{permitted}
+use Rattle.adlb_unit.specs.declared.names.Rank.{Rank}
+use Rattle.adlb_unit.specs.declared.names.Server.{Server}
+use Rattle.adlb_unit.specs.declared.names.UnitId.{UnitId}
+use Rattle.adlb_unit.specs.declared.notes.End.{End}
+use Rattle.adlb_unit.specs.declared.notes.End.TheVariants as ends_by
+use Rattle.adlb_unit.specs.declared.units.Unit.{Unit as Work}
+use Rattle.bag_ledger.specs.Bag.{Bag, charge, has_due, is_due, offer, open_call, putting, rank_at, settled, unit_charge, unit_of, wish}
+use Rattle.bag_ledger.specs.Runs.{IsRun}
+use Rattle.bag_ledger.specs.Steps.{Steps, after, has_cause, shared, taken}
+use Rattle.bag_ledger.specs.declared.entries.Entry.{Entry}
+use Rattle.bag_ledger.specs.declared.entries.Entry.TheVariants as enters
+use Rattle.bag_ledger.specs.declared.states.Placed.{Placed as Lodged}
+use Rattle.bag_ledger.specs.declared.states.RankState.{RankState}
+use Rattle.bag_ledger.specs.declared.states.Status.TheVariants as is_at
+use Rattle.bag_ledger.specs.declared.states.UnitPlace.{UnitPlace}
+use Rattle.bag_ledger.specs.declared.states.UnitPlace.TheVariants.{Free, Travelling, Pinned, Spent}
+use Rattle.bag_ledger.proofs.Charge.{unit_put}
+use Rattle.bag_law.proofs.Turn.{sum_same}
+use Rattle.work_queue.specs.Queue.{charge_of, has_other_id, pinned_by, size_of, with_unit}
+use Rattle.work_queue.specs.declared.placing.Placed.{Placed}
+use Rattle.server_law.specs.Acts.{Accepts, Closes, Ends_keep, Ends_put, Ends_reserve, Fetches, Fetches_part, Finds, Gives, Grants, Keeps, Notes_finish, Parks, Refuses, Refuses_part, Shuts, Tells, entries}
+use Rattle.adlb_unit.specs.declared.names.CommonRef.{CommonRef}
+use Rattle.server_law.specs.Agreement.{ServerAgrees, UnitWeight, of_batch, pinned_weight, weight_at}
+use Rattle.server_law.specs.Carried.{done}
+use Rattle.server_law.specs.Finding.{unit_with}
+use Rattle.server_law.specs.Legal.{ActsAreLegal, AsksFor, Does, IsOpen, Offers}
+use Rattle.server_law.specs.Puts.{is_over}
+use Rattle.server_law.specs.State.{ServerModel, Wish}
+use Rattle.server_law.specs.Sure.{HasCause, IsExhausted}
+use Rattle.server_law.proofs.BestFits.{IsFit, best_is_fit}
+use Rattle.server_law.proofs.ByIds.{free_is_found, pinned_is_found}
+use Rattle.server_law.proofs.Components.{known_agrees, shared_agrees, units_agree, with_units}
+use Rattle.server_law.proofs.Entering.{AreSteps, charge_agrees, is_step, none_changed}
+use Rattle.server_law.proofs.PartEntries.{closes, fetches_part, keeps, refuses_part}
+use Rattle.server_law.proofs.Lodging.{holds_added, holds_pinned, holds_taken, lodged, place_is}
+
+-- Puts.
+
+-- one unit more shares an open part, which does not become due
+shared_rests : (b : Bag) (common : Option CommonRef) → IsOpen b common → has_due b ≡ false → has_due (shared common b) ≡ false
+shared_rests b None is_open rests = rests
+shared_rests b (Some c) is_open rests =
+    none_changed is_due (of_batch c.batch) (λ p. record p { accepted = p.accepted + 1 }) b.parts rests (λ p found. rw (is_open p found) refl)
+
+accepts : (b : Bag) (s : ServerModel) (unit : Work) → ServerAgrees b s → has_due b ≡ false → Offers b s.me unit → unit_of b unit.id ≡ None
+    → IsOpen b unit.common → is_over s.kept.queue unit ≡ false → AreSteps b (entries (Accepts unit) s) (done (Accepts unit) s)
+accepts b s unit m rests of new is_open over =
+    is_step b (enters.Accepted s.me unit.id) (done (Accepts unit) s)
+    (rw rests refl, (of.0, unit, of.1, of.2, refl, rw m.servers m.within, of.3, rw (charge_agrees b s m, m.limit) fits), refl)
+    (subst (λ o. ServerAgrees (taken s.me o b) (done (Accepts unit) s)) (sym put) all)
+    (subst (λ o. has_due (taken s.me o b) ≡ false) (sym put) (shared_rests (record b { units = more }) unit.common is_open rests))
+  where
+    fits : charge_of s.kept.queue + length unit.body ≤ s.kept.queue.limit
+    fits = ltb-false s.kept.queue.limit (charge_of s.kept.queue + length unit.body) over
+
+    put : option_and_then (λ (r : RankState). putting r.status) (rank_at b unit.id.rank) ≡ Some unit
+    put = unit_put (λ (r : RankState). putting r.status) (rank_at b unit.id.rank) of.0 unit of.1 (rw of.2 refl)
+
+    more : List Lodged
+    more = b.units ++ record { unit = unit; place = Free s.me } ∷ []
+
+    all : ServerAgrees (taken s.me (Some unit) b) (done (Accepts unit) s)
+    all =
+        shared_agrees (record b { units = more }) (done (Accepts unit) s) unit.common is_open
+        (units_agree b s more (with_unit s.kept.queue unit).units (with_unit s.kept.queue unit).arrivals m
+        (holds_added b.units s.me s.kept.queue.units unit m.units new))
+
+refuses : (b : Bag) (s : ServerModel) (unit : Work) → ServerAgrees b s → has_due b ≡ false → Offers b s.me unit
+    → is_over s.kept.queue unit ≡ true → AreSteps b (entries (Refuses unit) s) (done (Refuses unit) s)
+refuses b s unit m rests of over =
+    let above : s.kept.queue.limit < charge_of s.kept.queue + length unit.body =
+    ltb-true s.kept.queue.limit (charge_of s.kept.queue + length unit.body) over in
+    let used = sym (charge_agrees b s m) in
+    is_step b (enters.Refused s.me unit.id (charge_of s.kept.queue)) (done (Refuses unit) s)
+    (rw rests refl, (of.0, length unit.body, of.1, ap offer of.2, rw m.servers m.within, of.3, used, rw m.limit above), refl) m rests
+
+-- Ends.
+
+caused : (b : Bag) (s : ServerModel) (end : End) → ServerAgrees b s → HasCause s.kept end → has_cause b end ≡ true
+caused b s ends_by.NoMoreWork m cause = m.done cause
+caused b s ends_by.Exhausted m cause = m.exhausted cause
+
+-- a call is over
+ends : (b : Bag) (s : ServerModel) (rank : Rank) (call : ℕ) (end : End) (r : RankState) → ServerAgrees b s → has_due b ≡ false
+    → rank_at b rank ≡ Some r → open_call r.status ≡ Some call → HasCause s.kept end → AreSteps b (enters.Over rank call end ∷ []) s
+ends b s rank call end r m rests at pending cause =
+    is_step b (enters.Over rank call end) s (rw rests refl, (r, at, pending, caused b s end m cause), refl) m rests
+
+-- Grants.
+
+-- a unit that fits is pinned to the rank
+grants : (b : Bag) (s : ServerModel) (wish : Wish) (p : Placed) → ServerAgrees b s → has_due b ≡ false → AsksFor b wish
+    → IsFit wish s.kept.queue.units p
+    → AreSteps b (enters.Granted s.me wish.rank wish.request p.unit.id ∷ [])
+    (with_units (map (pinned_by p.unit.id wish.rank) s.kept.queue.units) s.kept.queue.arrivals s)
+grants b s w p m rests asks fit =
+    let u = lodged b.units s.me s.kept.queue.units p.unit.id p m.units fit.found in
+    let place : u.0.place ≡ Free s.me = place_is s.me None u.0.place (u.1.pin ∙ ap Some fit.free) in
+    let permits : permitted w.rank w.types u.0.unit.kind u.0.unit.target ≡ true = rw u.1.same fit.permits in
+    let now = map (pinned_by p.unit.id w.rank) s.kept.queue.units in
+    let holds = holds_pinned b.units s.me s.kept.queue.units p.unit.id w.rank p u.0 m.units fit.found u.1 in
+    is_step b (enters.Granted s.me w.rank w.request p.unit.id) (with_units now s.kept.queue.arrivals s)
+    (rw rests refl, (asks.0, w.types, u.0, asks.1, ap wish asks.2, rw m.servers m.within, (u.1.found, place), permits), refl)
+    (units_agree b s _ now s.kept.queue.arrivals m holds) rests
+
+-- Fetches.
+
+fetches : (b : Bag) (s : ServerModel) (rank : Rank) (request : ℕ) (id : UnitId) (p : Placed) → ServerAgrees b s → has_due b ≡ false
+    → Does b rank (is_at.Fetching request id false) → unit_with id s.kept.queue.units ≡ Some p → p.pin ≡ Some rank
+    → AreSteps b (enters.Fetched s.me rank id ∷ []) (with_units (filter (has_other_id id) s.kept.queue.units) s.kept.queue.arrivals s)
+fetches b s rank request id p m rests asks found pin =
+    let u = lodged b.units s.me s.kept.queue.units id p m.units found in
+    let place : u.0.place ≡ Pinned s.me rank = place_is s.me (Some rank) u.0.place (u.1.pin ∙ ap Some pin) in
+    let now = filter (has_other_id id) s.kept.queue.units in
+    let holds = holds_taken b.units s.me s.kept.queue.units id Spent p u.0 m.units found u.1 refl in
+    is_step b (enters.Fetched s.me rank id) (with_units now s.kept.queue.arrivals s)
+    (rw rests refl, (asks.0, request, u.0, asks.1, asks.2, rw m.servers m.within, (u.1.found, place)), refl)
+    (units_agree b s _ now s.kept.queue.arrivals m holds) rests
+
+-- Exhaustion.
+
+finds : (b : Bag) (s : ServerModel) → ServerAgrees b s → has_due b ≡ false → IsExhausted s → IsTrue (settled b)
+    → AreSteps b (entries Finds s) (done Finds s)
+finds b s m rests sure found =
+    is_step b enters.Exhausted (done Finds s) (rw rests refl, (found, new), refl)
+    (known_agrees b s b.done true true m m.done (λ is. refl) (λ zeroth is. refl)) rests
+  where
+    zeroth : s.me.0 ≡ 0
+    zeroth = let within = m.within in let alone = sure.alone in omega arith
+
+    new : b.exhausted ≡ false
+    new = false_from_ne_true b.exhausted (λ is. let known = m.found zeroth is in let fresh = sure.new in absurd (cc))
+
+-- Each act.
+
+pub acts_are_legal : ActsAreLegal
+acts_are_legal b s (Accepts unit) m rests sits sure needs = accepts b s unit m rests needs.0 needs.1 needs.2 sure.2
+acts_are_legal b s (Refuses unit) m rests sits sure needs = refuses b s unit m rests needs sure.2
+acts_are_legal b s (Ends_put unit end) m rests sits sure needs =
+    ends b s unit.id.rank unit.id.number end needs.0 m rests needs.1 (ap open_call needs.2) sure.1
+acts_are_legal b s (Grants wish unit) m rests sits sure needs =
+    let found = sure.1 in
+    let fit = best_is_fit s.kept wish found.0 m.units.distinct found.1 in
+    subst (λ (u : Work). AreSteps b (entries (Grants wish u) s) (done (Grants wish u) s)) found.2
+    (grants b s wish found.0 m rests needs fit)
+acts_are_legal b s (Ends_reserve wish end) m rests sits sure needs =
+    ends b s wish.rank wish.request end needs.0 m rests needs.1 (ap open_call needs.2) sure.1
+acts_are_legal b s (Parks wish) m rests sits sure needs = (b, refl, m, rests)
+acts_are_legal b s (Fetches rank request id unit) m rests sits sure needs =
+    let at = pinned_is_found s.kept.queue.units id rank sure.0 m.units.distinct sure.1 in
+    fetches b s rank request id sure.0 m rests needs at.0 at.1
+acts_are_legal b s (Notes_finish rank) m rests sits sure needs = (b, refl, m, rests)
+acts_are_legal b s (Gives at wish rest unit) m rests sits sure needs =
+    let found = sure.0 in
+    let free = free_is_found s.kept.queue.units unit.id found.0 m.units.distinct found.1 in
+    let fit : IsFit wish s.kept.queue.units found.0 = record {
+      found = ap (λ (u : Work). unit_with u.id s.kept.queue.units) found.2 ∙ free.0;
+      free = free.1;
+      permits = rw found.2 sure.1;
+    } in
+    subst (λ (u : Work). AreSteps b (entries (Gives at wish rest u) s) (done (Gives at wish rest u) s)) found.2
+    (grants b s wish found.0 m rests needs fit)
+acts_are_legal b s (Tells at wish rest end) m rests sits sure needs =
+    ends b s wish.rank wish.request end needs.0 m rests needs.1 (ap open_call needs.2) sure
+acts_are_legal b s Finds m rests sits sure needs = finds b s m rests sure needs
+acts_are_legal b s (Keeps rank request common) m rests sits sure needs = keeps b s rank request common m rests needs.0 needs.1 sure.2
+acts_are_legal b s (Refuses_part rank request common) m rests sits sure needs = refuses_part b s rank request common m rests needs sure.2
+acts_are_legal b s (Ends_keep rank request common end) m rests sits sure needs =
+    ends b s rank request end needs.0 m rests needs.1 (ap open_call needs.2) sure.1
+acts_are_legal b s (Closes request batch accepted part) m rests sits sure needs =
+    closes b s request batch accepted part m rests needs.0 needs.1 sure.0
+acts_are_legal b s (Fetches_part rank request batch part) m rests sits sure needs =
+    fetches_part b s rank request batch part m rests needs sure.0
+acts_are_legal b s Shuts m rests sits sure needs = (b, refl, m, rests)

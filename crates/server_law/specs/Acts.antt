@@ -1,0 +1,205 @@
+-- What a server does, one act after the other: the letter that an act takes, what it changes, says and enters in the ledger. Each
+-- act tells of at most one rank.
+use Rattle.std.specs.Prelude.{ℕ, Bool, true, List, [], ◌∷◌, ◌++◌, length, Option, None, Some, slice_set, if◌then◌else◌}
+use Rattle.adlb_unit.specs.Ring.{others}
+use Rattle.adlb_unit.specs.declared.actors.Actor.{Actor}
+use Rattle.adlb_unit.specs.declared.actors.Actor.TheVariants as by
+use Rattle.adlb_unit.specs.declared.messages.Message.{Message}
+use Rattle.adlb_unit.specs.declared.messages.Message.TheVariants as tells
+use Rattle.adlb_unit.specs.declared.names.BatchId.{BatchId}
+use Rattle.adlb_unit.specs.declared.names.Rank.{Rank}
+use Rattle.adlb_unit.specs.declared.names.Server.{Server}
+use Rattle.adlb_unit.specs.declared.names.UnitId.{UnitId}
+use Rattle.adlb_unit.specs.declared.notes.End.{End}
+use Rattle.adlb_unit.specs.declared.units.Unit.{Unit as Work}
+use Rattle.bag_ledger.specs.declared.entries.Entry.{Entry}
+use Rattle.bag_ledger.specs.declared.entries.Entry.TheVariants as enters
+use Rattle.bag_ledger.specs.Runs.{note_of}
+use Rattle.work_queue.specs.Queue.{Queue, charge_of, with_common, with_pin, with_unit, without, without_common}
+use Rattle.batch_store.specs.Store.{Store, changed, closed, fetched, is_due, with_fresh}
+use Rattle.batch_store.specs.declared.parts.Part.{Part}
+use Rattle.server_law.specs.State.{Kept, ServerModel, Waiting, Wish, idle}
+
+-- a message to an actor
+pub record ServerSaying : Type 0 where
+  pub to : Actor
+  pub message : Message
+
+-- a letter that is taken off the front of the link of its sender
+pub record Heard : Type 0 where
+  pub from : Actor
+  pub message : Message
+
+-- the ranks that wait before one and behind it
+pub record Around : Type 0 where
+  pub before : List Waiting
+  pub behind : List Waiting
+
+pub data Act : Type 0 where
+  -- a put: the unit is in the queue, there is no room for it, or the call is ended
+  Accepts : Work → Act
+  Refuses : Work → Act
+  Ends_put : Work → End → Act
+  -- a reserve: a unit is pinned to the rank, the call is ended, or the rank waits
+  Grants : Wish → Work → Act
+  Ends_reserve : Wish → End → Act
+  Parks : Wish → Act
+  -- a fetch of the unit of this id, in the call of this number
+  Fetches : Rank → ℕ → UnitId → Work → Act
+  Notes_finish : Rank → Act
+  -- a batch begins with this common part, in the call of this number: the part is kept, there is no room for it, or the call is ended
+  Keeps : Rank → ℕ → List ℕ → Act
+  Refuses_part : Rank → ℕ → List ℕ → Act
+  Ends_keep : Rank → ℕ → List ℕ → End → Act
+  -- a batch ends, of which so many units were accepted, and its part is closed; the common part of a batch is fetched
+  Closes : ℕ → BatchId → ℕ → Part → Act
+  Fetches_part : Rank → ℕ → BatchId → Part → Act
+  -- a rank that waits and is idle gets a unit, or is told an end
+  Gives : Around → Wish → List Server → Work → Act
+  Tells : Around → Wish → List Server → End → Act
+  -- all work is used up; and no rank waits or runs any more
+  Finds : Act
+  Shuts : Act
+
+abbrev pub to_rank : Rank → Message → ServerSaying
+to_rank rank message = record { to = by.Rank rank; message = message }
+
+abbrev pub of_rank : Rank → Message → Heard
+of_rank rank message = record { from = by.Rank rank; message = message }
+
+-- the batch that begins in the rank's call of this number, and the unit that is put in it
+abbrev pub batch_of : Rank → ℕ → BatchId
+batch_of rank request = record { rank = rank; number = request }
+
+abbrev pub unit_of : Rank → ℕ → UnitId
+unit_of rank request = record { rank = rank; number = request }
+
+-- What it takes: at most one letter.
+
+abbrev pub takes : Act → List Heard
+takes (Accepts unit) = of_rank unit.id.rank (tells.Put unit) ∷ []
+takes (Refuses unit) = of_rank unit.id.rank (tells.Put unit) ∷ []
+takes (Ends_put unit end) = of_rank unit.id.rank (tells.Put unit) ∷ []
+takes (Grants wish unit) = of_rank wish.rank (tells.Reserve wish.request wish.types) ∷ []
+takes (Ends_reserve wish end) = of_rank wish.rank (tells.Reserve wish.request wish.types) ∷ []
+takes (Parks wish) = of_rank wish.rank (tells.Reserve wish.request wish.types) ∷ []
+takes (Fetches rank request id unit) = of_rank rank (tells.Fetch request id) ∷ []
+takes (Notes_finish rank) = of_rank rank tells.Finish ∷ []
+takes (Keeps rank request common) = of_rank rank (tells.KeepCommon request common) ∷ []
+takes (Refuses_part rank request common) = of_rank rank (tells.KeepCommon request common) ∷ []
+takes (Ends_keep rank request common end) = of_rank rank (tells.KeepCommon request common) ∷ []
+takes (Closes request batch accepted part) = of_rank batch.rank (tells.CloseBatch request batch accepted) ∷ []
+takes (Fetches_part rank request batch part) = of_rank rank (tells.FetchCommon request batch) ∷ []
+takes _ = []
+
+-- What it changes, component by component.
+
+-- who comes to wait
+abbrev pub comes : Act → ServerModel → List Waiting
+comes (Parks wish) s = idle wish (others s.config s.me) ∷ []
+comes _ s = []
+
+-- who waits no longer, and those round about
+abbrev pub goes : Act → List Waiting
+goes (Gives at wish rest unit) = idle wish rest ∷ []
+goes (Tells at wish rest end) = idle wish rest ∷ []
+goes _ = []
+
+abbrev pub around : Act → Option Around
+around (Gives at wish rest unit) = Some at
+around (Tells at wish rest end) = Some at
+around _ = None
+
+-- where nobody goes, who comes is last
+abbrev pub waiting_with : Option Around → List Waiting → List Waiting → List Waiting
+waiting_with None waiting [] = waiting
+waiting_with None waiting (e ∷ come) = waiting ++ e ∷ come
+waiting_with (Some at) waiting come = at.before ++ (come ++ at.behind)
+
+abbrev pub waiting_after : Act → ServerModel → List Waiting
+waiting_after a s = waiting_with (around a) s.kept.parked.waiting (comes a s)
+
+-- the bytes of a part that is due are given back
+abbrev pub given_back : Part → Queue → Queue
+given_back part q = if is_due part then without_common q (length part.bytes) else q
+
+abbrev pub queue_after : Act → Queue → Queue
+queue_after (Accepts unit) q = with_unit q unit
+queue_after (Grants wish unit) q = with_pin q unit.id wish.rank
+queue_after (Fetches rank request id unit) q = without q id
+queue_after (Gives at wish rest unit) q = with_pin q unit.id wish.rank
+queue_after (Keeps rank request common) q = with_common q (length common)
+queue_after (Closes request batch accepted part) q = given_back (closed accepted part) q
+queue_after (Fetches_part rank request batch part) q = given_back (fetched part) q
+queue_after _ q = q
+
+abbrev pub parts_after : Act → Store → Store
+parts_after (Keeps rank request common) parts = with_fresh parts (batch_of rank request) common
+parts_after (Closes request batch accepted part) parts = changed (closed accepted) parts batch
+parts_after (Fetches_part rank request batch part) parts = changed fetched parts batch
+parts_after _ parts = parts
+
+abbrev pub finished_after : Act → List Bool → List Bool
+finished_after (Notes_finish rank) finished = slice_set finished rank.0 true
+finished_after _ finished = finished
+
+abbrev pub exhausted_after : Act → Bool → Bool
+exhausted_after Finds exhausted = true
+exhausted_after _ exhausted = exhausted
+
+abbrev pub shut_after : Act → Bool → Bool
+shut_after Shuts shut = true
+shut_after _ shut = shut
+
+-- the server after the act
+abbrev pub does : Act → ServerModel → ServerModel
+does a s = record s {
+  kept = record {
+    queue = queue_after a s.kept.queue;
+    parts = parts_after a s.kept.parts;
+    parked = record { waiting = waiting_after a s; wishes = s.kept.parked.wishes };
+    finished = finished_after a s.kept.finished;
+    done = s.kept.done;
+    exhausted = exhausted_after a s.kept.exhausted;
+    shut = shut_after a s.kept.shut;
+  };
+}
+
+-- What it says and enters, by the server as it was before.
+
+abbrev pub says : Act → ServerModel → List ServerSaying
+says (Accepts unit) s = to_rank unit.id.rank (tells.Accepted unit.id.number) ∷ []
+says (Refuses unit) s = to_rank unit.id.rank (tells.Full unit.id.number (charge_of s.kept.queue)) ∷ []
+says (Ends_put unit end) s = to_rank unit.id.rank (tells.Ended unit.id.number end) ∷ []
+says (Grants wish unit) s = to_rank wish.rank (tells.Grant wish.request (note_of s.me unit)) ∷ []
+says (Ends_reserve wish end) s = to_rank wish.rank (tells.Ended wish.request end) ∷ []
+says (Fetches rank request id unit) s = to_rank rank (tells.Bytes request unit.body) ∷ []
+says (Gives at wish rest unit) s = to_rank wish.rank (tells.Grant wish.request (note_of s.me unit)) ∷ []
+says (Tells at wish rest end) s = to_rank wish.rank (tells.Ended wish.request end) ∷ []
+says (Keeps rank request common) s = to_rank rank (tells.Accepted request) ∷ []
+says (Refuses_part rank request common) s = to_rank rank (tells.Full request (charge_of s.kept.queue)) ∷ []
+says (Ends_keep rank request common end) s = to_rank rank (tells.Ended request end) ∷ []
+says (Closes request batch accepted part) s = to_rank batch.rank (tells.Closed request) ∷ []
+says (Fetches_part rank request batch part) s = to_rank rank (tells.Bytes request part.bytes) ∷ []
+says _ s = []
+
+-- a part that is due is freed
+abbrev pub frees : Server → BatchId → Part → List Entry
+frees me batch part = if is_due part then enters.Freed me batch ∷ [] else []
+
+abbrev pub entries : Act → ServerModel → List Entry
+entries (Accepts unit) s = enters.Accepted s.me unit.id ∷ []
+entries (Refuses unit) s = enters.Refused s.me unit.id (charge_of s.kept.queue) ∷ []
+entries (Ends_put unit end) s = enters.Over unit.id.rank unit.id.number end ∷ []
+entries (Grants wish unit) s = enters.Granted s.me wish.rank wish.request unit.id ∷ []
+entries (Ends_reserve wish end) s = enters.Over wish.rank wish.request end ∷ []
+entries (Fetches rank request id unit) s = enters.Fetched s.me rank id ∷ []
+entries (Gives at wish rest unit) s = enters.Granted s.me wish.rank wish.request unit.id ∷ []
+entries (Tells at wish rest end) s = enters.Over wish.rank wish.request end ∷ []
+entries Finds s = enters.Exhausted ∷ []
+entries (Keeps rank request common) s = enters.Kept s.me (batch_of rank request) ∷ []
+entries (Refuses_part rank request common) s = enters.Refused s.me (unit_of rank request) (charge_of s.kept.queue) ∷ []
+entries (Ends_keep rank request common end) s = enters.Over rank request end ∷ []
+entries (Closes request batch accepted part) s = enters.Closed s.me batch ∷ frees s.me batch (closed accepted part)
+entries (Fetches_part rank request batch part) s = enters.CommonFetched s.me rank batch ∷ frees s.me batch (fetched part)
+entries _ s = []

@@ -1,0 +1,70 @@
+-- Which letters a server expects.
+use Rattle.std.specs.Prelude.{◌≡◌, ◌≢◌, ◌⊎◌, ◌<◌, ◌≤◌, ◌↔◌, true, false, length, All, Any, IsSome, IsTrue, None}
+use Rattle.adlb_unit.specs.Limits.{body_limit, stamp_limit}
+use Rattle.adlb_unit.specs.Links.{is_within}
+use Rattle.adlb_unit.specs.Targets.{Aims, home_of}
+use Rattle.adlb_unit.specs.declared.actors.Actor.{Actor}
+use Rattle.adlb_unit.specs.declared.actors.Actor.TheVariants as by
+use Rattle.adlb_unit.specs.declared.letters.Letter.{Letter}
+use Rattle.adlb_unit.specs.declared.messages.Message.{Message}
+use Rattle.adlb_unit.specs.declared.messages.Message.TheVariants as tells
+use Rattle.adlb_unit.specs.declared.names.Rank.{Rank}
+use Rattle.adlb_unit.specs.declared.units.Unit.{Unit}
+use Rattle.work_queue.specs.Queue.{HasNoPromise, HasNoUnit, HasPinned}
+use Rattle.batch_store.specs.Store.{CanClose, CanFetch, Keeps as PartKept, part_in}
+use Rattle.server_law.specs.Acts.{batch_of}
+use Rattle.server_law.specs.State.{ServerModel, Waiting, is_finished}
+use Rattle.server_law.specs.Step.{serve}
+
+-- the unit is the sender's; no unit and no promise of its id is here; its body is no longer than it may be; a rank that its target
+-- names is one of the run
+pub record IsNew (s : ServerModel) (from : Rank) (unit : Unit) : Type 0 where
+  pub sender : unit.id.rank ≡ from
+  pub new : HasNoUnit unit.id s.kept.queue.units
+  pub unpromised : HasNoPromise unit.id s.kept.queue.promises
+  pub size : length unit.body ≤ body_limit
+  pub target : Aims unit.target s.config.ranks
+
+-- the server is the rank's home
+abbrev pub IsHome : ServerModel → Rank → Type 0
+IsHome s rank = home_of s.config.servers rank ≡ s.me.0
+
+-- the rank runs, as far as the server knows: it does not wait here, and its Finish letter was not handled
+pub record Runs (s : ServerModel) (rank : Rank) : Type 0 where
+  pub waits_not : All (λ (e : Waiting). e.wish.rank ≢ rank) s.kept.parked.waiting
+  pub finished_not : is_finished s.kept rank ≡ false
+
+-- a rank's letter that says this is awaited, one row a letter; no other letter is
+abbrev pub IsAwaited : ServerModel → Rank → Message → Type 0
+IsAwaited s from (tells.Put unit) = IsNew s from unit
+-- the sender's home is here, and it runs
+IsAwaited s from (tells.Reserve request types) = IsHome s from × Runs s from
+-- the unit is here and pinned to the sender
+IsAwaited s from (tells.Fetch request id) = HasPinned id from s.kept.queue.units
+-- nothing is kept of the batch, and its common part is no longer than it may be
+IsAwaited s from (tells.KeepCommon request common) = (part_in s.kept.parts (batch_of from request) ≡ None) × (length common ≤ body_limit)
+-- the batch is the sender's; its part is here, open, and was fetched at most so often
+IsAwaited s from (tells.CloseBatch request batch accepted) =
+    (batch.rank ≡ from) × PartKept s.kept.parts batch s.kept.queue.common (CanClose accepted)
+-- the part is here, and, if closed, was fetched fewer times than units of the batch were accepted
+IsAwaited s from (tells.FetchCommon request batch) = PartKept s.kept.parts batch s.kept.queue.common CanFetch
+-- the sender runs
+IsAwaited s from tells.Finish = Runs s from
+IsAwaited s from _ = ⊥
+
+-- beside each row: the sender is a rank of the run, and the stamp one that is given
+abbrev pub IsExpected : ServerModel → Actor → Letter → Type 0
+IsExpected s (by.Rank from) letter = (from.0 < s.config.ranks) × (letter.stamp < stamp_limit) × IsAwaited s from letter.message
+IsExpected s (by.Server from) letter = ⊥
+
+-- the law: exactly the letters that are expected have a step
+abbrev pub ExpectedHaveSteps : Type 0
+ExpectedHaveSteps = (s : ServerModel) (from : Actor) (letter : Letter) → IsSome (serve s from letter) ↔ IsExpected s from letter
+
+-- a rank that waits here, for which no server that was asked is unanswered
+abbrev pub WaitsIdle : ServerModel → Rank → Type 0
+WaitsIdle s rank = Any (λ (e : Waiting). (e.wish.rank ≡ rank) × (e.asked ≡ None)) s.kept.parked.waiting
+
+-- the server is quiet: each rank of the run whose home this is waits here and is idle, or has finished
+abbrev pub IsQuiet : ServerModel → Type 0
+IsQuiet s = (rank : Rank) → rank.0 < s.config.ranks → IsHome s rank → WaitsIdle s rank ⊎ (is_finished s.kept rank ≡ true)

@@ -1,0 +1,51 @@
+-- The rule of Put.
+use Rattle.std.specs.Prelude.{◌==◌, nat_le, Bool, true, false, ◌&&◌, not, List, [], ◌∷◌, length, find, Option, None, Some, if◌then◌else◌}
+use Rattle.adlb_unit.specs.Limits.{body_limit}
+use Rattle.adlb_unit.specs.Targets.{in_ranks}
+use Rattle.adlb_unit.specs.declared.names.Rank.{Rank}
+use Rattle.adlb_unit.specs.declared.names.UnitId.{UnitId}
+use Rattle.adlb_unit.specs.declared.notes.End.TheVariants as ends_by
+use Rattle.adlb_unit.specs.declared.units.Unit.{Unit as Work}
+use Rattle.work_queue.specs.Queue.{Queue}
+use Rattle.work_queue.specs.declared.placing.Placed.{Placed}
+use Rattle.server_law.specs.Acts.{Act, Accepts, Ends_put, Gives, Refuses}
+use Rattle.server_law.specs.Finding.{Place, exceeds, has_promise, has_unit, is_free_as, taker}
+use Rattle.server_law.specs.Plan.{Decider, Plan, plan}
+use Rattle.server_law.specs.State.{Kept, ServerModel}
+
+-- the unit is the sender's; no unit and no promise of its id is here; its body is no longer than it may be; a rank that its target
+-- names is one of the run
+abbrev pub expects_put : ServerModel → Rank → Work → Bool
+expects_put s from unit =
+    (unit.id.rank.0 == from.0) && not (has_unit unit.id s.kept.queue.units) && not (has_promise unit.id s.kept.queue.promises)
+    && nat_le (length unit.body) body_limit && in_ranks s.config unit.target
+
+-- there is no room for the unit
+abbrev pub is_over : Queue → Work → Bool
+is_over queue unit = exceeds queue (length unit.body)
+
+-- where the problem is done; where there is no room; else
+abbrev pub put : Bool → Bool → Work → Act
+put true over unit = Ends_put unit ends_by.NoMoreWork
+put false true unit = Refuses unit
+put false false unit = Accepts unit
+
+-- as the server is
+abbrev pub put_now : Kept → Work → Act
+put_now k unit = put k.done (is_over k.queue unit) unit
+
+-- A unit that has become free is settled: the rank that it goes to gets it.
+
+abbrev pub gives : Work → Option Place → List Act
+gives unit None = []
+gives unit (Some p) = Gives p.at p.here.wish p.here.to_ask unit ∷ []
+
+abbrev pub settles_as : Kept → Option Placed → List Act
+settles_as k None = []
+settles_as k (Some p) = gives p.unit (taker p.unit k.parked.waiting)
+
+abbrev pub settles : UnitId → Decider
+settles id s = settles_as s.kept (find (is_free_as id) s.kept.queue.units)
+
+abbrev pub put_rule : ServerModel → Rank → Work → Option Plan
+put_rule s from unit = if expects_put s from unit then plan (put_now s.kept unit) (settles unit.id ∷ []) else None

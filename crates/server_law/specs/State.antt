@@ -1,0 +1,99 @@
+-- What a server keeps: what its acts change, and what they do not.
+use Rattle.std.specs.Prelude.{ℕ, ◌+◌, ◌==◌, Bool, false, ◌&&◌, not, List, [], Option, None, Some, replicate, slice_index_or}
+use Rattle.std.specs.List.{list_any}
+use Rattle.adlb_unit.specs.Targets.{home_of}
+use Rattle.adlb_unit.specs.declared.configs.Config.{Config}
+use Rattle.adlb_unit.specs.declared.names.Rank.{Rank}
+use Rattle.adlb_unit.specs.declared.names.Server.{Server}
+use Rattle.adlb_unit.specs.declared.names.WorkType.{WorkType}
+use Rattle.adlb_unit.specs.declared.notes.Trouble.{Trouble}
+use Rattle.work_queue.specs.Queue.{Queue}
+use Rattle.batch_store.specs.Store.{Store}
+
+-- what a rank wants: in its call of this number a unit of these types
+pub record Wish : Type 0 where
+  pub rank : Rank
+  pub request : ℕ
+  pub types : Option (List WorkType)
+
+-- a rank that waits at its home: the server that was asked for it and has not answered, and those that are still to be asked
+pub record Waiting : Type 0 where
+  pub wish : Wish
+  pub asked : Option Server
+  pub to_ask : List Server
+
+-- a rank that waits, for which no server that was asked is unanswered
+abbrev pub idle : Wish → List Server → Waiting
+idle wish to_ask = record { wish = wish; asked = None; to_ask = to_ask }
+
+-- the ranks that wait here, in the order in which they came; and of ranks that wait elsewhere, what was not here for them
+pub record Parked : Type 0 where
+  pub waiting : List Waiting
+  pub wishes : List Wish
+
+-- what acts change
+pub record Kept : Type 0 where
+  pub queue : Queue
+  -- the common parts of batches
+  pub parts : Store
+  pub parked : Parked
+  -- of each rank, by its number, whether its Finish letter was handled
+  pub finished : List Bool
+  -- the problem was called done; all work was found used up; no rank waits or runs any more
+  pub done : Bool
+  pub exhausted : Bool
+  pub shut : Bool
+
+-- what they do not: who the server is, and what is counted of events and letters
+pub record ServerModel : Type 0 where
+  pub config : Config
+  pub me : Server
+  -- the stamp of the last event
+  pub clock : ℕ
+  -- how many letters were handled that may change what is free or who waits
+  pub activity : ℕ
+  -- how many letters went to each actor, the ranks before the servers
+  pub sent : List ℕ
+  -- what broke the server, if anything did
+  pub trouble : Option Trouble
+  pub kept : Kept
+
+abbrev pub start : Config → Server → ServerModel
+start config me = record {
+  config = config;
+  me = me;
+  clock = 0;
+  activity = 0;
+  sent = replicate (config.ranks + config.servers) 0;
+  trouble = None;
+  kept = record {
+    queue = record { units = []; promises = []; common = 0; arrivals = 0; limit = config.limit };
+    parts = [];
+    parked = record { waiting = []; wishes = [] };
+    finished = replicate config.ranks false;
+    done = false;
+    exhausted = false;
+    shut = false;
+  };
+}
+
+-- What is read off it.
+
+-- the server is the rank's home
+abbrev pub is_home : Config → Server → Rank → Bool
+is_home config me rank = home_of config.servers rank == me.0
+
+-- it is this rank that waits
+abbrev pub is_of : Rank → Waiting → Bool
+is_of rank e = e.wish.rank.0 == rank.0
+
+abbrev pub is_waiting : Kept → Rank → Bool
+is_waiting k rank = list_any (is_of rank) k.parked.waiting
+
+-- the rank's Finish letter was handled
+abbrev pub is_finished : Kept → Rank → Bool
+is_finished k rank = slice_index_or k.finished rank.0 false
+
+-- the rank neither waits nor has finished, as far as the server knows
+abbrev pub runs : Kept → Rank → Bool
+runs k rank = not (is_waiting k rank) && not (is_finished k rank)

@@ -1,0 +1,55 @@
+-- One step of a server: the rule of its letter, and what follows each event.
+use Rattle.std.specs.Prelude.{ℕ, ◌+◌, nat_lt, Bool, true, ◌&&◌, List, Option, None, slice_set, if◌then◌else◌}
+use Rattle.std.specs.Option.{option_map}
+use Rattle.adlb_unit.specs.Limits.{stamp_limit}
+use Rattle.adlb_unit.specs.Links.{is_within, stamp_after}
+use Rattle.adlb_unit.specs.declared.actors.Actor.{Actor}
+use Rattle.adlb_unit.specs.declared.actors.Actor.TheVariants as by
+use Rattle.adlb_unit.specs.declared.letters.Letter.{Letter}
+use Rattle.adlb_unit.specs.declared.messages.Message.{Message}
+use Rattle.adlb_unit.specs.declared.messages.Message.TheVariants as tells
+use Rattle.server_law.specs.Acts.{Act}
+use Rattle.server_law.specs.Batches.{close_rule, keep_rule, share_rule}
+use Rattle.server_law.specs.Carried.{Served, carried}
+use Rattle.server_law.specs.Endings.{ends_event}
+use Rattle.server_law.specs.Fetches.{fetch_rule}
+use Rattle.server_law.specs.Finishes.{finish_rule}
+use Rattle.server_law.specs.Plan.{Plan, in_order}
+use Rattle.server_law.specs.Puts.{put_rule}
+use Rattle.server_law.specs.Reserves.{reserve_rule}
+use Rattle.server_law.specs.State.{ServerModel}
+
+-- the rule of each letter; none where the letter is not expected
+abbrev pub rule : ServerModel → Actor → Message → Option Plan
+rule s (by.Rank from) (tells.Put unit) = put_rule s from unit
+rule s (by.Rank from) (tells.Reserve request types) = reserve_rule s (record { rank = from; request = request; types = types })
+rule s (by.Rank from) (tells.Fetch request id) = fetch_rule s from request id
+rule s (by.Rank from) (tells.KeepCommon request common) = keep_rule s from request common
+rule s (by.Rank from) (tells.CloseBatch request batch accepted) = close_rule s from request batch accepted
+rule s (by.Rank from) (tells.FetchCommon request batch) = share_rule s from request batch
+rule s (by.Rank from) tells.Finish = finish_rule s from
+rule s from _ = None
+
+-- what is done with what the actor says, act by act
+abbrev pub acts : ServerModel → Actor → Message → Option (List Act)
+acts s from message = option_map (in_order ends_event s) (rule s from message)
+
+-- the stamp of the event that handles the letter
+abbrev pub next_stamp : ServerModel → Letter → ℕ
+next_stamp s letter = stamp_after s.clock letter
+
+-- the event has its stamp
+abbrev pub ticked : ServerModel → ℕ → ServerModel
+ticked s stamp = record s { clock = stamp; activity = s.activity + 1 }
+
+-- nothing where the letter is not expected: from an actor of this run, with a stamp that was given, as its rule says
+abbrev pub serve : ServerModel → Actor → Letter → Option Served
+serve s from letter =
+    if is_within s.config from && nat_lt letter.stamp stamp_limit
+    then option_map (λ list. carried list (ticked s (next_stamp s letter))) (acts (ticked s (next_stamp s letter)) from letter.message)
+    else None
+
+-- a Finish letter counts as handled where its step failed, too
+abbrev pub heard_finish : List Bool → Actor → Message → List Bool
+heard_finish finished (by.Rank from) tells.Finish = slice_set finished from.0 true
+heard_finish finished from message = finished
