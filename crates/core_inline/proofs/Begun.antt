@@ -40,14 +40,13 @@ begun_is config ledger said begun t =
     ∙ first_is (call_of t.rank.status) t.more begun t.open_call
 
 -- what is told, in other words
-abbrev pub retold : (config config' : Config) (ledger : List Entry) (said said' : List Said) (begun begun' : Option Call)
-    → IsTold config ledger said begun
-    → config ≡ config' → said ≡ said' → begun' ≡ begun → IsTold config' ledger said' begun'
-retold config config' ledger said said' begun begun' t config_is said_is begun_is = record {
+abbrev pub retold : (config : Config) (ledger : List Entry) (said said' : List Said) (begun begun' : Option Call)
+    → IsTold config ledger said begun → said ≡ said' → begun' ≡ begun → IsTold config ledger said' begun'
+retold config ledger said said' begun begun' t said_is begun_is = record {
   last = t.last;
-  legal = subst (λ (g : Config). IsRun (start g) ledger t.last) config_is t.legal;
+  legal = t.legal;
   more = t.more;
-  calls_are = ap (λ (g : Config). calls g ledger zeroth) (sym config_is) ∙ t.calls_are ∙ ap (λ (l : List Said). l ++ t.more) said_is;
+  calls_are = t.calls_are ∙ ap (λ (l : List Said). l ++ t.more) said_is;
   rank = t.rank;
   there = t.there;
   open_call = subst (λ (o : Option Call). IsOpen (call_of t.rank.status) t.more o) (sym begun_is) t.open_call;

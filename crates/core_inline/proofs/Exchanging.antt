@@ -1,401 +1,464 @@
 -- The events of a call, in a world of one rank and one server.
-use Rattle.std.proofs.Common.{◌≡◌, ◌⊎◌, inl, inr, ℕ, ◌+◌, ◌*◌, ◌<◌, ◌≤◌, Bool, true, false, ◌&&◌, IsSome, List, [], ◌∷◌, ◌++◌, length}
-use Rattle.std.proofs.Common.{Option, None, Some, refl, sym, ap, ◌∙◌, subst, arith, append-nil}
+use Rattle.std.proofs.Common.{◌≡◌, ◌⊎◌, inl, inr, ℕ, ◌+◌, ◌*◌, ◌<◌, ◌≤◌, Bool, true, false, not, List, [], ◌∷◌, length, Option, None, Some, refl, sym}
+use Rattle.std.proofs.Common.{ap, ◌∙◌, subst, arith}
 use Rattle.std.specs.Prelude.{option_and_then}
-use Rattle.std.specs.List.{list_all}
 use Rattle.std.proofs.lemmas.List.{length_push}
 use Rattle.adlb_unit.specs.Limits.{stamp_limit}
 use Rattle.adlb_unit.specs.declared.configs.Config.{Config}
 use Rattle.adlb_unit.specs.declared.letters.Letter.{Letter}
-use Rattle.adlb_unit.specs.declared.notes.Trouble.{Trouble}
 use Rattle.bag_ledger.specs.declared.entries.Answer.{Answer}
+use Rattle.bag_ledger.specs.declared.entries.Answer.TheVariants as answers
 use Rattle.bag_ledger.specs.declared.entries.Call.{Call}
+use Rattle.bag_ledger.specs.declared.entries.Call.TheVariants as calls_to
 use Rattle.bag_ledger.specs.declared.entries.Said.{Said}
+use Rattle.bag_ledger.proofs.Tests.{some_is}
 use Rattle.rank_client.specs.declared.pendings.Pending.TheVariants as waits_for
-use Rattle.rank_client.specs.Calls.{end_told, is_finish}
+use Rattle.rank_client.specs.Calls.{is_finish}
+use Rattle.rank_client.specs.Rules.{is_idle}
 use Rattle.rank_client.specs.State.{ClientModel}
-use Rattle.rank_client.specs.Step.{Made, call_stamp, hear, letter_stamp}
-use Rattle.rank_client.proofs.Entries.{some_is}
-use Rattle.server_core.specs.State.{ServerModel}
-use Rattle.server_core.specs.Step.{Served, next_stamp, serve}
-use Rattle.core_law.specs.Letters.{is_request}
-use Rattle.core_law.specs.Own.{IsClient, IsPool}
+use Rattle.rank_client.specs.Step.{Made, call_stamp, letter_stamp}
+use Rattle.rank_client.specs.declared.pendings.Pending.{Pending}
+use Rattle.server_law.specs.State.{ServerModel, is_finished}
+use Rattle.core_law.specs.Letters.{one}
 use Rattle.core_run.specs.declared.events.Event.TheVariants as occurs
-use Rattle.core_run.specs.Runs.{NoneIsStuck}
-use Rattle.core_run.specs.World.{World, client_of, happens, has_ended}
-use Rattle.core_world.specs.Applied.{IsEnabled, Stops, event_answer, event_stamp}
+use Rattle.core_run.specs.World.{World, after_rank, client_of, happens, pool_of}
+use Rattle.core_world.specs.Applied.{event_answer, event_stamp}
 use Rattle.core_world.specs.Seen.{Seen}
 use Rattle.core_inline.specs.Inline.{zeroth}
-use Rattle.core_inline.specs.inside.Answers.{CanCall, heeds_end}
-use Rattle.core_inline.specs.inside.Laws.{AreLaws}
-use Rattle.core_inline.specs.inside.Pairs.{IsAnswered, IsFailed, IsIdle, IsOpen, IsPair, IsReached, IsReady, IsTrue, Remembers}
-use Rattle.core_inline.specs.inside.Pairs.{first_server, pair, rank_in, server_in}
-use Rattle.core_inline.proofs.Clients.{IsBegun, IsEnded, IsFitting, IsSent, call_begins, call_ends, pending_call}
-use Rattle.core_inline.proofs.Failing.{stopped}
-use Rattle.core_inline.proofs.Hosts.{IsReplied, request_replied}
-use Rattle.core_inline.proofs.Opened.{IsToldOf}
-use Rattle.core_inline.proofs.Pairing.{IsNow, asked_stamp, begins_asking, begins_silent, by_rank, handles_replying, hears, is_heard}
-use Rattle.core_inline.proofs.Pairing.{is_served, made_now, reached_next, to_rank, to_server, told_answer, told_stamp}
-use Rattle.core_inline.proofs.Told.{none_is_stuck, own_rank, own_server, told_answered, told_idle, told_pending, true_idle}
+use Rattle.core_inline.specs.inside.Answers.{CanCall, answers_call}
+use Rattle.core_inline.specs.inside.Pairs.{IsAnswered, IsFinished, IsIdle, IsLone, IsReady, IsTrue, first_server, rank_in, server_in}
+use Rattle.core_inline.specs.inside.Pairs.{with_call, is_ended}
+use Rattle.core_inline.proofs.Clients.{GoesBy, IsBegun, IsEnded, IsPending, call_begins, call_ends, call_goes, is_common, pending_call}
+use Rattle.core_inline.proofs.Failing.{IsStage}
+use Rattle.core_inline.proofs.Hosts.{finish_ends, nobody_waits, serve_clock}
+use Rattle.core_inline.proofs.Reached.{IsCalled, IsHeard, IsServed, asked, facts, lone_next, one_of, rank_own, server_own}
+use Rattle.core_inline.proofs.Reached.{to_rank, to_server, told}
+use Rattle.core_inline.proofs.Told.{Behind, Before, IsAt, Within, true_idle}
 
-pub is_some_of : {X : Type 0} (o : Option X) (x : X) → o ≡ Some x → IsSome o
-is_some_of o x is = rw is refl
+none_of : {X : Type 0} (xs : List X) → length xs ≡ 0 → xs ≡ []
+none_of [] none = refl
+none_of (x ∷ xs) none = absurd (omega (arith, none))
 
--- what the ledger tells after a call
-pub true_after : AreLaws → (w : Seen) → IsReached w.world → w.world.config.ranks ≡ 1 → w.world.config.servers ≡ 1
-    → (rank_in w).pending ≡ waits_for.Nothing → length (rank_in w).transcript < stamp_limit → IsTrue w
-true_after laws w reached one_rank one_server idle short =
-    let t = true_idle laws w.world reached one_rank one_server idle in record { told = t.0; left = t.1; short = short }
-
--- a server that has not handled the rank's Finish has not ended
-pub open_server : (s : ServerModel) → s.finished ≡ false ∷ [] → has_ended s ≡ false
-open_server s unhandled = by_test s.shut
+busy : (said : List Said) (call : Call) (c : ClientModel) → IsPending said call c → one (not (is_idle c.pending)) ≡ 1
+busy said call c p = by_pending c.pending p.pending
   where
-    by_test : (t : Bool) → (t && list_all (λ f. f) s.finished) ≡ false
-    by_test true = ap (list_all (λ f. f)) unhandled
-    by_test false = refl
+    by_pending : (q : Pending) → pending_call q ≡ Some call → one (not (is_idle q)) ≡ 1
+    by_pending waits_for.Nothing is = absurd (cc)
+    by_pending _ is = refl
 
--- The call is pending.
+-- What the ledger tells after a call.
+pub true_after : (w : Seen) → IsLone w.world → (rank_in w).pending ≡ waits_for.Nothing → length (rank_in w).transcript < stamp_limit → IsTrue w
+true_after w l idle short = let t = true_idle w.world l idle in record { told = t.0; left = t.1; short = short }
 
-pub record IsWaiting (said : List Said) (call : Call) (c : ClientModel) : Type 0 where
-  pub same : c.transcript ≡ said
-  pub rank : Remembers c
-  pub pending : pending_call c.pending ≡ Some call
-  pub fits : IsFitting c.transcript c.pending
-  pub untold : heeds_end call ≡ true → end_told c.transcript ≡ None
-  pub counted : length said < c.clock
-  pub few : c.clock ≤ 3 * length said + 1
+-- Finish is over.
+pub record IsOver (said : List Said) (call : Call) (c : ClientModel) : Type 0 where
+  pub answer : Answer
+  pub idle : c.pending ≡ waits_for.Nothing
+  pub finished : c.finished ≡ true
+  pub grown : c.transcript ≡ with_call said call answer
+  pub kind : answers_call call answer ≡ true
+  pub last : is_finish call ≡ true
 
--- its letter is under way to the server
-pub record IsAsking (said : List Said) (call : Call) (letter : Letter) (c : ClientModel) (s : ServerModel) : Type 0 where
-  pub waits : IsWaiting said call c
-  pub server : IsOpen s
-  pub request : is_request letter.message ≡ true
-  pub early : letter.stamp < stamp_limit
-  pub stamp : letter.stamp ≤ c.clock
-  pub behind : s.clock ≤ c.clock
+abbrev pub GoesOn : List Said → Call → ClientModel → Type 0
+GoesOn said call c = IsPending said call c ⊎ IsOver said call c
 
-pub record IsAsked (config : Config) (said : List Said) (call : Call) (w : Seen) : Type 0 where
-  pub letter : Letter
-  pub two : IsPair w (letter ∷ []) []
-  pub same : w.world.config ≡ config
-  pub asks : IsAsking said call letter (rank_in w) (server_in w)
+-- so there is one letter
+owed : (said : List Said) (call : Call) (c : ClientModel) → GoesOn said call c → one (not (is_idle c.pending)) + one c.finished ≡ 1
+owed said call c (inl p) = omega (arith, busy said call c p, ap one p.going)
+owed said call c (inr o) = omega (arith, ap one o.finished, ap (λ p. one (not (is_idle p))) o.idle)
 
--- the answer is under way to the rank
-pub record IsComing (said : List Said) (call : Call) (letter : Letter) (c : ClientModel) (s : ServerModel) : Type 0 where
-  pub waits : IsWaiting said call c
-  pub server : IsOpen s
-  pub early : letter.stamp < stamp_limit
-  pub stamp : letter.stamp ≤ c.clock + 1
-  pub behind : s.clock ≤ c.clock + 1
+at_of : (said : List Said) (call : Call) (c : ClientModel) → GoesOn said call c → IsAt said call c
+at_of said call c (inl p) = Within p
+at_of said call c (inr o) = Behind o.answer o.idle o.grown
 
-pub record IsBack (config : Config) (said : List Said) (call : Call) (w : Seen) : Type 0 where
-  pub letter : Letter
-  pub two : IsPair w [] (letter ∷ [])
-  pub same : w.world.config ≡ config
-  pub comes : IsComing said call letter (rank_in w) (server_in w)
+pending_other : (p : Pending) (call : Call) → pending_call p ≡ Some call → is_finish call ≡ false
+pending_other waits_for.Nothing call is = absurd (cc)
+pending_other (waits_for.Put unit first tried) call is = ap is_finish (sym (some_is is))
+pending_other (waits_for.Reserve request types) call is = ap is_finish (sym (some_is is))
+pending_other (waits_for.Fetch request note) call is = ap is_finish (sym (some_is is))
+pending_other (waits_for.Common request note common own) call is = ap is_finish (sym (some_is is))
+pending_other (waits_for.Keep request common first tried) call is = ap is_finish (sym (some_is is))
+pending_other (waits_for.Close request batch) call is = ap is_finish (sym (some_is is))
 
--- the ledger tells of a call that is pending
-told_waiting : AreLaws → (w : World) → IsReached w → w.config.ranks ≡ 1 → w.config.servers ≡ 1
-    → (config : Config) (said : List Said) (call : Call) → w.config ≡ config
-    → IsWaiting said call (client_of w zeroth) → IsToldOf config said call w.ledger
-told_waiting laws w reached one_rank one_server config said call same waits =
-    let told = told_pending laws w reached one_rank one_server call waits.rank.going waits.pending in
-    subst (λ (g : Config). IsToldOf g said call w.ledger) same
-    (subst (λ (l : List Said). IsToldOf w.config l call w.ledger) waits.same told)
+finish_is : (call : Call) → is_finish call ≡ true → call ≡ calls_to.Finish
+finish_is calls_to.Finish is = refl
+finish_is _ is = absurd (cc)
 
--- a step by which the call is answered leads to this world
-answered_now : AreLaws
-    → (now : Seen) (said : List Said) (call : Call) (stamp : ℕ) (answer : Answer) (c : ClientModel) (x : Made) (s : ServerModel)
-    → c.transcript ≡ said → IsNow now x.state s [] []
-    → (over : IsEnded c stamp call x) → IsIdle x.state s → stamp < stamp_limit → over.answer ≡ answer → IsAnswered said call answer now
-answered_now laws now said call stamp answer c x s same n over idle early is =
-    let long : length (rank_in now).transcript < stamp_limit =
-    omega (arith, ap (λ (k : ClientModel). length k.transcript) n.rank_is, idle.counted, over.clock, early) in
-    let rests : IsIdle (rank_in now) (server_in now) = rw (n.rank_is, n.server_is) idle in
-    let at : IsAnswered c.transcript call over.answer now = record {
-      ready = record { two = n.two; rests = rests };
-      true_now = true_after laws now n.two.reached n.two.one_rank n.two.one_server rests.idle long;
-      grown = ap (λ (k : ClientModel). k.transcript) n.rank_is ∙ over.grown;
-      kind = over.kind;
-      fits = over.fits;
-      again = over.again;
+fine_is : (a : Answer) → answers_call calls_to.Finish a ≡ true → a ≡ answers.Fine
+fine_is answers.Fine is = refl
+fine_is _ is = absurd (cc)
+
+-- how many events of the call came before its letter went off: that by which it began, and, if the common bytes of a unit are asked
+-- for, the two by which its own have come
+abbrev pub past : Bool → ℕ
+past true = 0
+past false = 2
+
+-- The letter of the call is the only one, and is under way to the server: the call is pending, or it is Finish and is over. It is the
+-- first letter of the call, or asks for the common bytes of a unit.
+pub record IsAsked (first : Bool) (said : List Said) (call : Call) (w : World) : Type 0 where
+  pub lone : IsLone w
+  pub goes : GoesOn said call (client_of w zeroth)
+  pub nobody : (pool_of w first_server).kept.parked.waiting ≡ []
+  pub single : length (asked w) ≡ 1
+  pub early : (client_of w zeroth).clock < stamp_limit
+  pub counted : length said < (client_of w zeroth).clock
+  pub few : (client_of w zeroth).clock ≤ 5 * length said + past first + 1
+  pub behind : (pool_of w first_server).clock ≤ 5 * length said + past first
+  pub common : first ≡ false → is_common (client_of w zeroth).pending ≡ true
+
+-- The answer is under way to the rank.
+pub record IsBack (first : Bool) (said : List Said) (call : Call) (w : World) : Type 0 where
+  pub lone : IsLone w
+  pub waits : IsPending said call (client_of w zeroth)
+  pub nobody : (pool_of w first_server).kept.parked.waiting ≡ []
+  pub single : length (told w) ≡ 1
+  pub early : (pool_of w first_server).clock < stamp_limit
+  pub counted : length said < (client_of w zeroth).clock
+  pub few : (client_of w zeroth).clock ≤ 5 * length said + past first + 1
+  pub behind : (pool_of w first_server).clock ≤ 5 * length said + past first + 2
+  pub common : first ≡ false → is_common (client_of w zeroth).pending ≡ true
+
+past_few : (first : Bool) → past first ≤ 2
+past_few true = omega arith
+past_few false = omega arith
+
+-- the step by which the call is answered led to this world
+answered_now : (now : Seen) (said : List Said) (call : Call) (stamp : ℕ) (x : Made) → IsLone now.world → now.trouble ≡ None
+    → is_finish call ≡ false → rank_in now ≡ x.state → (server_in now).kept.parked.waiting ≡ [] → (over : IsEnded said stamp call x)
+    → length said < stamp → stamp ≤ 5 * length said + 5 → (server_in now).clock ≤ 5 * length said + 5 → stamp < stamp_limit
+    → IsAnswered said call over.answer now
+answered_now now said call stamp x lone whole other rank nobody over counted few behind early =
+    let long = ap length over.grown ∙ length_push said (record { call = call; answer = over.answer }) in
+    let idle : IsIdle x.state (server_in now) = record {
+      idle = over.idle;
+      going = over.finished ∙ other;
+      rank = over.rank;
+      nobody = nobody;
+      counted = omega (arith, long, over.clock, counted);
+      few = omega (arith, long, over.clock, few);
+      behind = omega (arith, long, behind);
     } in
-    subst (λ (l : List Said). IsAnswered l call answer now) same (subst (λ (a : Answer). IsAnswered c.transcript call a now) is at)
+    let short : length (rank_in now).transcript < stamp_limit =
+    omega (arith, ap (λ (k : ClientModel). length k.transcript) rank, long, counted, early) in
+    record {
+      ready = record { whole = whole; lone = lone; rests = subst (λ k. IsIdle k (server_in now)) (sym rank) idle };
+      true_now = true_after now lone (ap (λ (k : ClientModel). k.pending) rank ∙ over.idle) short;
+      grown = ap (λ (k : ClientModel). k.transcript) rank ∙ over.grown;
+      fits = over.fits;
+    }
 
 -- The rank begins a call.
 
-module _ (laws : AreLaws) (w : Seen) (i : IsReady w) (call : Call) (going : is_finish call ≡ false)
-    (can : CanCall (rank_in w).transcript call) where
+module _ (w : Seen) (i : IsReady w) (call : Call) (can : CanCall (rank_in w).transcript call) where
   abbrev said : List Said
   said = (rank_in w).transcript
 
-  own : IsClient w.world.config zeroth (rank_in w)
-  own = own_rank laws w.world i.two.reached i.two.one_rank i.two.one_server
-
   b : IsBegun (rank_in w) call
   b =
-      call_begins (rank_in w) i.rests.rank i.rests.idle (ap (λ (g : Config). g.ranks) own.config ∙ i.two.one_rank)
-      (ap (λ (g : Config). g.servers) own.config ∙ i.two.one_server) own.notes call going can
+      let own = rank_own w.world i.lone in
+      call_begins (rank_in w) i.rests.rank i.rests.idle i.rests.going (ap (λ (g : Config). g.ranks) own.config ∙ i.lone.one_rank)
+      (ap (λ (g : Config). g.servers) own.config ∙ i.lone.one_server) call can
 
-  -- the world after it, with the letter that is under way then
-  abbrev next : List Letter → World
-  next asked = pair w.world.config b.x.state (server_in w) asked [] (w.world.ledger ++ b.x.entries)
+  abbrev next : World
+  next = after_rank w.world zeroth w.world.links b.x
 
-  abbrev Comes : List Letter → Type 0
-  Comes asked = happens w.world (occurs.Call zeroth call) ≡ Some (next asked)
+  called : IsCalled w.world call b.x next
+  called = (facts w.world i.lone).begins call b.x b.begins
 
-  at_pair : happens w.world (occurs.Call zeroth call) ≡ happens (pair w.world.config (rank_in w) (server_in w) [] [] w.world.ledger)
-      (occurs.Call zeroth call)
-  at_pair = ap (λ (v : World). happens v (occurs.Call zeroth call)) i.two.is
-
-  over_comes : IsEnded (rank_in w) (call_stamp (rank_in w)) call b.x → Comes []
-  over_comes over =
-      at_pair ∙ begins_silent w.world.config (rank_in w) (server_in w) w.world.ledger i.two.one_rank i.two.one_server call b.x b.begins
-      over.silent
-
-  sent_comes : (sent : IsSent (rank_in w) call b.x) → Comes (sent.letter ∷ [])
-  sent_comes sent =
-      at_pair ∙ begins_asking w.world.config (rank_in w) (server_in w) w.world.ledger i.two.one_rank i.two.one_server call b.x sent.letter
-      b.begins sent.sends
-
-  pub begin_enabled : IsEnabled w.world (occurs.Call zeroth call)
-  begin_enabled = elim b.goes [ inl over ↦ is_some_of _ _ (over_comes over) | inr sent ↦ is_some_of _ _ (sent_comes sent) ]
-
-  -- what a call that is answered at once leaves, and one that waits for its answer
-  over_idle : IsEnded (rank_in w) (call_stamp (rank_in w)) call b.x → IsIdle b.x.state (server_in w)
-  over_idle over =
-      let long : length b.x.state.transcript ≡ length said + 1 =
-      ap length over.grown ∙ length_push said (record { call = call; answer = over.answer }) in
-      record {
-        idle = over.idle;
-        rank = over.rank;
-        server = i.rests.server;
-        behind = omega (arith, over.clock, i.rests.behind);
-        counted = omega (arith, over.clock, long, i.rests.counted);
-        few = omega (arith, over.clock, long, i.rests.few);
-      }
-
-  sent_waits : IsSent (rank_in w) call b.x → IsWaiting said call b.x.state
-  sent_waits sent = record {
-    same = sent.same;
-    rank = sent.rank;
-    pending = sent.pending;
-    fits = subst (λ (l : List Said). IsFitting l b.x.state.pending) (sym sent.same) sent.fits;
-    untold = λ heeds. ap end_told sent.same ∙ sent.untold heeds;
-    counted = omega (arith, sent.clock, i.rests.counted);
-    few = omega (arith, sent.clock, i.rests.few);
+  pub begin_stage : IsStage (rank_in w).transcript call w.world (occurs.Call zeroth call)
+  begin_stage = record {
+    lone = i.lone;
+    before = Before i.rests.idle refl;
+    next = next;
+    happened = called.happened;
+    after = subst (IsAt said call) (sym called.rank)
+        (elim b.goes [ inl over ↦ Behind over.answer over.idle over.grown | inr sent ↦ Within sent.0 ]);
+    few = omega (arith, i.rests.few);
   }
 
-  pub begin_stopped : (trouble : Trouble) (now : Seen) → Stops w.world (occurs.Call zeroth call) trouble now.world
-      → IsFailed w.world.config (rank_in w).transcript call trouble now
-  begin_stopped trouble now stops = by_way b.goes
-    where
-      few : event_stamp w.world (occurs.Call zeroth call) ≤ 3 * length said + 3
-      few = omega (arith, i.rests.few)
-
-      before : IsToldOf w.world.config said call w.world.ledger
-      before = told_idle laws w.world i.two.reached i.two.one_rank i.two.one_server call i.rests.idle
-
-      by_way : IsEnded (rank_in w) (call_stamp (rank_in w)) call b.x ⊎ IsSent (rank_in w) call b.x
-          → IsFailed w.world.config said call trouble now
-      by_way (inl over) =
-          let s : Said = record { call = call; answer = over.answer } in
-          let reached = reached_next w.world (next []) (occurs.Call zeroth call) i.two.reached (over_comes over) refl in
-          let after = told_answered laws (next []) reached i.two.one_rank i.two.one_server said s over.idle over.grown in
-          stopped w.world.config said (s ∷ []) call w.world (next []) (occurs.Call zeroth call) now (over_comes over) (inl refl)
-          over.grown few before after trouble stops
-      by_way (inr sent) =
-          let asked : List Letter = sent.letter ∷ [] in
-          let reached = reached_next w.world (next asked) (occurs.Call zeroth call) i.two.reached (sent_comes sent) refl in
-          let after =
-          told_waiting laws (next asked) reached i.two.one_rank i.two.one_server w.world.config said call refl (sent_waits sent) in
-          stopped w.world.config said [] call w.world (next asked) (occurs.Call zeroth call) now (sent_comes sent) (inl refl)
-          (sent.same ∙ sym (append-nil said)) few before after trouble stops
-
   module _ (now : Seen) (happened : happens w.world (occurs.Call zeroth call) ≡ Some now.world) (whole : now.trouble ≡ None)
-      (early : event_stamp w.world (occurs.Call zeroth call) < stamp_limit)
-      (answer : Option Answer) (told : answer ≡ event_answer w.world (occurs.Call zeroth call)) where
-    answer_is : answer ≡ b.x.answer
-    answer_is = told ∙ ap (option_and_then (λ (x : Made). x.answer)) b.begins
+      (early : event_stamp w.world (occurs.Call zeroth call) < stamp_limit) where
+    is : now.world ≡ next
+    is = some_is (sym happened ∙ called.happened)
 
-    -- the call is answered at once
-    pub begun_over : (a : Answer) → answer ≡ Some a → IsAnswered (rank_in w).transcript call a now
-    begun_over a is = by_way b.goes
-      where
-        by_way : IsEnded (rank_in w) (call_stamp (rank_in w)) call b.x ⊎ IsSent (rank_in w) call b.x
-            → IsAnswered (rank_in w).transcript call a now
-        by_way (inl over) =
-            let n =
-            made_now w now [] [] (occurs.Call zeroth call) b.x.state (server_in w) [] [] (w.world.ledger ++ b.x.entries) i.two happened
-            whole (over_comes over) in
-            answered_now laws now said call (call_stamp (rank_in w)) a (rank_in w) b.x (server_in w) refl n over (over_idle over) early
-            (some_is (sym over.answers_it ∙ sym answer_is ∙ is))
-        by_way (inr sent) = let none : None ≡ Some a = sym sent.unanswered ∙ sym answer_is ∙ is in absurd (cc)
+    rank_now : rank_in now ≡ b.x.state
+    rank_now = ap (λ v. client_of v zeroth) is ∙ called.rank
 
-    -- the call goes to the server
-    pub begun_sent : answer ≡ None → IsAsked w.world.config (rank_in w).transcript call now
-    begun_sent is = by_way b.goes
-      where
-        by_way : IsEnded (rank_in w) (call_stamp (rank_in w)) call b.x ⊎ IsSent (rank_in w) call b.x
-            → IsAsked w.world.config (rank_in w).transcript call now
-        by_way (inl over) = let none : None ≡ Some over.answer = sym is ∙ answer_is ∙ over.answers_it in absurd (cc)
-        by_way (inr sent) =
-            let n =
-            made_now w now [] [] (occurs.Call zeroth call) b.x.state (server_in w) (sent.letter ∷ []) [] (w.world.ledger ++ b.x.entries)
-            i.two happened whole (sent_comes sent) in
-            let asks : IsAsking said call sent.letter b.x.state (server_in w) = record {
-              waits = sent_waits sent;
-              server = i.rests.server;
-              request = sent.request;
-              early = omega (arith, early, sent.stamped);
-              stamp = omega (arith, sent.stamped, sent.clock);
-              behind = omega (arith, sent.clock, i.rests.behind);
-            } in
-            record {
-              letter = sent.letter;
-              two = n.two;
-              same = ap (λ (v : World). v.config) (some_is (sym happened ∙ sent_comes sent));
-              asks = rw (n.rank_is, n.server_is) asks;
-            }
+    server_now : server_in now ≡ server_in w
+    server_now = ap (λ v. pool_of v first_server) is ∙ called.pool
+
+    nobody_now : (server_in now).kept.parked.waiting ≡ []
+    nobody_now = ap (λ (s : ServerModel). s.kept.parked.waiting) server_now ∙ i.rests.nobody
+
+    lone_now : IsLone now.world
+    lone_now = lone_next w.world now.world (occurs.Call zeroth call) i.lone happened
+
+    asked_now : GoesOn said call b.x.state → IsAsked true said call now.world
+    asked_now goes =
+        let clock = ap (λ (k : ClientModel). k.clock) rank_now ∙ b.clock in
+        let f = facts w.world i.lone in
+        let none : length (told w.world) ≡ 0 =
+        omega (arith, f.letters i.rests.nobody, ap one i.rests.going, ap (λ p. one (not (is_idle p))) i.rests.idle) in
+        let goes_now = subst (GoesOn said call) (sym rank_now) goes in
+        record {
+          lone = lone_now;
+          goes = goes_now;
+          nobody = nobody_now;
+          single =
+              omega (
+                arith,
+                (facts now.world lone_now).letters nobody_now,
+                owed said call (rank_in now) goes_now,
+                none,
+                ap (λ v. length (told v)) is,
+                ap length called.told,
+                ap (λ (s : ServerModel). one (is_finished s.kept zeroth)) server_now,
+                ap one (f.unhandled i.rests.going),
+              );
+          early = omega (arith, clock, early);
+          counted = omega (arith, clock, i.rests.counted);
+          few = omega (arith, clock, i.rests.few);
+          behind = omega (arith, ap (λ (s : ServerModel). s.clock) server_now, i.rests.behind);
+          common = λ is. absurd (cc);
+        }
+
+    -- Finish goes to the server
+    pub begun_finish : is_finish call ≡ true → IsAsked true (rank_in w).transcript call now.world
+    begun_finish last = elim b.goes [
+      | inl over ↦ asked_now (inr (record {
+        answer = over.answer;
+        idle = over.idle;
+        finished = over.finished ∙ last;
+        grown = over.grown;
+        kind = over.fits.kind;
+        last = last;
+      }))
+      | inr sent ↦ let other = pending_other b.x.state.pending call sent.0.pending in absurd (cc (last, other))
+    ]
+
+    module _ (answer : Option Answer) (gave : answer ≡ event_answer w.world (occurs.Call zeroth call)) where
+      answer_is : answer ≡ b.x.answer
+      answer_is = gave ∙ ap (option_and_then (λ (x : Made). x.answer)) b.begins
+
+      -- the call is answered at once
+      pub begun_over : (a : Answer) → is_finish call ≡ false → answer ≡ Some a → IsAnswered (rank_in w).transcript call a now
+      begun_over a other given = elim b.goes [
+        | inl over ↦
+            subst (λ k. IsAnswered said call k now) (some_is (sym over.answers_it ∙ sym answer_is ∙ given))
+            (answered_now now said call (call_stamp (rank_in w)) b.x lone_now whole other rank_now nobody_now over
+            (omega (arith, i.rests.counted)) (omega (arith, i.rests.few))
+            (omega (arith, ap (λ (s : ServerModel). s.clock) server_now, i.rests.behind)) early)
+        | inr sent ↦ let none : None ≡ Some a = sym sent.1 ∙ sym answer_is ∙ given in absurd (cc)
+      ]
+
+      -- it goes to the server
+      pub begun_sent : answer ≡ None → IsAsked true (rank_in w).transcript call now.world
+      begun_sent given = elim b.goes [
+        | inl over ↦ let none : None ≡ Some over.answer = sym given ∙ answer_is ∙ over.answers_it in absurd (cc)
+        | inr sent ↦ asked_now (inl sent.0)
+      ]
 
 -- The server handles the letter.
 
-module _ (laws : AreLaws) (config : Config) (said : List Said) (call : Call) (w : Seen) (i : IsAsked config said call w) where
-  server_is : IsPool w.world.config first_server (server_in w)
-  server_is = own_server laws w.world i.two.reached i.two.one_rank i.two.one_server
+module _ (first : Bool) (said : List Said) (call : Call) (w : World) (i : IsAsked first said call w) where
+  asked_letter : (letter : Letter) × (asked w ≡ letter ∷ [])
+  asked_letter = one_of (asked w) i.single
 
-  x : (x : Served) × (serve (server_in w) by_rank i.letter ≡ Some x)
-  x =
-      is_served w.world.config (rank_in w) (server_in w) w.world.ledger i.two.one_rank i.two.one_server i.letter
-      (subst NoneIsStuck i.two.is (none_is_stuck laws w.world i.two.reached i.two.one_rank i.two.one_server)) i.asks.early
-      (open_server (server_in w) i.asks.server.unhandled)
+  asked_stamp : asked_letter.0.stamp ≤ (client_of w zeroth).clock
+  asked_stamp = (facts w i.lone).asked_before asked_letter.0 [] asked_letter.1
 
-  back : IsReplied (next_stamp (server_in w) i.letter) x.0
-  back =
-      request_replied (server_in w) i.letter x.0 (ap (λ (g : Config). g.servers) server_is.config ∙ i.two.one_server) i.asks.server
-      i.asks.request x.1
+  serves : (next : World) × (happens w to_server ≡ Some next)
+  serves = (facts w i.lone).asked_goes asked_letter.0 [] asked_letter.1 (omega (arith, asked_stamp, i.early))
 
-  abbrev replied_world : World
-  replied_world = pair w.world.config (rank_in w) x.0.state [] (back.reply ∷ []) (w.world.ledger ++ x.0.entries)
+  it_served : (next : World) → happens w to_server ≡ Some next → IsServed w asked_letter.0 next
+  it_served next happened = (facts w i.lone).serves asked_letter.0 next asked_letter.1 happened
 
-  served : happens w.world to_server ≡ Some replied_world
-  served = ap (λ (u : World). happens u to_server) i.two.is
-      ∙ handles_replying w.world.config (rank_in w) (server_in w) w.world.ledger i.two.one_rank i.two.one_server i.letter back.reply x.0
-      x.1 (open_server (server_in w) i.asks.server.unhandled) back.sends
+  one_rank : (pool_of w first_server).config.ranks ≡ 1
+  one_rank = ap (λ (g : Config). g.ranks) (server_own w i.lone).config ∙ i.lone.one_rank
 
-  stamp_is : event_stamp w.world to_server ≡ next_stamp (server_in w) i.letter
-  stamp_is =
-      ap (λ (u : World). event_stamp u to_server) i.two.is
-      ∙ asked_stamp w.world.config (rank_in w) (server_in w) w.world.ledger i.two.one_rank i.two.one_server i.letter []
+  one_server : (pool_of w first_server).config.servers ≡ 1
+  one_server = ap (λ (g : Config). g.servers) (server_own w i.lone).config ∙ i.lone.one_server
 
-  pub serve_enabled : IsEnabled w.world to_server
-  serve_enabled = is_some_of _ _ served
-
-  pub serve_stopped : (trouble : Trouble) (now : Seen) → Stops w.world to_server trouble now.world → IsFailed config said call trouble now
-  serve_stopped trouble now stops =
-      let waits = i.asks.waits in
-      let same = waits.same ∙ sym (append-nil said) in
-      let few : event_stamp w.world to_server ≤ 3 * length said + 3 = rw stamp_is (omega (arith, waits.few, i.asks.stamp, i.asks.behind)) in
-      let reached = reached_next w.world replied_world to_server i.two.reached served refl in
-      let before = told_waiting laws w.world i.two.reached i.two.one_rank i.two.one_server config said call i.same waits in
-      let after = told_waiting laws replied_world reached i.two.one_rank i.two.one_server config said call i.same waits in
-      stopped config said [] call w.world replied_world to_server now served (inl waits.same) same few before after trouble stops
-
-  pub replied : (now : Seen) → happens w.world to_server ≡ Some now.world → now.trouble ≡ None
-      → event_stamp w.world to_server < stamp_limit → IsBack config said call now
-  replied now happened whole early =
-      let n =
-      made_now w now (i.letter ∷ []) [] to_server (rank_in w) x.0.state [] (back.reply ∷ []) (w.world.ledger ++ x.0.entries) i.two
-      happened whole served in
-      let comes : IsComing said call back.reply (rank_in w) x.0.state = record {
-        waits = i.asks.waits;
-        server = back.server;
-        early = omega (arith, back.stamped, stamp_is, early);
-        stamp = omega (arith, back.stamped, i.asks.stamp, i.asks.behind);
-        behind = omega (arith, back.clock, i.asks.stamp, i.asks.behind);
-      } in
+  pub serve_stage : IsStage said call w to_server
+  serve_stage =
+      let s = it_served serves.0 serves.1 in
+      let at = at_of said call (client_of w zeroth) i.goes in
       record {
-        letter = back.reply;
-        two = n.two;
-        same = ap (λ (v : World). v.config) (some_is (sym happened ∙ served)) ∙ i.same;
-        comes = rw (n.rank_is, n.server_is) comes;
+        lone = i.lone;
+        before = at;
+        next = serves.0;
+        happened = serves.1;
+        after = subst (IsAt said call) (sym s.rank) at;
+        few = omega (arith, s.stamp, i.few, asked_stamp, i.behind, past_few first);
       }
+
+  pub replied : is_finish call ≡ false → (now : World) → happens w to_server ≡ Some now → event_stamp w to_server < stamp_limit
+      → IsBack first said call now
+  replied other now happened early =
+      let s = it_served now happened in
+      let server = pool_of w first_server in
+      let clock = ap (λ (v : ServerModel). v.clock) s.pool ∙ serve_clock server asked_letter.0 s.x s.does in
+      let rank = ap (λ (k : ClientModel). k.clock) s.rank in
+      let lone = lone_next w now to_server i.lone happened in
+      let nobody = ap (λ (v : ServerModel). v.kept.parked.waiting) s.pool
+      ∙ nobody_waits server asked_letter.0 s.x one_rank one_server i.nobody s.does in
+      let waits = subst (IsPending said call) (sym s.rank) still in
+      record {
+        lone = lone;
+        waits = waits;
+        nobody = nobody;
+        single =
+            omega (
+              arith,
+              (facts now lone).letters nobody,
+              ap length s.unasked,
+              busy said call (client_of now zeroth) waits,
+              ap one waits.going,
+              ap one ((facts now lone).unhandled waits.going),
+            );
+        early = omega (arith, clock, s.stamp, early);
+        counted = omega (arith, rank, i.counted);
+        few = omega (arith, rank, i.few);
+        behind = omega (arith, clock, i.few, asked_stamp, i.behind);
+        common = λ is. ap (λ (k : ClientModel). is_common k.pending) s.rank ∙ i.common is;
+      }
+    where
+      still : IsPending said call (client_of w zeroth)
+      still = elim i.goes [ inl p ↦ p | inr o ↦ let last = o.last in absurd (cc) ]
+
+  -- after the rank's Finish
+  pub shut_finished : is_finish call ≡ true → (last : Seen) → happens w to_server ≡ Some last.world → last.trouble ≡ None
+      → IsFinished said last
+  shut_finished last_call last happened whole = elim i.goes [
+    | inl p ↦ let other = pending_other (client_of w zeroth).pending call p.pending in absurd (cc (last_call, other))
+    | inr o ↦
+        let s = it_served last.world happened in
+        let own = server_own w i.lone in
+        let transcript = ap (λ (k : ClientModel). k.transcript) s.rank in
+        let call_is : call ≡ calls_to.Finish = finish_is call o.last in
+        let grown : with_call said call o.answer ≡ with_call said calls_to.Finish answers.Fine =
+        ap (λ k. with_call said k o.answer) call_is
+        ∙ ap (with_call said calls_to.Finish) (fine_is o.answer (ap (λ k. answers_call k o.answer) (sym call_is) ∙ o.kind)) in
+        let short : length (rank_in last).transcript < stamp_limit =
+        omega (
+          arith,
+          ap length transcript,
+          ap length o.grown,
+          i.counted,
+          i.early,
+          length_push said (record { call = call; answer = o.answer }),
+        ) in
+        record {
+          whole = whole;
+          true_now = true_after last (lone_next w last.world to_server i.lone happened)
+              (ap (λ (k : ClientModel). k.pending) s.rank ∙ o.idle) short;
+          grown = transcript ∙ o.grown ∙ grown;
+          heard = ap is_ended s.pool ∙ finish_ends (pool_of w first_server) asked_letter.0 s.x one_rank one_server i.nobody
+              (own.finished ∙ i.lone.one_rank) ((facts w i.lone).farewell asked_letter.0 [] o.idle asked_letter.1) s.does;
+        }
+  ]
 
 -- The rank hears the answer.
 
-module _ (laws : AreLaws) (config : Config) (said : List Said) (call : Call) (w : Seen) (i : IsBack config said call w) where
-  rank_own : IsClient w.world.config zeroth (rank_in w)
-  rank_own = own_rank laws w.world i.two.reached i.two.one_rank i.two.one_server
+module _ (first : Bool) (said : List Said) (call : Call) (w : World) (i : IsBack first said call w) where
+  told_letter : (letter : Letter) × (told w ≡ letter ∷ [])
+  told_letter = one_of (told w) i.single
 
-  h : (x : Made) × (hear (rank_in w) first_server i.letter ≡ Some x)
-  h =
-      is_heard w.world.config (rank_in w) (server_in w) w.world.ledger i.two.one_rank i.two.one_server i.letter
-      (subst NoneIsStuck i.two.is (none_is_stuck laws w.world i.two.reached i.two.one_rank i.two.one_server)) i.comes.early
+  told_stamp : told_letter.0.stamp ≤ (pool_of w first_server).clock
+  told_stamp = (facts w i.lone).told_before told_letter.0 [] told_letter.1
 
-  ends : IsEnded (rank_in w) (letter_stamp (rank_in w) i.letter) call h.0
-  ends =
-      let waits = i.comes.waits in
-      call_ends (rank_in w) i.letter (ap (λ (g : Config). g.servers) rank_own.config ∙ i.two.one_server) waits.rank h.0 call h.1
-      rank_own.call waits.fits waits.pending waits.untold
+  hears : (next : World) × (happens w to_rank ≡ Some next)
+  hears = (facts w i.lone).told_goes told_letter.0 [] told_letter.1 (omega (arith, told_stamp, i.early))
 
-  abbrev heard_world : World
-  heard_world = pair w.world.config h.0.state (server_in w) [] [] (w.world.ledger ++ h.0.entries)
+  h : IsHeard w told_letter.0 hears.0
+  h = (facts w i.lone).hears told_letter.0 hears.0 told_letter.1 hears.1
 
-  heard : happens w.world to_rank ≡ Some heard_world
-  heard =
-      ap (λ (u : World). happens u to_rank) i.two.is
-      ∙ hears w.world.config (rank_in w) (server_in w) w.world.ledger i.two.one_rank i.two.one_server i.letter h.0 h.1 ends.silent
+  one_only : (client_of w zeroth).config.servers ≡ 1
+  one_only = ap (λ (g : Config). g.servers) (rank_own w i.lone).config ∙ i.lone.one_server
 
-  told_stamp_is : event_stamp w.world to_rank ≡ letter_stamp (rank_in w) i.letter
-  told_stamp_is =
-      ap (λ (u : World). event_stamp u to_rank) i.two.is
-      ∙ told_stamp w.world.config (rank_in w) (server_in w) w.world.ledger i.two.one_rank i.two.one_server i.letter []
+  goes : GoesBy said (letter_stamp (client_of w zeroth) told_letter.0) call h.x
+  goes = call_goes (client_of w zeroth) told_letter.0 one_only h.x said call h.does i.waits
 
-  grown : h.0.state.transcript ≡ said ++ record { call = call; answer = ends.answer } ∷ []
-  grown = ends.grown ∙ ap (λ (l : List Said). l ++ record { call = call; answer = ends.answer } ∷ []) i.comes.waits.same
+  few_then : event_stamp w to_rank ≤ 5 * length said + past first + 3
+  few_then = omega (arith, h.stamp, i.few, told_stamp, i.behind)
 
-  pub hear_enabled : IsEnabled w.world to_rank
-  hear_enabled = is_some_of _ _ heard
+  few_now : event_stamp w to_rank ≤ 5 * length said + 5
+  few_now = omega (arith, few_then, past_few first)
 
-  -- it is answered
-  reply_is : event_answer w.world to_rank ≡ Some ends.answer
-  reply_is =
-      ap (λ (u : World). event_answer u to_rank) i.two.is
-      ∙ told_answer w.world.config (rank_in w) (server_in w) w.world.ledger i.two.one_rank i.two.one_server i.letter [] h.0 h.1
-      ∙ ends.answers_it
+  pub hear_stage : IsStage said call w to_rank
+  hear_stage = record {
+    lone = i.lone;
+    before = Within i.waits;
+    next = hears.0;
+    happened = hears.1;
+    after = subst (IsAt said call) (sym h.rank)
+        (elim goes [ inl over ↦ Behind over.answer over.idle over.grown | inr on ↦ Within on.waits ]);
+    few = few_now;
+  }
 
-  pub not_unanswered : event_answer w.world to_rank ≡ None → ⊥
-  not_unanswered none = let some : None ≡ Some ends.answer = sym none ∙ reply_is in cc
+  -- the common bytes were awaited, so the call is answered
+  pub not_unanswered : first ≡ false → event_answer w to_rank ≡ None → ⊥
+  not_unanswered last none =
+      let over = call_ends (client_of w zeroth) told_letter.0 one_only h.x said call h.does i.waits (i.common last) in
+      let some : None ≡ Some over.answer = sym none ∙ h.answer ∙ over.answers_it in cc
 
-  pub hear_stopped : (trouble : Trouble) (now : Seen) → Stops w.world to_rank trouble now.world → IsFailed config said call trouble now
-  hear_stopped trouble now stops =
-      let waits = i.comes.waits in
-      let s : Said = record { call = call; answer = ends.answer } in
-      let few : event_stamp w.world to_rank ≤ 3 * length said + 3 = rw told_stamp_is (omega (arith, waits.few, i.comes.stamp)) in
-      let reached = reached_next w.world heard_world to_rank i.two.reached heard refl in
-      let before = told_waiting laws w.world i.two.reached i.two.one_rank i.two.one_server config said call i.same waits in
-      let after =
-      subst (λ (g : Config). IsToldOf g said call heard_world.ledger) i.same
-      (told_answered laws heard_world reached i.two.one_rank i.two.one_server said s ends.idle grown) in
-      stopped config said (s ∷ []) call w.world heard_world to_rank now heard (inl waits.same) grown few before after trouble stops
+  module _ (now : Seen) (happened : happens w to_rank ≡ Some now.world) (whole : now.trouble ≡ None)
+      (early : event_stamp w to_rank < stamp_limit) where
+    now_is : now.world ≡ hears.0
+    now_is = some_is (sym happened ∙ hears.1)
 
-  pub heard_answered : (now : Seen) → happens w.world to_rank ≡ Some now.world → now.trouble ≡ None
-      → event_stamp w.world to_rank < stamp_limit → (answer : Answer) → Some answer ≡ event_answer w.world to_rank
-      → IsAnswered said call answer now
-  heard_answered now happened whole early answer told =
-      let n =
-      made_now w now [] (i.letter ∷ []) to_rank h.0.state (server_in w) [] [] (w.world.ledger ++ h.0.entries) i.two happened whole heard in
-      let long : length h.0.state.transcript ≡ length said + 1 =
-      ap length grown ∙ length_push said (record { call = call; answer = ends.answer }) in
-      let waits = i.comes.waits in
-      let idle : IsIdle h.0.state (server_in w) = record {
-        idle = ends.idle;
-        rank = ends.rank;
-        server = i.comes.server;
-        behind = omega (arith, ends.clock, i.comes.behind);
-        counted = omega (arith, ends.clock, long, waits.counted);
-        few = omega (arith, ends.clock, long, waits.few, i.comes.stamp);
-      } in
-      answered_now laws now said call (letter_stamp (rank_in w) i.letter) answer (rank_in w) h.0 (server_in w) waits.same n ends idle
-      (omega (arith, told_stamp_is, early)) (some_is (sym reply_is ∙ sym told))
+    rank_heard : rank_in now ≡ h.x.state
+    rank_heard = ap (λ v. client_of v zeroth) now_is ∙ h.rank
+
+    server_heard : server_in now ≡ pool_of w first_server
+    server_heard = ap (λ v. pool_of v first_server) now_is ∙ h.pool
+
+    nobody_heard : (server_in now).kept.parked.waiting ≡ []
+    nobody_heard = ap (λ (s : ServerModel). s.kept.parked.waiting) server_heard ∙ i.nobody
+
+    lone_heard : IsLone now.world
+    lone_heard = lone_next w now.world to_rank i.lone happened
+
+    -- it is answered
+    pub heard_answered : is_finish call ≡ false → (answer : Answer) → Some answer ≡ event_answer w to_rank
+        → IsAnswered said call answer now
+    heard_answered other answer gave = elim goes [
+      | inl over ↦
+          let reply = h.answer ∙ over.answers_it in
+          subst (λ k. IsAnswered said call k now) (some_is (sym reply ∙ sym gave))
+          (answered_now now said call (letter_stamp (client_of w zeroth) told_letter.0) h.x lone_heard whole other rank_heard
+          nobody_heard over (omega (arith, i.counted)) (omega (arith, h.stamp, few_now))
+          (omega (arith, ap (λ (s : ServerModel). s.clock) server_heard, i.behind, past_few first)) (omega (arith, h.stamp, early)))
+      | inr on ↦ let none : None ≡ Some answer = sym on.unanswered ∙ sym h.answer ∙ sym gave in absurd (cc)
+    ]
+
+    -- the common bytes are asked for
+    pub heard_on : first ≡ true → event_answer w to_rank ≡ None → IsAsked false said call now.world
+    heard_on once none = elim goes [
+      | inl over ↦ let some : None ≡ Some over.answer = sym none ∙ h.answer ∙ over.answers_it in absurd (cc)
+      | inr on ↦
+          let clock = ap (λ (k : ClientModel). k.clock) rank_heard ∙ on.clock in
+          let waits = subst (IsPending said call) (sym rank_heard) on.waits in
+          let zero : past first ≡ 0 = ap past once in
+          record {
+            lone = lone_heard;
+            goes = inl waits;
+            nobody = nobody_heard;
+            single =
+                omega (
+                  arith,
+                  (facts now.world lone_heard).letters nobody_heard,
+                  busy said call (rank_in now) waits,
+                  ap one waits.going,
+                  ap one ((facts now.world lone_heard).unhandled waits.going),
+                  ap (λ v. length (told v)) now_is,
+                  ap length h.untold,
+                );
+            early = omega (arith, clock, h.stamp, early);
+            counted = omega (arith, clock, i.counted);
+            few = omega (arith, clock, h.stamp, few_then, zero);
+            behind = omega (arith, ap (λ (s : ServerModel). s.clock) server_heard, i.behind, zero);
+            common = λ is. ap (λ (k : ClientModel). is_common k.pending) rank_heard ∙ on.common;
+          }
+    ]

@@ -1,9 +1,7 @@
 -- What stands after an event of a call that failed.
-use Rattle.std.proofs.Common.{◌≡◌, ◌⊎◌, inl, inr, ℕ, ◌+◌, ◌*◌, ◌≤◌, List, [], ◌++◌, length, take, Some, sym, ap, ◌∙◌, subst, arith}
-use Rattle.std.proofs.Common.{append-nil, length-append}
+use Rattle.std.proofs.Common.{◌≡◌, inl, inr, ℕ, ◌+◌, ◌*◌, ◌≤◌, List, ◌++◌, length, take, Some, refl, sym, ap, ◌∙◌, subst, arith, length-append}
 use Rattle.std.proofs.Math.Seq.{take-append_seam}
 use Rattle.adlb_unit.specs.Limits.{stamp_limit}
-use Rattle.adlb_unit.specs.declared.configs.Config.{Config}
 use Rattle.adlb_unit.specs.declared.notes.Trouble.{Trouble}
 use Rattle.adlb_unit.specs.declared.notes.Trouble.TheVariants.{Memory, TooLong}
 use Rattle.bag_ledger.specs.declared.entries.Call.{Call}
@@ -11,55 +9,67 @@ use Rattle.bag_ledger.specs.declared.entries.Entry.{Entry}
 use Rattle.bag_ledger.specs.declared.entries.Said.{Said}
 use Rattle.core_run.specs.declared.events.Event.{Event}
 use Rattle.core_run.specs.Runs.{transcript}
-use Rattle.core_run.specs.World.{World, happens}
-use Rattle.core_world.specs.Applied.{Stops, event_stamp}
+use Rattle.core_run.specs.World.{World, client_of, happens}
+use Rattle.core_world.specs.Applied.{IsEnabled, Stops, event_stamp}
 use Rattle.core_world.specs.Seen.{Seen}
-use Rattle.core_inline.specs.Inline.{zeroth}
-use Rattle.core_inline.specs.inside.Pairs.{IsFailed}
+use Rattle.core_inline.specs.Inline.{IsTold, zeroth}
+use Rattle.core_inline.specs.inside.Pairs.{IsFailed, IsLone}
 use Rattle.core_inline.proofs.Opened.{IsToldOf, told_front}
+use Rattle.core_inline.proofs.Reached.{config_next, lone_next}
+use Rattle.core_inline.proofs.Told.{IsAt, more_at, told_at}
 
--- An event of the call failed: what is told of the call before it and after it is told of what it left, and the rank has heard what
--- it had before or what it would have after.
-module _ (config : Config) (said more : List Said) (call : Call) (w after : World) (event : Event) (now : Seen)
-    (happened : happens w event ≡ Some after)
-    (before : (transcript w zeroth ≡ said) ⊎ (transcript w zeroth ≡ said ++ more)) (then : transcript after zeroth ≡ said ++ more)
-    (few : event_stamp w event ≤ 3 * length said + 3)
-    (told_before : IsToldOf config said call w.ledger) (told_after : IsToldOf config said call after.ledger) where
-  with_heard : (trouble : Trouble) (t : List Said) → transcript now.world zeroth ≡ said ++ t → IsToldOf config said call now.world.ledger
-      → ((n : ℕ) → trouble ≡ TooLong n → (stamp_limit ≤ n) × (n ≡ event_stamp w event)) → IsFailed config said call trouble now
-  with_heard trouble t is told late = record {
-    kept = ap (take (length said)) is ∙ take-append_seam said t;
-    within = omega (arith, ap length is, length-append said t);
+-- this event of the call can happen now, and leads to a world in which the call goes on or is over
+pub record IsStage (said : List Said) (call : Call) (w : World) (event : Event) : Type 0 where
+  pub lone : IsLone w
+  pub before : IsAt said call (client_of w zeroth)
+  pub next : World
+  pub happened : happens w event ≡ Some next
+  pub after : IsAt said call (client_of next zeroth)
+  pub few : event_stamp w event ≤ 5 * length said + 5
+
+module _ (said : List Said) (call : Call) (w : World) (event : Event) (i : IsStage said call w event) where
+  pub enabled : IsEnabled w event
+  enabled = rw i.happened refl
+
+  told_before : IsToldOf w.config said call w.ledger
+  told_before = told_at w i.lone said call i.before
+
+  told_after : IsToldOf w.config said call i.next.ledger
+  told_after = subst (λ g. IsToldOf g said call i.next.ledger) (config_next w i.next event i.happened)
+      (told_at i.next (lone_next w i.next event i.lone i.happened) said call i.after)
+
+  with_heard : (trouble : Trouble) (now : Seen) → (more : List Said) × (transcript now.world zeroth ≡ said ++ more)
+      → now.world.config ≡ w.config → IsToldOf w.config said call now.world.ledger
+      → ((n : ℕ) → trouble ≡ TooLong n → (stamp_limit ≤ n) × (n ≡ event_stamp w event)) → IsFailed said call trouble now
+  with_heard trouble now (more, is) same told late = record {
+    kept = ap (take (length said)) is ∙ take-append_seam said more;
+    within = omega (arith, ap length is, length-append said more);
     begun = told.0;
-    told = told.1;
+    told = subst (λ g. IsTold g now.world.ledger said told.0) (sym same) told.1;
     began = told.2;
-    late = λ n long. let h = late n long in (h.0, omega (arith, h.1, few));
+    late = λ n long. let h = late n long in (h.0, omega (arith, h.1, i.few));
   }
-
-  heard_before : (trouble : Trouble) → transcript now.world zeroth ≡ transcript w zeroth → IsToldOf config said call now.world.ledger
-      → ((n : ℕ) → trouble ≡ TooLong n → (stamp_limit ≤ n) × (n ≡ event_stamp w event)) → IsFailed config said call trouble now
-  heard_before trouble as_before told late = elim before [
-    | inl is ↦ with_heard trouble [] (as_before ∙ is ∙ sym (append-nil said)) told late
-    | inr is ↦ with_heard trouble more (as_before ∙ is) told late
-  ]
 
   inner : (n stamp : ℕ) → TooLong stamp ≡ TooLong n → stamp ≡ n
   inner n stamp e = cc
 
-  pub stopped : (trouble : Trouble) → Stops w event trouble now.world → IsFailed config said call trouble now
-  stopped Memory stops =
-      let cut = stops.leaves after happened in
-      let whole : after.ledger ≡ (w.ledger ++ cut.ledger.entered) ++ cut.ledger.rest =
+  -- The event failed: what is told of the call before it and after it is told of what it left, and the rank has heard what it had
+  -- before or what it would have after.
+  pub stopped : (trouble : Trouble) (now : Seen) → Stops w event trouble now.world → IsFailed said call trouble now
+  stopped Memory now stops =
+      let cut = stops.leaves i.next i.happened in
+      let whole : i.next.ledger ≡ (w.ledger ++ cut.ledger.entered) ++ cut.ledger.rest =
       cut.ledger.after_is ∙ ap (λ (l : List Entry). l ++ cut.ledger.rest) cut.ledger.now_is in
       let front =
-      told_front config said call w.ledger cut.ledger.entered cut.ledger.rest told_before
-      (subst (IsToldOf config said call) whole told_after) in
-      let told : IsToldOf config said call now.world.ledger = subst (IsToldOf config said call) (sym cut.ledger.now_is) front in
-      elim (cut.transcripts zeroth) [
-        | inl as_before ↦ heard_before Memory as_before told (λ n long. absurd (cc))
-        | inr as_after ↦ with_heard Memory more (as_after ∙ then) told (λ n long. absurd (cc))
-      ]
-  stopped (TooLong stamp) stops =
-      heard_before (TooLong stamp) (stops.leaves.transcripts zeroth)
-      (subst (IsToldOf config said call) (sym stops.leaves.ledger) told_before)
+      told_front w.config said call w.ledger cut.ledger.entered cut.ledger.rest told_before
+      (subst (IsToldOf w.config said call) whole told_after) in
+      let before = more_at said call (client_of w zeroth) i.before in
+      let after = more_at said call (client_of i.next zeroth) i.after in
+      with_heard Memory now
+      (elim (cut.transcripts zeroth) [ inl same ↦ (before.0, same ∙ before.1) | inr same ↦ (after.0, same ∙ after.1) ])
+      cut.config (subst (IsToldOf w.config said call) (sym cut.ledger.now_is) front) (λ n long. absurd (cc))
+  stopped (TooLong stamp) now stops =
+      let before = more_at said call (client_of w zeroth) i.before in
+      with_heard (TooLong stamp) now (before.0, stops.leaves.transcripts zeroth ∙ before.1) stops.leaves.config
+      (subst (IsToldOf w.config said call) (sym stops.leaves.ledger) told_before)
       (λ n long. let same : stamp ≡ n = inner n stamp long in (subst (λ m. stamp_limit ≤ m) same stops.cause.0, sym same ∙ stops.cause.1))

@@ -1,155 +1,216 @@
--- What a letter of the only rank makes of the only server.
-use Rattle.std.proofs.Common.{◌≡◌, ℕ, ◌&&◌, ◌||◌, not, cond, eqb, Bool, true, false, List, [], ◌∷◌, find, get_or, Option, None, Some, refl}
-use Rattle.std.proofs.Common.{sym, ap, ◌∙◌, subst}
-use Rattle.std.specs.Prelude.{map, nat_lt}
-use Rattle.std.specs.List.{list_any}
+-- What an event of the only server leaves: nobody waits, and after the rank's Finish it has ended.
+use Rattle.std.proofs.Common.{◌≡◌, ◌<◌, ℕ, ◌&&◌, ◌||◌, cond, Bool, true, false, List, [], ◌∷◌, ◌++◌, length, Option, None, Some, refl, sym, ap, ◌∙◌, subst, arith, inl, inr}
+use Rattle.std.proofs.Common.{nat_lt, get_or-set_same, append-nil, Any}
 use Rattle.std.specs.Option.{option_map}
-use Rattle.std.proofs.Math.ListN.{set}
-use Rattle.adlb_unit.specs.Limits.{stamp_limit}
-use Rattle.adlb_unit.specs.declared.actors.Actor.TheVariants as by
-use Rattle.adlb_unit.specs.declared.letters.Letter.{Letter}
-use Rattle.adlb_unit.specs.declared.messages.Message.{Message}
-use Rattle.adlb_unit.specs.declared.messages.Message.TheVariants as tells
-use Rattle.adlb_unit.specs.declared.names.UnitId.{UnitId}
-use Rattle.adlb_unit.specs.declared.names.WorkType.{WorkType}
-use Rattle.adlb_unit.specs.declared.units.Unit.{Unit}
-use Rattle.rank_client.proofs.Entries.{some_is}
-use Rattle.server_core.specs.declared.standings.Standing.TheVariants.{Finished, Parked, Running}
-use Rattle.server_core.specs.Rules.{ServerResponse, best_unit, expects_finish, fetch, fetched, finish, is_over, is_pinned_as, is_running}
-use Rattle.server_core.specs.Rules.{leave, park, put, reserve, respond}
-use Rattle.server_core.specs.State.{ServerModel}
-use Rattle.server_core.specs.Step.{Served, Waiting, after_event, exhaust, fits, next_stamp, resumed, serve, served, ticked, verdict}
-use Rattle.server_core.specs.Step.{waiting_from}
-use Rattle.server_core.proofs.Calm.{calm_running}
+use Rattle.bag_ledger.proofs.Tests.{some_is}
 use Rattle.work_queue.specs.declared.placing.Placed.{Placed}
-use Rattle.core_law.specs.Letters.{is_request}
+use Rattle.server_law.specs.Acts.{Act, Notes_finish, Parks, comes, does, says, takes, waiting_after, ServerSaying, Shuts}
+use Rattle.server_law.specs.Acts.{Finds, Heard, Ends_reserve, of_rank, Grants}
+use Rattle.server_law.specs.Carried.{Served, all_counted, all_done, carried, done, counted}
+use Rattle.server_law.proofs.Carrying.{carried_state}
+use Rattle.server_law.proofs.Endings.{ends_quiet}
+use Rattle.server_law.proofs.Handled.{acts_handle, ends_event_decides}
+use Rattle.server_law.specs.State.{ServerModel, Waiting, Kept, Wish, is_finished, idle, runs}
+use Rattle.server_law.specs.Sure.{SitsIn, AreSure, TakeNone}
+use Rattle.server_law.specs.Step.{acts, ticked, serve, next_stamp}
+use Rattle.server_law.specs.Endings.{ends_event, is_quiet, fits, tells_all, verdict, exhausts}
+use Rattle.server_law.specs.Finding.{best_for}
+use Rattle.server_law.specs.Reserves.{expects_reserve, reserve, reserve_now}
+use Rattle.server_law.specs.Plan.{Decider, in_order, plan, decided}
+use Rattle.server_law.proofs.Tests.{quiet_is_tested}
+use Rattle.core_law.proofs.Acts.{counted_kept}
+use Rattle.core_law.proofs.Waits.{waits}
+use Rattle.core_law.specs.Letters.{is_finish}
+use Rattle.core_law.specs.Measures.{weigh}
 use Rattle.core_inline.specs.Inline.{zeroth}
-use Rattle.core_inline.specs.inside.Pairs.{IsOpen, first_server, is_ended}
-use Rattle.core_inline.proofs.Clients.{Sends, if_is}
+use Rattle.core_inline.specs.inside.Pairs.{is_ended}
+use Rattle.core_inline.proofs.Reached.{by_rank}
+use Rattle.adlb_unit.specs.declared.messages.Message.{Message}
+use Rattle.adlb_unit.specs.declared.letters.Letter.{Letter}
+use Rattle.adlb_unit.specs.Links.{is_within}
+use Rattle.adlb_unit.specs.declared.messages.Message.TheVariants as tells
+use Rattle.adlb_unit.specs.Limits.{stamp_limit}
+use Rattle.adlb_unit.specs.declared.names.WorkType.{WorkType}
+use Rattle.adlb_unit.specs.declared.names.Rank.{Rank}
+use Rattle.adlb_unit.specs.declared.actors.Actor.{Actor}
+use Rattle.adlb_unit.specs.Ring.{others}
+use Rattle.adlb_unit.specs.declared.notes.End.TheVariants as ends_by
 
--- one letter goes back to the rank, and the server goes on
-pub record IsReplied (stamp : ℕ) (x : Served) : Type 0 where
-  pub reply : Letter
-  pub sends : Sends x.sends (by.Rank zeroth) reply
-  pub stamped : reply.stamp ≡ stamp
-  pub clock : x.state.clock ≡ stamp
-  pub server : IsOpen x.state
+-- The acts of a step.
 
--- the rule of the letter
-serve_rule : (s : ServerModel) (letter : Letter) (x : Served) → serve s (by.Rank zeroth) letter ≡ Some x
-    → (z : ServerResponse) × (respond (ticked s (next_stamp s letter)) zeroth letter.message ≡ Some z) × (after_event (served z) ≡ x)
-serve_rule s letter x serves = by_test (nat_lt 0 s.config.ranks && nat_lt letter.stamp (stamp_limit)) serves
+pub record IsStep (s : ServerModel) (letter : Letter) (x : Served) : Type 0 where
+  pub list : List Act
+  pub acts : acts (ticked s (next_stamp s letter)) by_rank letter.message ≡ Some list
+  pub state : x.state ≡ all_done list (ticked s (next_stamp s letter))
+
+pub steps : (s : ServerModel) (letter : Letter) (x : Served) → serve s by_rank letter ≡ Some x → IsStep s letter x
+steps s letter x serves = by_test (is_within s.config by_rank && nat_lt letter.stamp stamp_limit) serves
   where
-    by_rule : (o : Option ServerResponse) → option_map (λ z. after_event (served z)) o ≡ Some x
-        → (z : ServerResponse) × (o ≡ Some z) × (after_event (served z) ≡ x)
-    by_rule None e = absurd (cc)
-    by_rule (Some z) e = (z, refl, some_is e)
+    t : ServerModel
+    t = ticked s (next_stamp s letter)
 
-    by_test : (b : Bool)
-        → cond b (option_map (λ z. after_event (served z)) (respond (ticked s (next_stamp s letter)) zeroth letter.message)) None ≡ Some x
-        → (z : ServerResponse) × (respond (ticked s (next_stamp s letter)) zeroth letter.message ≡ Some z) × (after_event (served z) ≡ x)
-    by_test true e = by_rule (respond (ticked s (next_stamp s letter)) zeroth letter.message) e
+    by_acts : (o : Option (List Act)) → acts t by_rank letter.message ≡ o → option_map (λ list. carried list t) o ≡ Some x
+        → IsStep s letter x
+    by_acts None is e = absurd (cc)
+    by_acts (Some list) is e =
+        record { list = list; acts = is; state = ap (λ (y : Served). y.state) (sym (some_is e)) ∙ carried_state list t }
+
+    by_test : (b : Bool) → cond b (option_map (λ list. carried list t) (acts t by_rank letter.message)) None ≡ Some x → IsStep s letter x
+    by_test true e = by_acts (acts t by_rank letter.message) refl e
     by_test false e = absurd (cc)
 
-module _ (t : ServerModel) (one : t.config.servers ≡ 1) (going : IsOpen t) where
-  abbrev Replied : ServerResponse → Type 0
-  Replied z = IsReplied t.clock (after_event (served z))
+-- The clock.
 
-  -- nothing follows while the rank runs
-  calm : (y : Served) → y.state.ranks ≡ Running ∷ [] → IsReplied t.clock y → IsReplied t.clock (after_event y)
-  calm y runs is = subst (IsReplied t.clock) (sym (calm_running y runs)) is
+counted_clock : (s : ServerModel) (said : List ServerSaying) → (all_counted s said).clock ≡ s.clock
+counted_clock s [] = refl
+counted_clock s (y ∷ said) = counted_clock (counted s y.to) said
 
-  put_replied : (unit : Unit) (done over : Bool) → Replied (put t zeroth unit done over)
-  put_replied unit true over =
-      calm (served (put t zeroth unit true over)) going.runs
-      (record { reply = _; sends = refl; stamped = refl; clock = refl; server = record { runs = going.runs; unhandled = going.unhandled } })
-  put_replied unit false true =
-      calm (served (put t zeroth unit false true)) going.runs
-      (record { reply = _; sends = refl; stamped = refl; clock = refl; server = record { runs = going.runs; unhandled = going.unhandled } })
-  put_replied unit false false =
-      calm (served (put t zeroth unit false false)) going.runs
-      (record { reply = _; sends = refl; stamped = refl; clock = refl; server = record { runs = going.runs; unhandled = going.unhandled } })
+done_clock : (list : List Act) (s : ServerModel) → (all_done list s).clock ≡ s.clock
+done_clock [] s = refl
+done_clock (a ∷ list) s = done_clock list (done a s) ∙ counted_clock (does a s) (says a s)
 
-  -- where nothing fits, all work is used up, and the rank is told
-  park_replied : (request : ℕ) (types : Option (List WorkType)) → t.exhausted ≡ false → best_unit zeroth types t.queue.units ≡ None
-      → Replied (park t zeroth request types)
-  park_replied request types fresh none =
-      let y : Served = served (park t zeroth request types) in
-      let w : Waiting = record { rank = zeroth; request = request; types = types } in
-      let parked : set t.ranks 0 (Parked request types) ≡ Parked request types ∷ [] =
-      ap (λ ranks. set ranks 0 (Parked request types)) going.runs in
-      let single : eqb t.config.servers 1 ≡ true = ap (λ n. eqb n 1) one in
-      let quiet : after_event y ≡ exhaust y (w ∷ []) (t.exhausted || (fits t w || false)) =
-      ap (λ ranks. cond (eqb t.config.servers 1 && not (list_any is_running ranks)) (verdict y (waiting_from 0 ranks)) y) parked
-      ∙ ap (λ v. cond (v && true) (verdict y (w ∷ [])) y) single in
-      let nothing : (t.exhausted || (fits t w || false)) ≡ false = rw (fresh, none) refl in
-      let told : after_event y ≡ exhaust y (w ∷ []) false = quiet ∙ ap (λ v. exhaust y (w ∷ []) v) nothing in
-      let back : IsReplied t.clock (exhaust y (w ∷ []) false) = record {
-        reply = _;
-        sends = refl;
-        stamped = refl;
-        clock = refl;
-        server = record { runs = ap (map resumed) parked; unhandled = going.unhandled };
-      } in
-      subst (IsReplied t.clock) (sym told) back
+pub serve_clock : (s : ServerModel) (letter : Letter) (x : Served) → serve s by_rank letter ≡ Some x → x.state.clock ≡ next_stamp s letter
+serve_clock s letter x serves =
+    let step = steps s letter x serves in
+    ap (λ (v : ServerModel). v.clock) step.state ∙ done_clock step.list (ticked s (next_stamp s letter))
 
-  reserve_replied : (request : ℕ) (types : Option (List WorkType)) (done exhausted : Bool) (best : Option Placed)
-      → t.exhausted ≡ exhausted → best_unit zeroth types t.queue.units ≡ best → Replied (reserve t zeroth request types done exhausted best)
-  reserve_replied request types true exhausted best is found =
-      calm (served (reserve t zeroth request types true exhausted best)) going.runs
-      (record { reply = _; sends = refl; stamped = refl; clock = refl; server = record { runs = going.runs; unhandled = going.unhandled } })
-  reserve_replied request types false true best is found =
-      calm (served (reserve t zeroth request types false true best)) going.runs
-      (record { reply = _; sends = refl; stamped = refl; clock = refl; server = record { runs = going.runs; unhandled = going.unhandled } })
-  reserve_replied request types false false (Some p) is found =
-      calm (served (reserve t zeroth request types false false (Some p))) going.runs
-      (record { reply = _; sends = refl; stamped = refl; clock = refl; server = record { runs = going.runs; unhandled = going.unhandled } })
-  reserve_replied request types false false None is found = park_replied request types is found
+-- Who waits.
 
-  fetch_replied : (request : ℕ) (id : UnitId) (o : Option Placed) (z : ServerResponse) → fetch t zeroth request id o ≡ Some z → Replied z
-  fetch_replied request id None z is = absurd (cc)
-  fetch_replied request id (Some p) z is =
-      subst Replied (some_is is)
-      (calm (served (fetched t zeroth request id p)) going.runs
-      (record {
-        reply = _;
-        sends = refl;
-        stamped = refl;
-        clock = refl;
-        server = record { runs = going.runs; unhandled = going.unhandled };
-      }))
+abbrev waiting : ServerModel → List Waiting
+waiting s = s.kept.parked.waiting
 
-  respond_replied : (m : Message) (z : ServerResponse) → is_request m ≡ true → respond t zeroth m ≡ Some z → Replied z
-  respond_replied (tells.Put unit) z request is = subst Replied (if_is _ _ z is) (put_replied unit t.done (is_over t.queue unit))
-  respond_replied (tells.Reserve request types) z is_one is =
-      subst Replied (if_is _ _ z is) (reserve_replied request types t.done t.exhausted (best_unit zeroth types t.queue.units) refl refl)
-  respond_replied (tells.Fetch request id) z is_one is = fetch_replied request id (find (is_pinned_as id zeroth) t.queue.units) z is
-  respond_replied tells.Finish z request is = absurd (cc)
-  respond_replied _ z request is = absurd (cc)
+none_there : {X : Type 0} (xs : List X) → weigh (λ x. 1) xs ≡ 0 → xs ≡ []
+none_there [] none = refl
+none_there (x ∷ xs) none = absurd (omega (arith, none))
 
--- a request is answered in the event in which it is handled
-pub request_replied : (s : ServerModel) (letter : Letter) (x : Served) → s.config.servers ≡ 1 → IsOpen s
-    → is_request letter.message ≡ true → serve s (by.Rank zeroth) letter ≡ Some x → IsReplied (next_stamp s letter) x
-request_replied s letter x one going request serves =
-    let rule = serve_rule s letter x serves in
-    let t : ServerModel = ticked s (next_stamp s letter) in
-    subst (IsReplied (next_stamp s letter)) rule.2
-    (respond_replied t one (record { runs = going.runs; unhandled = going.unhandled }) letter.message rule.0 request rule.1)
+-- an act with which nobody comes
+nobody_comes : (a : Act) (s : ServerModel) → SitsIn a s → comes a s ≡ [] → waiting s ≡ [] → waiting (done a s) ≡ []
+nobody_comes a s sits none nobody =
+    let now : waiting (done a s) ≡ waiting_after a s = ap (λ (k : Kept). k.parked.waiting) (counted_kept (does a s) (says a s)) in
+    let before : weigh (λ (e : Waiting). 1) (waiting s) ≡ 0 = rw nobody refl in
+    let come : weigh (λ (e : Waiting). 1) (comes a s) ≡ 0 = rw none refl in
+    now ∙ none_there (waiting_after a s) (omega (arith, waits (λ e. 1) a s sits, before, come))
 
--- after the rank's Finish the server is shut
-pub finish_ends : (s : ServerModel) (letter : Letter) (x : Served) → s.config.servers ≡ 1 → s.me ≡ first_server → IsOpen s
-    → letter.message ≡ tells.Finish → serve s (by.Rank zeroth) letter ≡ Some x → is_ended x.state ≡ true
-finish_ends s letter x one me going is serves =
-    let rule = serve_rule s letter x serves in
-    let t : ServerModel = ticked s (next_stamp s letter) in
-    let responds : respond t zeroth tells.Finish ≡ Some rule.0 = ap (respond t zeroth) (sym is) ∙ rule.1 in
-    let done : finish t zeroth ≡ rule.0 = if_is (expects_finish t zeroth) (finish t zeroth) rule.0 responds in
-    let y : Served = served (finish t zeroth) in
-    let left : leave t zeroth ≡ Finished ∷ [] = rw (one, me, going.runs) refl in
-    let single : eqb s.config.servers 1 ≡ true = ap (λ n. eqb n 1) one in
-    let shut : after_event y ≡ record y { state = record y.state { shut = true } } =
-    ap (λ ranks. cond (eqb s.config.servers 1 && not (list_any is_running ranks)) (verdict y (waiting_from 0 ranks)) y) left
-    ∙ ap (λ v. cond (v && true) (verdict y []) y) single in
-    let ended : is_ended (after_event y).state ≡ true =
-    ap (λ (v : Served). is_ended v.state) shut ∙ ap (λ l. get_or (set l 0 true) 0 false) going.unhandled in
-    subst (λ (v : Served). is_ended v.state ≡ true) (ap (λ (z : ServerResponse). after_event (served z)) done ∙ rule.2) ended
+takes_comes : (a : Act) (s : ServerModel) → takes a ≡ [] → comes a s ≡ []
+takes_comes (Parks wish) s none = absurd (cc)
+takes_comes _ s none = refl
+
+nobody_follows : (list : List Act) (s : ServerModel) → AreSure list s → TakeNone list → waiting s ≡ [] → waiting (all_done list s) ≡ []
+nobody_follows [] s sure none nobody = nobody
+nobody_follows (a ∷ list) s sure none nobody =
+    nobody_follows list (done a s) sure.2 none.1 (nobody_comes a s sure.0 (takes_comes a s none.0) nobody)
+
+abbrev is_reserve : Message → Bool
+is_reserve (tells.Reserve request types) = true
+is_reserve _ = false
+
+same_heard : (a b : Heard) → a ∷ [] ≡ b ∷ [] → a.message ≡ b.message
+same_heard a b is = let same : a ≡ b = cc in ap (λ (h : Heard). h.message) same
+
+other_comes : (a : Act) (s : ServerModel) (from : Actor) (m : Message) → takes a ≡ record { from = from; message = m } ∷ []
+    → is_reserve m ≡ false → comes a s ≡ []
+other_comes (Parks wish) s from m is other =
+    let one : true ≡ is_reserve m =
+    ap is_reserve (same_heard (of_rank wish.rank (tells.Reserve wish.request wish.types)) (record { from = from; message = m }) is) in
+    absurd (cc)
+other_comes _ s from m is other = refl
+
+ruled : (t : ServerModel) (test : Bool) (first : Act) (follow : List Decider) (list : List Act)
+    → option_map (in_order ends_event t) (cond test (plan first follow) None) ≡ Some list
+    → first ∷ decided (follow ++ ends_event ∷ []) (done first t) ≡ list
+ruled t true first follow list is = some_is is
+ruled t false first follow list is = absurd (cc)
+
+abbrev wish : ℕ → Option (List WorkType) → Wish
+wish request types = record { rank = zeroth; request = request; types = types }
+
+-- an act and what follows it
+abbrev ended_by : Act → ServerModel → List Act
+ended_by a t = a ∷ (ends_event (done a t) ++ [])
+
+module _ (t : ServerModel) (one_rank : t.config.ranks ≡ 1) (one_server : t.config.servers ≡ 1) (nobody : waiting t ≡ []) where
+  abbrev Leaves : List Act → Type 0
+  Leaves list = waiting (all_done list t) ≡ []
+
+  -- a letter that is no reserve
+  other_leaves : (m : Message) (list : List Act) → is_reserve m ≡ false → acts t by_rank m ≡ Some list → Leaves list
+  other_leaves m list other is =
+      let h = acts_handle t by_rank m list is in
+      ap (λ l. waiting (all_done l t)) h.are
+      ∙ nobody_follows h.more (done h.first t) h.sure.2 h.follow
+      (nobody_comes h.first t h.sure.0 (other_comes h.first t by_rank m h.takes other) nobody)
+
+  -- a reserve that is answered
+  answered_leaves : (a : Act) → waiting (done a t) ≡ [] → Leaves (ended_by a t)
+  answered_leaves a none =
+      let s = done a t in
+      let follow = ends_event_decides s in
+      ap (λ l. waiting (all_done l s)) (append-nil (ends_event s)) ∙ nobody_follows (ends_event s) s follow.0 follow.1 none
+
+  only_rank : (rank : Rank) → rank.0 < t.config.ranks → zeroth ≡ rank
+  only_rank rank below = let first : 0 ≡ rank.0 = omega (arith, below, one_rank) in ap (λ n. record { 0 = n }) first
+
+  -- a reserve for which there is no unit: all work is used up, and the rank is told
+  parked_leaves : (request : ℕ) (types : Option (List WorkType)) → t.kept.exhausted ≡ false
+      → best_for t.kept (wish request types) ≡ None → Leaves (ended_by (Parks (wish request types)) t)
+  parked_leaves request types fresh none =
+      let s = done (Parks (wish request types)) t in
+      let e : Waiting = idle (wish request types) (others t.config t.me) in
+      let stands : waiting s ≡ e ∷ [] = ap (λ l. l ++ e ∷ []) nobody in
+      let quiet : is_quiet s ≡ true = (quiet_is_tested s).1
+      (λ rank below home. inl (subst (λ l. Any (λ (v : Waiting). (v.wish.rank ≡ rank) × (v.asked ≡ None)) l) (sym stands)
+      (0, e, omega arith, refl, (only_rank rank below, refl)))) in
+      let unfit : (s.kept.exhausted || (fits s.kept e || false)) ≡ false = rw (fresh, none) refl in
+      let told : ends_event s ≡ Finds ∷ tells_all ends_by.Exhausted [] (e ∷ []) =
+      ends_quiet s one_server quiet ∙ ap (verdict s.kept) stands ∙ ap (λ b. exhausts b (e ∷ [])) unfit in
+      ap (λ list. waiting (all_done (list ++ []) s)) told
+
+  reserve_leaves : (request : ℕ) (types : Option (List WorkType)) (is_done used_up : Bool) (best : Option Placed)
+      → t.kept.exhausted ≡ used_up → best_for t.kept (wish request types) ≡ best
+      → Leaves (ended_by (reserve is_done used_up best (wish request types)) t)
+  reserve_leaves request types true used_up best exhausted found =
+      answered_leaves (Ends_reserve (wish request types) ends_by.NoMoreWork) nobody
+  reserve_leaves request types false true best exhausted found =
+      answered_leaves (Ends_reserve (wish request types) ends_by.Exhausted) nobody
+  reserve_leaves request types false false (Some p) exhausted found = answered_leaves (Grants (wish request types) p.unit) nobody
+  reserve_leaves request types false false None exhausted found = parked_leaves request types exhausted found
+
+  acts_leave : (m : Message) (list : List Act) → acts t by_rank m ≡ Some list → Leaves list
+  acts_leave (tells.Reserve request types) list is =
+      let k = t.kept in
+      subst Leaves (ruled t (expects_reserve t zeroth) (reserve_now k (wish request types)) [] list is)
+      (reserve_leaves request types k.done k.exhausted (best_for k (wish request types)) refl refl)
+  acts_leave m list is = other_leaves m list refl is
+
+  -- the rank's Finish: the server is shut
+  finish_shuts : length t.kept.finished ≡ 1 → (list : List Act) → acts t by_rank tells.Finish ≡ Some list
+      → is_ended (all_done list t) ≡ true
+  finish_shuts long list is =
+      let s = done (Notes_finish zeroth) t in
+      let handled : is_finished s.kept zeroth ≡ true = get_or-set_same t.kept.finished 0 true false (omega (arith, long)) in
+      let quiet : is_quiet s ≡ true = (quiet_is_tested s).1
+      (λ rank below home. inr (ap (is_finished s.kept) (sym (only_rank rank below)) ∙ handled)) in
+      let shut : ends_event s ≡ Shuts ∷ [] = ends_quiet s one_server quiet ∙ ap (verdict s.kept) nobody in
+      ap (λ l. is_ended (all_done l t)) (sym (ruled t (runs t.kept zeroth) (Notes_finish zeroth) [] list is))
+      ∙ ap (λ l. is_ended (all_done (l ++ []) s)) shut ∙ handled
+
+  last_shuts : length t.kept.finished ≡ 1 → (m : Message) (list : List Act) → is_finish m ≡ true → acts t by_rank m ≡ Some list
+      → is_ended (all_done list t) ≡ true
+  last_shuts long tells.Finish list is given = finish_shuts long list given
+  last_shuts long _ list is given = absurd (cc)
+
+-- Where nobody waits before an event of the server, nobody waits after it.
+pub nobody_waits : (s : ServerModel) (letter : Letter) (x : Served) → s.config.ranks ≡ 1 → s.config.servers ≡ 1
+    → s.kept.parked.waiting ≡ [] → serve s by_rank letter ≡ Some x → x.state.kept.parked.waiting ≡ []
+nobody_waits s letter x one_rank one_server nobody serves =
+    let step = steps s letter x serves in
+    ap waiting step.state ∙ acts_leave (ticked s (next_stamp s letter)) one_rank one_server nobody letter.message step.list step.acts
+
+-- After the rank's Finish the server has ended.
+pub finish_ends : (s : ServerModel) (letter : Letter) (x : Served) → s.config.ranks ≡ 1 → s.config.servers ≡ 1
+    → s.kept.parked.waiting ≡ [] → length s.kept.finished ≡ 1 → is_finish letter.message ≡ true → serve s by_rank letter ≡ Some x
+    → is_ended x.state ≡ true
+finish_ends s letter x one_rank one_server nobody long is serves =
+    let step = steps s letter x serves in
+    let t = ticked s (next_stamp s letter) in
+    ap is_ended step.state ∙ last_shuts t one_rank one_server nobody long letter.message step.list is step.acts

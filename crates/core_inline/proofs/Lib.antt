@@ -2,12 +2,11 @@ pub mod Begun
 pub mod Clients
 pub mod Exchanging
 pub mod Failing
-pub mod Finishing
 pub mod Hosts
 pub mod Kept
 pub mod Lefts
 pub mod Opened
-pub mod Pairing
+pub mod Reached
 pub mod Scripts
 pub mod Starts
 pub mod Told

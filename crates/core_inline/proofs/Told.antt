@@ -1,28 +1,44 @@
 -- What the law of runs tells of a world of one rank and one server.
-use Rattle.std.proofs.Common.{◌≡◌, ◌⊎◌, inl, inr, Bool, true, false, List, [], ◌∷◌, ◌++◌, Option, None, Some, refl, sym, ap, ◌∙◌, arith}
-use Rattle.std.proofs.Common.{append-nil}
+use Rattle.std.proofs.Common.{◌≡◌, ◌⊎◌, inl, inr, Bool, true, false, List, [], ◌∷◌, ◌++◌, Option, None, Some, refl, sym, ap, ◌∙◌, arith, append-nil}
 use Rattle.adlb_unit.specs.declared.messages.Message.{Message}
 use Rattle.adlb_unit.specs.declared.messages.Message.TheVariants as tells
+use Rattle.adlb_unit.specs.declared.names.Server.{Server}
+use Rattle.adlb_unit.specs.declared.names.CommonRef.{CommonRef}
 use Rattle.bag_ledger.specs.declared.entries.Call.{Call}
+use Rattle.bag_ledger.specs.declared.entries.Call.TheVariants as calls_to
 use Rattle.bag_ledger.specs.declared.entries.Said.{Said}
 use Rattle.bag_ledger.specs.Bag.{Bag, rank_at}
 use Rattle.bag_ledger.specs.Runs.{call_of}
+use Rattle.bag_ledger.specs.declared.states.RankState.{RankState}
 use Rattle.rank_client.specs.declared.pendings.Pending.{Pending}
 use Rattle.rank_client.specs.declared.pendings.Pending.TheVariants as waits_for
-use Rattle.rank_client.specs.Agreement.{in_call, rank_of, said as said_with}
+use Rattle.rank_client.specs.Agreement.{fetch_coming, in_call, own_fetched, rank_of, said as said_with}
+use Rattle.rank_client.specs.Calls.{plus}
 use Rattle.rank_client.specs.State.{ClientModel}
 use Rattle.server_core.specs.Left.{left_of}
-use Rattle.core_law.specs.Own.{IsClient, IsPool}
 use Rattle.core_law.specs.Seats.{HasSeat, IsSeated}
-use Rattle.core_run.specs.Runs.{NoneIsStuck}
 use Rattle.core_run.specs.World.{World, client_of, pool_of}
 use Rattle.core_inline.specs.Inline.{IsOpen, IsTold, zeroth}
 use Rattle.core_inline.specs.Left.{IsLeft}
-use Rattle.core_inline.specs.inside.Laws.{AreLaws}
-use Rattle.core_inline.specs.inside.Pairs.{IsReached, first_server}
-use Rattle.core_inline.proofs.Clients.{pending_call}
+use Rattle.core_inline.specs.inside.Pairs.{IsLone, first_server, with_call}
+use Rattle.bag_ledger.specs.declared.entries.Answer.{Answer}
+use Rattle.core_inline.proofs.Clients.{IsPending, pending_call}
 use Rattle.core_inline.proofs.Lefts.{left_is}
 use Rattle.core_inline.proofs.Opened.{IsToldOf}
+use Rattle.core_inline.proofs.Reached.{rank_own, server_own}
+use Rattle.core_law.proofs.Lawful.{actors_seated}
+use Rattle.server_law.proofs.OneServer.{one_has_all}
+
+-- How far a call has come that the rank makes after these.
+pub data IsAt (said : List Said) (call : Call) (c : ClientModel) : Type 0 where
+  Before : c.pending ≡ waits_for.Nothing → c.transcript ≡ said → IsAt said call c
+  Within : IsPending said call c → IsAt said call c
+  Behind : (answer : Answer) → c.pending ≡ waits_for.Nothing → c.transcript ≡ with_call said call answer → IsAt said call c
+
+pub more_at : (said : List Said) (call : Call) (c : ClientModel) → IsAt said call c → (more : List Said) × (c.transcript ≡ said ++ more)
+more_at said call c (Before idle same) = ([], same ∙ sym (append-nil said))
+more_at said call c (Within p) = ([], p.same ∙ sym (append-nil said))
+more_at said call c (Behind answer idle grown) = (record { call = call; answer = answer } ∷ [], grown)
 
 -- no call is pending in the bag of a rank whose client waits for nothing
 rests : (c : ClientModel) (coming : Option Message) (finished : Bool) → c.pending ≡ waits_for.Nothing
@@ -66,82 +82,105 @@ beyond c (waits_for.Reserve request types) (Some (tells.Ended to end)) call is =
 beyond c (waits_for.Reserve request types) (Some _) call is =
     record { more = []; begun = None; says = sym (append-nil c.transcript); open_call = refl; of_it = inl refl }
 beyond c (waits_for.Fetch request note) None call is = still c (waits_for.Fetch request note) None call refl is
-beyond c (waits_for.Fetch request note) (Some (tells.Bytes to body)) call is =
+beyond c (waits_for.Fetch request note) (Some m) call is = own_came note.common refl m
+  where
+    own_came : (common : Option CommonRef) → note.common ≡ common → (m : Message)
+        → IsBeyond c (waits_for.Fetch request note) (Some m) call
+    own_came None none (tells.Bytes to body) = record {
+      more = _ ∷ [];
+      begun = _;
+      says = ap (λ o. plus c.transcript (calls_to.Fetch note.id) (fetch_coming o (tells.Bytes to body))) none;
+      open_call = (ap (λ o. call_of (own_fetched c request note o).status) none, refl);
+      of_it = inr is;
+    }
+    own_came None none m = record {
+      more = [];
+      begun = None;
+      says = ap (λ o. plus c.transcript (calls_to.Fetch note.id) (fetch_coming o m)) none ∙ sym (append-nil c.transcript);
+      open_call = sym (ap (λ o. call_of (own_fetched c request note o).status) none);
+      of_it = inl refl;
+    }
+    own_came (Some common) some m = record {
+      more = [];
+      begun = Some call;
+      says = ap (λ o. plus c.transcript (calls_to.Fetch note.id) (fetch_coming o m)) some ∙ sym (append-nil c.transcript);
+      open_call = sym (ap (λ o. call_of (own_fetched c request note o).status) some ∙ is);
+      of_it = inr refl;
+    }
+beyond c (waits_for.Common request note common own) None call is =
+    still c (waits_for.Common request note common own) None call refl is
+beyond c (waits_for.Common request note common own) (Some (tells.Bytes to body)) call is =
     record { more = _ ∷ []; begun = _; says = refl; open_call = (refl, refl); of_it = inr is }
-beyond c (waits_for.Fetch request note) (Some _) call is =
+beyond c (waits_for.Common request note common own) (Some _) call is =
+    record { more = []; begun = None; says = sym (append-nil c.transcript); open_call = refl; of_it = inl refl }
+beyond c (waits_for.Keep request common first tried) None call is =
+    still c (waits_for.Keep request common first tried) None call refl is
+beyond c (waits_for.Keep request common first tried) (Some (tells.Full to charge)) call is =
+    still c (waits_for.Keep request common first tried) (Some (tells.Full to charge)) call refl is
+beyond c (waits_for.Keep request common first tried) (Some (tells.Accepted to)) call is =
+    record { more = _ ∷ []; begun = _; says = refl; open_call = (refl, refl); of_it = inr is }
+beyond c (waits_for.Keep request common first tried) (Some (tells.Ended to end)) call is =
+    record { more = _ ∷ []; begun = _; says = refl; open_call = (refl, refl); of_it = inr is }
+beyond c (waits_for.Keep request common first tried) (Some _) call is =
+    record { more = []; begun = None; says = sym (append-nil c.transcript); open_call = refl; of_it = inl refl }
+beyond c (waits_for.Close request batch) None call is = still c (waits_for.Close request batch) None call refl is
+beyond c (waits_for.Close request batch) (Some (tells.Closed to)) call is =
+    record { more = _ ∷ []; begun = _; says = refl; open_call = (refl, refl); of_it = inr is }
+beyond c (waits_for.Close request batch) (Some _) call is =
     record { more = []; begun = None; says = sym (append-nil c.transcript); open_call = refl; of_it = inl refl }
 
-module _ (laws : AreLaws) (w : World) (reached : IsReached w) (one_rank : w.config.ranks ≡ 1) (one_server : w.config.servers ≡ 1) where
+module _ (w : World) (l : IsLone w) where
   abbrev c : ClientModel
   c = client_of w zeroth
 
-  pub own_rank : IsClient w.config zeroth (client_of w zeroth)
-  own_rank = (laws.own w.config reached.0 w reached.1).ranks zeroth (omega (arith, one_rank))
-
-  pub own_server : IsPool w.config first_server (pool_of w first_server)
-  own_server = (laws.own w.config reached.0 w reached.1).servers first_server (omega (arith, one_server))
-
-  pub none_is_stuck : NoneIsStuck w
-  none_is_stuck = laws.expected w.config reached.0 w one_rank reached.1
-
   abbrev bag : (b : Bag) × IsSeated w b
-  bag = laws.seated w.config reached.0 w one_rank reached.1
+  bag = actors_seated w.config l.events w l.run
 
-  abbrev seat : HasSeat w bag.0 zeroth
-  seat = bag.1.ranks zeroth (omega (arith, one_rank))
+  seat : HasSeat w bag.0 zeroth
+  seat = bag.1.ranks zeroth (omega (arith, l.one_rank))
 
-  there : rank_at bag.0 zeroth ≡ Some (rank_of c c.finished seat.coming)
-  there = ap (rank_at bag.0) (sym own_rank.me) ∙ seat.stands.rank
+  -- what is told of the ledger by the rank's state in the bag
+  abbrev told_as : (said more : List Said) (begun : Option Call) (r : RankState) → said_with c c.pending seat.coming ≡ said ++ more
+      → rank_of c c.finished seat.coming ≡ r → IsOpen (call_of r.status) more begun → IsTold w.config w.ledger said begun
+  told_as said more begun r says is open_call = record {
+    last = bag.0;
+    legal = bag.1.run;
+    more = more;
+    calls_are = sym seat.says ∙ says;
+    rank = r;
+    there = ap (rank_at bag.0) (sym (rank_own w l).me) ∙ seat.stands.rank ∙ ap Some is;
+    open_call = open_call;
+  }
 
-  -- no call is pending
+  -- the rank waits for nothing
   pub true_idle : c.pending ≡ waits_for.Nothing
       → (told : IsTold w.config w.ledger c.transcript None) × IsLeft told.last (left_of (pool_of w first_server))
-  true_idle idle = (
-    record {
-      last = bag.0;
-      legal = bag.1.run;
-      more = [];
-      calls_are = sym seat.says ∙ says_all c seat.coming idle ∙ sym (append-nil c.transcript);
-      rank = rank_of c c.finished seat.coming;
-      there = there;
-      open_call = sym (rests c seat.coming c.finished idle);
-    },
-    left_is bag.0 (pool_of w first_server) (bag.1.servers first_server (omega (arith, one_server))) (bag.1.alone one_rank one_server),
+  true_idle idle =
+      let s = pool_of w first_server in
+      let all = one_has_all w.config w.ledger bag.0 s.me l.one_server (ap (λ (k : Server). k.0) (server_own w l).me) bag.1.run in (
+        told_as c.transcript [] None (rank_of c c.finished seat.coming) (says_all c seat.coming idle ∙ sym (append-nil c.transcript)) refl
+            (sym (rests c seat.coming c.finished idle)),
+        left_is bag.0 s (bag.1.servers first_server (omega (arith, l.one_server))) all,
+      )
+
+  -- of the call that goes on
+  pub told_at : (said : List Said) (call : Call) → IsAt said call c → IsToldOf w.config said call w.ledger
+  told_at said call (Before idle same) = (
+    None,
+    told_as said [] None (rank_of c c.finished seat.coming) (says_all c seat.coming idle ∙ same ∙ sym (append-nil said)) refl
+        (sym (rests c seat.coming c.finished idle)),
+    inl refl,
   )
-
-  pub told_idle : (call : Call) → c.pending ≡ waits_for.Nothing → IsToldOf w.config c.transcript call w.ledger
-  told_idle call idle = (None, (true_idle idle).0, inl refl)
-
-  -- the last call is answered
-  pub told_answered : (said : List Said) (s : Said) → c.pending ≡ waits_for.Nothing → c.transcript ≡ said ++ s ∷ []
-      → IsToldOf w.config said s.call w.ledger
-  told_answered said s idle grown = (
-    Some s.call,
-    record {
-      last = bag.0;
-      legal = bag.1.run;
-      more = s ∷ [];
-      calls_are = sym seat.says ∙ says_all c seat.coming idle ∙ grown;
-      rank = rank_of c c.finished seat.coming;
-      there = there;
-      open_call = (rests c seat.coming c.finished idle, refl);
-    },
-    inr refl,
-  )
-
-  -- a call is pending
-  pub told_pending : (call : Call) → c.finished ≡ false → pending_call c.pending ≡ Some call → IsToldOf w.config c.transcript call w.ledger
-  told_pending call going pending =
-      let now : IsBeyond c c.pending seat.coming call = beyond c c.pending seat.coming call pending in (
+  told_at said call (Within p) =
+      let now : IsBeyond c c.pending seat.coming call = beyond c c.pending seat.coming call p.pending in (
         now.begun,
-        record {
-          last = bag.0;
-          legal = bag.1.run;
-          more = now.more;
-          calls_are = sym seat.says ∙ now.says;
-          rank = in_call c c.pending seat.coming;
-          there = there ∙ ap (λ f. Some (rank_of c f seat.coming)) going;
-          open_call = now.open_call;
-        },
+        told_as said now.more now.begun (in_call c c.pending seat.coming) (now.says ∙ ap (λ t. t ++ now.more) p.same)
+            (ap (λ f. rank_of c f seat.coming) p.going) now.open_call,
         now.of_it,
       )
+  told_at said call (Behind answer idle grown) = (
+    Some call,
+    told_as said (record { call = call; answer = answer } ∷ []) (Some call) (rank_of c c.finished seat.coming)
+        (says_all c seat.coming idle ∙ grown) refl (rests c seat.coming c.finished idle, refl),
+    inr refl,
+  )

@@ -88,8 +88,8 @@ pub record IsInline (run : Run) : Type 0 where
   pub whole : run.failed ≡ None → IsWhole run told.last
   -- each call took a stamp of its own
   pub short : length run.transcript < stamp_limit
-  -- a stamp that was too long is past the last one, and each call took three events at most
-  pub late : (stamp : ℕ) → run.failed ≡ Some (TooLong stamp) → (stamp_limit ≤ stamp) × (stamp ≤ 3 * length run.transcript + 3)
+  -- a stamp that was too long is past the last one, and each call took five events at most
+  pub late : (stamp : ℕ) → run.failed ≡ Some (TooLong stamp) → (stamp_limit ≤ stamp) × (stamp ≤ 5 * length run.transcript + 5)
 
 -- what Finish adds to the transcript: it is answered where nothing failed
 abbrev pub finish_answer : Option Trouble → Option Answer

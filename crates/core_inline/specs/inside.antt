@@ -2,5 +2,4 @@
 pub mod Answers
 pub mod Begun
 pub mod Fields
-pub mod Laws
 pub mod Pairs

@@ -7,7 +7,6 @@ ghost use Rattle.rank_client.specs.Calls.{Began, Repeats, TellsAgain, end_told, 
 ghost use Rattle.core_inline.specs.inside.Answers.{CanCall, IsAnswer, answered, answers_call, heeds_end, troubled};
 ghost use Rattle.core_inline.specs.Inline.{IsEnd, IsInline, IsStart, finish_answer};
 
-use crate::laws::run_laws;
 use crate::pairs::{exchange, finish};
 use adlb_unit::{Config, NoMemory, Rank, Server, Trouble};
 use bag_ledger::{Answer, Call, Ledger, Said};
@@ -44,7 +43,6 @@ impl InlineRun {
         ensures start { IfOk result (λ run. IsStart limit run) }
         ensures holds { IfOk result IsInline }
     {
-        run_laws();
         let Ok(config) = Config::new(1, 1, limit) else {
             unreachable!()
         };
@@ -117,7 +115,7 @@ impl InlineRun {
         let Ok(left) = self.world.left(Server(0)) else {
             return Err(Trouble::Memory);
         };
-        let (ledger, transcript) = self.world.into_parts();
+        let (ledger, transcript) = self.world.into_parts(Rank(0));
         Ok((ledger, transcript, left))
     }
 

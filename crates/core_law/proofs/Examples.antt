@@ -1,143 +1,237 @@
 -- Small runs, by computation.
-use Rattle.std.proofs.Common.{◌≡◌, ℕ, ◌-◌, ◌^◌, pos, List, map, [], ◌∷◌, Option, Some, None, refl, replicate, length, arith}
-use Rattle.std.specs.Prelude.{option_and_then}
+use Rattle.std.proofs.Common.{◌≡◌, ◌≤◌, ◌<◌, ℕ, ◌+◌, ◌-◌, ◌^◌, pos, Bool, true, false, List, map, [], ◌∷◌, Option, Some, None, refl, replicate, length, arith}
+use Rattle.std.specs.Prelude.{option_and_then, take}
+use Rattle.std.specs.List.{range_with_len}
 use Rattle.std.specs.Option.{option_map}
-use Rattle.adlb_unit.specs.declared.actors.Actor.{Actor}
 use Rattle.adlb_unit.specs.declared.actors.Actor.TheVariants as by
 use Rattle.adlb_unit.specs.declared.configs.Config.{Config}
 use Rattle.adlb_unit.specs.declared.letters.Letter.{Letter}
+use Rattle.adlb_unit.specs.declared.names.Rank.{Rank}
+use Rattle.adlb_unit.specs.declared.names.Server.{Server}
 use Rattle.adlb_unit.specs.declared.names.Target.TheVariants.{Any}
 use Rattle.adlb_unit.specs.declared.names.UnitId.{UnitId}
 use Rattle.adlb_unit.specs.declared.notes.End.TheVariants as ends_by
-use Rattle.bag_ledger.specs.declared.entries.Call.{Call}
+use Rattle.bag_ledger.specs.Runs.{calls}
 use Rattle.bag_ledger.specs.declared.entries.Call.TheVariants as calls_to
 use Rattle.bag_ledger.specs.declared.entries.Entry.{Entry}
 use Rattle.bag_ledger.specs.declared.entries.Entry.TheVariants as enters
 use Rattle.rank_client.specs.Calls.{is_fetched, is_granted}
+use Rattle.server_law.specs.State.{ServerModel}
 use Rattle.core_run.specs.declared.events.Event.{Event}
 use Rattle.core_run.specs.declared.events.Event.TheVariants as occurs
-use Rattle.core_run.specs.World.{World, happens, start, post, rank_named, server_named}
 use Rattle.core_run.specs.Runs.{run, transcript}
-use Rattle.bag_ledger.specs.Runs.{calls}
+use Rattle.core_run.specs.World.{World, happens, has_ended, post, rank_named, server_named, start}
+use Rattle.core_law.specs.Letters.{one_letter}
+use Rattle.core_law.specs.Measures.{measure, weights}
 
--- one rank and so many servers, each with room for 64 bytes
-one_server : Config
-one_server = record {
-  ranks = 1;
-  servers = 1;
+-- so many ranks and servers, each server with room for 64 bytes
+abbrev sized : (ranks servers : ℕ) → (0 < ranks) × (ranks ≤ 32) → (0 < servers) × (servers ≤ 8) → Config
+sized ranks servers some few = record {
+  ranks = ranks;
+  servers = servers;
   limit = 64;
-  ranks_within = (omega arith, omega arith);
-  servers_within = (omega arith, omega arith);
+  ranks_within = some;
+  servers_within = few;
   limit_within = (omega arith, omega arith);
 }
 
-two_servers : Config
-two_servers = record {
-  ranks = 1;
-  servers = 2;
-  limit = 64;
-  ranks_within = (omega arith, omega arith);
-  servers_within = (omega arith, omega arith);
-  limit_within = (omega arith, omega arith);
-}
+abbrev one_server : Config
+one_server = sized 1 1 (omega arith, omega arith) (omega arith, omega arith)
 
-rank : Actor
-rank = by.Rank (rank_named 0)
+abbrev two_servers : Config
+two_servers = sized 1 2 (omega arith, omega arith) (omega arith, omega arith)
 
-server : ℕ → Actor
-server number = by.Server (server_named number)
+abbrev two_ranks : Config
+two_ranks = sized 2 1 (omega arith, omega arith) (omega arith, omega arith)
 
-unit : ℕ → UnitId
-unit call = record { rank = rank_named 0; number = call }
+abbrev three_ranks : Config
+three_ranks = sized 3 1 (omega arith, omega arith) (omega arith, omega arith)
 
--- forty bytes of type 2
-put : Event
-put = occurs.Call (rank_named 0) (calls_to.Put (record { 0 = 2 }) (pos 0) Any None (replicate 40 7))
+abbrev rank : ℕ → Rank
+rank number = rank_named number
 
-putting : ℕ → Entry
-putting call = enters.Putting (rank_named 0) call (record { 0 = 2 }) (pos 0) Any None (replicate 40 7)
+abbrev server : ℕ → Server
+server number = server_named number
 
-begins : Call → Event
-begins call = occurs.Call (rank_named 0) call
+-- of the put in this call of the rank
+abbrev unit : ℕ → ℕ → UnitId
+unit number call = record { rank = rank_named number; number = call }
 
-ask : ℕ → Event
-ask number = occurs.Deliver rank (server number)
+-- the rank begins to put forty bytes of type 2, to reserve any type, to fetch the unit, to finish
+abbrev puts : ℕ → Event
+puts number = occurs.Call (rank number) (calls_to.Put (record { 0 = 2 }) (pos 0) Any None (replicate 40 7))
 
-answer : ℕ → Event
-answer number = occurs.Deliver (server number) rank
+abbrev reserves : ℕ → Event
+reserves number = occurs.Call (rank number) (calls_to.Reserve None)
 
-ledger_after : Config → List Event → Option (List Entry)
+abbrev fetches : ℕ → UnitId → Event
+fetches number id = occurs.Call (rank number) (calls_to.Fetch id)
+
+abbrev finishes : ℕ → Event
+finishes number = occurs.Call (rank number) calls_to.Finish
+
+-- the server handles the rank's letter, and the rank the server's
+abbrev asks : ℕ → ℕ → Event
+asks number at = occurs.Deliver (by.Rank (rank number)) (by.Server (server at))
+
+abbrev hears : ℕ → ℕ → Event
+hears number at = occurs.Deliver (by.Server (server at)) (by.Rank (rank number))
+
+abbrev putting : ℕ → ℕ → Entry
+putting number call = enters.Putting (rank number) call (record { 0 = 2 }) (pos 0) Any None (replicate 40 7)
+
+abbrev ledger_after : Config → List Event → Option (List Entry)
 ledger_after config events = option_map (λ (w : World). w.ledger) (run (start config) events)
+
+-- One rank.
 
 -- each server takes one put, and the third goes round the ring and is rejected
 rejected_after_each_server : ledger_after two_servers
-    (put ∷ ask 0 ∷ answer 0 ∷ put ∷ ask 1 ∷ answer 1 ∷ put ∷ ask 0 ∷ answer 0 ∷ ask 1 ∷ answer 1 ∷ [])
+    (puts 0 ∷ asks 0 0 ∷ hears 0 0 ∷ puts 0 ∷ asks 0 1 ∷ hears 0 1 ∷ puts 0 ∷ asks 0 0 ∷ hears 0 0 ∷ asks 0 1 ∷ hears 0 1 ∷ [])
     ≡ Some (
-    putting 0 ∷ enters.Accepted (server_named 0) (unit 0) ∷ putting 1 ∷ enters.Accepted (server_named 1) (unit 1) ∷ putting 2
-    ∷ enters.Refused (server_named 0) (unit 2) 40 ∷ enters.Refused (server_named 1) (unit 2) 40 ∷ enters.Rejected (rank_named 0) 2 ∷ [])
-unfolding two_servers rank server unit put putting ask answer ledger_after post
+    putting 0 0 ∷ enters.Accepted (server 0) (unit 0 0) ∷ putting 0 1 ∷ enters.Accepted (server 1) (unit 0 1) ∷ putting 0 2
+    ∷ enters.Refused (server 0) (unit 0 2) 40 ∷ enters.Refused (server 1) (unit 0 2) 40 ∷ enters.Rejected (rank 0) 2 ∷ [])
+unfolding post
 rejected_after_each_server = refl
 
 -- with one server what was put is granted and fetched; then all is used up, and with the only rank the server has ended
 one_server_alone : ledger_after one_server
-    (put ∷ ask 0 ∷ answer 0 ∷ begins (calls_to.Reserve None) ∷ ask 0 ∷ answer 0 ∷ begins (calls_to.Fetch (unit 0)) ∷ ask 0 ∷ answer 0
-    ∷ begins (calls_to.Reserve None) ∷ ask 0 ∷ answer 0 ∷ put ∷ begins calls_to.Finish ∷ ask 0 ∷ [])
+    (puts 0 ∷ asks 0 0 ∷ hears 0 0 ∷ reserves 0 ∷ asks 0 0 ∷ hears 0 0 ∷ fetches 0 (unit 0 0) ∷ asks 0 0 ∷ hears 0 0
+    ∷ reserves 0 ∷ asks 0 0 ∷ hears 0 0 ∷ puts 0 ∷ finishes 0 ∷ asks 0 0 ∷ [])
     ≡ Some (
-    putting 0 ∷ enters.Accepted (server_named 0) (unit 0) ∷ enters.Asked (rank_named 0) 1 None
-    ∷ enters.Granted (server_named 0) (rank_named 0) 1 (unit 0) ∷ enters.Fetching (rank_named 0) 2 (unit 0)
-    ∷ enters.Fetched (server_named 0) (rank_named 0) (unit 0) ∷ enters.Asked (rank_named 0) 3 None ∷ enters.Exhausted
-    ∷ enters.Over (rank_named 0) 3 ends_by.Exhausted ∷ putting 4 ∷ enters.Over (rank_named 0) 4 ends_by.Exhausted
-    ∷ enters.Finished (rank_named 0) 5 ∷ [])
-unfolding one_server rank server unit put putting begins ask answer ledger_after post is_granted is_fetched
+    putting 0 0 ∷ enters.Accepted (server 0) (unit 0 0) ∷ enters.Asked (rank 0) 1 None ∷ enters.Granted (server 0) (rank 0) 1 (unit 0 0)
+    ∷ enters.Fetching (rank 0) 2 (unit 0 0) ∷ enters.Fetched (server 0) (rank 0) (unit 0 0) ∷ enters.Asked (rank 0) 3 None
+    ∷ enters.Exhausted ∷ enters.Over (rank 0) 3 ends_by.Exhausted ∷ putting 0 4 ∷ enters.Over (rank 0) 4 ends_by.Exhausted
+    ∷ enters.Finished (rank 0) 5 ∷ [])
+unfolding post is_granted is_fetched
 one_server_alone = refl
 
 -- no event: a letter where none is under way, a call while one is pending, a reserve with two servers
-no_letter : ledger_after two_servers (put ∷ ask 1 ∷ []) ≡ None
-unfolding two_servers rank server put ask ledger_after post
+no_letter : ledger_after two_servers (puts 0 ∷ asks 0 1 ∷ []) ≡ None
+unfolding post
 no_letter = refl
 
-no_second_call : ledger_after two_servers (put ∷ put ∷ []) ≡ None
-unfolding two_servers put ledger_after post
+no_second_call : ledger_after two_servers (puts 0 ∷ puts 0 ∷ []) ≡ None
+unfolding post
 no_second_call = refl
 
-no_reserve_among_two : ledger_after two_servers (begins (calls_to.Reserve None) ∷ []) ≡ None
-unfolding two_servers begins ledger_after post
+no_reserve_among_two : ledger_after two_servers (reserves 0 ∷ []) ≡ None
+unfolding post
 no_reserve_among_two = refl
 
 -- Finish goes to each server, and each that handles it while the other has not has not ended
-finish_to_each : ledger_after two_servers (begins calls_to.Finish ∷ ask 1 ∷ ask 0 ∷ []) ≡ Some (enters.Finished (rank_named 0) 0 ∷ [])
-unfolding two_servers rank server begins ask ledger_after post
+finish_to_each : ledger_after two_servers (finishes 0 ∷ asks 0 1 ∷ asks 0 0 ∷ []) ≡ Some (enters.Finished (rank 0) 0 ∷ [])
+unfolding post
 finish_to_each = refl
 
-no_second_finish : ledger_after two_servers (begins calls_to.Finish ∷ ask 1 ∷ ask 1 ∷ []) ≡ None
-unfolding two_servers rank server begins ask ledger_after post
+no_second_finish : ledger_after two_servers (finishes 0 ∷ asks 0 1 ∷ asks 0 1 ∷ []) ≡ None
+unfolding post
 no_second_finish = refl
 
--- calls behind the last answer wait in the ledger alone: nothing of the fourth put is in the transcript
-heard_after : Config → List Event → Option ℕ
-heard_after config events = option_map (λ (w : World). length (transcript w (rank_named 0))) (run (start config) events)
-
-told_after : Config → List Event → Option ℕ
-told_after config events = option_map (λ (w : World). length (calls w.config w.ledger (rank_named 0))) (run (start config) events)
-
-transcript_is_behind : heard_after two_servers (put ∷ ask 0 ∷ []) ≡ Some 0
-unfolding two_servers rank server put ask heard_after post
+-- calls behind the last answer wait in the ledger alone: nothing of the put is in the transcript
+transcript_is_behind : option_map (λ (w : World). length (transcript w (rank 0))) (run (start two_servers) (puts 0 ∷ asks 0 0 ∷ []))
+    ≡ Some 0
+unfolding post
 transcript_is_behind = refl
 
-ledger_is_ahead : told_after two_servers (put ∷ ask 0 ∷ []) ≡ Some 1
-unfolding two_servers rank server put ask told_after post
+ledger_is_ahead : option_map (λ (w : World). length (calls w.config w.ledger (rank 0))) (run (start two_servers) (puts 0 ∷ asks 0 0 ∷ []))
+    ≡ Some 1
+unfolding post
 ledger_is_ahead = refl
 
 -- that no letter is stuck holds of stamps that are given: the put of this world bears the last of them, or one past it
-put_stamped : ℕ → Option (List Entry)
+abbrev put_stamped : ℕ → Option (List Entry)
 put_stamped stamp =
-    option_and_then (λ (w : World). option_map (λ (x : World). x.ledger) (happens (record w { links = map (λ row. map (λ letters. map (λ (l : Letter). record l { stamp = stamp }) letters) row) w.links }) (ask 0)))
-    (run (start one_server) (put ∷ []))
+    option_and_then (λ (w : World). option_map (λ (x : World). x.ledger)
+    (happens (record w { links = map (λ row. map (λ letters. map (λ (l : Letter). record l { stamp = stamp }) letters) row) w.links })
+    (asks 0 0)))
+    (run (start one_server) (puts 0 ∷ []))
 
-last_stamp_is_handled : put_stamped (2 ^ 48 - 1) ≡ Some (putting 0 ∷ enters.Accepted (server_named 0) (unit 0) ∷ [])
-unfolding one_server rank server unit put putting ask put_stamped post
+last_stamp_is_handled : put_stamped (2 ^ 48 - 1) ≡ Some (putting 0 0 ∷ enters.Accepted (server 0) (unit 0 0) ∷ [])
+unfolding post
 last_stamp_is_handled = refl
 
 stuck_past_the_stamps : put_stamped (2 ^ 48) ≡ None
-unfolding one_server rank server put ask put_stamped post
+unfolding post
 stuck_past_the_stamps = refl
+
+-- Several ranks over one server.
+
+-- who waits at each server, and whether it has ended
+abbrev waiting_after : Config → List Event → Option (List (List Rank × Bool))
+waiting_after config events =
+    option_map (λ (w : World). map (λ (s : ServerModel). (map (λ e. e.wish.rank) s.kept.parked.waiting, has_ended s)) w.servers)
+    (run (start config) events)
+
+-- of the call of a rank so many letters are under way, or so often it waits, before the first event and after each
+abbrev calls_along : Config → ℕ → List Event → List (Option ℕ)
+calls_along config number events =
+    map (λ k. option_map (measure (weights (one_letter (rank number)))) (run (start config) (take k events)))
+    (range_with_len 0 (length events + 1))
+
+-- Ranks 2 and 1 come to wait, in that order; the unit that rank 0 puts goes to rank 2, which fetches it.
+abbrev put_for_the_first : List Event
+put_for_the_first =
+    reserves 2 ∷ asks 2 0 ∷ reserves 1 ∷ asks 1 0 ∷ puts 0 ∷ asks 0 0 ∷ hears 2 0 ∷ hears 0 0 ∷ fetches 2 (unit 0 0) ∷ asks 2 0
+    ∷ hears 2 0 ∷ []
+
+first_gets_it : ledger_after three_ranks put_for_the_first
+    ≡ Some (
+    enters.Asked (rank 2) 0 None ∷ enters.Asked (rank 1) 0 None ∷ putting 0 0 ∷ enters.Accepted (server 0) (unit 0 0)
+    ∷ enters.Granted (server 0) (rank 2) 0 (unit 0 0) ∷ enters.Fetching (rank 2) 1 (unit 0 0)
+    ∷ enters.Fetched (server 0) (rank 2) (unit 0 0) ∷ [])
+unfolding post is_granted is_fetched
+first_gets_it = refl
+
+second_waits_on : waiting_after three_ranks put_for_the_first ≡ Some ((rank 1 ∷ [], false) ∷ [])
+unfolding post is_granted is_fetched
+second_waits_on = refl
+
+-- one thing stands for each pending call: the request, that the rank waits, the grant; and then those of the fetch
+one_thing_stands : calls_along three_ranks 2 put_for_the_first
+    ≡ Some 0 ∷ Some 1 ∷ Some 1 ∷ Some 1 ∷ Some 1 ∷ Some 1 ∷ Some 1 ∷ Some 0 ∷ Some 0 ∷ Some 1 ∷ Some 1 ∷ Some 0 ∷ []
+unfolding post is_granted is_fetched measure
+one_thing_stands = refl
+
+-- Rank 1 waits, and then rank 0: all work is used up, and both are told, in the order in which they came.
+abbrev both_in_vain : List Event
+both_in_vain = reserves 1 ∷ reserves 0 ∷ asks 1 0 ∷ asks 0 0 ∷ hears 0 0 ∷ hears 1 0 ∷ []
+
+told_in_order : ledger_after two_ranks both_in_vain
+    ≡ Some (
+    enters.Asked (rank 1) 0 None ∷ enters.Asked (rank 0) 0 None ∷ enters.Exhausted ∷ enters.Over (rank 1) 0 ends_by.Exhausted
+    ∷ enters.Over (rank 0) 0 ends_by.Exhausted ∷ [])
+unfolding post
+told_in_order = refl
+
+none_waits_on : waiting_after two_ranks both_in_vain ≡ Some (([], false) ∷ [])
+unfolding post
+none_waits_on = refl
+
+-- Rank 0 finishes while rank 1 waits: all work is used up, and rank 1 is told. When it has finished too, the server has ended.
+abbrev finish_beside : List Event
+finish_beside = reserves 1 ∷ asks 1 0 ∷ finishes 0 ∷ asks 0 0 ∷ hears 1 0 ∷ finishes 1 ∷ asks 1 0 ∷ []
+
+other_is_told : ledger_after two_ranks finish_beside
+    ≡ Some (
+    enters.Asked (rank 1) 0 None ∷ enters.Finished (rank 0) 0 ∷ enters.Exhausted ∷ enters.Over (rank 1) 0 ends_by.Exhausted
+    ∷ enters.Finished (rank 1) 1 ∷ [])
+unfolding post
+other_is_told = refl
+
+other_waits_until_then : waiting_after two_ranks (take 3 finish_beside) ≡ Some ((rank 1 ∷ [], false) ∷ [])
+unfolding post
+other_waits_until_then = refl
+
+not_ended_before_both : waiting_after two_ranks (take 6 finish_beside) ≡ Some (([], false) ∷ [])
+unfolding post
+not_ended_before_both = refl
+
+nobody_is_left : waiting_after two_ranks finish_beside ≡ Some (([], true) ∷ [])
+unfolding post
+nobody_is_left = refl
+
+-- while its call is pending one thing stands for it, and then none
+other_is_told_once : calls_along two_ranks 1 finish_beside ≡ Some 0 ∷ Some 1 ∷ Some 1 ∷ Some 1 ∷ Some 1 ∷ Some 0 ∷ Some 0 ∷ Some 0 ∷ []
+unfolding post measure
+other_is_told_once = refl

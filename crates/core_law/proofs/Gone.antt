@@ -1,5 +1,5 @@
 -- What the bag says of the units that a rank has taken, and of those that its notes name.
-use Rattle.std.proofs.Common.{◌≡◌, ◌⊎◌, inl, inr, Bool, true, false, ◌||◌, List, [], ◌∷◌, ◌++◌, length, get_or, Some, refl, sym, ap, ◌∙◌, subst, find}
+use Rattle.std.proofs.Common.{◌≡◌, ◌⊎◌, inl, inr, Bool, true, false, ◌||◌, List, [], ◌∷◌, ◌++◌, length, get_or, Option, Some, refl, sym, ap, ◌∙◌, subst, find}
 use Rattle.std.specs.Prelude.{All, Contains}
 use Rattle.std.proofs.lemmas.List.Elements.{All-contains, All-head, All-tail, All-weaker}
 use Rattle.adlb_unit.specs.declared.names.Rank.{Rank}
@@ -16,63 +16,43 @@ use Rattle.bag_ledger.specs.declared.states.Placed.{Placed as Lodged}
 use Rattle.bag_ledger.specs.declared.states.UnitPlace.{UnitPlace}
 use Rattle.bag_ledger.specs.declared.states.UnitPlace.TheVariants.{Pinned, Spent}
 use Rattle.bag_ledger.specs.Bag.{Bag, is_free, unit_of}
+use Rattle.bag_ledger.specs.Runs.{note_of}
 use Rattle.bag_ledger.specs.Steps.{moved}
 use Rattle.bag_ledger.proofs.Lookups.{find_before}
 use Rattle.bag_ledger.proofs.Moves.{moved_keeps}
 use Rattle.bag_law.specs.Calls.{IsTrueAnswer, IsTrueCall, IsTrueSaid}
+use Rattle.core_law.specs.Lawful.{IsFact}
 use Rattle.rank_client.specs.Calls.{fetches, grants, is_fetched, is_granted}
 
 -- the unit was accepted, and is not free
 abbrev pub IsGone : Bag → UnitId → Type 0
 IsGone b id = (u : Lodged) × (unit_of b id ≡ Some u) × (is_free u.place ≡ false)
 
--- the note has the length of its unit
-abbrev pub IsFact : Bag → UnitNote → Type 0
-IsFact b note = (u : Lodged) × (unit_of b note.id ≡ Some u) × (note.length ≡ length u.unit.body)
-
--- what the bag says of the notes that a rank holds
-pub record Knows (b : Bag) (notes : List UnitNote) : Type 0 where
-  pub facts : All (IsFact b) notes
-  -- so far no room is promised
-  pub no_room : b.promises ≡ []
-
 -- The bag changes.
 
-pub gone_same : (b c : Bag) (id : UnitId) → c.units ≡ b.units → IsGone b id → IsGone c id
-gone_same b c id same gone = (gone.0, ap (λ (units : List Lodged). find (λ u. same_unit u.unit.id id) units) same ∙ gone.1, gone.2)
+pub facts_same : (b c : Bag) (notes : List UnitNote) → c.units ≡ b.units → All (IsFact b) notes → All (IsFact c) notes
+facts_same b c notes same all =
+    let find_in : UnitId → List Lodged → Option Lodged = λ id units. find (λ (u : Lodged). same_unit u.unit.id id) units in
+    All-weaker (IsFact b) (IsFact c) (λ note f. (f.0, ap (find_in note.id) same ∙ f.1, f.2)) notes all
 
-fact_same : (b c : Bag) (note : UnitNote) → c.units ≡ b.units → IsFact b note → IsFact c note
-fact_same b c note same fact = (fact.0, ap (λ (units : List Lodged). find (λ u. same_unit u.unit.id note.id) units) same ∙ fact.1, fact.2)
-
-pub knows_same : (b c : Bag) (notes : List UnitNote) → c.units ≡ b.units → c.promises ≡ b.promises → Knows b notes → Knows c notes
-knows_same b c notes same room k = record {
-  facts = All-weaker (IsFact b) (IsFact c) (λ note fact. fact_same b c note same fact) notes k.facts;
-  no_room = room ∙ k.no_room;
-}
-
-pub knows_added : (b : Bag) (u : Lodged) (notes : List UnitNote) → Knows b notes → Knows (record b { units = b.units ++ u ∷ [] }) notes
-knows_added b u notes k = record {
-  facts = All-weaker (IsFact b) (IsFact (record b { units = b.units ++ u ∷ [] })) (λ note f. (f.0, find_before (λ (v : Lodged). same_unit v.unit.id note.id) b.units (u ∷ []) f.0 f.1, f.2)) notes k.facts;
-  no_room = k.no_room;
-}
+pub facts_added : (b : Bag) (u : Lodged) (notes : List UnitNote) → All (IsFact b) notes
+    → All (IsFact (record b { units = b.units ++ u ∷ [] })) notes
+facts_added b u notes all =
+    All-weaker (IsFact b) (IsFact (record b { units = b.units ++ u ∷ [] }))
+    (λ note f. (f.0, find_before (λ (v : Lodged). same_unit v.unit.id note.id) b.units (u ∷ []) f.0 f.1, f.2)) notes all
 
 fact_moved : (b : Bag) (id : UnitId) (place : UnitPlace) (note : UnitNote) → IsFact b note → IsFact (moved id place b) note
 fact_moved b id place note fact =
     let v = moved_keeps b id note.id place fact.0 fact.1 in
-    (v.0, v.1, fact.2 ∙ ap (λ w. length w.body) (sym v.2))
+    (v.0, v.1, fact.2 ∙ ap (note_of note.server) (sym v.2))
 
-pub knows_moved : (b : Bag) (id : UnitId) (place : UnitPlace) (notes : List UnitNote) → Knows b notes → Knows (moved id place b) notes
-knows_moved b id place notes k = record {
-  facts = All-weaker (IsFact b) (IsFact (moved id place b)) (λ note fact. fact_moved b id place note fact) notes k.facts;
-  no_room = k.no_room;
-}
+pub facts_moved : (b : Bag) (id : UnitId) (place : UnitPlace) (notes : List UnitNote) → All (IsFact b) notes
+    → All (IsFact (moved id place b)) notes
+facts_moved b id place notes all = All-weaker (IsFact b) (IsFact (moved id place b)) (fact_moved b id place) notes all
 
 -- the rank holds no other notes
-pub knows_more : (b : Bag) (notes held : List UnitNote) → All (Contains notes) held → Knows b notes → Knows b held
-knows_more b notes held there k = record {
-  facts = λ i d within. All-contains (IsFact b) notes (get_or held i d) k.facts (there i d within);
-  no_room = k.no_room;
-}
+pub facts_of : (b : Bag) (notes held : List UnitNote) → All (Contains notes) held → All (IsFact b) notes → All (IsFact b) held
+facts_of b notes held there all = λ i d within. All-contains (IsFact b) notes (get_or held i d) all (there i d within)
 
 -- What a rank was told is true of the bag, so a unit that it was granted or has fetched is not free.
 
@@ -97,14 +77,16 @@ parted true f a c e = inl refl
 parted false true a c e = inr (inl refl)
 parted false false a c e = inr (inr e)
 
-pub taken_gone : (b : Bag) (rank : Rank) (id : UnitId) (said : List Said) → All (IsTrueSaid b rank) said → is_taken id said ≡ true → IsGone b id
+pub taken_gone : (b : Bag) (rank : Rank) (id : UnitId) (said : List Said) → All (IsTrueSaid b rank) said → is_taken id said ≡ true
+    → IsGone b id
 unfolding is_granted is_fetched
 taken_gone b rank id [] all e = absurd (cc)
 taken_gone b rank id (s ∷ said) all e =
     by_part (taken_gone b rank id said (All-tail (IsTrueSaid b rank) s said all))
     (parted (grants id s.answer) (fetches id s.call) (is_granted id said) (is_fetched id said) e)
   where
-    by_part : (is_taken id said ≡ true → IsGone b id) → (grants id s.answer ≡ true) ⊎ ((fetches id s.call ≡ true) ⊎ (is_taken id said ≡ true)) → IsGone b id
+    by_part : (is_taken id said ≡ true → IsGone b id)
+        → (grants id s.answer ≡ true) ⊎ ((fetches id s.call ≡ true) ⊎ (is_taken id said ≡ true)) → IsGone b id
     by_part before (inl granted) = told_gone b rank id s.answer (All-head (IsTrueSaid b rank) s said all).0 granted
     by_part before (inr (inl fetched)) = got_gone b id s.call (All-head (IsTrueSaid b rank) s said all).1 fetched
     by_part before (inr (inr earlier)) = before earlier

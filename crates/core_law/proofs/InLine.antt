@@ -1,8 +1,8 @@
 -- In every run the letters on each link stand in line.
-use Rattle.std.proofs.Common.{◌≡◌, ◌≢◌, ◌≤◌, ◌<◌, ◌⊎◌, inl, inr, ℕ, ◌+◌, Bool, true, false, cond, List, [], ◌∷◌, ◌++◌, length, get_or, replicate, refl, sym, ap, ◌∙◌, subst, arith, eqb}
-use Rattle.std.proofs.lemmas.Bool.{cases_eq, lt-ltb, ltb-true}
-use Rattle.std.proofs.lemmas.List.{length-replicate}
-use Rattle.adlb_unit.specs.Links.{place_of}
+use Rattle.std.proofs.Common.{◌≡◌, ◌≢◌, ◌≤◌, ◌<◌, ℕ, ◌+◌, max, true, List, [], ◌∷◌, ◌++◌, length, get_or, replicate, refl, sym, ap, ◌∙◌, subst, arith}
+use Rattle.std.proofs.lemmas.Bool.{lt-ltb, ltb-true}
+use Rattle.std.proofs.lemmas.List.{get_or-replicate, length-replicate, length-set}
+use Rattle.adlb_unit.specs.Links.{is_within, place_of}
 use Rattle.adlb_unit.specs.declared.actors.Actor.{Actor}
 use Rattle.adlb_unit.specs.declared.actors.Actor.TheVariants as by
 use Rattle.adlb_unit.specs.declared.configs.Config.{Config}
@@ -12,68 +12,28 @@ use Rattle.adlb_unit.specs.declared.names.Rank.{Rank}
 use Rattle.adlb_unit.specs.declared.names.Server.{Server}
 use Rattle.rank_client.specs.State.{ClientModel}
 use Rattle.rank_client.specs.Step.{Made}
-use Rattle.server_core.specs.State.{ServerModel}
-use Rattle.server_core.specs.Step.{Served}
+use Rattle.server_law.specs.Acts.{Act, ServerSaying, does, entries, says, takes}
+use Rattle.server_law.specs.Carried.{Served, all_counted, counted, done, sends}
+use Rattle.server_law.specs.State.{ServerModel}
+use Rattle.server_law.specs.Step.{next_stamp, ticked}
 use Rattle.core_run.specs.declared.events.Event.{Event}
-use Rattle.core_law.specs.Lines.{AreConsecutive, AreStamped, IsInLine, clock_of, rank_sent, sent_by, server_sent}
 use Rattle.core_run.specs.Runs.{Runs}
-use Rattle.core_run.specs.World.{World, actors, after_rank, after_server, client_of, is_within, link, pool_of, post, rank_named, server_named, start, taken}
-use Rattle.core_law.proofs.EveryRun.{IsWell, are_sent, begins_well, client_at, client_beside, client_there, pool_at, pool_beside, pool_there, same_always, same_at, well_kept}
-use Rattle.core_law.proofs.Fifo.{letters_for, post_other, post_same, put_beside, put_elsewhere, put_there}
-use Rattle.core_law.proofs.Kept.{answer_within, call_within, request_within}
-use Rattle.core_law.proofs.Posting.{IsPosted, joined_places, joined_stamps}
-use Rattle.core_law.proofs.Stamping.{RankPosts, ServerPosts, begin_posts, hear_posts, serve_posts}
-use Rattle.core_law.proofs.Steps.{A_call, A_request, An_answer, Does, IsShaped, happens_does, taken_shaped}
+use Rattle.core_run.specs.World.{Links, World, actors, after_rank, after_server, client_of, link, pool_of, post, start, taken}
+use Rattle.core_law.specs.Acting.{AreSaid, IsAct, acted, taken_off, ticks}
+use Rattle.core_law.specs.Lines.{AreConsecutive, AreStamped, IsInLine, clock_of, rank_sent, sent_by, server_sent}
+use Rattle.core_law.specs.Well.{IsSquare, IsWell}
+use Rattle.core_law.proofs.Actors.{client_beside, client_there, every_client, every_pool, pool_beside, pool_there}
+use Rattle.core_law.proofs.Acts.{acts_keep, sent_within, taken_off_links, taken_square}
+use Rattle.core_law.proofs.Chains.{pool_is}
+use Rattle.core_law.proofs.Events.{event_chain}
+use Rattle.core_law.proofs.EveryRun.{answer_heard, answer_within, begins_well, call_began, call_within, client_at, inside_ranks, pool_at, same_always, well_kept}
+use Rattle.core_law.proofs.Fifo.{letters_for}
+use Rattle.core_law.proofs.Posting.{IsPosted, joined_places, joined_stamps, none_posted, sayings_posted}
+use Rattle.core_law.proofs.Stamping.{RankPosts, made_posts}
+use Rattle.core_law.proofs.Steps.{A_call, A_request, An_answer, Does, Serves, happens_does, taken_shaped}
 use Rattle.core_law.proofs.Sums.{AreWithin, place_below}
-use Rattle.core_law.proofs.UnderWay.{Each, same_actor}
-
--- All links, along an event.
-
-abbrev AllLinks : (Actor → Actor → List Letter → Type 0) → World → Type 0
-AllLinks P w = (from to : Actor) → is_within w.config from ≡ true → is_within w.config to ≡ true → P from to (link w.links (place_of w.config from) (place_of w.config to))
-
--- the front letter goes off one
-taken_links : (P : Actor → Actor → List Letter → Type 0) (w : World) (from to : Actor) (l : Letter) (rest : List Letter) → IsShaped w → AllLinks P w → is_within w.config from ≡ true → is_within w.config to ≡ true → link w.links (place_of w.config from) (place_of w.config to) ≡ l ∷ rest
-    → (P from to (l ∷ rest) → P from to rest) → AllLinks P (record w { links = taken w from to rest })
-taken_links P w from to l rest shape all f t front goes a b la lb = by_row (cases_eq (place_of w.config a) (place_of w.config from))
-  where
-    Now : Actor → Actor → Type 0
-    Now a b = P a b (link (taken w from to rest) (place_of w.config a) (place_of w.config b))
-
-    left : P from to rest
-    left = goes (subst (λ (ls : List Letter). P from to ls) front (all from to f t))
-
-    by_column : (place_of w.config b ≡ place_of w.config to) ⊎ (place_of w.config b ≢ place_of w.config to) → Now from b
-    by_column (inl same) =
-        let is : to ≡ b = sym (same_actor w.config b to lb t same) in
-        let there = put_there (actors w.config) w.links (place_of w.config from) (place_of w.config to) rest (place_below w.config from f) (place_below w.config to t) shape.square in
-        subst (λ (c : Actor). Now from c) is (subst (λ (ls : List Letter). P from to ls) (sym there) left)
-    by_column (inr differs) = subst (λ (ls : List Letter). P from b ls) (sym (put_beside (actors w.config) w.links (place_of w.config from) (place_of w.config to) (place_of w.config b) rest (place_below w.config from f) differs shape.square)) (all from b f lb)
-
-    by_row : (place_of w.config a ≡ place_of w.config from) ⊎ (place_of w.config a ≢ place_of w.config from) → Now a b
-    by_row (inl same) =
-        let is : from ≡ a = sym (same_actor w.config a from la f same) in
-        subst (λ (c : Actor). Now c b) is (by_column (cases_eq (place_of w.config b) (place_of w.config to)))
-    by_row (inr differs) = subst (λ (ls : List Letter). P a b ls) (sym (put_elsewhere w.links (place_of w.config from) (place_of w.config to) (place_of w.config a) (place_of w.config b) rest differs)) (all a b la lb)
-
--- letters come to those of one sender
-posted_links : (P Q : Actor → Actor → List Letter → Type 0) (w : World) (me : Actor) (sends : List Sending) → IsShaped w → AllLinks P w → is_within w.config me ≡ true → AreWithin w.config sends
-    → ((to : Actor) (ls : List Letter) → is_within w.config to ≡ true → P me to ls → Q me to (ls ++ letters_for w.config (place_of w.config to) sends))
-    → ((from to : Actor) (ls : List Letter) → place_of w.config from ≢ place_of w.config me → P from to ls → Q from to ls)
-    → (from to : Actor) → is_within w.config from ≡ true → is_within w.config to ≡ true → Q from to (link (post w.config w.links (place_of w.config me) sends) (place_of w.config from) (place_of w.config to))
-posted_links P Q w me sends shape all i are comes others from to f t = by_row (cases_eq (place_of w.config from) (place_of w.config me))
-  where
-    Now : Actor → Type 0
-    Now a = Q a to (link (post w.config w.links (place_of w.config me) sends) (place_of w.config a) (place_of w.config to))
-
-    by_row : (place_of w.config from ≡ place_of w.config me) ⊎ (place_of w.config from ≢ place_of w.config me) → Now from
-    by_row (inl same) =
-        let is : me ≡ from = sym (same_actor w.config from me f i same) in
-        let now = post_same w.config w.links (place_of w.config me) (place_of w.config to) sends (place_below w.config me i) are shape.square in
-        subst Now is (subst (λ (ls : List Letter). Q me to ls) (sym now) (comes to (link w.links (place_of w.config me) (place_of w.config to)) t (all me to i t)))
-    by_row (inr differs) =
-        let now = post_other w.config w.links (place_of w.config me) (place_of w.config from) (place_of w.config to) sends differs in
-        subst (λ (ls : List Letter). Q from to ls) (sym now) (others from to (link w.links (place_of w.config from) (place_of w.config to)) differs (all from to f t))
+use Rattle.core_law.proofs.UnderWay.{AllLinks, posted_links, taken_links}
+use Rattle.core_law.proofs.Well.{act_well, inside_servers, own_of, tick_well}
 
 -- Lines.
 
@@ -83,143 +43,252 @@ record Line (letters : List Letter) (sent clock : ℕ) : Type 0 where
   places : AreConsecutive first letters sent
   stamps : AreStamped 0 letters clock
 
--- by the counts and the clocks of a world
-abbrev LineIn : World → Actor → Actor → List Letter → Type 0
-LineIn w from to letters = Line letters (sent_by w from to) (clock_of w from)
-
 lower_stamps : (low high last : ℕ) (xs : List Letter) → low ≤ high → AreStamped high xs last → AreStamped low xs last
 lower_stamps low high last [] few a = omega arith
 lower_stamps low high last (x ∷ xs) few a = (a.0, omega (arith, a.1), a.2)
 
 line_goes : (l : Letter) (rest : List Letter) (sent clock : ℕ) → Line (l ∷ rest) sent clock → Line rest sent clock
-line_goes l rest sent clock line = record { first = line.first + 1; places = line.places.1; stamps = lower_stamps 0 l.stamp clock rest (omega arith) line.stamps.2 }
-
-each_stamped : (config : Config) (b stamp : ℕ) (sends : List Sending) → Each (λ (y : Sending). y.letter.stamp ≡ stamp) sends → Each (λ (l : Letter). l.stamp ≡ stamp) (letters_for config b sends)
-each_stamped config b stamp [] each = tt
-each_stamped config b stamp (y ∷ sends) each = by_test (eqb (place_of config y.to) b) (each_stamped config b stamp sends each.1)
-  where
-    by_test : (t : Bool) → Each (λ (l : Letter). l.stamp ≡ stamp) (letters_for config b sends) → Each (λ (l : Letter). l.stamp ≡ stamp) (cond t (y.letter ∷ letters_for config b sends) (letters_for config b sends))
-    by_test true later = (each.0, later)
-    by_test false later = later
-
-line_comes : (config : Config) (to : Actor) (ls : List Letter) (sends : List Sending) (before now : Actor → ℕ) (clock stamp : ℕ) → is_within config to ≡ true → clock < stamp → IsPosted config sends before now stamp → Line ls (before to) clock → Line (ls ++ letters_for config (place_of config to) sends) (now to) stamp
-line_comes config to ls sends before now clock stamp within later p line = record {
-  first = line.first;
-  places = joined_places line.first (before to) (now to) ls (letters_for config (place_of config to) sends) line.places (p.places to within);
-  stamps = joined_stamps 0 clock stamp ls (letters_for config (place_of config to) sends) (omega arith) (omega arith) line.stamps (each_stamped config (place_of config to) stamp sends p.stamps);
+line_goes l rest sent clock line = record {
+  first = line.first + 1;
+  places = line.places.1;
+  stamps = lower_stamps 0 l.stamp clock rest (omega arith) line.stamps.2;
 }
 
--- Each actor counts for each actor of the run.
+line_comes : (config : Config) (to : Actor) (ls : List Letter) (sends : List Sending) (before now : Actor → ℕ) (clock stamp : ℕ)
+    → is_within config to ≡ true → clock ≤ stamp → 0 < stamp → IsPosted config sends before now stamp → Line ls (before to) clock
+    → Line (ls ++ letters_for config (place_of config to) sends) (now to) stamp
+line_comes config to ls sends before now clock stamp within later some p line = record {
+  first = line.first;
+  places = joined_places line.first (before to) (now to) ls (letters_for config (place_of config to) sends) line.places
+      (p.places to within);
+  stamps = joined_stamps 0 clock stamp ls (letters_for config (place_of config to) sends) later some line.stamps (p.stamps to);
+}
+
+-- by the counts and the clocks of a world
+abbrev LineIn : World → Actor → Actor → List Letter → Type 0
+LineIn w from to letters = Line letters (sent_by w from to) (clock_of w from)
+
+-- each actor counts for each actor of the run
 record AreCounted (w : World) : Type 0 where
   ranks : (me : Rank) → me.0 < w.config.ranks → length (client_of w me).sent ≡ w.config.servers
   servers : (me : Server) → me.0 < w.config.servers → length (pool_of w me).sent ≡ actors w.config
 
 record AreInLine (w : World) : Type 0 where
-  lines : AllLinks (LineIn w) w
+  lines : AllLinks (LineIn w) w.config w.links
   counted : AreCounted w
 
--- A rank's event.
+-- A step of one actor: the counts and the clocks of the others stay.
 
-rank_lines : (w : World) (me : Rank) (x : Made) → IsShaped w → me.0 < w.config.ranks → AreWithin w.config x.sends → AreInLine w → RankPosts w.config (client_of w me) x → AreInLine (after_rank w me w.links x)
-rank_lines w me x shape here are line p = record { lines = lines; counted = record { ranks = ranks; servers = (line.counted).servers } }
+lines_posted : (w : World) (links : Links) (me : Actor) (sends : List Sending) (sent : Actor → Actor → ℕ) (clock : Actor → ℕ)
+    → IsSquare (actors w.config) links → is_within w.config me ≡ true → AreWithin w.config sends
+    → IsPosted w.config sends (sent_by w me) (sent me) (clock me) → clock_of w me ≤ clock me → 0 < clock me
+    → ((from : Actor) → place_of w.config from ≢ place_of w.config me → ((to : Actor) → sent from to ≡ sent_by w from to)
+    × (clock from ≡ clock_of w from))
+    → AllLinks (LineIn w) w.config links
+    → AllLinks (λ from to ls. Line ls (sent from to) (clock from)) w.config (post w.config links (place_of w.config me) sends)
+lines_posted w links me sends sent clock sq i are p later some stays lines =
+    posted_links (LineIn w) (λ from to ls. Line ls (sent from to) (clock from)) w.config links me sends sq i are
+    (λ to ls within line. line_comes w.config to ls sends (sent_by w me) (sent me) (clock_of w me) (clock me) within later some p line)
+    (λ from to ls differs line. let s = stays from differs in
+    subst (λ n. Line ls n (clock from)) (sym (s.0 to)) (subst (Line ls (sent_by w from to)) (sym s.1) line))
+    lines
+
+-- A step of a rank.
+
+rank_lines : (w : World) (me : Rank) (links : Links) (x : Made) → IsWell w → me.0 < w.config.ranks → IsSquare (actors w.config) links
+    → AreWithin w.config x.sends → AreCounted w → RankPosts w.config (client_of w me) x → AllLinks (LineIn w) w.config links
+    → AreInLine (after_rank w me links x)
+rank_lines w me links x well here sq are counted p lines = record {
+  lines = lines_posted w links (by.Rank me) x.sends (sent_by v) (clock_of v) sq (lt-ltb me.0 w.config.ranks here) are posted
+      (let l = p.later in let c = clock in omega arith) (let l = p.later in let c = clock in omega arith) stays lines;
+  counted = record {
+    ranks = every_client (λ k s. length s.sent ≡ w.config.servers) w me x.state inside p.counts
+        (λ other there differs. counted.ranks other there);
+    servers = counted.servers;
+  };
+}
   where
     v : World
-    v = after_rank w me w.links x
+    v = after_rank w me links x
 
     inside : me.0 < length w.ranks
-    inside = let e = shape.ranks in omega arith
+    inside = inside_ranks w me well here
 
-    there : client_of (after_rank w me w.links x) me ≡ x.state
-    there = client_there w me w.links x inside
+    there : client_of v me ≡ x.state
+    there = client_there w me x.state inside
 
-    ranks : (k : Rank) → k.0 < w.config.ranks → length (client_of (after_rank w me w.links x) k).sent ≡ w.config.servers
-    ranks k within = by_place (cases_eq k.0 me.0)
-      where
-        by_place : (k.0 ≡ me.0) ⊎ (k.0 ≢ me.0) → length (client_of (after_rank w me w.links x) k).sent ≡ w.config.servers
-        by_place (inl same) = ap (λ (s : ClientModel). length s.sent) (ap (λ n. client_of (after_rank w me w.links x) (rank_named n)) same ∙ there) ∙ p.counts
-        by_place (inr differs) = ap (λ (s : ClientModel). length s.sent) (client_beside w me k w.links x differs) ∙ (line.counted).ranks k within
+    clock : clock_of v (by.Rank me) ≡ x.state.clock
+    clock = ap (λ (s : ClientModel). s.clock) there
 
-    comes : (to : Actor) (ls : List Letter) → is_within w.config to ≡ true → LineIn w (by.Rank me) to ls → LineIn (after_rank w me w.links x) (by.Rank me) to (ls ++ letters_for w.config (place_of w.config to) x.sends)
-    comes to ls within l =
-        let now = line_comes w.config to ls x.sends (rank_sent (client_of w me)) (rank_sent x.state) (client_of w me).clock x.state.clock within p.later p.posted l in
-        subst (λ (s : ClientModel). Line (ls ++ letters_for w.config (place_of w.config to) x.sends) (rank_sent s to) s.clock) (sym there) now
+    posted : IsPosted w.config x.sends (sent_by w (by.Rank me)) (sent_by v (by.Rank me)) (clock_of v (by.Rank me))
+    posted = subst (λ (s : ClientModel). IsPosted w.config x.sends (rank_sent (client_of w me)) (rank_sent s) s.clock) (sym there) p.posted
 
-    others : (from to : Actor) (ls : List Letter) → place_of w.config from ≢ place_of w.config (by.Rank me) → LineIn w from to ls → LineIn (after_rank w me w.links x) from to ls
-    others (by.Rank k) to ls differs l = subst (λ (s : ClientModel). Line ls (rank_sent s to) s.clock) (sym (client_beside w me k w.links x differs)) l
-    others (by.Server k) to ls differs l = l
+    stays : (from : Actor) → place_of w.config from ≢ place_of w.config (by.Rank me)
+        → ((to : Actor) → sent_by v from to ≡ sent_by w from to) × (clock_of v from ≡ clock_of w from)
+    stays (by.Rank k) differs =
+        let same = client_beside w me k x.state differs in
+        (λ to. ap (λ (s : ClientModel). rank_sent s to) same, ap (λ (s : ClientModel). s.clock) same)
+    stays (by.Server k) differs = (λ to. refl, refl)
 
-    lines : AllLinks (LineIn (after_rank w me w.links x)) (after_rank w me w.links x)
-    lines from to f t = posted_links (LineIn w) (LineIn (after_rank w me w.links x)) w (by.Rank me) x.sends shape line.lines (lt-ltb me.0 w.config.ranks here) are comes others from to f t
+call_in_line : (w : World) (me : Rank) (x : Made) → IsWell w → me.0 < w.config.ranks → AreWithin w.config x.sends
+    → RankPosts w.config (client_of w me) x → AreInLine w → AreInLine (after_rank w me w.links x)
+call_in_line w me x well here are p line = rank_lines w me w.links x well here (well.shape).square are line.counted p line.lines
 
--- A server's event.
+answer_in_line : (w : World) (from : Server) (me : Rank) (letter : Letter) (rest : List Letter) (x : Made) → IsWell w
+    → me.0 < w.config.ranks → from.0 < w.config.servers
+    → link w.links (place_of w.config (by.Server from)) (place_of w.config (by.Rank me)) ≡ letter ∷ rest → AreWithin w.config x.sends
+    → RankPosts w.config (client_of w me) x → AreInLine w → AreInLine (after_rank w me (taken w (by.Server from) (by.Rank me) rest) x)
+answer_in_line w from me letter rest x well here there front are p line =
+    let f : is_within w.config (by.Server from) ≡ true = lt-ltb from.0 w.config.servers there in
+    let t : is_within w.config (by.Rank me) ≡ true = lt-ltb me.0 w.config.ranks here in
+    let square = (taken_shaped w (by.Server from) (by.Rank me) rest well.shape f t).square in
+    let off = taken_links (LineIn w) w.config w.links (by.Server from) (by.Rank me) letter rest (well.shape).square f t front
+    (line_goes letter rest (sent_by w (by.Server from) (by.Rank me)) (clock_of w (by.Server from))) line.lines in
+    rank_lines w me (taken w (by.Server from) (by.Rank me) rest) x well here square are line.counted p off
 
-server_lines : (w : World) (me : Server) (x : Served) → IsShaped w → me.0 < w.config.servers → AreWithin w.config x.sends → AreInLine w → ServerPosts w.config (pool_of w me) x → AreInLine (after_server w me w.links x)
-server_lines w me x shape here are line p = record { lines = lines; counted = record { ranks = (line.counted).ranks; servers = servers } }
-  where
-    inside : me.0 < length w.servers
-    inside = let e = shape.servers in omega arith
+-- An event of a server: its stamp, and its acts.
 
-    there : pool_of (after_server w me w.links x) me ≡ x.state
-    there = pool_there w me w.links x inside
-
-    servers : (k : Server) → k.0 < w.config.servers → length (pool_of (after_server w me w.links x) k).sent ≡ actors w.config
-    servers k within = by_place (cases_eq k.0 me.0)
-      where
-        by_place : (k.0 ≡ me.0) ⊎ (k.0 ≢ me.0) → length (pool_of (after_server w me w.links x) k).sent ≡ actors w.config
-        by_place (inl same) = ap (λ (s : ServerModel). length s.sent) (ap (λ n. pool_of (after_server w me w.links x) (server_named n)) same ∙ there) ∙ p.counts
-        by_place (inr differs) = ap (λ (s : ServerModel). length s.sent) (pool_beside w me k w.links x differs) ∙ (line.counted).servers k within
-
-    comes : (to : Actor) (ls : List Letter) → is_within w.config to ≡ true → LineIn w (by.Server me) to ls → LineIn (after_server w me w.links x) (by.Server me) to (ls ++ letters_for w.config (place_of w.config to) x.sends)
-    comes to ls within l =
-        let now = line_comes w.config to ls x.sends (server_sent w.config (pool_of w me)) (server_sent w.config x.state) (pool_of w me).clock x.state.clock within p.later p.posted l in
-        subst (λ (s : ServerModel). Line (ls ++ letters_for w.config (place_of w.config to) x.sends) (server_sent w.config s to) s.clock) (sym there) now
-
-    others : (from to : Actor) (ls : List Letter) → place_of w.config from ≢ place_of w.config (by.Server me) → LineIn w from to ls → LineIn (after_server w me w.links x) from to ls
-    others (by.Rank k) to ls differs l = l
-    others (by.Server k) to ls differs l = subst (λ (s : ServerModel). Line ls (server_sent w.config s to) s.clock) (sym (pool_beside w me k w.links x (λ e. differs (ap (λ n. w.config.ranks + n) e)))) l
-
-    lines : AllLinks (LineIn (after_server w me w.links x)) (after_server w me w.links x)
-    lines from to f t = posted_links (LineIn w) (LineIn (after_server w me w.links x)) w (by.Server me) x.sends shape line.lines (lt-ltb me.0 w.config.servers here) are comes others from to f t
-
-taken_lines : (w : World) (from to : Actor) (l : Letter) (rest : List Letter) → IsShaped w → AreInLine w → is_within w.config from ≡ true → is_within w.config to ≡ true → link w.links (place_of w.config from) (place_of w.config to) ≡ l ∷ rest → AreInLine (record w { links = taken w from to rest })
-taken_lines w from to l rest shape line f t front = record {
-  lines = taken_links (LineIn w) w from to l rest shape line.lines f t front (line_goes l rest (sent_by w from to) (clock_of w from));
-  counted = record { ranks = (line.counted).ranks; servers = (line.counted).servers };
+pool_lines : (w : World) (me : Server) (links : Links) (x : Served) → IsWell w → me.0 < w.config.servers → IsSquare (actors w.config) links
+    → AreWithin w.config x.sends → length x.state.sent ≡ actors w.config → (pool_of w me).clock ≤ x.state.clock → 0 < x.state.clock
+    → IsPosted w.config x.sends (server_sent w.config (pool_of w me)) (server_sent w.config x.state) x.state.clock → AreCounted w
+    → AllLinks (LineIn w) w.config links → AreInLine (after_server w me links x)
+pool_lines w me links x well here sq are counts later some p counted lines = record {
+  lines = lines_posted w links (by.Server me) x.sends (sent_by v) (clock_of v) sq (lt-ltb me.0 w.config.servers here) are posted
+      (let c = clock in omega arith) (let c = clock in omega arith) stays lines;
+  counted = record {
+    ranks = counted.ranks;
+    servers =
+        every_pool (λ k s. length s.sent ≡ actors w.config) w me x.state inside counts (λ other there differs. counted.servers other there);
+  };
 }
+  where
+    v : World
+    v = after_server w me links x
+
+    inside : me.0 < length w.servers
+    inside = inside_servers w me well here
+
+    there : pool_of v me ≡ x.state
+    there = pool_there w me x.state inside
+
+    clock : clock_of v (by.Server me) ≡ x.state.clock
+    clock = ap (λ (s : ServerModel). s.clock) there
+
+    posted : IsPosted w.config x.sends (sent_by w (by.Server me)) (sent_by v (by.Server me)) (clock_of v (by.Server me))
+    posted = subst (λ (s : ServerModel). IsPosted w.config x.sends (server_sent w.config (pool_of w me)) (server_sent w.config s) s.clock)
+        (sym there) p
+
+    stays : (from : Actor) → place_of w.config from ≢ place_of w.config (by.Server me)
+        → ((to : Actor) → sent_by v from to ≡ sent_by w from to) × (clock_of v from ≡ clock_of w from)
+    stays (by.Rank k) differs = (λ to. refl, refl)
+    stays (by.Server k) differs =
+        let same = pool_beside w me k x.state (λ e. differs (ap (λ n. w.config.ranks + n) e)) in
+        (λ to. ap (λ (s : ServerModel). server_sent w.config s to) same, ap (λ (s : ServerModel). s.clock) same)
+
+tick_in_line : (w : World) (me : Server) (stamp : ℕ) → IsWell w → me.0 < w.config.servers → (pool_of w me).clock < stamp → AreInLine w
+    → AreInLine (ticks w me stamp)
+unfolding post
+tick_in_line w me stamp well here later line =
+    let s = ticked (pool_of w me) stamp in
+    let sent = server_sent w.config (pool_of w me) in
+    let all = pool_lines w me w.links (record { state = s; sends = []; entries = [] }) well here (well.shape).square tt
+    ((line.counted).servers me here) (omega arith) (omega arith)
+    (none_posted w.config sent sent stamp (λ to within. refl)) line.counted line.lines in
+    record { lines = all.lines; counted = record { ranks = (line.counted).ranks; servers = (all.counted).servers } }
+
+counted_line : (s : ServerModel) (ys : List ServerSaying)
+    → (length (all_counted s ys).sent ≡ length s.sent) × ((all_counted s ys).clock ≡ s.clock)
+counted_line s [] = (refl, refl)
+counted_line s (y ∷ ys) =
+    let rest = counted_line (counted s y.to) ys in
+    (rest.0 ∙ length-set s.sent (place_of s.config y.to) (get_or s.sent (place_of s.config y.to) 0 + 1), rest.1)
+
+-- a server's event gives a stamp, and in it the letters stand in line
+record IsTimely (me : Server) (w : World) : Type 0 where
+  line : AreInLine w
+  some : 0 < (pool_of w me).clock
+
+act_in_line : (w : World) (me : Server) (a : Act) → IsWell w → IsAct w me a → IsTimely me w → IsTimely me (acted w me a)
+act_in_line w me a well is timely =
+    let s = pool_of w me in
+    let own = own_of w me a well is in
+    let line = timely.line in
+    let counts : length s.sent ≡ actors w.config = (line.counted).servers me is.here in
+    let now = counted_line (does a s) (says a s) in
+    let links = taken_off w.config me w.links (takes a) in
+    let square = taken_square w.config me w.links (takes a) is.here is.front (well.shape).square in
+    let off = taken_off_links (LineIn w) w.config me w.links (takes a) is.here is.front (well.shape).square
+    (λ from l rest. line_goes l rest (sent_by w from (by.Server me)) (clock_of w from)) line.lines in
+    let same : s.config ≡ w.config = own.config in
+    let posted = sayings_posted (does a s) (says a s) (counts ∙ ap actors (sym same))
+    (subst (λ (c : Config). AreSaid c (says a s)) (sym same) own.said) in
+    let here = subst (λ (c : Config). IsPosted c (sends a s) (server_sent c s) (server_sent c (done a s)) s.clock) same posted in
+    let p = subst (λ n. IsPosted w.config (sends a s) (server_sent w.config s) (server_sent w.config (done a s)) n) (sym now.1) here in
+    let later : s.clock ≤ (done a s).clock = let e = now.1 in omega arith in
+    let some : 0 < (done a s).clock = let e = now.1 in let h = timely.some in omega arith in
+    let x : Served = record { state = done a s; sends = sends a s; entries = entries a s } in
+    let there : (pool_of (acted w me a) me).clock ≡ (done a s).clock =
+    ap (λ (t : ServerModel). t.clock) (pool_is w me a (inside_servers w me well is.here)) in
+    record {
+      line = pool_lines w me links x well is.here square (sent_within w.config (does a s) (says a s) own.said) (now.0 ∙ counts) later some p
+          line.counted off;
+      some = omega arith;
+    }
+
+event_in_line : (w next : World) (from : Actor) (me : Server) (letter : Letter) (rest : List Letter) (x : Served) → IsWell w → AreInLine w
+    → Serves w from me letter rest x next → AreInLine next
+event_in_line w next from me letter rest x well line does =
+    let s = pool_of w me in
+    let stamp = next_stamp s letter in
+    let later : s.clock < max s.clock letter.stamp + 1 = omega arith in
+    let inside = inside_servers w me well does.here in
+    let chain = event_chain w next from me letter rest x inside does in
+    let clock : (pool_of (ticks w me stamp) me).clock ≡ stamp =
+    ap (λ (t : ServerModel). t.clock) (pool_there w me (ticked s stamp) inside) in
+    let first : IsTimely me (ticks w me stamp) = record { line = tick_in_line w me stamp well does.here later line; some = omega arith } in
+    let all = acts_keep (λ v. IsWell v × IsTimely me v) me (λ v a is both. (act_well v me a both.0 is, act_in_line v me a both.0 is both.1))
+    (ticks w me stamp) chain.list chain.are
+    (tick_well w me stamp does.here well, first) in
+    subst AreInLine (sym chain.is) (all.1).line
 
 -- Any event.
 
 kept_in_line : (w next : World) → IsWell w → AreInLine w → Does w next → AreInLine next
 kept_in_line w next well line (A_call {me = me} {call = call} {x = x} does) =
-    let p = begin_posts w.config me (client_of w me) call x (record { here = does.here; own = well.own.ranks me does.here }) ((line.counted).ranks me does.here) does.does in
-    subst AreInLine (sym does.is) (rank_lines w me x well.shape does.here (call_within w next me call x (are_sent w.config) well.own does) line p)
+    let are = call_within w next me call x well.own does in
+    let p = made_posts w.config (client_of w me) x ((line.counted).ranks me does.here) (call_began w next me call x well.own does).made
+    are in
+    subst AreInLine (sym does.is) (call_in_line w me x well does.here are p line)
 kept_in_line w next well line (An_answer {from = from} {me = me} {letter = letter} {rest = rest} {x = x} does) =
-    let f : is_within w.config (by.Server from) ≡ true = lt-ltb from.0 w.config.servers does.there in
-    let t : is_within w.config (by.Rank me) ≡ true = lt-ltb me.0 w.config.ranks does.here in
-    let p = hear_posts w.config me (client_of w me) from letter x (record { here = does.here; own = well.own.ranks me does.here }) ((line.counted).ranks me does.here) does.does in
-    let between = taken_lines w (by.Server from) (by.Rank me) letter rest well.shape line f t does.front in
-    subst AreInLine (sym does.is) (rank_lines (record w { links = taken w (by.Server from) (by.Rank me) rest }) me x (taken_shaped w (by.Server from) (by.Rank me) rest well.shape f t) does.here (answer_within w next from me letter rest x (are_sent w.config) well.own does) between p)
+    let are = answer_within w next from me letter rest x well.own does in
+    let p = made_posts w.config (client_of w me) x ((line.counted).ranks me does.here)
+    (answer_heard w next from me letter rest x well.own does).made are in
+    subst AreInLine (sym does.is) (answer_in_line w from me letter rest x well does.here does.there does.front are p line)
 kept_in_line w next well line (A_request {from = from} {me = me} {letter = letter} {rest = rest} {x = x} does) =
-    let t : is_within w.config (by.Server me) ≡ true = lt-ltb me.0 w.config.servers does.here in
-    let p = serve_posts w.config me (pool_of w me) from letter x (record { here = does.here; there = does.there; own = well.own.servers me does.here }) ((line.counted).servers me does.here) does.does in
-    let between = taken_lines w from (by.Server me) letter rest well.shape line does.there t does.front in
-    subst AreInLine (sym does.is) (server_lines (record w { links = taken w from (by.Server me) rest }) me x (taken_shaped w from (by.Server me) rest well.shape does.there t) does.here (request_within w next from me letter rest x (are_sent w.config) well.own does) between p)
+    event_in_line w next from me letter rest x well line does
 
 -- At the start.
 
 empty_link : (n a b : ℕ) → a < n → link (replicate n (replicate n [])) a b ≡ []
 empty_link n a b below =
     let none : List Letter = [] in
-    ap (λ r. get_or r b none) (same_at n a (replicate n none) [] below) ∙ same_always n b none
+    ap (λ r. get_or r b none) (get_or-replicate n a (replicate n none) [] below) ∙ same_always n b none
 
 none_sent : (config : Config) (from to : Actor) → is_within config from ≡ true → 0 ≡ sent_by (start config) from to
 none_sent config (by.Rank from) (by.Rank to) f = refl
-none_sent config (by.Rank from) (by.Server to) f = sym (ap (λ (s : ClientModel). get_or s.sent to.0 0) (client_at config from (ltb-true from.0 config.ranks f)) ∙ same_always config.servers to.0 0)
-none_sent config (by.Server from) to f = sym (ap (λ (s : ServerModel). get_or s.sent (place_of config to) 0) (pool_at config from (ltb-true from.0 config.servers f)) ∙ same_always (actors config) (place_of config to) 0)
+none_sent config (by.Rank from) (by.Server to) f =
+    sym (ap (λ (s : ClientModel). get_or s.sent to.0 0) (client_at config from (ltb-true from.0 config.ranks f))
+    ∙ same_always config.servers to.0 0)
+none_sent config (by.Server from) to f =
+    sym (ap (λ (s : ServerModel). get_or s.sent (place_of config to) 0) (pool_at config from (ltb-true from.0 config.servers f))
+    ∙ same_always (actors config) (place_of config to) 0)
 
 begins_in_line : (config : Config) → AreInLine (start config)
 begins_in_line config = record {
-  lines = λ from to f t. subst (λ (ls : List Letter). Line ls (sent_by (start config) from to) (clock_of (start config) from)) (sym (empty_link (actors config) (place_of config from) (place_of config to) (place_below config from f))) (record { first = 0; places = none_sent config from to f; stamps = omega arith });
+  lines = λ from to f t.
+      subst (λ (ls : List Letter). Line ls (sent_by (start config) from to) (clock_of (start config) from))
+      (sym (empty_link (actors config) (place_of config from) (place_of config to) (place_below config from f)))
+      (record { first = 0; places = none_sent config from to f; stamps = omega arith });
   counted = record {
     ranks = λ me within. ap (λ (s : ClientModel). length s.sent) (client_at config me within) ∙ length-replicate config.servers 0;
     servers = λ me within. ap (λ (s : ServerModel). length s.sent) (pool_at config me within) ∙ length-replicate (actors config) 0;
@@ -234,7 +303,8 @@ run_in_line w last (e ∷ events) well line run =
     let d = happens_does w run.0 e run.1 in
     run_in_line run.0 last events (well_kept w run.0 well d) (kept_in_line w run.0 well line d) run.2
 
-pub every_run_in_line : (config : Config) (events : List Event) (w : World) → Runs (start config) events w → (from to : Actor) → is_within w.config from ≡ true → is_within w.config to ≡ true → IsInLine w from to
+pub every_run_in_line : (config : Config) (events : List Event) (w : World) → Runs (start config) events w → (from to : Actor)
+    → is_within w.config from ≡ true → is_within w.config to ≡ true → IsInLine w from to
 every_run_in_line config events w run from to f t =
     let line = (run_in_line (start config) w events (begins_well config) (begins_in_line config) run).lines from to f t in
     record { first = line.first; places = line.places; stamps = line.stamps }

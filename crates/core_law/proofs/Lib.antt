@@ -1,35 +1,43 @@
-mod Among
-mod Asked
-mod Bounds
+mod ActLawful
+mod ActSeats
+mod Actors
+pub mod Acts
+mod Answering
+mod Bags
+mod Balances
+mod Chains
 mod Coming
-mod Elsewhere
-mod EveryRun
+mod Deciding
+mod Events
+pub mod EveryRun
 mod Examples
-mod Expected
-mod Fifo
+pub mod Expected
+pub mod Fifo
 mod Finishing
 mod Gone
-mod Handled
-mod InLine
-mod Joint
+pub mod InLine
 mod Kept
-mod Lawful
-mod Misfits
+pub mod Lawful
 mod Moments
 mod Notes
-mod Numbered
-mod OneLetter
 mod OtherCalls
 mod OtherRanks
-mod OtherServers
+pub mod Owed
+mod Own
+pub mod PartComing
 mod Posting
 mod Posts
+mod RankBegins
+mod RankHears
 mod RankShapes
-mod Requests
+mod RankSteps
+mod Resting
 mod Ring
-mod ServerLaws
-mod ServerShapes
+mod Seats
+mod Some
 mod Stamping
-mod Steps
+pub mod Steps
 mod Sums
 mod UnderWay
+pub mod Waits
+mod Well

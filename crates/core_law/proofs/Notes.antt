@@ -8,4 +8,6 @@ pub notes_same : (notes : List UnitNote) → All (Contains notes) (notes ++ [])
 notes_same notes = All-same (Contains notes) (notes ++ []) notes (append-nil notes) (All-contains_itself notes)
 
 pub notes_in : (notes more : List UnitNote) → All (Contains (notes ++ more)) notes
-notes_in notes more = All-weaker (Contains notes) (Contains (notes ++ more)) (λ n there. Contains-append_left notes more n there) notes (All-contains_itself notes)
+notes_in notes more =
+    All-weaker (Contains notes) (Contains (notes ++ more)) (λ n there. Contains-append_left notes more n there) notes
+    (All-contains_itself notes)

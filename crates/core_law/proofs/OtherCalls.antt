@@ -19,31 +19,40 @@ use Rattle.bag_ledger.specs.Steps.{after}
 use Rattle.core_law.specs.Others.{CallsStay, teller, tells_of}
 
 -- what another rank says
-call_other : (me rank : Rank) (answer : Answer) (o : Option Call) → tells_of me (Some rank) ≡ false → said_by me (option_map (λ call. (rank, record { call = call; answer = answer })) o) ≡ []
+call_other : (me rank : Rank) (answer : Answer) (o : Option Call) → tells_of me (Some rank) ≡ false
+    → said_by me (option_map (λ call. (rank, record { call = call; answer = answer })) o) ≡ []
 call_other me rank answer None is = refl
 call_other me rank answer (Some call) is = rw is refl
 
-answer_other : (me : Rank) (b : Bag) (rank : Rank) (answer : Answer) → tells_of me (Some rank) ≡ false → said_by me (answered b rank answer) ≡ []
+answer_other : (me : Rank) (b : Bag) (rank : Rank) (answer : Answer) → tells_of me (Some rank) ≡ false
+    → said_by me (answered b rank answer) ≡ []
 answer_other me b rank answer is = by_state (rank_at b rank)
   where
-    by_state : (o : Option RankState) → said_by me (option_and_then (λ (r : RankState). option_map (λ call. (rank, record { call = call; answer = answer })) (call_of r.status)) o) ≡ []
+    by_state : (o : Option RankState)
+        → said_by me
+        (option_and_then (λ (r : RankState). option_map (λ call. (rank, record { call = call; answer = answer })) (call_of r.status)) o)
+        ≡ []
     by_state None = refl
     by_state (Some r) = call_other me rank answer (call_of r.status) is
 
-maybe_other : (me : Rank) (b : Bag) (rank : Rank) (o : Option Answer) → tells_of me (Some rank) ≡ false → said_by me (option_and_then (answered b rank) o) ≡ []
+maybe_other : (me : Rank) (b : Bag) (rank : Rank) (o : Option Answer) → tells_of me (Some rank) ≡ false
+    → said_by me (option_and_then (answered b rank) o) ≡ []
 maybe_other me b rank None is = refl
 maybe_other me b rank (Some answer) is = answer_other me b rank answer is
 
 -- what is granted or fetched
-unit_other : (me : Rank) (b : Bag) (rank : Rank) (f : Lodged → Option Answer) (o : Option Lodged) → tells_of me (Some rank) ≡ false → said_by me (option_and_then (λ (u : Lodged). option_and_then (answered b rank) (f u)) o) ≡ []
+unit_other : (me : Rank) (b : Bag) (rank : Rank) (f : Lodged → Option Answer) (o : Option Lodged) → tells_of me (Some rank) ≡ false
+    → said_by me (option_and_then (λ (u : Lodged). option_and_then (answered b rank) (f u)) o) ≡ []
 unit_other me b rank f None is = refl
 unit_other me b rank f (Some u) is = maybe_other me b rank (f u) is
 
-grant_other : (me : Rank) (b : Bag) (server : Server) (rank : Rank) (o : Option Lodged) → tells_of me (Some rank) ≡ false → said_by me (option_and_then (λ (u : Lodged). answered b rank (answers.Granted (note_of server u.unit))) o) ≡ []
+grant_other : (me : Rank) (b : Bag) (server : Server) (rank : Rank) (o : Option Lodged) → tells_of me (Some rank) ≡ false
+    → said_by me (option_and_then (λ (u : Lodged). answered b rank (answers.Granted (note_of server u.unit))) o) ≡ []
 grant_other me b server rank None is = refl
 grant_other me b server rank (Some u) is = answer_other me b rank (answers.Granted (note_of server u.unit)) is
 
-common_other : (me : Rank) (b : Bag) (rank : Rank) (batch : BatchId) (o : Option RankState) → tells_of me (Some rank) ≡ false → said_by me (option_and_then (λ (r : RankState). option_and_then (answered b rank) (common_answer b batch r.status)) o) ≡ []
+common_other : (me : Rank) (b : Bag) (rank : Rank) (batch : BatchId) (o : Option RankState) → tells_of me (Some rank) ≡ false
+    → said_by me (option_and_then (λ (r : RankState). option_and_then (answered b rank) (common_answer b batch r.status)) o) ≡ []
 common_other me b rank batch None is = refl
 common_other me b rank batch (Some r) is = maybe_other me b rank (common_answer b batch r.status) is
 

@@ -1,9 +1,9 @@
 -- What each event does, as facts, and sums of weights along it.
-use Rattle.std.proofs.Common.{◌≡◌, ◌<◌, ◌+◌, Bool, true, false, ◌&&◌, cond, List, [], ◌∷◌, length, Option, Some, None, refl, ap, ◌∙◌, arith, ltb}
+use Rattle.std.proofs.Common.{◌≡◌, ◌<◌, ◌+◌, Bool, true, false, ◌&&◌, cond, List, [], ◌∷◌, Option, Some, None, refl, ap, ◌∙◌, arith, ltb}
 use Rattle.std.specs.Option.{option_map}
 use Rattle.std.proofs.lemmas.List.{length-set}
 use Rattle.std.proofs.lemmas.Bool.{and_parts, ltb-true, lt-ltb}
-use Rattle.adlb_unit.specs.Links.{place_of}
+use Rattle.adlb_unit.specs.Links.{is_within, place_of}
 use Rattle.adlb_unit.specs.declared.actors.Actor.{Actor}
 use Rattle.adlb_unit.specs.declared.actors.Actor.TheVariants as by
 use Rattle.adlb_unit.specs.declared.letters.Letter.{Letter}
@@ -12,18 +12,14 @@ use Rattle.adlb_unit.specs.declared.names.Server.{Server}
 use Rattle.bag_ledger.specs.declared.entries.Call.{Call}
 use Rattle.rank_client.specs.State.{start as new_client}
 use Rattle.rank_client.specs.Step.{Made, begin, hear}
-use Rattle.server_core.specs.State.{start as new_pool}
-use Rattle.server_core.specs.Step.{Served, serve}
+use Rattle.server_law.specs.Carried.{Served}
+use Rattle.server_law.specs.Step.{serve}
 use Rattle.core_run.specs.declared.events.Event.{Event}
 use Rattle.core_run.specs.declared.events.Event.TheVariants as occurs
-use Rattle.core_run.specs.World.{World, actors, after_rank, after_server, client_of, handle, happens, has_ended, is_within, link, pool_of, taken}
-use Rattle.core_law.specs.Measures.{Weights, actor, due, link_weight, measure, sends_weight}
-use Rattle.core_law.proofs.Sums.{AreWithin, IsSquare, place_actor, place_below, post_weight, put_weight, square_post, square_put, weigh_at-set}
-
-pub record IsShaped (w : World) : Type 0 where
-  pub ranks : length w.ranks ≡ w.config.ranks
-  pub servers : length w.servers ≡ w.config.servers
-  pub square : IsSquare (actors w.config) w.links
+use Rattle.core_run.specs.World.{World, actors, after_rank, after_server, client_of, handle, happens, has_ended, link, pool_of, taken}
+use Rattle.core_law.specs.Measures.{Weights, actor, due, measure, sends_weight}
+use Rattle.core_law.specs.Well.{IsShaped}
+use Rattle.core_law.proofs.Sums.{AreWithin, front_goes, place_actor, place_below, post_weight, square_post, square_put, weigh_at-set}
 
 -- a server handled the front letter of one list
 pub record Serves (w : World) (from : Actor) (me : Server) (letter : Letter) (rest : List Letter) (x : Served) (next : World) : Type 0 where
@@ -49,8 +45,10 @@ pub record Begins (w : World) (me : Rank) (call : Call) (x : Made) (next : World
 
 pub data Does : World → World → Type 0 where
   A_call : {w next : World} {me : Rank} {call : Call} {x : Made} → Begins w me call x next → Does w next
-  An_answer : {w next : World} {from : Server} {me : Rank} {letter : Letter} {rest : List Letter} {x : Made} → Hears w from me letter rest x next → Does w next
-  A_request : {w next : World} {from : Actor} {me : Server} {letter : Letter} {rest : List Letter} {x : Served} → Serves w from me letter rest x next → Does w next
+  An_answer : {w next : World} {from : Server} {me : Rank} {letter : Letter} {rest : List Letter} {x : Made}
+      → Hears w from me letter rest x next → Does w next
+  A_request : {w next : World} {from : Actor} {me : Server} {letter : Letter} {rest : List Letter} {x : Served}
+      → Serves w from me letter rest x next → Does w next
 
 when_some : (t : Bool) (o : Option World) (next : World) → cond t o None ≡ Some next → (t ≡ true) × (o ≡ Some next)
 when_some true o next e = (refl, e)
@@ -64,19 +62,29 @@ mapped : {X : Type 0} (f : X → World) (o : Option X) (next : World) → option
 mapped f None next e = absurd (cc)
 mapped f (Some x) next e = (x, refl, cc)
 
-handle_does : (w : World) (from to : Actor) (next : World) (letters : List Letter) → is_within w.config from ≡ true → is_within w.config to ≡ true → link w.links (place_of w.config from) (place_of w.config to) ≡ letters → handle w from to letters ≡ Some next → Does w next
+handle_does : (w : World) (from to : Actor) (next : World) (letters : List Letter) → is_within w.config from ≡ true
+    → is_within w.config to ≡ true → link w.links (place_of w.config from) (place_of w.config to) ≡ letters
+    → handle w from to letters ≡ Some next → Does w next
 handle_does w from to next [] f t l h = absurd (cc)
 handle_does w (by.Rank from) (by.Rank to) next (letter ∷ rest) f t l h = absurd (cc)
 handle_does w (by.Server from) (by.Rank to) next (letter ∷ rest) f t l h =
     let s = mapped (after_rank w to (taken w (by.Server from) (by.Rank to) rest)) (hear (client_of w to) from letter) next h in
-    An_answer (record { here = ltb-true to.0 w.config.ranks t; there = ltb-true from.0 w.config.servers f; front = l; does = s.1; is = s.2 })
+    An_answer (record {
+      here = ltb-true to.0 w.config.ranks t;
+      there = ltb-true from.0 w.config.servers f;
+      front = l;
+      does = s.1;
+      is = s.2;
+    })
 handle_does w (by.Rank from) (by.Server to) next (letter ∷ rest) f t l h =
     let o = option_map (after_server w to (taken w (by.Rank from) (by.Server to) rest)) (serve (pool_of w to) (by.Rank from) letter) in
-    let s = mapped (after_server w to (taken w (by.Rank from) (by.Server to) rest)) (serve (pool_of w to) (by.Rank from) letter) next (unless_some (has_ended (pool_of w to)) o next h) in
+    let s = mapped (after_server w to (taken w (by.Rank from) (by.Server to) rest)) (serve (pool_of w to) (by.Rank from) letter) next
+    (unless_some (has_ended (pool_of w to)) o next h) in
     A_request {from = by.Rank from} (record { here = ltb-true to.0 w.config.servers t; there = f; front = l; does = s.1; is = s.2 })
 handle_does w (by.Server from) (by.Server to) next (letter ∷ rest) f t l h =
     let o = option_map (after_server w to (taken w (by.Server from) (by.Server to) rest)) (serve (pool_of w to) (by.Server from) letter) in
-    let s = mapped (after_server w to (taken w (by.Server from) (by.Server to) rest)) (serve (pool_of w to) (by.Server from) letter) next (unless_some (has_ended (pool_of w to)) o next h) in
+    let s = mapped (after_server w to (taken w (by.Server from) (by.Server to) rest)) (serve (pool_of w to) (by.Server from) letter) next
+    (unless_some (has_ended (pool_of w to)) o next h) in
     A_request {from = by.Server from} (record { here = ltb-true to.0 w.config.servers t; there = f; front = l; does = s.1; is = s.2 })
 
 pub happens_does : (w next : World) (e : Event) → happens w e ≡ Some next → Does w next
@@ -90,31 +98,35 @@ happens_does w next (occurs.Deliver from to) h =
     let parts = and_parts (is_within w.config from) (is_within w.config to) s.0 in
     handle_does w from to next letters parts.0 parts.1 refl s.1
 
+pub same_config : (w next : World) → Does w next → next.config ≡ w.config
+same_config w next (A_call does) = ap (λ (v : World). v.config) does.is
+same_config w next (An_answer does) = ap (λ (v : World). v.config) does.is
+same_config w next (A_request does) = ap (λ (v : World). v.config) does.is
+
 -- Sums along an event: what was there, what went and what came.
 
 -- the letter goes off its list
-pub taken_weight : (m : Weights) (w : World) (from to : Actor) (letter : Letter) (rest : List Letter) → IsShaped w → is_within w.config from ≡ true → is_within w.config to ≡ true → link w.links (place_of w.config from) (place_of w.config to) ≡ letter ∷ rest
+pub taken_weight : (m : Weights) (w : World) (from to : Actor) (letter : Letter) (rest : List Letter) → IsShaped w
+    → is_within w.config from ≡ true → is_within w.config to ≡ true
+    → link w.links (place_of w.config from) (place_of w.config to) ≡ letter ∷ rest
     → measure m (record w { links = taken w from to rest }) + m.letter from to letter.message ≡ measure m w
 unfolding measure
 taken_weight m w from to letter rest shape f t front =
-    let links = w.links in
-    let a = place_of w.config from in
-    let b = place_of w.config to in
-    let took = put_weight w.config m (actors w.config) links a b rest (place_below w.config from f) (place_below w.config to t) shape.square in
-    let one : m.letter (actor w.config a) (actor w.config b) letter.message ≡ m.letter from to letter.message = rw (place_actor w.config from f, place_actor w.config to t) in
-    let gone : link_weight w.config m a b (link links a b) ≡ m.letter (actor w.config a) (actor w.config b) letter.message + link_weight w.config m a b rest = ap (link_weight w.config m a b) front in
-    omega arith
+    let off = front_goes w.config m w.links from to letter rest shape.square f t front in omega arith
 
-pub taken_shaped : (w : World) (from to : Actor) (rest : List Letter) → IsShaped w → is_within w.config from ≡ true → is_within w.config to ≡ true → IsShaped (record w { links = taken w from to rest })
+pub taken_shaped : (w : World) (from to : Actor) (rest : List Letter) → IsShaped w → is_within w.config from ≡ true
+    → is_within w.config to ≡ true → IsShaped (record w { links = taken w from to rest })
 taken_shaped w from to rest shape f t = record {
   ranks = shape.ranks;
   servers = shape.servers;
-  square = square_put (actors w.config) w.links (place_of w.config from) (place_of w.config to) rest (place_below w.config from f) (place_below w.config to t) shape.square;
+  square = square_put (actors w.config) w.links (place_of w.config from) (place_of w.config to) rest (place_below w.config from f)
+      (place_below w.config to t) shape.square;
 }
 
--- a rank and a server change, and their letters come
+-- a rank changes, and its letters come
 pub rank_weight : (m : Weights) (w : World) (me : Rank) (x : Made) → IsShaped w → me.0 < w.config.ranks → AreWithin w.config x.sends
-    → measure m (after_rank w me w.links x) + m.rank me.0 (client_of w me) ≡ measure m w + (sends_weight m (by.Rank me) x.sends + m.rank me.0 x.state)
+    → measure m (after_rank w me w.links x) + m.rank me.0 (client_of w me)
+    ≡ measure m w + (sends_weight m (by.Rank me) x.sends + m.rank me.0 x.state)
 unfolding measure
 rank_weight m w me x shape here within =
     let there : me.0 < actors w.config = omega arith in
@@ -124,35 +136,14 @@ rank_weight m w me x shape here within =
     let state = weigh_at-set m.rank w.ranks me.0 x.state (new_client w.config me) (let g = shape.ranks in omega arith) in
     omega arith
 
-pub server_weight : (m : Weights) (w : World) (me : Server) (x : Served) → IsShaped w → me.0 < w.config.servers → AreWithin w.config x.sends
-    → measure m (after_server w me w.links x) + m.server me.0 (pool_of w me) ≡ measure m w + (sends_weight m (by.Server me) x.sends + m.server me.0 x.state)
-unfolding measure
-server_weight m w me x shape here within =
-    let place = w.config.ranks + me.0 in
-    let there : place < actors w.config = omega arith in
-    let sent = post_weight w.config m w.links place x.sends there within shape.square in
-    let i : actor w.config place ≡ by.Server me = place_actor w.config (by.Server me) (lt-ltb me.0 w.config.servers here) in
-    let out : sends_weight m (actor w.config place) x.sends ≡ sends_weight m (by.Server me) x.sends = rw i refl in
-    let state = weigh_at-set m.server w.servers me.0 x.state (new_pool w.config me) (let g = shape.servers in omega arith) in
-    omega arith
-
-pub rank_shaped : (w : World) (me : Rank) (x : Made) → IsShaped w → me.0 < w.config.ranks → AreWithin w.config x.sends → IsShaped (after_rank w me w.links x)
+pub rank_shaped : (w : World) (me : Rank) (x : Made) → IsShaped w → me.0 < w.config.ranks → AreWithin w.config x.sends
+    → IsShaped (after_rank w me w.links x)
 rank_shaped w me x shape here within =
     let there : me.0 < actors w.config = omega arith in
     record {
       ranks = length-set w.ranks me.0 x.state ∙ shape.ranks;
       servers = shape.servers;
       square = square_post w.config w.links me.0 x.sends there within shape.square;
-    }
-
-pub server_shaped : (w : World) (me : Server) (x : Served) → IsShaped w → me.0 < w.config.servers → AreWithin w.config x.sends → IsShaped (after_server w me w.links x)
-server_shaped w me x shape here within =
-    let place = w.config.ranks + me.0 in
-    let there : place < actors w.config = omega arith in
-    record {
-      ranks = shape.ranks;
-      servers = length-set w.servers me.0 x.state ∙ shape.servers;
-      square = square_post w.config w.links place x.sends there within shape.square;
     }
 
 -- what is owed
@@ -162,14 +153,3 @@ unfolding due
 rank_owes m w me x shape here =
     let state = weigh_at-set m.rank_due w.ranks me.0 x.state (new_client w.config me) (let g = shape.ranks in omega arith) in
     omega arith
-
-pub server_owes : (m : Weights) (w : World) (me : Server) (x : Served) → IsShaped w → me.0 < w.config.servers
-    → due m (after_server w me w.links x) + m.server_due me.0 (pool_of w me) ≡ due m w + m.server_due me.0 x.state
-unfolding due
-server_owes m w me x shape here =
-    let state = weigh_at-set m.server_due w.servers me.0 x.state (new_pool w.config me) (let g = shape.servers in omega arith) in
-    omega arith
-
-pub taken_owes : (m : Weights) (w : World) (from to : Actor) (rest : List Letter) → due m (record w { links = taken w from to rest }) ≡ due m w
-unfolding due
-taken_owes m w from to rest = refl

@@ -1,31 +1,28 @@
 -- Sums over lists and over all links, where one element is set or some letters are sent.
-use Rattle.std.proofs.Common.{◌≡◌, ◌<◌, ℕ, zero, suc, ◌+◌, ◌-◌, true, false, List, [], ◌∷◌, ◌++◌, length, set, get_or, ◌∙◌, arith, inl, inr, ltb}
+use Rattle.std.proofs.Common.{◌≡◌, ◌<◌, ℕ, zero, suc, ◌+◌, ◌-◌, true, false, List, [], ◌∷◌, ◌++◌, length, set, get_or, ap, ◌∙◌, arith, inl, inr, ltb}
 use Rattle.std.proofs.lemmas.List.{length-set, get_or-set_same, get_or-set_other}
 use Rattle.std.proofs.lemmas.Bool.Decides.{nat_tests}
 use Rattle.std.proofs.lemmas.Bool.{ltb-true, cases_eq}
-use Rattle.adlb_unit.specs.Links.{place_of}
+use Rattle.adlb_unit.specs.Links.{is_within, place_of}
 use Rattle.adlb_unit.specs.declared.actors.Actor.{Actor}
 use Rattle.adlb_unit.specs.declared.actors.Actor.TheVariants as by
 use Rattle.adlb_unit.specs.declared.configs.Config.{Config}
 use Rattle.adlb_unit.specs.declared.letters.Letter.{Letter}
 use Rattle.adlb_unit.specs.declared.letters.Sending.{Sending}
-use Rattle.core_run.specs.World.{Links, actors, is_within, link, post, put_link, row}
+use Rattle.core_run.specs.World.{Links, actors, link, post, put_link, row}
 use Rattle.core_law.specs.Measures.{Weights, actor, link_weight, links_weight, row_weight, sends_weight, weigh, weigh_at}
+use Rattle.core_law.specs.Well.{IsSquare}
 
 pub weigh-append : {X : Type 0} (f : X → ℕ) (xs ys : List X) → weigh f (xs ++ ys) ≡ weigh f xs + weigh f ys
 weigh-append f [] ys = omega arith
 weigh-append f (x ∷ xs) ys = let h = weigh-append f xs ys in omega arith
 
 -- one element is set
-pub weigh_at-set : {X : Type 0} (f : ℕ → X → ℕ) (xs : List X) (i : ℕ) (y d : X) → i < length xs → weigh_at f (set xs i y) + f i (get_or xs i d) ≡ weigh_at f xs + f i y
+pub weigh_at-set : {X : Type 0} (f : ℕ → X → ℕ) (xs : List X) (i : ℕ) (y d : X) → i < length xs
+    → weigh_at f (set xs i y) + f i (get_or xs i d) ≡ weigh_at f xs + f i y
 weigh_at-set f [] i y d l = absurd (omega arith)
 weigh_at-set f (x ∷ xs) zero y d l = omega arith
 weigh_at-set f (x ∷ xs) (suc i) y d l = let h = weigh_at-set (λ k. f (suc k)) xs i y d (omega arith) in omega arith
-
--- there is a list from each of so many actors to each
-pub record IsSquare (n : ℕ) (links : Links) : Type 0 where
-  pub rows : length links ≡ n
-  pub each : (a : ℕ) → a < n → length (row links a) ≡ n
 
 pub place_actor : (config : Config) (a : Actor) → is_within config a ≡ true → actor config (place_of config a) ≡ a
 place_actor config (by.Rank r) h = rw h
@@ -51,7 +48,9 @@ square_put n links a b x la lb sq =
     }
 
 -- one link is set
-pub put_weight : (config : Config) (m : Weights) (n : ℕ) (links : Links) (a b : ℕ) (x : List Letter) → a < n → b < n → IsSquare n links → links_weight config m (put_link links a b x) + link_weight config m a b (link links a b) ≡ links_weight config m links + link_weight config m a b x
+put_weight : (config : Config) (m : Weights) (n : ℕ) (links : Links) (a b : ℕ) (x : List Letter) → a < n → b < n → IsSquare n links
+    → links_weight config m (put_link links a b x) + link_weight config m a b (link links a b)
+    ≡ links_weight config m links + link_weight config m a b x
 put_weight config m n links a b x la lb sq =
     let rows = sq.rows in
     let wide = sq.each a la in
@@ -64,14 +63,18 @@ abbrev pub AreWithin : Config → List Sending → Type 0
 AreWithin config [] = Unit {0}
 AreWithin config (x ∷ sends) = (is_within config x.to ≡ true) × AreWithin config sends
 
-pub square_post : (config : Config) (links : Links) (a : ℕ) (sends : List Sending) → a < actors config → AreWithin config sends → IsSquare (actors config) links → IsSquare (actors config) (post config links a sends)
+pub square_post : (config : Config) (links : Links) (a : ℕ) (sends : List Sending) → a < actors config → AreWithin config sends
+    → IsSquare (actors config) links → IsSquare (actors config) (post config links a sends)
 unfolding post
 square_post config links a [] l are sq = sq
 square_post config links a (x ∷ sends) l are sq =
     square_post config (put_link links a (place_of config x.to) (link links a (place_of config x.to) ++ x.letter ∷ [])) a sends l are.1
-    (square_put (actors config) links a (place_of config x.to) (link links a (place_of config x.to) ++ x.letter ∷ []) l (place_below config x.to are.0) sq)
+    (square_put (actors config) links a (place_of config x.to) (link links a (place_of config x.to) ++ x.letter ∷ []) l
+    (place_below config x.to are.0) sq)
 
-pub post_weight : (config : Config) (m : Weights) (links : Links) (a : ℕ) (sends : List Sending) → a < actors config → AreWithin config sends → IsSquare (actors config) links → links_weight config m (post config links a sends) ≡ links_weight config m links + sends_weight m (actor config a) sends
+pub post_weight : (config : Config) (m : Weights) (links : Links) (a : ℕ) (sends : List Sending) → a < actors config
+    → AreWithin config sends → IsSquare (actors config) links
+    → links_weight config m (post config links a sends) ≡ links_weight config m links + sends_weight m (actor config a) sends
 unfolding post
 post_weight config m links a [] l are sq = omega arith
 post_weight config m links a (s ∷ sends) l are sq =
@@ -84,4 +87,21 @@ post_weight config m links a (s ∷ sends) l are sq =
     let more = weigh-append f (link links a b) (s.letter ∷ []) in
     let who = place_actor config s.to are.0 in
     let same : m.letter (actor config a) (actor config b) s.letter.message ≡ m.letter (actor config a) s.to s.letter.message = rw who in
+    omega arith
+
+-- the front letter of a link goes off
+pub front_goes : (config : Config) (m : Weights) (links : Links) (from to : Actor) (l : Letter) (rest : List Letter)
+    → IsSquare (actors config) links → is_within config from ≡ true → is_within config to ≡ true
+    → link links (place_of config from) (place_of config to) ≡ l ∷ rest
+    → links_weight config m (put_link links (place_of config from) (place_of config to) rest) + m.letter from to l.message
+    ≡ links_weight config m links
+front_goes config m links from to l rest sq f t front =
+    let a = place_of config from in
+    let b = place_of config to in
+    let took = put_weight config m (actors config) links a b rest (place_below config from f) (place_below config to t) sq in
+    let one : m.letter (actor config a) (actor config b) l.message ≡ m.letter from to l.message = rw
+    (place_actor config from f, place_actor config to t) in
+    let gone : link_weight config m a b (link links a b) ≡ m.letter (actor config a) (actor config b) l.message + link_weight config m a b
+    rest =
+    ap (link_weight config m a b) front in
     omega arith

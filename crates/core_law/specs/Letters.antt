@@ -1,5 +1,5 @@
 -- Letters of a rank's pending call, and its Finish letters, as weights: what is so at every moment of a run.
-use Rattle.std.specs.Prelude.{ℕ, ◌+◌, ◌==◌, Bool, true, false, ◌&&◌, ◌||◌, not, slice_index_or, if◌then◌else◌}
+use Rattle.std.specs.Prelude.{ℕ, ◌+◌, ◌==◌, Bool, true, false, ◌&&◌, ◌||◌, not, Option, None, Some, if◌then◌else◌}
 use Rattle.adlb_unit.specs.declared.actors.Actor.{Actor}
 use Rattle.adlb_unit.specs.declared.actors.Actor.TheVariants as by
 use Rattle.adlb_unit.specs.declared.messages.Message.{Message}
@@ -9,17 +9,23 @@ use Rattle.adlb_unit.specs.declared.names.Server.{Server}
 use Rattle.adlb_unit.specs.Kinds.{is_of_rank, is_to_rank}
 use Rattle.rank_client.specs.Rules.{is_idle}
 use Rattle.rank_client.specs.State.{ClientModel}
-use Rattle.server_core.specs.State.{ServerModel}
-use Rattle.server_core.specs.declared.standings.Standing.{Standing}
-use Rattle.server_core.specs.declared.standings.Standing.TheVariants as does
-use Rattle.core_law.specs.Measures.{Weights, weigh_at}
+use Rattle.server_law.specs.State.{Kept, Waiting, is_finished}
+use Rattle.core_law.specs.Measures.{Balance, Weights}
 
 abbrev pub one : Bool → ℕ
 one true = 1
 one false = 0
 
-abbrev pub no_server : ℕ → ServerModel → ℕ
-no_server place s = 0
+abbrev pub no_server : ℕ → Kept → ℕ
+no_server place k = 0
+
+abbrev pub no_waiting : ℕ → Waiting → ℕ
+no_waiting place e = 0
+
+-- an idle rank weighs so much; one for which a server was asked weighs nothing
+abbrev pub if_idle : Option Server → ℕ → ℕ
+if_idle None n = n
+if_idle (Some t) n = 0
 
 abbrev pub no_rank : ℕ → ClientModel → ℕ
 no_rank place s = 0
@@ -39,8 +45,8 @@ finish_letter rank server (by.Rank from) (by.Server to) m = one (is_finish m && 
 finish_letter rank server (by.Rank from) (by.Rank to) m = 0
 finish_letter rank server (by.Server from) to m = 0
 
-abbrev pub finish_handled : Rank → Server → ℕ → ServerModel → ℕ
-finish_handled rank server place s = if place == server.0 then one (slice_index_or s.finished rank.0 false) else 0
+abbrev pub finish_handled : Rank → Server → ℕ → Kept → ℕ
+finish_handled rank server place k = if place == server.0 then one (is_finished k rank) else 0
 
 abbrev pub finishes : Rank → Server → Weights
 finishes rank server = record {
@@ -51,8 +57,8 @@ finishes rank server = record {
   rank_due = at_rank rank (λ s. one s.finished);
 }
 
--- One letter: a request of the rank, an answer to it, or that it waits at a server, is there exactly once while a call is
--- pending, and else not at all.
+-- One letter: a request of the rank, an answer to it, or that it waits and is idle, is there exactly once while a call is pending,
+-- and else not at all.
 
 -- a rank says it, and awaits an answer
 abbrev pub is_request : Message → Bool
@@ -66,23 +72,15 @@ call_letter rank (by.Rank from) (by.Rank to) m = 0
 call_letter rank (by.Server from) (by.Rank to) m = one (to.0 == rank.0)
 call_letter rank (by.Server from) (by.Server to) m = 0
 
-abbrev pub is_parked : Standing → Bool
-is_parked (does.Parked request types) = true
-is_parked does.Running = false
-is_parked does.Finished = false
+abbrev pub call_waits : Rank → ℕ → Waiting → ℕ
+call_waits rank place e = if_idle e.asked (one (e.wish.rank.0 == rank.0))
 
-abbrev pub parked_as : Rank → ℕ → Standing → ℕ
-parked_as rank place standing = one (is_parked standing && (place == rank.0))
-
-abbrev pub call_parked : Rank → ℕ → ServerModel → ℕ
-call_parked rank place s = weigh_at (parked_as rank) s.ranks
-
-abbrev pub one_letter : Rank → Weights
+abbrev pub one_letter : Rank → Balance
 one_letter rank = record {
   letter = call_letter rank;
-  server = call_parked rank;
+  waits = call_waits rank;
+  waits_due = no_waiting;
   rank = no_rank;
-  server_due = no_server;
   rank_due = at_rank rank (λ s. one (not (is_idle s.pending)));
 }
 
@@ -116,20 +114,15 @@ numbered_letter rank next (by.Rank from) (by.Rank to) m = 0
 numbered_letter rank next (by.Server from) (by.Rank to) m = one ((to.0 == rank.0) && ((request_of m + 1) == next))
 numbered_letter rank next (by.Server from) (by.Server to) m = 0
 
-abbrev pub numbered_as : Rank → ℕ → ℕ → Standing → ℕ
-numbered_as rank next place (does.Parked request types) = one ((place == rank.0) && ((request + 1) == next))
-numbered_as rank next place does.Running = 0
-numbered_as rank next place does.Finished = 0
+abbrev pub numbered_waits : Rank → ℕ → ℕ → Waiting → ℕ
+numbered_waits rank next place e = if_idle e.asked (one ((e.wish.rank.0 == rank.0) && ((e.wish.request + 1) == next)))
 
-abbrev pub numbered_parked : Rank → ℕ → ℕ → ServerModel → ℕ
-numbered_parked rank next place s = weigh_at (numbered_as rank next) s.ranks
-
-abbrev pub numbered : Rank → ℕ → Weights
+abbrev pub numbered : Rank → ℕ → Balance
 numbered rank next = record {
   letter = numbered_letter rank next;
-  server = numbered_parked rank next;
+  waits = numbered_waits rank next;
+  waits_due = no_waiting;
   rank = no_rank;
-  server_due = no_server;
   rank_due = at_rank rank (λ s. one (not (is_idle s.pending) && (s.next == next)));
 }
 

@@ -1,7 +1,9 @@
-pub mod Among
+pub mod Acting
 pub mod Letters
+pub mod Lawful
 pub mod Lines
 pub mod Measures
 pub mod Others
 pub mod Own
 pub mod Seats
+pub mod Well

@@ -6,7 +6,7 @@ use Rattle.adlb_unit.specs.declared.actors.Actor.TheVariants as by
 use Rattle.adlb_unit.specs.declared.configs.Config.{Config}
 use Rattle.adlb_unit.specs.declared.letters.Letter.{Letter}
 use Rattle.rank_client.specs.State.{ClientModel}
-use Rattle.server_core.specs.State.{ServerModel}
+use Rattle.server_law.specs.State.{ServerModel}
 use Rattle.core_run.specs.World.{World, client_of, link, pool_of}
 
 -- their places follow one another, from the first to before the next

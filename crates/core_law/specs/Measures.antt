@@ -6,8 +6,10 @@ use Rattle.adlb_unit.specs.declared.configs.Config.{Config}
 use Rattle.adlb_unit.specs.declared.letters.Letter.{Letter}
 use Rattle.adlb_unit.specs.declared.letters.Sending.{Sending}
 use Rattle.adlb_unit.specs.declared.messages.Message.{Message}
+use Rattle.adlb_unit.specs.declared.names.Server.{Server}
 use Rattle.rank_client.specs.State.{ClientModel}
-use Rattle.server_core.specs.State.{ServerModel}
+use Rattle.server_law.specs.Acts.{Act, Heard, ServerSaying, comes, does, goes, says, takes}
+use Rattle.server_law.specs.State.{Kept, ServerModel, Waiting}
 use Rattle.core_run.specs.World.{Links, World, rank_named, server_named}
 
 -- the sum of the weights of a list's elements
@@ -23,9 +25,9 @@ weigh_at f (x ∷ xs) = f zero x + weigh_at (λ i. f (suc i)) xs
 -- what letters under way and states hold on one side, and what states are owed on the other
 pub record Weights : Type 0 where
   pub letter : Actor → Actor → Message → ℕ
-  pub server : ℕ → ServerModel → ℕ
+  pub server : ℕ → Kept → ℕ
   pub rank : ℕ → ClientModel → ℕ
-  pub server_due : ℕ → ServerModel → ℕ
+  pub server_due : ℕ → Kept → ℕ
   pub rank_due : ℕ → ClientModel → ℕ
 
 -- the actor of this place among all
@@ -45,12 +47,54 @@ links_weight config m links = weigh_at (row_weight config m) links
 abbrev pub sends_weight : Weights → Actor → List Sending → ℕ
 sends_weight m from sends = weigh (λ x. m.letter from x.to x.letter.message) sends
 
+-- of what acts change of a server
+abbrev pub server_weight : (ℕ → Kept → ℕ) → ℕ → ServerModel → ℕ
+server_weight f place s = f place s.kept
+
 unfoldable pub measure : Weights → World → ℕ
-measure m w = links_weight w.config m w.links + weigh_at m.server w.servers + weigh_at m.rank w.ranks
+measure m w = links_weight w.config m w.links + weigh_at (server_weight m.server) w.servers + weigh_at m.rank w.ranks
 
 unfoldable pub due : Weights → World → ℕ
-due m w = weigh_at m.server_due w.servers + weigh_at m.rank_due w.ranks
+due m w = weigh_at (server_weight m.server_due) w.servers + weigh_at m.rank_due w.ranks
 
 -- the two sides are equal
 pub record IsBalanced (m : Weights) (w : World) : Type 0 where
   pub same : measure m w ≡ due m w
+
+-- What one act of a server takes and says.
+
+abbrev pub heard_weight : (Actor → Actor → Message → ℕ) → Server → List Heard → ℕ
+heard_weight f me heard = weigh (λ h. f h.from (by.Server me) h.message) heard
+
+abbrev pub said_weight : (Actor → Actor → Message → ℕ) → Server → List ServerSaying → ℕ
+said_weight f me said = weigh (λ y. f (by.Server me) y.to y.message) said
+
+-- the act keeps the two sides equal
+abbrev pub ActKeeps : Weights → Act → ServerModel → Type 0
+ActKeeps m a s =
+    heard_weight m.letter s.me (takes a) + m.server s.me.0 s.kept + m.server_due s.me.0 (does a s).kept
+    ≡ said_weight m.letter s.me (says a s) + m.server s.me.0 (does a s).kept + m.server_due s.me.0 s.kept
+
+-- A balance of letters and of ranks that wait: of an act alone, with no list of a state.
+
+pub record Balance : Type 0 where
+  pub letter : Actor → Actor → Message → ℕ
+  pub waits : ℕ → Waiting → ℕ
+  pub waits_due : ℕ → Waiting → ℕ
+  pub rank : ℕ → ClientModel → ℕ
+  pub rank_due : ℕ → ClientModel → ℕ
+
+abbrev pub weights : Balance → Weights
+weights b = record {
+  letter = b.letter;
+  server = λ place k. weigh (b.waits place) k.parked.waiting;
+  rank = b.rank;
+  server_due = λ place k. weigh (b.waits_due place) k.parked.waiting;
+  rank_due = b.rank_due;
+}
+
+-- what the act takes, who goes and who comes is even
+abbrev pub IsEven : Balance → Act → ServerModel → Type 0
+IsEven b a s =
+    heard_weight b.letter s.me (takes a) + weigh (b.waits s.me.0) (goes a) + weigh (b.waits_due s.me.0) (comes a s)
+    ≡ said_weight b.letter s.me (says a s) + weigh (b.waits s.me.0) (comes a s) + weigh (b.waits_due s.me.0) (goes a)

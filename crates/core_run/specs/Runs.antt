@@ -1,14 +1,14 @@
 -- Runs, and what is read off them.
 use Rattle.std.specs.Prelude.{◌≡◌, ◌≤◌, List, [], ◌∷◌, ◌++◌, length, Option, Some, option_and_then, ◌<◌, true}
 use Rattle.adlb_unit.specs.Limits.{stamp_limit}
-use Rattle.adlb_unit.specs.Links.{place_of}
+use Rattle.adlb_unit.specs.Links.{is_within, place_of}
 use Rattle.adlb_unit.specs.declared.names.Rank.{Rank}
 use Rattle.bag_ledger.specs.declared.entries.Said.{Said}
 use Rattle.bag_ledger.specs.Runs.{calls}
 use Rattle.rank_client.specs.declared.pendings.Pending.TheVariants as waits_for
 use Rattle.core_run.specs.declared.events.Event.{Event}
 use Rattle.core_run.specs.declared.events.Event.TheVariants as occurs
-use Rattle.core_run.specs.World.{World, client_of, happens, is_within, link}
+use Rattle.core_run.specs.World.{World, client_of, happens, link}
 use Rattle.adlb_unit.specs.declared.actors.Actor.{Actor}
 use Rattle.adlb_unit.specs.declared.letters.Letter.{Letter}
 

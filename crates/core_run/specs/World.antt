@@ -2,7 +2,7 @@
 use Rattle.std.specs.Prelude.{ℕ, ◌+◌, nat_lt, Bool, ◌&&◌, List, [], ◌∷◌, ◌++◌, map, replicate, slice_index_or, slice_set, Option, None, if◌then◌else◌}
 use Rattle.std.specs.List.{list_all, range_with_len}
 use Rattle.std.specs.Option.{option_map}
-use Rattle.adlb_unit.specs.Links.{place_of}
+use Rattle.adlb_unit.specs.Links.{is_within, place_of}
 use Rattle.adlb_unit.specs.declared.actors.Actor.{Actor}
 use Rattle.adlb_unit.specs.declared.actors.Actor.TheVariants as by
 use Rattle.adlb_unit.specs.declared.configs.Config.{Config}
@@ -13,8 +13,9 @@ use Rattle.adlb_unit.specs.declared.names.Server.{Server}
 use Rattle.bag_ledger.specs.declared.entries.Entry.{Entry}
 use Rattle.rank_client.specs.State.{ClientModel, start as new_client}
 use Rattle.rank_client.specs.Step.{Made, begin, hear}
-use Rattle.server_core.specs.State.{ServerModel, start as new_pool}
-use Rattle.server_core.specs.Step.{Served, serve}
+use Rattle.server_law.specs.State.{ServerModel, start as new_pool}
+use Rattle.server_law.specs.Carried.{Served}
+use Rattle.server_law.specs.Step.{serve}
 use Rattle.core_run.specs.declared.events.Event.{Event}
 use Rattle.core_run.specs.declared.events.Event.TheVariants as occurs
 
@@ -60,11 +61,6 @@ client_of w rank = slice_index_or w.ranks rank.0 (new_client w.config rank)
 abbrev pub pool_of : World → Server → ServerModel
 pool_of w server = slice_index_or w.servers server.0 (new_pool w.config server)
 
--- the actor is one of this run
-abbrev pub is_within : Config → Actor → Bool
-is_within config (by.Rank rank) = nat_lt rank.0 config.ranks
-is_within config (by.Server server) = nat_lt server.0 config.servers
-
 abbrev pub row : Links → ℕ → List (List Letter)
 row links from = slice_index_or links from []
 
@@ -83,7 +79,7 @@ post config links from (x ∷ sends) =
 
 -- a server has ended where it is shut and has handled the Finish letter of each rank
 abbrev pub has_ended : ServerModel → Bool
-has_ended s = s.shut && list_all (λ finished. finished) s.finished
+has_ended s = s.kept.shut && list_all (λ finished. finished) s.kept.finished
 
 -- What happens.
 

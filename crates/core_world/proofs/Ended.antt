@@ -7,7 +7,7 @@ use Rattle.adlb_unit.specs.declared.actors.Actor.{Actor}
 use Rattle.adlb_unit.specs.declared.actors.Actor.TheVariants as by
 use Rattle.adlb_unit.specs.declared.letters.Letter.{Letter}
 use Rattle.adlb_unit.specs.declared.names.Server.{Server}
-use Rattle.server_core.specs.State.{ServerModel}
+use Rattle.server_law.specs.State.{ServerModel}
 use Rattle.core_run.specs.World.{World, handle, has_ended, pool_of}
 
 all_pass : (xs : List Bool) → All IsTrue xs → list_all (λ finished. finished) xs ≡ true
@@ -15,8 +15,8 @@ all_pass [] all = refl
 all_pass (x ∷ xs) all =
     and_from x (list_all (λ finished. finished) xs) (all 0 true (omega arith)) (all_pass xs (λ k d within. all (suc k) d (omega arith)))
 
-pub ended_from : (s : ServerModel) → IsTrue s.shut × All IsTrue s.finished → has_ended s ≡ true
-ended_from s ended = and_from s.shut (list_all (λ finished. finished) s.finished) ended.0 (all_pass s.finished ended.1)
+pub ended_from : (s : ServerModel) → IsTrue s.kept.shut × All IsTrue s.kept.finished → has_ended s ≡ true
+ended_from s ended = and_from s.kept.shut (list_all (λ finished. finished) s.kept.finished) ended.0 (all_pass s.kept.finished ended.1)
 
 pub ended_handles_none : (w : World) (from : Actor) (to : Server) (letter : Letter) (rest : List Letter) → has_ended (pool_of w to) ≡ true
     → handle w from (by.Server to) (letter ∷ rest) ≡ None

@@ -17,7 +17,7 @@ use Rattle.rank_client.specs.Rules.{answer_call}
 use Rattle.rank_client.specs.State.{ClientModel, start as new_client}
 use Rattle.rank_client.specs.Step.{first_trouble, hear, late, letter_stamp, letter_trouble, made, ticked, told_trouble}
 use Rattle.server_core.specs.declared.steps.Step.{Step}
-use Rattle.server_core.specs.State.{ServerModel, start as new_pool}
+use Rattle.server_law.specs.State.{ServerModel, start as new_pool}
 use Rattle.core_run.specs.World.{World, client_of, pool_of}
 use Rattle.core_world.specs.declared.stages.Stage.TheInside.{Inside}
 use Rattle.core_world.specs.Applied.{Causes}
@@ -74,6 +74,9 @@ told_none s waits_for.Nothing from (tells.Broken trouble) some = absurd (cc)
 told_none s (waits_for.Put unit first tried) from (tells.Broken trouble) some = absurd (cc)
 told_none s (waits_for.Reserve request types) from (tells.Broken trouble) some = absurd (cc)
 told_none s (waits_for.Fetch request note) from (tells.Broken trouble) some = absurd (cc)
+told_none s (waits_for.Common request note common own) from (tells.Broken trouble) some = absurd (cc)
+told_none s (waits_for.Keep request common first tried) from (tells.Broken trouble) some = absurd (cc)
+told_none s (waits_for.Close request batch) from (tells.Broken trouble) some = absurd (cc)
 told_none s pending from _ some = refl
 
 pub unmapped : {X Y : Type 0} (f : X → Y) (o : Option X) → IsSome (option_map f o) → IsSome o

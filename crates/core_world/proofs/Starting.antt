@@ -6,7 +6,7 @@ use Rattle.std.proofs.lemmas.List.Elements.{All-map}
 use Rattle.std.proofs.lemmas.List.FromFn.{length-map-range_with_len, map-range_with_len_more}
 use Rattle.adlb_unit.specs.declared.configs.Config.{Config}
 use Rattle.rank_client.specs.State.{ClientModel, start as new_client}
-use Rattle.server_core.specs.State.{ServerModel, start as new_pool}
+use Rattle.server_law.specs.State.{ServerModel, start as new_pool}
 use Rattle.core_run.specs.World.{rank_named, server_named, start}
 use Rattle.core_world.specs.Stage.{IsFull, IsWhole}
 

@@ -2,7 +2,7 @@
 use Rattle.std.proofs.Common.{◌≡◌, ℕ, zero, suc, Bool, true, false, ◌&&◌, cond, List, [], ◌∷◌, ◌++◌, get_or, set, Option, Some, None, inl, refl, sym, ap, ◌∙◌, subst, append-nil}
 use Rattle.std.specs.Prelude.{IsSome, nat_lt}
 use Rattle.std.specs.Option.{option_map}
-use Rattle.adlb_unit.specs.Links.{place_of}
+use Rattle.adlb_unit.specs.Links.{is_within, place_of}
 use Rattle.adlb_unit.specs.declared.actors.Actor.{Actor}
 use Rattle.adlb_unit.specs.declared.actors.Actor.TheVariants as by
 use Rattle.adlb_unit.specs.declared.letters.Letter.{Letter}
@@ -13,12 +13,13 @@ use Rattle.adlb_unit.specs.declared.notes.Trouble.TheVariants as troubles
 use Rattle.bag_ledger.specs.declared.entries.Entry.{Entry}
 use Rattle.bag_ledger.specs.declared.entries.Call.{Call}
 use Rattle.rank_client.specs.State.{ClientModel, start as new_client}
-use Rattle.server_core.specs.State.{ServerModel}
+use Rattle.server_law.specs.State.{ServerModel}
 use Rattle.rank_client.specs.Step.{Made, begin, hear, letter_stamp}
-use Rattle.server_core.specs.Step.{Served, next_stamp, serve}
+use Rattle.server_law.specs.Carried.{Served}
+use Rattle.server_law.specs.Step.{next_stamp, serve}
 use Rattle.core_run.specs.declared.events.Event.{Event}
 use Rattle.core_run.specs.declared.events.Event.TheVariants as occurs
-use Rattle.core_run.specs.World.{Links, World, after_rank, after_server, client_of, handle, happens, has_ended, is_within, link, pool_of, taken}
+use Rattle.core_run.specs.World.{Links, World, after_rank, after_server, client_of, handle, happens, has_ended, link, pool_of, taken}
 use Rattle.core_world.specs.Applied.{Causes, IsCut, IsEnabled, IsKept, Stops, event_stamp, front_stamp}
 use Rattle.core_world.specs.Seen.{under_way}
 use Rattle.core_world.specs.Stage.{with_client, with_server}
@@ -158,4 +159,26 @@ hear_expected w took from to letter rest enabled front took_is =
 
     by_test : (b : Bool) → IsSome (cond b (handle w (by.Server from) (by.Rank to) letters) None) → cond b letters [] ≡ letter ∷ rest → IsSome (hear (client_of w to) from letter)
     by_test true some is = unmapped (after_rank w to (taken w (by.Server from) (by.Rank to) rest)) (hear (client_of w to) from letter) (subst (λ (l : List Letter). IsSome (handle w (by.Server from) (by.Rank to) l)) is some)
+    by_test false some is = absurd (cc)
+
+-- A front letter that a server is to handle now is expected.
+
+unless_ended : (w : World) (to : Server) (links : Links) (ended : Bool) (o : Option Served) → IsSome (cond ended None (option_map (after_server w to links) o)) → IsSome o
+unless_ended w to links true o some = absurd (cc)
+unless_ended w to links false o some = unmapped (after_server w to links) o some
+
+handled_by : (w : World) (from : Actor) (to : Server) (letter : Letter) (rest : List Letter) → IsSome (handle w from (by.Server to) (letter ∷ rest)) → IsSome (serve (pool_of w to) from letter)
+handled_by w (by.Rank from) to letter rest some = unless_ended w to (taken w (by.Rank from) (by.Server to) rest) (has_ended (pool_of w to)) (serve (pool_of w to) (by.Rank from) letter) some
+handled_by w (by.Server from) to letter rest some = unless_ended w to (taken w (by.Server from) (by.Server to) rest) (has_ended (pool_of w to)) (serve (pool_of w to) (by.Server from) letter) some
+
+pub serve_expected : (w took : World) (from : Actor) (to : Server) (letter : Letter) (rest : List Letter) → IsEnabled w (occurs.Deliver from (by.Server to))
+    → under_way w from (by.Server to) ≡ letter ∷ rest → took ≡ record w { links = taken w from (by.Server to) rest } → IsSome (serve (pool_of took to) from letter)
+serve_expected w took from to letter rest enabled front took_is =
+    subst (λ (v : World). IsSome (serve (pool_of v to) from letter)) (sym took_is) (by_test (is_within w.config from && is_within w.config (by.Server to)) enabled front)
+  where
+    letters : List Letter
+    letters = link w.links (place_of w.config from) (place_of w.config (by.Server to))
+
+    by_test : (b : Bool) → IsSome (cond b (handle w from (by.Server to) letters) None) → cond b letters [] ≡ letter ∷ rest → IsSome (serve (pool_of w to) from letter)
+    by_test true some is = handled_by w from to letter rest (subst (λ (l : List Letter). IsSome (handle w from (by.Server to) l)) is some)
     by_test false some is = absurd (cc)

@@ -2,11 +2,13 @@
 use Rattle.std.proofs.Common.{◌≡◌, ◌+◌, ◌^◌, ℕ, Bool, true, false, ◌&&◌, cond, List, [], ◌∷◌, ◌++◌, map, Option, Some, None, refl, sym, ap, ◌∙◌, find}
 use Rattle.std.specs.Prelude.{nat_lt, not}
 use Rattle.std.specs.Option.{option_map}
+use Rattle.adlb_unit.specs.Links.{is_within}
 use Rattle.adlb_unit.specs.declared.actors.Actor.{Actor}
 use Rattle.adlb_unit.specs.declared.actors.Actor.TheVariants as by
 use Rattle.adlb_unit.specs.declared.letters.Letter.{Letter}
 use Rattle.adlb_unit.specs.declared.messages.Message.{Message}
 use Rattle.adlb_unit.specs.declared.messages.Message.TheVariants as tells
+use Rattle.adlb_unit.specs.declared.names.CommonRef.{CommonRef}
 use Rattle.adlb_unit.specs.declared.names.Rank.{Rank}
 use Rattle.adlb_unit.specs.declared.names.Server.{Server}
 use Rattle.adlb_unit.specs.declared.names.UnitId.{UnitId}
@@ -22,10 +24,10 @@ use Rattle.rank_client.specs.declared.pendings.Pending.TheVariants as waits_for
 use Rattle.rank_client.specs.Rules as rank_rules
 use Rattle.rank_client.specs.State.{ClientModel}
 use Rattle.rank_client.specs.Step as rank_step
-use Rattle.server_core.specs.Rules as server_rules
-use Rattle.server_core.specs.State.{ServerModel}
-use Rattle.server_core.specs.Step as server_step
-use Rattle.work_queue.specs.declared.placing.Placed.{Placed}
+use Rattle.server_law.specs.Acts.{Act, ServerSaying, does, says}
+use Rattle.server_law.specs.Carried.{Served, all_counted, carried, counted, done}
+use Rattle.server_law.specs.State.{ServerModel}
+use Rattle.server_law.specs.Step.{acts, next_stamp, serve, ticked}
 
 -- A rank.
 
@@ -50,11 +52,21 @@ fetch_leaves : (s : ClientModel) (id : UnitId) (note : Option UnitNote) → Leav
 fetch_leaves s id None = tt
 fetch_leaves s id (Some note) = refl
 
+keep_leaves : (s : ClientModel) (common : List ℕ) (end : Option End) → (rank_rules.keep s common end).state.trouble ≡ s.trouble
+keep_leaves s common None = refl
+keep_leaves s common (Some end) = refl
+
+close_leaves : (s : ClientModel) (batch : Option CommonRef) → Leaves s.trouble (rank_rules.close s batch)
+close_leaves s None = tt
+close_leaves s (Some batch) = refl
+
 call_leaves : (s : ClientModel) (call : Call) → Leaves s.trouble (rank_rules.open_call s call)
 call_leaves s (calls_to.Put kind prio target answer body) =
     leaves_if s.trouble _ (rank_rules.put s (rank_rules.unit_put s kind prio target answer body) s.end) (put_leaves s (rank_rules.unit_put s kind prio target answer body) s.end)
 call_leaves s (calls_to.Reserve types) = leaves_if s.trouble _ (rank_rules.reserve s types s.end) (reserve_leaves s types s.end)
 call_leaves s (calls_to.Fetch id) = fetch_leaves s id (rank_rules.held s id)
+call_leaves s (calls_to.BeginBatch common) = leaves_if s.trouble _ (rank_rules.keep s common s.end) (keep_leaves s common s.end)
+call_leaves s calls_to.EndBatch = close_leaves s s.batch
 call_leaves s calls_to.Finish = leaves_if s.trouble _ (rank_rules.finish s) refl
 call_leaves s _ = tt
 
@@ -74,15 +86,48 @@ hear_reserve_leaves s request types from (tells.Grant to note) = leaves_if s.tro
 hear_reserve_leaves s request types from (tells.Ended to end) = leaves_if s.trouble _ _ refl
 hear_reserve_leaves s request types from _ = tt
 
+own_leaves : (s : ClientModel) (request : ℕ) (note : UnitNote) (own : List ℕ) (common : Option CommonRef)
+    → (rank_rules.own_came s request note own common).state.trouble ≡ s.trouble
+own_leaves s request note own None = refl
+own_leaves s request note own (Some common) = refl
+
 hear_fetch_leaves : (s : ClientModel) (request : ℕ) (note : UnitNote) (from : Server) (message : Message) → Leaves s.trouble (rank_rules.hear_fetch s request note from message)
-hear_fetch_leaves s request note from (tells.Bytes to body) = leaves_if s.trouble _ _ refl
+hear_fetch_leaves s request note from (tells.Bytes to body) =
+    leaves_if s.trouble _ (rank_rules.own_came s request note body note.common) (own_leaves s request note body note.common)
 hear_fetch_leaves s request note from _ = tt
+
+hear_common_leaves : (s : ClientModel) (request : ℕ) (note : UnitNote) (common : CommonRef) (own : List ℕ) (from : Server) (message : Message)
+    → Leaves s.trouble (rank_rules.hear_common s request note common own from message)
+hear_common_leaves s request note common own from (tells.Bytes to body) = leaves_if s.trouble _ _ refl
+hear_common_leaves s request note common own from _ = tt
+
+part_leaves : (s : ClientModel) (request : ℕ) (common : List ℕ) (first : Server) (tried : ℕ) (more : Bool)
+    → (rank_rules.part_refused s request common first tried more).state.trouble ≡ s.trouble
+part_leaves s request common first tried true = refl
+part_leaves s request common first tried false = refl
+
+hear_keep_leaves : (s : ClientModel) (request : ℕ) (common : List ℕ) (first : Server) (tried : ℕ) (from : Server) (message : Message)
+    → Leaves s.trouble (rank_rules.hear_keep s request common first tried from message)
+hear_keep_leaves s request common first tried from (tells.Accepted to) = leaves_if s.trouble _ _ refl
+hear_keep_leaves s request common first tried from (tells.Full to charge) =
+    leaves_if s.trouble _ (rank_rules.part_refused s request common first tried (nat_lt (tried + 1) s.config.servers))
+    (part_leaves s request common first tried (nat_lt (tried + 1) s.config.servers))
+hear_keep_leaves s request common first tried from (tells.Ended to end) = leaves_if s.trouble _ _ refl
+hear_keep_leaves s request common first tried from _ = tt
+
+hear_close_leaves : (s : ClientModel) (request : ℕ) (batch : CommonRef) (from : Server) (message : Message)
+    → Leaves s.trouble (rank_rules.hear_close s request batch from message)
+hear_close_leaves s request batch from (tells.Closed to) = leaves_if s.trouble _ _ refl
+hear_close_leaves s request batch from _ = tt
 
 answer_leaves : (s : ClientModel) (pending : Pending) (from : Server) (message : Message) → Leaves s.trouble (rank_rules.answer_call s pending from message)
 answer_leaves s waits_for.Nothing from message = tt
 answer_leaves s (waits_for.Put unit first tried) from message = hear_put_leaves s unit first tried from message
 answer_leaves s (waits_for.Reserve request types) from message = hear_reserve_leaves s request types from message
 answer_leaves s (waits_for.Fetch request note) from message = hear_fetch_leaves s request note from message
+answer_leaves s (waits_for.Common request note common own) from message = hear_common_leaves s request note common own from message
+answer_leaves s (waits_for.Keep request common first tried) from message = hear_keep_leaves s request common first tried from message
+answer_leaves s (waits_for.Close request batch) from message = hear_close_leaves s request batch from message
 
 -- letters leave it
 post_leaves : (x : rank_step.Made) (says : List rank_rules.ClientSaying) → (rank_step.post x says).state.trouble ≡ x.state.trouble
@@ -114,71 +159,21 @@ hear_leaves s from letter x is =
 
 -- A server.
 
-abbrev Stays : Option Trouble → Option server_rules.ServerResponse → Type 0
-Stays trouble None = Prim.Unit {0}
-Stays trouble (Some x) = x.state.trouble ≡ trouble
+counted_leaves : (s : ServerModel) (says : List ServerSaying) → (all_counted s says).trouble ≡ s.trouble
+counted_leaves s [] = refl
+counted_leaves s (y ∷ says) = counted_leaves (counted s y.to) says
 
-stays_if : (trouble : Option Trouble) (b : Bool) (x : server_rules.ServerResponse) → x.state.trouble ≡ trouble → Stays trouble (cond b (Some x) None)
-stays_if trouble true x kept = kept
-stays_if trouble false x kept = tt
+carried_leaves : (acts : List Act) (s : ServerModel) → (carried acts s).state.trouble ≡ s.trouble
+carried_leaves [] s = refl
+carried_leaves (a ∷ more) s = carried_leaves more (done a s) ∙ counted_leaves (does a s) (says a s)
 
-put_stays : (s : ServerModel) (from : Rank) (unit : Unit) (done over : Bool) → (server_rules.put s from unit done over).state.trouble ≡ s.trouble
-put_stays s from unit true over = refl
-put_stays s from unit false true = refl
-put_stays s from unit false false = refl
+by_acts : (o : Option (List Act)) (s : ServerModel) (x : Served) → option_map (λ list. carried list s) o ≡ Some x → x.state.trouble ≡ s.trouble
+by_acts None s x is = absurd (cc)
+by_acts (Some list) s x is =
+    let same : carried list s ≡ x = cc in
+    ap (λ (m : Served). m.state.trouble) (sym same) ∙ carried_leaves list s
 
-reserve_stays : (s : ServerModel) (from : Rank) (request : ℕ) (types : Option (List WorkType)) (done exhausted : Bool) (best : Option Placed)
-    → (server_rules.reserve s from request types done exhausted best).state.trouble ≡ s.trouble
-reserve_stays s from request types true exhausted best = refl
-reserve_stays s from request types false true best = refl
-reserve_stays s from request types false false (Some p) = refl
-reserve_stays s from request types false false None = refl
-
-fetch_stays : (s : ServerModel) (from : Rank) (request : ℕ) (id : UnitId) (found : Option Placed) → Stays s.trouble (server_rules.fetch s from request id found)
-fetch_stays s from request id None = tt
-fetch_stays s from request id (Some p) = refl
-
-respond_stays : (s : ServerModel) (from : Rank) (message : Message) → Stays s.trouble (server_rules.respond s from message)
-respond_stays s from (tells.Put unit) =
-    stays_if s.trouble _ (server_rules.put_now s from unit) (put_stays s from unit s.done (server_rules.is_over s.queue unit))
-respond_stays s from (tells.Reserve request types) =
-    stays_if s.trouble _ (server_rules.reserve_now s from request types)
-    (reserve_stays s from request types s.done s.exhausted (server_rules.best_unit from types s.queue.units))
-respond_stays s from (tells.Fetch request id) = fetch_stays s from request id (find (server_rules.is_pinned_as id from) s.queue.units)
-respond_stays s from tells.Finish = stays_if s.trouble _ (server_rules.finish s from) refl
-respond_stays s from _ = tt
-
-post_stays : (x : server_step.Served) (says : List server_rules.ServerSaying) → (server_step.post x says).state.trouble ≡ x.state.trouble
-post_stays x [] = refl
-post_stays x (y ∷ says) =
-    post_stays (record x { state = server_step.counted x.state y.to; sends = x.sends ++ server_step.posted x.state y ∷ [] }) says
-
-exhaust_stays : (x : server_step.Served) (waiting : List server_step.Waiting) (fits : Bool) → (server_step.exhaust x waiting fits).state.trouble ≡ x.state.trouble
-exhaust_stays x waiting true = refl
-exhaust_stays x waiting false = post_stays _ (map server_step.told waiting)
-
-verdict_stays : (x : server_step.Served) (waiting : List server_step.Waiting) → (server_step.verdict x waiting).state.trouble ≡ x.state.trouble
-verdict_stays x [] = refl
-verdict_stays x (w ∷ waiting) = exhaust_stays x (w ∷ waiting) _
-
-event_stays : (x : server_step.Served) → (server_step.after_event x).state.trouble ≡ x.state.trouble
-event_stays x = by_test _
-  where
-    by_test : (b : Bool) → (cond b (server_step.verdict x (server_step.waiting_from 0 x.state.ranks)) x).state.trouble ≡ x.state.trouble
-    by_test true = verdict_stays x (server_step.waiting_from 0 x.state.ranks)
-    by_test false = refl
-
-served_stays : (trouble : Option Trouble) (o : Option server_rules.ServerResponse) (x : server_step.Served) → Stays trouble o
-    → option_map (λ r. server_step.after_event (server_step.served r)) o ≡ Some x → x.state.trouble ≡ trouble
-served_stays trouble None x kept is = absurd (cc)
-served_stays trouble (Some r) x kept is =
-    let same : server_step.after_event (server_step.served r) ≡ x = cc in
-    ap (λ (m : server_step.Served). m.state.trouble) (sym same)
-    ∙ event_stays (server_step.served r) ∙ post_stays (record { state = r.state; sends = []; entries = r.entries }) r.says ∙ kept
-
-pub serve_stays : (s : ServerModel) (from : Actor) (letter : Letter) (x : server_step.Served) → server_step.serve s from letter ≡ Some x → x.state.trouble ≡ s.trouble
-serve_stays s (by.Server from) letter x is = absurd (cc)
-serve_stays s (by.Rank from) letter x is =
-    let t : ServerModel = server_step.ticked s (server_step.next_stamp s letter) in
-    served_stays s.trouble (server_rules.respond t from letter.message) x (respond_stays t from letter.message)
-    (where_true (nat_lt from.0 s.config.ranks && nat_lt letter.stamp (2 ^ 48)) _ x is)
+pub serve_stays : (s : ServerModel) (from : Actor) (letter : Letter) (x : Served) → serve s from letter ≡ Some x → x.state.trouble ≡ s.trouble
+serve_stays s from letter x is =
+    let t : ServerModel = ticked s (next_stamp s letter) in
+    by_acts (acts t from letter.message) t x (where_true (is_within s.config from && nat_lt letter.stamp (2 ^ 48)) _ x is)

@@ -4,7 +4,7 @@ use Rattle.std.proofs.lemmas.List.Elements.{All-head, All-same, All-set, All-tai
 use Rattle.adlb_unit.specs.declared.names.Rank.{Rank}
 use Rattle.adlb_unit.specs.declared.names.Server.{Server}
 use Rattle.rank_client.specs.State.{ClientModel, start as new_client}
-use Rattle.server_core.specs.State.{ServerModel, start as new_pool}
+use Rattle.server_law.specs.State.{ServerModel, start as new_pool}
 use Rattle.core_run.specs.World.{Links, World, client_of, pool_of}
 use Rattle.core_world.specs.Stage.{IsWhole, with_client, with_server}
 

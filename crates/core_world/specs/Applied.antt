@@ -11,7 +11,7 @@ use Rattle.adlb_unit.specs.declared.notes.Trouble.TheVariants as troubles
 use Rattle.bag_ledger.specs.declared.entries.Answer.{Answer}
 use Rattle.bag_ledger.specs.declared.entries.Entry.{Entry}
 use Rattle.rank_client.specs.Step.{begin, call_stamp, hear, letter_stamp}
-use Rattle.server_core.specs.Step.{next_stamp}
+use Rattle.server_law.specs.Step.{next_stamp}
 use Rattle.core_run.specs.declared.events.Event.{Event}
 use Rattle.core_run.specs.declared.events.Event.TheVariants as occurs
 use Rattle.core_run.specs.Runs.{run, transcript}

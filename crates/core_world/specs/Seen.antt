@@ -1,11 +1,11 @@
 -- What contracts see of a world that is stepped by hand.
 use Rattle.std.specs.Prelude.{◌&&◌, List, [], Option, None, if◌then◌else◌}
-use Rattle.adlb_unit.specs.Links.{place_of}
+use Rattle.adlb_unit.specs.Links.{is_within, place_of}
 use Rattle.adlb_unit.specs.declared.actors.Actor.{Actor}
 use Rattle.adlb_unit.specs.declared.configs.Config.{Config}
 use Rattle.adlb_unit.specs.declared.letters.Letter.{Letter}
 use Rattle.adlb_unit.specs.declared.notes.Trouble.{Trouble}
-use Rattle.core_run.specs.World.{World, is_within, link, start}
+use Rattle.core_run.specs.World.{World, link, start}
 
 pub record Seen : Type 0 where
   pub world : World

@@ -3,7 +3,7 @@ use Rattle.std.specs.Prelude.{◌≡◌, length, slice_set, None, All}
 use Rattle.adlb_unit.specs.declared.names.Rank.{Rank}
 use Rattle.adlb_unit.specs.declared.names.Server.{Server}
 use Rattle.rank_client.specs.State.{ClientModel}
-use Rattle.server_core.specs.State.{ServerModel}
+use Rattle.server_law.specs.State.{ServerModel}
 use Rattle.core_run.specs.World.{World}
 use Rattle.core_world.specs.declared.stages.Stage.TheInside.{Inside}
 

@@ -3,7 +3,8 @@
 ghost use Rattle.std.specs.Prelude.{◌≡◌, ◌<◌, ◌∷◌, ◌↔◌, List, true, IfOk, IsSome, IsTrue, length};
 ghost use Rattle.adlb_unit.specs.declared.letters.Letter.{Letter};
 ghost use Rattle.core_run.specs.Runs.{transcript};
-ghost use Rattle.core_run.specs.World.{client_of, handle, is_within, pool_of, rank_named, start};
+ghost use Rattle.core_run.specs.World.{client_of, handle, pool_of, start};
+ghost use Rattle.adlb_unit.specs.Links.{is_within};
 ghost use Rattle.core_world.specs.Applied.{IsEnabled};
 ghost use Rattle.core_world.specs.Seen.{under_way};
 ghost use Rattle.core_world.specs.Stage.{IsWhole};
@@ -42,7 +43,6 @@ impl Model for Stage {
 impl Stage {
     // All actors at the start.
     pub(crate) fn new(alloc: Global, config: Config) -> Result<Stage, NoMemory>
-        requires { config.ranks ≡ 1 }
         ensures start { IfOk result (λ s. s ≡ start config) }
         ensures whole { IfOk result IsWhole }
     {
@@ -77,16 +77,14 @@ impl Stage {
         &self.servers[server.0 as usize]
     }
 
-    // The ledger and the calls of the only rank with their answers.
-    pub(crate) fn into_parts(self) -> (Ledger, Vec<Said>)
-        requires { self.config.ranks ≡ 1 }
+    // The ledger and the calls of a rank with their answers.
+    pub(crate) fn into_parts(self, rank: Rank) -> (Ledger, Vec<Said>)
+        requires { rank.0 < self.config.ranks }
         ensures ledger { result.0 ≡ self.ledger }
-        ensures transcript { result.1.items ≡ transcript self (rank_named 0) }
+        ensures transcript { result.1.items ≡ transcript self rank }
     {
         let mut ranks = self.ranks;
-        let Some(client) = ranks.pop() else {
-            unreachable!()
-        };
+        let client = ranks.swap_remove(rank.0 as usize);
         (self.ledger, client.into_transcript())
     }
 
@@ -173,7 +171,6 @@ fn clients(alloc: Global, config: Config) -> Result<Vec<ClientCore>, NoMemory>
 
 // All servers at the start.
 fn servers(alloc: Global, config: Config) -> Result<Vec<ServerState>, NoMemory>
-    requires { config.ranks ≡ 1 }
     ensures { IfOk result (λ v. v.items ≡ (start config).servers) }
 {
     let mut servers = Vec::new(alloc);

@@ -1,11 +1,11 @@
 //! Worlds stepped by hand, with ledgers that were found by hand.
 
-ghost use Rattle.std.specs.Prelude.{◌≡◌, IfOk};
+ghost use Rattle.std.specs.Prelude.{◌≡◌};
 
 use crate::faults::ApplyFault;
 use crate::worlds::World;
-use adlb_unit::{Actor, Config, Payload, Rank, Server, Target, WorkType};
-use bag_ledger::{Call, Entry};
+use adlb_unit::{Actor, Config, Payload, Rank, Server, Target, Types, UnitId, WorkType};
+use bag_ledger::{Answer, Call, Entry, Said};
 use core_run::Event;
 use std::alloc::Global;
 use std::process::Abort;
@@ -13,194 +13,403 @@ use std::test::Fail;
 
 const RANK: Actor = Actor::Rank(Rank(0));
 
-fn server(number: u32) -> Actor {
-    Actor::Server(Server(number))
-}
+const FIRST: Actor = Actor::Server(Server(0));
 
-// One rank and three servers, each with the lowest limit.
-fn world(alloc: Global) -> Result<World, Fail>
-    ensures ranks { IfOk result (λ w. w.world.config.ranks ≡ 1) }
-    ensures servers { IfOk result (λ w. w.world.config.servers ≡ 3) }
-{
-    let config = Config::new(1, 3, 64)?;
-    Ok(World::new(alloc, config)?)
-}
+const SECOND: Actor = Actor::Server(Server(1));
 
-// The rank puts so many bytes.
-fn put(alloc: Global, size: usize) -> Result<Event, Fail> {
-    let bytes = vec![in alloc; 7_u8; size]?;
-    Ok(Event::Call(
-        Rank(0),
-        Call::Put {
-            kind: WorkType(1),
-            prio: 0,
-            target: Target::Any,
-            answer: None,
-            body: Payload::from_vec(bytes),
-        },
-    ))
-}
+const THIRD: Actor = Actor::Server(Server(2));
 
-// The rank puts so many bytes, the server handles the letter, and the rank hears the answer.
-fn round(alloc: Global, size: usize, at: u32) -> Result<Vec<Event>, Fail> {
-    Ok(vec![in alloc;
-        put(alloc, size)?,
-        Event::Deliver(RANK, server(at)),
-        Event::Deliver(server(at), RANK),
-    ]?)
+// An event of the only rank or of a list of letters.
+#[derive(Clone, Copy)]
+enum Does {
+    // The rank puts so many bytes.
+    Puts(usize),
+    // It begins a batch with so many common bytes.
+    Begins(usize),
+    Ends,
+    // It reserves a unit of any type.
+    Reserves,
+    // It fetches its unit of this number.
+    Fetches(u64),
+    Finishes,
+    // The second handles the front letter of the first.
+    Delivers(Actor, Actor),
 }
 
 // Three puts of 56 bytes, each accepted at another server.
-fn filled(alloc: Global, world: &mut World) -> Result<(), Fail>
-    ensures { world.new.world.config ≡ world.old.world.config }
-{
-    for at in 0..3 {
-        match world.run_events(round(alloc, 56, at)?) {
-            Ok(_) => {}
-            Err((_, fault)) => return Err(fault.into()),
-        }
-    }
-    Ok(())
+const FILLS: [Does; 9] = [
+    Does::Puts(56),
+    Does::Delivers(RANK, FIRST),
+    Does::Delivers(FIRST, RANK),
+    Does::Puts(56),
+    Does::Delivers(RANK, SECOND),
+    Does::Delivers(SECOND, RANK),
+    Does::Puts(56),
+    Does::Delivers(RANK, THIRD),
+    Does::Delivers(THIRD, RANK),
+];
+
+// A line of a scene: what is done with the world, or what is asked of it.
+#[derive(Clone, Copy)]
+enum Line<'a> {
+    // It applies the event: done, or refused with the event.
+    Applies(Does),
+    // It runs the events: how many were applied, and whether the next was refused.
+    Runs(&'a [Does]),
+    // How many letters are under way from the first to the second.
+    Waiting(Actor, Actor),
+    // How many calls of the rank are answered.
+    Answered,
+    // The bytes with which its last call was answered.
+    Body,
+    // The ledger, each entry as `row` has it.
+    Ledger,
+    // The units that are left at the server of this number.
+    Left(u32),
 }
 
-// The event that is not enabled, where the answer says so.
-fn refused(answer: Result<(), ApplyFault>) -> Option<Event> {
-    match answer {
-        Err(ApplyFault::NotEnabled { event }) => Some(event),
-        _ => None,
+fn event(alloc: Global, does: Does) -> Result<Event, Fail> {
+    Ok(match does {
+        Does::Puts(size) => Event::Call(Rank(0), put(alloc, size)?),
+        Does::Begins(size) => Event::Call(Rank(0), begin(alloc, size)?),
+        Does::Ends => Event::Call(Rank(0), Call::EndBatch),
+        Does::Reserves => Event::Call(
+            Rank(0),
+            Call::Reserve {
+                types: Types::any(),
+            },
+        ),
+        Does::Fetches(number) => Event::Call(Rank(0), fetch(number)),
+        Does::Finishes => Event::Call(Rank(0), Call::Finish),
+        Does::Delivers(from, to) => Event::Deliver(from, to),
+    })
+}
+
+fn put(alloc: Global, size: usize) -> Result<Call, Fail> {
+    let bytes = vec![in alloc; 7_u8; size]?;
+    Ok(Call::Put {
+        kind: WorkType(1),
+        prio: 0,
+        target: Target::Any,
+        answer: None,
+        body: Payload::from_vec(bytes),
+    })
+}
+
+fn begin(alloc: Global, size: usize) -> Result<Call, Fail> {
+    let bytes = vec![in alloc; 9_u8; size]?;
+    Ok(Call::BeginBatch {
+        common: Payload::from_vec(bytes),
+    })
+}
+
+fn fetch(number: u64) -> Call {
+    Call::Fetch {
+        id: UnitId {
+            rank: Rank(0),
+            number,
+        },
     }
 }
 
-// How many bytes the rank puts.
-fn size_put(event: &Event) -> usize {
-    match event {
-        Event::Call(Rank(0), Call::Put { body, .. }) => body.len(),
-        _ => 0,
+fn events(alloc: Global, all: &[Does]) -> Result<Vec<Event>, Fail> {
+    let mut events = Vec::new(alloc);
+    for does in all {
+        events.push(event(alloc, *does)?)?;
+    }
+    Ok(events)
+}
+
+// The event is the one that was to happen.
+fn is_that(event: &Event, does: Does) -> bool {
+    match (event, does) {
+        (Event::Call(Rank(0), Call::Put { body, .. }), Does::Puts(size)) => body.len() == size,
+        (Event::Call(Rank(0), Call::EndBatch), Does::Ends) => true,
+        (Event::Call(Rank(0), Call::Finish), Does::Finishes) => true,
+        (Event::Deliver(from, to), Does::Delivers(a, b)) => *from == a && *to == b,
+        _ => false,
     }
 }
 
-// What an entry is, the call and the server that it names, and its bytes or the bytes used.
+// What an entry is, the call, unit or batch and the server that it names, and its bytes or the bytes used.
 fn row(entry: &Entry) -> (&'static str, u64, u32, u64) {
     match entry {
         Entry::Putting { call, body, .. } => ("putting", *call, 0, body.len() as u64),
         Entry::Accepted { server, id } => ("accepted", id.number, server.0, 0),
         Entry::Refused { server, id, used } => ("refused", id.number, server.0, *used),
         Entry::Rejected { call, .. } => ("rejected", *call, 0, 0),
+        Entry::Asked { call, .. } => ("asked", *call, 0, 0),
+        Entry::Granted { server, id, .. } => ("granted", id.number, server.0, 0),
+        Entry::Fetching { id, .. } => ("fetching", id.number, 0, 0),
+        Entry::Fetched { server, id, .. } => ("fetched", id.number, server.0, 0),
         Entry::Finished { call, .. } => ("finished", *call, 0, 0),
+        entry => part_row(entry),
+    }
+}
+
+// Of a batch and its common part.
+fn part_row(entry: &Entry) -> (&'static str, u64, u32, u64) {
+    match entry {
+        Entry::Keeping { call, common, .. } => ("keeping", *call, 0, common.len() as u64),
+        Entry::Kept { server, batch } => ("kept", batch.number, server.0, 0),
+        Entry::Closing { call, .. } => ("closing", *call, 0, 0),
+        Entry::Closed { server, batch } => ("closed", batch.number, server.0, 0),
+        Entry::CommonFetched { server, batch, .. } => ("common fetched", batch.number, server.0, 0),
+        Entry::Freed { server, batch } => ("freed", batch.number, server.0, 0),
         _ => ("other", 0, 0, 0),
     }
 }
 
-fn has_rows(rt: &impl Abort, world: &World, rows: &[(&'static str, u64, u32, u64)]) {
-    let entries = world.ledger().entries();
-    assert_eq!(rt; entries.len(), rows.len());
-    for (entry, wanted) in entries.iter().zip(rows) {
-        assert!(rt; row(entry) == *wanted);
+fn rows(alloc: Global, entries: &[Entry]) -> Result<String, Fail> {
+    let mut rows = String::new(alloc);
+    for entry in entries {
+        let (name, call, server, bytes) = row(entry);
+        rows.push_str(format!(in alloc; "{name} {call} {server} {bytes}; ")?.as_str())?;
     }
+    Ok(rows)
+}
+
+// The fault says that this event is not enabled.
+fn refusal(fault: &ApplyFault, does: Does) -> &'static str {
+    match fault {
+        ApplyFault::NotEnabled { event } if is_that(event, does) => "refused",
+        _ => "another fault",
+    }
+}
+
+fn applies(alloc: Global, world: &mut World, does: Does) -> Result<String, Fail>
+    ensures { world.new.world.config ≡ world.old.world.config }
+{
+    let event = event(alloc, does)?;
+    let told = match world.apply(event) {
+        Ok(()) => "done",
+        Err(fault) => refusal(&fault, does),
+    };
+    Ok(String::from_str(alloc, told)?)
+}
+
+fn runs(alloc: Global, world: &mut World, all: &[Does]) -> Result<String, Fail>
+    ensures { world.new.world.config ≡ world.old.world.config }
+{
+    let events = events(alloc, all)?;
+    let (applied, told) = match world.run_events(events) {
+        Ok(applied) => (applied, "done"),
+        Err((applied, ApplyFault::NotEnabled { .. })) => (applied, "done, then refused"),
+        Err((applied, _)) => (applied, "done, then another fault"),
+    };
+    Ok(format!(in alloc; "{applied} {told}")?)
+}
+
+fn left(alloc: Global, world: &World, servers: u32, number: u32) -> Result<String, Fail>
+    requires { world.now.world.config.servers ≡ servers }
+{
+    if number >= servers {
+        return Err("no such server".into());
+    }
+    let left = world.left(Server(number))?;
+    Ok(format!(in alloc; "{left:?}")?)
+}
+
+fn body(alloc: Global, world: &World) -> Result<String, Fail>
+    requires { world.now.world.config.ranks ≡ 1 }
+{
+    match world.transcript(Rank(0)).last() {
+        Some(
+            Said {
+                answer: Answer::Body(body),
+                ..
+            },
+        ) => Ok(format!(in alloc; "{:?}", body.bytes())?),
+        _ => Err("the last call was no fetch".into()),
+    }
+}
+
+// What a line of a scene gives, as it is shown.
+fn shown(alloc: Global, world: &mut World, servers: u32, line: Line) -> Result<String, Fail>
+    requires ranks { world.old.world.config.ranks ≡ 1 }
+    requires servers { world.old.world.config.servers ≡ servers }
+    ensures { world.new.world.config ≡ world.old.world.config }
+{
+    match line {
+        Line::Applies(does) => applies(alloc, world, does),
+        Line::Runs(all) => runs(alloc, world, all),
+        Line::Waiting(from, to) => count(alloc, world.waiting(from, to)),
+        Line::Answered => count(alloc, world.transcript(Rank(0)).len() as u64),
+        Line::Body => body(alloc, world),
+        Line::Ledger => rows(alloc, world.ledger().entries()),
+        Line::Left(number) => left(alloc, world, servers, number),
+    }
+}
+
+fn count(alloc: Global, number: u64) -> Result<String, Fail> {
+    Ok(format!(in alloc; "{number}")?)
+}
+
+// A world of one rank and so many servers, each with the lowest limit, gives what stands beside each line.
+fn play(rt: &impl Abort, alloc: Global, servers: u32, scene: &[(Line, &str)]) -> Result<(), Fail> {
+    let config = Config::new(1, servers, 64)?;
+    let mut world = World::new(alloc, config)?;
+    for (at, (line, expected)) in scene.iter().enumerate() {
+        let given = shown(alloc, &mut world, servers, *line)?;
+        assert_eq!(rt; given.as_str(), *expected, "line {at}");
+    }
+    Ok(())
 }
 
 #[test]
 fn rejects_after_every_server_refused(rt: HostRuntime) -> Result<(), Fail> {
-    let alloc = rt.alloc();
-    let mut run = world(alloc)?;
-    filled(alloc, &mut run)?;
-    let refused = vec![in alloc;
-        put(alloc, 9)?,
-        Event::Deliver(RANK, server(0)),
-        Event::Deliver(server(0), RANK),
-        Event::Deliver(RANK, server(1)),
-        Event::Deliver(server(1), RANK),
-        Event::Deliver(RANK, server(2)),
-        Event::Deliver(server(2), RANK),
-    ]?;
-    assert!(rt; matches!(run.run_events(refused), Ok(7)));
-    has_rows(
-        &rt,
-        &run,
-        &[
-            ("putting", 0, 0, 56),
-            ("accepted", 0, 0, 0),
-            ("putting", 1, 0, 56),
-            ("accepted", 1, 1, 0),
-            ("putting", 2, 0, 56),
-            ("accepted", 2, 2, 0),
-            ("putting", 3, 0, 9),
-            ("refused", 3, 0, 56),
-            ("refused", 3, 1, 56),
-            ("refused", 3, 2, 56),
-            ("rejected", 3, 0, 0),
-        ],
-    );
-    assert_eq!(rt; run.transcript(Rank(0)).len(), 4);
-    Ok(())
+    let refused = [
+        Does::Puts(9),
+        Does::Delivers(RANK, FIRST),
+        Does::Delivers(FIRST, RANK),
+        Does::Delivers(RANK, SECOND),
+        Does::Delivers(SECOND, RANK),
+        Does::Delivers(RANK, THIRD),
+        Does::Delivers(THIRD, RANK),
+    ];
+    let scene = [
+        (Line::Runs(&FILLS), "9 done"),
+        (Line::Runs(&refused), "7 done"),
+        (
+            Line::Ledger,
+            "putting 0 0 56; accepted 0 0 0; putting 1 0 56; accepted 1 1 0; putting 2 0 56; accepted 2 2 0; \
+                putting 3 0 9; refused 3 0 56; refused 3 1 56; refused 3 2 56; rejected 3 0 0; ",
+        ),
+        (Line::Answered, "4"),
+    ];
+    play(&rt, rt.alloc(), 3, &scene)
 }
 
 #[test]
 fn what_is_not_enabled_changes_nothing(rt: HostRuntime) -> Result<(), Fail> {
-    let alloc = rt.alloc();
-    let mut run = world(alloc)?;
-    let none = [
-        (RANK, server(0)),
-        (server(0), RANK),
-        (server(1), server(2)),
-        (RANK, RANK),
-        (RANK, server(3)),
-        (Actor::Rank(Rank(1)), server(0)),
+    let none = Actor::Server(Server(3));
+    let other = Actor::Rank(Rank(1));
+    let scene = [
+        (Line::Applies(Does::Delivers(RANK, FIRST)), "refused"),
+        (Line::Waiting(RANK, FIRST), "0"),
+        (Line::Applies(Does::Delivers(FIRST, RANK)), "refused"),
+        (Line::Waiting(FIRST, RANK), "0"),
+        (Line::Applies(Does::Delivers(SECOND, THIRD)), "refused"),
+        (Line::Waiting(SECOND, THIRD), "0"),
+        (Line::Applies(Does::Delivers(RANK, RANK)), "refused"),
+        (Line::Waiting(RANK, RANK), "0"),
+        (Line::Applies(Does::Delivers(RANK, none)), "refused"),
+        (Line::Waiting(RANK, none), "0"),
+        (Line::Applies(Does::Delivers(other, FIRST)), "refused"),
+        (Line::Waiting(other, FIRST), "0"),
+        (Line::Applies(Does::Puts(9)), "done"),
+        // The rank waits, so it is not ready for another call.
+        (Line::Applies(Does::Puts(8)), "refused"),
+        (Line::Ledger, "putting 0 0 9; "),
+        (Line::Waiting(RANK, FIRST), "1"),
+        (Line::Waiting(FIRST, RANK), "0"),
+        (Line::Answered, "0"),
     ];
-    for (from, to) in none {
-        let refused = refused(run.apply(Event::Deliver(from, to)));
-        assert!(rt; matches!(refused, Some(Event::Deliver(f, t)) if f == from && t == to));
-        assert_eq!(rt; run.waiting(from, to), 0);
-    }
-    run.apply(put(alloc, 9)?)?;
-    // The rank waits, so it is not ready for another call.
-    let refused = refused(run.apply(put(alloc, 8)?));
-    assert!(rt; matches!(&refused, Some(event) if size_put(event) == 8));
-    has_rows(&rt, &run, &[("putting", 0, 0, 9)]);
-    assert_eq!(rt; run.waiting(RANK, server(0)), 1);
-    assert_eq!(rt; run.waiting(server(0), RANK), 0);
-    assert_eq!(rt; run.transcript(Rank(0)).len(), 0);
-    Ok(())
+    play(&rt, rt.alloc(), 3, &scene)
 }
 
 #[test]
 fn a_run_stops_at_the_first_refusal(rt: HostRuntime) -> Result<(), Fail> {
-    let alloc = rt.alloc();
-    let mut run = world(alloc)?;
-    let events = vec![in alloc;
-        put(alloc, 5)?,
-        Event::Deliver(RANK, server(0)),
-        Event::Deliver(RANK, server(0)),
-        Event::Deliver(server(0), RANK),
-    ]?;
-    assert!(rt;
-        matches!(
-            run.run_events(events),
-            Err((2, ApplyFault::NotEnabled { .. }))
-        )
-    );
-    assert_eq!(rt; run.waiting(server(0), RANK), 1);
-    assert!(rt; matches!(run.run_events(Vec::new(alloc)), Ok(0)));
-    run.apply(Event::Deliver(server(0), RANK))?;
-    has_rows(&rt, &run, &[("putting", 0, 0, 5), ("accepted", 0, 0, 0)]);
-    Ok(())
+    let events = [
+        Does::Puts(5),
+        Does::Delivers(RANK, FIRST),
+        Does::Delivers(RANK, FIRST),
+        Does::Delivers(FIRST, RANK),
+    ];
+    let scene = [
+        (Line::Runs(&events), "2 done, then refused"),
+        (Line::Waiting(FIRST, RANK), "1"),
+        (Line::Runs(&[]), "0 done"),
+        (Line::Applies(Does::Delivers(FIRST, RANK)), "done"),
+        (Line::Ledger, "putting 0 0 5; accepted 0 0 0; "),
+    ];
+    play(&rt, rt.alloc(), 3, &scene)
 }
 
 #[test]
 fn each_server_hears_of_the_end_and_keeps_what_is_left(rt: HostRuntime) -> Result<(), Fail> {
-    let alloc = rt.alloc();
-    let mut run = world(alloc)?;
-    filled(alloc, &mut run)?;
-    run.apply(Event::Call(Rank(0), Call::Finish))?;
-    for number in 0..3 {
-        assert_eq!(rt; run.waiting(RANK, server(number)), 1);
-        run.apply(Event::Deliver(RANK, server(number)))?;
-        assert_eq!(rt; run.waiting(RANK, server(number)), 0);
-        let left = run.left(Server(number))?;
-        assert_eq!(rt; left.len(), 1);
-        assert_eq!(rt; left[0].id.number, number as u64);
-        assert!(rt; left[0].server == Server(number) && left[0].pinned.is_none());
-    }
-    assert_eq!(rt; run.transcript(Rank(0)).len(), 4);
-    Ok(())
+    let scene = [
+        (Line::Runs(&FILLS), "9 done"),
+        (Line::Applies(Does::Finishes), "done"),
+        (Line::Waiting(RANK, FIRST), "1"),
+        (Line::Applies(Does::Delivers(RANK, FIRST)), "done"),
+        (Line::Waiting(RANK, FIRST), "0"),
+        (
+            Line::Left(0),
+            "[LeftUnit { id: UnitId { rank: Rank(0), number: 0 }, server: Server(0), pinned: None }]",
+        ),
+        (Line::Waiting(RANK, SECOND), "1"),
+        (Line::Applies(Does::Delivers(RANK, SECOND)), "done"),
+        (Line::Waiting(RANK, SECOND), "0"),
+        (
+            Line::Left(1),
+            "[LeftUnit { id: UnitId { rank: Rank(0), number: 1 }, server: Server(1), pinned: None }]",
+        ),
+        (Line::Waiting(RANK, THIRD), "1"),
+        (Line::Applies(Does::Delivers(RANK, THIRD)), "done"),
+        (Line::Waiting(RANK, THIRD), "0"),
+        (
+            Line::Left(2),
+            "[LeftUnit { id: UnitId { rank: Rank(0), number: 2 }, server: Server(2), pinned: None }]",
+        ),
+        (Line::Answered, "4"),
+    ];
+    play(&rt, rt.alloc(), 3, &scene)
+}
+
+// A batch over two bytes: units of one and of two bytes are put.
+const BATCH: [Does; 9] = [
+    Does::Begins(2),
+    Does::Delivers(RANK, FIRST),
+    Does::Delivers(FIRST, RANK),
+    Does::Puts(1),
+    Does::Delivers(RANK, FIRST),
+    Does::Delivers(FIRST, RANK),
+    Does::Puts(2),
+    Does::Delivers(RANK, FIRST),
+    Does::Delivers(FIRST, RANK),
+];
+
+const END: [Does; 3] = [
+    Does::Ends,
+    Does::Delivers(RANK, FIRST),
+    Does::Delivers(FIRST, RANK),
+];
+
+// The next unit is reserved and fetched: its own bytes come, and then those of its common part.
+const fn work(number: u64) -> [Does; 8] {
+    [
+        Does::Reserves,
+        Does::Delivers(RANK, FIRST),
+        Does::Delivers(FIRST, RANK),
+        Does::Fetches(number),
+        Does::Delivers(RANK, FIRST),
+        Does::Delivers(FIRST, RANK),
+        Does::Delivers(RANK, FIRST),
+        Does::Delivers(FIRST, RANK),
+    ]
+}
+
+#[test]
+fn a_common_part_is_fetched_with_each_unit_and_then_freed(rt: HostRuntime) -> Result<(), Fail> {
+    let scene = [
+        (Line::Applies(Does::Ends), "refused"),
+        (Line::Runs(&BATCH), "9 done"),
+        // A batch is going on, so the rank does not finish.
+        (Line::Applies(Does::Finishes), "refused"),
+        (Line::Runs(&END), "3 done"),
+        (Line::Runs(&work(1)), "8 done"),
+        (Line::Body, "[9, 9, 7]"),
+        (Line::Runs(&work(2)), "8 done"),
+        (Line::Body, "[9, 9, 7, 7]"),
+        (
+            Line::Ledger,
+            "keeping 0 0 2; kept 0 0 0; putting 1 0 1; accepted 1 0 0; putting 2 0 2; accepted 2 0 0; \
+                closing 3 0 0; closed 0 0 0; asked 4 0 0; granted 1 0 0; fetching 1 0 0; fetched 1 0 0; \
+                common fetched 0 0 0; asked 6 0 0; granted 2 0 0; fetching 2 0 0; fetched 2 0 0; \
+                common fetched 0 0 0; freed 0 0 0; ",
+        ),
+        (Line::Left(0), "[]"),
+    ];
+    play(&rt, rt.alloc(), 1, &scene)
 }

@@ -12,8 +12,8 @@ ghost use Rattle.core_world.specs.Stage.{IsWhole, with_client, with_server};
 ghost use Rattle.rank_client.specs.Inside.{gives};
 ghost use Rattle.rank_client.specs.State.{ClientModel};
 ghost use Rattle.rank_client.specs.Step.{begin, call_stamp, hear, letter_stamp};
-ghost use Rattle.server_core.specs.State.{ServerModel};
-ghost use Rattle.server_core.specs.Step.{next_stamp, serve};
+ghost use Rattle.server_law.specs.State.{ServerModel};
+ghost use Rattle.server_law.specs.Step.{next_stamp, serve};
 
 use crate::links::place_of;
 use crate::stages::Stage;

@@ -2,7 +2,7 @@
 
 ghost use Rattle.std.specs.Prelude.{◌≡◌, ◌<◌, IfOk, length};
 ghost use Rattle.core_run.specs.Runs.{transcript};
-ghost use Rattle.core_run.specs.World.{pool_of, rank_named};
+ghost use Rattle.core_run.specs.World.{pool_of};
 ghost use Rattle.core_world.specs.Seen.{new_world, under_way};
 ghost use Rattle.server_core.specs.Left.{left_of};
 
@@ -34,9 +34,8 @@ impl Model for World {
 }
 
 impl World {
-    /// A run of one rank at its start: no letter is under way, and the rank runs. Its only error is `NoMemory`.
+    /// A run at its start: no letter is under way, and each rank runs. Its only error is `NoMemory`.
     pub fn new(alloc: Global, config: Config) -> Result<World, NoMemory>
-        requires { config.ranks ≡ 1 }
         ensures { IfOk result (λ w. w ≡ new_world config) }
     {
         Ok(World {
@@ -83,12 +82,12 @@ impl World {
         self.stage.server_at(server).left()
     }
 
-    /// The ledger, and the calls of the only rank with their answers, where there is one rank.
-    pub fn into_parts(self) -> (Ledger, Vec<Said>)
-        requires { self.world.config.ranks ≡ 1 }
+    /// The ledger, and the calls of a rank of the run that it has heard the answer of, in order, with the world used up.
+    pub fn into_parts(self, rank: Rank) -> (Ledger, Vec<Said>)
+        requires { rank.0 < self.world.config.ranks }
         ensures ledger { result.0 ≡ self.world.ledger }
-        ensures transcript { result.1.items ≡ transcript self.world (rank_named 0) }
+        ensures transcript { result.1.items ≡ transcript self.world rank }
     {
-        self.stage.into_parts()
+        self.stage.into_parts(rank)
     }
 }

@@ -5,7 +5,7 @@ use adlb_unit::{
 };
 use bag_ledger::Call;
 use ledger_checker::first_illegal;
-use merge_history::{Cause, Happened, Journal, can_merge, ledger_of, merge};
+use merge_history::{Cause, Happened, History, Journal, can_merge, ledger_of, merge};
 use rank_client::ClientCore;
 use server_core::{ServerState, Step};
 use std::alloc::Global;
@@ -128,50 +128,89 @@ fn hear(alloc: Global, client: &mut ClientCore, letter: Letter) -> Result<Happen
     })
 }
 
-// The journals of the rank and of the server.
-fn journals(alloc: Global, config: Config) -> Result<Vec<Journal>, Fail> {
-    if config.ranks != 1 {
-        return Err("one rank is stepped".into());
+// The rank and the server with their events so far.
+#[derive(Drop)]
+struct Stepped {
+    client: ClientCore,
+    server: ServerState,
+    of_rank: Vec<Happened>,
+    of_server: Vec<Happened>,
+}
+
+impl Stepped {
+    fn new(alloc: Global, config: Config) -> Result<Stepped, Fail> {
+        Ok(Stepped {
+            client: ClientCore::new(alloc, config, Rank(0))?,
+            server: ServerState::new(alloc, config, Server(0))?,
+            of_rank: Vec::new(alloc),
+            of_server: Vec::new(alloc),
+        })
     }
-    let mut client = ClientCore::new(alloc, config, Rank(0))?;
-    let mut server = ServerState::new(alloc, config, Server(0))?;
-    let mut of_rank = Vec::new(alloc);
-    let mut of_server = Vec::new(alloc);
-    for number in 0..7 {
-        let (sends, happened) = begin(alloc, &mut client, number)?;
-        of_rank.push(happened)?;
+
+    // The call of this number, and each letter that follows it.
+    fn round(&mut self, alloc: Global, number: u32) -> Result<(), Fail> {
+        let (sends, happened) = begin(alloc, &mut self.client, number)?;
+        self.of_rank.push(happened)?;
         for sending in sends {
-            let (answers, happened) = serve(alloc, &mut server, RANK, sending.letter)?;
-            of_server.push(happened)?;
-            for answer in answers {
-                of_rank.push(hear(alloc, &mut client, answer.letter)?)?;
-            }
+            self.exchange(alloc, sending.letter)?;
         }
+        Ok(())
     }
-    let mut all = Vec::new(alloc);
-    all.push(Journal {
-        actor: RANK,
-        events: of_rank,
-    })?;
-    all.push(Journal {
-        actor: SERVER,
-        events: of_server,
-    })?;
-    Ok(all)
+
+    // The server handles the letter, and the rank hears what it answers.
+    fn exchange(&mut self, alloc: Global, letter: Letter) -> Result<(), Fail> {
+        let (answers, happened) = serve(alloc, &mut self.server, RANK, letter)?;
+        self.of_server.push(happened)?;
+        for answer in answers {
+            let heard = hear(alloc, &mut self.client, answer.letter)?;
+            self.of_rank.push(heard)?;
+        }
+        Ok(())
+    }
+
+    // The journals of the two.
+    fn journals(self, alloc: Global) -> Result<Vec<Journal>, Fail> {
+        let Stepped {
+            of_rank,
+            of_server,
+            ..
+        } = self;
+        let mut all = Vec::new(alloc);
+        all.push(Journal {
+            actor: RANK,
+            events: of_rank,
+        })?;
+        all.push(Journal {
+            actor: SERVER,
+            events: of_server,
+        })?;
+        Ok(all)
+    }
+}
+
+// All seven calls, and the journals merged.
+fn merged(alloc: Global, config: &Config) -> Result<History, Fail> {
+    let mut stepped = Stepped::new(alloc, *config)?;
+    for number in 0..7 {
+        stepped.round(alloc, number)?;
+    }
+    let journals = stepped.journals(alloc)?;
+    if !can_merge(config, &journals) {
+        return Err("journals that cannot be merged".into());
+    }
+    Ok(merge(alloc, config, journals).ok().ok_or("memory")?)
 }
 
 #[test]
 fn stepped_journals_merge_to_a_legal_run(rt: HostRuntime) -> Result<(), Fail> {
     let alloc = rt.alloc();
     let config = Config::new(1, 1, 64).ok().ok_or("configuration")?;
-    let journals = journals(alloc, config)?;
-    if !can_merge(&config, &journals) {
-        return Err("journals that cannot be merged".into());
-    }
-    let history = merge(alloc, &config, journals).ok().ok_or("memory")?;
-    assert_eq!(rt; history.events.len(), 20);
+    let history = merged(alloc, &config)?;
     let ledger = ledger_of(alloc, &history)?;
-    assert_eq!(rt; ledger.entries().len(), 13);
-    assert!(rt; first_illegal(alloc, &ledger, &config) == Ok(None));
+    let found = first_illegal(alloc, &ledger, &config);
+    assert_eq!(rt;
+        (history.events.len(), ledger.entries().len(), found),
+        (20, 13, Ok(None))
+    );
     Ok(())
 }

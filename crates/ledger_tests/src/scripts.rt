@@ -1,7 +1,5 @@
 //! Runs that are driven by fixed pseudo-random scripts.
 
-ghost use Rattle.std.specs.Prelude.{◌≡◌};
-
 use adlb_unit::{Actor, Config, Payload, Rank, Server, Target, Types, UnitId, WorkType};
 use bag_ledger::Call;
 use core_run::Event;
@@ -11,6 +9,9 @@ use std::test::Fail;
 
 /// How many events are tried.
 const STEPS: u32 = 400;
+
+/// How often each rank then calls: more often than there are units.
+const ROUNDS: u32 = 60;
 
 /// Fixed pseudo-random numbers, by a linear congruence.
 #[derive(Drop)]
@@ -35,14 +36,14 @@ impl Words {
     }
 }
 
-// A call that the rank may make.
-fn call(alloc: Global, words: &mut Words) -> Result<Call, Fail> {
+// A call that a rank may make, in a run of so many.
+fn call(alloc: Global, words: &mut Words, ranks: u32) -> Result<Call, Fail> {
     let word = words.next();
     let call = match word % 4 {
         0 | 1 => Call::Put {
             kind: WorkType(word / 4 % 3),
-            prio: 0,
-            target: target(word / 12),
+            prio: (word / 12 % 2) as i32,
+            target: target(word / 24, ranks),
             answer: None,
             body: body(alloc, words)?,
         },
@@ -51,7 +52,7 @@ fn call(alloc: Global, words: &mut Words) -> Result<Call, Fail> {
         },
         _ => Call::Fetch {
             id: UnitId {
-                rank: Rank(0),
+                rank: Rank(words.next() % ranks.max(1)),
                 number: (word / 4 % 40) as u64,
             },
         },
@@ -59,12 +60,13 @@ fn call(alloc: Global, words: &mut Words) -> Result<Call, Fail> {
     Ok(call)
 }
 
-// A target that rank 0 may have.
-fn target(word: u32) -> Target {
+// A target in a run of so many ranks.
+fn target(word: u32, ranks: u32) -> Target {
+    let rank = Rank(word / 3 % ranks.max(1));
     match word % 3 {
         0 => Target::Any,
-        1 => Target::Only(Rank(0)),
-        _ => Target::Soft(Rank(0)),
+        1 => Target::Only(rank),
+        _ => Target::Soft(rank),
     }
 }
 
@@ -75,11 +77,11 @@ fn body(alloc: Global, words: &mut Words) -> Result<Payload, Fail> {
     Ok(Payload::from_vec(bytes))
 }
 
-// A list of letters between the rank and one of `servers` servers.
-fn delivery(words: &mut Words, servers: u32) -> Event {
+// A list of letters between a rank and a server.
+fn delivery(words: &mut Words, config: &Config) -> Event {
     let word = words.next();
-    let rank = Actor::Rank(Rank(0));
-    let server = Actor::Server(Server(word / 2 % servers.max(1)));
+    let rank = Actor::Rank(Rank(word / 2 % config.ranks.max(1)));
+    let server = Actor::Server(Server(word / 64 % config.servers.max(1)));
     if word % 2 == 0 {
         Event::Deliver(rank, server)
     } else {
@@ -88,21 +90,45 @@ fn delivery(words: &mut Words, servers: u32) -> Event {
 }
 
 /// The world after a script of this number, in which most events are tried in vain: those are refused and change nothing.
-/// The last events are a Finish, if the rank is ready for it, and deliveries.
-pub(crate) fn driven(alloc: Global, config: Config, number: u64) -> Result<World, Fail>
-    requires { config.ranks ≡ 1 }
-{
+/// Then no rank puts any more, and each reserves until it is told an end, and finishes.
+pub(crate) fn driven(alloc: Global, config: Config, number: u64) -> Result<World, Fail> {
     let mut world = World::new(alloc, config)?;
     let mut words = Words::new(number);
-    for step in 0..STEPS {
-        let event = if step == STEPS - 40 {
-            Event::Call(Rank(0), Call::Finish)
-        } else if words.next() % 4 == 0 {
-            Event::Call(Rank(0), call(alloc, &mut words)?)
+    for _ in 0..STEPS {
+        let event = if words.next() % 4 == 0 {
+            let rank = Rank(words.next() % config.ranks.max(1));
+            Event::Call(rank, call(alloc, &mut words, config.ranks)?)
         } else {
-            delivery(&mut words, config.servers)
+            delivery(&mut words, &config)
         };
         let _ = world.apply(event);
     }
+    for round in 0..ROUNDS {
+        to_the_end(&mut world, &config, round + 1 == ROUNDS);
+    }
     Ok(world)
+}
+
+// Each rank reserves or, at the last, finishes; and each list of letters gives its front, twice as often as it can be long.
+fn to_the_end(world: &mut World, config: &Config, finish: bool) {
+    for number in 0..config.ranks {
+        let rank = Rank(number);
+        let types = Types::any();
+        let call = if finish {
+            Call::Finish
+        } else {
+            Call::Reserve { types }
+        };
+        let _ = world.apply(Event::Call(rank, call));
+        deliver_all(world, config, Actor::Rank(rank));
+    }
+}
+
+// Two letters from the rank to each server, and two from each to the rank.
+fn deliver_all(world: &mut World, config: &Config, rank: Actor) {
+    for number in 0..2 * config.servers {
+        let server = Actor::Server(Server(number / 2));
+        let _ = world.apply(Event::Deliver(rank, server));
+        let _ = world.apply(Event::Deliver(server, rank));
+    }
 }

@@ -13,11 +13,12 @@ use Rattle.adlb_unit.specs.declared.names.Rank.{Rank}
 use Rattle.adlb_unit.specs.declared.names.Server.{Server}
 use Rattle.rank_client.specs.State.{ClientModel, start as new_client}
 use Rattle.rank_client.specs.Step.{Made, hear}
-use Rattle.adlb_unit.specs.Links.{place_of}
-use Rattle.server_core.specs.State.{ServerModel, start as new_pool}
-use Rattle.server_core.specs.Step.{Served, serve}
+use Rattle.adlb_unit.specs.Links.{is_within, place_of}
+use Rattle.server_law.specs.State.{ServerModel, start as new_pool}
+use Rattle.server_law.specs.Carried.{Served}
+use Rattle.server_law.specs.Step.{serve}
 use Rattle.core_run.specs.Runs.{Runs}
-use Rattle.core_run.specs.World.{World, Links, actors, after_rank, after_server, client_of, handle, happens, has_ended, is_within, link, pool_of, post, put_link, rank_named, taken}
+use Rattle.core_run.specs.World.{World, Links, actors, after_rank, after_server, client_of, handle, happens, has_ended, link, pool_of, post, put_link, rank_named, taken}
 use Rattle.journal_law.specs.Lists.{Lists, Happens, lists, send_all, set_link, state_of, take_front}
 use Rattle.journal_law.specs.Orders.{of_actor}
 use Rattle.journal_law.specs.Runs.{Runs as RunsOf}

@@ -4,8 +4,8 @@ use Rattle.std.proofs.lemmas.List.{length-map, map-append}
 use Rattle.std.proofs.lemmas.List.Elements.{All-map, All-push}
 use Rattle.adlb_unit.specs.declared.actors.Actor.{Actor}
 use Rattle.adlb_unit.specs.declared.configs.Config.{Config}
-use Rattle.adlb_unit.specs.Links.{place_of}
-use Rattle.core_run.specs.World.{actors, is_within}
+use Rattle.adlb_unit.specs.Links.{is_within, place_of}
+use Rattle.core_run.specs.World.{actors}
 use Rattle.journal_law.specs.Orders.{Rises}
 use Rattle.merge_history.specs.Events.{Event, OfActor}
 use Rattle.merge_history.specs.Inside.{IsLeast, IsMerging}

@@ -8,8 +8,8 @@ use Rattle.adlb_unit.specs.declared.letters.Sending.{Sending}
 use Rattle.rank_client.specs.State.{ClientModel, start as new_client}
 use Rattle.rank_client.specs.Step.{Made}
 use Rattle.adlb_unit.specs.Links.{place_of}
-use Rattle.server_core.specs.State.{ServerModel, start as new_pool}
-use Rattle.server_core.specs.Step.{Served}
+use Rattle.server_law.specs.State.{ServerModel, start as new_pool}
+use Rattle.server_law.specs.Carried.{Served}
 use Rattle.core_run.specs.World.{actors, rank_named, server_named}
 use Rattle.journal_law.specs.Orders.{of_actor}
 use Rattle.journal_law.specs.Machines.{Machine}

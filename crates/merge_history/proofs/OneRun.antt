@@ -13,10 +13,11 @@ use Rattle.adlb_unit.specs.declared.configs.Config.{Config}
 use Rattle.adlb_unit.specs.declared.letters.Letter.{Letter}
 use Rattle.rank_client.specs.State.{ClientModel, start as new_client}
 use Rattle.rank_client.specs.Step.{Made, hear}
-use Rattle.adlb_unit.specs.Links.{place_of}
-use Rattle.server_core.specs.State.{ServerModel, start as new_pool}
-use Rattle.server_core.specs.Step.{Served, serve}
-use Rattle.core_run.specs.World.{World, actors, client_of, has_ended, is_within, link, pool_of, rank_named, server_named, start}
+use Rattle.adlb_unit.specs.Links.{is_within, place_of}
+use Rattle.server_law.specs.State.{ServerModel, start as new_pool}
+use Rattle.server_law.specs.Carried.{Served}
+use Rattle.server_law.specs.Step.{serve}
+use Rattle.core_run.specs.World.{World, actors, client_of, has_ended, link, pool_of, rank_named, server_named, start}
 use Rattle.journal_law.specs.Orders.{Rises}
 use Rattle.journal_law.specs.Journals.{IsOwnRun as IsOwnRunOf, Compose as ComposeOf, Walks as Walks_of}
 use Rattle.journal_law.specs.Lists.{GotOfActors, lists}

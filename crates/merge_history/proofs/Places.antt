@@ -6,8 +6,8 @@ use Rattle.std.specs.List.{range_with_len}
 use Rattle.adlb_unit.specs.declared.actors.Actor.{Actor}
 use Rattle.adlb_unit.specs.declared.actors.Actor.TheVariants as by
 use Rattle.adlb_unit.specs.declared.configs.Config.{Config}
-use Rattle.adlb_unit.specs.Links.{place_of}
-use Rattle.core_run.specs.World.{actors, is_within, rank_named, server_named}
+use Rattle.adlb_unit.specs.Links.{is_within, place_of}
+use Rattle.core_run.specs.World.{actors, rank_named, server_named}
 use Rattle.merge_history.specs.Merging.{actors_of}
 
 get_left : {T : Type 0} (xs ys : List T) (k : ℕ) → k < length xs → slice_get (xs ++ ys) k ≡ slice_get xs k

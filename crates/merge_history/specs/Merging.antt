@@ -5,8 +5,8 @@ use Rattle.adlb_unit.specs.declared.actors.Actor.{Actor}
 use Rattle.adlb_unit.specs.declared.actors.Actor.TheVariants as by
 use Rattle.adlb_unit.specs.declared.configs.Config.{Config}
 use Rattle.bag_ledger.specs.declared.entries.Entry.{Entry}
-use Rattle.adlb_unit.specs.Links.{place_of}
-use Rattle.core_run.specs.World.{actors, is_within, rank_named, server_named}
+use Rattle.adlb_unit.specs.Links.{is_within, place_of}
+use Rattle.core_run.specs.World.{actors, rank_named, server_named}
 use Rattle.journal_law.specs.Orders.{IsMerged, Rises}
 use Rattle.merge_history.specs.Events.{Event, OfActor}
 

@@ -10,13 +10,14 @@ use Rattle.adlb_unit.specs.declared.names.Rank.{Rank}
 use Rattle.adlb_unit.specs.declared.names.Server.{Server}
 use Rattle.rank_client.specs.State.{ClientModel, start as new_client}
 use Rattle.rank_client.specs.Step.{Made, begin, hear}
-use Rattle.adlb_unit.specs.Links.{place_of}
-use Rattle.server_core.specs.State.{ServerModel, start as new_pool}
-use Rattle.server_core.specs.Step.{Served, serve}
+use Rattle.adlb_unit.specs.Links.{is_within, place_of}
+use Rattle.server_law.specs.State.{ServerModel, start as new_pool}
+use Rattle.server_law.specs.Carried.{Served}
+use Rattle.server_law.specs.Step.{serve}
 use Rattle.core_run.specs.declared.events.Event.{Event as Occurrence}
 use Rattle.core_run.specs.declared.events.Event.TheVariants as occurs
 use Rattle.core_run.specs.Runs.{Runs}
-use Rattle.core_run.specs.World.{World, actors, client_of, has_ended, is_within, link, pool_of, rank_named, start}
+use Rattle.core_run.specs.World.{World, actors, client_of, has_ended, link, pool_of, rank_named, start}
 use Rattle.merge_history.specs.declared.causes.Cause.{Cause}
 use Rattle.merge_history.specs.declared.causes.Cause.TheVariants as causes
 use Rattle.merge_history.specs.Events.{Event, OfActor}

@@ -1,13 +1,14 @@
 -- The rule of a letter that the pending call awaits.
-use Rattle.std.proofs.Common.{◌≡◌, ◌≤◌, ◌<◌, ◌+◌, ◌∷◌, ◌++◌, [], ◌^◌, ◌⊎◌, inl, inr, ℕ, List, Option, Some, None, length, get_or, set, Bool, true, false, ◌&&◌, not, refl, arith, ap, subst, ◌∙◌}
+use Rattle.std.proofs.Common.{◌≡◌, ◌≤◌, ◌<◌, ◌+◌, ◌∷◌, ◌++◌, [], ◌^◌, ◌⊎◌, inl, inr, ℕ, List, Option, Some, None, length, get_or, set, Bool, true, false, ◌&&◌, ◌==◌, not, refl, arith, ap, subst, ◌∙◌}
 use Rattle.std.proofs.Math.ListN.{length-set}
 use Rattle.std.proofs.lemmas.List.{length_push}
-use Rattle.std.specs.Prelude.{if◌then◌else◌, IsSome, nat_le, nat_lt, slice_index_or, slice_set}
+use Rattle.std.specs.Prelude.{if◌then◌else◌, IfSome, IsSome, nat_le, nat_lt, slice_index_or, slice_set}
 use Rattle.std.specs.Option.{option_map}
-use Rattle.std.proofs.lemmas.Bool.{and_parts, leb-true, lt-ltb, ltb-true, not-true}
+use Rattle.std.proofs.lemmas.Bool.{and_parts, eqb-true, leb-true, lt-ltb, ltb-true, not-true}
 use Rattle.std.proofs.lemmas.List.Elements.{All-push, All-same, All-set}
 use Rattle.adlb_unit.specs.Links.{sending}
 use Rattle.adlb_unit.specs.Targets.{home}
+use Rattle.adlb_unit.specs.Totals.{common_length, total_of}
 use Rattle.adlb_unit.specs.declared.actors.Actor.TheVariants as by
 use Rattle.adlb_unit.specs.declared.letters.Letter.{Letter}
 use Rattle.adlb_unit.specs.declared.letters.Sending.{Sending}
@@ -24,26 +25,33 @@ use Rattle.bag_ledger.specs.declared.entries.Entry.{Entry}
 use Rattle.bag_ledger.specs.declared.entries.Said.{Said}
 use Rattle.rank_client.specs.declared.pendings.Pending.{Pending}
 use Rattle.rank_client.specs.declared.pendings.Pending.TheVariants as waits_for
-use Rattle.rank_client.specs.Inside.{IsFresh, IsSound, Put, is_put, put_of}
-use Rattle.rank_client.specs.Rules.{ClientResponse, answer_call, asked, ends, expects_note, hear_put, is_for, refused}
-use Rattle.rank_client.specs.State.{ClientModel, behind}
+use Rattle.adlb_unit.specs.declared.names.CommonRef.{CommonRef}
+use Rattle.rank_client.specs.Inside.{IsFresh, IsPlaced, IsSound, Keep, Put, is_keep, is_put, keep_of, put_of}
+use Rattle.rank_client.specs.Rules.{ClientResponse, answer_call, asked, ends, expects_note, hear_keep, hear_put, is_at_server, is_for, own_came, part_refused, refused}
+use Rattle.rank_client.specs.State.{ClientModel}
+use Rattle.adlb_unit.specs.Ring.{behind}
 use Rattle.rank_client.specs.Step.{Made, hear, letter_stamp, letter_trouble, made, ticked, told_trouble}
 use Rattle.rank_client.proofs.Insides.{first_letter}
 
--- the note of a grant that is awaited names a server
-pub granted_server : (s : ClientModel) (p : Pending) (request : ℕ) (types : Option (List WorkType)) (from : Server) (m : Message) (to : ℕ) (note : UnitNote) → p ≡ waits_for.Reserve request types → m ≡ tells.Grant to note
-    → IsSome (answer_call s p from m) → note.server.0 < s.config.servers
-granted_server s p request types from m to note p_is m_is some =
+-- the note of a grant that is awaited names servers of the run
+pub granted_placed : (s : ClientModel) (p : Pending) (request : ℕ) (types : Option (List WorkType)) (from : Server) (m : Message) (to : ℕ) (note : UnitNote) → p ≡ waits_for.Reserve request types → m ≡ tells.Grant to note
+    → IsSome (answer_call s p from m) → IsPlaced s.config note
+granted_placed s p request types from m to note p_is m_is some =
     let here : IsSome (answer_call s (waits_for.Reserve request types) from (tells.Grant to note)) = subst (λ (q : Pending). IsSome (answer_call s q from (tells.Grant to note))) p_is (subst (λ (x : Message). IsSome (answer_call s p from x)) m_is some) in
     by_test (is_for request (home s.config s.me) from to && expects_note s note) refl here
   where
+    common_at : (o : Option CommonRef) → is_at_server s o ≡ true → IfSome o (λ (c : CommonRef). c.server.0 < s.config.servers)
+    common_at None is = tt
+    common_at (Some c) is = ltb-true c.server.0 s.config.servers is
+
     by_test : (t : Bool) → (is_for request (home s.config s.me) from to && expects_note s note) ≡ t
-        → IsSome (if t then Some (ends (record s { handles = s.handles ++ note ∷ [] }) [] (calls_to.Reserve types) (answers.Granted note)) else None) → note.server.0 < s.config.servers
+        → IsSome (if t then Some (ends (record s { handles = s.handles ++ note ∷ [] }) [] (calls_to.Reserve types) (answers.Granted note)) else None) → IsPlaced s.config note
     by_test true is some =
         let expected = (and_parts (is_for request (home s.config s.me) from to) (expects_note s note) is).1 in
         let one = (and_parts _ _ expected).0 in
         let two = (and_parts _ _ one).0 in
-        ltb-true note.server.0 s.config.servers (and_parts _ _ two).0
+        let three = and_parts _ _ two in
+        (ltb-true note.server.0 s.config.servers three.0, common_at note.common three.1)
     by_test false is some = absurd (cc)
 
 -- a put that is pending is told by its parts
@@ -65,6 +73,9 @@ pub put_heard : (s : ClientModel) (from : Server) (m : Message) (x : Made) (to :
 put_heard s from m x to rule is waits_for.Nothing put some gave = absurd (cc)
 put_heard s from m x to rule is (waits_for.Reserve request types) put some gave = absurd (cc)
 put_heard s from m x to rule is (waits_for.Fetch request note) put some gave = absurd (cc)
+put_heard s from m x to rule is (waits_for.Common request note common own) put some gave = absurd (cc)
+put_heard s from m x to rule is (waits_for.Keep request common first tried) put some gave = absurd (cc)
+put_heard s from m x to rule is (waits_for.Close request batch) put some gave = absurd (cc)
 put_heard s from m x to rule is (waits_for.Put unit first tried) put some gave =
     ap (option_map made) (is p) ∙ by_test (is_for unit.id.number (asked s first tried) from to) (subst IsSome (is p) some)
   where
@@ -83,6 +94,60 @@ pub retry_gives : (s : ClientModel) (unit next : Unit) (first to : Server) (trie
 retry_gives s unit next first to tried letter sends before entries sent to_is next_is sent_is letter_is before_is sends_is entries_is =
     rw (sends_is, entries_is, before_is, letter_is, sent_is, next_is, to_is) refl
 
+-- own bytes that are awaited are as many as the note says, so that with the common part they are as many as the fetch gives
+pub own_fits : (s : ClientModel) (p : Pending) (request : ℕ) (note : UnitNote) (common : CommonRef) (from : Server) (m : Message) (to : ℕ) (own : List ℕ) → p ≡ waits_for.Fetch request note
+    → m ≡ tells.Bytes to own → note.common ≡ Some common → IsSome (answer_call s p from m) → common.length + length own ≡ total_of note
+own_fits s p request note common from m to own p_is m_is part some =
+    let here : IsSome (answer_call s (waits_for.Fetch request note) from (tells.Bytes to own)) = subst (λ (q : Pending). IsSome (answer_call s q from (tells.Bytes to own))) p_is (subst (λ (x : Message). IsSome (answer_call s p from x)) m_is some) in
+    omega (arith, ap common_length part, by_test (is_for request note.server from to && (length own == note.length)) refl here)
+  where
+    by_test : (t : Bool) → (is_for request note.server from to && (length own == note.length)) ≡ t
+        → IsSome (if t then Some (own_came s request note own note.common) else None) → length own ≡ note.length
+    by_test true is some = eqb-true (length own) note.length (and_parts (is_for request note.server from to) (length own == note.length) is).1
+    by_test false is some = absurd (cc)
+
+-- a batch's beginning that is pending is told by its parts
+pub keep_is : (p : Keep) (request : ℕ) (common : List ℕ) (first : Server) (tried : ℕ) → waits_for.Keep request common first tried ≡ keep_of p
+    → record { request = request; common = common; first = first; tried = tried } ≡ p
+keep_is p request common first tried is =
+    let same_request : request ≡ p.request = cc in
+    let same_common : common ≡ p.common = cc in
+    let same_first : first ≡ p.first = cc in
+    let same_tried : tried ≡ p.tried = cc in
+    let whole : ℕ → List ℕ → Server → ℕ → Keep = λ r c f t. record { request = r; common = c; first = f; tried = t } in
+    ap (λ r. whole r common first tried) same_request ∙ ap (λ c. whole p.request c first tried) same_common
+    ∙ ap (λ f. whole p.request p.common f tried) same_first ∙ ap (λ t. whole p.request p.common p.first t) same_tried
+
+-- a letter that it awaits, with this request in it, is heard by its rule
+pub keep_heard : (s : ClientModel) (from : Server) (m : Message) (x : Made) (to : ℕ) (rule : Keep → ClientResponse)
+    → ((p : Keep) → hear_keep s p.request p.common p.first p.tried from m
+    ≡ (if is_for p.request (asked s p.first p.tried) from to then Some (rule p) else None))
+    → (pending : Pending) → is_keep pending ≡ true → IsSome (answer_call s pending from m)
+    → ((p : Keep) → pending ≡ keep_of p → made (rule p) ≡ x) → option_map made (answer_call s pending from m) ≡ Some x
+keep_heard s from m x to rule is waits_for.Nothing keep some gave = absurd (cc)
+keep_heard s from m x to rule is (waits_for.Put unit first tried) keep some gave = absurd (cc)
+keep_heard s from m x to rule is (waits_for.Reserve request types) keep some gave = absurd (cc)
+keep_heard s from m x to rule is (waits_for.Fetch request note) keep some gave = absurd (cc)
+keep_heard s from m x to rule is (waits_for.Common request note common own) keep some gave = absurd (cc)
+keep_heard s from m x to rule is (waits_for.Close request batch) keep some gave = absurd (cc)
+keep_heard s from m x to rule is (waits_for.Keep request common first tried) keep some gave =
+    ap (option_map made) (is p) ∙ by_test (is_for request (asked s first tried) from to) (subst IsSome (is p) some)
+  where
+    p : Keep
+    p = record { request = request; common = common; first = first; tried = tried }
+
+    by_test : (t : Bool) → IsSome (if t then Some (rule p) else None) → option_map made (if t then Some (rule p) else None) ≡ Some x
+    by_test true some = ap Some (gave p refl)
+    by_test false some = absurd (cc)
+
+-- the common part goes to the next server
+pub offered_gives : (s : ClientModel) (request : ℕ) (common next : List ℕ) (first to : Server) (tried : ℕ) (letter : Sending) (sends before : List Sending) (entries : List Entry) (sent : List ℕ)
+    → to ≡ behind s.config first (tried + 1) → next ≡ common → sent ≡ slice_set s.sent to.0 (slice_index_or s.sent to.0 0 + 1)
+    → letter ≡ sending s.clock (slice_index_or s.sent to.0 0) (by.Server to) (tells.KeepCommon request next) → before ≡ [] → sends ≡ before ++ letter ∷ [] → entries ≡ []
+    → made (part_refused s request common first tried true) ≡ record { state = record s { pending = waits_for.Keep request common first (tried + 1); sent = sent }; sends = sends; entries = entries; answer = None }
+offered_gives s request common next first to tried letter sends before entries sent to_is next_is sent_is letter_is before_is sends_is entries_is =
+    rw (sends_is, entries_is, before_is, letter_is, sent_is, next_is, to_is) refl
+
 -- The fields stay sound.
 
 pub retried_sound : (s : ClientModel) (pending : Pending) (sent : List ℕ) (to : ℕ) → IsSound s → IsFresh s → to < s.config.servers → sent ≡ set s.sent to (get_or s.sent to 0 + 1) → IsSound (record s { pending = pending; sent = sent })
@@ -95,23 +160,27 @@ retried_sound s pending sent to sound fresh there is =
       sent = All-same P _ _ is (All-set P _ _ _ (omega (arith, here)) sound.sent);
       next = sound.next;
       puts = sound.puts;
+      accepted = sound.accepted;
       said = sound.said;
       clock = sound.clock;
+      batch = sound.batch;
       notes = sound.notes;
     }
 
-pub granted_sound : (s : ClientModel) (pending : Pending) (handles : List UnitNote) (transcript : List Said) (note : UnitNote) (said : Said) → IsSound s → IsFresh s → note.server.0 < s.config.servers
+pub granted_sound : (s : ClientModel) (pending : Pending) (handles : List UnitNote) (transcript : List Said) (note : UnitNote) (said : Said) → IsSound s → IsFresh s → IsPlaced s.config note
     → handles ≡ s.handles ++ note ∷ [] → transcript ≡ s.transcript ++ said ∷ [] → IsSound (record s { pending = pending; handles = handles; transcript = transcript })
 granted_sound s pending handles transcript note said sound fresh there notes_is said_is =
-    let N : UnitNote → Type 0 = λ n. n.server.0 < s.config.servers in
+    let N : UnitNote → Type 0 = IsPlaced s.config in
     record {
       me = sound.me;
       servers = sound.servers;
       sent = sound.sent;
       next = sound.next;
       puts = sound.puts;
+      accepted = sound.accepted;
       said = omega (arith, ap length said_is, length_push s.transcript said, fresh.said);
       clock = sound.clock;
+      batch = sound.batch;
       notes = All-same N _ _ notes_is (All-push N s.handles note sound.notes there);
     }
 

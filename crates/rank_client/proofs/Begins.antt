@@ -29,8 +29,9 @@ use Rattle.bag_ledger.specs.Runs as runs
 use Rattle.bag_ledger.specs.Steps.{Legal, Stands, Steps, after, begun, ended, with_rank}
 use Rattle.rank_client.specs.declared.pendings.Pending.{Pending}
 use Rattle.rank_client.specs.declared.pendings.Pending.TheVariants as waits_for
-use Rattle.rank_client.specs.Agreement.{ClientAgrees, Follows, IsCaused, IsHeld, running}
-use Rattle.rank_client.specs.Rules.{ClientResponse, ClientSaying, entry_of, fetch, fetched, finish, held, is_free, is_idle, open_call, over, put, reserve, unit_put}
+use Rattle.rank_client.specs.Agreement.{ClientAgrees, Follows, HasAccepted, IsCaused, IsHeld, running}
+use Rattle.adlb_unit.specs.declared.names.CommonRef.{CommonRef}
+use Rattle.rank_client.specs.Rules.{ClientResponse, ClientSaying, close, closing, entry_of, fetch, fetched, finish, held, is_free, is_idle, keep, open_call, over, put, reserve, unit_put}
 use Rattle.rank_client.specs.State.{ClientModel}
 use Rattle.rank_client.specs.Step.{Made, begin, call_stamp, made, post, ticked}
 use Rattle.rank_client.proofs.Entries.{rank_changed, saying, same_unit_is, silent, some_is, step_of, then_saying}
@@ -42,7 +43,7 @@ bare z = record { state = z.state; sends = []; entries = z.entries; answer = z.a
 
 post_agrees : (says : List ClientSaying) (x : Made) (b : Bag) → ClientAgrees x.state None b → ClientAgrees (post x says).state None b
 post_agrees [] x b a = a
-post_agrees (y ∷ says) x b a = post_agrees says _ b (record { rank = a.rank; servers = a.servers; caused = a.caused; held = a.held })
+post_agrees (y ∷ says) x b a = post_agrees says _ b (record { rank = a.rank; servers = a.servers; caused = a.caused; held = a.held; owed = a.owed; accepted = a.accepted })
 
 post_entries : (says : List ClientSaying) (x : Made) → (post x says).entries ≡ x.entries
 post_entries [] x = refl
@@ -79,6 +80,7 @@ pub record IsFree (s : ClientModel) (b : Bag) : Type 0 where
   pub servers : b.servers ≡ s.config.servers
   pub caused : IsCaused b s.end
   pub held : All (IsHeld b s.me) s.handles
+  pub accepted : HasAccepted b s.batch s.accepted
   pub none : IsFalse (has_due b)
   pub going : s.finished ≡ false
 
@@ -87,6 +89,9 @@ idle_is waits_for.Nothing e = refl
 idle_is (waits_for.Put unit first tried) e = absurd (cc)
 idle_is (waits_for.Reserve request types) e = absurd (cc)
 idle_is (waits_for.Fetch request note) e = absurd (cc)
+idle_is (waits_for.Common request note common own) e = absurd (cc)
+idle_is (waits_for.Keep request common first tried) e = absurd (cc)
+idle_is (waits_for.Close request batch) e = absurd (cc)
 
 -- a rank that is free runs in the bag
 pub free_of : (s : ClientModel) (b : Bag) → is_free s ≡ true → ClientAgrees s None b → IsFalse (has_due b) → IsFree s b
@@ -99,17 +104,20 @@ free_of s b free a none =
       servers = a.servers;
       caused = rw (going, nothing) at a.caused;
       held = All-same (IsHeld b s.me) s.handles _ (sym (append-nil s.handles)) (rw nothing at a.held);
+      accepted = rw (going, nothing) at a.accepted;
       none = none;
       going = going;
     }
 
 -- after a call that has ended
-pub free_agrees : (s : ClientModel) (b : Bag) → s.pending ≡ waits_for.Nothing → s.finished ≡ false → rank_at b s.me ≡ Some (running s) → b.servers ≡ s.config.servers → IsCaused b s.end → All (IsHeld b s.me) s.handles → ClientAgrees s None b
-free_agrees s b nothing going rank servers caused held = record {
+pub free_agrees : (s : ClientModel) (b : Bag) → s.pending ≡ waits_for.Nothing → s.finished ≡ false → rank_at b s.me ≡ Some (running s) → b.servers ≡ s.config.servers → IsCaused b s.end → All (IsHeld b s.me) s.handles → HasAccepted b s.batch s.accepted → ClientAgrees s None b
+free_agrees s b nothing going rank servers caused held accepted = record {
   rank = rw (going, nothing) rank;
   servers = servers;
   caused = rw (going, nothing) caused;
   held = rw nothing (All-same (IsHeld b s.me) _ s.handles (append-nil s.handles) held);
+  owed = rw nothing tt;
+  accepted = rw (going, nothing) accepted;
 }
 
 -- A call to which an end was told before.
@@ -129,7 +137,7 @@ over_follows s b entry call end f status free told step silent begun opens calls
     rank_changed middle s.me (λ r. ended (record r { end = Some end })) (record (running s) { status = status; next = s.next + 1 }) now in (
       last,
       (middle, step, (last, stops, refl)),
-      free_agrees _ last refl free.going (rw told runs) free.servers free.caused free.held,
+      free_agrees _ last refl free.going (rw told runs) free.servers free.caused free.held free.accepted,
       ap (λ said. s.transcript ++ said) (sym (then_saying b middle last entry over s.me (record { call = call; answer = answers.Ended end }) step stops silent told_so)),
     )
 
@@ -155,7 +163,7 @@ put_follows : (s : ClientModel) (b : Bag) (kind : WorkType) (prio : ℤ) (target
     → Follows s None b (bare (put s (unit_put s kind prio target answer body) end))
 put_follows s b kind prio target answer body (Some end) free told =
     over_follows (record s { puts = s.puts + 1 }) b (entry_of (unit_put s kind prio target answer body)) (calls_to.Put kind prio target answer body) end (puts s kind prio target answer body) (does.Putting (unit_put s kind prio target answer body))
-    (record { rank = free.rank; servers = free.servers; caused = free.caused; held = free.held; none = free.none; going = free.going })
+    (record { rank = free.rank; servers = free.servers; caused = free.caused; held = free.held; accepted = free.accepted; none = free.none; going = free.going })
     told (putting_steps s b kind prio target answer body free) refl refl refl refl
 put_follows s b kind prio target answer body None free told =
     waits_follows s b (entry_of (unit_put s kind prio target answer body)) (puts s kind prio target answer body)
@@ -166,6 +174,8 @@ put_follows s b kind prio target answer body None free told =
       servers = free.servers;
       caused = rw free.going free.caused;
       held = All-same (IsHeld b s.me) _ s.handles (append-nil s.handles) free.held;
+      owed = tt;
+      accepted = rw free.going free.accepted;
     })
 
 asking_steps : (s : ClientModel) (b : Bag) (types : Option (List WorkType)) → IsFree s b → Steps b (enters.Asked s.me s.next types) (with_rank s.me (begun (does.Asking s.next types)) b)
@@ -185,6 +195,8 @@ reserve_follows s b types None free told =
       servers = free.servers;
       caused = rw free.going free.caused;
       held = All-same (IsHeld b s.me) _ s.handles (append-nil s.handles) free.held;
+      owed = tt;
+      accepted = rw free.going free.accepted;
     })
 
 -- the note that is found is that of the unit, and stands among the notes
@@ -211,6 +223,8 @@ fetch_follows s b id (Some note) free is =
       servers = free.servers;
       caused = rw free.going free.caused;
       held = All-push (IsHeld b s.me) (filter (λ n. not (same_unit n.id id)) s.handles) note (All-filter (λ n. not (same_unit n.id id)) (IsHeld b s.me) s.handles free.held) it.1;
+      owed = tt;
+      accepted = rw free.going free.accepted;
     })
 
 finish_follows : (s : ClientModel) (b : Bag) → IsFree s b → s.batch ≡ None → Follows s None b (bare (finish s))
@@ -224,9 +238,53 @@ finish_follows s b free alone =
         servers = free.servers;
         caused = free.caused;
         held = All-same (IsHeld b s.me) _ s.handles (append-nil s.handles) free.held;
+        owed = tt;
+        accepted = free.accepted;
       },
       ap (λ said. s.transcript ++ said) (sym (saying b _ (enters.Finished s.me s.next) s.me (record { call = calls_to.Finish; answer = answers.Fine }) step refl)),
     )
+
+-- Batches.
+
+keeping_steps : (s : ClientModel) (b : Bag) (common : List ℕ) → IsFree s b → s.batch ≡ None
+    → Steps b (enters.Keeping s.me s.next common) (with_rank s.me (begun (does.Keeping s.next common)) b)
+keeping_steps s b common free alone =
+    let legal : Legal b (enters.Keeping s.me s.next common) = (running s, (free.rank, refl, refl), alone) in
+    step_of b (enters.Keeping s.me s.next common) free.none legal
+
+keep_follows : (s : ClientModel) (b : Bag) (common : List ℕ) (end : Option End) → IsFree s b → s.batch ≡ None → s.end ≡ end
+    → Follows s None b (bare (keep s common end))
+keep_follows s b common (Some end) free alone told =
+    over_follows (record s { puts = s.puts + 1 }) b (enters.Keeping s.me s.next common) (calls_to.BeginBatch common) end
+    (begun (does.Keeping s.next common)) (does.Keeping s.next common)
+    (record { rank = free.rank; servers = free.servers; caused = free.caused; held = free.held; accepted = free.accepted; none = free.none; going = free.going })
+    told (keeping_steps s b common free alone) refl refl refl refl
+keep_follows s b common None free alone told =
+    waits_follows s b (enters.Keeping s.me s.next common) (begun (does.Keeping s.next common)) (bare (keep s common None)) free
+    (keeping_steps s b common free alone) refl refl refl
+    (record {
+      rank = rw free.going (rank_changed b s.me (begun (does.Keeping s.next common)) (running s) free.rank);
+      servers = free.servers;
+      caused = rw free.going free.caused;
+      held = All-same (IsHeld b s.me) _ s.handles (append-nil s.handles) free.held;
+      owed = tt;
+      accepted = rw free.going free.accepted;
+    })
+
+close_follows : (s : ClientModel) (b : Bag) (batch : Option CommonRef) → IsFree s b → s.batch ≡ batch → LawOf s.transcript s.me b (close s batch)
+close_follows s b None free is = tt
+close_follows s b (Some batch) free is =
+    let legal : Legal b (enters.Closing s.me s.next) = (running s, batch, (free.rank, refl, refl), is) in
+    waits_follows s b (enters.Closing s.me s.next) (begun (does.Closing s.next)) (bare (closing s batch)) free
+    (step_of b (enters.Closing s.me s.next) free.none legal) refl refl refl
+    (record {
+      rank = rw free.going (rank_changed b s.me (begun (does.Closing s.next)) (running s) free.rank);
+      servers = free.servers;
+      caused = rw free.going free.caused;
+      held = All-same (IsHeld b s.me) _ s.handles (append-nil s.handles) free.held;
+      owed = tt;
+      accepted = rw free.going free.accepted;
+    })
 
 none_is : {X : Type 0} (o : Option X) → is_none o ≡ true → o ≡ None
 none_is None e = refl
@@ -245,8 +303,12 @@ opens s b (calls_to.Reserve types) free = by_test (s.config.servers == 1)
     by_test false = tt
 opens s b (calls_to.Try types) free = tt
 opens s b (calls_to.Fetch id) free = fetch_follows s b id (held s id) free refl
-opens s b (calls_to.BeginBatch common) free = tt
-opens s b calls_to.EndBatch free = tt
+opens s b (calls_to.BeginBatch common) free = by_test (is_none s.batch && nat_le (length common) (2 ^ 20)) refl
+  where
+    by_test : (t : Bool) → (is_none s.batch && nat_le (length common) (2 ^ 20)) ≡ t → LawOf s.transcript s.me b (if t then Some (keep s common s.end) else None)
+    by_test true is = keep_follows s b common s.end free (none_is s.batch (and_parts (is_none s.batch) (nat_le (length common) (2 ^ 20)) is).0) refl
+    by_test false is = tt
+opens s b calls_to.EndBatch free = close_follows s b s.batch free refl
 opens s b calls_to.SetDone free = tt
 opens s b (calls_to.Count kind) free = tt
 opens s b calls_to.Finish free = by_test (is_none s.batch) refl
@@ -263,5 +325,5 @@ begins s call x b is a none = by_test (is_free s) refl is
     by_test true free made_is =
         let now = free_of s b free a none in
         law_of_made s.transcript s.me b (open_call (ticked s (call_stamp s)) call) x
-        (opens (ticked s (call_stamp s)) b call (record { rank = now.rank; servers = now.servers; caused = now.caused; held = now.held; none = now.none; going = now.going })) made_is
+        (opens (ticked s (call_stamp s)) b call (record { rank = now.rank; servers = now.servers; caused = now.caused; held = now.held; accepted = now.accepted; none = now.none; going = now.going })) made_is
     by_test false free made_is = absurd (cc)

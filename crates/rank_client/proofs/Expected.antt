@@ -1,6 +1,6 @@
 -- Exactly the letters that are expected have a step.
 use Rattle.std.proofs.Common.{◌≡◌, ◌↔◌, ◌==◌, ◌^◌, ℕ, Bool, true, false, ◌&&◌, not, cond, length, Option, Some, None, IsSome, refl, ap, List}
-use Rattle.std.specs.Prelude.{nat_lt, is_none}
+use Rattle.std.specs.Prelude.{nat_lt}
 use Rattle.std.specs.Option.{option_map}
 use Rattle.std.proofs.lemmas.Bool.{and_from, and_parts, eq-eqb, eqb-true, lt-ltb, ltb-true, not-true, not_from_false}
 use Rattle.adlb_unit.specs.Targets.{home}
@@ -15,8 +15,8 @@ use Rattle.bag_ledger.proofs.Tests.{same_server_is}
 use Rattle.rank_client.specs.declared.pendings.Pending.{Pending}
 use Rattle.rank_client.specs.declared.pendings.Pending.TheVariants as waits_for
 use Rattle.rank_client.specs.Calls.{is_fetched, is_granted}
-use Rattle.rank_client.specs.Expected.{AnswersFetch, AnswersPut, AnswersReserve, ExpectedAreHeard, IsAwaited, IsFor, IsNewNote}
-use Rattle.rank_client.specs.Rules.{ClientResponse, answer_call, asked, expects_note, hear_fetch, hear_put, hear_reserve, is_for}
+use Rattle.rank_client.specs.Expected.{AnswersClose, AnswersCommon, AnswersFetch, AnswersPut, AnswersReserve, ExpectedAreHeard, IsAtServer, IsAwaited, IsFor, IsNewNote}
+use Rattle.rank_client.specs.Rules.{ClientResponse, answer_call, asked, expects_note, hear_close, hear_common, hear_fetch, hear_keep, hear_put, hear_reserve, is_at_server, is_for}
 use Rattle.rank_client.specs.State.{ClientModel}
 use Rattle.rank_client.specs.Step.{letter_stamp, made, ticked}
 
@@ -52,9 +52,9 @@ for_is request at from to = (
   λ is. and_from (to == request) (from.0 == at.0) (eq-eqb to request is.0) (eq-eqb from.0 at.0 (ap (λ (s : Server). s.0) is.1)),
 )
 
-none_is : (o : Option CommonRef) → is_none o ≡ true → o ≡ None
-none_is None e = refl
-none_is (Some common) e = absurd (cc)
+at_server_is : (s : ClientModel) (o : Option CommonRef) → (is_at_server s o ≡ true) ↔ IsAtServer s o
+at_server_is s None = (λ is. tt, λ is. refl)
+at_server_is s (Some common) = (ltb-true common.server.0 s.config.servers, lt-ltb common.server.0 s.config.servers)
 
 pub note_is : (s : ClientModel) (note : UnitNote) → (expects_note s note ≡ true) ↔ IsNewNote s note
 note_is s note = (
@@ -66,10 +66,10 @@ note_is s note = (
         server = ltb-true note.server.0 s.config.servers one.0;
         ungranted = not-true (is_granted note.id s.transcript) two.1;
         unfetched = not-true (is_fetched note.id s.transcript) three.1;
-        alone = none_is note.common one.1;
+        common = (at_server_is s note.common).0 one.1;
       },
   λ new.
-      and_from _ _ (and_from _ _ (and_from _ _ (lt-ltb note.server.0 s.config.servers new.server) (ap (λ (o : Option CommonRef). is_none o) new.alone)) (not_from_false (is_granted note.id s.transcript) new.ungranted))
+      and_from _ _ (and_from _ _ (and_from _ _ (lt-ltb note.server.0 s.config.servers new.server) ((at_server_is s note.common).1 new.common)) (not_from_false (is_granted note.id s.transcript) new.ungranted))
       (not_from_false (is_fetched note.id s.transcript) new.unfetched),
 )
 
@@ -103,18 +103,51 @@ fetch_awaited s request note from (tells.Bytes to body) =
     )
 fetch_awaited s request note from _ = (λ some. absurd (cc), λ here. absurd here)
 
+common_awaited : (s : ClientModel) (request : ℕ) (note : UnitNote) (common : CommonRef) (own : List ℕ) (from : Server) (m : Message) → IsSome (hear_common s request note common own from m) ↔ AnswersCommon request common from m
+common_awaited s request note common own from (tells.Bytes to body) =
+    let is = for_is request common.server from to in (
+      λ some. let parts = and_parts (is_for request common.server from to) (length body == common.length) (if_some _ _ some) in (is.0 parts.0, eqb-true (length body) common.length parts.1),
+      λ here. some_if _ _ (and_from _ _ (is.1 here.0) (eq-eqb (length body) common.length here.1)),
+    )
+common_awaited s request note common own from _ = (λ some. absurd (cc), λ here. absurd here)
+
+keep_awaited : (s : ClientModel) (request : ℕ) (common : List ℕ) (first : Server) (tried : ℕ) (from : Server) (m : Message) → IsSome (hear_keep s request common first tried from m) ↔ AnswersPut request (asked s first tried) from m
+keep_awaited s request common first tried from (tells.Accepted to) =
+    let is = for_is request (asked s first tried) from to in (λ some. is.0 (if_some _ _ some), λ here. some_if _ _ (is.1 here))
+keep_awaited s request common first tried from (tells.Full to charge) =
+    let is = for_is request (asked s first tried) from to in (λ some. is.0 (if_some _ _ some), λ here. some_if _ _ (is.1 here))
+keep_awaited s request common first tried from (tells.Ended to end) =
+    let is = for_is request (asked s first tried) from to in (λ some. is.0 (if_some _ _ some), λ here. some_if _ _ (is.1 here))
+keep_awaited s request common first tried from _ = (λ some. absurd (cc), λ here. absurd here)
+
+close_awaited : (s : ClientModel) (request : ℕ) (batch : CommonRef) (from : Server) (m : Message) → IsSome (hear_close s request batch from m) ↔ AnswersClose request batch from m
+close_awaited s request batch from (tells.Closed to) =
+    let is = for_is request batch.server from to in (λ some. is.0 (if_some _ _ some), λ here. some_if _ _ (is.1 here))
+close_awaited s request batch from _ = (λ some. absurd (cc), λ here. absurd here)
+
 awaited : (s : ClientModel) (p : Pending) (from : Server) (m : Message) → IsSome (answer_call s p from m) ↔ IsAwaited s p from m
 awaited s waits_for.Nothing from m = (λ some. absurd (cc), λ here. absurd here)
 awaited s (waits_for.Put unit first tried) from m = put_awaited s unit first tried from m
 awaited s (waits_for.Reserve request types) from m = reserve_awaited s request types from m
 awaited s (waits_for.Fetch request note) from m = fetch_awaited s request note from m
+awaited s (waits_for.Common request note common own) from m = common_awaited s request note common own from m
+awaited s (waits_for.Keep request common first tried) from m = keep_awaited s request common first tried from m
+awaited s (waits_for.Close request batch) from m = close_awaited s request batch from m
 
 -- the stamp of an event changes nothing of what is awaited
+same_server : (s : ClientModel) (stamp : ℕ) (o : Option CommonRef) → IsAtServer s o → IsAtServer (ticked s stamp) o
+same_server s stamp None at = at
+same_server s stamp (Some common) at = at
+
+before_server : (s : ClientModel) (stamp : ℕ) (o : Option CommonRef) → IsAtServer (ticked s stamp) o → IsAtServer s o
+before_server s stamp None at = at
+before_server s stamp (Some common) at = at
+
 new_ticked : (s : ClientModel) (stamp : ℕ) (note : UnitNote) → IsNewNote s note → IsNewNote (ticked s stamp) note
-new_ticked s stamp note new = record { server = new.server; ungranted = new.ungranted; unfetched = new.unfetched; alone = new.alone }
+new_ticked s stamp note new = record { server = new.server; ungranted = new.ungranted; unfetched = new.unfetched; common = same_server s stamp note.common new.common }
 
 new_before : (s : ClientModel) (stamp : ℕ) (note : UnitNote) → IsNewNote (ticked s stamp) note → IsNewNote s note
-new_before s stamp note new = record { server = new.server; ungranted = new.ungranted; unfetched = new.unfetched; alone = new.alone }
+new_before s stamp note new = record { server = new.server; ungranted = new.ungranted; unfetched = new.unfetched; common = before_server s stamp note.common new.common }
 
 reserve_ticked : (s : ClientModel) (stamp request : ℕ) (from : Server) (m : Message) → AnswersReserve s request from m ↔ AnswersReserve (ticked s stamp) request from m
 reserve_ticked s stamp request from (tells.Grant to note) = (λ here. (here.0, new_ticked s stamp note here.1), λ here. (here.0, new_before s stamp note here.1))
@@ -126,6 +159,9 @@ awaited_ticked s stamp waits_for.Nothing from m = (λ here. here, λ here. here)
 awaited_ticked s stamp (waits_for.Put unit first tried) from m = (λ here. here, λ here. here)
 awaited_ticked s stamp (waits_for.Reserve request types) from m = reserve_ticked s stamp request from m
 awaited_ticked s stamp (waits_for.Fetch request note) from m = (λ here. here, λ here. here)
+awaited_ticked s stamp (waits_for.Common request note common own) from m = (λ here. here, λ here. here)
+awaited_ticked s stamp (waits_for.Keep request common first tried) from m = (λ here. here, λ here. here)
+awaited_ticked s stamp (waits_for.Close request batch) from m = (λ here. here, λ here. here)
 
 pub expected_are_heard : ExpectedAreHeard
 expected_are_heard s from letter =

@@ -26,7 +26,8 @@ use Rattle.rank_client.specs.declared.pendings.Pending.{Pending}
 use Rattle.rank_client.specs.declared.pendings.Pending.TheVariants as waits_for
 use Rattle.rank_client.specs.Calls.{fetches, grants, is_fetched, is_granted}
 use Rattle.rank_client.specs.Granted.{AreGranted, GrantsComeFirst, IsGrantedFirst}
-use Rattle.rank_client.specs.Rules.{ClientResponse, ClientSaying, answer_call, call_of, fetch, hear_fetch, hear_put, hear_reserve, held, is_free, open_call, put, refused, reserve, unit_put}
+use Rattle.adlb_unit.specs.declared.names.CommonRef.{CommonRef}
+use Rattle.rank_client.specs.Rules.{ClientResponse, ClientSaying, answer_call, call_of, close, fetch, hear_close, hear_common, hear_fetch, hear_keep, hear_put, hear_reserve, held, is_free, keep, open_call, own_came, part_refused, put, refused, reserve, unit_put}
 use Rattle.rank_client.specs.State.{ClientModel, start}
 use Rattle.rank_client.specs.Step.{Made, begin, call_stamp, hear, letter_stamp, made, post, ticked}
 use Rattle.rank_client.proofs.Begins.{found_is}
@@ -107,10 +108,20 @@ fetch_keeps s id (Some note) y found is g =
     let there : is_granted note.id s.transcript ≡ true = (found_is P id s.handles note found g.held).1 in
     subst Keeps (some_is is) (record { held = All-filter (λ n. not (same_unit n.id id)) P s.handles g.held; fetching = there; fetched = g.fetched })
 
+keep_keeps : (s : ClientModel) (common : List ℕ) (end : Option End) → IsGrantedFirst s → Keeps (keep s common end)
+keep_keeps s common (Some end) g = call_over s.transcript s.handles s.pending (calls_to.BeginBatch common) (answers.Ended end) g (λ id no. absurd (cc))
+keep_keeps s common None g = record { held = g.held; fetching = tt; fetched = g.fetched }
+
+close_keeps : (s : ClientModel) (o : Option CommonRef) (y : ClientResponse) → close s o ≡ Some y → IsGrantedFirst s → Keeps y
+close_keeps s None y is g = absurd (cc)
+close_keeps s (Some batch) y is g = subst Keeps (some_is is) (record { held = g.held; fetching = tt; fetched = g.fetched })
+
 open_keeps : (s : ClientModel) (call : Call) (y : ClientResponse) → open_call s call ≡ Some y → IsGrantedFirst s → Keeps y
 open_keeps s (calls_to.Put kind prio target answer body) y is g = subst Keeps (if_is _ _ y is) (put_keeps s (unit_put s kind prio target answer body) s.end g)
 open_keeps s (calls_to.Reserve types) y is g = subst Keeps (if_is _ _ y is) (reserve_keeps s types s.end g)
 open_keeps s (calls_to.Fetch id) y is g = fetch_keeps s id (held s id) y refl is g
+open_keeps s (calls_to.BeginBatch common) y is g = subst Keeps (if_is _ _ y is) (keep_keeps s common s.end g)
+open_keeps s calls_to.EndBatch y is g = close_keeps s s.batch y is g
 open_keeps s calls_to.Finish y is g = subst Keeps (if_is _ _ y is) (call_over s.transcript s.handles s.pending calls_to.Finish answers.Fine g (λ id no. absurd (cc)))
 open_keeps s _ y is g = absurd (cc)
 
@@ -131,11 +142,37 @@ hear_reserve_keeps s request types from (tells.Grant to note) y is g = subst Kee
 hear_reserve_keeps s request types from (tells.Ended to end) y is g = subst Keeps (if_is _ _ y is) (call_over s.transcript s.handles s.pending (calls_to.Reserve types) (answers.Ended end) g (λ id no. absurd (cc)))
 hear_reserve_keeps s request types from _ y is g = absurd (cc)
 
+-- a fetch is over
+fetch_over : (s : ClientModel) (note : UnitNote) (body : List ℕ) → is_granted note.id s.transcript ≡ true → IsGrantedFirst s
+    → AreGranted (s.transcript ++ record { call = calls_to.Fetch note.id; answer = answers.Body body } ∷ []) s.handles waits_for.Nothing
+fetch_over s note body there g =
+    call_over s.transcript s.handles s.pending (calls_to.Fetch note.id) (answers.Body body) g (λ id same. let P : UnitId → Type 0 = λ i. is_granted i s.transcript ≡ true in subst P (same_unit_is note.id id same) there)
+
+own_keeps : (s : ClientModel) (request : ℕ) (note : UnitNote) (own : List ℕ) (o : Option CommonRef) → is_granted note.id s.transcript ≡ true → IsGrantedFirst s → Keeps (own_came s request note own o)
+own_keeps s request note own None there g = fetch_over s note own there g
+own_keeps s request note own (Some common) there g = record { held = g.held; fetching = there; fetched = g.fetched }
+
 hear_fetch_keeps : (s : ClientModel) (request : ℕ) (note : UnitNote) (from : Server) (m : Message) (y : ClientResponse) → hear_fetch s request note from m ≡ Some y → is_granted note.id s.transcript ≡ true → IsGrantedFirst s → Keeps y
-hear_fetch_keeps s request note from (tells.Bytes to body) y is there g =
-    subst Keeps (if_is _ _ y is)
-    (call_over s.transcript s.handles s.pending (calls_to.Fetch note.id) (answers.Body body) g (λ id same. let P : UnitId → Type 0 = λ i. is_granted i s.transcript ≡ true in subst P (same_unit_is note.id id same) there))
+hear_fetch_keeps s request note from (tells.Bytes to body) y is there g = subst Keeps (if_is _ _ y is) (own_keeps s request note body note.common there g)
 hear_fetch_keeps s request note from _ y is there g = absurd (cc)
+
+hear_common_keeps : (s : ClientModel) (request : ℕ) (note : UnitNote) (common : CommonRef) (own : List ℕ) (from : Server) (m : Message) (y : ClientResponse) → hear_common s request note common own from m ≡ Some y → is_granted note.id s.transcript ≡ true → IsGrantedFirst s → Keeps y
+hear_common_keeps s request note common own from (tells.Bytes to body) y is there g = subst Keeps (if_is _ _ y is) (fetch_over s note (body ++ own) there g)
+hear_common_keeps s request note common own from _ y is there g = absurd (cc)
+
+part_refused_keeps : (s : ClientModel) (request : ℕ) (common : List ℕ) (first : Server) (tried : ℕ) (more : Bool) → IsGrantedFirst s → Keeps (part_refused s request common first tried more)
+part_refused_keeps s request common first tried true g = record { held = g.held; fetching = tt; fetched = g.fetched }
+part_refused_keeps s request common first tried false g = call_over s.transcript s.handles s.pending (calls_to.BeginBatch common) answers.Rejected g (λ id no. absurd (cc))
+
+hear_keep_keeps : (s : ClientModel) (request : ℕ) (common : List ℕ) (first : Server) (tried : ℕ) (from : Server) (m : Message) (y : ClientResponse) → hear_keep s request common first tried from m ≡ Some y → IsGrantedFirst s → Keeps y
+hear_keep_keeps s request common first tried from (tells.Accepted to) y is g = subst Keeps (if_is _ _ y is) (call_over s.transcript s.handles s.pending (calls_to.BeginBatch common) answers.Fine g (λ id no. absurd (cc)))
+hear_keep_keeps s request common first tried from (tells.Full to charge) y is g = subst Keeps (if_is _ _ y is) (part_refused_keeps s request common first tried (nat_lt (tried + 1) s.config.servers) g)
+hear_keep_keeps s request common first tried from (tells.Ended to end) y is g = subst Keeps (if_is _ _ y is) (call_over s.transcript s.handles s.pending (calls_to.BeginBatch common) (answers.Ended end) g (λ id no. absurd (cc)))
+hear_keep_keeps s request common first tried from _ y is g = absurd (cc)
+
+hear_close_keeps : (s : ClientModel) (request : ℕ) (batch : CommonRef) (from : Server) (m : Message) (y : ClientResponse) → hear_close s request batch from m ≡ Some y → IsGrantedFirst s → Keeps y
+hear_close_keeps s request batch from (tells.Closed to) y is g = subst Keeps (if_is _ _ y is) (call_over s.transcript s.handles s.pending calls_to.EndBatch answers.Fine g (λ id no. absurd (cc)))
+hear_close_keeps s request batch from _ y is g = absurd (cc)
 
 answer_keeps : (s : ClientModel) (p : Pending) (from : Server) (m : Message) (y : ClientResponse) → s.pending ≡ p → answer_call s p from m ≡ Some y → IsGrantedFirst s → Keeps y
 answer_keeps s waits_for.Nothing from m y waits is g = absurd (cc)
@@ -144,6 +181,11 @@ answer_keeps s (waits_for.Reserve request types) from m y waits is g = hear_rese
 answer_keeps s (waits_for.Fetch request note) from m y waits is g =
     let P : Pending → Type 0 = λ p. AreGranted s.transcript s.handles p in
     hear_fetch_keeps s request note from m y is (subst P waits g).fetching g
+answer_keeps s (waits_for.Common request note common own) from m y waits is g =
+    let P : Pending → Type 0 = λ p. AreGranted s.transcript s.handles p in
+    hear_common_keeps s request note common own from m y is (subst P waits g).fetching g
+answer_keeps s (waits_for.Keep request common first tried) from m y waits is g = hear_keep_keeps s request common first tried from m y is g
+answer_keeps s (waits_for.Close request batch) from m y waits is g = hear_close_keeps s request batch from m y is g
 
 -- A step.
 

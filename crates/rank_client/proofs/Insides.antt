@@ -14,7 +14,7 @@ use Rattle.rank_client.specs.declared.pendings.Pending.{Pending}
 use Rattle.rank_client.specs.declared.pendings.Pending.TheVariants as waits_for
 use Rattle.rank_client.specs.declared.rooms.Room.{Room}
 use Rattle.rank_client.specs.declared.steps.ClientStep.{ClientStep}
-use Rattle.rank_client.specs.Inside.{HasRoom, IsFresh, IsSound, awaited, gives}
+use Rattle.rank_client.specs.Inside.{HasRoom, IsFresh, IsPlaced, IsSound, awaited, gives}
 use Rattle.rank_client.specs.Rules.{asks, fetched, held}
 use Rattle.rank_client.specs.State.{ClientModel}
 use Rattle.rank_client.specs.Step.{Made, made, ticked}
@@ -36,7 +36,7 @@ pub asked_sound : (s : ClientModel) (pending : Pending) (sent : List ℕ) (handl
     → IsSound (record s { pending = pending; next = s.next + 1; sent = sent; handles = handles; transcript = transcript })
 asked_sound s pending sent handles transcript to sound fresh there is notes said =
     let P : ℕ → Type 0 = λ n. n ≤ s.clock in
-    let N : UnitNote → Type 0 = λ n. n.server.0 < s.config.servers in
+    let N : UnitNote → Type 0 = IsPlaced s.config in
     let here = first_letter s to sound fresh there in
     record {
       me = sound.me;
@@ -44,8 +44,10 @@ asked_sound s pending sent handles transcript to sound fresh there is notes said
       sent = All-same P _ _ is (All-set P _ _ _ (omega (arith, here)) sound.sent);
       next = omega (arith, fresh.next);
       puts = sound.puts;
+      accepted = sound.accepted;
       said = omega (arith, ap length said, sound.said);
       clock = sound.clock;
+      batch = sound.batch;
       notes = All-same N _ _ notes sound.notes;
     }
 
@@ -55,16 +57,22 @@ room_with config notes space room waits_for.Nothing more has = tt
 room_with config notes space room (waits_for.Put unit first tried) more has = has
 room_with config notes space room (waits_for.Reserve request types) more has = more
 room_with config notes space room (waits_for.Fetch request note) more has = has
+room_with config notes space room (waits_for.Common request note common own) more has = has
+room_with config notes space room (waits_for.Keep request common first tried) more has = has
+room_with config notes space room (waits_for.Close request batch) more has = tt
 
 pub awaited_few : (pending : Pending) → awaited pending ≤ 2
 awaited_few waits_for.Nothing = omega arith
 awaited_few (waits_for.Put unit first tried) = omega arith
 awaited_few (waits_for.Reserve request types) = omega arith
 awaited_few (waits_for.Fetch request note) = omega arith
+awaited_few (waits_for.Common request note common own) = omega arith
+awaited_few (waits_for.Keep request common first tried) = omega arith
+awaited_few (waits_for.Close request batch) = omega arith
 
 -- a unit that is held is at a server
-pub held_server : (s : ClientModel) (id : UnitId) (note : UnitNote) → IsSound s → held s id ≡ Some note → note.server.0 < s.config.servers
-held_server s id note sound is = (found_is (λ n. n.server.0 < s.config.servers) id s.handles note is sound.notes).1
+pub held_server : (s : ClientModel) (id : UnitId) (note : UnitNote) → IsSound s → held s id ≡ Some note → IsPlaced s.config note
+held_server s id note sound is = (found_is (IsPlaced s.config) id s.handles note is sound.notes).1
 
 -- fewer notes
 pub room_fewer : (config : Config) (notes fewer space same : ℕ) (room : Room) (pending : Pending) → fewer ≤ notes → same ≡ space → HasRoom config notes space room pending → HasRoom config fewer same room pending
@@ -72,18 +80,23 @@ room_fewer config notes fewer space same room waits_for.Nothing less is has = tt
 room_fewer config notes fewer space same room (waits_for.Put unit first tried) less is has = has
 room_fewer config notes fewer space same room (waits_for.Reserve request types) less is has = omega (arith, has)
 room_fewer config notes fewer space same room (waits_for.Fetch request note) less is has = has
+room_fewer config notes fewer space same room (waits_for.Common request note common own) less is has = has
+room_fewer config notes fewer space same room (waits_for.Keep request common first tried) less is has = has
+room_fewer config notes fewer space same room (waits_for.Close request batch) less is has = tt
 
 pub fewer_notes : (s : ClientModel) (id : UnitId) (notes : List UnitNote) → IsSound s → notes ≡ filter (λ n. not (same_unit n.id id)) s.handles → IsSound (record s { handles = notes })
 fewer_notes s id notes sound is =
-    let N : UnitNote → Type 0 = λ n. n.server.0 < s.config.servers in
+    let N : UnitNote → Type 0 = IsPlaced s.config in
     record {
       me = sound.me;
       servers = sound.servers;
       sent = sound.sent;
       next = sound.next;
       puts = sound.puts;
+      accepted = sound.accepted;
       said = sound.said;
       clock = sound.clock;
+      batch = sound.batch;
       notes = All-same N _ _ is (All-filter (λ n. not (same_unit n.id id)) N s.handles sound.notes);
     }
 
@@ -108,5 +121,6 @@ ticks s stamp sound later =
       sent = All-weaker P Q (λ n low. omega (arith, low, later)) s.sent sound.sent;
       next = omega (arith, sound.next);
       puts = omega (arith, sound.puts);
+      accepted = omega (arith, sound.accepted);
       said = omega (arith, sound.said);
     }

@@ -12,7 +12,7 @@ use Rattle.adlb_unit.specs.declared.configs.Config.{Config}
 use Rattle.adlb_unit.specs.declared.names.Server.{Server}
 use Rattle.bag_ledger.specs.declared.states.RankState.{RankState}
 use Rattle.bag_ledger.specs.Bag.{Bag, all_declined}
-use Rattle.rank_client.specs.State.{behind}
+use Rattle.adlb_unit.specs.Ring.{behind}
 use Rattle.rank_client.specs.Agreement.{ring_from}
 
 -- the place at which the ring from f comes to k

@@ -4,6 +4,7 @@ use Rattle.std.specs.List.{range_with_len}
 use Rattle.adlb_unit.specs.declared.configs.Config.{Config}
 use Rattle.adlb_unit.specs.declared.messages.Message.{Message}
 use Rattle.adlb_unit.specs.declared.messages.Message.TheVariants as tells
+use Rattle.adlb_unit.specs.declared.names.CommonRef.{CommonRef}
 use Rattle.adlb_unit.specs.declared.names.Rank.{Rank}
 use Rattle.adlb_unit.specs.declared.names.Server.{Server}
 use Rattle.adlb_unit.specs.declared.names.WorkType.{WorkType}
@@ -18,14 +19,16 @@ use Rattle.bag_ledger.specs.declared.states.Placed.{Placed}
 use Rattle.bag_ledger.specs.declared.states.RankState.{RankState}
 use Rattle.bag_ledger.specs.declared.states.Status.TheVariants as does
 use Rattle.bag_ledger.specs.declared.states.UnitPlace.TheVariants.{Pinned}
-use Rattle.bag_ledger.specs.Bag.{Bag, rank_at}
+use Rattle.bag_ledger.specs.Bag.{Bag, part_of, rank_at, unit_of}
+use Rattle.bag_ledger.specs.declared.states.Part.{Part}
 use Rattle.bag_ledger.specs.Runs.{IsRun, calls_from}
 use Rattle.bag_ledger.specs.Steps.{Stands, has_cause}
 use Rattle.rank_client.specs.declared.pendings.Pending.{Pending}
 use Rattle.rank_client.specs.declared.pendings.Pending.TheVariants as waits_for
 use Rattle.rank_client.specs.Calls.{plus}
-use Rattle.rank_client.specs.Rules.{call_of}
-use Rattle.rank_client.specs.State.{ClientModel, behind}
+use Rattle.rank_client.specs.Rules.{asked, begun_batch, call_of}
+use Rattle.rank_client.specs.State.{ClientModel}
+use Rattle.adlb_unit.specs.Ring.{behind}
 use Rattle.rank_client.specs.Step.{Made}
 
 -- The rank in the bag while a call is pending: its letter goes to a server or waits there (None), or this answer comes back.
@@ -51,15 +54,42 @@ in_reserve s request types None = record (running s) { status = does.Asking requ
 in_reserve s request types (Some (tells.Ended to end)) = record (running s) { end = Some end }
 in_reserve s request types (Some _) = running s
 
+-- where the own bytes come: the fetch goes on if the unit has a common part
+abbrev pub own_fetched : ClientModel → ℕ → UnitNote → Option CommonRef → RankState
+own_fetched s request note None = running s
+own_fetched s request note (Some common) = record (running s) { status = does.Fetching request note.id true }
+
 abbrev pub in_fetch : ClientModel → ℕ → UnitNote → Option Message → RankState
 in_fetch s request note None = record (running s) { status = does.Fetching request note.id false }
-in_fetch s request note (Some _) = running s
+in_fetch s request note (Some _) = own_fetched s request note note.common
+
+abbrev pub in_common : ClientModel → ℕ → UnitNote → Option Message → RankState
+in_common s request note None = record (running s) { status = does.Fetching request note.id true }
+in_common s request note (Some _) = running s
+
+abbrev pub keeping : ClientModel → ℕ → List ℕ → Server → ℕ → RankState
+keeping s request common first tried =
+    record (running s) { status = does.Keeping request common; declined = ring_from s.config first tried }
+
+abbrev pub in_keep : ClientModel → ℕ → List ℕ → Server → ℕ → Option Message → RankState
+in_keep s request common first tried None = keeping s request common first tried
+in_keep s request common first tried (Some (tells.Full to charge)) = keeping s request common first (tried + 1)
+in_keep s request common first tried (Some (tells.Ended to end)) = record (running s) { end = Some end }
+in_keep s request common first tried (Some _) =
+    record (running s) { batch = Some (begun_batch s request common (asked s first tried)) }
+
+abbrev pub in_close : ClientModel → ℕ → Option Message → RankState
+in_close s request None = record (running s) { status = does.Closing request }
+in_close s request (Some _) = record (running s) { batch = None }
 
 abbrev pub in_call : ClientModel → Pending → Option Message → RankState
 in_call s waits_for.Nothing coming = running s
 in_call s (waits_for.Put unit first tried) coming = in_put s unit first tried coming
 in_call s (waits_for.Reserve request types) coming = in_reserve s request types coming
 in_call s (waits_for.Fetch request note) coming = in_fetch s request note coming
+in_call s (waits_for.Common request note common own) coming = in_common s request note coming
+in_call s (waits_for.Keep request common first tried) coming = in_keep s request common first tried coming
+in_call s (waits_for.Close request batch) coming = in_close s request coming
 
 abbrev pub rank_of : ClientModel → Bool → Option Message → RankState
 rank_of s true coming = record (running s) { status = does.Finished }
@@ -77,9 +107,18 @@ reserve_coming (tells.Grant to note) = Some (answers.Granted note)
 reserve_coming (tells.Ended to end) = Some (answers.Ended end)
 reserve_coming _ = None
 
-abbrev pub fetch_coming : Message → Option Answer
-fetch_coming (tells.Bytes to body) = Some (answers.Body body)
-fetch_coming _ = None
+-- own bytes that come are all only where there is no common part
+abbrev pub fetch_coming : Option CommonRef → Message → Option Answer
+fetch_coming None (tells.Bytes to body) = Some (answers.Body body)
+fetch_coming common m = None
+
+abbrev pub common_coming : List ℕ → Message → Option Answer
+common_coming own (tells.Bytes to body) = Some (answers.Body (body ++ own))
+common_coming own _ = None
+
+abbrev pub close_coming : Message → Option Answer
+close_coming (tells.Closed to) = Some answers.Fine
+close_coming _ = None
 
 -- the transcript and then that call
 abbrev pub said : ClientModel → Pending → Option Message → List Said
@@ -87,7 +126,10 @@ said s pending None = s.transcript
 said s waits_for.Nothing (Some m) = s.transcript
 said s (waits_for.Put unit first tried) (Some m) = plus s.transcript (call_of unit) (put_coming m)
 said s (waits_for.Reserve request types) (Some m) = plus s.transcript (calls_to.Reserve types) (reserve_coming m)
-said s (waits_for.Fetch request note) (Some m) = plus s.transcript (calls_to.Fetch note.id) (fetch_coming m)
+said s (waits_for.Fetch request note) (Some m) = plus s.transcript (calls_to.Fetch note.id) (fetch_coming note.common m)
+said s (waits_for.Common request note common own) (Some m) = plus s.transcript (calls_to.Fetch note.id) (common_coming own m)
+said s (waits_for.Keep request common first tried) (Some m) = plus s.transcript (calls_to.BeginBatch common) (put_coming m)
+said s (waits_for.Close request batch) (Some m) = plus s.transcript calls_to.EndBatch (close_coming m)
 
 -- The units that the rank holds: those of its handles, one that is granted by an answer which comes back, and one that is asked for.
 
@@ -107,12 +149,46 @@ IsHeld b rank note = (u : Placed) × Stands b note.id u (Pinned note.server rank
 abbrev pub IsCaused : Bag → Option End → Type 0
 IsCaused b end = IfSome end (λ e. IsTrue (has_cause b e))
 
+-- the common bytes of this unit are awaited; these are its own
+abbrev pub IsOwed : Bag → UnitNote → CommonRef → List ℕ → Type 0
+IsOwed b note common own =
+    (u : Placed) × (unit_of b note.id ≡ Some u) × (u.unit.common ≡ Some common) × (u.unit.body ≡ own)
+
+-- also while the own bytes come of a unit that has a common part
+abbrev pub IsOwedIn : Bag → Pending → Option Message → Type 0
+IsOwedIn b (waits_for.Fetch request note) (Some (tells.Bytes to own)) =
+    (common : CommonRef) → note.common ≡ Some common → IsOwed b note common own
+IsOwedIn b (waits_for.Common request note common own) coming = IsOwed b note common own
+IsOwedIn b pending coming = Prim.Unit {0}
+
+-- Units of the batch that is going on: how many were accepted, also by an answer which comes back.
+
+abbrev pub put_leaves : ℕ → Message → ℕ
+put_leaves n (tells.Accepted to) = n + 1
+put_leaves n _ = n
+
+abbrev pub keep_leaves : ℕ → Message → ℕ
+keep_leaves n (tells.Accepted to) = 0
+keep_leaves n _ = n
+
+abbrev pub accepted_by : ClientModel → Pending → Option Message → ℕ
+accepted_by s (waits_for.Put unit first tried) (Some m) = put_leaves s.accepted m
+accepted_by s (waits_for.Keep request common first tried) (Some m) = keep_leaves s.accepted m
+accepted_by s pending coming = s.accepted
+
+-- so many units of the rank's batch were accepted
+abbrev pub HasAccepted : Bag → Option CommonRef → ℕ → Type 0
+HasAccepted b None n = Prim.Unit {0}
+HasAccepted b (Some batch) n = (p : Part) × (part_of b batch.batch ≡ Some p) × (p.accepted ≡ n)
+
 -- the client stands for its rank of the bag
 pub record ClientAgrees (s : ClientModel) (coming : Option Message) (b : Bag) : Type 0 where
   pub rank : rank_at b s.me ≡ Some (rank_of s s.finished coming)
   pub servers : b.servers ≡ s.config.servers
   pub caused : IsCaused b (rank_of s s.finished coming).end
   pub held : All (IsHeld b s.me) (holds s coming)
+  pub owed : IsOwedIn b s.pending coming
+  pub accepted : HasAccepted b (rank_of s s.finished coming).batch (accepted_by s s.pending coming)
 
 -- the entries of the step are steps of the bag, the client stands for its rank afterwards, and its transcript is what the ledger says
 -- of the rank

@@ -17,6 +17,7 @@ use Rattle.rank_client.specs.Step.{Made, begin, hear}
 -- a fetch that is pending is of a unit that was granted
 abbrev pub IsOfGranted : List Said → Pending → Type 0
 IsOfGranted said (waits_for.Fetch request note) = is_granted note.id said ≡ true
+IsOfGranted said (waits_for.Common request note common own) = is_granted note.id said ≡ true
 IsOfGranted said _ = Prim.Unit {0}
 
 -- each unit of these notes, that the pending call fetches, or that was fetched, was granted

@@ -1,7 +1,10 @@
 -- The fields of a client.
-use Rattle.std.specs.Prelude.{◌≡◌, ℕ, ◌+◌, ◌<◌, ◌≤◌, [], length, Bool, true, false, All}
+use Rattle.std.specs.Prelude.{◌≡◌, ℕ, ◌+◌, ◌<◌, ◌≤◌, List, [], length, Bool, true, false, All, IfSome, Option, None}
+use Rattle.adlb_unit.specs.Totals.{total_of}
+use Rattle.adlb_unit.specs.declared.names.CommonRef.{CommonRef}
+use Rattle.adlb_unit.specs.declared.notes.UnitNote.{UnitNote}
 use Rattle.std.specs.Vec.{vec_len, vec_capacity}
-use Rattle.adlb_unit.specs.Limits.{stamp_limit}
+use Rattle.adlb_unit.specs.Limits.{body_limit, stamp_limit}
 use Rattle.adlb_unit.specs.declared.configs.Config.{Config}
 use Rattle.adlb_unit.specs.declared.names.Server.{Server}
 use Rattle.adlb_unit.specs.declared.units.Unit.{Unit}
@@ -21,6 +24,7 @@ state_of i = record {
   next = i.next;
   puts = i.puts;
   batch = i.batch;
+  accepted = i.accepted;
   end = i.end;
   handles = i.handles.items;
   clock = i.clock;
@@ -34,16 +38,22 @@ state_of i = record {
 abbrev pub gives : ClientModel → ClientStep → Made
 gives s x = record { state = s; sends = x.sends.items; entries = x.entries.items; answer = x.answer }
 
--- each call, each put and each letter to a server took an event
+-- the note names servers of the run: that of its unit, and that of its common part, if it has one
+abbrev pub IsPlaced : Config → UnitNote → Type 0
+IsPlaced config note = (note.server.0 < config.servers) × IfSome note.common (λ (c : CommonRef). c.server.0 < config.servers)
+
+-- each call, each put, each that was accepted and each letter to a server took an event
 pub record IsSound (s : ClientModel) : Type 0 where
   pub me : s.me.0 < s.config.ranks
   pub servers : length s.sent ≡ s.config.servers
   pub sent : All (λ n. n ≤ s.clock) s.sent
   pub next : s.next ≤ s.clock
   pub puts : s.puts ≤ s.clock
+  pub accepted : s.accepted ≤ s.clock
   pub said : length s.transcript ≤ s.clock
   pub clock : s.clock < stamp_limit
-  pub notes : All (λ n. n.server.0 < s.config.servers) s.handles
+  pub notes : All (IsPlaced s.config) s.handles
+  pub batch : IfSome s.batch (λ (c : CommonRef). c.server.0 < s.config.servers)
 
 -- how many more calls the transcript has room for: Finish, and the pending one
 abbrev pub awaited : Pending → ℕ
@@ -58,7 +68,15 @@ HasRoom config notes space room (waits_for.Put unit first tried) =
     × (1 ≤ vec_capacity room.entries) × (room.entries.items ≡ [])
 HasRoom config notes space room (waits_for.Reserve request types) = notes < space
 HasRoom config notes space room (waits_for.Fetch request note) =
-    (note.length ≤ vec_capacity room.bytes) × (room.bytes.items ≡ []) × (note.server.0 < config.servers)
+    (total_of note ≤ vec_capacity room.bytes) × (room.bytes.items ≡ []) × (total_of note ≤ vec_capacity room.kept) × (room.kept.items ≡ [])
+    × (1 ≤ vec_capacity room.sends) × (room.sends.items ≡ []) × IsPlaced config note
+HasRoom config notes space room (waits_for.Common request note common own) =
+    (common.length + length own ≤ vec_capacity room.bytes) × (room.bytes.items ≡ [])
+    × (common.length + length own ≤ vec_capacity room.kept) × (room.kept.items ≡ [])
+HasRoom config notes space room (waits_for.Keep request common first tried) =
+    (vec_len room.tries + tried + 1 ≡ config.servers) × All (λ body. body ≡ common) room.tries.items × (first.0 < config.servers)
+    × (1 ≤ vec_capacity room.entries) × (room.entries.items ≡ []) × (length common ≤ body_limit)
+HasRoom config notes space room (waits_for.Close request batch) = Prim.Unit {0}
 
 -- room for the letters and the entry of Finish
 pub record CanFinish (i : Inside) : Type 0 where
@@ -78,6 +96,7 @@ pub record IsFresh (s : ClientModel) : Type 0 where
   pub sent : All (λ n. n < s.clock) s.sent
   pub next : s.next < s.clock
   pub puts : s.puts < s.clock
+  pub accepted : s.accepted < s.clock
   pub said : length s.transcript < s.clock
 
 -- a put that is pending
@@ -101,3 +120,30 @@ is_reserve _ = false
 abbrev pub is_fetch : Pending → Bool
 is_fetch (waits_for.Fetch request note) = true
 is_fetch _ = false
+
+-- the common part of the unit that is asked for, if it has one
+abbrev pub common_of : Pending → Option CommonRef
+common_of (waits_for.Fetch request note) = note.common
+common_of _ = None
+
+abbrev pub is_common : Pending → Bool
+is_common (waits_for.Common request note common own) = true
+is_common _ = false
+
+abbrev pub is_close : Pending → Bool
+is_close (waits_for.Close request batch) = true
+is_close _ = false
+
+-- a batch's beginning that is pending
+pub record Keep : Type 0 where
+  pub request : ℕ
+  pub common : List ℕ
+  pub first : Server
+  pub tried : ℕ
+
+abbrev pub keep_of : Keep → Pending
+keep_of p = waits_for.Keep p.request p.common p.first p.tried
+
+abbrev pub is_keep : Pending → Bool
+is_keep (waits_for.Keep request common first tried) = true
+is_keep _ = false

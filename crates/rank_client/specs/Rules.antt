@@ -6,6 +6,7 @@ use Rattle.adlb_unit.specs.Ids.{same_unit}
 use Rattle.adlb_unit.specs.Limits.{body_limit}
 use Rattle.adlb_unit.specs.declared.messages.Message.{Message}
 use Rattle.adlb_unit.specs.declared.messages.Message.TheVariants as tells
+use Rattle.adlb_unit.specs.declared.names.CommonRef.{CommonRef}
 use Rattle.adlb_unit.specs.declared.names.Rank.{Rank}
 use Rattle.adlb_unit.specs.declared.names.Server.{Server}
 use Rattle.adlb_unit.specs.declared.names.Target.{Target}
@@ -24,7 +25,8 @@ use Rattle.bag_ledger.specs.declared.entries.Entry.TheVariants as enters
 use Rattle.rank_client.specs.declared.pendings.Pending.{Pending}
 use Rattle.rank_client.specs.declared.pendings.Pending.TheVariants as waits_for
 use Rattle.rank_client.specs.Calls.{is_fetched, is_granted, plus}
-use Rattle.rank_client.specs.State.{ClientModel, behind}
+use Rattle.rank_client.specs.State.{ClientModel}
+use Rattle.adlb_unit.specs.Ring.{behind}
 
 -- a message to a server
 pub record ClientSaying : Type 0 where
@@ -123,6 +125,26 @@ abbrev pub fetch : ClientModel → UnitId → Option UnitNote → Option ClientR
 fetch s id None = None
 fetch s id (Some note) = Some (fetched s id note)
 
+-- A batch begins.
+
+-- its common part is offered to the first server, as a unit for any is
+abbrev pub keep : ClientModel → List ℕ → Option End → ClientResponse
+keep s common (Some end) = over (record s { puts = s.puts + 1 }) (enters.Keeping s.me s.next common) (calls_to.BeginBatch common) end
+keep s common None =
+    asks (record s { puts = s.puts + 1 }) (enters.Keeping s.me s.next common) (first_server s Any) (tells.KeepCommon s.next common)
+    (waits_for.Keep s.next common (first_server s Any) 0)
+
+-- It ends.
+
+-- the server of its common part is told how many of its units were accepted
+abbrev pub closing : ClientModel → CommonRef → ClientResponse
+closing s batch =
+    asks s (enters.Closing s.me s.next) batch.server (tells.CloseBatch s.next batch.batch s.accepted) (waits_for.Close s.next batch)
+
+abbrev pub close : ClientModel → Option CommonRef → Option ClientResponse
+close s None = None
+close s (Some batch) = Some (closing s batch)
+
 -- Finish.
 
 abbrev pub farewell : ℕ → ClientSaying
@@ -154,6 +176,9 @@ open_call s (calls_to.Put kind prio target answer body) =
     then Some (put s (unit_put s kind prio target answer body) s.end) else None
 open_call s (calls_to.Reserve types) = if s.config.servers == 1 then Some (reserve s types s.end) else None
 open_call s (calls_to.Fetch id) = fetch s id (held s id)
+open_call s (calls_to.BeginBatch common) =
+    if is_none s.batch && nat_le (length common) body_limit then Some (keep s common s.end) else None
+open_call s calls_to.EndBatch = close s s.batch
 open_call s calls_to.Finish = if is_none s.batch then Some (finish s) else None
 open_call s _ = None
 
@@ -179,17 +204,23 @@ refused s unit first tried false = ends s (enters.Rejected s.me unit.id.number �
 
 abbrev pub hear_put : ClientModel → Unit → Server → ℕ → Server → Message → Option ClientResponse
 hear_put s unit first tried from (tells.Accepted to) =
-    if is_for unit.id.number (asked s first tried) from to then Some (ends s [] (call_of unit) answers.Fine) else None
+    if is_for unit.id.number (asked s first tried) from to
+    then Some (ends (record s { accepted = s.accepted + 1 }) [] (call_of unit) answers.Fine) else None
 hear_put s unit first tried from (tells.Full to charge) =
     if is_for unit.id.number (asked s first tried) from to then Some (refused s unit first tried (nat_lt (tried + 1) s.config.servers)) else None
 hear_put s unit first tried from (tells.Ended to end) =
     if is_for unit.id.number (asked s first tried) from to then Some (ends (record s { end = Some end }) [] (call_of unit) (answers.Ended end)) else None
 hear_put s unit first tried from _ = None
 
--- the note names a server, its unit was not granted or fetched before, and it has no common part
+-- the common part, if there is one, is at a server of the run
+abbrev pub is_at_server : ClientModel → Option CommonRef → Bool
+is_at_server s None = true
+is_at_server s (Some common) = nat_lt common.server.0 s.config.servers
+
+-- the note names a server, and so does its common part, if it has one; its unit was not granted or fetched before
 abbrev pub expects_note : ClientModel → UnitNote → Bool
 expects_note s note =
-    nat_lt note.server.0 s.config.servers && is_none note.common && not (is_granted note.id s.transcript)
+    nat_lt note.server.0 s.config.servers && is_at_server s note.common && not (is_granted note.id s.transcript)
     && not (is_fetched note.id s.transcript)
 
 abbrev pub hear_reserve : ClientModel → ℕ → Option (List WorkType) → Server → Message → Option ClientResponse
@@ -203,13 +234,62 @@ hear_reserve s request types from (tells.Ended to end) =
     else None
 hear_reserve s request types from _ = None
 
+-- the bytes of the unit have come: all of them, or its common part is asked for
+abbrev pub own_came : ClientModel → ℕ → UnitNote → List ℕ → Option CommonRef → ClientResponse
+own_came s request note own None = ends s [] (calls_to.Fetch note.id) (answers.Body own)
+own_came s request note own (Some common) = record {
+  state = record s { pending = waits_for.Common request note common own };
+  says = record { to = common.server; message = tells.FetchCommon request common.batch } ∷ [];
+  entries = [];
+  answer = None;
+}
+
 -- there are as many bytes as the note says
 abbrev pub hear_fetch : ClientModel → ℕ → UnitNote → Server → Message → Option ClientResponse
 hear_fetch s request note from (tells.Bytes to body) =
-    if is_for request note.server from to && (length body == note.length)
-    then Some (ends s [] (calls_to.Fetch note.id) (answers.Body body))
-    else None
+    if is_for request note.server from to && (length body == note.length) then Some (own_came s request note body note.common) else None
 hear_fetch s request note from _ = None
+
+-- and as many common bytes, which stand before the unit's own
+abbrev pub hear_common : ClientModel → ℕ → UnitNote → CommonRef → List ℕ → Server → Message → Option ClientResponse
+hear_common s request note common own from (tells.Bytes to body) =
+    if is_for request common.server from to && (length body == common.length)
+    then Some (ends s [] (calls_to.Fetch note.id) (answers.Body (body ++ own))) else None
+hear_common s request note common own from _ = None
+
+-- the batch that this call began, whose common part is at the server
+abbrev pub begun_batch : ClientModel → ℕ → List ℕ → Server → CommonRef
+begun_batch s request common at = record { batch = record { rank = s.me; number = request }; server = at; length = length common }
+
+-- after a refusal the next server is asked, and after each has refused the beginning is rejected
+abbrev pub part_refused : ClientModel → ℕ → List ℕ → Server → ℕ → Bool → ClientResponse
+part_refused s request common first tried true = record {
+  state = record s { pending = waits_for.Keep request common first (tried + 1) };
+  says = record { to = asked s first (tried + 1); message = tells.KeepCommon request common } ∷ [];
+  entries = [];
+  answer = None;
+}
+part_refused s request common first tried false =
+    ends s (enters.Rejected s.me request ∷ []) (calls_to.BeginBatch common) answers.Rejected
+
+abbrev pub hear_keep : ClientModel → ℕ → List ℕ → Server → ℕ → Server → Message → Option ClientResponse
+hear_keep s request common first tried from (tells.Accepted to) =
+    if is_for request (asked s first tried) from to
+    then Some (ends (record s { batch = Some (begun_batch s request common (asked s first tried)); accepted = 0 }) []
+    (calls_to.BeginBatch common) answers.Fine) else None
+hear_keep s request common first tried from (tells.Full to charge) =
+    if is_for request (asked s first tried) from to
+    then Some (part_refused s request common first tried (nat_lt (tried + 1) s.config.servers)) else None
+hear_keep s request common first tried from (tells.Ended to end) =
+    if is_for request (asked s first tried) from to
+    then Some (ends (record s { end = Some end }) [] (calls_to.BeginBatch common) (answers.Ended end)) else None
+hear_keep s request common first tried from _ = None
+
+-- the batch has ended
+abbrev pub hear_close : ClientModel → ℕ → CommonRef → Server → Message → Option ClientResponse
+hear_close s request batch from (tells.Closed to) =
+    if is_for request batch.server from to then Some (ends (record s { batch = None }) [] calls_to.EndBatch answers.Fine) else None
+hear_close s request batch from _ = None
 
 -- the rule of a letter; nothing where the pending call does not await it
 abbrev pub answer_call : ClientModel → Pending → Server → Message → Option ClientResponse
@@ -217,3 +297,6 @@ answer_call s waits_for.Nothing from message = None
 answer_call s (waits_for.Put unit first tried) from message = hear_put s unit first tried from message
 answer_call s (waits_for.Reserve request types) from message = hear_reserve s request types from message
 answer_call s (waits_for.Fetch request note) from message = hear_fetch s request note from message
+answer_call s (waits_for.Common request note common own) from message = hear_common s request note common own from message
+answer_call s (waits_for.Keep request common first tried) from message = hear_keep s request common first tried from message
+answer_call s (waits_for.Close request batch) from message = hear_close s request batch from message

@@ -1,9 +1,8 @@
 -- What a client keeps of its rank.
-use Rattle.std.specs.Prelude.{ℕ, ◌+◌, ◌%◌, Bool, false, List, [], Option, None, replicate}
+use Rattle.std.specs.Prelude.{ℕ, Bool, false, List, [], Option, None, replicate}
 use Rattle.adlb_unit.specs.declared.configs.Config.{Config}
 use Rattle.adlb_unit.specs.declared.names.CommonRef.{CommonRef}
 use Rattle.adlb_unit.specs.declared.names.Rank.{Rank}
-use Rattle.adlb_unit.specs.declared.names.Server.{Server}
 use Rattle.adlb_unit.specs.declared.notes.End.{End}
 use Rattle.adlb_unit.specs.declared.notes.Trouble.{Trouble}
 use Rattle.adlb_unit.specs.declared.notes.UnitNote.{UnitNote}
@@ -22,6 +21,8 @@ pub record ClientModel : Type 0 where
   pub puts : ℕ
   -- the batch that is going on, and the end that was told
   pub batch : Option CommonRef
+  -- how many puts were accepted since a batch began last
+  pub accepted : ℕ
   pub end : Option End
   -- the notes of the units that were granted and not fetched
   pub handles : List UnitNote
@@ -42,6 +43,7 @@ start config me = record {
   pending = waits_for.Nothing;
   next = 0;
   puts = 0;
+  accepted = 0;
   batch = None;
   end = None;
   handles = [];
@@ -51,7 +53,3 @@ start config me = record {
   transcript = [];
   trouble = None;
 }
-
--- the server that is so many places behind this one in ring order
-abbrev pub behind : Config → Server → ℕ → Server
-behind config server places = record { 0 = (server.0 + places) % config.servers }

@@ -1,93 +1,34 @@
 //! What a client does with a call.
 
-ghost use Rattle.std.specs.Prelude.{◌≡◌, ◌⊎◌, ◌<◌, ◌≤◌, ◌+◌, ◌^◌, ◌↔◌, ◌∷◌, ◌++◌, [], ℕ, true, false, length, map, filter, not, find, All, Some, None, Err, IsSome, IsTrue, IfOk, IfErr, OnOk, OnErr, is_none, nat_le, slice_index_or};
+ghost use Rattle.std.specs.Prelude.{◌≡◌, ◌⊎◌, ◌<◌, ◌≤◌, ◌+◌, ◌^◌, ◌↔◌, ◌∷◌, ◌++◌, [], ℕ, true, false, length, map, find, All, Some, None, Err, IsSome, IsTrue, IfOk, IfErr, OnOk, OnErr, is_none, nat_le, slice_index_or};
 ghost use Rattle.std.specs.Option.{option_map};
 ghost use Rattle.std.specs.List.{range_with_len};
-ghost use Rattle.std.specs.Vec.{vec_len, vec_capacity};
-ghost use Rattle.adlb_unit.specs.Ids.{same_unit};
+ghost use Rattle.std.specs.Vec.{vec_capacity};
 ghost use Rattle.adlb_unit.specs.declared.notes.Trouble.{Trouble};
 ghost use Rattle.rank_client.specs.Calls.{is_finish};
 ghost use Rattle.rank_client.specs.Inside.{HasRoom, IsFresh, gives};
-ghost use Rattle.rank_client.specs.Rules.{asks, call_of, entry_of, farewell, fetched, finish, first_server, held, is_free, open_call, over, put, reserve, unit_of};
+ghost use Rattle.rank_client.specs.Rules.{asks, farewell, finish, held, is_free, open_call, over, reserve};
 ghost use Rattle.rank_client.specs.State.{ClientModel};
 ghost use Rattle.rank_client.specs.Step.{Made, begin, call_stamp, call_trouble, made, post, ticked};
 
-use crate::clients::{ClientCore, behind, write};
+use crate::clients::{ClientCore, write};
 use crate::pendings::Pending;
-use crate::rooms::{Farewell, Offer, Room};
+use crate::rooms::{Farewell, Room};
 use crate::steps::ClientStep;
 use adlb_unit::{
-    BODY_LIMIT, End, Message, NoMemory, Payload, STAMP_LIMIT, Sending, Server, Target, Trouble,
-    Types, Unit, UnitId, UnitNote, or_no_memory,
+    BODY_LIMIT, End, Message, NoMemory, STAMP_LIMIT, Sending, Server, Trouble, Types, UnitId,
+    UnitNote, or_no_memory,
 };
 use bag_ledger::{Answer, Call, Entry, Said};
 use std::alloc::Global;
 use std::mem;
 
-// The entry that begins the put of this unit.
-fn putting(alloc: Global, unit: &Unit) -> Result<Entry, NoMemory>
-    ensures { IfOk result (λ e. e ≡ entry_of unit.now) }
-{
-    Ok(Entry::Putting {
-        rank: unit.id.rank,
-        call: unit.id.number,
-        kind: unit.kind,
-        prio: unit.prio,
-        target: unit.target,
-        answer: unit.answer,
-        body: unit.body.twin(alloc)?,
-    })
-}
-
-// The call that puts this unit.
-pub(crate) fn put_call(unit: Unit) -> Call
-    ensures { result ≡ call_of unit }
-{
-    Call::Put {
-        kind: unit.kind,
-        prio: unit.prio,
-        target: unit.target,
-        answer: unit.answer,
-        body: unit.body,
-    }
-}
-
 // A list with room for `room` elements.
-fn with_room<T>(alloc: Global, room: usize) -> Result<Vec<T>, NoMemory>
+pub(crate) fn with_room<T>(alloc: Global, room: usize) -> Result<Vec<T>, NoMemory>
     ensures items { IfOk result (λ v. v.items ≡ []) }
     ensures room { IfOk result (λ v. vec_capacity v ≡ room) }
 {
     or_no_memory(Vec::with_capacity(alloc, room))
-}
-
-// What it takes to offer a unit with these bytes to so many servers.
-fn offers(alloc: Global, body: &Payload, servers: usize) -> Result<Vec<Offer>, NoMemory>
-    ensures all { IfOk result (λ v. All (λ b. b ≡ body.now) v.items) }
-    ensures len { IfOk result (λ v. vec_len v ≡ servers) }
-{
-    let mut tries = with_room(alloc, servers)?;
-    for _ in 0..servers {
-        tries.push_reserved(Offer::new(alloc, body)?);
-    }
-    Ok(tries)
-}
-
-// Takes the note of this unit out of the list.
-fn drop_note(handles: &mut Vec<UnitNote>, id: UnitId)
-    ensures items { handles.new.items ≡ filter (λ n. not (same_unit n.id id)) handles.old.items }
-    ensures fewer { vec_len handles.new ≤ vec_len handles.old }
-    ensures room { vec_capacity handles.new ≡ vec_capacity handles.old }
-{
-    let mut kept = 0;
-    for at in 0..handles.len() {
-        let note = handles[at];
-        if note.id == id {
-            continue;
-        }
-        handles[kept] = note;
-        kept += 1;
-    }
-    handles.truncate(kept);
 }
 
 // Writes a Finish letter to each server, from 0 on.
@@ -111,7 +52,8 @@ fn farewells(sent: &mut Vec<u64>, stamp: u64, servers: u32, sends: Vec<Sending>)
 impl ClientCore {
     /// The rank is ready for this call: no call is pending, it has not finished, and the call's own conditions hold. The body of
     /// a put has at most `2^20` bytes, and a rank that its target names is one of the run; there is one server at a reserve; a unit that is fetched
-    /// is held; no batch is going on at Finish.
+    /// is held; no batch is going on when one begins, whose common part has at most `2^20` bytes, nor at Finish; and one is when
+    /// it ends.
     pub fn ready(&self, call: &Call) -> bool
         ensures { IsTrue result ↔ IsSome (begin self.now call.now) }
     {
@@ -123,6 +65,8 @@ impl ClientCore {
                 && self.config.has_target(*target),
             Call::Reserve { .. } => self.config.servers == 1,
             Call::Fetch { id } => self.held(*id).is_some(),
+            Call::BeginBatch { common } => self.batch.is_none() && common.len() <= BODY_LIMIT,
+            Call::EndBatch => self.batch.is_some(),
             Call::Finish => self.batch.is_none(),
             _ => false,
         }
@@ -138,7 +82,12 @@ impl ClientCore {
 
 impl ClientCore {
     // The call begins, and is answered at once by the end that was told before.
-    fn over(&mut self, entry: Entry, call: Call, end: End) -> Result<ClientStep, NoMemory>
+    pub(crate) fn over(
+        &mut self,
+        entry: Entry,
+        call: Call,
+        end: End,
+    ) -> Result<ClientStep, NoMemory>
         requires free { is_free self.old ≡ true }
         requires fresh { IsFresh self.old }
         ensures ok { IfOk result (λ x. made (over self.old entry call end) ≡ gives self.new x) }
@@ -167,66 +116,11 @@ impl ClientCore {
             answer: Some(Answer::Ended(end)),
         })
     }
-
-    // The server to which a put goes first.
-    fn first_server(&self, target: Target) -> Server
-        ensures first { result ≡ first_server self.now target }
-        ensures there { result.0 < self.now.config.servers }
-    {
-        match target {
-            Target::Any => behind(&self.config, self.config.home(self.me), self.puts),
-            Target::Only(rank) | Target::Soft(rank) => self.config.home(rank),
-        }
-    }
 }
 
 impl ClientCore {
-    // The unit that this call puts, whose twins will share its bytes.
-    fn unit(&self, call: Call) -> Result<Unit, NoMemory>
-        requires { IsSome (unit_of self.now call) }
-        ensures { IfOk result (λ unit. unit_of self.now call ≡ Some unit) }
-    {
-        let Call::Put {
-            kind,
-            prio,
-            target,
-            answer,
-            body,
-        } = call
-        else {
-            unreachable!()
-        };
-        let id = UnitId {
-            rank: self.me,
-            number: self.next,
-        };
-        Ok(Unit {
-            id,
-            kind,
-            prio,
-            target,
-            answer,
-            common: self.batch,
-            body: body.share(self.alloc)?,
-        })
-    }
-
-    // Room to offer the unit to the servers behind the first one, and to reject it.
-    fn put_room(&self, unit: &Unit) -> Result<Room, NoMemory>
-        ensures tries { IfOk result (λ r. vec_len r.tries + 1 ≡ self.now.config.servers) }
-        ensures bodies { IfOk result (λ r. All (λ body. body ≡ unit.now.body) r.tries.items) }
-        ensures room { IfOk result (λ r. vec_capacity r.entries ≡ 1) }
-        ensures none { IfOk result (λ r. r.entries.items ≡ []) }
-    {
-        Ok(Room {
-            tries: offers(self.alloc, &unit.body, self.config.servers as usize - 1)?,
-            entries: with_room(self.alloc, 1)?,
-            bytes: Vec::new(self.alloc),
-        })
-    }
-
     // The call begins: it goes to a server, and waits for its answer.
-    fn ask(
+    pub(crate) fn ask(
         &mut self,
         entry: Entry,
         to: Server,
@@ -260,35 +154,6 @@ impl ClientCore {
         })
     }
 
-    // Puts the unit: it is offered to the first server.
-    fn put(&mut self, unit: Unit) -> Result<ClientStep, NoMemory>
-        requires free { is_free self.old ≡ true }
-        requires fresh { IsFresh self.old }
-        ensures ok { IfOk result (λ x. made (put self.old unit self.old.end) ≡ gives self.new x) }
-        ensures stamp { IfOk result (λ x. x.stamp ≡ self.new.clock) }
-        ensures err { OnErr result (self.new ≡ self.old) }
-    {
-        let entry = putting(self.alloc, &unit)?;
-        let step = match self.end {
-            Some(end) => self.over(entry, put_call(unit), end)?,
-            None => {
-                let first = self.first_server(unit.target);
-                let message = Message::Put {
-                    unit: unit.twin(self.alloc)?,
-                };
-                let room = self.put_room(&unit)?;
-                let pending = Pending::Put {
-                    unit,
-                    first,
-                    tried: 0,
-                };
-                self.ask(entry, first, message, pending, room)?
-            }
-        };
-        self.puts += 1;
-        Ok(step)
-    }
-
     // Asks the home for a unit.
     fn reserve(&mut self, types: Types) -> Result<ClientStep, NoMemory>
         requires free { is_free self.old ≡ true }
@@ -319,38 +184,6 @@ impl ClientCore {
             Pending::Reserve { request, types },
             room,
         )
-    }
-
-    // Asks the unit's server for its bytes.
-    fn fetch(&mut self, id: UnitId, note: UnitNote) -> Result<ClientStep, NoMemory>
-        requires free { is_free self.old ≡ true }
-        requires fresh { IsFresh self.old }
-        requires held { held self.old id ≡ Some note }
-        ensures ok { IfOk result (λ x. made (fetched self.old id note) ≡ gives self.new x) }
-        ensures stamp { IfOk result (λ x. x.stamp ≡ self.new.clock) }
-        ensures err { OnErr result (self.new ≡ self.old) }
-    {
-        let request = self.next;
-        let entry = Entry::Fetching {
-            rank: self.me,
-            call: request,
-            id,
-        };
-        let room = Room {
-            bytes: with_room(self.alloc, note.length as usize)?,
-            tries: Vec::new(self.alloc),
-            entries: Vec::new(self.alloc),
-        };
-        let message = Message::Fetch { request, id };
-        let step = self.ask(
-            entry,
-            note.server,
-            message,
-            Pending::Fetch { request, note },
-            room,
-        )?;
-        drop_note(&mut self.handles, id);
-        Ok(step)
     }
 
     // Tells each server that the rank has finished. It takes no memory.
@@ -437,6 +270,11 @@ impl ClientCore {
             Call::Reserve { types } => self.reserve(types),
             Call::Fetch { id } => match self.held(id) {
                 Some(note) => self.fetch(id, note),
+                None => unreachable!(),
+            },
+            Call::BeginBatch { common } => self.keep(common),
+            Call::EndBatch => match self.batch {
+                Some(batch) => self.close(batch),
                 None => unreachable!(),
             },
             Call::Finish => Ok(self.finish()),

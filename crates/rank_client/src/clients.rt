@@ -6,7 +6,8 @@ ghost use Rattle.adlb_unit.specs.Limits.{stamp_limit};
 ghost use Rattle.adlb_unit.specs.Links.{sending};
 ghost use Rattle.adlb_unit.specs.declared.actors.Actor.{Actor};
 ghost use Rattle.rank_client.specs.Calls.{plus};
-ghost use Rattle.rank_client.specs.State.{ClientModel, behind, start};
+ghost use Rattle.rank_client.specs.State.{ClientModel, start};
+ghost use Rattle.adlb_unit.specs.Ring.{behind};
 
 use crate::pendings::Pending;
 use crate::rooms::{Farewell, Room};
@@ -28,6 +29,7 @@ pub struct ClientCore {
     pub(crate) next: u64,
     pub(crate) puts: u64,
     pub(crate) batch: Option<CommonRef>,
+    pub(crate) accepted: u64,
     pub(crate) end: Option<End>,
     pub(crate) handles: Vec<UnitNote>,
     pub(crate) clock: u64,
@@ -74,6 +76,7 @@ impl ClientCore {
             next: 0,
             puts: 0,
             batch: None,
+            accepted: 0,
             end: None,
             handles: Vec::new(alloc),
             clock: 0,

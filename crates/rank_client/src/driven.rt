@@ -1,278 +1,465 @@
-//! Clients driven by hand, a letter at a time.
+//! Clients driven by hand, a call or a letter at a time, with letters, entries and answers that were found by hand.
 
 use crate::clients::ClientCore;
 use crate::steps::ClientStep;
 use adlb_unit::{
-    Actor, BatchId, CommonRef, Config, End, Letter, Message, Payload, Rank, Server, Target,
-    Trouble, Types, UnitId, UnitNote, WorkType,
+    Actor, BatchId, CommonRef, Config, End, Letter, Message, Payload, Rank, Sending, Server,
+    Target, Types, UnitId, UnitNote, WorkType,
 };
 use bag_ledger::{Answer, Call, Entry};
 use std::alloc::Global;
 use std::process::Abort;
 use std::test::Fail;
 
-fn client(rt: &impl Abort, alloc: Global, servers: u32) -> Result<ClientCore, Fail> {
-    let config = Config::new(2, servers, 64).expect(rt, "within the limits");
-    Ok(ClientCore::new(alloc, config, Rank(0))?)
+// A call of rank 0.
+#[derive(Clone, Copy)]
+enum Makes {
+    // A put of four bytes for this target.
+    Put(Target),
+    Reserve,
+    // A fetch of rank 1's unit of this number.
+    Fetch(u64),
+    // A batch with a common part of four bytes.
+    BeginBatch,
+    EndBatch,
+    Finish,
 }
 
-fn begin(rt: &impl Abort, client: &mut ClientCore, call: Call) -> ClientStep {
-    assert!(rt; client.ready(&call));
-    client.begin(call).expect(rt, "there is memory")
+// What a letter says, in answer to the request of this number.
+#[derive(Clone, Copy)]
+enum Says {
+    Accepted(u64),
+    // So many bytes are charged.
+    Full(u64, u64),
+    // Rank 1's unit of this number is at this server.
+    Grant(u64, u64, u32),
+    // The first unit of rank 1, with a common part at this server.
+    GrantInBatch(u64, u32),
+    Bytes(u64, &'static [u8]),
+    Ended(u64, End),
+    Nothing(u64),
+    Closed(u64),
+    Finish,
 }
 
-fn hear(rt: &impl Abort, client: &mut ClientCore, from: u32, message: Message) -> ClientStep {
-    let letter = Letter {
-        stamp: client.clock + 1,
-        place: 0,
-        message,
-    };
-    let from = Server(from);
-    assert!(rt; client.expects(from, &letter));
-    client.hear(from, letter).expect(rt, "there is room")
+// A line of a scene: what is done with the client, or what is asked of it.
+#[derive(Clone, Copy)]
+enum Line {
+    // The rank makes a call: the stamp, to whom letters go, the entries with their calls, and the answer if there is one.
+    Begins(Makes),
+    // It hears a letter of this server, stamped by one more than its clock: what it gives, shown in the same way.
+    Hears(u32, Says),
+    // Whether it is ready for the call.
+    IsReady(Makes),
+    // Whether it expects a letter of this server with this stamp.
+    Expects(u32, u64, Says),
+    // How many calls are answered.
+    Answered,
 }
 
-fn put(alloc: Global, target: Target) -> Result<Call, Fail> {
-    Ok(Call::Put {
-        kind: WorkType(1),
-        prio: 0,
-        target,
-        answer: None,
-        body: Payload::copy(alloc, b"unit")?,
+// Rank 1's unit of number 7 is granted, in the rank's second event.
+const GRANTED: &str =
+    "3 Granted(UnitNote { id: UnitId { rank: Rank(1), number: 7 }, kind: WorkType(1), \
+    prio: 0, answer: None, server: Server(0), common: None, length: 4 })";
+
+// Rank 1's first unit is granted, which has a common part.
+const GRANTED_IN_BATCH: &str =
+    "3 Granted(UnitNote { id: UnitId { rank: Rank(1), number: 0 }, kind: WorkType(1), \
+    prio: 0, answer: None, server: Server(0), common: Some(CommonRef { batch: \
+    BatchId { rank: Rank(0), number: 0 }, server: Server(0), length: 4 }), length: 4 })";
+
+fn call(alloc: Global, makes: Makes) -> Result<Call, Fail> {
+    Ok(match makes {
+        Makes::Put(target) => Call::Put {
+            kind: WorkType(1),
+            prio: 0,
+            target,
+            answer: None,
+            body: Payload::copy(alloc, b"unit")?,
+        },
+        Makes::Reserve => Call::Reserve {
+            types: Types::any(),
+        },
+        Makes::Fetch(number) => Call::Fetch {
+            id: unit_id(number),
+        },
+        Makes::BeginBatch => Call::BeginBatch {
+            common: Payload::copy(alloc, b"part")?,
+        },
+        Makes::EndBatch => Call::EndBatch,
+        Makes::Finish => Call::Finish,
     })
 }
 
-fn reserve() -> Call {
-    Call::Reserve {
-        types: Types::any(),
+fn unit_id(number: u64) -> UnitId {
+    UnitId {
+        rank: Rank(1),
+        number,
     }
 }
 
-// The step sends one letter, to this server.
-fn asks(step: &ClientStep, server: u32) -> bool {
-    step.sends.len() == 1
-        && step.sends[0].to == Actor::Server(Server(server))
-        && step.answer.is_none()
-}
-
-// Whether the client expects such a letter of the server.
-fn expects(client: &ClientCore, from: u32, stamp: u64, message: Message) -> bool {
-    let letter = Letter {
-        stamp,
-        place: 0,
-        message,
-    };
-    client.expects(Server(from), &letter)
-}
-
-// A unit of rank 1 with four bytes, at this server.
-fn note_of(number: u64, server: u32) -> UnitNote {
-    UnitNote {
-        id: UnitId {
-            rank: Rank(1),
-            number,
+fn message(alloc: Global, says: Says) -> Result<Message, Fail> {
+    Ok(match says {
+        Says::Accepted(request) => Message::Accepted { request },
+        Says::Full(request, charge) => Message::Full { request, charge },
+        Says::Grant(request, number, server) => Message::Grant {
+            request,
+            note: note(number, server, None),
         },
+        Says::GrantInBatch(request, server) => Message::Grant {
+            request,
+            note: note(0, 0, Some(common_part(server))),
+        },
+        Says::Bytes(request, bytes) => Message::Bytes {
+            request,
+            body: Payload::copy(alloc, bytes)?,
+        },
+        Says::Ended(request, end) => Message::Ended { request, end },
+        Says::Nothing(request) => Message::Nothing { request },
+        Says::Closed(request) => Message::Closed { request },
+        Says::Finish => Message::Finish,
+    })
+}
+
+// The note of a unit of rank 1 with four bytes.
+fn note(number: u64, server: u32, common: Option<CommonRef>) -> UnitNote {
+    UnitNote {
+        id: unit_id(number),
         kind: WorkType(1),
         prio: 0,
         answer: None,
         server: Server(server),
-        common: None,
+        common,
         length: 4,
     }
 }
 
-fn grant(request: u64, note: UnitNote) -> Message {
-    Message::Grant { request, note }
-}
-
-fn bytes(alloc: Global, request: u64, bytes: &[u8]) -> Result<Message, Fail> {
-    let body = Payload::copy(alloc, bytes)?;
-    Ok(Message::Bytes { request, body })
-}
-
 // A common part of four bytes.
-fn common_part() -> CommonRef {
+fn common_part(server: u32) -> CommonRef {
     CommonRef {
         batch: BatchId {
             rank: Rank(0),
             number: 0,
         },
-        server: Server(0),
+        server: Server(server),
         length: 4,
     }
 }
 
+fn letter(alloc: Global, stamp: u64, says: Says) -> Result<Letter, Fail> {
+    Ok(Letter {
+        stamp,
+        place: 0,
+        message: message(alloc, says)?,
+    })
+}
+
+// The client begins a call that it is ready for.
+fn begin(alloc: Global, client: &mut ClientCore, makes: Makes) -> Result<ClientStep, Fail> {
+    let call = call(alloc, makes)?;
+    if !client.ready(&call) {
+        return Err("not ready".into());
+    }
+    Ok(client.begin(call)?)
+}
+
+// The client hears a letter that it expects.
+fn hear(alloc: Global, client: &mut ClientCore, from: u32, says: Says) -> Result<ClientStep, Fail> {
+    let letter = letter(alloc, client.clock + 1, says)?;
+    if !client.expects(Server(from), &letter) {
+        return Err("not expected".into());
+    }
+    Ok(client.hear(Server(from), letter)?)
+}
+
+fn is_ready(alloc: Global, client: &ClientCore, makes: Makes) -> Result<String, Fail> {
+    let call = call(alloc, makes)?;
+    yes(alloc, client.ready(&call))
+}
+
+fn expects(
+    alloc: Global,
+    client: &ClientCore,
+    from: u32,
+    stamp: u64,
+    says: Says,
+) -> Result<String, Fail> {
+    let letter = letter(alloc, stamp, says)?;
+    yes(alloc, client.expects(Server(from), &letter))
+}
+
+fn yes(alloc: Global, holds: bool) -> Result<String, Fail> {
+    Ok(String::from_str(alloc, if holds { "yes" } else { "no" })?)
+}
+
+// To whom letters go, with the batch of a unit and with what the end of a batch tells.
+fn receivers(alloc: Global, sends: &[Sending]) -> Result<String, Fail> {
+    let mut all = String::new(alloc);
+    for sending in sends {
+        match sending.to {
+            Actor::Server(Server(number)) => all.push_str(format!(in alloc;
+                " to {number}"
+            )?.as_str())?,
+            Actor::Rank(_) => all.push_str(" to a rank")?,
+        }
+        all.push_str(of_batch(alloc, &sending.letter.message)?.as_str())?;
+    }
+    Ok(all)
+}
+
+fn of_batch(alloc: Global, message: &Message) -> Result<String, Fail> {
+    match message {
+        Message::Put { unit } => match unit.common {
+            Some(part) => {
+                let number = part.batch.number;
+                let at = part.server.0;
+                Ok(format!(in alloc; " in batch {number} at {at}")?)
+            }
+            None => Ok(String::new(alloc)),
+        },
+        Message::CloseBatch { accepted, .. } => Ok(format!(in alloc; " after {accepted}")?),
+        _ => Ok(String::new(alloc)),
+    }
+}
+
+// What each entry is, and its call.
+fn names(alloc: Global, entries: &[Entry]) -> Result<String, Fail> {
+    let mut all = String::new(alloc);
+    for entry in entries {
+        let (name, call) = name(entry);
+        all.push_str(format!(in alloc; " {name} {call}")?.as_str())?;
+    }
+    Ok(all)
+}
+
+fn name(entry: &Entry) -> (&'static str, u64) {
+    match entry {
+        Entry::Putting { call, .. } => ("putting", *call),
+        Entry::Rejected { call, .. } => ("rejected", *call),
+        Entry::Asked { call, .. } => ("asked", *call),
+        Entry::Fetching { call, .. } => ("fetching", *call),
+        Entry::Keeping { call, .. } => ("keeping", *call),
+        Entry::Closing { call, .. } => ("closing", *call),
+        Entry::Over { call, .. } => ("over", *call),
+        Entry::Finished { call, .. } => ("finished", *call),
+        _ => ("other", 0),
+    }
+}
+
+fn answer(alloc: Global, answer: &Option<Answer>) -> Result<String, Fail> {
+    match answer {
+        None => Ok(String::new(alloc)),
+        Some(Answer::Body(body)) => {
+            let text = str::from_utf8(body.bytes()).unwrap_or("?");
+            Ok(format!(in alloc; " bytes {text}")?)
+        }
+        Some(other) => Ok(format!(in alloc; " {other:?}")?),
+    }
+}
+
+fn given(alloc: Global, step: &ClientStep) -> Result<String, Fail> {
+    let receivers = receivers(alloc, &step.sends)?;
+    let names = names(alloc, &step.entries)?;
+    let answer = answer(alloc, &step.answer)?;
+    let stamp = step.stamp;
+    Ok(format!(in alloc; "{stamp}{receivers}{names}{answer}")?)
+}
+
+// What a line of a scene gives, as it is shown.
+fn shown(alloc: Global, client: &mut ClientCore, line: Line) -> Result<String, Fail> {
+    match line {
+        Line::Begins(makes) => given(alloc, &begin(alloc, client, makes)?),
+        Line::Hears(from, says) => given(alloc, &hear(alloc, client, from, says)?),
+        Line::IsReady(makes) => is_ready(alloc, client, makes),
+        Line::Expects(from, stamp, says) => expects(alloc, client, from, stamp, says),
+        Line::Answered => {
+            let count = client.transcript().len();
+            Ok(format!(in alloc; "{count}")?)
+        }
+    }
+}
+
+// A client of rank 0, one of two ranks, with this many servers gives what stands beside each line.
+fn play(rt: &impl Abort, alloc: Global, servers: u32, scene: &[(Line, &str)]) -> Result<(), Fail> {
+    let config = Config::new(2, servers, 64)?;
+    let mut client = ClientCore::new(alloc, config, Rank(0))?;
+    for (at, (line, expected)) in scene.iter().enumerate() {
+        let given = shown(alloc, &mut client, *line)?;
+        assert_eq!(rt; given.as_str(), *expected, "line {at}");
+    }
+    Ok(())
+}
+
 #[test]
 fn a_put_is_accepted_by_its_targets_home(rt: HostRuntime) -> Result<(), Fail> {
-    let mut client = client(&rt, rt.alloc(), 2)?;
-    let step = begin(&rt, &mut client, put(rt.alloc(), Target::Only(Rank(1)))?);
-    assert!(rt; asks(&step, 1));
-    assert_eq!(rt; step.stamp, 1);
-    assert!(rt; matches!(&step.entries[..], [Entry::Putting { call: 0, .. }]));
-    assert!(rt; !client.ready(&reserve()));
-    let step = hear(&rt, &mut client, 1, Message::Accepted { request: 0 });
-    assert!(rt; matches!(step.answer, Some(Answer::Fine)));
-    assert!(rt; step.entries.is_empty());
-    assert_eq!(rt; client.transcript().len(), 1);
-    Ok(())
+    let scene = [
+        (
+            Line::Begins(Makes::Put(Target::Only(Rank(1)))),
+            "1 to 1 putting 0",
+        ),
+        (Line::IsReady(Makes::Reserve), "no"),
+        (Line::Hears(1, Says::Accepted(0)), "3 Fine"),
+        (Line::Answered, "1"),
+    ];
+    play(&rt, rt.alloc(), 2, &scene)
 }
 
 #[test]
 fn a_put_is_rejected_after_each_server_refused(rt: HostRuntime) -> Result<(), Fail> {
-    let mut client = client(&rt, rt.alloc(), 2)?;
-    let step = begin(&rt, &mut client, put(rt.alloc(), Target::Any)?);
-    assert!(rt; asks(&step, 0));
-    let full = Message::Full {
-        request: 0,
-        charge: 64,
-    };
-    let step = hear(&rt, &mut client, 0, full);
-    assert!(rt; asks(&step, 1));
-    assert!(rt; step.entries.is_empty());
-    let full = Message::Full {
-        request: 0,
-        charge: 61,
-    };
-    let step = hear(&rt, &mut client, 1, full);
-    assert!(rt; matches!(step.answer, Some(Answer::Rejected)));
-    assert!(rt; matches!(&step.entries[..], [Entry::Rejected { call: 0, .. }]));
-    // The next put begins one server further on.
-    let step = begin(&rt, &mut client, put(rt.alloc(), Target::Any)?);
-    assert!(rt; asks(&step, 1));
-    let _ = hear(&rt, &mut client, 1, Message::Accepted { request: 1 });
-    // A rank reserves only if there is one server.
-    assert!(rt; !client.ready(&reserve()));
-    Ok(())
+    let scene = [
+        (Line::Begins(Makes::Put(Target::Any)), "1 to 0 putting 0"),
+        (Line::Hears(0, Says::Full(0, 64)), "3 to 1"),
+        (Line::Hears(1, Says::Full(0, 61)), "5 rejected 0 Rejected"),
+        // The next put begins one server further on.
+        (Line::Begins(Makes::Put(Target::Any)), "6 to 1 putting 1"),
+        (Line::Hears(1, Says::Accepted(1)), "8 Fine"),
+        // A rank reserves only if there is one server.
+        (Line::IsReady(Makes::Reserve), "no"),
+    ];
+    play(&rt, rt.alloc(), 2, &scene)
 }
 
 #[test]
 fn a_reserved_unit_is_fetched(rt: HostRuntime) -> Result<(), Fail> {
-    let note = note_of(7, 0);
-    let id = note.id;
-    let mut client = client(&rt, rt.alloc(), 1)?;
-    assert!(rt; !client.ready(&Call::Fetch { id }));
-    let step = begin(&rt, &mut client, reserve());
-    assert!(rt; asks(&step, 0));
-    let step = hear(&rt, &mut client, 0, Message::Grant { request: 0, note });
-    assert!(rt; matches!(step.answer, Some(Answer::Granted(got)) if got == note));
-    let step = begin(&rt, &mut client, Call::Fetch { id });
-    assert!(rt; asks(&step, 0));
-    let body = Payload::copy(rt.alloc(), b"unit")?;
-    let step = hear(&rt, &mut client, 0, Message::Bytes { request: 1, body });
-    let bytes = match &step.answer {
-        Some(Answer::Body(body)) => body.bytes(),
-        _ => b"".as_slice(),
-    };
-    assert_eq!(rt; bytes, b"unit".as_slice());
-    assert!(rt; !client.ready(&Call::Fetch { id }));
-    let step = begin(&rt, &mut client, Call::Finish);
-    assert_eq!(rt; step.sends.len(), 1);
-    assert!(rt; matches!(&step.entries[..], [Entry::Finished { call: 2, .. }]));
-    assert!(rt; !client.ready(&reserve()));
-    assert_eq!(rt; client.transcript().len(), 3);
-    Ok(())
+    let scene = [
+        (Line::IsReady(Makes::Fetch(7)), "no"),
+        (Line::Begins(Makes::Reserve), "1 to 0 asked 0"),
+        (Line::Hears(0, Says::Grant(0, 7, 0)), GRANTED),
+        (Line::Begins(Makes::Fetch(7)), "4 to 0 fetching 1"),
+        (Line::Hears(0, Says::Bytes(1, b"unit")), "6 bytes unit"),
+        (Line::IsReady(Makes::Fetch(7)), "no"),
+        (Line::Begins(Makes::Finish), "7 to 0 finished 2 Fine"),
+        (Line::IsReady(Makes::Reserve), "no"),
+        (Line::Answered, "3"),
+    ];
+    play(&rt, rt.alloc(), 1, &scene)
 }
 
 #[test]
 fn an_end_is_told_again_without_a_letter(rt: HostRuntime) -> Result<(), Fail> {
-    let mut client = client(&rt, rt.alloc(), 1)?;
-    let step = begin(&rt, &mut client, reserve());
-    assert!(rt; asks(&step, 0));
-    let ended = Message::Ended {
-        request: 0,
-        end: End::Exhausted,
-    };
-    let step = hear(&rt, &mut client, 0, ended);
-    assert!(rt; matches!(step.answer, Some(Answer::Ended(End::Exhausted))));
-    let step = begin(&rt, &mut client, put(rt.alloc(), Target::Any)?);
-    assert!(rt; step.sends.is_empty());
-    assert_eq!(rt; step.entries.len(), 2);
-    assert!(rt; matches!(step.answer, Some(Answer::Ended(End::Exhausted))));
-    Ok(())
+    let scene = [
+        (Line::Begins(Makes::Reserve), "1 to 0 asked 0"),
+        (
+            Line::Hears(0, Says::Ended(0, End::Exhausted)),
+            "3 Ended(Exhausted)",
+        ),
+        (
+            Line::Begins(Makes::Put(Target::Any)),
+            "4 putting 1 over 1 Ended(Exhausted)",
+        ),
+    ];
+    play(&rt, rt.alloc(), 1, &scene)
 }
 
 #[test]
 fn a_put_awaits_the_server_that_was_asked(rt: HostRuntime) -> Result<(), Fail> {
     let last = (1 << 48) - 1;
-    let mut client = client(&rt, rt.alloc(), 2)?;
-    assert!(rt; !expects(&client, 1, 1, Message::Accepted { request: 0 }));
-    begin(&rt, &mut client, put(rt.alloc(), Target::Only(Rank(1)))?);
-    // Who says that the put is accepted, with which stamp, and to which request.
-    let rows = [
-        (1, 1, 0, true),
-        (1, last, 0, true),
-        (0, 1, 0, false),
-        (1, 1, 1, false),
-        (1, last + 1, 0, false),
+    let scene = [
+        (Line::Expects(1, 1, Says::Accepted(0)), "no"),
+        (
+            Line::Begins(Makes::Put(Target::Only(Rank(1)))),
+            "1 to 1 putting 0",
+        ),
+        (Line::Expects(1, 1, Says::Accepted(0)), "yes"),
+        (Line::Expects(1, last, Says::Accepted(0)), "yes"),
+        (Line::Expects(0, 1, Says::Accepted(0)), "no"),
+        (Line::Expects(1, 1, Says::Accepted(1)), "no"),
+        (Line::Expects(1, last + 1, Says::Accepted(0)), "no"),
     ];
-    for (from, stamp, request, awaited) in rows {
-        let message = Message::Accepted { request };
-        assert_eq!(rt; expects(&client, from, stamp, message), awaited);
-    }
-    Ok(())
+    play(&rt, rt.alloc(), 2, &scene)
 }
 
 #[test]
 fn a_put_awaits_its_answers(rt: HostRuntime) -> Result<(), Fail> {
-    let request = 0;
-    let charge = 64;
-    let end = End::Exhausted;
-    let mut client = client(&rt, rt.alloc(), 2)?;
-    begin(&rt, &mut client, put(rt.alloc(), Target::Only(Rank(1)))?);
-    assert!(rt; expects(&client, 1, 1, Message::Full { request, charge }));
-    assert!(rt; expects(&client, 1, 1, Message::Ended { request, end }));
-    assert!(rt; !expects(&client, 1, 1, Message::Nothing { request }));
-    assert!(rt; !expects(&client, 1, 1, grant(request, note_of(0, 1))));
-    assert!(rt; !expects(&client, 1, 1, Message::Finish));
-    Ok(())
+    let scene = [
+        (
+            Line::Begins(Makes::Put(Target::Only(Rank(1)))),
+            "1 to 1 putting 0",
+        ),
+        (Line::Expects(1, 1, Says::Full(0, 64)), "yes"),
+        (Line::Expects(1, 1, Says::Ended(0, End::Exhausted)), "yes"),
+        (Line::Expects(1, 1, Says::Nothing(0)), "no"),
+        (Line::Expects(1, 1, Says::Grant(0, 0, 1)), "no"),
+        (Line::Expects(1, 1, Says::Finish), "no"),
+    ];
+    play(&rt, rt.alloc(), 2, &scene)
 }
 
 #[test]
 fn a_reserve_awaits_its_answers(rt: HostRuntime) -> Result<(), Fail> {
-    let end = End::NoMoreWork;
-    let mut client = client(&rt, rt.alloc(), 1)?;
-    begin(&rt, &mut client, reserve());
-    // The request of a grant, and the server and the common part of its unit.
-    let rows = [
-        (0, 0, false, true),
-        (1, 0, false, false),
-        (0, 1, false, false),
-        (0, 0, true, false),
+    let scene = [
+        (Line::Begins(Makes::Reserve), "1 to 0 asked 0"),
+        (Line::Expects(0, 1, Says::Grant(0, 7, 0)), "yes"),
+        (Line::Expects(0, 1, Says::Grant(1, 7, 0)), "no"),
+        (Line::Expects(0, 1, Says::Grant(0, 7, 1)), "no"),
+        (Line::Expects(0, 1, Says::GrantInBatch(0, 0)), "yes"),
+        (Line::Expects(0, 1, Says::GrantInBatch(0, 1)), "no"),
+        (Line::Expects(0, 1, Says::Ended(0, End::NoMoreWork)), "yes"),
+        (Line::Expects(0, 1, Says::Accepted(0)), "no"),
     ];
-    for (request, server, common, awaited) in rows {
-        let mut note = note_of(7, server);
-        if common {
-            note.common = Some(common_part());
-        }
-        assert_eq!(rt; expects(&client, 0, 1, grant(request, note)), awaited);
-    }
-    assert!(rt; expects(&client, 0, 1, Message::Ended { request: 0, end }));
-    assert!(rt; !expects(&client, 0, 1, Message::Accepted { request: 0 }));
-    Ok(())
+    play(&rt, rt.alloc(), 1, &scene)
 }
 
 #[test]
 fn a_fetch_awaits_as_many_bytes_as_its_note_says(rt: HostRuntime) -> Result<(), Fail> {
-    let mut client = client(&rt, rt.alloc(), 1)?;
-    begin(&rt, &mut client, reserve());
-    let note = note_of(7, 0);
-    hear(&rt, &mut client, 0, grant(0, note));
-    begin(&rt, &mut client, Call::Fetch { id: note.id });
-    assert!(rt; expects(&client, 0, 1, bytes(rt.alloc(), 1, b"unit")?));
-    assert!(rt; !expects(&client, 0, 1, bytes(rt.alloc(), 1, b"uni")?));
-    Ok(())
+    let scene = [
+        (Line::Begins(Makes::Reserve), "1 to 0 asked 0"),
+        (Line::Hears(0, Says::Grant(0, 7, 0)), GRANTED),
+        (Line::Begins(Makes::Fetch(7)), "4 to 0 fetching 1"),
+        (Line::Expects(0, 1, Says::Bytes(1, b"unit")), "yes"),
+        (Line::Expects(0, 1, Says::Bytes(1, b"uni")), "no"),
+    ];
+    play(&rt, rt.alloc(), 1, &scene)
 }
 
 #[test]
 fn a_unit_that_was_fetched_is_not_granted_again(rt: HostRuntime) -> Result<(), Fail> {
-    let mut client = client(&rt, rt.alloc(), 1)?;
-    begin(&rt, &mut client, reserve());
-    let note = note_of(7, 0);
-    hear(&rt, &mut client, 0, grant(0, note));
-    begin(&rt, &mut client, Call::Fetch { id: note.id });
-    hear(&rt, &mut client, 0, bytes(rt.alloc(), 1, b"unit")?);
-    begin(&rt, &mut client, reserve());
-    assert!(rt; !expects(&client, 0, 1, grant(2, note)));
-    assert!(rt; expects(&client, 0, 1, grant(2, note_of(8, 0))));
-    Ok(())
+    let scene = [
+        (Line::Begins(Makes::Reserve), "1 to 0 asked 0"),
+        (Line::Hears(0, Says::Grant(0, 7, 0)), GRANTED),
+        (Line::Begins(Makes::Fetch(7)), "4 to 0 fetching 1"),
+        (Line::Hears(0, Says::Bytes(1, b"unit")), "6 bytes unit"),
+        (Line::Begins(Makes::Reserve), "7 to 0 asked 2"),
+        (Line::Expects(0, 1, Says::Grant(2, 7, 0)), "no"),
+        (Line::Expects(0, 1, Says::Grant(2, 8, 0)), "yes"),
+    ];
+    play(&rt, rt.alloc(), 1, &scene)
+}
+
+#[test]
+fn a_batch_is_kept_by_one_server_until_it_ends(rt: HostRuntime) -> Result<(), Fail> {
+    let scene = [
+        (Line::IsReady(Makes::EndBatch), "no"),
+        (Line::Begins(Makes::BeginBatch), "1 to 0 keeping 0"),
+        (Line::Hears(0, Says::Full(0, 64)), "3 to 1"),
+        (Line::Hears(1, Says::Accepted(0)), "5 Fine"),
+        (Line::IsReady(Makes::BeginBatch), "no"),
+        (Line::IsReady(Makes::Finish), "no"),
+        (
+            Line::Begins(Makes::Put(Target::Only(Rank(0)))),
+            "6 to 0 in batch 0 at 1 putting 1",
+        ),
+        (Line::Hears(0, Says::Accepted(1)), "8 Fine"),
+        (Line::Begins(Makes::EndBatch), "9 to 1 after 1 closing 2"),
+        (Line::Expects(0, 1, Says::Closed(2)), "no"),
+        (Line::Hears(1, Says::Closed(2)), "11 Fine"),
+        (
+            Line::Begins(Makes::Put(Target::Only(Rank(0)))),
+            "12 to 0 putting 3",
+        ),
+    ];
+    play(&rt, rt.alloc(), 2, &scene)
+}
+
+#[test]
+fn the_common_bytes_stand_before_the_units_own(rt: HostRuntime) -> Result<(), Fail> {
+    let scene = [
+        (Line::Begins(Makes::Reserve), "1 to 0 asked 0"),
+        (Line::Hears(0, Says::GrantInBatch(0, 0)), GRANTED_IN_BATCH),
+        (Line::Begins(Makes::Fetch(0)), "4 to 0 fetching 1"),
+        (Line::Hears(0, Says::Bytes(1, b"unit")), "6 to 0"),
+        (Line::Expects(0, 1, Says::Bytes(1, b"par")), "no"),
+        (Line::Hears(0, Says::Bytes(1, b"part")), "8 bytes partunit"),
+    ];
+    play(&rt, rt.alloc(), 1, &scene)
 }

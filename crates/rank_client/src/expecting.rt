@@ -4,13 +4,13 @@ ghost use Rattle.std.specs.Prelude.{◌≡◌, ◌<◌, ◌↔◌, ◌&&◌, IsT
 ghost use Rattle.adlb_unit.specs.declared.messages.Message.{Message};
 ghost use Rattle.bag_ledger.specs.declared.entries.Said.{Said};
 ghost use Rattle.rank_client.specs.Calls.{fetches, grants, is_fetched, is_granted};
-ghost use Rattle.rank_client.specs.Expected.{AnswersFetch, AnswersPut, AnswersReserve, IsAwaited, IsExpected};
-ghost use Rattle.rank_client.specs.Rules.{expects_note, is_for};
+ghost use Rattle.rank_client.specs.Expected.{AnswersClose, AnswersCommon, AnswersFetch, AnswersPut, AnswersReserve, IsAwaited, IsExpected};
+ghost use Rattle.rank_client.specs.Rules.{expects_note, is_at_server, is_for};
 ghost use Rattle.rank_client.specs.Step.{hear};
 
 use crate::clients::{ClientCore, behind};
 use crate::pendings::Pending;
-use adlb_unit::{Letter, Message, STAMP_LIMIT, Server, UnitId, UnitNote};
+use adlb_unit::{CommonRef, Letter, Message, STAMP_LIMIT, Server, UnitId, UnitNote};
 use bag_ledger::{Answer, Call, Said};
 
 impl ClientCore {
@@ -35,6 +35,21 @@ impl ClientCore {
             }
             Pending::Reserve { request, .. } => self.answers_reserve(*request, from, message),
             Pending::Fetch { request, note } => answers_fetch(*request, note, from, message),
+            Pending::Common {
+                request,
+                common,
+                ..
+            } => answers_common(*request, common, from, message),
+            Pending::Keep {
+                request,
+                first,
+                tried,
+                ..
+            } => {
+                let at = behind(&self.config, *first, *tried as u64);
+                answers_put(*request, at, from, message)
+            }
+            Pending::Close { request, batch } => answers_close(*request, batch, from, message),
         }
     }
 
@@ -51,14 +66,24 @@ impl ClientCore {
         }
     }
 
-    // The note names a server, its unit was not granted or fetched before, and it has no common part.
+    // The note names a server, and so does its common part, if it has one; its unit was not granted or fetched before.
     fn expects_note(&self, note: &UnitNote) -> bool
         ensures { result ≡ expects_note self.now note.now }
     {
         note.server.0 < self.config.servers
-            && note.common.is_none()
+            && self.is_at_server(note.common)
             && !is_granted(note.id, &self.said)
             && !is_fetched(note.id, &self.said)
+    }
+
+    // The common part, if there is one, is at a server of the run.
+    fn is_at_server(&self, common: Option<CommonRef>) -> bool
+        ensures { result ≡ is_at_server self.now common }
+    {
+        match common {
+            None => true,
+            Some(part) => part.server.0 < self.config.servers,
+        }
     }
 }
 
@@ -87,6 +112,26 @@ fn answers_fetch(request: u64, note: &UnitNote, from: Server, message: &Message)
         Message::Bytes { request: to, body } => {
             is_for(request, note.server, from, *to) && body.len() == note.length as usize
         }
+        _ => false,
+    }
+}
+
+fn answers_common(request: u64, common: &CommonRef, from: Server, message: &Message) -> bool
+    ensures { IsTrue result ↔ AnswersCommon request common.now from message.now }
+{
+    match message {
+        Message::Bytes { request: to, body } => {
+            is_for(request, common.server, from, *to) && body.len() == common.length as usize
+        }
+        _ => false,
+    }
+}
+
+fn answers_close(request: u64, batch: &CommonRef, from: Server, message: &Message) -> bool
+    ensures { IsTrue result ↔ AnswersClose request batch.now from message.now }
+{
+    match message {
+        Message::Closed { request: to } => is_for(request, batch.server, from, *to),
         _ => false,
     }
 }

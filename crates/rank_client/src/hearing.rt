@@ -4,13 +4,13 @@ ghost use Rattle.std.specs.Prelude.{◌≡◌, ◌⊎◌, ◌<◌, ◌≤◌, �
 ghost use Rattle.std.specs.Option.{option_map};
 ghost use Rattle.adlb_unit.specs.declared.notes.Trouble.{Trouble};
 ghost use Rattle.bag_ledger.specs.declared.entries.Answer.{Answer};
-ghost use Rattle.rank_client.specs.Inside.{IsFresh, Put, gives, is_fetch, is_put, is_reserve, put_of};
+ghost use Rattle.rank_client.specs.Inside.{IsFresh, Put, gives, is_put, is_reserve, put_of};
 ghost use Rattle.rank_client.specs.Rules.{answer_call, call_of, ends, refused};
 ghost use Rattle.rank_client.specs.Step.{hear, letter_trouble, made, told_trouble};
 
-use crate::calls::put_call;
 use crate::clients::{ClientCore, behind, write};
 use crate::pendings::Pending;
+use crate::puts::put_call;
 use crate::rooms::Offer;
 use crate::steps::ClientStep;
 use adlb_unit::{End, Letter, Message, Payload, STAMP_LIMIT, Server, Trouble, Unit};
@@ -58,12 +58,15 @@ impl ClientCore {
             Pending::Put { .. } => self.hear_put(from, message),
             Pending::Reserve { .. } => self.hear_reserve(from, message),
             Pending::Fetch { .. } => self.hear_fetch(from, message),
+            Pending::Common { .. } => self.hear_common(from, message),
+            Pending::Keep { .. } => self.hear_keep(from, message),
+            Pending::Close { .. } => self.hear_close(from, message),
             Pending::Nothing => unreachable!(),
         }
     }
 
     // The step in which a call has its answer.
-    fn ended(&self, entries: Vec<Entry>, answer: Answer) -> ClientStep
+    pub(crate) fn ended(&self, entries: Vec<Entry>, answer: Answer) -> ClientStep
         ensures gives { gives self.now result ≡ record { state = self.now; sends = []; entries = entries.items; answer = Some answer } }
         ensures stamp { result.stamp ≡ self.now.clock }
     {
@@ -100,7 +103,7 @@ impl ClientCore {
         requires pending { is_put self.old.pending ≡ true }
         requires going { self.old.finished ≡ false }
         requires fresh { IsFresh self.old }
-        ensures ok { (p : Put) → self.old.pending ≡ put_of p → made (ends self.old [] (call_of p.unit) Answer.Fine) ≡ gives self.new result }
+        ensures ok { (p : Put) → self.old.pending ≡ put_of p → made (ends (record self.old { accepted = self.old.accepted + 1 }) [] (call_of p.unit) Answer.Fine) ≡ gives self.new result }
         ensures stamp { result.stamp ≡ self.new.clock }
     {
         let Pending::Put { unit, .. } = mem::replace(&mut self.pending, Pending::Nothing) else {
@@ -108,6 +111,7 @@ impl ClientCore {
         };
         let call = put_call(unit);
         let answer = Answer::Fine;
+        self.accepted += 1;
         self.said.push_reserved(Said { call, answer });
         self.ended(Vec::new(self.alloc), Answer::Fine)
     }
@@ -226,31 +230,6 @@ impl ClientCore {
             }
             _ => unreachable!(),
         }
-    }
-
-    // A fetch is answered.
-    fn hear_fetch(&mut self, from: Server, message: Message) -> ClientStep
-        requires pending { is_fetch self.old.pending ≡ true }
-        requires going { self.old.finished ≡ false }
-        requires fresh { IsFresh self.old }
-        requires expected { IsSome (answer_call self.old self.old.pending from message) }
-        ensures ok { option_map made (answer_call self.old self.old.pending from message) ≡ Some (gives self.new result) }
-        ensures stamp { result.stamp ≡ self.new.clock }
-    {
-        let Pending::Fetch { note, .. } = mem::replace(&mut self.pending, Pending::Nothing) else {
-            unreachable!()
-        };
-        let Message::Bytes { body, .. } = message else {
-            unreachable!()
-        };
-        let mut bytes = mem::replace(&mut self.room.bytes, Vec::new(self.alloc));
-        let Ok(()) = bytes.extend_from_slice(body.bytes()) else {
-            unreachable!()
-        };
-        let call = Call::Fetch { id: note.id };
-        let answer = Answer::Body(body);
-        self.said.push_reserved(Said { call, answer });
-        self.ended(Vec::new(self.alloc), Answer::Body(Payload::from_vec(bytes)))
     }
 }
 

@@ -7,17 +7,20 @@
 //! gives.
 #![tactic(auto)]
 
+mod batches;
 mod calls;
 mod clients;
 #[cfg(test)]
 mod driven;
 mod expecting;
 mod faults;
+mod fetches;
 mod hearing;
 mod laws;
 mod links;
 mod pendings;
 mod programs;
+mod puts;
 mod rooms;
 mod steps;
 

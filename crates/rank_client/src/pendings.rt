@@ -1,8 +1,9 @@
 //! The call that a rank has begun and not heard the answer of.
 
-use adlb_unit::{Server, Types, Unit, UnitNote};
+use adlb_unit::{CommonRef, Payload, Server, Types, Unit, UnitNote};
 
-/// The pending call. A put has gone to its first server and, after so many of them refused it, to the next in ring order.
+/// The pending call. A put or a common part has gone to its first server and, after so many of them refused it, to the next in
+/// ring order.
 #[derive(Debug, Drop)]
 pub enum Pending {
     /// No call is pending.
@@ -22,5 +23,24 @@ pub enum Pending {
     Fetch {
         request: u64,
         note: UnitNote,
+    },
+    /// The unit's own bytes have come, and the server of its common part is asked for that.
+    Common {
+        request: u64,
+        note: UnitNote,
+        common: CommonRef,
+        own: Payload,
+    },
+    /// A batch begins: its common part is offered to one server after the other.
+    Keep {
+        request: u64,
+        common: Payload,
+        first: Server,
+        tried: u32,
+    },
+    /// The batch ends: the server of its common part is told how many of its units were accepted.
+    Close {
+        request: u64,
+        batch: CommonRef,
     },
 }

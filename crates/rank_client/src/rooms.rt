@@ -7,7 +7,7 @@ use bag_ledger::Entry;
 use std::alloc::Global;
 use std::marker::Model;
 
-// What it takes to offer a unit to one more server: the bytes, and room for the letter. It is seen as the bytes.
+// What it takes to offer a unit or a common part to one more server: its bytes, and room for the letter. It is seen as the bytes.
 #[derive(Drop)]
 pub(crate) struct Offer {
     pub(crate) body: Payload,
@@ -35,12 +35,14 @@ impl Offer {
     }
 }
 
-// Room for what the rest of a call may need.
+// Room for what the rest of a call may need: an answer's bytes are joined in `bytes` and, for the transcript, in `kept`.
 #[derive(Drop)]
 pub(crate) struct Room {
     pub(crate) tries: Vec<Offer>,
     pub(crate) entries: Vec<Entry>,
     pub(crate) bytes: Vec<u8>,
+    pub(crate) kept: Vec<u8>,
+    pub(crate) sends: Vec<Sending>,
 }
 
 impl Room {
@@ -50,6 +52,8 @@ impl Room {
             tries: Vec::new(alloc),
             entries: Vec::new(alloc),
             bytes: Vec::new(alloc),
+            kept: Vec::new(alloc),
+            sends: Vec::new(alloc),
         }
     }
 }

@@ -10,7 +10,7 @@ use Rattle.bag_ledger.specs.declared.entries.Answer.TheVariants as answers
 use Rattle.bag_ledger.specs.declared.entries.Call.{Call}
 use Rattle.bag_ledger.specs.declared.entries.Call.TheVariants as calls_to
 use Rattle.bag_ledger.specs.declared.entries.Said.{Said}
-use Rattle.rank_client.specs.Calls.{granted, is_fetched, is_granted}
+use Rattle.rank_client.specs.Calls.{TellsAgain, end_told, granted, is_fetched, is_granted}
 
 -- the answer that was given, and the trouble with which the call failed
 abbrev pub answered : Result Answer Trouble → Option Answer
@@ -69,3 +69,9 @@ IsAnswer said (calls_to.Reserve types) (answers.Granted note) = (is_granted note
 IsAnswer said (calls_to.Fetch id) (answers.Body body) =
     (note : UnitNote) → granted note said → note.id ≡ id → length body ≡ total_of note
 IsAnswer said call answer = Unit {0}
+
+-- the call has this answer: it is of the call's kind, and after an end was told it is that end
+pub record IsAnswerTo (said : List Said) (call : Call) (answer : Answer) : Type 0 where
+  pub kind : answers_call call answer ≡ true
+  pub known : IsAnswer said call answer
+  pub again : heeds_end call ≡ true → TellsAgain (end_told said) (Some answer)

@@ -3,8 +3,6 @@ use Rattle.std.specs.Prelude.{ℕ, ◌+◌, ◌*◌, ◌≡◌, ◌⊎◌, ◌<�
 use Rattle.std.specs.Prelude.{take, Option, None, Some}
 use Rattle.adlb_unit.specs.Ids.{same_unit}
 use Rattle.adlb_unit.specs.Limits.{stamp_limit}
-use Rattle.adlb_unit.specs.declared.configs.Config.{Config}
-use Rattle.adlb_unit.specs.declared.letters.Letter.{Letter}
 use Rattle.adlb_unit.specs.declared.names.Server.{Server}
 use Rattle.adlb_unit.specs.declared.names.UnitId.{UnitId}
 use Rattle.adlb_unit.specs.declared.notes.Trouble.{Trouble}
@@ -14,23 +12,21 @@ use Rattle.bag_ledger.specs.declared.entries.Answer.{Answer}
 use Rattle.bag_ledger.specs.declared.entries.Answer.TheVariants as answers
 use Rattle.bag_ledger.specs.declared.entries.Call.{Call}
 use Rattle.bag_ledger.specs.declared.entries.Call.TheVariants as calls_to
-use Rattle.bag_ledger.specs.declared.entries.Entry.{Entry}
 use Rattle.bag_ledger.specs.declared.entries.Said.{Said}
+use Rattle.rank_client.specs.declared.pendings.Pending.{Pending}
 use Rattle.rank_client.specs.declared.pendings.Pending.TheVariants as waits_for
-use Rattle.rank_client.specs.Agreement.{holds}
-use Rattle.rank_client.specs.Calls.{TellsAgain, end_told, granted, has_finished, is_fetched}
+use Rattle.rank_client.specs.Calls.{end_told, granted, has_finished, is_fetched}
 use Rattle.rank_client.specs.Granted.{IsGrantedFirst}
 use Rattle.rank_client.specs.State.{ClientModel}
-use Rattle.server_core.specs.declared.standings.Standing.TheVariants.{Running}
 use Rattle.server_core.specs.Left.{left_of}
-use Rattle.server_core.specs.State.{ServerModel}
+use Rattle.server_law.specs.State.{ServerModel}
 use Rattle.core_run.specs.declared.events.Event.{Event}
 use Rattle.core_run.specs.Runs.{Runs}
 use Rattle.core_run.specs.World.{World, client_of, pool_of, start}
 use Rattle.core_world.specs.Seen.{Seen}
 use Rattle.core_inline.specs.Inline.{IsTold, zeroth}
 use Rattle.core_inline.specs.Left.{IsLeft}
-use Rattle.core_inline.specs.inside.Answers.{IsAnswer, answers_call, heeds_end}
+use Rattle.core_inline.specs.inside.Answers.{IsAnswerTo}
 
 -- the only server
 abbrev pub first_server : Server
@@ -44,33 +40,18 @@ server_in w = pool_of w.world first_server
 
 -- the server is shut, and has handled the rank's Finish
 abbrev pub is_ended : ServerModel → Bool
-is_ended s = s.shut && slice_index_or s.finished 0 false
+is_ended s = s.kept.shut && slice_index_or s.kept.finished 0 false
 
 -- one more call
 abbrev pub with_call : List Said → Call → Answer → List Said
 with_call said call answer = said ++ record { call = call; answer = answer } ∷ []
 
--- no letters are under way but these: those from the rank to the server, and those from the server to the rank
-abbrev pub pair : Config → ClientModel → ServerModel → List Letter → List Letter → List Entry → World
-pair config c s asked told ledger = record {
-  config = config;
-  ranks = c ∷ [];
-  servers = s ∷ [];
-  links = ([] ∷ asked ∷ []) ∷ (told ∷ [] ∷ []) ∷ [];
-  ledger = ledger;
-}
-
--- a run from the start leads to this world
-abbrev pub IsReached : World → Type 0
-IsReached w = (events : List Event) × Runs (start w.config) events w
-
--- a run led to this world of one rank and one server, which has not failed, and these letters are under way
-pub record IsPair (w : Seen) (asked told : List Letter) : Type 0 where
-  pub whole : w.trouble ≡ None
-  pub one_rank : w.world.config.ranks ≡ 1
-  pub one_server : w.world.config.servers ≡ 1
-  pub reached : IsReached w.world
-  pub is : w.world ≡ pair w.world.config (rank_in w) (server_in w) asked told w.world.ledger
+-- a run from the start leads to this world of one rank and one server
+pub record IsLone (w : World) : Type 0 where
+  pub one_rank : w.config.ranks ≡ 1
+  pub one_server : w.config.servers ≡ 1
+  pub events : List Event
+  pub run : Runs (start w.config) events w
 
 -- the note of this id
 abbrev pub note_with : UnitId → List UnitNote → Option UnitNote
@@ -80,31 +61,34 @@ note_with id notes = find (λ n. same_unit n.id id) notes
 abbrev pub AreHeld : List Said → List UnitNote → Type 0
 AreHeld said notes = (note : UnitNote) → granted note said → is_fetched note.id said ≡ false → note_with note.id notes ≡ Some note
 
--- what the client of a rank that has not finished knows of its transcript
+-- the unit that is fetched by the pending call
+abbrev pub fetched_by : Pending → List UnitNote
+fetched_by (waits_for.Fetch request note) = note ∷ []
+fetched_by (waits_for.Common request note common own) = note ∷ []
+fetched_by pending = []
+
+-- what a client knows of its transcript; no batch is going on
 pub record Remembers (c : ClientModel) : Type 0 where
-  pub going : c.finished ≡ false
-  pub unfinished : has_finished c.transcript ≡ false
+  pub finishes : has_finished c.transcript ≡ c.finished
   pub told : end_told c.transcript ≡ c.end
   pub first : IsGrantedFirst c
-  pub held : AreHeld c.transcript (holds c None)
+  pub held : AreHeld c.transcript (c.handles ++ fetched_by c.pending)
+  pub alone : c.batch ≡ None
 
--- the rank runs, as the server knows, and its Finish was not handled
-pub record IsOpen (s : ServerModel) : Type 0 where
-  pub runs : s.ranks ≡ Running ∷ []
-  pub unhandled : s.finished ≡ false ∷ []
-
--- no call is pending; each took a stamp of its own, and three events at most
+-- the rank runs, no call is pending, and nobody waits at the server; each call took a stamp of its own, and five events at most
 pub record IsIdle (c : ClientModel) (s : ServerModel) : Type 0 where
   pub idle : c.pending ≡ waits_for.Nothing
+  pub going : c.finished ≡ false
   pub rank : Remembers c
-  pub server : IsOpen s
-  pub behind : s.clock ≤ c.clock
+  pub nobody : s.kept.parked.waiting ≡ []
   pub counted : length c.transcript ≤ c.clock
-  pub few : c.clock ≤ 3 * length c.transcript
+  pub few : c.clock ≤ 5 * length c.transcript
+  pub behind : s.clock ≤ 5 * length c.transcript
 
--- between two calls
+-- between two calls, where nothing failed
 pub record IsReady (w : Seen) : Type 0 where
-  pub two : IsPair w [] []
+  pub whole : w.trouble ≡ None
+  pub lone : IsLone w.world
   pub rests : IsIdle (rank_in w) (server_in w)
 
 -- what the ledger tells, and what is left, while no call is pending
@@ -118,9 +102,7 @@ pub record IsAnswered (said : List Said) (call : Call) (answer : Answer) (w : Se
   pub ready : IsReady w
   pub true_now : IsTrue w
   pub grown : (rank_in w).transcript ≡ with_call said call answer
-  pub kind : answers_call call answer ≡ true
-  pub fits : IsAnswer said call answer
-  pub again : heeds_end call ≡ true → TellsAgain (end_told said) (Some answer)
+  pub fits : IsAnswerTo said call answer
 
 -- the rank has finished, and the server has ended
 pub record IsFinished (said : List Said) (w : Seen) : Type 0 where
@@ -131,10 +113,10 @@ pub record IsFinished (said : List Said) (w : Seen) : Type 0 where
 
 -- The call failed: what the rank has heard is as before, the ledger tells of the call what was entered, and a stamp that was too long
 -- is past the last one.
-pub record IsFailed (config : Config) (said : List Said) (call : Call) (trouble : Trouble) (w : Seen) : Type 0 where
+pub record IsFailed (said : List Said) (call : Call) (trouble : Trouble) (w : Seen) : Type 0 where
   pub kept : take (length said) (rank_in w).transcript ≡ said
   pub within : length said ≤ length (rank_in w).transcript
   pub begun : Option Call
-  pub told : IsTold config w.world.ledger said begun
+  pub told : IsTold w.world.config w.world.ledger said begun
   pub began : (begun ≡ None) ⊎ (begun ≡ Some call)
-  pub late : (stamp : ℕ) → trouble ≡ TooLong stamp → (stamp_limit ≤ stamp) × (stamp ≤ 3 * length said + 3)
+  pub late : (stamp : ℕ) → trouble ≡ TooLong stamp → (stamp_limit ≤ stamp) × (stamp ≤ 5 * length said + 5)

@@ -1,6 +1,6 @@
 use Rattle.std.proofs.Common.{◌≡◌, map}
 use Rattle.std.specs.List.{range_with_len}
-use Rattle.server_core.specs.State.{start as new_pool}
+use Rattle.server_law.specs.State.{start as new_pool}
 use Rattle.core_run.specs.World.{server_named}
 use Rattle.core_world.proofs.stages.servers.Given as goal
 

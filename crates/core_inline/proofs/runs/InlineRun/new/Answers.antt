@@ -1,4 +1,4 @@
-use Rattle.core_inline.proofs.Starts.{accepts, start_inside, start_run}
+use Rattle.core_inline.proofs.Starts.{accepts, starts}
 use Rattle.core_inline.proofs.runs.InlineRun.new.Goals as goal
 
 pub unreachable-requires : goal.unreachable-requires
@@ -8,14 +8,15 @@ unreachable-requires c =
 
 pub invariant_of-result : goal.invariant_of-result
 invariant_of-result c =
-    start_inside c.run_laws.ensures c.in-Ok.config c.in-Ok.ensures.ranks c.in-Ok.ensures.servers c.in_ok-new.field-0 c.in_ok-new.ensures
+    (starts c.in-Ok.config c.args.limit c.in_ok-new.field-0 c.in-Ok.ensures.ranks c.in-Ok.ensures.servers c.in-Ok.ensures.limit
+    c.in_ok-new.ensures).0
 
 pub returns-clause-start : goal.returns-clause-start
 returns-clause-start c =
-    start_run c.run_laws.ensures c.in-Ok.config c.in-Ok.ensures.ranks c.in-Ok.ensures.servers c.in_ok-new.field-0 c.in_ok-new.ensures
-    c.args.limit c.in-Ok.ensures.limit
+    (starts c.in-Ok.config c.args.limit c.in_ok-new.field-0 c.in-Ok.ensures.ranks c.in-Ok.ensures.servers c.in-Ok.ensures.limit
+    c.in_ok-new.ensures).1
 
 pub returns-clause-holds : goal.returns-clause-holds
 returns-clause-holds c =
-    (start_inside c.run_laws.ensures c.in-Ok.config c.in-Ok.ensures.ranks c.in-Ok.ensures.servers c.in_ok-new.field-0
-    c.in_ok-new.ensures).inline
+    (starts c.in-Ok.config c.args.limit c.in_ok-new.field-0 c.in-Ok.ensures.ranks c.in-Ok.ensures.servers c.in-Ok.ensures.limit
+    c.in_ok-new.ensures).0.inline

@@ -2,10 +2,15 @@ use Rattle.std.proofs.Common.{◌≡◌, None, ap, ◌∙◌}
 use Rattle.std.proofs.lemmas.Result.{err_from_is_err_and}
 use Rattle.core_run.specs.World.{World, pool_of}
 use Rattle.core_world.specs.Stage.{IsWhole}
-use Rattle.core_world.proofs.Stopping.{request_stops}
+use Rattle.core_world.proofs.Stopping.{request_stops, serve_expected}
 use Rattle.core_world.proofs.Troubles.{serve_stays}
 use Rattle.core_world.proofs.Wholes.{whole_server, whole_pool, whole_taken}
 use Rattle.core_world.proofs.stages.Stage.serve.Goals as goal
+
+pub server_steps-requires-clause-expected : goal.server_steps-requires-clause-expected
+server_steps-requires-clause-expected c =
+    let t = c.take-letter.ensures in
+    serve_expected c.args.self.now c.take-letter.new.self c.args.from c.args.to c.take-letter.result t.0 c.requires.enabled t.1 t.2
 
 pub returns-in_err-sends-clause-stops : goal.returns-in_err-sends-clause-stops
 returns-in_err-sends-clause-stops c =

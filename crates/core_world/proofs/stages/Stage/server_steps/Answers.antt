@@ -2,8 +2,8 @@ use Rattle.std.proofs.Common.{◌≡◌, ◌<◌, ◌^◌, Some, ap, sym, ◌∙
 use Rattle.std.proofs.lemmas.Result.{IfErr-weaker, IfOk-weaker, on_ok_weaker}
 use Rattle.adlb_unit.specs.declared.notes.Trouble.{Trouble}
 use Rattle.server_core.specs.declared.steps.Step.{Step}
-use Rattle.server_core.specs.State.{ServerModel}
-use Rattle.server_core.specs.Step.{next_stamp, serve}
+use Rattle.server_law.specs.State.{ServerModel}
+use Rattle.server_law.specs.Step.{next_stamp, serve}
 use Rattle.core_run.specs.World.{World, pool_of}
 use Rattle.core_world.specs.Applied.{Causes}
 use Rattle.core_world.specs.Stage.{with_server}

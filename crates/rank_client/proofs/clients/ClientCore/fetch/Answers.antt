@@ -7,12 +7,16 @@ use Rattle.rank_client.proofs.clients.ClientCore.fetch.Goals as goal
 
 pub ask-requires-clause-server : goal.ask-requires-clause-server
 ask-requires-clause-server c =
-    held_server c.args.self.now c.args.id c.args.note (subst IsSound c.self.view_is c.self.invariant.sound) c.requires.held
+    (held_server c.args.self.now c.args.id c.args.note (subst IsSound c.self.view_is c.self.invariant.sound) c.requires.held).0
 
 pub ask-requires-clause-room : goal.ask-requires-clause-room
 ask-requires-clause-room c = (
-  omega (arith, c.in_ok-with_room.ensures.room),
-  c.in_ok-with_room.ensures.items,
+  omega (arith, c.in_ok-bytes.ensures.room, c.total-length.ensures),
+  c.in_ok-bytes.ensures.items,
+  omega (arith, c.in_ok-kept.ensures.room, c.total-length.ensures),
+  c.in_ok-kept.ensures.items,
+  omega (arith, c.in_ok-sends.ensures.room),
+  c.in_ok-sends.ensures.items,
   held_server c.args.self.now c.args.id c.args.note (subst IsSound c.self.view_is c.self.invariant.sound) c.requires.held,
 )
 

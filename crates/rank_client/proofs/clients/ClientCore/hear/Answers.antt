@@ -9,6 +9,13 @@ use Rattle.rank_client.proofs.Awaited.{hear_is, heard_is, no_trouble, none_left}
 use Rattle.rank_client.proofs.Insides.{ticks}
 use Rattle.rank_client.proofs.clients.ClientCore.hear.Goals as goal
 
+pub overflow_add-stamp : goal.overflow_add-stamp
+overflow_add-stamp c =
+    let untold : told_trouble c.args.letter.message ≡ None = sym c.told.ensures ∙ none_left c.told.result c.in_default-told.not-Some in
+    let expected = subst (λ (s : ClientModel). IsSome (told_trouble c.args.letter.message) ⊎ IsSome (hear s c.args.from c.args.letter)) (sym c.self.view_is) c.requires.expected in
+    let heard = heard_is (state_of c.self.inside) c.args.from c.args.letter untold expected in
+    omega (arith, c.max-stamp.ensures, heard.stamp, c.self.invariant.sound.clock)
+
 pub take_in-requires : goal.take_in-requires
 take_in-requires c =
     let untold : told_trouble c.args.letter.message ≡ None = sym c.told.ensures ∙ none_left c.told.result c.in_default-told.not-Some in

@@ -9,7 +9,7 @@ use Rattle.rank_client.proofs.clients.ClientCore.hear_put.Goals as goal
 pub returns-in-Accepted-clause-ok : goal.returns-in-Accepted-clause-ok
 returns-in-Accepted-clause-ok c =
     let s = c.args.self.now in
-    put_heard s c.args.from c.args.message _ c.in-Accepted.request (λ p. ends s [] (call_of p.unit) answers.Fine)
+    put_heard s c.args.from c.args.message _ c.in-Accepted.request (λ p. ends (record s { accepted = s.accepted + 1 }) [] (call_of p.unit) answers.Fine)
     (λ p. ap (λ m. hear_put s p.unit p.first p.tried c.args.from m) c.in-Accepted.is) s.pending c.requires.pending c.requires.expected
     c.hear_accepted.ensures.ok
 

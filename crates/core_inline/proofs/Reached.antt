@@ -1,0 +1,313 @@
+-- What holds of each world of one rank and one server to which a run leads: which letters are under way, and what an event leaves.
+use Rattle.std.proofs.Common.{◌≡◌, ℕ, ◌+◌, ◌<◌, ◌≤◌, Bool, true, false, ◌&&◌, ◌||◌, cond, not, List, [], ◌∷◌, ◌++◌, length, Option, None, Some, refl, sym, ap, ◌∙◌, subst, arith}
+use Rattle.std.specs.Prelude.{option_and_then}
+use Rattle.std.specs.Option.{option_map}
+use Rattle.adlb_unit.specs.Limits.{stamp_limit, InRanks, InServers, InLimit}
+use Rattle.adlb_unit.specs.Links.{place_of}
+use Rattle.adlb_unit.specs.declared.actors.Actor.{Actor}
+use Rattle.adlb_unit.specs.declared.actors.Actor.TheVariants as by
+use Rattle.adlb_unit.specs.declared.configs.Config.{Config}
+use Rattle.adlb_unit.specs.declared.letters.Letter.{Letter}
+use Rattle.adlb_unit.specs.declared.messages.Message.{Message}
+use Rattle.adlb_unit.specs.declared.messages.Message.TheVariants as tells
+use Rattle.bag_ledger.specs.declared.entries.Call.{Call}
+use Rattle.bag_ledger.proofs.Tests.{some_is}
+use Rattle.bag_ledger.specs.declared.entries.Entry.{Entry}
+use Rattle.rank_client.specs.Rules.{is_idle}
+use Rattle.rank_client.specs.Step.{Made, begin, hear, letter_stamp}
+use Rattle.server_law.specs.Carried.{Served}
+use Rattle.rank_client.specs.State.{ClientModel}
+use Rattle.rank_client.specs.declared.pendings.Pending.TheVariants as waits_for
+use Rattle.server_law.specs.State.{is_finished, ServerModel}
+use Rattle.server_law.specs.Step.{next_stamp, serve}
+use Rattle.core_run.specs.declared.events.Event.{Event}
+use Rattle.core_run.specs.declared.events.Event.TheVariants as occurs
+use Rattle.core_run.specs.Runs.{Runs}
+use Rattle.core_run.specs.World.{Links, World, after_rank, after_server, client_of, handle, happens, has_ended, link, pool_of, start, taken}
+use Rattle.core_run.specs.World.{row}
+use Rattle.core_law.specs.Letters.{is_finish, is_request, misfit, one, call_waits}
+use Rattle.core_law.specs.Lines.{AreStamped}
+use Rattle.core_law.specs.Measures.{measure, weigh}
+use Rattle.core_law.specs.Own.{IsClient, IsPool}
+use Rattle.core_law.specs.Well.{IsSquare}
+use Rattle.core_law.proofs.EveryRun.{every_run_well}
+use Rattle.core_law.proofs.Expected.{none_is_stuck}
+use Rattle.core_law.proofs.Fifo.{post_other}
+use Rattle.core_law.proofs.InLine.{every_run_in_line}
+use Rattle.core_law.proofs.Owed.{finishes_are, letters_are, no_kinds}
+use Rattle.core_law.proofs.Steps.{happens_does, same_config}
+use Rattle.core_world.specs.Applied.{event_answer, event_stamp, front_answer, front_stamp}
+use Rattle.core_inline.specs.Inline.{zeroth}
+use Rattle.core_inline.specs.inside.Pairs.{IsLone, first_server}
+
+abbrev pub by_rank : Actor
+by_rank = by.Rank zeroth
+
+abbrev pub by_server : Actor
+by_server = by.Server first_server
+
+abbrev pub to_server : Event
+to_server = occurs.Deliver by_rank by_server
+
+abbrev pub to_rank : Event
+to_rank = occurs.Deliver by_server by_rank
+
+-- the letters under way to the server, and those to the rank
+abbrev pub asked : World → List Letter
+asked w = link w.links (place_of w.config by_rank) (place_of w.config by_server)
+
+abbrev pub told : World → List Letter
+told w = link w.links (place_of w.config by_server) (place_of w.config by_rank)
+
+-- A world of one rank and one server.
+
+abbrev lone_config : (limit : ℕ) → InRanks 1 → InServers 1 → InLimit limit → Config
+lone_config limit a b d =
+    record { ranks = 1; servers = 1; limit = limit; ranks_within = a; servers_within = b; limit_within = d }
+
+abbrev lone : Config → ClientModel → ServerModel → List Letter → List Letter → List Letter → List Letter → List Entry → World
+lone config c s rr rs sr ss ledger = record {
+  config = config;
+  ranks = c ∷ [];
+  servers = s ∷ [];
+  links = (rr ∷ rs ∷ []) ∷ (sr ∷ ss ∷ []) ∷ [];
+  ledger = ledger;
+}
+
+-- what holds of each configuration with these numbers holds of this one
+by_config : (P : Config → Type 0)
+    → ((limit : ℕ) (a : InRanks 1) (b : InServers 1) (d : InLimit limit) → P (lone_config limit a b d))
+    → (config : Config) → config.ranks ≡ 1 → config.servers ≡ 1 → P config
+by_config P each config one_rank one_server =
+    subst (λ (n : ℕ). (a : InRanks n) → P (record config { ranks = n; ranks_within = a })) (sym one_rank)
+    (λ a. subst (λ (n : ℕ). (b : InServers n) → P (record config { ranks = 1; ranks_within = a; servers = n; servers_within = b }))
+    (sym one_server) (λ b. each config.limit a b config.limit_within) config.servers_within) config.ranks_within
+
+pub one_of : {X : Type 0} (xs : List X) → length xs ≡ 1 → (x : X) × (xs ≡ x ∷ [])
+one_of [] single = absurd (omega (arith, single))
+one_of (x ∷ []) single = (x, refl)
+one_of (x ∷ y ∷ xs) single = absurd (omega (arith, single))
+
+two_of : {X : Type 0} (xs : List X) → length xs ≡ 2 → (x y : X) × (xs ≡ x ∷ y ∷ [])
+two_of [] two = absurd (omega (arith, two))
+two_of (x ∷ []) two = absurd (omega (arith, two))
+two_of (x ∷ y ∷ []) two = (x, y, refl)
+two_of (x ∷ y ∷ z ∷ xs) two = absurd (omega (arith, two))
+
+-- so it is of worlds
+by_world : (P : World → Type 0)
+    → ((limit : ℕ) (a : InRanks 1) (b : InServers 1) (d : InLimit limit) (c : ClientModel) (s : ServerModel) (rr rs sr ss : List Letter)
+    (ledger : List Entry) → P (lone (lone_config limit a b d) c s rr rs sr ss ledger))
+    → (w : World) → IsLone w → P w
+by_world P each w l =
+    let shape = (every_run_well w.config l.events w l.run).shape in
+    let square : IsSquare 2 w.links =
+    subst (λ n. IsSquare n w.links) (omega (arith, l.one_rank, l.one_server)) shape.square in
+    let ranks = one_of w.ranks (shape.ranks ∙ l.one_rank) in
+    let servers = one_of w.servers (shape.servers ∙ l.one_server) in
+    let rows = two_of w.links square.rows in
+    let first = two_of rows.0 (ap (λ k. length (row k 0)) (sym rows.2) ∙ square.each 0 (omega arith)) in
+    let second = two_of rows.1 (ap (λ k. length (row k 1)) (sym rows.2) ∙ square.each 1 (omega arith)) in
+    let links = rows.2 ∙ ap (λ x. x ∷ rows.1 ∷ []) first.2 ∙ ap (λ y. (first.0 ∷ first.1 ∷ []) ∷ y ∷ []) second.2 in
+    by_config (λ g. P (record w { config = g }))
+    (λ limit a b d.
+    let made : List ClientModel → List ServerModel → Links → World =
+    λ x y z. record w { config = lone_config limit a b d; ranks = x; servers = y; links = z } in
+    subst P (sym (ap (λ x. made x w.servers w.links) ranks.1 ∙ ap (λ y. made (ranks.0 ∷ []) y w.links) servers.1
+    ∙ ap (made (ranks.0 ∷ []) (servers.0 ∷ [])) links))
+    (each limit a b d ranks.0 servers.0 first.0 first.1 second.0 second.1 w.ledger)) w.config l.one_rank l.one_server
+
+-- What its letters weigh.
+
+nothing : {X : Type 0} (xs : List X) → weigh (λ x. 0) xs ≡ 0
+nothing [] = refl
+nothing (x ∷ xs) = omega (arith, nothing xs)
+
+counted : {X : Type 0} (xs : List X) → weigh (λ x. 1) xs ≡ length xs
+counted [] = refl
+counted (x ∷ xs) = omega (arith, counted xs)
+
+-- each letter of a rank is a request, a Finish, or misplaced
+one_kind : (m : Message) → one (is_request m && true) + one (is_finish m && true) + one (not (is_request m || is_finish m)) ≡ 1
+one_kind tells.Finish = refl
+one_kind _ = refl
+
+each_kind : (letters : List Letter)
+    → weigh (λ l. one (is_request l.message && true)) letters + weigh (λ l. one (is_finish l.message && true)) letters
+    + weigh (λ l. misfit by_rank by_server l.message) letters ≡ length letters
+each_kind [] = refl
+each_kind (l ∷ letters) = omega (arith, one_kind l.message, each_kind letters)
+
+one_true : (t : Bool) → one (t && true) ≡ 1 → t ≡ true
+one_true true is = refl
+one_true false is = absurd (omega (arith, is))
+
+one_false : (t : Bool) → one t ≡ 0 → t ≡ false
+one_false true is = absurd (omega (arith, is))
+one_false false is = refl
+
+stamped_below : (low last : ℕ) (letters : List Letter) → AreStamped low letters last → low ≤ last
+stamped_below low last [] stamped = stamped
+stamped_below low last (l ∷ letters) stamped = omega (arith, stamped.1, stamped_below l.stamp last letters stamped.2)
+
+-- a letter at the front was sent before
+sent_before : (letters rest : List Letter) (letter : Letter) (last : ℕ) → AreStamped 0 letters last → letters ≡ letter ∷ rest
+    → letter.stamp ≤ last
+sent_before letters rest letter last stamped is =
+    let front : AreStamped 0 (letter ∷ rest) last = subst (λ k. AreStamped 0 k last) is stamped in
+    stamped_below letter.stamp last rest front.2
+
+mapped : {X Y : Type 0} (f : X → Y) (o : Option X) (y : Y) → option_map f o ≡ Some y → (x : X) × (o ≡ Some x) × (y ≡ f x)
+mapped f None y e = absurd (cc)
+mapped f (Some x) y e = (x, refl, sym (some_is e))
+
+pub mapped_if : {X Y : Type 0} (t : Bool) (f : X → Y) (o : Option X) (y : Y) → cond t (option_map f o) None ≡ Some y
+    → (x : X) × (o ≡ Some x) × (y ≡ f x)
+mapped_if true f o y e = mapped f o y e
+mapped_if false f o y e = absurd (cc)
+
+mapped_unless : {X Y : Type 0} (t : Bool) (f : X → Y) (o : Option X) (y : Y) → cond t None (option_map f o) ≡ Some y
+    → (x : X) × (o ≡ Some x) × (y ≡ f x)
+mapped_unless true f o y e = absurd (cc)
+mapped_unless false f o y e = mapped f o y e
+
+-- What an event does.
+
+-- the server has handled this letter, and none is under way to it any more
+pub record IsServed (w : World) (letter : Letter) (next : World) : Type 0 where
+  pub x : Served
+  pub does : serve (pool_of w first_server) by_rank letter ≡ Some x
+  pub rank : client_of next zeroth ≡ client_of w zeroth
+  pub pool : pool_of next first_server ≡ x.state
+  pub unasked : asked next ≡ []
+  pub stamp : event_stamp w to_server ≡ next_stamp (pool_of w first_server) letter
+
+-- the rank has heard this letter, and none is under way to it any more
+pub record IsHeard (w : World) (letter : Letter) (next : World) : Type 0 where
+  pub x : Made
+  pub does : hear (client_of w zeroth) first_server letter ≡ Some x
+  pub rank : client_of next zeroth ≡ x.state
+  pub pool : pool_of next first_server ≡ pool_of w first_server
+  pub untold : told next ≡ []
+  pub stamp : event_stamp w to_rank ≡ letter_stamp (client_of w zeroth) letter
+  pub answer : event_answer w to_rank ≡ x.answer
+
+-- the rank has begun a call
+pub record IsCalled (w : World) (call : Call) (x : Made) (next : World) : Type 0 where
+  pub happened : happens w (occurs.Call zeroth call) ≡ Some next
+  pub rank : client_of next zeroth ≡ x.state
+  pub pool : pool_of next first_server ≡ pool_of w first_server
+  pub told : told next ≡ told w
+
+-- What holds of a world of one rank and one server to which a run leads.
+pub record AreFacts (w : World) : Type 0 where
+  -- while nobody waits: one letter for a call that is pending, one of Finish until it is handled, and no others
+  pub letters : (pool_of w first_server).kept.parked.waiting ≡ []
+      → length (asked w) + length (told w) + one (is_finished (pool_of w first_server).kept zeroth)
+      ≡ one (not (is_idle (client_of w zeroth).pending)) + one (client_of w zeroth).finished
+  -- no Finish was handled of a rank that has not finished; and a letter of a rank that waits for nothing is its Finish
+  pub unhandled : (client_of w zeroth).finished ≡ false → is_finished (pool_of w first_server).kept zeroth ≡ false
+  pub farewell : (letter : Letter) (rest : List Letter) → (client_of w zeroth).pending ≡ waits_for.Nothing → asked w ≡ letter ∷ rest
+      → is_finish letter.message ≡ true
+  -- a letter at the front was sent before, and is handled
+  pub asked_before : (letter : Letter) (rest : List Letter) → asked w ≡ letter ∷ rest → letter.stamp ≤ (client_of w zeroth).clock
+  pub told_before : (letter : Letter) (rest : List Letter) → told w ≡ letter ∷ rest → letter.stamp ≤ (pool_of w first_server).clock
+  pub asked_goes : (letter : Letter) (rest : List Letter) → asked w ≡ letter ∷ rest → letter.stamp < stamp_limit
+      → (next : World) × (happens w to_server ≡ Some next)
+  pub told_goes : (letter : Letter) (rest : List Letter) → told w ≡ letter ∷ rest → letter.stamp < stamp_limit
+      → (next : World) × (happens w to_rank ≡ Some next)
+  -- what each event does
+  pub begins : (call : Call) (x : Made) → begin (client_of w zeroth) call ≡ Some x
+      → IsCalled w call x (after_rank w zeroth w.links x)
+  pub serves : (letter : Letter) (next : World) → asked w ≡ letter ∷ [] → happens w to_server ≡ Some next → IsServed w letter next
+  pub hears : (letter : Letter) (next : World) → told w ≡ letter ∷ [] → happens w to_rank ≡ Some next → IsHeard w letter next
+
+pub facts : (w : World) → IsLone w → AreFacts w
+unfolding measure
+facts w l = by_world (λ v. IsLone v → AreFacts v) (λ limit a b d c s rr rs sr ss ledger at.
+    let g = lone_config limit a b d in
+    let v = lone g c s rr rs sr ss ledger in
+    let well = every_run_well g at.events v at.run in
+    let line = every_run_in_line g at.events v at.run in
+    let stuck = none_is_stuck g at.events v at.run in
+    let requests = letters_are v zeroth (omega arith) (well.one zeroth) in
+    let finishes = finishes_are v zeroth first_server (omega arith) (well.finish zeroth first_server (omega arith)) in
+    let kinds = no_kinds v well.kind in
+    record {
+      letters = λ nobody.
+          let waits : weigh (call_waits zeroth 0) s.kept.parked.waiting ≡ 0 = rw nobody refl in
+          omega (arith, requests, finishes, kinds, each_kind rs, counted sr, waits, nothing rr, nothing sr, nothing ss);
+      unhandled = λ going. one_false (is_finished s.kept zeroth)
+          (omega (arith, finishes, nothing rr, nothing sr, nothing ss, ap one going));
+      farewell = λ letter rest idle front.
+          let busy : one (not (is_idle c.pending)) ≡ 0 = rw idle refl in
+          let weights : weigh (λ x. one (is_request x.message && true)) rs ≡ one (is_request letter.message && true)
+          + weigh (λ x. one (is_request x.message && true)) rest = ap (weigh (λ x. one (is_request x.message && true))) front in
+          let misfits : weigh (λ x. misfit by_rank by_server x.message) rs ≡ misfit by_rank by_server letter.message
+          + weigh (λ x. misfit by_rank by_server x.message) rest = ap (weigh (λ x. misfit by_rank by_server x.message)) front in
+          one_true (is_finish letter.message)
+          (omega (arith, requests, kinds, busy, weights, misfits, one_kind letter.message, nothing rr, nothing ss));
+      asked_before = λ letter rest. sent_before rs rest letter c.clock (line by_rank by_server refl refl).stamps;
+      told_before = λ letter rest. sent_before sr rest letter s.clock (line by_server by_rank refl refl).stamps;
+      asked_goes = λ letter rest. stuck by_rank by_server letter rest refl refl;
+      told_goes = λ letter rest. stuck by_server by_rank letter rest refl refl;
+      begins = λ call x gave. record {
+        happened = ap (option_map (after_rank v zeroth v.links)) gave;
+        rank = refl;
+        pool = refl;
+        told = post_other g v.links 0 1 0 x.sends (λ e. absurd (omega (arith, e)));
+      };
+      serves = λ letter next front happened.
+          let went = mapped_unless (has_ended s) (after_server v first_server (taken v by_rank by_server []))
+          (serve s by_rank letter) next (sym (ap (handle v by_rank by_server) front) ∙ happened) in
+          record {
+            x = went.0;
+            does = went.1;
+            rank = ap (λ u. client_of u zeroth) went.2;
+            pool = ap (λ u. pool_of u first_server) went.2;
+            unasked = ap asked went.2
+                ∙ post_other g (taken v by_rank by_server []) 1 0 1 went.0.sends (λ e. absurd (omega (arith, e)));
+            stamp = ap (front_stamp v by_server) front;
+          };
+      hears = λ letter next front happened.
+          let went = mapped (after_rank v zeroth (taken v by_server by_rank [])) (hear c first_server letter) next
+          (sym (ap (handle v by_server by_rank) front) ∙ happened) in
+          record {
+            x = went.0;
+            does = went.1;
+            rank = ap (λ u. client_of u zeroth) went.2;
+            pool = ap (λ u. pool_of u first_server) went.2;
+            untold = ap told went.2
+                ∙ post_other g (taken v by_server by_rank []) 0 1 0 went.0.sends (λ e. absurd (omega (arith, e)));
+            stamp = ap (front_stamp v by_rank) front;
+            answer = ap (front_answer v by_server by_rank) front ∙ ap (option_and_then (λ (x : Made). x.answer)) went.1;
+          };
+    }) w l l
+
+-- Along a run.
+
+run_more : (w middle next : World) (events : List Event) (e : Event) → Runs w events middle → happens middle e ≡ Some next
+    → Runs w (events ++ e ∷ []) next
+run_more w middle next [] e run happened = (next, ap (λ v. happens v e) run ∙ happened, refl)
+run_more w middle next (d ∷ events) e run happened = (run.0, run.1, run_more run.0 middle next events e run.2 happened)
+
+pub config_next : (w next : World) (e : Event) → happens w e ≡ Some next → next.config ≡ w.config
+config_next w next e happened = same_config w next (happens_does w next e happened)
+
+pub lone_next : (w next : World) (e : Event) → IsLone w → happens w e ≡ Some next → IsLone next
+lone_next w next e l happened =
+    let same = config_next w next e happened in
+    record {
+      one_rank = ap (λ (g : Config). g.ranks) same ∙ l.one_rank;
+      one_server = ap (λ (g : Config). g.servers) same ∙ l.one_server;
+      events = l.events ++ e ∷ [];
+      run = subst (λ (g : Config). Runs (start g) (l.events ++ e ∷ []) next) (sym same)
+          (run_more (start w.config) w next l.events e l.run happened);
+    }
+
+-- the numbers of each actor are those of the run
+pub rank_own : (w : World) (l : IsLone w) → IsClient w.config zeroth (client_of w zeroth)
+rank_own w l = (every_run_well w.config l.events w l.run).own.ranks zeroth (omega (arith, l.one_rank))
+
+pub server_own : (w : World) (l : IsLone w) → IsPool w.config first_server (pool_of w first_server)
+server_own w l = (every_run_well w.config l.events w l.run).own.servers first_server (omega (arith, l.one_server))

@@ -1,0 +1,168 @@
+-- What is lawful stays lawful through each act of a server, for all ranks and servers, and so through its event.
+use Rattle.std.proofs.Common.{◌≡◌, ◌≢◌, ◌<◌, ℕ, ◌==◌, Bool, true, false, [], List, Option, None, Some, refl, sym, ap, ◌∙◌, subst}
+use Rattle.std.proofs.lemmas.Bool.{eqb-true}
+use Rattle.adlb_unit.specs.declared.actors.Actor.{Actor}
+use Rattle.adlb_unit.specs.declared.letters.Letter.{Letter}
+use Rattle.adlb_unit.specs.declared.messages.Message.{Message}
+use Rattle.adlb_unit.specs.declared.names.Rank.{Rank}
+use Rattle.adlb_unit.specs.declared.names.Server.{Server}
+use Rattle.bag_ledger.specs.Bag.{Bag, settled, start as empty_bag}
+use Rattle.bag_ledger.specs.Runs.{IsRun}
+use Rattle.bag_ledger.proofs.Legal.{run_joined}
+use Rattle.bag_law.proofs.Sound.{run_is_sound}
+use Rattle.rank_client.specs.Agreement.{holds}
+use Rattle.server_law.specs.Acts.{Accepts, Act, Closes, Ends_keep, Ends_put, Ends_reserve, Fetches, Fetches_part, Finds, Gives, Grants, Keeps, Notes_finish, Parks, Refuses, Refuses_part, Shuts, Tells, entries}
+use Rattle.server_law.specs.Agreement.{ServerAgrees}
+use Rattle.server_law.specs.Carried.{Served, done}
+use Rattle.server_law.specs.Legal.{Needs}
+use Rattle.server_law.specs.State.{ServerModel}
+use Rattle.server_law.specs.Step.{ticked}
+use Rattle.server_law.proofs.Elsewhere.{servers_stay}
+use Rattle.server_law.proofs.OwnEntries.{acts_are_legal}
+use Rattle.core_run.specs.World.{World, client_of, pool_of, rank_named}
+use Rattle.core_law.specs.Acting.{IsAct, acted, ticks}
+use Rattle.core_law.specs.Lawful.{Each, IsLawful, IsSeat, IsWaiting}
+use Rattle.core_law.specs.Others.{tells_of}
+use Rattle.core_law.specs.Well.{IsWell}
+use Rattle.core_law.proofs.Actors.{every_pool}
+use Rattle.core_law.proofs.ActSeats.{about, finish_stays, other_stays, parks_stays}
+use Rattle.core_law.proofs.Bags.{not_kept, of_act, run_facts, run_servers}
+use Rattle.core_law.proofs.Coming.{still_same}
+use Rattle.core_law.proofs.Deciding.{IsDone, Succeeds, accepts_succeeds, ends_put_succeeds, ends_reserve_succeeds, fetches_succeeds, gives_succeeds, grants_succeeds, refuses_succeeds, tells_succeeds, closes_succeeds, ends_keep_succeeds, fetches_part_succeeds, keeps_succeeds, refuses_part_succeeds}
+use Rattle.core_law.proofs.Events.{event_keeps}
+use Rattle.core_law.proofs.Resting.{bag_is_settled}
+use Rattle.core_law.proofs.Seats.{IsMade}
+use Rattle.core_law.proofs.Steps.{Serves}
+use Rattle.core_law.proofs.Well.{inside_servers, own_of}
+
+-- An act.
+
+module _ (w : World) (k : Server) (b : Bag) (well : IsWell w) (l : IsLawful w b) where
+  -- an act that enters nothing
+  unchanged : (a : Act) → entries a (pool_of w k) ≡ [] → Needs a b (pool_of w k).me
+      → ((r : Rank) (coming : Option Message) → about a ≡ Some r → IsMade w k a b b → IsSeat w b r coming → IsSeat (acted w k a) b r coming)
+      → Succeeds w k a b
+  unchanged a none needs stays = record {
+    needs = needs;
+    makes = λ n m.
+        let same : b ≡ n = subst (λ es. IsRun b es n) none m.step in
+        let made = subst (λ (x : Bag). IsMade w k a b x) (sym same) m in
+        subst (λ (x : Bag). IsDone w k a x) same (record {
+          still = l.still;
+          seat = λ r told within. let its = l.seats r within in (its.0, stays r its.0 told made its.1);
+        });
+  }
+
+  succeeds : (a : Act) → IsAct w k a → Succeeds w k a b
+  succeeds (Accepts unit) is = accepts_succeeds w k b well l is.here unit is
+  succeeds (Refuses unit) is = refuses_succeeds w k b well l is.here unit is
+  succeeds (Ends_put unit end) is = ends_put_succeeds w k b well l is.here unit end is
+  succeeds (Grants wish unit) is = grants_succeeds w k b well l is.here wish unit is
+  succeeds (Ends_reserve wish end) is = ends_reserve_succeeds w k b well l is.here wish end is
+  succeeds (Parks wish) is = unchanged (Parks wish) refl tt (λ r coming told m seat. parks_stays w k wish b r coming m seat)
+  succeeds (Fetches rank request id unit) is = fetches_succeeds w k b well l is.here rank request id unit is
+  succeeds (Notes_finish rank) is = unchanged (Notes_finish rank) refl tt (λ r coming told m seat. finish_stays w k rank b r coming m seat)
+  succeeds (Gives at wish rest unit) is = gives_succeeds w k b well l is.here at wish rest unit is
+  succeeds (Tells at wish rest end) is = tells_succeeds w k b well l is.here at wish rest end is
+  succeeds Finds is = record {
+    needs = bag_is_settled w k b well l is;
+    makes = λ n m.
+        let made : n ≡ record b { exhausted = true } = sym m.step.2 ∙ m.step.1.2 in
+        record {
+          still = still_same b n (ap (λ (x : Bag). x.units) made) (ap (λ (x : Bag). x.promises) made) l.still;
+          seat = λ r told within. absurd (cc);
+        };
+  }
+  succeeds (Keeps rank request common) is = keeps_succeeds w k b well l is.here rank request common is
+  succeeds (Refuses_part rank request common) is = refuses_part_succeeds w k b well l is.here rank request common is
+  succeeds (Ends_keep rank request common end) is = ends_keep_succeeds w k b well l is.here rank request common end is
+  succeeds (Closes request batch accepted part) is = closes_succeeds w k b well l is.here request batch accepted part is
+  succeeds (Fetches_part rank request batch part) is = fetches_part_succeeds w k b well l is.here rank request batch part is
+  succeeds Shuts is = unchanged Shuts refl tt (λ r coming told m seat. absurd (cc))
+
+  -- the seats of all ranks after the act
+  seats_next : (a : Act) (n : Bag) → IsMade w k a b n → IsDone w k a n → (r : Rank) → r.0 < w.config.ranks
+      → (now : Option Message) × IsSeat (acted w k a) n r now
+  seats_next a n m d r within = by_about (about a) refl
+    where
+      Now : Type 0
+      Now = (now : Option Message) × IsSeat (acted w k a) n r now
+
+      other : tells_of r (about a) ≡ false → Now
+      other not_told =
+          let its = l.seats r within in
+          let seat = its.1 in
+          let facts = run_facts (entries a (pool_of w k)) b n (holds (client_of w r) its.0) (of_act a (pool_of w k)) m.step seat.facts in
+          (its.0, other_stays w k a b n r its.0 m not_told facts its.1)
+
+      by_test : (q : Rank) → about a ≡ Some q → (t : Bool) → (q.0 == r.0) ≡ t → Now
+      by_test q told true same =
+          let it : q ≡ r = ap rank_named (eqb-true q.0 r.0 same) in
+          d.seat r (told ∙ ap (λ (x : Rank). Some x) it) within
+      by_test q told false differs = other (ap (tells_of r) told ∙ differs)
+
+      by_about : (o : Option Rank) → about a ≡ o → Now
+      by_about None told = other (ap (tells_of r) told)
+      by_about (Some q) told = by_test q told (q.0 == r.0) refl
+
+  pub act_lawful : (a : Act) → IsAct w k a → (n : Bag) × IsLawful (acted w k a) n
+  act_lawful a is =
+      let s = pool_of w k in
+      let it = succeeds a is in
+      let legal = acts_are_legal b s a (l.pools k is.here) l.rests is.sits is.sure it.needs in
+      let n = legal.0 in
+      let m : IsMade w k a b n = record { shape = well.shape; is = is; own = own_of w k a well is; run = l.run; step = legal.1 } in
+      let d = it.makes n m in
+      let sound = run_is_sound settled w.config w.ledger b l.run in
+      let mine = well.own.servers k is.here in
+      let agrees = l.pools k is.here in (
+        n,
+        record {
+          run = run_joined (empty_bag w.config) b n w.ledger (entries a s) l.run legal.1;
+          rests = legal.3;
+          still = d.still;
+          seats = seats_next a n m d;
+          pools = every_pool (λ t x. ServerAgrees n x) w k (done a s) (inside_servers w k well is.here) legal.2 (λ t there differs.
+              let yours = well.own.servers t there in
+              let apart : s.me ≢ (pool_of w t).me = λ e. differs (ap (λ (x : Server). x.0) (sym yours.me ∙ sym e ∙ mine.me)) in
+              let others = not_kept a s (pool_of w t).me is.sure agrees.within apart in
+              run_servers servers_stay (entries a s) b n (pool_of w t) others sound legal.1 (l.pools t there));
+        },
+      )
+
+-- The stamp of an event.
+
+pub tick_lawful : (w : World) (k : Server) (stamp : ℕ) (b : Bag) → k.0 < w.config.servers → IsWell w → IsLawful w b
+    → IsLawful (ticks w k stamp) b
+tick_lawful w k stamp b here well l =
+    let s = pool_of w k in
+    let inside = inside_servers w k well here in
+    let m = l.pools k here in
+    record {
+      run = l.run;
+      rests = l.rests;
+      still = l.still;
+      seats = λ r within.
+          let its = l.seats r within in
+          let seat = its.1 in
+          let P : ServerModel → Type 0 = λ x. Each (IsWaiting (client_of w r) its.0) x.kept.parked.waiting in (
+            its.0,
+            record {
+              named = seat.named;
+              stands = seat.stands;
+              letters = seat.letters;
+              waits = every_pool (λ t x. P x) w k (ticked s stamp) inside (seat.waits k here) (λ t there differs. seat.waits t there);
+              said = seat.said;
+              facts = seat.facts;
+            },
+          );
+      pools = every_pool (λ t x. ServerAgrees b x) w k (ticked s stamp) inside m (λ t there differs. l.pools t there);
+    }
+
+-- An event of a server.
+pub event_lawful : (w next : World) (from : Actor) (me : Server) (letter : Letter) (rest : List Letter) (x : Served) (b : Bag) → IsWell w
+    → IsLawful w b
+    → Serves w from me letter rest x next → (n : Bag) × IsLawful next n
+event_lawful w next from me letter rest x b well l does =
+    event_keeps (λ v. (n : Bag) × IsLawful v n) (λ v k stamp here own was. (was.0, tick_lawful v k stamp was.0 here own was.1))
+    (λ v k a own is was. act_lawful v k was.0 own was.1 a is) w next from me letter rest x well does (b, l)

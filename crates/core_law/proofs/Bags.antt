@@ -1,0 +1,125 @@
+-- What the entries of acts leave of the bag: the facts of notes stay, and so does each other server's agreement.
+use Rattle.std.proofs.Common.{◌≡◌, ◌≢◌, ◌<◌, Bool, true, false, cond, List, [], ◌∷◌, ◌++◌, Some, refl, sym, ap, ◌∙◌, subst, arith}
+use Rattle.std.specs.Prelude.{All}
+use Rattle.adlb_unit.specs.declared.names.Server.{Server}
+use Rattle.adlb_unit.specs.declared.notes.UnitNote.{UnitNote}
+use Rattle.bag_ledger.specs.Bag.{Bag, settled}
+use Rattle.bag_ledger.specs.Runs.{IsRun}
+use Rattle.bag_ledger.specs.Steps.{Steps, after, moved}
+use Rattle.bag_ledger.specs.declared.entries.Entry.{Entry}
+use Rattle.bag_ledger.specs.declared.entries.Entry.TheVariants as enters
+use Rattle.bag_ledger.specs.declared.states.UnitPlace.TheVariants.{Pinned, Spent}
+use Rattle.bag_ledger.proofs.Tests.{some_is}
+use Rattle.bag_law.proofs.Plain.{accepted_is, kept_is, lodged}
+use Rattle.bag_law.proofs.Sound.{step_keeps_sound}
+use Rattle.bag_law.specs.Sound.{IsSoundBag}
+use Rattle.adlb_unit.specs.declared.names.BatchId.{BatchId}
+use Rattle.batch_store.specs.Store.{closed, fetched, is_due}
+use Rattle.batch_store.specs.declared.parts.Part.{Part}
+use Rattle.server_law.specs.Acts.{Act, Accepts, Closes, Fetches, Fetches_part, Finds, Gives, Grants, Keeps, Notes_finish, Parks, Shuts, entries, frees}
+use Rattle.server_law.specs.Agreement.{ServerAgrees}
+use Rattle.server_law.specs.Legal.{ServersStay, keeper}
+use Rattle.server_law.specs.State.{ServerModel}
+use Rattle.server_law.specs.Sure.{Sure}
+use Rattle.core_law.specs.Lawful.{Each, IsFact}
+use Rattle.core_law.proofs.RankSteps.{sound_after}
+use Rattle.core_law.proofs.Gone.{facts_added, facts_moved, facts_same}
+
+-- the entries that acts make
+abbrev pub is_of_act : Entry → Bool
+is_of_act (enters.Refused server id used) = true
+is_of_act (enters.Accepted server id) = true
+is_of_act (enters.Granted server rank call id) = true
+is_of_act (enters.Fetched server rank id) = true
+is_of_act (enters.Kept server batch) = true
+is_of_act (enters.Closed server batch) = true
+is_of_act (enters.CommonFetched server rank batch) = true
+is_of_act (enters.Freed server batch) = true
+is_of_act enters.Exhausted = true
+is_of_act (enters.Over rank call end) = true
+is_of_act _ = false
+
+abbrev pub AreOfActs : List Entry → Type 0
+AreOfActs es = Each (λ e. is_of_act e ≡ true) es
+
+frees_of_act : (k : Server) (batch : BatchId) (part : Part) → AreOfActs (frees k batch part)
+frees_of_act k batch part = by_due (is_due part)
+  where
+    by_due : (t : Bool) → AreOfActs (cond t (enters.Freed k batch ∷ []) [])
+    by_due true = (refl, tt)
+    by_due false = tt
+
+pub of_act : (a : Act) (s : ServerModel) → AreOfActs (entries a s)
+of_act (Parks wish) s = tt
+of_act (Notes_finish rank) s = tt
+of_act Shuts s = tt
+of_act (Closes request batch accepted part) s = (refl, frees_of_act s.me batch (closed accepted part))
+of_act (Fetches_part rank request batch part) s = (refl, frees_of_act s.me batch (fetched part))
+of_act _ s = (refl, tt)
+
+frees_kept : (k other : Server) (batch : BatchId) (part : Part) → k ≢ other → Each (λ e. keeper e ≢ Some other) (frees k batch part)
+frees_kept k other batch part differs = by_due (is_due part)
+  where
+    by_due : (t : Bool) → Each (λ e. keeper e ≢ Some other) (cond t (enters.Freed k batch ∷ []) [])
+    by_due true = ((λ is. differs (some_is is)), tt)
+    by_due false = tt
+
+-- its keeper is the server that acts, if there is one
+pub not_kept : (a : Act) (s : ServerModel) (other : Server) → Sure a s → s.me.0 < s.config.servers → s.me ≢ other
+    → Each (λ e. keeper e ≢ Some other) (entries a s)
+not_kept (Accepts unit) s other sure within differs = ((λ is. differs (some_is is)), tt)
+not_kept (Grants wish unit) s other sure within differs = ((λ is. differs (some_is is)), tt)
+not_kept (Fetches rank request id unit) s other sure within differs = ((λ is. differs (some_is is)), tt)
+not_kept (Gives at wish rest unit) s other sure within differs = ((λ is. differs (some_is is)), tt)
+not_kept Finds s other sure within differs =
+    let alone = sure.alone in
+    let zeroth : s.me.0 ≡ 0 = omega arith in
+    let me : record { 0 = 0 } ≡ s.me = ap (λ n. record { 0 = n }) (sym zeroth) in
+    ((λ is. differs (sym me ∙ some_is is)), tt)
+not_kept (Keeps rank request common) s other sure within differs = ((λ is. differs (some_is is)), tt)
+not_kept (Closes request batch accepted part) s other sure within differs =
+    ((λ is. differs (some_is is)), frees_kept s.me other batch (closed accepted part) differs)
+not_kept (Fetches_part rank request batch part) s other sure within differs =
+    ((λ is. differs (some_is is)), frees_kept s.me other batch (fetched part) differs)
+not_kept (Parks wish) s other sure within differs = tt
+not_kept (Notes_finish rank) s other sure within differs = tt
+not_kept Shuts s other sure within differs = tt
+not_kept _ s other sure within differs = ((λ is. absurd (cc)), tt)
+
+-- One entry.
+
+facts_after : (b n : Bag) (e : Entry) (notes : List UnitNote) → is_of_act e ≡ true → Steps b e n → All (IsFact b) notes
+    → All (IsFact n) notes
+facts_after b n (enters.Refused server id used) notes is step facts = facts_same b n notes (ap (λ (x : Bag). x.units) step.2) facts
+facts_after b n (enters.Accepted server id) notes is step facts =
+    let a = accepted_is b server id step.1 in
+    let u = lodged server a.u in
+    let more = facts_added b u notes facts in
+    facts_same (record b { units = b.units ++ u ∷ [] }) n notes (ap (λ (x : Bag). x.units) step.2 ∙ a.units) more
+facts_after b n (enters.Granted server rank call id) notes is step facts =
+    let pinned = Pinned server rank in
+    facts_same (moved id pinned b) n notes (ap (λ (x : Bag). x.units) step.2) (facts_moved b id pinned notes facts)
+facts_after b n (enters.Fetched server rank id) notes is step facts =
+    facts_same (moved id Spent b) n notes (ap (λ (x : Bag). x.units) step.2) (facts_moved b id Spent notes facts)
+facts_after b n (enters.Kept server batch) notes is step facts =
+    facts_same b n notes (ap (λ (x : Bag). x.units) (step.2 ∙ kept_is b server batch step.1)) facts
+facts_after b n (enters.Closed server batch) notes is step facts = facts_same b n notes (ap (λ (x : Bag). x.units) step.2) facts
+facts_after b n (enters.CommonFetched server rank batch) notes is step facts = facts_same b n notes (ap (λ (x : Bag). x.units) step.2) facts
+facts_after b n (enters.Freed server batch) notes is step facts = facts_same b n notes (ap (λ (x : Bag). x.units) step.2) facts
+facts_after b n enters.Exhausted notes is step facts = facts_same b n notes (ap (λ (x : Bag). x.units) step.2) facts
+facts_after b n (enters.Over rank call end) notes is step facts = facts_same b n notes (ap (λ (x : Bag). x.units) step.2) facts
+facts_after b n _ notes is step facts = absurd (cc)
+
+-- All entries of an act.
+
+pub run_facts : (es : List Entry) (b n : Bag) (notes : List UnitNote) → AreOfActs es → IsRun b es n → All (IsFact b) notes
+    → All (IsFact n) notes
+run_facts [] b n notes are run facts = subst (λ (x : Bag). All (IsFact x) notes) run facts
+run_facts (e ∷ es) b n notes are run facts = run_facts es run.0 n notes are.1 run.2 (facts_after b run.0 e notes are.0 run.1 facts)
+
+pub run_servers : ServersStay → (es : List Entry) (b n : Bag) (t : ServerModel) → Each (λ e. keeper e ≢ Some t.me) es → IsSoundBag b
+    → IsRun b es n
+    → ServerAgrees b t → ServerAgrees n t
+run_servers stay [] b n t others sound run agrees = subst (λ (x : Bag). ServerAgrees x t) run agrees
+run_servers stay (e ∷ es) b n t others sound run agrees =
+    run_servers stay es run.0 n t others.1 (sound_after b run.0 e sound run.1) run.2 (stay b run.0 e t sound run.1 others.0 agrees)

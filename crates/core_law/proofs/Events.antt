@@ -1,0 +1,111 @@
+-- What the stamp of an event and each act keep is kept by each event of a server.
+use Rattle.std.proofs.Common.{◌≡◌, ◌<◌, ℕ, Bool, true, false, cond, ◌&&◌, List, [], ◌∷◌, length, Option, None, Some, refl, sym, ap, ◌∙◌, subst, arith}
+use Rattle.std.specs.Option.{option_map}
+use Rattle.std.specs.Prelude.{nat_lt}
+use Rattle.std.proofs.lemmas.List.{get_or-set_same, length-set}
+use Rattle.adlb_unit.specs.Limits.{stamp_limit}
+use Rattle.adlb_unit.specs.Links.{is_within}
+use Rattle.adlb_unit.specs.declared.actors.Actor.{Actor}
+use Rattle.adlb_unit.specs.declared.actors.Actor.TheVariants as by
+use Rattle.adlb_unit.specs.declared.letters.Letter.{Letter}
+use Rattle.adlb_unit.specs.declared.names.Server.{Server}
+use Rattle.bag_ledger.proofs.Tests.{some_is}
+use Rattle.server_law.specs.Acts.{Act, Heard}
+use Rattle.server_law.specs.Carried.{Served, carried, done}
+use Rattle.server_law.specs.State.{ServerModel, start as new_pool}
+use Rattle.server_law.specs.Step.{acts, next_stamp, ticked}
+use Rattle.server_law.proofs.Handled.{acts_handle}
+use Rattle.server_law.specs.Sure.{AreSure, HandledBy, Sure, SitsIn, TakeNone}
+use Rattle.core_run.specs.World.{World, after_server, pool_of, taken}
+use Rattle.core_law.specs.Acting.{AreActs, AreFront, IsAct, acted, acted_all, ticks}
+use Rattle.core_law.specs.Well.{IsWell}
+use Rattle.core_law.proofs.Acts.{acts_keep}
+use Rattle.core_law.proofs.Chains.{event_is_acts, inside_after, pool_is}
+use Rattle.core_law.proofs.Steps.{Serves}
+use Rattle.core_law.proofs.Well.{act_well, inside_servers, tick_well}
+
+-- acts that are sure, and take nothing, are acts of the world
+quiet_acts : (w : World) (me : Server) (s : ServerModel) (list : List Act) → me.0 < w.config.servers → me.0 < length w.servers
+    → pool_of w me ≡ s → TakeNone list → AreSure list s → AreActs w me list
+quiet_acts w me s [] here inside pool none sure = tt
+quiet_acts w me s (a ∷ more) here inside pool none sure = (
+  record {
+    here = here;
+    front = subst (λ (heard : List Heard). AreFront w.config me w.links heard) (sym none.0) tt;
+    sits = subst (SitsIn a) (sym pool) sure.0;
+    sure = subst (Sure a) (sym pool) sure.1;
+  },
+  quiet_acts (acted w me a) me (done a s) more here (inside_after w me a inside) (pool_is w me a inside ∙ ap (done a) pool) none.1
+      sure.2,
+)
+
+-- an event is a chain of acts
+pub record IsChain (w next : World) (me : Server) (stamp : ℕ) : Type 0 where
+  pub list : List Act
+  pub are : AreActs (ticks w me stamp) me list
+  pub is : next ≡ acted_all (ticks w me stamp) me list
+
+handled_chain : (w next : World) (from : Actor) (me : Server) (letter : Letter) (rest : List Letter) (x : Served) (list : List Act)
+    → me.0 < length w.servers → Serves w from me letter rest x next
+    → carried list (ticked (pool_of w me) (next_stamp (pool_of w me) letter)) ≡ x
+    → HandledBy from letter.message list (ticked (pool_of w me) (next_stamp (pool_of w me) letter))
+    → IsChain w next me (next_stamp (pool_of w me) letter)
+handled_chain w next from me letter rest x list inside does makes h =
+    let stamp = next_stamp (pool_of w me) letter in
+    let s = ticked (pool_of w me) stamp in
+    let v = ticks w me stamp in
+    let pool : pool_of v me ≡ s = get_or-set_same w.servers me.0 s (new_pool w.config me) inside in
+    let within : me.0 < length v.servers = let e = length-set w.servers me.0 s in omega arith in
+    let a = h.first in
+    let act : IsAct v me a = record {
+      here = does.here;
+      front = subst (λ (heard : List Heard). AreFront v.config me v.links heard) (sym h.takes)
+          (letter, rest, does.there, does.front, refl, tt);
+      sits = subst (SitsIn a) (sym pool) h.sure.0;
+      sure = subst (Sure a) (sym pool) h.sure.1;
+    } in
+    let later = quiet_acts (acted v me a) me (done a s) h.more does.here (inside_after v me a within)
+    (pool_is v me a within ∙ ap (done a) pool) h.follow h.sure.2 in
+    let chain = event_is_acts w from me letter rest stamp a h.more inside does.front h.takes h.follow in
+    let is : next ≡ after_server w me (taken w from (by.Server me) rest) (carried (a ∷ h.more) s) =
+    does.is ∙ ap (after_server w me (taken w from (by.Server me) rest)) (sym makes ∙ ap (λ l. carried l s) h.are) in
+    record { list = a ∷ h.more; are = (act, later); is = is ∙ chain }
+
+pub event_chain : (w next : World) (from : Actor) (me : Server) (letter : Letter) (rest : List Letter) (x : Served)
+    → me.0 < length w.servers → Serves w from me letter rest x next → IsChain w next me (next_stamp (pool_of w me) letter)
+event_chain w next from me letter rest x inside does =
+    by_test (is_within (pool_of w me).config from && nat_lt letter.stamp stamp_limit) does.does
+  where
+    s : ServerModel
+    s = ticked (pool_of w me) (next_stamp (pool_of w me) letter)
+
+    by_acts : (o : Option (List Act)) → acts s from letter.message ≡ o → option_map (λ list. carried list s) o ≡ Some x
+        → IsChain w next me (next_stamp (pool_of w me) letter)
+    by_acts None is e = absurd (cc)
+    by_acts (Some list) is e =
+        handled_chain w next from me letter rest x list inside does (some_is e) (acts_handle s from letter.message list is)
+
+    by_test : (t : Bool) → cond t (option_map (λ list. carried list s) (acts s from letter.message)) None ≡ Some x
+        → IsChain w next me (next_stamp (pool_of w me) letter)
+    by_test true e = by_acts (acts s from letter.message) refl e
+    by_test false e = absurd (cc)
+
+-- what a stamp and each act keep in worlds that are well
+pub event_keeps : (J : World → Type 0)
+    → ((w : World) (me : Server) (stamp : ℕ) → me.0 < w.config.servers → IsWell w → J w → J (ticks w me stamp))
+    → ((w : World) (me : Server) (a : Act) → IsWell w → IsAct w me a → J w → J (acted w me a))
+    → (w next : World) (from : Actor) (me : Server) (letter : Letter) (rest : List Letter) (x : Served) → IsWell w
+    → Serves w from me letter rest x next → J w → J next
+event_keeps J tick step w next from me letter rest x well does holds =
+    let stamp = next_stamp (pool_of w me) letter in
+    let chain = event_chain w next from me letter rest x (inside_servers w me well does.here) does in
+    let all = acts_keep (λ v. IsWell v × J v) me (λ v a is both. (act_well v me a both.0 is, step v me a both.0 is both.1))
+    (ticks w me stamp) chain.list chain.are
+    (tick_well w me stamp does.here well, tick w me stamp does.here well holds) in
+    subst J (sym chain.is) all.1
+
+pub event_well : (w next : World) (from : Actor) (me : Server) (letter : Letter) (rest : List Letter) (x : Served) → IsWell w
+    → Serves w from me letter rest x next → IsWell next
+event_well w next from me letter rest x well does =
+    event_keeps IsWell (λ v k stamp here own was. tick_well v k stamp here was) (λ v k a own is was. act_well v k a was is) w next
+    from me letter rest x well does well

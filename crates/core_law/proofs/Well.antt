@@ -1,0 +1,98 @@
+-- What holds of letters and of each actor alone is kept by each act of a server, and by the stamp of an event.
+use Rattle.std.proofs.Common.{◌≡◌, ◌<◌, ℕ, length, ◌∙◌, arith}
+use Rattle.std.proofs.lemmas.List.{length-set}
+use Rattle.adlb_unit.specs.declared.configs.Config.{Config}
+use Rattle.adlb_unit.specs.declared.names.Server.{Server}
+use Rattle.server_law.specs.Acts.{Act, takes}
+use Rattle.server_law.specs.Carried.{done}
+use Rattle.server_law.specs.State.{Kept, ServerModel, start as new_pool}
+use Rattle.server_law.specs.Step.{ticked}
+use Rattle.core_run.specs.World.{World, pool_of}
+use Rattle.core_law.specs.Acting.{IsAct, IsOwn, acted, ticks}
+use Rattle.core_law.specs.Letters.{finishes, kinds, numbered, one_letter}
+use Rattle.core_law.specs.Measures.{Balance, IsBalanced, IsEven, Weights, due, measure, server_weight, weigh_at, weights}
+use Rattle.core_law.specs.Own.{IsPool}
+use Rattle.core_law.specs.Well.{IsWell}
+use Rattle.core_law.proofs.Actors.{every_pool}
+use Rattle.core_law.proofs.Acts.{balance_kept, shape_kept}
+use Rattle.core_law.proofs.Finishing.{finish_act}
+use Rattle.core_law.proofs.Balances.{calls_even, kinds_act, numbers_even}
+use Rattle.core_law.proofs.Own.{are_come, is_first, pool_kept, said_within}
+use Rattle.core_law.proofs.Sums.{weigh_at-set}
+use Rattle.core_law.proofs.Waits.{even_keeps}
+
+pub inside_servers : (w : World) (me : Server) → IsWell w → me.0 < w.config.servers → me.0 < length w.servers
+inside_servers w me well here = let e = (well.shape).servers in omega arith
+
+-- An act.
+
+pub own_of : (w : World) (me : Server) (a : Act) → IsWell w → IsAct w me a → IsOwn w me a
+own_of w me a well is =
+    let pool = well.own.servers me is.here in
+    record {
+      config = pool.config;
+      named = pool.me;
+      said = said_within w.config me a (pool_of w me) pool (are_come w.config me w.links (takes a) is.front) is.sits;
+    }
+
+pub act_well : (w : World) (me : Server) (a : Act) → IsWell w → IsAct w me a → IsWell (acted w me a)
+act_well w me a well is =
+    let s = pool_of w me in
+    let pool = well.own.servers me is.here in
+    let come = are_come w.config me w.links (takes a) is.front in
+    let own = own_of w me a well is in
+    let even : (b : Balance) → IsEven b a s → IsBalanced (weights b) w → IsBalanced (weights b) (acted w me a) =
+    λ b e was. balance_kept (weights b) w me a well.shape is own (even_keeps b a s is.sits e) was in
+    record {
+      shape = shape_kept w me a well.shape is own.said;
+      own = record {
+        ranks = well.own.ranks;
+        servers =
+            every_pool (IsPool w.config) w me (done a s) (inside_servers w me well is.here)
+            (pool_kept w.config me a s pool come is.sits is.sure)
+            (λ t there differs. well.own.servers t there);
+      };
+      kind = balance_kept kinds w me a well.shape is own (kinds_act a s) well.kind;
+      one = λ rank. even (one_letter rank) (calls_even rank a s) (well.one rank);
+      finish = λ rank server there. balance_kept (finishes rank server) w me a well.shape is own
+          (finish_act w.config rank server a s (is_first w.config me a s pool come is.sure)) (well.finish rank server there);
+      number = λ rank next. even (numbered rank next) (numbers_even rank next a s) (well.number rank next);
+    }
+
+-- The stamp.
+
+same_sum : (f : ℕ → Kept → ℕ) (w : World) (me : Server) (stamp : ℕ) → me.0 < length w.servers
+    → weigh_at (server_weight f) (ticks w me stamp).servers ≡ weigh_at (server_weight f) w.servers
+same_sum f w me stamp here =
+    let h = weigh_at-set (server_weight f) w.servers me.0 (ticked (pool_of w me) stamp) (new_pool w.config me) here in omega arith
+
+tick_balance : (m : Weights) (w : World) (me : Server) (stamp : ℕ) → me.0 < length w.servers → IsBalanced m w
+    → IsBalanced m (ticks w me stamp)
+unfolding measure due
+tick_balance m w me stamp here even =
+    let a = same_sum m.server w me stamp here in
+    let b = same_sum m.server_due w me stamp here in
+    let e = even.same in
+    record { same = omega arith }
+
+tick_pool : (config : Config) (me : Server) (s : ServerModel) (stamp : ℕ) → IsPool config me s → IsPool config me (ticked s stamp)
+tick_pool config me s stamp own = record { config = own.config; me = own.me; finished = own.finished; waiting = own.waiting }
+
+pub tick_well : (w : World) (me : Server) (stamp : ℕ) → me.0 < w.config.servers → IsWell w → IsWell (ticks w me stamp)
+tick_well w me stamp here well =
+    let inside = inside_servers w me well here in
+    let shape = well.shape in
+    let s = ticked (pool_of w me) stamp in
+    record {
+      shape = record { ranks = shape.ranks; servers = length-set w.servers me.0 s ∙ shape.servers; square = shape.square };
+      own = record {
+        ranks = well.own.ranks;
+        servers =
+            every_pool (IsPool w.config) w me s inside (tick_pool w.config me (pool_of w me) stamp (well.own.servers me here))
+            (λ t there differs. well.own.servers t there);
+      };
+      kind = tick_balance kinds w me stamp inside well.kind;
+      one = λ rank. tick_balance (weights (one_letter rank)) w me stamp inside (well.one rank);
+      finish = λ rank server there. tick_balance (finishes rank server) w me stamp inside (well.finish rank server there);
+      number = λ rank next. tick_balance (weights (numbered rank next)) w me stamp inside (well.number rank next);
+    }

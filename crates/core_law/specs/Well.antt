@@ -1,0 +1,26 @@
+-- What holds of letters and of each actor's own state at every moment of a run, and between the acts of an event.
+use Rattle.std.specs.Prelude.{◌≡◌, ◌<◌, ℕ, length}
+use Rattle.adlb_unit.specs.declared.names.Rank.{Rank}
+use Rattle.adlb_unit.specs.declared.names.Server.{Server}
+use Rattle.core_run.specs.World.{Links, World, actors, row}
+use Rattle.core_law.specs.Letters.{finishes, kinds, numbered, one_letter}
+use Rattle.core_law.specs.Measures.{IsBalanced, weights}
+use Rattle.core_law.specs.Own.{AreOwn}
+
+-- so many rows of so many lists
+pub record IsSquare (n : ℕ) (links : Links) : Type 0 where
+  pub rows : length links ≡ n
+  pub each : (a : ℕ) → a < n → length (row links a) ≡ n
+
+pub record IsShaped (w : World) : Type 0 where
+  pub ranks : length w.ranks ≡ w.config.ranks
+  pub servers : length w.servers ≡ w.config.servers
+  pub square : IsSquare (actors w.config) w.links
+
+pub record IsWell (w : World) : Type 0 where
+  pub shape : IsShaped w
+  pub own : AreOwn w
+  pub kind : IsBalanced kinds w
+  pub one : (rank : Rank) → IsBalanced (weights (one_letter rank)) w
+  pub finish : (rank : Rank) (server : Server) → server.0 < w.config.servers → IsBalanced (finishes rank server) w
+  pub number : (rank : Rank) (next : ℕ) → IsBalanced (weights (numbered rank next)) w
