@@ -1,0 +1,3 @@
+pub mod Holding
+mod Rows
+pub mod Saying

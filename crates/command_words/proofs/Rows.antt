@@ -1,0 +1,53 @@
+-- What lists of words say, by computation.
+use Rattle.std.proofs.Common.{◌≡◌, ◌∷◌, [], None, Some, codes, false, refl, true}
+use Rattle.clap.proofs.OnLiterals.{clap_on_literals}
+use Rattle.command_words.specs.Said.{command_of, default_run}
+use Rattle.command_words.specs.declared.commands.Command.TheVariants.{Check, Drill, Make, Solve}
+
+no_word : command_of [] ≡ None
+no_word = refl
+
+unknown : command_of (codes "frob" ∷ []) ≡ None
+unknown = refl
+
+defaults : command_of (codes "solve" ∷ []) ≡ Some (Solve (record { options = default_run; stats = false; ledger = false }))
+unfolding clap_on_literals
+defaults = refl
+
+each_option : command_of (codes "solve" ∷ codes "--limit" ∷ codes "64" ∷ codes "--grain=1" ∷ codes "--stats" ∷ codes "--inline" ∷ [])
+    ≡ Some (Solve (record { options = record default_run { limit = 64; grain = 1; inline = true }; stats = true; ledger = false }))
+unfolding clap_on_literals
+each_option = refl
+
+below : command_of (codes "solve" ∷ codes "--limit=63" ∷ []) ≡ None
+unfolding clap_on_literals
+below = refl
+
+twice : command_of (codes "solve" ∷ codes "--grain=2" ∷ codes "--grain=2" ∷ []) ≡ None
+unfolding clap_on_literals
+twice = refl
+
+no_option : command_of (codes "solve" ∷ codes "--help" ∷ []) ≡ None
+unfolding clap_on_literals
+no_option = refl
+
+check : command_of (codes "check" ∷ []) ≡ Some Check
+unfolding clap_on_literals
+check = refl
+
+leftover : command_of (codes "check" ∷ codes "x" ∷ []) ≡ None
+unfolding clap_on_literals
+leftover = refl
+
+make : command_of (codes "make" ∷ codes "8" ∷ codes "1" ∷ []) ≡ Some (Make 8 1)
+unfolding clap_on_literals
+make = refl
+
+missing : command_of (codes "make" ∷ codes "8" ∷ []) ≡ None
+unfolding clap_on_literals
+missing = refl
+
+between : command_of (codes "drill" ∷ codes "+3" ∷ codes "--budget" ∷ codes "100" ∷ codes "004" ∷ [])
+    ≡ Some (Drill 3 4 (record default_run { budget = 100 }))
+unfolding clap_on_literals
+between = refl

@@ -1,0 +1,67 @@
+-- From what a parse found to what the words say.
+use Rattle.std.proofs.Common.{◌≡◌, ◌≢◌, ℕ, Bool, List, [], ◌∷◌, Option, Some, None, sym, subst, true, false, refl}
+use Rattle.std.specs.Str.Parse.{ParsesBool, ParsesUnsigned, digits_value, without_leading_plus}
+use Rattle.std.specs.Prelude.{Err, Ok, Result, codes, unwrap_or}
+use Rattle.std.specs.Str.{bytes_eq}
+use Rattle.std.proofs.lemmas.Slice.Eq.{bytes_eq-Decides}
+use Rattle.clap.specs.Words.{App, IsUnsignedIn, Kinds, ReadsOne, Row, Text, fault_of, matches_of, one_of}
+use Rattle.command_words.specs.Inside.{HoldsIn, IsFound}
+use Rattle.command_words.specs.Said.{flag_of, number_of, read_by, unless}
+use Rattle.command_words.specs.declared.commands.Command.{Command}
+use Rattle.command_words.specs.declared.commands.WordsFault.{WordsFault}
+use Rattle.command_words.specs.declared.commands.WordsFault.TheVariants.{Usage}
+
+-- words without a fault say what their rows say
+pub found_says : (app : App) (says : List Row → Command) (words : List Text) (rows : List Row) → IsFound app words rows
+    → read_by app says words ≡ Some (says rows)
+found_says app says words rows found = rw (found.fault, found.rows) refl
+
+-- words with a fault say nothing
+pub faults_say_nothing : (app : App) (says : List Row → Command) (words : List Text) → fault_of app words ≢ []
+    → read_by app says words ≡ None
+faults_say_nothing app says words some = go (fault_of app words) refl
+  where
+    go : (kinds : Kinds) → fault_of app words ≡ kinds → unless kinds (says (matches_of app words)) ≡ None
+    go [] none = absurd (some none)
+    go (kind ∷ kinds) is = refl
+
+pub refused_says_nothing : (app given : App) (says : List Row → Command) (words : List Text) (fault : WordsFault) → given ≡ app
+    → (fault ≡ Usage → fault_of given words ≢ []) → fault ≡ Usage → read_by app says words ≡ None
+refused_says_nothing app given says words fault same refused usage =
+    faults_say_nothing app says words (subst (λ (a : App). fault_of a words ≢ []) same (refused usage))
+
+-- what `get_one` reads as a `u64` under a name, or the default
+pub number_is : {E : Type 0} (G : Text → Result ℕ E → Type 0) (name : Text) (low high default : ℕ) (rows : List Row) (o : Option ℕ)
+    → HoldsIn name low high rows → (one_of name rows ≡ None → o ≡ None) → ((t : Text) → one_of name rows ≡ Some t → ReadsOne G t o)
+    → ((t : Text) (r : Result ℕ E) → G t r → ParsesUnsigned 64 10 t r)
+    → unwrap_or o default ≡ number_of name default rows
+number_is {E} G name low high default rows o holds absent reads parses = go (one_of name rows) refl
+  where
+    read : (t : Text) → IsUnsignedIn low high t → (q : Option ℕ) → ReadsOne G t q → unwrap_or q default ≡ digits_value 10 (without_leading_plus t)
+    read t h (Some n) gives = (parses t (Ok n) gives).1
+    read t h None gives = absurd (parses t (Err gives.0) gives.1 (h.0, h.1))
+
+    go : (one : Option Text) → one_of name rows ≡ one → unwrap_or o default ≡ number_of name default rows
+    go None is = rw (is, absent is) refl
+    go (Some t) is = rw is (read t (holds t is) o (reads t is))
+
+differs : (t : Text) → t ≢ codes "true" → bytes_eq t (codes "true") ≡ false
+differs t other = go (bytes_eq t (codes "true")) refl
+  where
+    go : (b : Bool) → bytes_eq t (codes "true") ≡ b → bytes_eq t (codes "true") ≡ false
+    go true is = absurd (other ((bytes_eq-Decides t (codes "true")).0 is))
+    go false is = is
+
+-- and as a `bool`, or false
+pub flag_is : (E : Type 0) (name : Text) (rows : List Row) (o : Option Bool) → (one_of name rows ≡ None → o ≡ None)
+    → ((t : Text) → one_of name rows ≡ Some t → ReadsOne {T = Bool} {E = E} ParsesBool t o) → unwrap_or o false ≡ flag_of name rows
+flag_is E name rows o absent reads = go (one_of name rows) refl
+  where
+    read : (t : Text) (q : Option Bool) → ReadsOne {T = Bool} {E = E} ParsesBool t q → unwrap_or q false ≡ bytes_eq t (codes "true")
+    read t (Some true) gives = rw gives refl
+    read t (Some false) gives = rw gives refl
+    read t None gives = sym (differs t (λ e. gives.1.0 e))
+
+    go : (one : Option Text) → one_of name rows ≡ one → unwrap_or o false ≡ flag_of name rows
+    go None is = rw (is, absent is) refl
+    go (Some t) is = rw is (read t o (reads t is))

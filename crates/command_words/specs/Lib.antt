@@ -1,0 +1,4 @@
+pub mod Inside
+pub mod Options
+pub mod Ranges
+pub mod Said

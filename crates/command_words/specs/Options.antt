@@ -1,0 +1,63 @@
+-- What `clap` is told of each command.
+use Rattle.std.specs.Prelude.{ℕ, Some, codes, true}
+use Rattle.clap.specs.Words.{App, Rule, Text, new_app, new_rule, with_rule}
+use Rattle.clap.specs.declared.builder.ArgAction.TheVariants.{Set, SetTrue}
+use Rattle.clap.specs.declared.builder.ValueParser.TheVariants.{Bool, Unsigned}
+use Rattle.command_words.specs.Ranges.{budgets, counts, grains, limits, seeds}
+
+-- a number from `low` to `high` that stands alone, and has to be given
+abbrev pub number_rule : Text → ℕ → ℕ → Rule
+number_rule name low high = record (new_rule name) {
+  action = Some Set;
+  parser = Some (Unsigned low high);
+  required = true;
+}
+
+-- `--name X` or `--name=X`, with a number from `low` to `high`
+abbrev pub option_rule : Text → ℕ → ℕ → Rule
+option_rule name low high = record (new_rule name) {
+  long = Some name;
+  action = Some Set;
+  parser = Some (Unsigned low high);
+}
+
+-- `--name`
+abbrev pub flag_rule : Text → Rule
+flag_rule name = record (new_rule name) { long = Some name; action = Some SetTrue; parser = Some Bool }
+
+-- a command that has no help and no version, and whose words begin after its name
+abbrev pub bare : Text → App
+bare name =
+    let a = new_app name in
+    record a { top = record a.top { no_binary_name = true; disable_help_flag = true; disable_version_flag = true } }
+
+-- a command that takes N and SEED as well
+abbrev pub with_made : App → App
+with_made a = with_rule
+    (with_rule a (number_rule (codes "count") counts.low counts.high))
+    (number_rule (codes "seed") seeds.low seeds.high)
+
+-- a command that takes the options of a run as well
+abbrev pub with_numbers : App → App
+with_numbers a = with_rule
+    (with_rule
+    (with_rule a (option_rule (codes "limit") limits.low limits.high))
+    (option_rule (codes "budget") budgets.low budgets.high))
+    (option_rule (codes "grain") grains.low grains.high)
+
+abbrev pub with_run : App → App
+with_run a = with_rule (with_numbers a) (flag_rule (codes "inline"))
+
+abbrev pub solve_app : App
+solve_app = with_rule
+    (with_rule (with_run (bare (codes "solve"))) (flag_rule (codes "stats")))
+    (flag_rule (codes "ledger"))
+
+abbrev pub check_app : App
+check_app = bare (codes "check")
+
+abbrev pub make_app : App
+make_app = with_made (bare (codes "make"))
+
+abbrev pub drill_app : App
+drill_app = with_run (with_made (bare (codes "drill")))

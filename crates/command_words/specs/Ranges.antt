@@ -1,0 +1,27 @@
+-- The numbers of a command line.
+use Rattle.std.specs.Prelude.{◌^◌, ◌-◌, ◌≤◌, ℕ}
+
+-- the least and the greatest that are accepted, and the one that stands where none is given
+pub record Range : Type 0 where
+  pub low : ℕ
+  pub high : ℕ
+  pub default : ℕ
+
+abbrev pub limits : Range
+limits = record { low = 64; high = 2 ^ 30; default = 2 ^ 26 }
+
+abbrev pub budgets : Range
+budgets = record { low = 1; high = 2 ^ 32; default = 2 ^ 24 }
+
+abbrev pub grains : Range
+grains = record { low = 1; high = 2 ^ 32; default = 2 ^ 16 }
+
+-- how many puzzles are made, and from which seed: both have to be given
+abbrev pub counts : Range
+counts = record { low = 0; high = 100000; default = 0 }
+
+abbrev pub seeds : Range
+seeds = record { low = 0; high = 2 ^ 64 - 1; default = 0 }
+
+abbrev pub IsIn : Range → ℕ → Type 0
+IsIn range n = (range.low ≤ n) × (n ≤ range.high)

@@ -1,0 +1,85 @@
+-- Which command lines are accepted, and what they say.
+use Rattle.std.specs.Prelude.{ℕ, Bool, List, [], ◌∷◌, Option, Some, None, codes, false, ⊤, if◌then◌else◌}
+use Rattle.std.specs.Option.{option_map_or}
+use Rattle.std.specs.Str.{bytes_eq}
+use Rattle.std.specs.Str.Parse.{digits_value, without_leading_plus}
+use Rattle.adlb_unit.specs.Limits.{InLimit}
+use Rattle.clap.specs.Words.{App, Kinds, Row, Text, fault_of, matches_of, one_of}
+use Rattle.command_words.specs.Options.{check_app, drill_app, make_app, solve_app}
+use Rattle.command_words.specs.Ranges.{IsIn, budgets, counts, grains, limits, seeds}
+use Rattle.command_words.specs.declared.commands.Command.{Command}
+use Rattle.command_words.specs.declared.commands.Command.TheVariants.{Solve, Check, Make, Drill}
+use Rattle.command_words.specs.declared.commands.RunOptions.{RunOptions}
+
+-- the number that is given under this name, in decimal digits; `default` where none is
+abbrev pub number_of : Text → ℕ → List Row → ℕ
+number_of name default rows = option_map_or (λ t. digits_value 10 (without_leading_plus t)) (one_of name rows) default
+
+-- the flag of this name is given
+abbrev pub flag_of : Text → List Row → Bool
+flag_of name rows = option_map_or (λ t. bytes_eq t (codes "true")) (one_of name rows) false
+
+-- the options of a run
+abbrev pub run_of : List Row → RunOptions
+run_of rows = record {
+  limit = number_of (codes "limit") limits.default rows;
+  budget = number_of (codes "budget") budgets.default rows;
+  grain = number_of (codes "grain") grains.default rows;
+  inline = flag_of (codes "inline") rows;
+}
+
+-- where no option is given
+abbrev pub default_run : RunOptions
+default_run = run_of []
+
+-- what each command says
+abbrev pub solve_of : List Row → Command
+solve_of rows = Solve (record {
+  options = run_of rows;
+  stats = flag_of (codes "stats") rows;
+  ledger = flag_of (codes "ledger") rows;
+})
+
+abbrev pub check_of : List Row → Command
+check_of rows = Check
+
+abbrev pub make_of : List Row → Command
+make_of rows = Make (number_of (codes "count") counts.default rows) (number_of (codes "seed") seeds.default rows)
+
+abbrev pub drill_of : List Row → Command
+drill_of rows = Drill
+    (number_of (codes "count") counts.default rows)
+    (number_of (codes "seed") seeds.default rows)
+    (run_of rows)
+
+-- the command, unless there is a fault
+abbrev pub unless : Kinds → Command → Option Command
+unless [] command = Some command
+unless (fault ∷ faults) command = None
+
+-- what the words after a command say, where `clap` finds no fault in them
+abbrev pub read_by : App → (List Row → Command) → List Text → Option Command
+read_by app says words = unless (fault_of app words) (says (matches_of app words))
+
+-- the first word is the command, and `clap` reads the words after it
+abbrev pub command_of : List Text → Option Command
+command_of [] = None
+command_of (word ∷ words) =
+    if bytes_eq word (codes "solve") then read_by solve_app solve_of words
+    else (if bytes_eq word (codes "check") then read_by check_app check_of words
+    else (if bytes_eq word (codes "make") then read_by make_app make_of words
+    else (if bytes_eq word (codes "drill") then read_by drill_app drill_of words
+    else None)))
+
+-- the numbers of a run are within their limits
+pub record IsRunWithin (run : RunOptions) : Type 0 where
+  pub limit : InLimit run.limit
+  pub budget : IsIn budgets run.budget
+  pub grain : IsIn grains run.grain
+
+-- and so are all numbers of a command
+abbrev pub IsWithin : Command → Type 0
+IsWithin (Solve words) = IsRunWithin words.options
+IsWithin Check = ⊤
+IsWithin (Make count seed) = IsIn counts count
+IsWithin (Drill count seed run) = IsIn counts count × IsRunWithin run

@@ -1,0 +1,70 @@
+//! What a command line says, and why it is refused.
+
+ghost use Rattle.std.specs.Prelude.{◌≡◌};
+
+use std::alloc::AllocError;
+use thiserror::Error;
+
+/// How a run is done.
+#[derive(Clone, Copy, Debug, PartialEq, Eq)]
+pub struct RunOptions {
+    /// The bytes that a server takes at most: 64 to 2^30.
+    pub limit: u64,
+    /// The budget of a puzzle: 1 to 2^32.
+    pub budget: u64,
+    /// The grain of a puzzle: 1 to 2^32.
+    pub grain: u64,
+    /// The run has one rank and one server, and no thread.
+    pub inline: bool,
+}
+
+/// What `solve` is told.
+#[derive(Clone, Copy, Debug, PartialEq, Eq)]
+pub struct SolveWords {
+    pub options: RunOptions,
+    /// Counts of the kept ledger follow the report.
+    pub stats: bool,
+    /// The kept ledger follows the report.
+    pub ledger: bool,
+}
+
+/// A command with its words.
+#[derive(Clone, Copy, Debug, PartialEq, Eq)]
+pub enum Command {
+    /// Solve the input.
+    Solve(SolveWords),
+    /// Check a ledger's text.
+    Check,
+    /// Make `count` puzzles, at most 100,000, from `seed`.
+    Make {
+        count: u32,
+        seed: u64,
+    },
+    /// Make the puzzles and solve them.
+    Drill {
+        count: u32,
+        seed: u64,
+        options: RunOptions,
+    },
+}
+
+/// Why the words give no command.
+#[derive(Clone, Copy, Debug, PartialEq, Eq, Error)]
+pub enum WordsFault {
+    /// The words are refused.
+    #[error("words refused")]
+    Usage,
+    /// Allocation failed. Contracts never say when: any call that allocates may answer it.
+    #[error("out of memory")]
+    Memory,
+}
+
+impl From<AllocError> for WordsFault {
+    ghost use Rattle.command_words.specs.declared.commands.WordsFault.TheVariants.{Memory};
+
+    ghost from_gives = { λ _ fault. fault ≡ Memory };
+
+    fn from(_: AllocError) -> WordsFault {
+        WordsFault::Memory
+    }
+}

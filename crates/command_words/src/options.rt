@@ -1,0 +1,101 @@
+//! What `clap` is told of each command.
+
+ghost use Rattle.std.specs.Prelude.{◌≡◌, IfOk, false};
+ghost use Rattle.clap.specs.Words.{app_of, rule_of};
+ghost use Rattle.command_words.specs.Options.{bare, check_app, drill_app, flag_rule, make_app, number_rule};
+ghost use Rattle.command_words.specs.Options.{option_rule, solve_app, with_made, with_numbers, with_run};
+
+use clap::builder::ValueParser;
+use clap::{Arg, ArgAction, Command};
+use std::alloc::{AllocError, Global};
+
+// A number that stands alone.
+fn number<'a>(alloc: Global, name: &'a str, low: u64, high: u64) -> Arg<'a>
+    ensures rule { rule_of result ≡ number_rule name.entry.now low high }
+    ensures own { result.global ≡ false }
+{
+    Arg::new(alloc, name)
+        .action(ArgAction::Set)
+        .value_parser(ValueParser::Unsigned(low, high))
+        .required(true)
+}
+
+// An option with a number.
+fn option<'a>(alloc: Global, name: &'a str, low: u64, high: u64) -> Arg<'a>
+    ensures rule { rule_of result ≡ option_rule name.entry.now low high }
+    ensures own { result.global ≡ false }
+{
+    Arg::new(alloc, name)
+        .long(name)
+        .action(ArgAction::Set)
+        .value_parser(ValueParser::Unsigned(low, high))
+}
+
+fn flag<'a>(alloc: Global, name: &'a str) -> Arg<'a>
+    ensures rule { rule_of result ≡ flag_rule name.entry.now }
+    ensures own { result.global ≡ false }
+{
+    Arg::new(alloc, name)
+        .long(name)
+        .action(ArgAction::SetTrue)
+        .value_parser(ValueParser::Bool)
+}
+
+fn command<'a>(alloc: Global, name: &'a str) -> Command<'a>
+    ensures { app_of result ≡ bare name.entry.now }
+{
+    Command::new(alloc, name)
+        .no_binary_name(true)
+        .disable_help_flag(true)
+        .disable_version_flag(true)
+}
+
+fn with_made<'a>(alloc: Global, command: Command<'a>) -> Result<Command<'a>, AllocError>
+    ensures { IfOk result (λ c. app_of c ≡ with_made (app_of command.entry)) }
+{
+    let command = command.arg(number(alloc, "count", 0, 100_000))?;
+    command.arg(number(alloc, "seed", 0, u64::MAX))
+}
+
+fn with_numbers<'a>(alloc: Global, command: Command<'a>) -> Result<Command<'a>, AllocError>
+    ensures { IfOk result (λ c. app_of c ≡ with_numbers (app_of command.entry)) }
+{
+    let command = command.arg(option(alloc, "limit", 64, 1 << 30))?;
+    let command = command.arg(option(alloc, "budget", 1, 1 << 32))?;
+    command.arg(option(alloc, "grain", 1, 1 << 32))
+}
+
+fn with_run<'a>(alloc: Global, command: Command<'a>) -> Result<Command<'a>, AllocError>
+    ensures { IfOk result (λ c. app_of c ≡ with_run (app_of command.entry)) }
+{
+    with_numbers(alloc, command)?.arg(flag(alloc, "inline"))
+}
+
+/// `solve` (`solve_app`).
+pub(crate) fn solve_command<'a>(alloc: Global) -> Result<Command<'a>, AllocError>
+    ensures { IfOk result (λ c. app_of c ≡ solve_app) }
+{
+    let command = with_run(alloc, command(alloc, "solve"))?.arg(flag(alloc, "stats"))?;
+    command.arg(flag(alloc, "ledger"))
+}
+
+/// `check` (`check_app`).
+pub(crate) fn check_command<'a>(alloc: Global) -> Command<'a>
+    ensures { app_of result ≡ check_app }
+{
+    command(alloc, "check")
+}
+
+/// `make` (`make_app`).
+pub(crate) fn make_command<'a>(alloc: Global) -> Result<Command<'a>, AllocError>
+    ensures { IfOk result (λ c. app_of c ≡ make_app) }
+{
+    with_made(alloc, command(alloc, "make"))
+}
+
+/// `drill` (`drill_app`).
+pub(crate) fn drill_command<'a>(alloc: Global) -> Result<Command<'a>, AllocError>
+    ensures { IfOk result (λ c. app_of c ≡ drill_app) }
+{
+    with_run(alloc, with_made(alloc, command(alloc, "drill"))?)
+}

@@ -1,0 +1,143 @@
+//! What lists of words say, and which are refused.
+
+use crate::commands::{Command, RunOptions, WordsFault};
+use crate::reading::read_words;
+use std::alloc::Global;
+use std::test::Fail;
+
+/// Each list of words, with blanks between, and what it says: the command, N and SEED, then limit, budget, grain and
+/// inline, then stats and ledger. It says nothing if it is refused.
+const ROWS: [(&str, &str); 54] = [
+    ("solve", "solve 67108864 16777216 65536 false false false"),
+    (
+        "solve --",
+        "solve 67108864 16777216 65536 false false false",
+    ),
+    (
+        "solve --limit 64 --budget 1 --grain 1",
+        "solve 64 1 1 false false false",
+    ),
+    (
+        "solve --limit=1073741824 --budget=4294967296 --grain=4294967296",
+        "solve 1073741824 4294967296 4294967296 false false false",
+    ),
+    (
+        "solve --inline",
+        "solve 67108864 16777216 65536 true false false",
+    ),
+    (
+        "solve --stats",
+        "solve 67108864 16777216 65536 false true false",
+    ),
+    (
+        "solve --ledger",
+        "solve 67108864 16777216 65536 false false true",
+    ),
+    (
+        "solve --ledger --grain=007 --stats --inline --budget +9",
+        "solve 67108864 9 7 true true true",
+    ),
+    ("check", "check"),
+    ("make 0 7", "make 0 7"),
+    (
+        "make 100000 18446744073709551615",
+        "make 100000 18446744073709551615",
+    ),
+    ("drill 64 1", "drill 64 1 67108864 16777216 65536 false"),
+    ("drill +3 004", "drill 3 4 67108864 16777216 65536 false"),
+    (
+        "drill --budget 100 8 --inline --limit=64 2 --grain=3",
+        "drill 8 2 64 100 3 true",
+    ),
+    ("", ""),
+    ("frob", ""),
+    ("Solve", ""),
+    ("--limit 64 solve", ""),
+    ("solve solve", ""),
+    ("solve --limit", ""),
+    ("solve --limit=", ""),
+    ("solve --limit --inline", ""),
+    ("solve --limit many", ""),
+    ("solve --limit -64", ""),
+    ("solve --limit 6.4", ""),
+    ("solve --limit 64 65", ""),
+    ("solve --limit 63", ""),
+    ("solve --limit 1073741825", ""),
+    ("solve --limit 64 --limit 64", ""),
+    ("solve --budget 0", ""),
+    ("solve --budget 4294967297", ""),
+    ("solve --budget 18446744073709551617", ""),
+    ("solve --grain=0", ""),
+    ("solve --grain=4294967297", ""),
+    ("solve --inline --inline", ""),
+    ("solve --inline=1", ""),
+    ("solve --inl", ""),
+    ("solve -inline", ""),
+    ("solve --ranks 4", ""),
+    ("solve --servers 1", ""),
+    ("solve --help", ""),
+    ("solve -h", ""),
+    ("solve --version", ""),
+    ("check file", ""),
+    ("check --stats", ""),
+    ("make", ""),
+    ("make 8", ""),
+    ("make 8 1 2", ""),
+    ("make 100001 1", ""),
+    ("make 8 18446744073709551616", ""),
+    ("make 8 1 --inline", ""),
+    ("drill 8", ""),
+    ("drill 8 1 --stats", ""),
+    ("drill 8 1 --ledger", ""),
+];
+
+fn run_shown(alloc: Global, run: RunOptions) -> Result<String, Fail> {
+    let RunOptions {
+        limit,
+        budget,
+        grain,
+        inline,
+    } = run;
+    Ok(format!(in alloc; "{limit} {budget} {grain} {inline}")?)
+}
+
+fn shown(alloc: Global, command: Command) -> Result<String, Fail> {
+    Ok(match command {
+        Command::Solve(words) => {
+            let run = run_shown(alloc, words.options)?;
+            let (stats, ledger) = (words.stats, words.ledger);
+            format!(in alloc; "solve {run} {stats} {ledger}")?
+        }
+        Command::Check => String::from_str(alloc, "check")?,
+        Command::Make { count, seed } => format!(in alloc; "make {count} {seed}")?,
+        Command::Drill {
+            count,
+            seed,
+            options,
+        } => {
+            let run = run_shown(alloc, options)?;
+            format!(in alloc; "drill {count} {seed} {run}")?
+        }
+    })
+}
+
+fn read(alloc: Global, line: &str) -> Result<String, Fail> {
+    let mut words = Vec::new(alloc);
+    for word in line.split_whitespace() {
+        words.push(String::from_str(alloc, word)?)?;
+    }
+    match read_words(alloc, words.as_slice()) {
+        Ok(command) => shown(alloc, command),
+        Err(WordsFault::Usage) => Ok(String::new(alloc)),
+        Err(WordsFault::Memory) => Err(Fail::from("out of memory")),
+    }
+}
+
+#[test]
+fn says_or_refuses_each_row(rt: HostRuntime) -> Result<(), Fail> {
+    for (line, expected) in ROWS {
+        let said = read(rt.alloc(), line)?;
+        assert_eq!(rt; said.as_str(), expected, "{line}");
+    }
+    Ok(())
+}

@@ -1,0 +1,7 @@
+pub mod Cuts
+pub mod Numbers
+pub mod Puzzles
+pub mod SoFar
+pub mod Steps
+pub mod FewBytes
+pub mod Rows

@@ -1,0 +1,74 @@
+//! The items of a batch.
+
+ghost use Rattle.std.specs.Prelude.{◌≡◌};
+ghost use Rattle.job_text.specs.Kinds.{item_of as item_of_line};
+
+use crate::words::{byte_number, cut_word};
+use std::marker::Model;
+
+/// What is asked of the bytes of a batch: how many are from `lo` to `hi`, their sum, or the greatest.
+#[derive(Clone, Copy, Debug, PartialEq, Eq)]
+pub enum Item {
+    Count { lo: u8, hi: u8 },
+    Sum,
+    Max,
+}
+
+/// The items of a batch, in input order, at most 2^24. They are seen as their list.
+#[derive(Debug, Drop)]
+pub struct Items {
+    list: Vec<Item>,
+}
+
+impl Model for Items {
+    ghost use Rattle.std.specs.Prelude.{◌≤◌, ◌^◌, List, length};
+    ghost use Rattle.job_text.specs.declared.items.Item.{Item};
+
+    ghost Value = { List Item };
+
+    ghost view = { λ items. items.list.items };
+
+    ghost invariant = { λ items. length items.list.items ≤ 2 ^ 24 };
+}
+
+impl Items {
+    ghost use Rattle.std.specs.Prelude.{◌≤◌, ◌^◌, length};
+
+    /// The items, in input order.
+    pub fn as_slice(&self) -> &[Item]
+        ensures items { result.now ≡ self.now }
+        ensures few { length self.now ≤ 2 ^ 24 }
+    {
+        self.list.as_slice()
+    }
+
+    // The items of a list.
+    pub(crate) fn of(list: Vec<Item>) -> Items
+        requires { length list.items ≤ 2 ^ 24 }
+        ensures { result ≡ list.items }
+    {
+        Items { list }
+    }
+}
+
+/// The item of a line that begins with the name of one, if it is of its form (`item_of`).
+#[tactic(auto, unfolding(crate::specs::Kinds::item_of))]
+pub(crate) fn item_of(line: &[u8]) -> Option<Item>
+    ensures { result ≡ item_of_line line.now }
+{
+    if line == b"sum".as_slice() {
+        return Some(Item::Sum);
+    }
+    if line == b"max".as_slice() {
+        return Some(Item::Max);
+    }
+    let (name, numbers) = cut_word(line);
+    if name != b"count".as_slice() {
+        return None;
+    }
+    let (lo, hi) = cut_word(numbers);
+    Some(Item::Count {
+        lo: byte_number(lo)?,
+        hi: byte_number(hi)?,
+    })
+}

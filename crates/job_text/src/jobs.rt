@@ -1,0 +1,72 @@
+//! The jobs of an input.
+
+ghost use Rattle.std.specs.Prelude.{◌≡◌, ◌≤◌, ◌^◌, ℕ, List, length, Some, None, Err, IfOk};
+ghost use Rattle.job_text.specs.Jobs.{input_jobs, input_refused};
+
+use crate::faults::{JobsFault, LineWhy};
+use crate::items::Items;
+use crate::lines::Lines;
+use crate::reading::Reading;
+use adlb_unit::Payload;
+use std::alloc::Global;
+use std::marker::Model;
+use sudoku_rules::Grid;
+
+/// A job: a puzzle, or a batch of items over common bytes.
+#[derive(Debug, Drop)]
+pub enum Job {
+    Puzzle(Grid),
+    Batch { common: Payload, items: Items },
+}
+
+/// The jobs of an input, in its order: at most 2^24, each batch of at most 2^20 bytes. They are made by `read_jobs`
+/// alone, and seen as their list.
+#[derive(Debug, Drop)]
+pub struct Jobs {
+    list: Vec<Job>,
+}
+
+impl Model for Jobs {
+    ghost use Rattle.std.specs.Prelude.{◌≤◌, ◌^◌, List, length, All};
+    ghost use Rattle.job_text.specs.declared.jobs.Job.{Job};
+    ghost use Rattle.job_text.specs.Jobs.{HasFewBytes};
+
+    ghost Value = { List Job };
+
+    ghost view = { λ jobs. jobs.list.items };
+
+    ghost invariant = { λ jobs. (length jobs.list.items ≤ 2 ^ 24) × All HasFewBytes jobs.list.items };
+}
+
+impl Jobs {
+    ghost use Rattle.std.specs.Prelude.{◌≤◌, ◌^◌, length, All};
+    ghost use Rattle.job_text.specs.Jobs.{HasFewBytes};
+
+    /// The jobs, in input order.
+    pub fn as_slice(&self) -> &[Job]
+        ensures jobs { result.now ≡ self.now }
+        ensures few { length self.now ≤ 2 ^ 24 }
+        ensures bytes { All HasFewBytes self.now }
+    {
+        self.list.as_slice()
+    }
+}
+
+/// Reads the jobs of an input of at most 2^24 bytes. `Refused` is answered exactly if a line is refused, with the
+/// first such line and its reason, unless `Memory` is answered, which may come of any input.
+pub fn read_jobs(alloc: Global, bytes: &[u8]) -> Result<Jobs, JobsFault>
+    requires { length bytes.now ≤ 2 ^ 24 }
+    ensures jobs { IfOk result (λ jobs. (input_refused bytes.now ≡ None) × (jobs ≡ input_jobs bytes.now)) }
+    ensures refused { (line : ℕ) (why : LineWhy) → result ≡ Err (JobsFault.Refused line why) →
+        input_refused bytes.now ≡ Some (line, why) }
+{
+    let mut lines = Lines::of(bytes);
+    let mut reading = Reading::new(alloc);
+    let mut number = 0;
+    'each: while let Some(line) = lines.next() {
+        number += 1;
+        reading = reading.with(alloc, number, line)?;
+    }
+    let list = reading.whole()?;
+    Ok(Jobs { list })
+}

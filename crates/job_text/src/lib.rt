@@ -1,0 +1,20 @@
+//! The jobs of an input: puzzles, and batches of items over common bytes.
+//!
+//! An input is cut into lines (`specs/Lines.antt`). Each line is of one kind (`specs/Kinds.antt`): it is skipped, it
+//! is a puzzle, it begins a batch, it is an item of the batch before it, or it is refused. `specs/Jobs.antt` has the
+//! jobs of lines, and which line is refused first. It stands on `sudoku_rules` and on the payloads of `adlb_unit`.
+#![tactic(auto)]
+
+mod faults;
+mod items;
+mod jobs;
+mod kinds;
+mod lines;
+mod reading;
+#[cfg(test)]
+mod tests;
+mod words;
+
+pub use faults::{JobsFault, LineWhy};
+pub use items::{Item, Items};
+pub use jobs::{Job, Jobs, read_jobs};
