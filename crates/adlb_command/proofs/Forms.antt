@@ -39,7 +39,7 @@ pub form_is_short : (bytes : List ℕ) (g : Cells) → HasForm bytes g → lengt
 form_is_short bytes g form = by_ends form.ends
   where
     long : length form.text ≡ 81
-    long = form.reads.long
+    long = form.long
 
     by_ends : (bytes ≡ form.text) ⊎ (bytes ≡ form.text ++ 10 ∷ []) → length bytes ≤ 82
     by_ends (inl e) = let n : length bytes ≡ length form.text = ap length e in omega (arith, long)
@@ -96,10 +96,10 @@ form_once : (bytes : List ℕ) (g h : Cells) → HasForm bytes g → HasForm byt
 form_once bytes g h a b = by_ends a.ends b.ends
   where
     long : length a.text ≡ 81
-    long = a.reads.long
+    long = a.long
 
     long' : length b.text ≡ 81
-    long' = b.reads.long
+    long' = b.long
 
     same : a.text ≡ b.text → g ≡ h
     same e = reads_once b.text g h (subst (λ t. Reads t g) e a.reads) b.reads

@@ -15,7 +15,7 @@ use Rattle.puzzle_app.specs.Report.{AreWhole, made_in}
 use Rattle.puzzle_law.proofs.Joining.{joined_spent, joined_whole}
 use Rattle.rank_client.specs.Calls.{plus}
 use Rattle.rank_client.specs.Seat.{Seat}
-use Rattle.sudoku_law.specs.Grid.{IsGrid}
+use Rattle.sudoku_rules.specs.Sides.{IsSudoku}
 use Rattle.sudoku_rules.proofs.Reading.{reads_is_grid}
 use Rattle.adlb_command.specs.Ends.{fault_by}
 use Rattle.adlb_unit.specs.declared.configs.Config.{Config}
@@ -153,11 +153,11 @@ few_made settings jobs r one kept k =
     rw same (omega (arith, sum, few))
 
 -- the jobs of an input are grids, and few
-pub jobs_are_grids : (bytes : List ℕ) (jobs : List Job) → AreJobs bytes jobs → All (IsGrid 3) (puzzles jobs)
+pub jobs_are_grids : (bytes : List ℕ) (jobs : List Job) → AreJobs bytes jobs → All IsSudoku (puzzles jobs)
 unfolding puzzles
 jobs_are_grids bytes jobs are =
-    let one : All (IsGrid 3) (are.0 ∷ []) = All-push (IsGrid 3) [] are.0 (All-nil (IsGrid 3)) (reads_is_grid are.1.text are.0 are.1.reads) in
-    let P : List Job → Type 0 = λ js. All (IsGrid 3) (puzzles js) in
+    let one : All IsSudoku (are.0 ∷ []) = All-push IsSudoku [] are.0 (All-nil IsSudoku) (reads_is_grid are.1.text are.0 are.1.reads) in
+    let P : List Job → Type 0 = λ js. All IsSudoku (puzzles js) in
     subst P (sym are.2) one
 
 pub jobs_are_few : (bytes : List ℕ) (jobs : List Job) → AreJobs bytes jobs → length jobs ≤ 2 ^ 24

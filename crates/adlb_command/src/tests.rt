@@ -2,6 +2,8 @@
 
 mod solved;
 
+ghost use Rattle.std.specs.Prelude.{◌<◌};
+
 use crate::ends::RunEnd;
 use crate::inline::solve_inline;
 use crate::top::{SETTINGS, run_adlb};
@@ -41,6 +43,38 @@ const CLASH: &str =
 const MANY: &str =
     ".3.6.8.........3.....3............23426.53.917...2...696.5....42.741....34.......";
 
+/// What a test looks at of a run.
+#[derive(Drop)]
+struct Ran {
+    status: u8,
+    /// The text of the fault; none at status 0.
+    fault: String,
+    written: String,
+    /// The kept ledger, a letter an entry; none where no report is kept.
+    ledger: String,
+    /// How many units the kept report has left.
+    left: usize,
+}
+
+// What is to be seen of the end of a run that wrote these bytes.
+fn seen(alloc: Global, end: RunEnd, written: &[u8]) -> Result<Ran, Fail> {
+    let mut ran = Ran {
+        status: end.status,
+        fault: String::new(alloc),
+        written: String::from_utf8(written.to_vec(alloc)?).unwrap_or(String::new(alloc)),
+        ledger: String::new(alloc),
+        left: 0,
+    };
+    if let Some(fault) = &end.fault {
+        ran.fault = fault.to_string(alloc)?;
+    }
+    if let Some(kept) = &end.report {
+        ran.ledger = names(alloc, kept.ledger.entries())?;
+        ran.left = kept.left.len();
+    }
+    Ok(ran)
+}
+
 // The words of a command line.
 fn words(alloc: Global, line: &str) -> Result<Vec<String>, Fail> {
     let mut words = Vec::new(alloc);
@@ -50,29 +84,71 @@ fn words(alloc: Global, line: &str) -> Result<Vec<String>, Fail> {
     Ok(words)
 }
 
-// The end of a run on these bytes, and what it wrote.
-fn run_on(alloc: Global, bytes: &[u8]) -> Result<(RunEnd, String), Fail> {
-    let words = words(alloc, "solve")?;
+// A run with these words on these bytes.
+fn run_words(alloc: Global, line: &str, bytes: &[u8]) -> Result<Ran, Fail> {
+    let words = words(alloc, line)?;
     let mut input = SteadySource::new(bytes.to_vec(alloc)?);
     let mut output = SteadySink::new(alloc);
     let end = run_adlb(alloc, words.as_slice(), &mut input, &mut output);
-    let written = String::from_utf8(output.taken().to_vec(alloc)?).unwrap_or(String::new(alloc));
-    Ok((end, written))
+    seen(alloc, end, output.taken())
+}
+
+fn run_on(alloc: Global, bytes: &[u8]) -> Result<Ran, Fail> {
+    run_words(alloc, "solve", bytes)
+}
+
+// A run on the forced puzzle that reads and writes so many bytes at a time, of which the calls of these numbers fail.
+fn run_failing(
+    alloc: Global,
+    per_read: usize,
+    read: u64,
+    per_write: usize,
+    write: u64,
+) -> Result<Ran, Fail>
+    requires reads { 0 < per_read }
+    requires writes { 0 < per_write }
+{
+    let words = words(alloc, "solve")?;
+    let bytes = FORCED.as_bytes().to_vec(alloc)?;
+    let mut input = MemorySource::new(bytes, per_read, [read].to_vec(alloc)?);
+    let mut output = MemorySink::new(alloc, per_write, [write].to_vec(alloc)?);
+    let end = run_adlb(alloc, words.as_slice(), &mut input, &mut output);
+    seen(alloc, end, output.taken())
 }
 
 // The same in line with these settings, over a server that takes so many bytes.
-fn solve_on(
-    alloc: Global,
-    puzzle: &str,
-    settings: Settings,
-    limit: u64,
-) -> Result<(RunEnd, String), Fail> {
+fn solve_on(alloc: Global, puzzle: &str, settings: Settings, limit: u64) -> Result<Ran, Fail> {
     let config = Config::new(1, 1, limit).ok().ok_or("no such limit")?;
     let mut input = SteadySource::new(puzzle.as_bytes().to_vec(alloc)?);
     let mut output = SteadySink::new(alloc);
     let end = solve_inline(alloc, config, settings, &mut input, &mut output);
-    let written = String::from_utf8(output.taken().to_vec(alloc)?).unwrap_or(String::new(alloc));
-    Ok((end, written))
+    seen(alloc, end, output.taken())
+}
+
+// The first letter of each entry's name, in order; of one that begins with another's letter, another.
+fn names(alloc: Global, entries: &[Entry]) -> Result<String, Fail> {
+    let mut names = String::new(alloc);
+    for entry in entries {
+        names.push(name(entry))?;
+    }
+    Ok(names)
+}
+
+fn name(entry: &Entry) -> char {
+    match entry {
+        Entry::Putting { .. } => 'p',
+        Entry::Refused { used: 0, .. } => 'r',
+        Entry::Accepted { .. } => 'a',
+        Entry::Rejected { .. } => 'R',
+        Entry::Asked { .. } => 'q',
+        Entry::Granted { .. } => 'g',
+        Entry::Fetching { .. } => 'f',
+        Entry::Fetched { .. } => 'F',
+        Entry::Exhausted => 'x',
+        Entry::Over { .. } => 'o',
+        Entry::Finished { .. } => '.',
+        _ => '?',
+    }
 }
 
 // The report on a puzzle with these solutions, for which so many boards are made.
@@ -99,9 +175,12 @@ fn writes_the_report_of_each_worked_row(rt: HostRuntime) -> Result<(), Fail> {
         let wanted = report(rt.alloc(), solutions, count, boards)?;
         for ending in ["\n", ""] {
             let input = format!(in rt.alloc(); "{puzzle}{ending}")?;
-            let (end, written) = run_on(rt.alloc(), input.as_bytes())?;
-            assert_eq!(rt; end.status, 0, "{puzzle}");
-            assert_eq!(rt; written.as_str(), wanted.as_str(), "{puzzle}");
+            let ran = run_on(rt.alloc(), input.as_bytes())?;
+            assert_eq!(rt;
+                (ran.status, ran.written.as_str()),
+                (0, wanted.as_str()),
+                "{puzzle}"
+            );
         }
     }
     Ok(())
@@ -110,13 +189,26 @@ fn writes_the_report_of_each_worked_row(rt: HostRuntime) -> Result<(), Fail> {
 #[test]
 fn lists_what_another_solver_lists(rt: HostRuntime) -> Result<(), Fail> {
     for (puzzle, solutions) in SOLVED {
-        let (end, written) = run_on(rt.alloc(), puzzle.as_bytes())?;
+        let ran = run_on(rt.alloc(), puzzle.as_bytes())?;
         let count = solutions.lines().count();
         let wanted = format!(in rt.alloc(); "puzzle 1 solutions {count}\n{solutions}totals\n")?;
-        assert_eq!(rt; end.status, 0, "{puzzle}");
-        assert!(rt; written.as_str().starts_with(wanted.as_str()), "{puzzle}");
+        assert!(rt;
+            ran.status == 0 && ran.written.as_str().starts_with(wanted.as_str()),
+            "{puzzle}"
+        );
     }
     Ok(())
+}
+
+// The input is refused, and nothing is written or kept.
+fn is_refused(alloc: Global, bytes: &[u8]) -> Result<bool, Fail> {
+    let ran = run_on(alloc, bytes)?;
+    Ok(
+        ran.status == 1
+            && ran.fault.as_str() == "line 1: later"
+            && ran.written.is_empty()
+            && ran.ledger.is_empty(),
+    )
 }
 
 #[test]
@@ -128,56 +220,29 @@ fn refuses_each_bad_input_and_writes_nothing(rt: HostRuntime) -> Result<(), Fail
     for end in ends {
         let front = &FORCED[..80];
         let input = format!(in rt.alloc(); "{front}{end}")?;
-        let is_line = end == "9\n";
-        let (run, written) = run_on(rt.alloc(), input.as_bytes())?;
-        assert_eq!(rt; run.status, u8::from(!is_line), "{end:?}");
-        assert_eq!(rt; written.is_empty(), !is_line, "{end:?}");
-        assert_eq!(rt;
-            says(rt.alloc(), &run, "line 1: later")?,
-            !is_line,
-            "{end:?}"
-        );
-        assert_eq!(rt; run.report.is_none(), !is_line, "{end:?}");
+        let refused = is_refused(rt.alloc(), input.as_bytes())?;
+        assert_eq!(rt; refused, end != "9\n", "{end:?}");
     }
-    Ok(())
-}
-
-#[test]
-fn refuses_an_empty_input_and_a_large_one(rt: HostRuntime) -> Result<(), Fail> {
     for length in [0, 83, 0x10_0000] {
-        let input = ones(rt.alloc(), length)?;
-        let (run, written) = run_on(rt.alloc(), input.as_slice())?;
-        assert_eq!(rt; run.status, 1, "{length} digits");
-        assert!(rt; written.is_empty(), "{length} digits");
-        assert!(rt; says(rt.alloc(), &run, "line 1: later")?, "{length} digits");
+        let input = vec![in rt.alloc(); b'1'; length]?;
+        assert!(rt;
+            is_refused(rt.alloc(), input.as_slice())?,
+            "{length} digits"
+        );
     }
     Ok(())
-}
-
-// So many digits.
-fn ones(alloc: Global, length: usize) -> Result<Vec<u8>, Fail> {
-    Ok(vec![in alloc; b'1'; length]?)
-}
-
-// The fault has this text.
-fn says(alloc: Global, end: &RunEnd, text: &str) -> Result<bool, Fail> {
-    match &end.fault {
-        Some(fault) => Ok(fault.to_string(alloc)?.as_str() == text),
-        None => Ok(false),
-    }
 }
 
 #[test]
 fn refuses_other_words(rt: HostRuntime) -> Result<(), Fail> {
     for line in ["", "frob", "solve --ranks 33", "solve solve", "Solve"] {
-        let words = words(rt.alloc(), line)?;
-        let mut input = SteadySource::new(FORCED.as_bytes().to_vec(rt.alloc())?);
-        let mut output = SteadySink::new(rt.alloc());
-        let end = run_adlb(rt.alloc(), words.as_slice(), &mut input, &mut output);
-        assert_eq!(rt; end.status, 2, "{line}");
-        assert!(rt; says(rt.alloc(), &end, "usage: adlbrun solve")?, "{line}");
-        assert!(rt; output.taken().is_empty(), "{line}");
-        assert!(rt; end.report.is_none(), "{line}");
+        let ran = run_words(rt.alloc(), line, FORCED.as_bytes())?;
+        assert_eq!(rt;
+            (ran.status, ran.fault.as_str()),
+            (2, "usage: adlbrun solve"),
+            "{line}"
+        );
+        assert!(rt; ran.written.is_empty() && ran.ledger.is_empty(), "{line}");
     }
     Ok(())
 }
@@ -186,53 +251,53 @@ fn refuses_other_words(rt: HostRuntime) -> Result<(), Fail> {
 fn a_read_that_fails_writes_nothing(rt: HostRuntime) -> Result<(), Fail> {
     // The second of the reads of 40 bytes fails, or the first of one that would give all.
     for (per_read, fails) in [(100, 1), (40, 2)] {
-        let words = words(rt.alloc(), "solve")?;
-        let bytes = FORCED.as_bytes().to_vec(rt.alloc())?;
-        let mut input = MemorySource::new(bytes, per_read, [fails].to_vec(rt.alloc())?);
-        let mut output = SteadySink::new(rt.alloc());
-        let end = run_adlb(rt.alloc(), words.as_slice(), &mut input, &mut output);
-        assert_eq!(rt; end.status, 3);
-        assert!(rt; end.report.is_none());
-        assert!(rt; says(rt.alloc(), &end, "read failed")?);
-        assert!(rt; output.taken().is_empty());
+        let ran = run_failing(rt.alloc(), per_read, fails, 1000, 1000)?;
+        assert_eq!(rt; (ran.status, ran.fault.as_str()), (3, "read failed"));
+        assert!(rt; ran.written.is_empty() && ran.ledger.is_empty());
     }
     Ok(())
 }
 
 #[test]
 fn a_write_that_fails_leaves_the_front_of_the_report(rt: HostRuntime) -> Result<(), Fail> {
+    let solution = format!(in rt.alloc(); "{FULL}\n")?;
+    let whole = report(rt.alloc(), solution.as_str(), 1, 1)?;
     // The report has 144 bytes, so it goes in 15 writes of 10 bytes at most; the flush is the call after them.
     for (fails, taken) in [(1, 0), (2, 10), (15, 140), (16, 144)] {
-        let words = words(rt.alloc(), "solve")?;
-        let mut input = SteadySource::new(FORCED.as_bytes().to_vec(rt.alloc())?);
-        let mut output = MemorySink::new(rt.alloc(), 10, [fails].to_vec(rt.alloc())?);
-        let end = run_adlb(rt.alloc(), words.as_slice(), &mut input, &mut output);
-        assert_eq!(rt; end.status, 4, "call {fails}");
-        assert!(rt; end.report.is_some(), "call {fails}");
-        assert!(rt; says(rt.alloc(), &end, "write failed")?);
-        assert_eq!(rt; output.taken().len(), taken, "call {fails}");
-        if fails == 2 {
-            assert_eq!(rt; output.taken(), b"puzzle 1 s".as_slice());
-        }
+        let ran = run_failing(rt.alloc(), 100, 1000, 10, fails)?;
+        assert_eq!(rt;
+            (ran.status, ran.fault.as_str()),
+            (4, "write failed"),
+            "call {fails}"
+        );
+        assert_eq!(rt; ran.written.len(), taken, "call {fails}");
+        assert!(rt;
+            whole.as_str().starts_with(ran.written.as_str()),
+            "call {fails}"
+        );
+        assert!(rt; !ran.ledger.is_empty(), "call {fails}");
     }
     Ok(())
 }
 
 #[test]
 fn another_limit_and_another_grain_change_no_solution(rt: HostRuntime) -> Result<(), Fail> {
-    let (end, whole) = solve_on(rt.alloc(), MANY, SETTINGS, 0x400_0000)?;
-    assert_eq!(rt; end.status, 0);
+    let whole = solve_on(rt.alloc(), MANY, SETTINGS, 0x400_0000)?;
+    let solutions = whole.written.as_str().split("totals").next().unwrap_or("");
     // A board has 93 bytes: at the limit 64 each unit is rejected, at 400 all but a few that wait.
     for (grain, limit) in [(1, 0x400_0000), (16, 0x400_0000), (0x1_0000, 64), (16, 400)] {
         let settings = Settings {
             budget: SETTINGS.budget,
             grain,
         };
-        let (end, written) = solve_on(rt.alloc(), MANY, settings, limit)?;
-        assert_eq!(rt; end.status, 0, "grain {grain}, limit {limit}");
-        let solutions = whole.split("totals").next().unwrap_or("");
+        let ran = solve_on(rt.alloc(), MANY, settings, limit)?;
+        assert_eq!(rt;
+            (whole.status, ran.status),
+            (0, 0),
+            "grain {grain}, limit {limit}"
+        );
         assert!(rt;
-            written.as_str().starts_with(solutions),
+            ran.written.as_str().starts_with(solutions),
             "grain {grain}, limit {limit}"
         );
     }
@@ -249,33 +314,14 @@ fn a_small_budget_is_over(rt: HostRuntime) -> Result<(), Fail> {
             budget,
             grain: SETTINGS.grain,
         };
-        let (end, written) = solve_on(rt.alloc(), puzzle, settings, 0x400_0000)?;
-        assert_eq!(rt; end.status, 0, "budget {budget}");
-        assert_eq!(rt; written.as_str(), over, "budget {budget}");
+        let ran = solve_on(rt.alloc(), puzzle, settings, 0x400_0000)?;
+        assert_eq!(rt;
+            (ran.status, ran.written.as_str()),
+            (0, over),
+            "budget {budget}"
+        );
     }
     Ok(())
-}
-
-// The first letter of each entry's name, in order; of one that begins with another's letter, another.
-fn names(alloc: Global, entries: &[Entry]) -> Result<String, Fail> {
-    let mut names = String::new(alloc);
-    for entry in entries {
-        names.push(match entry {
-            Entry::Putting { .. } => 'p',
-            Entry::Refused { used: 0, .. } => 'r',
-            Entry::Accepted { .. } => 'a',
-            Entry::Rejected { .. } => 'R',
-            Entry::Asked { .. } => 'q',
-            Entry::Granted { .. } => 'g',
-            Entry::Fetching { .. } => 'f',
-            Entry::Fetched { .. } => 'F',
-            Entry::Exhausted => 'x',
-            Entry::Over { .. } => 'o',
-            Entry::Finished { .. } => '.',
-            _ => '?',
-        })?;
-    }
-    Ok(names)
 }
 
 #[test]
@@ -288,14 +334,17 @@ fn a_server_that_is_too_small_keeps_the_report(rt: HostRuntime) -> Result<(), Fa
         (64, "prRprRqxo."),
         (90, "prRpaqgfFqxo."),
     ] {
-        let (end, written) = solve_on(rt.alloc(), FORCED, SETTINGS, limit)?;
-        assert_eq!(rt; end.status, 0, "limit {limit}");
-        assert_eq!(rt; written.as_str(), wanted.as_str(), "limit {limit}");
-        let kept = end.report.ok_or("no report is kept")?;
-        let entries = names(rt.alloc(), kept.ledger.entries())?;
-        assert_eq!(rt; entries.as_str(), ledger, "limit {limit}");
-        assert!(rt; kept.left.is_empty(), "limit {limit}");
-        assert_eq!(rt; kept.config.limit, limit);
+        let ran = solve_on(rt.alloc(), FORCED, SETTINGS, limit)?;
+        assert_eq!(rt;
+            (ran.status, ran.written.as_str()),
+            (0, wanted.as_str()),
+            "limit {limit}"
+        );
+        assert_eq!(rt;
+            (ran.ledger.as_str(), ran.left),
+            (ledger, 0),
+            "limit {limit}"
+        );
     }
     Ok(())
 }

@@ -1,11 +1,16 @@
--- Letters on their links.
-use Rattle.std.specs.Prelude.{ℕ, ◌+◌, max}
+-- Actors, and letters on their links.
+use Rattle.std.specs.Prelude.{ℕ, ◌+◌, nat_lt, Bool, max}
 use Rattle.adlb_unit.specs.declared.actors.Actor.{Actor}
 use Rattle.adlb_unit.specs.declared.actors.Actor.TheVariants as by
 use Rattle.adlb_unit.specs.declared.configs.Config.{Config}
 use Rattle.adlb_unit.specs.declared.letters.Letter.{Letter}
 use Rattle.adlb_unit.specs.declared.letters.Sending.{Sending}
 use Rattle.adlb_unit.specs.declared.messages.Message.{Message}
+
+-- the actor is one of this run
+abbrev pub is_within : Config → Actor → Bool
+is_within config (by.Rank rank) = nat_lt rank.0 config.ranks
+is_within config (by.Server server) = nat_lt server.0 config.servers
 
 -- the number of an actor among all: the ranks before the servers
 abbrev pub place_of : Config → Actor → ℕ
