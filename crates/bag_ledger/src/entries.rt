@@ -1,5 +1,6 @@
 //! The entries of a ledger, and the calls of a rank with their answers.
 
+use crate::bodies::Body;
 use adlb_unit::{
     BatchId, End, Info, Payload, Rank, Server, Target, Types, UnitId, UnitNote, WorkType,
 };
@@ -194,7 +195,7 @@ pub enum Call {
     Finish,
 }
 
-/// The answer of a call. A body is the common bytes, if there are any, and then the unit's own.
+/// The answer of a call.
 #[derive(Debug, Drop)]
 pub enum Answer {
     Fine,
@@ -202,7 +203,8 @@ pub enum Answer {
     Ended(End),
     Granted(UnitNote),
     NoCurrent,
-    Body(Payload),
+    /// What a fetch gives.
+    Body(Body),
     Info(Info),
 }
 

@@ -5,11 +5,13 @@
 //! states what holds of them. `docs/MODEL.md` tells the same in plain words. It stands on `adlb_unit`.
 #![tactic(auto)]
 
+mod bodies;
 mod entries;
 mod laws;
 mod ledgers;
 mod states;
 
+pub use bodies::Body;
 pub use entries::{Answer, Call, Entry, Said};
 pub use laws::{bag_laws, run_laws};
 pub use ledgers::Ledger;

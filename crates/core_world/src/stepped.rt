@@ -24,8 +24,10 @@ const THIRD: Actor = Actor::Server(Server(2));
 enum Does {
     // The rank puts so many bytes.
     Puts(usize),
-    // It begins a batch with so many common bytes.
-    Begins(usize),
+    // It puts this byte.
+    PutsByte(u8),
+    // It begins a batch with these common bytes.
+    Begins([u8; 2]),
     Ends,
     // It reserves a unit of any type.
     Reserves,
@@ -60,7 +62,7 @@ enum Line<'a> {
     Waiting(Actor, Actor),
     // How many calls of the rank are answered.
     Answered,
-    // The bytes with which its last call was answered.
+    // The two runs of bytes with which its last call was answered.
     Body,
     // The ledger, each entry as `row` has it.
     Ledger,
@@ -71,7 +73,13 @@ enum Line<'a> {
 fn event(alloc: Global, does: Does) -> Result<Event, Fail> {
     Ok(match does {
         Does::Puts(size) => Event::Call(Rank(0), put(alloc, size)?),
-        Does::Begins(size) => Event::Call(Rank(0), begin(alloc, size)?),
+        Does::PutsByte(byte) => Event::Call(Rank(0), put_of(Payload::copy(alloc, &[byte])?)),
+        Does::Begins(bytes) => Event::Call(
+            Rank(0),
+            Call::BeginBatch {
+                common: Payload::copy(alloc, &bytes)?,
+            },
+        ),
         Does::Ends => Event::Call(Rank(0), Call::EndBatch),
         Does::Reserves => Event::Call(
             Rank(0),
@@ -87,20 +95,17 @@ fn event(alloc: Global, does: Does) -> Result<Event, Fail> {
 
 fn put(alloc: Global, size: usize) -> Result<Call, Fail> {
     let bytes = vec![in alloc; 7_u8; size]?;
-    Ok(Call::Put {
+    Ok(put_of(Payload::from_vec(bytes)))
+}
+
+fn put_of(body: Payload) -> Call {
+    Call::Put {
         kind: WorkType(1),
         prio: 0,
         target: Target::Any,
         answer: None,
-        body: Payload::from_vec(bytes),
-    })
-}
-
-fn begin(alloc: Global, size: usize) -> Result<Call, Fail> {
-    let bytes = vec![in alloc; 9_u8; size]?;
-    Ok(Call::BeginBatch {
-        common: Payload::from_vec(bytes),
-    })
+        body,
+    }
 }
 
 fn fetch(number: u64) -> Call {
@@ -210,6 +215,10 @@ fn left(alloc: Global, world: &World, servers: u32, number: u32) -> Result<Strin
     Ok(format!(in alloc; "{left:?}")?)
 }
 
+fn text(bytes: &[u8]) -> &str {
+    str::from_utf8(bytes).unwrap_or("?")
+}
+
 fn body(alloc: Global, world: &World) -> Result<String, Fail>
     requires { world.now.world.config.ranks ≡ 1 }
 {
@@ -219,7 +228,11 @@ fn body(alloc: Global, world: &World) -> Result<String, Fail>
                 answer: Answer::Body(body),
                 ..
             },
-        ) => Ok(format!(in alloc; "{:?}", body.bytes())?),
+        ) => {
+            let (common, own) = body.runs();
+            let (common, own) = (text(common), text(own));
+            Ok(format!(in alloc; "{common} {own}")?)
+        }
         _ => Err("the last call was no fetch".into()),
     }
 }
@@ -357,15 +370,15 @@ fn each_server_hears_of_the_end_and_keeps_what_is_left(rt: HostRuntime) -> Resul
     play(&rt, rt.alloc(), 3, &scene)
 }
 
-// A batch over two bytes: units of one and of two bytes are put.
+// A batch over the bytes `xy`: the units `a` and `b` are put.
 const BATCH: [Does; 9] = [
-    Does::Begins(2),
+    Does::Begins([b'x', b'y']),
     Does::Delivers(RANK, FIRST),
     Does::Delivers(FIRST, RANK),
-    Does::Puts(1),
+    Does::PutsByte(b'a'),
     Does::Delivers(RANK, FIRST),
     Does::Delivers(FIRST, RANK),
-    Does::Puts(2),
+    Does::PutsByte(b'b'),
     Does::Delivers(RANK, FIRST),
     Does::Delivers(FIRST, RANK),
 ];
@@ -399,12 +412,12 @@ fn a_common_part_is_fetched_with_each_unit_and_then_freed(rt: HostRuntime) -> Re
         (Line::Applies(Does::Finishes), "refused"),
         (Line::Runs(&END), "3 done"),
         (Line::Runs(&work(1)), "8 done"),
-        (Line::Body, "[9, 9, 7]"),
+        (Line::Body, "xy a"),
         (Line::Runs(&work(2)), "8 done"),
-        (Line::Body, "[9, 9, 7, 7]"),
+        (Line::Body, "xy b"),
         (
             Line::Ledger,
-            "keeping 0 0 2; kept 0 0 0; putting 1 0 1; accepted 1 0 0; putting 2 0 2; accepted 2 0 0; \
+            "keeping 0 0 2; kept 0 0 0; putting 1 0 1; accepted 1 0 0; putting 2 0 1; accepted 2 0 0; \
                 closing 3 0 0; closed 0 0 0; asked 4 0 0; granted 1 0 0; fetching 1 0 0; fetched 1 0 0; \
                 common fetched 0 0 0; asked 6 0 0; granted 2 0 0; fetching 2 0 0; fetched 2 0 0; \
                 common fetched 0 0 0; freed 0 0 0; ",

@@ -1,8 +1,8 @@
 //! A run that is stepped by hand.
 
-ghost use Rattle.std.specs.Prelude.{◌≡◌, ◌<◌, IfOk, length};
+ghost use Rattle.std.specs.Prelude.{◌≡◌, ◌<◌, IfOk, is_some, length};
 ghost use Rattle.core_run.specs.Runs.{transcript};
-ghost use Rattle.core_run.specs.World.{pool_of};
+ghost use Rattle.core_run.specs.World.{client_of, pool_of};
 ghost use Rattle.core_world.specs.Seen.{new_world, under_way};
 ghost use Rattle.server_core.specs.Left.{left_of};
 
@@ -64,6 +64,14 @@ impl World {
         ensures { result.now ≡ transcript self.now.world rank }
     {
         self.stage.client_at(rank).transcript()
+    }
+
+    /// A batch of a rank of the run is going on.
+    pub fn batch_open(&self, rank: Rank) -> bool
+        requires { rank.0 < self.now.world.config.ranks }
+        ensures { result ≡ is_some (client_of self.now.world rank).batch }
+    {
+        self.stage.client_at(rank).batch_open()
     }
 
     /// How many letters from one actor to another were sent and not handled. Where one of the two is no actor of the run, there

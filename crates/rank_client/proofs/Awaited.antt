@@ -8,7 +8,6 @@ use Rattle.std.proofs.lemmas.Bool.{and_parts, eqb-true, leb-true, lt-ltb, ltb-tr
 use Rattle.std.proofs.lemmas.List.Elements.{All-push, All-same, All-set}
 use Rattle.adlb_unit.specs.Links.{sending}
 use Rattle.adlb_unit.specs.Targets.{home}
-use Rattle.adlb_unit.specs.Totals.{common_length, total_of}
 use Rattle.adlb_unit.specs.declared.actors.Actor.TheVariants as by
 use Rattle.adlb_unit.specs.declared.letters.Letter.{Letter}
 use Rattle.adlb_unit.specs.declared.letters.Sending.{Sending}
@@ -94,12 +93,12 @@ pub retry_gives : (s : ClientModel) (unit next : Unit) (first to : Server) (trie
 retry_gives s unit next first to tried letter sends before entries sent to_is next_is sent_is letter_is before_is sends_is entries_is =
     rw (sends_is, entries_is, before_is, letter_is, sent_is, next_is, to_is) refl
 
--- own bytes that are awaited are as many as the note says, so that with the common part they are as many as the fetch gives
-pub own_fits : (s : ClientModel) (p : Pending) (request : ℕ) (note : UnitNote) (common : CommonRef) (from : Server) (m : Message) (to : ℕ) (own : List ℕ) → p ≡ waits_for.Fetch request note
-    → m ≡ tells.Bytes to own → note.common ≡ Some common → IsSome (answer_call s p from m) → common.length + length own ≡ total_of note
-own_fits s p request note common from m to own p_is m_is part some =
+-- own bytes that are awaited are as many as the note says
+pub own_fits : (s : ClientModel) (p : Pending) (request : ℕ) (note : UnitNote) (from : Server) (m : Message) (to : ℕ) (own : List ℕ)
+    → p ≡ waits_for.Fetch request note → m ≡ tells.Bytes to own → IsSome (answer_call s p from m) → length own ≡ note.length
+own_fits s p request note from m to own p_is m_is some =
     let here : IsSome (answer_call s (waits_for.Fetch request note) from (tells.Bytes to own)) = subst (λ (q : Pending). IsSome (answer_call s q from (tells.Bytes to own))) p_is (subst (λ (x : Message). IsSome (answer_call s p from x)) m_is some) in
-    omega (arith, ap common_length part, by_test (is_for request note.server from to && (length own == note.length)) refl here)
+    by_test (is_for request note.server from to && (length own == note.length)) refl here
   where
     by_test : (t : Bool) → (is_for request note.server from to && (length own == note.length)) ≡ t
         → IsSome (if t then Some (own_came s request note own note.common) else None) → length own ≡ note.length

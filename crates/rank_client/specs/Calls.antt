@@ -58,6 +58,15 @@ abbrev pub fetch_trouble : Result (List ℕ) (UnitNote × Trouble) → Option Tr
 fetch_trouble (Ok body) = None
 fetch_trouble (Err e) = Some e.1
 
+-- the end of a batch
+abbrev pub done_answer : Result (Unit {0}) Trouble → Option Answer
+done_answer (Ok done) = Some answers.Fine
+done_answer (Err trouble) = None
+
+abbrev pub done_trouble : Result (Unit {0}) Trouble → Option Trouble
+done_trouble (Ok done) = None
+done_trouble (Err trouble) = Some trouble
+
 -- What a transcript has.
 
 abbrev pub is_finish : Call → Bool
@@ -95,6 +104,21 @@ end_of _ later = later
 unfoldable pub end_told : List Said → Option End
 end_told [] = None
 end_told (s ∷ said) = end_of s.answer (end_told said)
+
+-- whether a batch is going on after a call with this answer: it begins, it ends, or it is as before
+abbrev pub goes_on : Call → Answer → Bool → Bool
+goes_on (calls_to.BeginBatch common) answers.Fine on = true
+goes_on calls_to.EndBatch answers.Fine on = false
+goes_on call answer on = on
+
+-- after all of these calls
+unfoldable pub open_after : Bool → List Said → Bool
+open_after on [] = on
+open_after on (s ∷ said) = open_after (goes_on s.call s.answer on) said
+
+-- a batch is going on
+abbrev pub is_open : List Said → Bool
+is_open said = open_after false said
 
 -- Words of the conditions and of what a call leaves.
 

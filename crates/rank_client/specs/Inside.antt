@@ -1,6 +1,6 @@
 -- The fields of a client.
 use Rattle.std.specs.Prelude.{◌≡◌, ℕ, ◌+◌, ◌<◌, ◌≤◌, List, [], length, Bool, true, false, All, IfSome, Option, None}
-use Rattle.adlb_unit.specs.Totals.{total_of}
+use Rattle.adlb_unit.specs.Totals.{common_length}
 use Rattle.adlb_unit.specs.declared.names.CommonRef.{CommonRef}
 use Rattle.adlb_unit.specs.declared.notes.UnitNote.{UnitNote}
 use Rattle.std.specs.Vec.{vec_len, vec_capacity}
@@ -68,11 +68,12 @@ HasRoom config notes space room (waits_for.Put unit first tried) =
     × (1 ≤ vec_capacity room.entries) × (room.entries.items ≡ [])
 HasRoom config notes space room (waits_for.Reserve request types) = notes < space
 HasRoom config notes space room (waits_for.Fetch request note) =
-    (total_of note ≤ vec_capacity room.bytes) × (room.bytes.items ≡ []) × (total_of note ≤ vec_capacity room.kept) × (room.kept.items ≡ [])
+    (note.length ≤ vec_capacity room.own) × (room.own.items ≡ [])
+    × (common_length note.common ≤ vec_capacity room.common) × (room.common.items ≡ [])
     × (1 ≤ vec_capacity room.sends) × (room.sends.items ≡ []) × IsPlaced config note
 HasRoom config notes space room (waits_for.Common request note common own) =
-    (common.length + length own ≤ vec_capacity room.bytes) × (room.bytes.items ≡ [])
-    × (common.length + length own ≤ vec_capacity room.kept) × (room.kept.items ≡ [])
+    (length own ≤ vec_capacity room.own) × (room.own.items ≡ [])
+    × (common.length ≤ vec_capacity room.common) × (room.common.items ≡ [])
 HasRoom config notes space room (waits_for.Keep request common first tried) =
     (vec_len room.tries + tried + 1 ≡ config.servers) × All (λ body. body ≡ common) room.tries.items × (first.0 < config.servers)
     × (1 ≤ vec_capacity room.entries) × (room.entries.items ≡ []) × (length common ≤ body_limit)

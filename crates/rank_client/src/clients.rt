@@ -1,6 +1,6 @@
 //! What a client keeps of its rank.
 
-ghost use Rattle.std.specs.Prelude.{◌≡◌, ◌<◌, ◌≤◌, ◌+◌, ◌∷◌, ◌++◌, [], false, length, map, IfOk, slice_index_or, slice_set};
+ghost use Rattle.std.specs.Prelude.{◌≡◌, ◌<◌, ◌≤◌, ◌+◌, ◌∷◌, ◌++◌, [], false, length, map, is_some, IfOk, slice_index_or, slice_set};
 ghost use Rattle.std.specs.Vec.{vec_len, vec_capacity};
 ghost use Rattle.adlb_unit.specs.Limits.{stamp_limit};
 ghost use Rattle.adlb_unit.specs.Links.{sending};
@@ -108,6 +108,13 @@ impl ClientCore {
         ensures { result ≡ self.now.trouble }
     {
         self.trouble
+    }
+
+    /// A batch is going on.
+    pub fn batch_open(&self) -> bool
+        ensures { result ≡ is_some self.now.batch }
+    {
+        self.batch.is_some()
     }
 
     // The client has failed.

@@ -246,12 +246,17 @@ fn name(entry: &Entry) -> (&'static str, u64) {
     }
 }
 
+fn text(bytes: &[u8]) -> &str {
+    str::from_utf8(bytes).unwrap_or("?")
+}
+
 fn answer(alloc: Global, answer: &Option<Answer>) -> Result<String, Fail> {
     match answer {
         None => Ok(String::new(alloc)),
         Some(Answer::Body(body)) => {
-            let text = str::from_utf8(body.bytes()).unwrap_or("?");
-            Ok(format!(in alloc; " bytes {text}")?)
+            let (common, own) = body.runs();
+            let (common, own) = (text(common), text(own));
+            Ok(format!(in alloc; " bytes {common}|{own}")?)
         }
         Some(other) => Ok(format!(in alloc; " {other:?}")?),
     }
@@ -326,7 +331,7 @@ fn a_reserved_unit_is_fetched(rt: HostRuntime) -> Result<(), Fail> {
         (Line::Begins(Makes::Reserve), "1 to 0 asked 0"),
         (Line::Hears(0, Says::Grant(0, 7, 0)), GRANTED),
         (Line::Begins(Makes::Fetch(7)), "4 to 0 fetching 1"),
-        (Line::Hears(0, Says::Bytes(1, b"unit")), "6 bytes unit"),
+        (Line::Hears(0, Says::Bytes(1, b"unit")), "6 bytes |unit"),
         (Line::IsReady(Makes::Fetch(7)), "no"),
         (Line::Begins(Makes::Finish), "7 to 0 finished 2 Fine"),
         (Line::IsReady(Makes::Reserve), "no"),
@@ -418,7 +423,7 @@ fn a_unit_that_was_fetched_is_not_granted_again(rt: HostRuntime) -> Result<(), F
         (Line::Begins(Makes::Reserve), "1 to 0 asked 0"),
         (Line::Hears(0, Says::Grant(0, 7, 0)), GRANTED),
         (Line::Begins(Makes::Fetch(7)), "4 to 0 fetching 1"),
-        (Line::Hears(0, Says::Bytes(1, b"unit")), "6 bytes unit"),
+        (Line::Hears(0, Says::Bytes(1, b"unit")), "6 bytes |unit"),
         (Line::Begins(Makes::Reserve), "7 to 0 asked 2"),
         (Line::Expects(0, 1, Says::Grant(2, 7, 0)), "no"),
         (Line::Expects(0, 1, Says::Grant(2, 8, 0)), "yes"),
@@ -459,7 +464,7 @@ fn the_common_bytes_stand_before_the_units_own(rt: HostRuntime) -> Result<(), Fa
         (Line::Begins(Makes::Fetch(0)), "4 to 0 fetching 1"),
         (Line::Hears(0, Says::Bytes(1, b"unit")), "6 to 0"),
         (Line::Expects(0, 1, Says::Bytes(1, b"par")), "no"),
-        (Line::Hears(0, Says::Bytes(1, b"part")), "8 bytes partunit"),
+        (Line::Hears(0, Says::Bytes(1, b"part")), "8 bytes part|unit"),
     ];
     play(&rt, rt.alloc(), 1, &scene)
 }

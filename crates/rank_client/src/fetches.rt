@@ -4,7 +4,7 @@ ghost use Rattle.std.specs.Prelude.{◌≡◌, ◌+◌, ◌≤◌, ◌++◌, [],
 ghost use Rattle.std.specs.Option.{option_map};
 ghost use Rattle.std.specs.Vec.{vec_len, vec_capacity};
 ghost use Rattle.adlb_unit.specs.Ids.{same_unit};
-ghost use Rattle.adlb_unit.specs.Totals.{total_of};
+ghost use Rattle.adlb_unit.specs.Totals.{common_length};
 ghost use Rattle.rank_client.specs.Inside.{IsFresh, common_of, gives, is_common, is_fetch};
 ghost use Rattle.rank_client.specs.Rules.{answer_call, fetched, held, is_free};
 ghost use Rattle.rank_client.specs.Step.{made};
@@ -15,7 +15,8 @@ use crate::pendings::Pending;
 use crate::rooms::Room;
 use crate::steps::ClientStep;
 use adlb_unit::{CommonRef, Message, NoMemory, Payload, Server, UnitId, UnitNote};
-use bag_ledger::{Answer, Call, Entry, Said};
+use bag_ledger::{Answer, Body, Call, Entry, Said};
+use std::alloc::Global;
 use std::mem;
 
 // Takes the note of this unit out of the list.
@@ -36,31 +37,33 @@ fn drop_note(handles: &mut Vec<UnitNote>, id: UnitId)
     handles.truncate(kept);
 }
 
-// How many bytes a fetch of this unit gives.
-fn total(note: &UnitNote) -> usize
-    ensures { result ≡ total_of note.now }
+// The bytes of the common part, if there is one.
+fn common_length(common: Option<CommonRef>) -> usize
+    ensures { result ≡ common_length common }
 {
-    let common = match note.common {
-        None => 0,
+    match common {
         Some(part) => part.length as usize,
-    };
-    common + note.length as usize
+        None => 0,
+    }
 }
 
-// The common bytes and then the unit's own, in room for both.
-fn joined(room: Vec<u8>, common: &Payload, own: &Payload) -> Payload
-    requires room { length common.now + length own.now ≤ vec_capacity room }
+// A twin of these bytes. If none can be made, as where all owners that can be counted are there, they are copied to
+// this room.
+fn another(alloc: Global, bytes: &Payload, room: Vec<u8>) -> Payload
+    requires room { length bytes.now ≤ vec_capacity room }
     requires none { room.items ≡ [] }
-    ensures { result ≡ common.now ++ own.now }
+    ensures { result ≡ bytes.now }
 {
-    let mut bytes = room;
-    let (Ok(()), Ok(())) = (
-        bytes.extend_from_slice(common.bytes()),
-        bytes.extend_from_slice(own.bytes()),
-    ) else {
-        unreachable!()
-    };
-    Payload::from_vec(bytes)
+    match bytes.twin(alloc) {
+        Ok(twin) => twin,
+        Err(NoMemory) => {
+            let mut copied = room;
+            let Ok(()) = copied.extend_from_slice(bytes.bytes()) else {
+                unreachable!()
+            };
+            Payload::from_vec(copied)
+        }
+    }
 }
 
 impl ClientCore {
@@ -79,13 +82,12 @@ impl ClientCore {
             call: request,
             id,
         };
-        let length = total(&note);
-        let bytes = with_room(self.alloc, length)?;
-        let kept = with_room(self.alloc, length)?;
+        let own = with_room(self.alloc, note.length as usize)?;
+        let common = with_room(self.alloc, common_length(note.common))?;
         let sends = with_room(self.alloc, 1)?;
         let room = Room {
-            bytes,
-            kept,
+            own,
+            common,
             sends,
             tries: Vec::new(self.alloc),
             entries: Vec::new(self.alloc),
@@ -145,14 +147,12 @@ impl ClientCore {
         let Message::Bytes { body, .. } = message else {
             unreachable!()
         };
-        let mut bytes = mem::replace(&mut self.room.bytes, Vec::new(self.alloc));
-        let Ok(()) = bytes.extend_from_slice(body.bytes()) else {
-            unreachable!()
-        };
+        let room = mem::replace(&mut self.room.own, Vec::new(self.alloc));
+        let given = Body::alone(another(self.alloc, &body, room));
         let call = Call::Fetch { id: note.id };
-        let answer = Answer::Body(body);
+        let answer = Answer::Body(Body::alone(body));
         self.said.push_reserved(Said { call, answer });
-        self.ended(Vec::new(self.alloc), Answer::Body(Payload::from_vec(bytes)))
+        self.ended(Vec::new(self.alloc), Answer::Body(given))
     }
 
     // The own bytes stay until the common ones come.
@@ -206,12 +206,14 @@ impl ClientCore {
         let Message::Bytes { body: common, .. } = message else {
             unreachable!()
         };
-        let bytes = mem::replace(&mut self.room.bytes, Vec::new(self.alloc));
-        let kept = mem::replace(&mut self.room.kept, Vec::new(self.alloc));
+        let room = mem::replace(&mut self.room.own, Vec::new(self.alloc));
+        let given_own = another(self.alloc, &own, room);
+        let room = mem::replace(&mut self.room.common, Vec::new(self.alloc));
+        let given_common = another(self.alloc, &common, room);
         let call = Call::Fetch { id: note.id };
-        let answer = Answer::Body(joined(kept, &common, &own));
+        let answer = Answer::Body(Body::joined(common, own));
         self.said.push_reserved(Said { call, answer });
-        let all = joined(bytes, &common, &own);
-        self.ended(Vec::new(self.alloc), Answer::Body(all))
+        let given = Body::joined(given_common, given_own);
+        self.ended(Vec::new(self.alloc), Answer::Body(given))
     }
 }

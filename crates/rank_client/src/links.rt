@@ -1,19 +1,19 @@
 //! The calls of a rank.
 
-ghost use Rattle.std.specs.Prelude.{◌≡◌, ◌≤◌, ◌<◌, ◌^◌, List, Option, Some, None, Bool, true, false, ◌&&◌, is_none, length, Contains, IfOk, IfErr};
+ghost use Rattle.std.specs.Prelude.{◌≡◌, ◌≤◌, ◌<◌, ◌^◌, List, Option, Some, None, Bool, true, false, ◌&&◌, is_none, is_ok, length, Contains, IfOk, IfErr};
 ghost use Rattle.adlb_unit.specs.Targets.{Aims};
 ghost use Rattle.adlb_unit.specs.Totals.{total_of};
 ghost use Rattle.adlb_unit.specs.declared.notes.Trouble.{Trouble};
 ghost use Rattle.bag_ledger.specs.declared.entries.Call.{Call};
 ghost use Rattle.bag_ledger.specs.declared.entries.Said.{Said};
-ghost use Rattle.rank_client.specs.Calls.{Began, Repeats, TellsAgain, end_answer, end_told, end_trouble, fetch_answer, fetch_trouble, granted, has_finished, is_granted, is_fetched, plus, put_answer, put_trouble};
+ghost use Rattle.rank_client.specs.Calls.{Began, Repeats, TellsAgain, done_answer, done_trouble, end_answer, end_told, end_trouble, fetch_answer, fetch_trouble, granted, has_finished, is_granted, is_fetched, plus, put_answer, put_trouble};
 ghost use Rattle.rank_client.specs.Seat.{Seat};
 
 use crate::faults::{EndFault, PutFault};
 use adlb_unit::{Handle, Payload, Rank, Target, Trouble, Types, WorkType};
-use bag_ledger::{Call, Said};
+use bag_ledger::{Body, Call, Said};
 
-/// What a rank can do. Each call but `leave` and `transcript` waits for its answer and adds itself with the answer to the
+/// What a rank can do. Each call but `leave`, `batch_open` and `transcript` waits for its answer and adds itself with the answer to the
 /// transcript, unless it answers `Memory` or `TooLong`. A link that answered one of these two has failed: its transcript stays,
 /// and each later call answers the same.
 pub trait Adlb {
@@ -68,8 +68,8 @@ pub trait Adlb {
         ensures began { Began (failed self.old) (begun self.old) (Call.Reserve types.now) (failed self.new) (begun self.new) };
 
     /// Gives the bytes of a unit that was granted and not fetched before: those of the common part, if there is one, and then
-    /// its own. A refusal hands the handle back.
-    fn get_reserved(&mut self, handle: Handle) -> Result<Payload, (Handle, Trouble)>
+    /// its own, shared with whoever else has them. A refusal hands the handle back.
+    fn get_reserved(&mut self, handle: Handle) -> Result<Body, (Handle, Trouble)>
         requires running { has_finished (transcript self.old) ≡ false }
         requires granted { granted handle (transcript self.old) }
         requires once { is_fetched handle.id (transcript self.old) ≡ false }
@@ -91,6 +91,36 @@ pub trait Adlb {
         ensures batch { batch self.new ≡ batch self.old }
         ensures failed { failed self.new ≡ failed self.old }
         ensures began { begun self.new ≡ begun self.old };
+
+    /// Begins a batch: units that are put while it goes on share its common part, of at most `2^20` bytes. It is Rejected only
+    /// after each server has refused the common part in this call. After an end was told it gives that end again. After a
+    /// refusal no batch is going on.
+    fn begin_batch(&mut self, common: Payload) -> Result<(), PutFault>
+        requires running { has_finished (transcript self.old) ≡ false }
+        requires common { length common ≤ 2 ^ 20 }
+        requires closed { batch self.old ≡ false }
+        ensures says { transcript self.new ≡ plus (transcript self.old) (Call.BeginBatch common) (put_answer result) }
+        ensures told { TellsAgain (end_told (transcript self.old)) (put_answer result) }
+        ensures seat { seat self.new ≡ seat self.old }
+        ensures batch { batch self.new ≡ is_ok result }
+        ensures failed { failed self.new ≡ put_trouble result }
+        ensures repeats { Repeats (failed self.old) (put_trouble result) }
+        ensures began { Began (failed self.old) (begun self.old) (Call.BeginBatch common) (failed self.new) (begun self.new) };
+
+    /// Ends the batch that is going on. It works after an end was told as well.
+    fn end_batch(&mut self) -> Result<(), Trouble>
+        requires running { has_finished (transcript self.old) ≡ false }
+        requires open { batch self.old ≡ true }
+        ensures says { transcript self.new ≡ plus (transcript self.old) Call.EndBatch (done_answer result) }
+        ensures seat { seat self.new ≡ seat self.old }
+        ensures batch { batch self.new ≡ false }
+        ensures failed { failed self.new ≡ done_trouble result }
+        ensures repeats { Repeats (failed self.old) (done_trouble result) }
+        ensures began { Began (failed self.old) (begun self.old) Call.EndBatch (failed self.new) (begun self.new) };
+
+    /// A batch is going on. A link that has failed has none.
+    fn batch_open(&self) -> bool
+        ensures { result ≡ batch self.now };
 
     /// Leaves the run. No batch is going on.
     fn finish(self)

@@ -24,7 +24,8 @@ pub trait RankProgram {
     ghost follows: { Self → Rank → List Said → Self.Outcome → Type 0 };
 
     /// Makes the calls of this rank, which has made none before. At `Ok` the transcript follows the program at its outcome, and at
-    /// `Ok` and at `Err` it is as it can be while the program runs. Whoever runs it finishes the link afterwards.
+    /// `Ok` and at `Err` it is as it can be while the program runs. Whoever runs it ends the batch that is going on at an `Err`, if
+    /// one is, and finishes the link.
     fn run<A: Adlb>(&self, rank: Rank, link: &mut A) -> Result<Self::Outcome, Trouble>
         requires rank { rank.0 < (A.seat link.old).ranks }
         requires fits { fits self.now (A.seat link.old).ranks }

@@ -96,8 +96,8 @@ impl ClientCore {
         Ok(Room {
             tries: offers(self.alloc, body, self.config.servers as usize - 1)?,
             entries: with_room(self.alloc, 1)?,
-            bytes: Vec::new(self.alloc),
-            kept: Vec::new(self.alloc),
+            own: Vec::new(self.alloc),
+            common: Vec::new(self.alloc),
             sends: Vec::new(self.alloc),
         })
     }

@@ -35,13 +35,14 @@ impl Offer {
     }
 }
 
-// Room for what the rest of a call may need: an answer's bytes are joined in `bytes` and, for the transcript, in `kept`.
+// Room for what the rest of a call may need. The bytes of a fetch, the unit's own and those of its common part, are copied to
+// theirs only if they cannot be shared with the transcript.
 #[derive(Drop)]
 pub(crate) struct Room {
     pub(crate) tries: Vec<Offer>,
     pub(crate) entries: Vec<Entry>,
-    pub(crate) bytes: Vec<u8>,
-    pub(crate) kept: Vec<u8>,
+    pub(crate) own: Vec<u8>,
+    pub(crate) common: Vec<u8>,
     pub(crate) sends: Vec<Sending>,
 }
 
@@ -51,8 +52,8 @@ impl Room {
         Room {
             tries: Vec::new(alloc),
             entries: Vec::new(alloc),
-            bytes: Vec::new(alloc),
-            kept: Vec::new(alloc),
+            own: Vec::new(alloc),
+            common: Vec::new(alloc),
             sends: Vec::new(alloc),
         }
     }

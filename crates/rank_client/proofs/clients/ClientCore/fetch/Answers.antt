@@ -11,10 +11,10 @@ ask-requires-clause-server c =
 
 pub ask-requires-clause-room : goal.ask-requires-clause-room
 ask-requires-clause-room c = (
-  omega (arith, c.in_ok-bytes.ensures.room, c.total-length.ensures),
-  c.in_ok-bytes.ensures.items,
-  omega (arith, c.in_ok-kept.ensures.room, c.total-length.ensures),
-  c.in_ok-kept.ensures.items,
+  omega (arith, c.in_ok-own.ensures.room),
+  c.in_ok-own.ensures.items,
+  omega (arith, c.in_ok-common.ensures.room, c.common_length.ensures),
+  c.in_ok-common.ensures.items,
   omega (arith, c.in_ok-sends.ensures.room),
   c.in_ok-sends.ensures.items,
   held_server c.args.self.now c.args.id c.args.note (subst IsSound c.self.view_is c.self.invariant.sound) c.requires.held,

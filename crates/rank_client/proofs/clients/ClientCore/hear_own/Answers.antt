@@ -2,6 +2,7 @@ use Rattle.std.proofs.Common.{◌≡◌, ◌<◌, ◌∙◌, Some, ap, sym, subs
 use Rattle.std.specs.Prelude.{IfSome, IsSome}
 use Rattle.std.specs.Vec.{vec_len, vec_capacity}
 use Rattle.adlb_unit.specs.declared.names.CommonRef.{CommonRef}
+use Rattle.adlb_unit.specs.Totals.{common_length}
 use Rattle.rank_client.specs.declared.pendings.Pending.{Pending}
 use Rattle.rank_client.specs.Inside.{HasRoom, IsFresh, awaited, common_of, state_of}
 use Rattle.rank_client.specs.Rules.{answer_call}
@@ -18,10 +19,10 @@ invariant_of-self c =
     let due = subst (λ (s : ClientModel). common_of s.pending ≡ Some c.args.common) (sym c.self.view_is) c.requires.common in
     let part = subst (λ (p : Pending). common_of p ≡ Some c.args.common) pending due in
     let there = subst (λ o. IfSome o (λ (x : CommonRef). x.server.0 < c.self.inside.config.servers)) part (room.6).1 in
-    let fits = own_fits (state_of c.self.inside) c.self.inside.pending c.in-Fetch.request c.in-Fetch.note c.args.common c.args.from c.args.message _ c.in-Bytes.own pending c.in-Bytes.is part expected in
+    let fits = own_fits (state_of c.self.inside) c.self.inside.pending c.in-Fetch.request c.in-Fetch.note c.args.from c.args.message _ c.in-Bytes.own pending c.in-Bytes.is expected in
     record {
       sound = retried_sound (state_of c.self.inside) _ _ c.args.common.server.0 c.self.invariant.sound fresh there c.write.ensures.counted;
-      room = (omega (arith, fits, room.0), room.1, omega (arith, fits, room.2), room.3);
+      room = (omega (arith, fits, room.0), room.1, omega (arith, ap common_length part, room.2), room.3);
       finish = λ going. let could = c.self.invariant.finish going in record {
         said = omega (arith, could.said, ap awaited pending);
         letters = could.letters;
