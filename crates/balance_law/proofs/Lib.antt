@@ -1,5 +1,7 @@
 pub mod Calling
+pub mod Commons
 pub mod Deeds
+pub mod Freed
 pub mod Going
 pub mod Paths
 pub mod Seen

@@ -71,18 +71,21 @@ over_zero zero = refl
 over_zero (suc n) = let h = over_zero n in omega (arith, h)
 
 -- a rank that is none of so many
-over_none : {X : Type 0} (f : X → ℕ) (n : ℕ) (by : Rank) (x : X) → n ≤ by.0 → over_ranks n (λ rank. sum_by f (of_rank rank (Some (by, x)))) ≡ 0
+over_none : {X : Type 0} (f : X → ℕ) (n : ℕ) (by : Rank) (x : X) → n ≤ by.0
+    → over_ranks n (λ rank. sum_by f (of_rank rank (Some (by, x)))) ≡ 0
 over_none f zero by x l = refl
 over_none f (suc n) by x l =
     let h = over_none f n by x (omega (arith, l)) in
     let no : (by.0 == n) ≡ false = grind (arith, nat_tests, l) in
     rw no (omega (arith, h))
 
-over_some : {X : Type 0} (f : X → ℕ) (n : ℕ) (by : Rank) (x : X) → by.0 < n → over_ranks n (λ rank. sum_by f (of_rank rank (Some (by, x)))) ≡ f x
+over_some : {X : Type 0} (f : X → ℕ) (n : ℕ) (by : Rank) (x : X) → by.0 < n
+    → over_ranks n (λ rank. sum_by f (of_rank rank (Some (by, x)))) ≡ f x
 over_some f zero by x l = absurd (omega (arith, l))
 over_some f (suc n) by x l = by_test (by.0 == n) refl (λ lower. over_some f n by x lower)
   where
-    by_test : (t : Bool) → (by.0 == n) ≡ t → (by.0 < n → over_ranks n (λ rank. sum_by f (of_rank rank (Some (by, x)))) ≡ f x) → over_ranks (suc n) (λ rank. sum_by f (of_rank rank (Some (by, x)))) ≡ f x
+    by_test : (t : Bool) → (by.0 == n) ≡ t → (by.0 < n → over_ranks n (λ rank. sum_by f (of_rank rank (Some (by, x)))) ≡ f x)
+        → over_ranks (suc n) (λ rank. sum_by f (of_rank rank (Some (by, x)))) ≡ f x
     by_test true is rest =
         let e : by.0 ≡ n = eqb-true by.0 n is in
         let h = over_none f n by x (omega (arith, e)) in
@@ -92,15 +95,21 @@ over_some f (suc n) by x l = by_test (by.0 == n) refl (λ lower. over_some f n b
         let h = rest (omega (arith, l, d)) in
         rw is (omega (arith, h))
 
-pub over_one : {X : Type 0} (f : X → ℕ) (n : ℕ) (o : Option (Rank × X)) → IsWithin n o → over_ranks n (λ rank. sum_by f (of_rank rank o)) ≡ weight f o
+pub over_one : {X : Type 0} (f : X → ℕ) (n : ℕ) (o : Option (Rank × X)) → IsWithin n o
+    → over_ranks n (λ rank. sum_by f (of_rank rank o)) ≡ weight f o
 over_one f n None within = over_zero n
 over_one f n (Some (by, x)) within = over_some f n by x within
 
 -- a sum over a path is the weight of its first entry and the sum over the rest
-pub over_along : {X : Type 0} (f : X → ℕ) (n : ℕ) (g : Bag → Entry → Option (Rank × X)) (b : Bag) (e : Entry) (es : List Entry) → IsWithin n (g b e)
-    → over_ranks n (λ rank. sum_by f (along g b (e ∷ es) rank)) ≡ weight f (g b e) + over_ranks n (λ rank. sum_by f (along g (after b e) es rank))
+pub over_along : {X : Type 0} (f : X → ℕ) (n : ℕ) (g : Bag → Entry → Option (Rank × X)) (b : Bag) (e : Entry) (es : List Entry)
+    → IsWithin n (g b e)
+    → over_ranks n (λ rank. sum_by f (along g b (e ∷ es) rank))
+    ≡ weight f (g b e) + over_ranks n (λ rank. sum_by f (along g (after b e) es rank))
 over_along f n g b e es within =
-    let split = over_same n (λ rank. sum_by f (along g b (e ∷ es) rank)) (λ rank. sum_by f (of_rank rank (g b e)) + sum_by f (along g (after b e) es rank)) (λ rank below. sum_by-append f (of_rank rank (g b e)) (along g (after b e) es rank)) in
+    let split =
+    over_same n (λ rank. sum_by f (along g b (e ∷ es) rank))
+    (λ rank. sum_by f (of_rank rank (g b e)) + sum_by f (along g (after b e) es rank))
+    (λ rank below. sum_by-append f (of_rank rank (g b e)) (along g (after b e) es rank)) in
     let plus = over_plus n (λ rank. sum_by f (of_rank rank (g b e))) (λ rank. sum_by f (along g (after b e) es rank)) in
     let one = over_one f n (g b e) within in
     omega (arith, split, plus, one)

@@ -1,17 +1,18 @@
 -- What an entry is to one rank: it passes by, or the rank has its turn.
 use Rattle.std.proofs.Common.{◌≡◌, ℕ, zero, suc, ◌<◌, ◌==◌, ◌⊎◌, inl, inr, Bool, true, false, List, [], ◌∷◌, length, Option, Some, None, refl, sym, ap, ◌∙◌, subst, arith, slice_get}
+use Rattle.std.specs.Prelude.{option_map}
 use Rattle.std.proofs.lemmas.Bool.Decides.{nat_tests}
 use Rattle.adlb_unit.specs.declared.names.Rank.{Rank}
+use Rattle.adlb_unit.specs.declared.units.Unit.{Unit}
 use Rattle.bag_ledger.specs.declared.entries.Entry.{Entry}
 use Rattle.bag_ledger.specs.declared.entries.Call.{Call}
-use Rattle.bag_ledger.specs.declared.entries.Call.TheVariants as calls_to
 use Rattle.bag_ledger.specs.declared.entries.Answer.{Answer}
 use Rattle.bag_ledger.specs.declared.entries.Answer.TheVariants as answers
 use Rattle.bag_ledger.specs.declared.entries.Said.{Said}
 use Rattle.bag_ledger.specs.declared.states.RankState.{RankState}
 use Rattle.bag_ledger.specs.declared.states.Status.{Status}
 use Rattle.bag_ledger.specs.declared.states.Status.TheVariants as does
-use Rattle.bag_ledger.specs.Bag.{Bag, rank_at}
+use Rattle.bag_ledger.specs.Bag.{Bag, rank_at, putting}
 use Rattle.bag_ledger.specs.Steps.{Is, Legal, after, change_at}
 use Rattle.bag_ledger.specs.Runs.{says, call_of}
 use Rattle.bag_ledger.proofs.Tests.{some_is, same_number, same_rank_is}
@@ -26,34 +27,51 @@ pub record IsOwned (b : Bag) (e : Entry) (rank : Rank) : Type 0 where
   pub grants : IsOf rank (granted b e)
   pub gives : IsOf rank (fetched b e)
 
-put_owned : (rank : Rank) (call : Call) → IsOf rank (put_by rank call)
-put_owned rank (calls_to.Put kind prio target answer body) = inr (_, refl)
-put_owned rank (calls_to.Reserve types) = inl refl
-put_owned rank (calls_to.Try types) = inl refl
-put_owned rank (calls_to.Fetch id) = inl refl
-put_owned rank (calls_to.BeginBatch common) = inl refl
-put_owned rank calls_to.EndBatch = inl refl
-put_owned rank calls_to.SetDone = inl refl
-put_owned rank (calls_to.Count kind) = inl refl
-put_owned rank calls_to.Finish = inl refl
+put_owned : (rank : Rank) (status : Status) → IsOf rank (put_by rank status)
+put_owned rank status = by_unit (putting status)
+  where
+    by_unit : (o : Option Unit) → IsOf rank (option_map (λ u. (rank, u)) o)
+    by_unit None = inl refl
+    by_unit (Some u) = inr (u, refl)
 
 idle_owned : (b : Bag) (e : Entry) (rank : Rank) → IsOf rank (says b e) → IsIdle b e → IsOwned b e rank
 idle_owned b e rank of_says idle = record { says_it = of_says; accepts = inl idle.0; grants = inl idle.1; gives = inl idle.2 }
 
-comes_owned : (b : Bag) (e : Entry) (rank : Rank) (status : Status) (call : Call) (answer : Answer) → IsOf rank (says b e) → Comes b e rank status call answer → IsOwned b e rank
+comes_owned : (b : Bag) (e : Entry) (rank : Rank) (status : Status) (call : Call) (answer : Answer) → IsOf rank (says b e)
+    → Comes b e rank status call answer → IsOwned b e rank
 comes_owned b e rank status call (answers.Ended end) of_says c = idle_owned b e rank of_says c.0
-comes_owned b e rank status call (answers.Granted note) of_says c = record { says_it = of_says; accepts = inl c.accepts; grants = inr (_, c.grants); gives = inl c.gives }
-comes_owned b e rank status call (answers.Body body) of_says c = record { says_it = of_says; accepts = inl c.0.accepts; grants = inl c.0.grants; gives = c.0.owned }
-comes_owned b e rank status call answers.Fine of_says c = record { says_it = of_says; accepts = rw c.0 (put_owned rank call); grants = inl c.1; gives = inl c.2 }
+comes_owned b e rank status call (answers.Granted note) of_says c = record {
+  says_it = of_says;
+  accepts = inl c.accepts;
+  grants = inr (_, c.grants);
+  gives = inl c.gives;
+}
+comes_owned b e rank status call (answers.Body body) of_says c = record {
+  says_it = of_says;
+  accepts = inl c.0.accepts;
+  grants = inl c.0.grants;
+  gives = c.0.owned;
+}
+comes_owned b e rank status call answers.Fine of_says c = record {
+  says_it = of_says;
+  accepts = rw c.0 (put_owned rank status);
+  grants = inl c.1;
+  gives = inl c.2;
+}
 comes_owned b e rank status call answers.Rejected of_says c = idle_owned b e rank of_says c.0
 comes_owned b e rank status call answers.NoCurrent of_says c = idle_owned b e rank of_says c.0
 comes_owned b e rank status call (answers.Info info) of_says c = idle_owned b e rank of_says c.0
 
 owned : (b : Bag) (e : Entry) (rank : Rank) (r now : RankState) → Deed b e rank r now → IsOwned b e rank
 owned b e rank r now (waits silent idle status end batch) = idle_owned b e rank (inl silent) idle
-owned b e rank r now (begins call silent idle runs is end unshared) = idle_owned b e rank (inl silent) idle
-owned b e rank r now (hears call answer said is runs end unshared comes) = comes_owned b e rank r.status call answer (inr (_, said)) comes
-owned b e rank r now (awaits id u common silent there is status accepts grants gives) = record { says_it = inl silent; accepts = inl accepts; grants = inl grants; gives = inr (_, gives) }
+owned b e rank r now (begins call silent idle runs is end batch) = idle_owned b e rank (inl silent) idle
+owned b e rank r now (hears call answer said is runs end batch comes) = comes_owned b e rank r.status call answer (inr (_, said)) comes
+owned b e rank r now (awaits id u common silent there is status accepts grants gives) = record {
+  says_it = inl silent;
+  accepts = inl accepts;
+  grants = inl grants;
+  gives = inr (_, gives);
+}
 owned b e rank r now (calls_done said idle runs) = idle_owned b e rank (inr (_, said)) idle
 owned b e rank r now (finishes said idle runs done end batch) = idle_owned b e rank (inr (_, said)) idle
 
@@ -81,7 +99,8 @@ of_other : {X : Type 0} (rank other : Rank) (o : Option (Rank × X)) → (rank.0
 of_other rank other o differ (inl none) = rw none refl
 of_other rank other o differ (inr some) = rw (some.1, differ) refl
 
-changed_other : {X : Type 0} (f : X → X) (place other : ℕ) (xs : List X) → (place == other) ≡ false → slice_get (change_at f place xs) other ≡ slice_get xs other
+changed_other : {X : Type 0} (f : X → X) (place other : ℕ) (xs : List X) → (place == other) ≡ false
+    → slice_get (change_at f place xs) other ≡ slice_get xs other
 changed_other f place other [] differ = refl
 changed_other f zero zero (x ∷ xs) differ = absurd (cc)
 changed_other f zero (suc other) (x ∷ xs) differ = refl
@@ -90,14 +109,22 @@ changed_other f (suc place) (suc other) (x ∷ xs) differ =
     let apart : (place == other) ≡ false = grind (arith, nat_tests, differ) in
     changed_other f place other xs apart
 
-ranks_at : (b : Bag) (e : Entry) (ranks : List RankState) (rank : Rank) (o : Option RankState) → (after b e).ranks ≡ ranks → slice_get ranks rank.0 ≡ o → rank_at (after b e) rank ≡ o
+ranks_at : (b : Bag) (e : Entry) (ranks : List RankState) (rank : Rank) (o : Option RankState) → (after b e).ranks ≡ ranks
+    → slice_get ranks rank.0 ≡ o → rank_at (after b e) rank ≡ o
 ranks_at b e ranks rank o same is = ap (λ (rs : List RankState). slice_get rs rank.0) same ∙ is
 
 pub seen : (b : Bag) (e : Entry) → Legal b e → (rank : Rank) → IsAway b e rank ⊎ IsTurn b e rank
 seen b e l rank = by_case (acted b e l)
   where
     by_case : IsQuiet b e ⊎ IsActed b e → IsAway b e rank ⊎ IsTurn b e rank
-    by_case (inl q) = inl (ranks_at b e b.ranks rank (rank_at b rank) q.0 refl, of_none rank (says b e) q.1, of_none rank (accepted b e) q.2.0, of_none rank (granted b e) q.2.1, of_none rank (fetched b e) q.2.2)
+    by_case (inl q) =
+        inl (
+          ranks_at b e b.ranks rank (rank_at b rank) q.0 refl,
+          of_none rank (says b e) q.1,
+          of_none rank (accepted b e) q.2.0,
+          of_none rank (granted b e) q.2.1,
+          of_none rank (fetched b e) q.2.2,
+        )
     by_case (inr a) = by_test (a.rank.0 == rank.0) refl
       where
         by_test : (t : Bool) → (a.rank.0 == rank.0) ≡ t → IsAway b e rank ⊎ IsTurn b e rank
@@ -107,7 +134,9 @@ seen b e l rank = by_case (acted b e l)
               was = a.was;
               now = a.f a.was;
               there = a.there;
-              here = ranks_at b e (change_at a.f a.rank.0 b.ranks) a.rank (Some (a.f a.was)) a.changed (changed_here a.f a.rank.0 b.ranks a.was a.there);
+              here =
+                  ranks_at b e (change_at a.f a.rank.0 b.ranks) a.rank (Some (a.f a.was)) a.changed
+                  (changed_here a.f a.rank.0 b.ranks a.was a.there);
               deed = a.deed;
             }))
         by_test false is =
@@ -143,18 +172,23 @@ place_within [] place x is = absurd (cc)
 place_within (y ∷ ys) zero x is = omega arith
 place_within (y ∷ ys) (suc place) x is = let h = place_within ys place x is in omega arith
 
-pub all_within : (b : Bag) (e : Entry) (n : ℕ) → length b.ranks ≡ n → Legal b e → IsWithin n (accepted b e) × IsWithin n (granted b e) × IsWithin n (fetched b e)
+pub all_within : (b : Bag) (e : Entry) (n : ℕ) → length b.ranks ≡ n → Legal b e
+    → IsWithin n (accepted b e) × IsWithin n (granted b e) × IsWithin n (fetched b e)
 all_within b e n long l = by_case (acted b e l)
   where
     by_case : IsQuiet b e ⊎ IsActed b e → IsWithin n (accepted b e) × IsWithin n (granted b e) × IsWithin n (fetched b e)
     by_case (inl q) = (rw q.2.0 tt, rw q.2.1 tt, rw q.2.2 tt)
     by_case (inr a) =
         let o = owned b e a.rank a.was (a.f a.was) a.deed in
-        let below : a.rank.0 < n = rw (← long) (place_within b.ranks a.rank.0 a.was a.there) in
-        (of_within n a.rank (accepted b e) below o.accepts, of_within n a.rank (granted b e) below o.grants, of_within n a.rank (fetched b e) below o.gives)
+        let below : a.rank.0 < n = rw (← long) (place_within b.ranks a.rank.0 a.was a.there) in (
+          of_within n a.rank (accepted b e) below o.accepts,
+          of_within n a.rank (granted b e) below o.grants,
+          of_within n a.rank (fetched b e) below o.gives,
+        )
 
 -- A call that is pending is the first that is answered.
-pub first_said : (b last : Bag) (es : List Entry) → IsPath b es last → (rank : Rank) (r : RankState) (call : Call) → Is b rank r → call_of r.status ≡ Some call → (s : Said) (said : List Said) → along says b es rank ≡ s ∷ said → s.call ≡ call
+pub first_said : (b last : Bag) (es : List Entry) → IsPath b es last → (rank : Rank) (r : RankState) (call : Call) → Is b rank r
+    → call_of r.status ≡ Some call → (s : Said) (said : List Said) → along says b es rank ≡ s ∷ said → s.call ≡ call
 first_said b last [] path rank r call there is s said e = absurd (cc)
 first_said b last (x ∷ xs) path rank r call there is s said e =
     by_case (λ now here pends on. first_said (after b x) last xs path.1 rank now call here pends s said on) (seen b x path.0 rank)
@@ -168,12 +202,14 @@ first_said b last (x ∷ xs) path rank r call there is s said e =
         let none : None ≡ Some call = rw runs at pends in
         absurd (cc)
 
-    by_deed : ((now : RankState) → Is (after b x) rank now → call_of now.status ≡ Some call → along says (after b x) xs rank ≡ s ∷ said → s.call ≡ call)
+    by_deed :
+        ((now : RankState) → Is (after b x) rank now → call_of now.status ≡ Some call → along says (after b x) xs rank ≡ s ∷ said
+        → s.call ≡ call)
         → (t now : RankState) → t ≡ r → Is (after b x) rank now → Deed b x rank t now → s.call ≡ call
     by_deed later t now same here (waits silent idle status end batch) =
         later now here (ap call_of (status ∙ ap (λ (y : RankState). y.status) same) ∙ is) (on (of_none rank (says b x) silent))
-    by_deed later t now same here (begins c silent idle runs pends end unshared) = never t same runs
-    by_deed later t now same here (hears c answer heard pends runs end unshared comes) =
+    by_deed later t now same here (begins c silent idle runs pends end batch) = never t same runs
+    by_deed later t now same here (hears c answer heard pends runs end batch comes) =
         let mine = of_mine rank (says b x) (record { call = c; answer = answer }) heard in
         let first : record { call = c; answer = answer } ∷ along says (after b x) xs rank ≡ s ∷ said = rw mine at e in
         let head : record { call = c; answer = answer } ≡ s = cc in
@@ -184,7 +220,9 @@ first_said b last (x ∷ xs) path rank r call there is s said e =
     by_deed later t now same here (calls_done heard idle runs) = never t same runs
     by_deed later t now same here (finishes heard idle runs done end batch) = never t same runs
 
-    by_case : ((now : RankState) → Is (after b x) rank now → call_of now.status ≡ Some call → along says (after b x) xs rank ≡ s ∷ said → s.call ≡ call)
+    by_case :
+        ((now : RankState) → Is (after b x) rank now → call_of now.status ≡ Some call → along says (after b x) xs rank ≡ s ∷ said
+        → s.call ≡ call)
         → IsAway b x rank ⊎ IsTurn b x rank → s.call ≡ call
     by_case later (inl away) = later r (away.0 ∙ there) is (on away.1)
     by_case later (inr t) = by_deed later t.was t.now (some_is (sym t.there ∙ there)) t.here t.deed

@@ -1,4 +1,5 @@
-//! What every legal run conserves: in a run of orderly ranks each unit that was put is fetched once, and nothing is left.
+//! What every legal run conserves: in a run of orderly ranks, which may put in batches, each unit that was put is fetched once, each
+//! common part is freed, and nothing is left.
 //!
 //! It speaks of definitions alone and has no code. `specs/Parcels.antt` says what the calls of a rank send and get,
 //! `specs/Orderly.antt` which ranks are orderly, and `specs/Balanced.antt` what is so at the end.
@@ -12,7 +13,8 @@ ghost use Rattle.bag_ledger.specs.Runs.{IsRun};
 ghost use Rattle.balance_law.specs.Balanced.{AreOrderly, IsBalanced};
 
 /// In a legal run, for every configuration, in which each rank is orderly and has finished: each accepted
-/// unit was fetched, once, and whoever fetched it got what was put; no put was told an end, and each rank was told, at a
+/// unit was fetched, once, and whoever fetched it got what was put, with the common bytes of its batch; each common part
+/// that was kept was closed and freed; no put and no beginning of a batch was told an end, and each rank was told, at a
 /// reserve, that all work is used up.
 pub fn balance_laws()
     ensures balanced { (config : Config) (ledger : List Entry) (last : Bag) →
