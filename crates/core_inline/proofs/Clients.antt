@@ -1,7 +1,7 @@
 -- What a call makes of the client of a rank, with one server.
 use Rattle.std.proofs.Common.{◌≡◌, ◌⊎◌, inl, inr, ℕ, ◌+◌, ◌≤◌, ◌==◌, ◌&&◌, not, cond, Bool, true, false, List, [], ◌∷◌, ◌++◌, map}
 use Rattle.std.proofs.Common.{length, filter, Option, None, Some, refl, sym, ap, ◌∙◌, subst, arith, ℤ, append-nil, nat_lt, ◌||◌}
-use Rattle.std.proofs.Common.{is_none}
+use Rattle.std.proofs.Common.{is_none, is_some}
 use Rattle.std.specs.Option.{option_map}
 use Rattle.std.proofs.lemmas.Bool.{and_from, and_parts, eqb-true, false_from_ne_true, le-leb, lt-ltb, ltb-true, not_from_false, or_parts}
 use Rattle.std.proofs.lemmas.List.Elements.{Contains-push_cases}
@@ -40,10 +40,11 @@ use Rattle.bag_ledger.proofs.Moves.{apart}
 use Rattle.bag_ledger.proofs.Tests.{some_is}
 use Rattle.rank_client.specs.declared.pendings.Pending.{Pending}
 use Rattle.rank_client.specs.declared.pendings.Pending.TheVariants as waits_for
-use Rattle.rank_client.specs.Calls.{end_of, end_told, fetches, granted, has_finished, is_fetched, is_finish, is_granted}
+use Rattle.rank_client.specs.Calls.{end_of, end_told, fetches, goes_on, granted, has_finished, is_fetched, is_finish, is_granted, is_open}
 use Rattle.rank_client.specs.Granted.{IsGrantedFirst}
-use Rattle.rank_client.specs.Rules.{ClientResponse, answer_call, answered, asks, call_of, ends, fetch}
-use Rattle.rank_client.specs.Rules.{farewell, finish, is_idle, open_call, over, own_came, put, refused, reserve, unit_put, waiting}
+use Rattle.rank_client.specs.Rules.{ClientResponse, answer_call, answered, asked, asks, begun_batch, call_of, close, ends, fetch}
+use Rattle.rank_client.specs.Rules.{farewell, finish, is_idle, keep, open_call, over, own_came, part_refused, put, refused, reserve}
+use Rattle.rank_client.specs.Rules.{unit_put, waiting}
 use Rattle.rank_client.specs.State.{ClientModel}
 use Rattle.rank_client.specs.Step.{Made, begin, call_stamp, hear, letter_stamp, made, post, ticked, counted}
 use Rattle.rank_client.proofs.Begins.{found_is}
@@ -52,6 +53,7 @@ use Rattle.rank_client.proofs.Granted.{grants_come_first}
 use Rattle.rank_client.proofs.Transcripts.{fetched_more, finished_more, first_end, told_more}
 use Rattle.core_inline.specs.inside.Answers.{CanCall, IsAnswer, IsAnswerTo, answers_call, heeds_end}
 use Rattle.core_inline.specs.inside.Pairs.{AreHeld, Remembers, fetched_by, first_server, note_with, with_call}
+use Rattle.core_inline.proofs.Batches.{not_some, opened_more, some_of}
 use Rattle.core_inline.proofs.Reached.{mapped_if}
 
 -- the call that is pending
@@ -64,8 +66,7 @@ pending_call (waits_for.Common request note common own) = Some (calls_to.Fetch n
 pending_call (waits_for.Keep request common first tried) = Some (calls_to.BeginBatch common)
 pending_call (waits_for.Close request batch) = Some calls_to.EndBatch
 
--- the note of a unit that is fetched is the one by which it was granted; what came of its bytes is as long as it says; and no batch
--- begins or ends
+-- the note of a unit that is fetched is the one by which it was granted, and what came of its bytes is as long as it says
 abbrev pub IsOfNote : List Said → UnitNote → Type 0
 IsOfNote said note = (n : UnitNote) → granted n said → n.id ≡ note.id → n ≡ note
 
@@ -73,8 +74,6 @@ abbrev pub IsFitting : List Said → Pending → Type 0
 IsFitting said (waits_for.Fetch request note) = IsOfNote said note
 IsFitting said (waits_for.Common request note common own) =
     IsOfNote said note × (note.common ≡ Some common) × (length own ≡ note.length)
-IsFitting said (waits_for.Keep request common first tried) = ⊥
-IsFitting said (waits_for.Close request batch) = ⊥
 IsFitting said _ = Prim.Unit {0}
 
 -- the common bytes of a unit are awaited
@@ -182,7 +181,8 @@ first_none (Some end) = refl
 
 module _ (c : ClientModel) (r : Remembers c) (going : c.finished ≡ false) (call : Call) where
   ends_is : (t : ClientModel) (sends : List Sending) (entries : List Entry) (answer : Answer) → t.transcript ≡ c.transcript
-      → t.finished ≡ is_finish call → t.end ≡ first_end c.end (end_of answer None) → t.batch ≡ c.batch
+      → t.finished ≡ is_finish call → t.end ≡ first_end c.end (end_of answer None)
+      → is_some t.batch ≡ goes_on call answer (is_some c.batch)
       → AreHeld (with_call c.transcript call answer) (t.handles ++ []) → IsGrantedFirst (answered t call answer)
       → IsAnswerTo c.transcript call answer
       → IsEnded c.transcript t.clock call
@@ -203,15 +203,16 @@ module _ (c : ClientModel) (r : Remembers c) (going : c.finished ≡ false) (cal
           told = ap end_told grown ∙ told_more c.transcript s ∙ ap (λ o. first_end o (end_of answer None)) r.told ∙ sym told;
           first = first;
           held = subst (λ l. AreHeld l (t.handles ++ [])) (sym grown) held;
-          alone = batch ∙ r.alone;
+          opened = batch ∙ ap (goes_on call answer) r.opened ∙ sym (opened_more c.transcript s) ∙ sym (ap is_open grown);
         };
         fits = fits;
       }
 
   -- by an answer with which no unit comes or goes
   plain_ends : (t : ClientModel) (sends : List Sending) (entries : List Entry) (answer : Answer) → t.transcript ≡ c.transcript
-      → t.finished ≡ is_finish call → t.end ≡ first_end c.end (end_of answer None) → t.batch ≡ c.batch → t.handles ≡ c.handles
-      → fetched_by c.pending ≡ [] → ((note : UnitNote) → answer ≡ answers.Granted note → ⊥)
+      → t.finished ≡ is_finish call → t.end ≡ first_end c.end (end_of answer None)
+      → is_some t.batch ≡ goes_on call answer (is_some c.batch) → t.handles ≡ c.handles → fetched_by c.pending ≡ []
+      → ((note : UnitNote) → answer ≡ answers.Granted note → ⊥)
       → IsGrantedFirst (answered t call answer) → IsAnswerTo c.transcript call answer
       → IsEnded c.transcript t.clock call
       (record { state = answered t call answer; sends = sends; entries = entries; answer = Some answer })
@@ -246,9 +247,10 @@ module _ (c : ClientModel) (r : Remembers c) (idle : c.pending ≡ waits_for.Not
 
   -- it is answered at once by the end that was told
   over_begins : (call : Call) (puts : ℕ) (entry : Entry) (end : End) → is_finish call ≡ false → c.end ≡ Some end
-      → answers_call call (answers.Ended end) ≡ true → IsAnswer c.transcript call (answers.Ended end)
+      → is_some c.batch ≡ goes_on call (answers.Ended end) (is_some c.batch) → answers_call call (answers.Ended end) ≡ true
+      → IsAnswer c.transcript call (answers.Ended end)
       → open_call t call ≡ Some (over (record t { puts = puts }) entry call end) → IsBegun c call
-  over_begins call puts entry end other told kind known opens =
+  over_begins call puts entry end other told batch kind known opens =
       let z : ClientResponse = over (record t { puts = puts }) entry call end in
       let begins = begin_gives call z opens in
       record {
@@ -257,7 +259,7 @@ module _ (c : ClientModel) (r : Remembers c) (idle : c.pending ≡ waits_for.Not
         clock = refl;
         goes =
             inl (plain_ends c r going call (waiting (record t { puts = puts }) waits_for.Nothing) [] z.entries (answers.Ended end) refl
-            (going ∙ sym other) (told ∙ sym (ap (λ o. first_end o (Some end)) told)) refl refl none_coming (λ note is. absurd (cc))
+            (going ∙ sym other) (told ∙ sym (ap (λ o. first_end o (Some end)) told)) batch refl none_coming (λ note is. absurd (cc))
             (grants_come_first.after_call c call (made z) begins r.first)
             (record { kind = kind; known = known; again = λ heeds. rw (r.told ∙ told) refl }));
       }
@@ -279,7 +281,7 @@ module _ (c : ClientModel) (r : Remembers c) (idle : c.pending ≡ waits_for.Not
           record {
             same = refl;
             going = going;
-            rank = record { finishes = r.finishes; told = r.told; first = first; held = held; alone = r.alone };
+            rank = record { finishes = r.finishes; told = r.told; first = first; held = held; opened = r.opened };
             pending = pending;
             fits = fits;
             untold = λ heeds. r.told ∙ untold heeds;
@@ -301,7 +303,7 @@ module _ (c : ClientModel) (r : Remembers c) (idle : c.pending ≡ waits_for.Not
 
       by_end : (o : Option End) → c.end ≡ o → IsBegun c (calls_to.Put kind prio target answer body)
       by_end (Some end) told =
-          over_begins (calls_to.Put kind prio target answer body) (c.puts + 1) _ end refl told refl tt (opens (Some end) told)
+          over_begins (calls_to.Put kind prio target answer body) (c.puts + 1) _ end refl told refl refl tt (opens (Some end) told)
       by_end None untold =
           asks_begins (calls_to.Put kind prio target answer body) (c.puts + 1) c.handles _ _ _ _ (opens None untold) refl held_now tt
           (λ heeds. untold)
@@ -313,7 +315,7 @@ module _ (c : ClientModel) (r : Remembers c) (idle : c.pending ≡ waits_for.Not
       opens o is = ap (λ (n : ℕ). cond (n == 1) (Some (reserve t types c.end)) None) one_server ∙ ap (λ e. Some (reserve t types e)) is
 
       by_end : (o : Option End) → c.end ≡ o → IsBegun c (calls_to.Reserve types)
-      by_end (Some end) told = over_begins (calls_to.Reserve types) c.puts _ end refl told refl tt (opens (Some end) told)
+      by_end (Some end) told = over_begins (calls_to.Reserve types) c.puts _ end refl told refl refl tt (opens (Some end) told)
       by_end None untold =
           asks_begins (calls_to.Reserve types) c.puts c.handles _ _ _ _ (opens None untold) refl held_now tt (λ heeds. untold)
 
@@ -349,9 +351,32 @@ module _ (c : ClientModel) (r : Remembers c) (idle : c.pending ≡ waits_for.Not
       (ap (fetch t note.id) found) refl (fetched_held note.id note found) (λ n h same. some_is (sym (at n h same) ∙ found))
       (λ heeds. absurd (cc))
 
+  -- a batch begins while none is going on
+  keep_begins : (common : List ℕ) → length common ≤ body_limit → is_open c.transcript ≡ false → IsBegun c (calls_to.BeginBatch common)
+  keep_begins common size closed = by_end c.end refl
+    where
+      opens : (o : Option End) → c.end ≡ o → open_call t (calls_to.BeginBatch common) ≡ Some (keep t common o)
+      opens o is =
+          let batch : c.batch ≡ None = not_some c.batch (r.opened ∙ closed) in
+          let may = and_from _ _ (ap is_none batch) (le-leb (length common) body_limit size) in
+          ap (λ v. cond v (Some (keep t common c.end)) None) may ∙ ap (λ e. Some (keep t common e)) is
+
+      by_end : (o : Option End) → c.end ≡ o → IsBegun c (calls_to.BeginBatch common)
+      by_end (Some end) told =
+          over_begins (calls_to.BeginBatch common) (c.puts + 1) _ end refl told refl refl tt (opens (Some end) told)
+      by_end None untold =
+          asks_begins (calls_to.BeginBatch common) (c.puts + 1) c.handles _ _ _ _ (opens None untold) refl held_now tt (λ heeds. untold)
+
+  -- the batch that is going on ends
+  close_begins : is_open c.transcript ≡ true → IsBegun c calls_to.EndBatch
+  close_begins going_on =
+      let batch = some_of c.batch (r.opened ∙ going_on) in
+      asks_begins calls_to.EndBatch c.puts c.handles _ _ _ _ (ap (close t) batch.1) refl held_now tt (λ heeds. absurd (cc))
+
   -- the only server is told of Finish
-  finish_begins : c.batch ≡ None → IsBegun c calls_to.Finish
-  finish_begins batch =
+  finish_begins : is_open c.transcript ≡ false → IsBegun c calls_to.Finish
+  finish_begins closed =
+      let batch : c.batch ≡ None = not_some c.batch (r.opened ∙ closed) in
       let z : ClientResponse = finish t in
       let x : Made = post (record { state = z.state; sends = []; entries = z.entries; answer = z.answer }) (farewell 0 ∷ []) in
       let begins = begin_gives calls_to.Finish z (ap (λ b. cond (is_none b) (Some z) None) batch)
@@ -375,7 +400,9 @@ module _ (c : ClientModel) (r : Remembers c) (idle : c.pending ≡ waits_for.Not
   call_begins (calls_to.Fetch id) can =
       let unfetched : is_fetched can.0.id c.transcript ≡ false = ap (λ i. is_fetched i c.transcript) can.2 ∙ can.3 in
       subst (λ (i : UnitId). IsBegun c (calls_to.Fetch i)) can.2 (fetch_begins can.0 can.1 unfetched)
-  call_begins calls_to.Finish can = finish_begins r.alone
+  call_begins (calls_to.BeginBatch common) can = keep_begins common can.0 can.1
+  call_begins calls_to.EndBatch can = close_begins can
+  call_begins calls_to.Finish can = finish_begins can
   call_begins _ can = absurd can
 
 -- The rank hears the answer.
@@ -391,38 +418,43 @@ module _ (c : ClientModel) (letter : Letter) (one_server : c.config.servers ≡ 
   abbrev Ends : Call → ClientResponse → Type 0
   Ends call z = IsGrantedFirst (made z).state → IsEnded c.transcript (letter_stamp c letter) call (made z)
 
-  -- what ends a put or a reserve, but for a grant
-  plain : (entries : List Entry) (call : Call) (answer : Answer) (end : Option End) (accepted : ℕ) → is_finish call ≡ false
-      → answers_call call answer ≡ true → IsAnswer c.transcript call answer → ((note : UnitNote) → answer ≡ answers.Granted note → ⊥)
+  -- what ends a put, a reserve, but for a grant, or the beginning of a batch
+  plain : (entries : List Entry) (call : Call) (answer : Answer) (end : Option End) (batch : Option CommonRef) (accepted : ℕ)
+      → is_finish call ≡ false → is_some batch ≡ goes_on call answer (is_some c.batch) → answers_call call answer ≡ true
+      → IsAnswer c.transcript call answer → ((note : UnitNote) → answer ≡ answers.Granted note → ⊥)
       → end ≡ first_end c.end (end_of answer None) → fetched_by c.pending ≡ [] → end_told c.transcript ≡ None
-      → Ends call (ends (record heard { end = end; accepted = accepted }) entries call answer)
-  plain entries call answer end accepted other kind known no_note told none untold first =
-      plain_ends c r going call (record heard { end = end; accepted = accepted }) [] entries answer refl (going ∙ sym other) told refl
-      refl none no_note first
+      → Ends call (ends (record heard { end = end; batch = batch; accepted = accepted }) entries call answer)
+  plain entries call answer end batch accepted other on kind known no_note told none untold first =
+      plain_ends c r going call (record heard { end = end; batch = batch; accepted = accepted }) [] entries answer refl
+      (going ∙ sym other) told on refl none no_note first
       (record { kind = kind; known = known; again = λ heeds. rw untold tt })
 
   -- an end that was not told before
   first_told : (end : End) → end_told c.transcript ≡ None → Some end ≡ first_end c.end (Some end)
   first_told end untold = sym (ap (λ o. first_end o (Some end)) (sym r.told ∙ untold))
 
+  -- there is no server but the one that refused
+  tried_all : (tried : ℕ) → nat_lt (tried + 1) c.config.servers ≡ false
+  tried_all tried =
+      rw one_server (false_from_ne_true (nat_lt (tried + 1) 1) (λ more. absurd (omega (arith, ltb-true (tried + 1) 1 more))))
+
   put_ends : (unit : Unit) (first : Server) (tried : ℕ) (m : Message) (z : ClientResponse) → fetched_by c.pending ≡ []
       → end_told c.transcript ≡ None → answer_call heard (waits_for.Put unit first tried) first_server m ≡ Some z → Ends (call_of unit) z
   put_ends unit first tried (tells.Accepted to) z none untold is =
       subst (Ends (call_of unit)) (if_both _ _ z is).1
-      (plain [] (call_of unit) answers.Fine c.end (c.accepted + 1) refl refl tt (λ note e. absurd (cc)) (first_none c.end) none untold)
+      (plain [] (call_of unit) answers.Fine c.end c.batch (c.accepted + 1) refl refl refl tt (λ note e. absurd (cc))
+      (first_none c.end) none untold)
   put_ends unit first tried (tells.Full to charge) z none untold is =
-      let last : nat_lt (tried + 1) c.config.servers ≡ false =
-      rw one_server (false_from_ne_true (nat_lt (tried + 1) 1) (λ more. absurd (omega (arith, ltb-true (tried + 1) 1 more)))) in
       let rejects : Ends (call_of unit) (refused heard unit first tried false) =
-      plain (enters.Rejected c.me unit.id.number ∷ []) (call_of unit) answers.Rejected c.end c.accepted refl refl tt
+      plain (enters.Rejected c.me unit.id.number ∷ []) (call_of unit) answers.Rejected c.end c.batch c.accepted refl refl refl tt
       (λ note e. absurd (cc))
       (first_none c.end) none untold in
       subst (Ends (call_of unit)) (if_both _ _ z is).1
-      (subst (λ (more : Bool). Ends (call_of unit) (refused heard unit first tried more)) (sym last) rejects)
+      (subst (λ (more : Bool). Ends (call_of unit) (refused heard unit first tried more)) (sym (tried_all tried)) rejects)
   put_ends unit first tried (tells.Ended to end) z none untold is =
       subst (Ends (call_of unit)) (if_both _ _ z is).1
-      (plain [] (call_of unit) (answers.Ended end) (Some end) c.accepted refl refl tt (λ note e. absurd (cc)) (first_told end untold)
-      none untold)
+      (plain [] (call_of unit) (answers.Ended end) (Some end) c.batch c.accepted refl refl refl tt (λ note e. absurd (cc))
+      (first_told end untold) none untold)
   put_ends unit first tried _ z none untold is = absurd (cc)
 
   reserve_ends : (request : ℕ) (types : Option (List WorkType)) (m : Message) (z : ClientResponse) → fetched_by c.pending ≡ []
@@ -430,7 +462,7 @@ module _ (c : ClientModel) (letter : Letter) (one_server : c.config.servers ≡ 
       → Ends (calls_to.Reserve types) z
   reserve_ends request types (tells.Ended to end) z none untold is =
       subst (Ends (calls_to.Reserve types)) (if_both _ _ z is).1
-      (plain [] (calls_to.Reserve types) (answers.Ended end) (Some end) c.accepted refl refl tt (λ note e. absurd (cc))
+      (plain [] (calls_to.Reserve types) (answers.Ended end) (Some end) c.batch c.accepted refl refl refl tt (λ note e. absurd (cc))
       (first_told end untold) none untold)
   reserve_ends request types (tells.Grant to note) z none untold is =
       let gave = if_both _ _ z is in
@@ -445,6 +477,36 @@ module _ (c : ClientModel) (letter : Letter) (one_server : c.config.servers ≡ 
       (sym (append-nil (c.handles ++ note ∷ []))) held) first
       (record { kind = refl; known = (new.ungranted, new.unfetched); again = λ heeds. rw untold tt }))
   reserve_ends request types _ z none untold is = absurd (cc)
+
+  -- the common part is kept, or refused; or an end is told
+  keep_ends : (request : ℕ) (common : List ℕ) (first : Server) (tried : ℕ) (m : Message) (z : ClientResponse) → fetched_by c.pending ≡ []
+      → end_told c.transcript ≡ None → answer_call heard (waits_for.Keep request common first tried) first_server m ≡ Some z
+      → Ends (calls_to.BeginBatch common) z
+  keep_ends request common first tried (tells.Accepted to) z none untold is =
+      let batch = begun_batch heard request common (asked heard first tried) in
+      subst (Ends (calls_to.BeginBatch common)) (if_both _ _ z is).1
+      (plain [] (calls_to.BeginBatch common) answers.Fine c.end (Some batch) 0 refl refl refl tt (λ note e. absurd (cc))
+      (first_none c.end) none untold)
+  keep_ends request common first tried (tells.Full to charge) z none untold is =
+      let rejects : Ends (calls_to.BeginBatch common) (part_refused heard request common first tried false) =
+      plain (enters.Rejected c.me request ∷ []) (calls_to.BeginBatch common) answers.Rejected c.end c.batch c.accepted refl refl refl tt
+      (λ note e. absurd (cc)) (first_none c.end) none untold in
+      subst (Ends (calls_to.BeginBatch common)) (if_both _ _ z is).1
+      (subst (λ (more : Bool). Ends (calls_to.BeginBatch common) (part_refused heard request common first tried more))
+      (sym (tried_all tried)) rejects)
+  keep_ends request common first tried (tells.Ended to end) z none untold is =
+      subst (Ends (calls_to.BeginBatch common)) (if_both _ _ z is).1
+      (plain [] (calls_to.BeginBatch common) (answers.Ended end) (Some end) c.batch c.accepted refl refl refl tt (λ note e. absurd (cc))
+      (first_told end untold) none untold)
+  keep_ends request common first tried _ z none untold is = absurd (cc)
+
+  close_ends : (request : ℕ) (batch : CommonRef) (m : Message) (z : ClientResponse) → fetched_by c.pending ≡ []
+      → answer_call heard (waits_for.Close request batch) first_server m ≡ Some z → Ends calls_to.EndBatch z
+  close_ends request batch (tells.Closed to) z none is =
+      subst (Ends calls_to.EndBatch) (if_both _ _ z is).1
+      (λ first. plain_ends c r going calls_to.EndBatch (record heard { batch = None }) [] [] answers.Fine refl going (first_none c.end)
+      refl refl none (λ note e. absurd (cc)) first (record { kind = refl; known = tt; again = λ heeds. absurd (cc) }))
+  close_ends request batch _ z none is = absurd (cc)
 
   -- the notes of other units are held besides
   left : (note n : UnitNote) → fetches n.id (calls_to.Fetch note.id) ≡ false → note_with n.id (c.handles ++ note ∷ []) ≡ Some n
@@ -486,7 +548,7 @@ module _ (c : ClientModel) (letter : Letter) (one_server : c.config.servers ≡ 
         told = r.told;
         first = first;
         held = subst (λ l. AreHeld c.transcript (c.handles ++ l)) (ap fetched_by waits) r.held;
-        alone = r.alone;
+        opened = r.opened;
       };
       pending = refl;
       fits = (fits, some, long);
@@ -533,8 +595,12 @@ module _ (c : ClientModel) (letter : Letter) (one_server : c.config.servers ≡ 
       subst (λ (k : Call). Goes k z) (some_is pending) (fetch_goes request note m z waits fits is)
   answer_goes (waits_for.Common request note common own) m z call waits fits pending untold is =
       subst (λ (k : Call). Goes k z) (some_is pending) (λ granted. inl (common_ends request note common own m z waits fits is granted))
-  answer_goes (waits_for.Keep request common first tried) m z call waits fits pending untold is = absurd fits
-  answer_goes (waits_for.Close request batch) m z call waits fits pending untold is = absurd fits
+  answer_goes (waits_for.Keep request common first tried) m z call waits fits pending untold is =
+      let same : calls_to.BeginBatch common ≡ call = some_is pending in
+      subst (λ (k : Call). Goes k z) same
+      (λ granted. inl (keep_ends request common first tried m z (ap fetched_by waits) (untold (ap heeds_end (sym same))) is granted))
+  answer_goes (waits_for.Close request batch) m z call waits fits pending untold is =
+      subst (λ (k : Call). Goes k z) (some_is pending) (λ granted. inl (close_ends request batch m z (ap fetched_by waits) is granted))
 
   -- of a unit whose own bytes have come
   answer_ends : (p : Pending) (m : Message) (z : ClientResponse) (call : Call) → c.pending ≡ p → IsFitting c.transcript p

@@ -1,7 +1,7 @@
 -- The events of a call, in a world of one rank and one server.
 use Rattle.std.proofs.Common.{◌≡◌, ◌⊎◌, inl, inr, ℕ, ◌+◌, ◌*◌, ◌<◌, ◌≤◌, Bool, true, false, not, List, [], ◌∷◌, length, Option, None, Some, refl, sym}
 use Rattle.std.proofs.Common.{ap, ◌∙◌, subst, arith}
-use Rattle.std.specs.Prelude.{option_and_then}
+use Rattle.std.specs.Prelude.{is_some, option_and_then}
 use Rattle.std.proofs.lemmas.List.{length_push}
 use Rattle.adlb_unit.specs.Limits.{stamp_limit}
 use Rattle.adlb_unit.specs.declared.configs.Config.{Config}
@@ -13,7 +13,7 @@ use Rattle.bag_ledger.specs.declared.entries.Call.TheVariants as calls_to
 use Rattle.bag_ledger.specs.declared.entries.Said.{Said}
 use Rattle.bag_ledger.proofs.Tests.{some_is}
 use Rattle.rank_client.specs.declared.pendings.Pending.TheVariants as waits_for
-use Rattle.rank_client.specs.Calls.{is_finish}
+use Rattle.rank_client.specs.Calls.{is_finish, is_open}
 use Rattle.rank_client.specs.Rules.{is_idle}
 use Rattle.rank_client.specs.State.{ClientModel}
 use Rattle.rank_client.specs.Step.{Made, call_stamp, letter_stamp}
@@ -58,6 +58,7 @@ pub record IsOver (said : List Said) (call : Call) (c : ClientModel) : Type 0 wh
   pub grown : c.transcript ≡ with_call said call answer
   pub kind : answers_call call answer ≡ true
   pub last : is_finish call ≡ true
+  pub opened : is_some c.batch ≡ is_open c.transcript
 
 abbrev pub GoesOn : List Said → Call → ClientModel → Type 0
 GoesOn said call c = IsPending said call c ⊎ IsOver said call c
@@ -233,6 +234,7 @@ module _ (w : Seen) (i : IsReady w) (call : Call) (can : CanCall (rank_in w).tra
         grown = over.grown;
         kind = over.fits.kind;
         last = last;
+        opened = over.rank.opened;
       }))
       | inr sent ↦ let other = pending_other b.x.state.pending call sent.0.pending in absurd (cc (last, other))
     ]
@@ -356,6 +358,7 @@ module _ (first : Bool) (said : List Said) (call : Call) (w : World) (i : IsAske
           grown = transcript ∙ o.grown ∙ grown;
           heard = ap is_ended s.pool ∙ finish_ends (pool_of w first_server) asked_letter.0 s.x one_rank one_server i.nobody
               (own.finished ∙ i.lone.one_rank) ((facts w i.lone).farewell asked_letter.0 [] o.idle asked_letter.1) s.does;
+          opened = ap (λ (k : ClientModel). is_some k.batch) s.rank ∙ o.opened ∙ sym (ap is_open transcript);
         }
   ]
 

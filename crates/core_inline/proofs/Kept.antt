@@ -1,6 +1,6 @@
 -- The fields of a run in line, call by call.
 use Rattle.std.proofs.Common.{◌≡◌, ℕ, zero, suc, ◌+◌, ◌<◌, ◌≤◌, ◌*◌, ◌||◌, ◌&&◌, Bool, true, false, List, [], ◌∷◌, length, take}
-use Rattle.std.proofs.Common.{Option, None, Some, refl, sym, ap, ◌∙◌, arith}
+use Rattle.std.proofs.Common.{Option, None, Some, is_some, refl, sym, ap, ◌∙◌, arith}
 use Rattle.std.proofs.lemmas.List.{length_push}
 use Rattle.adlb_unit.specs.Limits.{stamp_limit}
 use Rattle.adlb_unit.specs.declared.configs.Config.{Config}
@@ -12,16 +12,17 @@ use Rattle.bag_ledger.specs.declared.entries.Call.{Call}
 use Rattle.bag_ledger.specs.declared.entries.Call.TheVariants as calls_to
 use Rattle.bag_ledger.specs.declared.entries.Said.{Said}
 use Rattle.bag_ledger.specs.Bag.{Bag}
-use Rattle.rank_client.specs.Calls.{Began, has_finished, plus}
+use Rattle.rank_client.specs.Calls.{Began, has_finished, is_open, plus}
 use Rattle.rank_client.proofs.Transcripts.{finished_more}
 use Rattle.server_law.specs.State.{ServerModel, is_finished}
 use Rattle.server_core.specs.Left.{left_of}
 use Rattle.core_world.specs.Seen.{Seen}
 use Rattle.core_inline.specs.declared.runs.InlineRun.TheInside.{Inside}
-use Rattle.core_inline.specs.Inline.{IsTold, zeroth}
+use Rattle.core_inline.specs.Inline.{IsTold, batch_of, zeroth}
 use Rattle.core_inline.specs.Left.{IsLeft}
 use Rattle.core_inline.specs.inside.Fields.{IsInside, run_of}
 use Rattle.core_inline.specs.inside.Pairs.{IsAnswered, IsFailed, IsFinished, IsReady, IsTrue, is_ended, rank_in, server_in, with_call}
+use Rattle.core_inline.proofs.Batches.{not_open}
 use Rattle.core_inline.proofs.Begun.{begun_is, retold}
 use Rattle.core_inline.proofs.Reached.{facts}
 
@@ -40,6 +41,7 @@ pub record IsGoing (i : Inside) (last : Bag) : Type 0 where
   pub left : IsLeft last (left_of (server_in i.world))
   pub finished : i.finished ≡ has_finished (said_in i)
   pub ended : is_ended (server_in i.world) ≡ i.finished
+  pub opened : is_some (rank_in i.world).batch ≡ is_open (rank_in i.world).transcript
   pub all : i.answered ≡ length (rank_in i.world).transcript
   pub ready : has_finished (said_in i) ≡ false → IsReady i.world
 
@@ -64,9 +66,16 @@ module _ (i : Inside) (begun : Option Call) (t : IsTold i.world.world.config i.w
     };
     answered = within;
     ready = λ none. (going none).1.ready;
+    opened = λ none. (going none).1.opened;
     all = λ none. (going none).1.all;
     short = short;
   }
+
+-- while nothing failed, no batch of the client is going on if contracts see none
+pub batch_closed : (i : Inside) → IsInside i → i.world.trouble ≡ None → batch_of (run_of i) ≡ false
+    → is_open (rank_in i.world).transcript ≡ false
+batch_closed i inside none closed =
+    ap is_open (sym (take_all i.answered (rank_in i.world).transcript (inside.all none))) ∙ not_open (said_in i) i.world.trouble none closed
 
 -- A call that did not fail adds its answer, and nothing is open.
 module _ (i : Inside) (now : Seen) (finished : Bool) (call : Call) (answer : Answer) (before : IsInside i) (whole : i.world.trouble ≡ None)
@@ -93,8 +102,9 @@ module _ (i : Inside) (now : Seen) (finished : Bool) (call : Call) (answer : Ans
   grown_began = rw (whole, goes_on) (begun_now j None told)
 
   pub grown_inside : now.world.config ≡ i.world.world.config → finished ≡ has_finished (rank_in now).transcript
-      → is_ended (server_in now) ≡ finished → (has_finished (rank_in now).transcript ≡ false → IsReady now) → IsInside j
-  grown_inside same called ended ready =
+      → is_ended (server_in now) ≡ finished → is_some (rank_in now).batch ≡ is_open (rank_in now).transcript
+      → (has_finished (rank_in now).transcript ≡ false → IsReady now) → IsInside j
+  grown_inside same called ended opened ready =
       inside_of j None told (ap (λ (g : Config). g.ranks) same ∙ before.inline.one_rank)
       (ap (λ (g : Config). g.servers) same ∙ before.inline.one_server) (λ stamp is. absurd (cc (is, goes_on)))
       (omega (arith, ap length all_said, true_now.short)) (omega (arith, long)) (omega (arith, long, true_now.short))
@@ -104,6 +114,7 @@ module _ (i : Inside) (now : Seen) (finished : Bool) (call : Call) (answer : Ans
           left = true_now.left;
           finished = called ∙ ap has_finished all_said;
           ended = ended;
+          opened = opened;
           all = long;
           ready = λ going. ready (ap has_finished all_said ∙ going);
         },
@@ -127,7 +138,8 @@ answered_inside i now call answer before whole running done same =
     let rests = done.ready.rests in
     grown_inside i now i.finished call answer before whole done.ready.whole done.true_now done.grown same
     (going ∙ sym (rests.rank.finishes ∙ rests.going))
-    (not_ended (server_in now) ((facts now.world done.ready.lone).unhandled rests.going) ∙ sym going) (λ none. done.ready)
+    (not_ended (server_in now) ((facts now.world done.ready.lone).unhandled rests.going) ∙ sym going) rests.rank.opened
+    (λ none. done.ready)
 
 -- The rank has finished.
 pub left_inside : (i : Inside) (now : Seen) → IsInside i → i.world.trouble ≡ None → IsFinished (rank_in i.world).transcript now
@@ -137,7 +149,7 @@ left_inside i now before whole done same =
     ap has_finished done.grown ∙ finished_more (rank_in i.world).transcript (record { call = calls_to.Finish; answer = answers.Fine })
     ∙ or_true (has_finished (rank_in i.world).transcript) in
     grown_inside i now true calls_to.Finish answers.Fine before whole done.whole done.true_now done.grown same (sym all) done.heard
-    (λ none. absurd (cc (all, none)))
+    done.opened (λ none. absurd (cc (all, none)))
   where
     or_true : (t : Bool) → (t || true) ≡ true
     or_true true = refl

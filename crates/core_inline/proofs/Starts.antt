@@ -1,5 +1,5 @@
 -- A run at the start, and at the end.
-use Rattle.std.proofs.Common.{◌≡◌, ℕ, ◌≤◌, ◌^◌, true, false, List, [], ◌∷◌, ◌++◌, length, Option, None, Some, is_some, refl, sym, ap}
+use Rattle.std.proofs.Common.{◌≡◌, ℕ, ◌≤◌, ◌^◌, true, false, List, [], ◌∷◌, ◌++◌, length, Option, None, refl, sym, ap}
 use Rattle.std.proofs.Common.{◌∙◌, subst, arith, append-nil}
 use Rattle.adlb_unit.specs.declared.configs.Config.{Config}
 use Rattle.adlb_unit.specs.declared.configs.ConfigFault.{ConfigFault}
@@ -20,6 +20,7 @@ use Rattle.core_world.specs.Seen.{Seen, new_world}
 use Rattle.core_inline.specs.Inline.{IsEnd, IsInline, IsOpen, IsStart, IsTold, Run, zeroth}
 use Rattle.core_inline.specs.inside.Fields.{IsInside, run_of}
 use Rattle.core_inline.specs.inside.Pairs.{AreHeld, IsIdle, IsLone, IsTrue, first_server, is_ended, rank_in, server_in}
+use Rattle.core_inline.proofs.Batches.{none_opened}
 use Rattle.core_inline.proofs.Begun.{retold}
 use Rattle.core_inline.proofs.Exchanging.{true_after}
 use Rattle.core_inline.proofs.Kept.{begun_now, inside_of}
@@ -52,8 +53,13 @@ module _ (config : Config) (one_rank : config.ranks ≡ 1) (one_server : config.
       let first : IsIdle (new_client config zeroth) (new_pool config first_server) = record {
         idle = refl;
         going = refl;
-        rank =
-            record { finishes = none_finished; told = none_told; first = grants_come_first.at_start config zeroth; held = none_held; alone = refl };
+        rank = record {
+          finishes = none_finished;
+          told = none_told;
+          first = grants_come_first.at_start config zeroth;
+          held = none_held;
+          opened = sym none_opened;
+        };
         nobody = refl;
         counted = omega arith;
         few = omega arith;
@@ -80,6 +86,7 @@ module _ (config : Config) (one_rank : config.ranks ≡ 1) (one_server : config.
           left = true_now.left;
           finished = sym none_finished;
           ended = ap is_ended server_is;
+          opened = rests.rank.opened;
           all = sym (ap length none_said);
           ready = λ going. record { whole = refl; lone = lone; rests = rests };
         },
@@ -130,7 +137,3 @@ end_is run inline none =
 
 pub end_finished : (run : Run) → IsInline run → run.failed ≡ None → run.finished ≡ true → has_finished run.transcript ≡ true
 end_finished run inline none called = sym (inline.whole none).finished ∙ called
-
-pub not_failed : {X : Type 0} (o : Option X) → is_some o ≡ false → o ≡ None
-not_failed None is = refl
-not_failed (Some x) is = absurd (cc)

@@ -1,5 +1,5 @@
 -- What contracts see of a world of one rank and one server.
-use Rattle.std.specs.Prelude.{ℕ, ◌+◌, ◌*◌, ◌≡◌, ◌<◌, ◌≤◌, Bool, false, List, [], ◌∷◌, ◌++◌, length, Option, None, Some}
+use Rattle.std.specs.Prelude.{ℕ, ◌+◌, ◌*◌, ◌≡◌, ◌<◌, ◌≤◌, Bool, false, ◌&&◌, List, [], ◌∷◌, ◌++◌, length, Option, None, Some, is_none}
 use Rattle.adlb_unit.specs.Limits.{stamp_limit}
 use Rattle.adlb_unit.specs.declared.configs.Config.{Config}
 use Rattle.adlb_unit.specs.declared.names.Rank.{Rank}
@@ -13,7 +13,7 @@ use Rattle.bag_ledger.specs.declared.entries.Said.{Said}
 use Rattle.bag_ledger.specs.declared.states.RankState.{RankState}
 use Rattle.bag_ledger.specs.Bag.{Bag, rank_at, start}
 use Rattle.bag_ledger.specs.Runs.{IsRun, call_of, calls}
-use Rattle.rank_client.specs.Calls.{has_finished}
+use Rattle.rank_client.specs.Calls.{has_finished, is_open}
 use Rattle.rank_client.specs.Seat.{Seat}
 use Rattle.server_core.specs.declared.states.LeftUnit.{LeftUnit}
 use Rattle.core_inline.specs.Left.{IsLeft}
@@ -54,6 +54,10 @@ zeroth = record { 0 = 0 }
 -- whose link it is
 abbrev pub seat_of : Run → Seat
 seat_of run = record { ranks = run.config.ranks; servers = run.config.servers; limit = run.config.limit; me = zeroth }
+
+-- a batch is going on: it was begun and not ended, and nothing failed
+abbrev pub batch_of : Run → Bool
+batch_of run = is_open run.transcript && is_none run.failed
 
 -- What the ledger says beyond the transcript, and which call was begun: nothing, and then the one that is pending in the bag, if any;
 -- or that call with an answer which did not come back.

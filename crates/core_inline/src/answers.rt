@@ -1,14 +1,14 @@
 //! The answers of a rank's calls, as each call tells them.
 
 ghost use Rattle.std.specs.Prelude.{◌≡◌, None, Some, Err, IfOk, IfErr, true};
-ghost use Rattle.core_inline.specs.inside.Answers.{answered, answers_fetch, answers_put, answers_reserve, troubled};
-ghost use Rattle.rank_client.specs.Calls.{end_answer, end_trouble, fetch_answer, fetch_trouble, put_answer, put_trouble};
+ghost use Rattle.core_inline.specs.inside.Answers.{answered, answers_done, answers_fetch, answers_put, answers_reserve, troubled};
+ghost use Rattle.rank_client.specs.Calls.{done_answer, done_trouble, end_answer, end_trouble, fetch_answer, fetch_trouble, put_answer, put_trouble};
 
-use adlb_unit::{End, Handle, Payload, Trouble};
-use bag_ledger::Answer;
+use adlb_unit::{End, Handle, Trouble};
+use bag_ledger::{Answer, Body};
 use rank_client::{EndFault, PutFault};
 
-// What a put tells.
+// What a put tells, or the beginning of a batch.
 pub(crate) fn put_result(answer: Result<Answer, Trouble>) -> Result<(), PutFault>
     requires { IfOk answer (λ a. answers_put a ≡ true) }
     ensures answer { put_answer result ≡ answered answer }
@@ -45,7 +45,7 @@ pub(crate) fn reserve_result(answer: Result<Answer, Trouble>) -> Result<Handle, 
 pub(crate) fn fetch_result(
     handle: Handle,
     answer: Result<Answer, Trouble>,
-) -> Result<Payload, (Handle, Trouble)>
+) -> Result<Body, (Handle, Trouble)>
     requires { IfOk answer (λ a. answers_fetch a ≡ true) }
     ensures answer { fetch_answer result ≡ answered answer }
     ensures trouble { fetch_trouble result ≡ troubled answer }
@@ -58,5 +58,18 @@ pub(crate) fn fetch_result(
         }
         Ok(_) => unreachable!(),
         Err(trouble) => Err((handle, trouble)),
+    }
+}
+
+// What the end of a batch tells.
+pub(crate) fn done_result(answer: Result<Answer, Trouble>) -> Result<(), Trouble>
+    requires { IfOk answer (λ a. answers_done a ≡ true) }
+    ensures answer { done_answer result ≡ answered answer }
+    ensures trouble { done_trouble result ≡ troubled answer }
+{
+    match answer {
+        Ok(Answer::Fine) => Ok(()),
+        Ok(_) => unreachable!(),
+        Err(trouble) => Err(trouble),
     }
 }

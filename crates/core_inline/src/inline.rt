@@ -5,12 +5,12 @@ ghost use Rattle.adlb_unit.specs.Limits.{stamp_limit};
 ghost use Rattle.adlb_unit.specs.declared.notes.Trouble.{Trouble};
 ghost use Rattle.bag_ledger.specs.declared.entries.Call.{Call};
 ghost use Rattle.rank_client.specs.Calls.{Began, Repeats, has_finished, plus};
-ghost use Rattle.core_inline.specs.Inline.{seat_of, IsEnd, IsInline, IsStart, finish_answer};
+ghost use Rattle.core_inline.specs.Inline.{seat_of, IsEnd, IsInline, IsStart, batch_of, finish_answer};
 
-use crate::answers::{fetch_result, put_result, reserve_result};
+use crate::answers::{done_result, fetch_result, put_result, reserve_result};
 use crate::runs::InlineRun;
 use adlb_unit::{Handle, NoMemory, Payload, Rank, Target, Trouble, Types, WorkType};
-use bag_ledger::{Call, Ledger, Said};
+use bag_ledger::{Body, Call, Ledger, Said};
 use rank_client::{Adlb, EndFault, PutFault};
 use server_core::LeftUnit;
 use std::alloc::Global;
@@ -47,10 +47,11 @@ impl InlineWorld {
         self.run.ledger()
     }
 
-    /// The rank finishes, and the server hears of it. It is called where the transcript holds no Finish. Where nothing failed,
-    /// Finish comes to the transcript; what fails is told by `end`.
+    /// The rank finishes, and the server hears of it. It is called where the transcript holds no Finish, and no batch is going on.
+    /// Where nothing failed, Finish comes to the transcript; what fails is told by `end`.
     pub fn finish_inline(&mut self)
         requires running { has_finished self.old.run.transcript ≡ false }
+        requires closed { batch_of self.old.run ≡ false }
         ensures finished { self.new.run.finished ≡ true }
         ensures says { self.new.run.transcript ≡ plus self.old.run.transcript Call.Finish (finish_answer self.new.run.failed) }
         ensures repeats { Repeats self.old.run.failed self.new.run.failed }
@@ -89,7 +90,7 @@ impl Adlb for InlineWorld {
 
     ghost transcript = { λ world. world.run.transcript };
 
-    ghost batch = { λ world. false };
+    ghost batch = { λ world. batch_of world.run };
 
     ghost failed = { λ world. world.run.failed };
 
@@ -122,13 +123,25 @@ impl Adlb for InlineWorld {
         )
     }
 
-    fn get_reserved(&mut self, handle: Handle) -> Result<Payload, (Handle, Trouble)> {
+    fn get_reserved(&mut self, handle: Handle) -> Result<Body, (Handle, Trouble)> {
         let id = handle.note().id;
         fetch_result(handle, self.run.call(Call::Fetch { id }))
     }
 
     fn leave(&mut self, handle: Handle) {
         let _ = handle.spend();
+    }
+
+    fn begin_batch(&mut self, common: Payload) -> Result<(), PutFault> {
+        put_result(self.run.call(Call::BeginBatch { common }))
+    }
+
+    fn end_batch(&mut self) -> Result<(), Trouble> {
+        done_result(self.run.call(Call::EndBatch))
+    }
+
+    fn batch_open(&self) -> bool {
+        self.run.batch_open()
     }
 
     fn finish(self) {

@@ -4,7 +4,7 @@ ghost use Rattle.std.specs.Prelude.{◌≡◌, false, IfOk, IfErr, OnOk, Some};
 ghost use Rattle.bag_ledger.specs.declared.entries.Call.{Call};
 ghost use Rattle.core_inline.specs.inside.Answers.{CanCall};
 ghost use Rattle.core_inline.specs.inside.Pairs.{IsAnswered, IsFailed, IsFinished, IsReady, rank_in};
-ghost use Rattle.rank_client.specs.Calls.{is_finish};
+ghost use Rattle.rank_client.specs.Calls.{is_finish, is_open};
 
 use adlb_unit::{Actor, Rank, Server, Trouble};
 use bag_ledger::{Answer, Call};
@@ -49,6 +49,7 @@ pub(crate) fn exchange(world: &mut World, call: Call) -> Result<Answer, Trouble>
 // The rank finishes, and the server handles its letter.
 pub(crate) fn finish(world: &mut World) -> Result<(), Trouble>
     requires ready { IsReady world.old }
+    requires closed { is_open (rank_in world.old).transcript ≡ false }
     ensures finished { OnOk result (IsFinished (rank_in world.old).transcript world.new) }
     ensures failed { IfErr result (λ t. IsFailed (rank_in world.old).transcript Call.Finish t world.new) }
     ensures trouble { IfErr result (λ t. world.new.trouble ≡ Some t) }

@@ -5,7 +5,7 @@ ghost use Rattle.adlb_unit.specs.declared.notes.Trouble.{Trouble};
 ghost use Rattle.bag_ledger.specs.declared.entries.Call.{Call};
 ghost use Rattle.rank_client.specs.Calls.{Began, Repeats, TellsAgain, end_told, has_finished, is_finish, plus};
 ghost use Rattle.core_inline.specs.inside.Answers.{CanCall, IsAnswer, answered, answers_call, heeds_end, troubled};
-ghost use Rattle.core_inline.specs.Inline.{IsEnd, IsInline, IsStart, finish_answer};
+ghost use Rattle.core_inline.specs.Inline.{IsEnd, IsInline, IsStart, batch_of, finish_answer};
 
 use crate::pairs::{exchange, finish};
 use adlb_unit::{Config, NoMemory, Rank, Server, Trouble};
@@ -56,7 +56,7 @@ impl InlineRun {
     // One call of the rank, from its beginning to its answer.
     pub(crate) fn call(&mut self, call: Call) -> Result<Answer, Trouble>
         requires running { has_finished self.old.transcript ≡ false }
-        requires can { CanCall self.old.transcript call }
+        requires can { self.old.failed ≡ None → CanCall self.old.transcript call }
         requires going { is_finish call ≡ false }
         ensures says { self.new.transcript ≡ plus self.old.transcript call (answered result) }
         ensures kind { IfOk result (λ a. answers_call call a ≡ true) }
@@ -79,6 +79,7 @@ impl InlineRun {
     // The rank finishes, and the server hears of it.
     pub(crate) fn finish(&mut self)
         requires running { has_finished self.old.transcript ≡ false }
+        requires closed { batch_of self.old ≡ false }
         ensures finished { self.new.finished ≡ true }
         ensures says { self.new.transcript ≡ plus self.old.transcript Call.Finish (finish_answer self.new.failed) }
         ensures repeats { Repeats self.old.failed self.new.failed }
@@ -95,6 +96,13 @@ impl InlineRun {
             Ok(()) => self.answered += 1,
             Err(_) => {}
         }
+    }
+
+    // A batch is going on.
+    pub(crate) fn batch_open(&self) -> bool
+        ensures { result ≡ batch_of self.now }
+    {
+        self.world.trouble().is_none() && self.world.batch_open(Rank(0))
     }
 
     // What stands at the end.

@@ -5,7 +5,7 @@ ghost use Rattle.rank_client.specs.Calls.{granted, has_finished, is_fetched};
 
 use crate::inline::InlineWorld;
 use adlb_unit::{Handle, Payload, Rank, Server, Target, Types, UnitId, WorkType};
-use bag_ledger::Entry;
+use bag_ledger::{Body, Entry};
 use rank_client::{Adlb, EndFault, PutFault};
 use server_core::LeftUnit;
 use std::alloc::Global;
@@ -15,23 +15,33 @@ use std::test::Fail;
 // One step of a script, with what is answered.
 #[derive(Clone, Copy)]
 enum Act {
-    // A unit of this type with so many bytes, each this one, is put, and accepted.
-    Put { kind: u32, byte: u8, size: u8 },
-    // One with so many bytes is put, and rejected.
-    Rejected { size: u8 },
-    // A unit is reserved and fetched: it has so many bytes, each this one.
-    Work { byte: u8, size: u8 },
+    // A unit of this type, of this byte `n` times, is put and accepted.
+    Put(u32, u8, u8),
+    // A put of `n` bytes is rejected.
+    PutRejected(u8),
+    // A put is told that all work is used up.
+    PutOver,
+    // A unit is reserved and fetched: it has these common bytes, and of its own this byte `n` times.
+    Work(&'static str, u8, u8),
     // A unit is reserved and left.
     Leave,
     // A reserve is told that all work is used up.
     Exhausted,
+    // A batch with the common part `xy` begins.
+    Begin,
+    // The beginning of a batch with a common part of `n` bytes is rejected, and no batch is going on.
+    BeginRejected(u8),
+    // The beginning of a batch is told that all work is used up, and no batch is going on.
+    BeginOver,
+    // The batch ends.
+    End,
 }
 
-// A body of so many bytes, each this one.
-fn body(alloc: Global, byte: u8, size: u8) -> Result<Payload, Fail>
+// This byte `n` times.
+fn body(alloc: Global, byte: u8, n: u8) -> Result<Payload, Fail>
     ensures { IfOk result (λ b. length b ≤ 255) }
 {
-    let bytes = vec![in alloc; byte; size as usize]?;
+    let bytes = vec![in alloc; byte; n as usize]?;
     Ok(Payload::from_vec(bytes))
 }
 
@@ -53,7 +63,7 @@ fn reserve(world: &mut InlineWorld) -> Result<Handle, EndFault>
 }
 
 // The bytes of a unit that is reserved and fetched.
-fn work(world: &mut InlineWorld) -> Result<Payload, Fail>
+fn work(world: &mut InlineWorld) -> Result<Body, Fail>
     requires { has_finished world.old.run.transcript ≡ false }
     ensures { has_finished world.new.run.transcript ≡ false }
 {
@@ -65,6 +75,33 @@ fn work(world: &mut InlineWorld) -> Result<Payload, Fail>
             Err(Fail::from(trouble))
         }
     }
+}
+
+// A batch begins; the script has it where none is going on.
+fn begin(rt: &impl Abort, world: &mut InlineWorld, common: Payload) -> Result<(), PutFault>
+    requires running { has_finished world.old.run.transcript ≡ false }
+    requires size { length common ≤ 255 }
+    ensures { has_finished world.new.run.transcript ≡ false }
+{
+    if world.batch_open() {
+        panic!(rt; "a batch is going on");
+    }
+    let begun = world.begin_batch(common);
+    assert_eq!(rt; world.batch_open(), begun.is_ok());
+    begun
+}
+
+// The batch that is going on ends.
+fn end(rt: &impl Abort, world: &mut InlineWorld) -> Result<(), Fail>
+    requires { has_finished world.old.run.transcript ≡ false }
+    ensures { has_finished world.new.run.transcript ≡ false }
+{
+    if !world.batch_open() {
+        panic!(rt; "no batch is going on");
+    }
+    world.end_batch()?;
+    assert!(rt; !world.batch_open());
+    Ok(())
 }
 
 // Each step is answered as it says.
@@ -83,15 +120,19 @@ fn play_one(rt: &impl Abort, alloc: Global, world: &mut InlineWorld, act: Act) -
     ensures { has_finished world.new.run.transcript ≡ false }
 {
     match act {
-        Act::Put { kind, byte, size } => put(world, kind, body(alloc, byte, size)?)?,
-        Act::Rejected { size } => {
-            let answer = put(world, 1, body(alloc, 0, size)?);
+        Act::Put(kind, byte, n) => put(world, kind, body(alloc, byte, n)?)?,
+        Act::PutRejected(n) => {
+            let answer = put(world, 1, body(alloc, 0, n)?);
             assert_eq!(rt; answer, Err(PutFault::Rejected));
         }
-        Act::Work { byte, size } => {
+        Act::PutOver => {
+            let answer = put(world, 1, body(alloc, 0, 1)?);
+            assert_eq!(rt; answer, Err(PutFault::Exhausted));
+        }
+        Act::Work(common, byte, n) => {
             let given = work(world)?;
-            let wanted = body(alloc, byte, size)?;
-            assert_eq!(rt; given.bytes(), wanted.bytes());
+            let own = body(alloc, byte, n)?;
+            assert_eq!(rt; given.runs(), (common.as_bytes(), own.bytes()));
         }
         Act::Leave => {
             let handle = reserve(world)?;
@@ -104,11 +145,21 @@ fn play_one(rt: &impl Abort, alloc: Global, world: &mut InlineWorld, act: Act) -
             }
             Err(fault) => assert_eq!(rt; fault, EndFault::Exhausted),
         },
+        Act::Begin => begin(rt, world, Payload::copy(alloc, b"xy".as_slice())?)?,
+        Act::BeginRejected(n) => {
+            let answer = begin(rt, world, body(alloc, 0, n)?);
+            assert_eq!(rt; answer, Err(PutFault::Rejected));
+        }
+        Act::BeginOver => {
+            let answer = begin(rt, world, body(alloc, 0, 1)?);
+            assert_eq!(rt; answer, Err(PutFault::Exhausted));
+        }
+        Act::End => end(rt, world)?,
     }
     Ok(())
 }
 
-// A world with this limit in which each step was made, and the rank finished, answered so many calls, has this ledger, and
+// A world with this limit in which each step was made, and the rank finished, answered `calls` calls, has this ledger, and
 // these units are left.
 fn check(
     rt: &impl Abort,
@@ -124,6 +175,9 @@ fn check(
 {
     let mut world = InlineWorld::new(alloc, limit)?;
     play(rt, alloc, &mut world, acts)?;
+    if world.batch_open() {
+        panic!(rt; "a batch is going on");
+    }
     world.finish_inline();
     let (entries, said, units) = world.end()?;
     assert_eq!(rt; said.len(), calls);
@@ -137,7 +191,8 @@ fn check(
     Ok(())
 }
 
-// An entry as it is shown: of what is put its type, its length and its first byte, and of a reserve no types.
+// An entry as it is shown: of what is put its type, its length and its first byte, of a common part these two, and of a
+// reserve no types.
 fn line(alloc: Global, entry: &Entry) -> Result<String, Fail> {
     Ok(match entry {
         Entry::Putting {
@@ -153,6 +208,14 @@ fn line(alloc: Global, entry: &Entry) -> Result<String, Fail> {
                 rank.0,
                 kind.0,
                 body.len()
+            )?
+        }
+        Entry::Keeping { rank, call, common } => {
+            let first = common.bytes().first();
+            format!(in alloc;
+                "Keeping {} {call}: {} bytes, {first:?}",
+                rank.0,
+                common.len()
             )?
         }
         Entry::Asked { rank, call, .. } => format!(in alloc; "Asked {} {call}", rank.0)?,
@@ -174,24 +237,10 @@ const fn unit(number: u64, pinned: Option<Rank>) -> LeftUnit {
 #[test]
 fn units_are_fetched_in_order(rt: HostRuntime) -> Result<(), Fail> {
     let acts = [
-        Act::Put {
-            kind: 1,
-            byte: b'a',
-            size: 1,
-        },
-        Act::Put {
-            kind: 1,
-            byte: b'b',
-            size: 1,
-        },
-        Act::Work {
-            byte: b'a',
-            size: 1,
-        },
-        Act::Work {
-            byte: b'b',
-            size: 1,
-        },
+        Act::Put(1, b'a', 1),
+        Act::Put(1, b'b', 1),
+        Act::Work("", b'a', 1),
+        Act::Work("", b'b', 1),
     ];
     let ledger = [
         "Putting 0 0: type 1, 1 bytes, Some(97)",
@@ -214,8 +263,8 @@ fn units_are_fetched_in_order(rt: HostRuntime) -> Result<(), Fail> {
 #[test]
 fn what_is_over_the_limit_is_rejected(rt: HostRuntime) -> Result<(), Fail> {
     let acts = [
-        Act::Rejected { size: 93 },
-        Act::Rejected { size: 85 },
+        Act::PutRejected(93),
+        Act::PutRejected(85),
         Act::Exhausted,
         Act::Exhausted,
     ];
@@ -239,17 +288,9 @@ fn what_is_over_the_limit_is_rejected(rt: HostRuntime) -> Result<(), Fail> {
 #[test]
 fn units_that_are_not_fetched_are_left(rt: HostRuntime) -> Result<(), Fail> {
     let acts = [
-        Act::Put {
-            kind: 2,
-            byte: b'a',
-            size: 60,
-        },
-        Act::Rejected { size: 5 },
-        Act::Put {
-            kind: 2,
-            byte: b'b',
-            size: 4,
-        },
+        Act::Put(2, b'a', 60),
+        Act::PutRejected(5),
+        Act::Put(2, b'b', 4),
         Act::Leave,
     ];
     let ledger = [
@@ -265,5 +306,133 @@ fn units_that_are_not_fetched_are_left(rt: HostRuntime) -> Result<(), Fail> {
         "Finished { rank: Rank(0), call: 4 }",
     ];
     let left = [unit(0, Some(Rank(0))), unit(2, None)];
+    check(&rt, rt.alloc(), 64, &acts, 5, &ledger, &left)
+}
+
+#[test]
+fn units_of_a_batch_share_its_common_part(rt: HostRuntime) -> Result<(), Fail> {
+    let acts = [
+        Act::Begin,
+        Act::Put(1, b'a', 1),
+        Act::Put(1, b'b', 1),
+        Act::End,
+        Act::Work("xy", b'a', 1),
+        Act::Work("xy", b'b', 1),
+    ];
+    let ledger = [
+        "Keeping 0 0: 2 bytes, Some(120)",
+        "Kept { server: Server(0), batch: BatchId { rank: Rank(0), number: 0 } }",
+        "Putting 0 1: type 1, 1 bytes, Some(97)",
+        "Accepted { server: Server(0), id: UnitId { rank: Rank(0), number: 1 } }",
+        "Putting 0 2: type 1, 1 bytes, Some(98)",
+        "Accepted { server: Server(0), id: UnitId { rank: Rank(0), number: 2 } }",
+        "Closing { rank: Rank(0), call: 3 }",
+        "Closed { server: Server(0), batch: BatchId { rank: Rank(0), number: 0 } }",
+        "Asked 0 4",
+        "Granted { server: Server(0), rank: Rank(0), call: 4, id: UnitId { rank: Rank(0), number: 1 } }",
+        "Fetching { rank: Rank(0), call: 5, id: UnitId { rank: Rank(0), number: 1 } }",
+        "Fetched { server: Server(0), rank: Rank(0), id: UnitId { rank: Rank(0), number: 1 } }",
+        "CommonFetched { server: Server(0), rank: Rank(0), batch: BatchId { rank: Rank(0), number: 0 } }",
+        "Asked 0 6",
+        "Granted { server: Server(0), rank: Rank(0), call: 6, id: UnitId { rank: Rank(0), number: 2 } }",
+        "Fetching { rank: Rank(0), call: 7, id: UnitId { rank: Rank(0), number: 2 } }",
+        "Fetched { server: Server(0), rank: Rank(0), id: UnitId { rank: Rank(0), number: 2 } }",
+        "CommonFetched { server: Server(0), rank: Rank(0), batch: BatchId { rank: Rank(0), number: 0 } }",
+        "Freed { server: Server(0), batch: BatchId { rank: Rank(0), number: 0 } }",
+        "Finished { rank: Rank(0), call: 8 }",
+    ];
+    check(&rt, rt.alloc(), 64, &acts, 9, &ledger, &[])
+}
+
+#[test]
+fn the_part_of_a_batch_without_units_is_freed_at_its_end(rt: HostRuntime) -> Result<(), Fail> {
+    let acts = [Act::Begin, Act::End];
+    let ledger = [
+        "Keeping 0 0: 2 bytes, Some(120)",
+        "Kept { server: Server(0), batch: BatchId { rank: Rank(0), number: 0 } }",
+        "Closing { rank: Rank(0), call: 1 }",
+        "Closed { server: Server(0), batch: BatchId { rank: Rank(0), number: 0 } }",
+        "Freed { server: Server(0), batch: BatchId { rank: Rank(0), number: 0 } }",
+        "Finished { rank: Rank(0), call: 2 }",
+    ];
+    check(&rt, rt.alloc(), 64, &acts, 3, &ledger, &[])
+}
+
+#[test]
+fn a_common_part_over_the_limit_is_rejected(rt: HostRuntime) -> Result<(), Fail> {
+    let acts = [
+        Act::BeginRejected(65),
+        Act::Put(1, b'a', 64),
+        Act::Work("", b'a', 64),
+    ];
+    let ledger = [
+        "Keeping 0 0: 65 bytes, Some(0)",
+        "Refused { server: Server(0), id: UnitId { rank: Rank(0), number: 0 }, used: 0 }",
+        "Rejected { rank: Rank(0), call: 0 }",
+        "Putting 0 1: type 1, 64 bytes, Some(97)",
+        "Accepted { server: Server(0), id: UnitId { rank: Rank(0), number: 1 } }",
+        "Asked 0 2",
+        "Granted { server: Server(0), rank: Rank(0), call: 2, id: UnitId { rank: Rank(0), number: 1 } }",
+        "Fetching { rank: Rank(0), call: 3, id: UnitId { rank: Rank(0), number: 1 } }",
+        "Fetched { server: Server(0), rank: Rank(0), id: UnitId { rank: Rank(0), number: 1 } }",
+        "Finished { rank: Rank(0), call: 4 }",
+    ];
+    check(&rt, rt.alloc(), 64, &acts, 5, &ledger, &[])
+}
+
+#[test]
+fn a_batch_ends_after_an_end_was_told(rt: HostRuntime) -> Result<(), Fail> {
+    let acts = [
+        Act::Begin,
+        Act::Put(1, b'a', 1),
+        Act::Work("xy", b'a', 1),
+        Act::Exhausted,
+        Act::PutOver,
+        Act::End,
+        Act::BeginOver,
+        Act::Exhausted,
+    ];
+    let ledger = [
+        "Keeping 0 0: 2 bytes, Some(120)",
+        "Kept { server: Server(0), batch: BatchId { rank: Rank(0), number: 0 } }",
+        "Putting 0 1: type 1, 1 bytes, Some(97)",
+        "Accepted { server: Server(0), id: UnitId { rank: Rank(0), number: 1 } }",
+        "Asked 0 2",
+        "Granted { server: Server(0), rank: Rank(0), call: 2, id: UnitId { rank: Rank(0), number: 1 } }",
+        "Fetching { rank: Rank(0), call: 3, id: UnitId { rank: Rank(0), number: 1 } }",
+        "Fetched { server: Server(0), rank: Rank(0), id: UnitId { rank: Rank(0), number: 1 } }",
+        "CommonFetched { server: Server(0), rank: Rank(0), batch: BatchId { rank: Rank(0), number: 0 } }",
+        "Asked 0 4",
+        "Exhausted",
+        "Over { rank: Rank(0), call: 4, end: Exhausted }",
+        "Putting 0 5: type 1, 1 bytes, Some(0)",
+        "Over { rank: Rank(0), call: 5, end: Exhausted }",
+        "Closing { rank: Rank(0), call: 6 }",
+        "Closed { server: Server(0), batch: BatchId { rank: Rank(0), number: 0 } }",
+        "Freed { server: Server(0), batch: BatchId { rank: Rank(0), number: 0 } }",
+        "Keeping 0 7: 1 bytes, Some(0)",
+        "Over { rank: Rank(0), call: 7, end: Exhausted }",
+        "Asked 0 8",
+        "Over { rank: Rank(0), call: 8, end: Exhausted }",
+        "Finished { rank: Rank(0), call: 9 }",
+    ];
+    check(&rt, rt.alloc(), 64, &acts, 10, &ledger, &[])
+}
+
+#[test]
+fn a_unit_that_is_left_keeps_its_common_part(rt: HostRuntime) -> Result<(), Fail> {
+    let acts = [Act::Begin, Act::Put(1, b'a', 1), Act::End, Act::Leave];
+    let ledger = [
+        "Keeping 0 0: 2 bytes, Some(120)",
+        "Kept { server: Server(0), batch: BatchId { rank: Rank(0), number: 0 } }",
+        "Putting 0 1: type 1, 1 bytes, Some(97)",
+        "Accepted { server: Server(0), id: UnitId { rank: Rank(0), number: 1 } }",
+        "Closing { rank: Rank(0), call: 2 }",
+        "Closed { server: Server(0), batch: BatchId { rank: Rank(0), number: 0 } }",
+        "Asked 0 3",
+        "Granted { server: Server(0), rank: Rank(0), call: 3, id: UnitId { rank: Rank(0), number: 1 } }",
+        "Finished { rank: Rank(0), call: 4 }",
+    ];
+    let left = [unit(1, Some(Rank(0)))];
     check(&rt, rt.alloc(), 64, &acts, 5, &ledger, &left)
 }

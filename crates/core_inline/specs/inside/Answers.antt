@@ -10,7 +10,7 @@ use Rattle.bag_ledger.specs.declared.entries.Answer.TheVariants as answers
 use Rattle.bag_ledger.specs.declared.entries.Call.{Call}
 use Rattle.bag_ledger.specs.declared.entries.Call.TheVariants as calls_to
 use Rattle.bag_ledger.specs.declared.entries.Said.{Said}
-use Rattle.rank_client.specs.Calls.{TellsAgain, end_told, granted, is_fetched, is_granted}
+use Rattle.rank_client.specs.Calls.{TellsAgain, end_told, granted, is_fetched, is_granted, is_open}
 
 -- the answer that was given, and the trouble with which the call failed
 abbrev pub answered : Result Answer Trouble → Option Answer
@@ -21,7 +21,7 @@ abbrev pub troubled : Result Answer Trouble → Option Trouble
 troubled (Ok answer) = None
 troubled (Err trouble) = Some trouble
 
--- what a put, a reserve and a fetch can be answered
+-- what a put and the beginning of a batch can be answered, what a reserve, what a fetch, and what the end of a batch and Finish
 abbrev pub answers_put : Answer → Bool
 answers_put answers.Fine = true
 answers_put answers.Rejected = true
@@ -37,30 +37,36 @@ abbrev pub answers_fetch : Answer → Bool
 answers_fetch (answers.Body body) = true
 answers_fetch _ = false
 
-abbrev pub answers_finish : Answer → Bool
-answers_finish answers.Fine = true
-answers_finish _ = false
+abbrev pub answers_done : Answer → Bool
+answers_done answers.Fine = true
+answers_done _ = false
 
 abbrev pub answers_call : Call → Answer → Bool
 answers_call (calls_to.Put kind prio target answer body) = answers_put
 answers_call (calls_to.Reserve types) = answers_reserve
 answers_call (calls_to.Fetch id) = answers_fetch
-answers_call calls_to.Finish = answers_finish
+answers_call (calls_to.BeginBatch common) = answers_put
+answers_call calls_to.EndBatch = answers_done
+answers_call calls_to.Finish = answers_done
 answers_call _ = λ a. false
 
--- after an end was told, a put and a reserve are answered by it
+-- after an end was told, a put, a reserve and the beginning of a batch are answered by it
 abbrev pub heeds_end : Call → Bool
 heeds_end (calls_to.Put kind prio target answer body) = true
 heeds_end (calls_to.Reserve types) = true
+heeds_end (calls_to.BeginBatch common) = true
 heeds_end _ = false
 
 -- the rank can make the call: a put with a body of at most 2^20 bytes for a rank of the run, a reserve, a fetch of a unit that was
--- granted and not fetched, or Finish
+-- granted and not fetched; the end of the batch that is going on; or, while none is, the beginning of one with a common part of at
+-- most 2^20 bytes, or Finish
 abbrev pub CanCall : List Said → Call → Type 0
 CanCall said (calls_to.Put kind prio target answer body) = (length body ≤ body_limit) × Aims target 1
 CanCall said (calls_to.Reserve types) = Unit {0}
 CanCall said (calls_to.Fetch id) = (note : UnitNote) × granted note said × (note.id ≡ id) × (is_fetched id said ≡ false)
-CanCall said calls_to.Finish = Unit {0}
+CanCall said (calls_to.BeginBatch common) = (length common ≤ body_limit) × (is_open said ≡ false)
+CanCall said calls_to.EndBatch = is_open said ≡ true
+CanCall said calls_to.Finish = is_open said ≡ false
 CanCall said _ = ⊥
 
 -- what is known of an answer: a unit is granted that was not granted and not fetched before, and as many bytes come as the note says

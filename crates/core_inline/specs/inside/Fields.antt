@@ -1,7 +1,7 @@
 -- The fields of a run in line.
-use Rattle.std.specs.Prelude.{◌≡◌, ◌<◌, ◌≤◌, false, length, take, None}
+use Rattle.std.specs.Prelude.{◌≡◌, ◌<◌, ◌≤◌, false, length, take, None, is_some}
 use Rattle.adlb_unit.specs.Limits.{stamp_limit}
-use Rattle.rank_client.specs.Calls.{has_finished}
+use Rattle.rank_client.specs.Calls.{has_finished, is_open}
 use Rattle.server_core.specs.Left.{left_of}
 use Rattle.core_inline.specs.declared.runs.InlineRun.TheInside.{Inside}
 use Rattle.core_inline.specs.inside.Begun.{begun_in}
@@ -20,10 +20,12 @@ run_of i = record {
   ended = is_ended (server_in i.world);
 }
 
--- what holds of a world, and, while nothing failed, which state the next call finds
+-- what holds of a world, and, while nothing failed, which state the next call finds, and that the rank's client knows whether a batch is
+-- going on
 pub record IsInside (i : Inside) : Type 0 where
   pub inline : IsInline (run_of i)
   pub answered : i.answered ≤ length (rank_in i.world).transcript
   pub ready : i.world.trouble ≡ None → has_finished (take i.answered (rank_in i.world).transcript) ≡ false → IsReady i.world
+  pub opened : i.world.trouble ≡ None → is_some (rank_in i.world).batch ≡ is_open (rank_in i.world).transcript
   pub all : i.world.trouble ≡ None → i.answered ≡ length (rank_in i.world).transcript
   pub short : i.answered < stamp_limit

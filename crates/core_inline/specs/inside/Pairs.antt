@@ -1,6 +1,6 @@
 -- A world of one rank and one server between two calls, and what a call leaves of it.
 use Rattle.std.specs.Prelude.{ℕ, ◌+◌, ◌*◌, ◌≡◌, ◌⊎◌, ◌<◌, ◌≤◌, Bool, true, false, ◌&&◌, slice_index_or, List, [], ◌∷◌, ◌++◌, find, length}
-use Rattle.std.specs.Prelude.{take, Option, None, Some}
+use Rattle.std.specs.Prelude.{take, Option, None, Some, is_some}
 use Rattle.adlb_unit.specs.Ids.{same_unit}
 use Rattle.adlb_unit.specs.Limits.{stamp_limit}
 use Rattle.adlb_unit.specs.declared.names.Server.{Server}
@@ -15,7 +15,7 @@ use Rattle.bag_ledger.specs.declared.entries.Call.TheVariants as calls_to
 use Rattle.bag_ledger.specs.declared.entries.Said.{Said}
 use Rattle.rank_client.specs.declared.pendings.Pending.{Pending}
 use Rattle.rank_client.specs.declared.pendings.Pending.TheVariants as waits_for
-use Rattle.rank_client.specs.Calls.{end_told, granted, has_finished, is_fetched}
+use Rattle.rank_client.specs.Calls.{end_told, granted, has_finished, is_fetched, is_open}
 use Rattle.rank_client.specs.Granted.{IsGrantedFirst}
 use Rattle.rank_client.specs.State.{ClientModel}
 use Rattle.server_core.specs.Left.{left_of}
@@ -67,13 +67,14 @@ fetched_by (waits_for.Fetch request note) = note ∷ []
 fetched_by (waits_for.Common request note common own) = note ∷ []
 fetched_by pending = []
 
--- what a client knows of its transcript; no batch is going on
+-- what a client knows of its transcript: whether Finish was called, the end that was told, the units that it holds, and whether a
+-- batch is going on
 pub record Remembers (c : ClientModel) : Type 0 where
   pub finishes : has_finished c.transcript ≡ c.finished
   pub told : end_told c.transcript ≡ c.end
   pub first : IsGrantedFirst c
   pub held : AreHeld c.transcript (c.handles ++ fetched_by c.pending)
-  pub alone : c.batch ≡ None
+  pub opened : is_some c.batch ≡ is_open c.transcript
 
 -- the rank runs, no call is pending, and nobody waits at the server; each call took a stamp of its own, and five events at most
 pub record IsIdle (c : ClientModel) (s : ServerModel) : Type 0 where
@@ -104,12 +105,13 @@ pub record IsAnswered (said : List Said) (call : Call) (answer : Answer) (w : Se
   pub grown : (rank_in w).transcript ≡ with_call said call answer
   pub fits : IsAnswerTo said call answer
 
--- the rank has finished, and the server has ended
+-- the rank has finished and knows whether a batch is going on, and the server has ended
 pub record IsFinished (said : List Said) (w : Seen) : Type 0 where
   pub whole : w.trouble ≡ None
   pub true_now : IsTrue w
   pub grown : (rank_in w).transcript ≡ with_call said calls_to.Finish answers.Fine
   pub heard : is_ended (server_in w) ≡ true
+  pub opened : is_some (rank_in w).batch ≡ is_open (rank_in w).transcript
 
 -- The call failed: what the rank has heard is as before, the ledger tells of the call what was entered, and a stamp that was too long
 -- is past the last one.

@@ -1,5 +1,6 @@
-use Rattle.std.proofs.Common.{subst}
+use Rattle.std.proofs.Common.{refl, subst}
 use Rattle.adlb_unit.specs.Targets.{Aims}
+use Rattle.core_inline.proofs.Batches.{batch_kept}
 use Rattle.core_inline.proofs.inline.InlineWorldAdlb.put.Goals as goal
 
 pub invariant_of-self : goal.invariant_of-self
@@ -10,4 +11,9 @@ invariant_of-self c = record {
 }
 
 pub call-requires-clause-can : goal.call-requires-clause-can
-call-requires-clause-can c = (c.requires.body, subst (λ n. Aims c.args.target n) c.args.self.now.one_rank c.requires.target)
+call-requires-clause-can c = λ none. (c.requires.body, subst (λ n. Aims c.args.target n) c.args.self.now.one_rank c.requires.target)
+
+pub returns-clause-batch : goal.returns-clause-batch
+returns-clause-batch c =
+    batch_kept _ _ _ _ _ _ _ c.call.ensures.says c.call.ensures.failed c.call.ensures.repeats _ c.put_result.ensures.trouble
+    (λ a on. refl)

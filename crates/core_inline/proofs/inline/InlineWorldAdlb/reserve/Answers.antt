@@ -1,3 +1,5 @@
+use Rattle.std.proofs.Common.{refl}
+use Rattle.core_inline.proofs.Batches.{batch_kept}
 use Rattle.core_inline.proofs.inline.InlineWorldAdlb.reserve.Goals as goal
 
 pub invariant_of-self : goal.invariant_of-self
@@ -6,3 +8,8 @@ invariant_of-self c = record {
   late = λ stamp too_long. (c.call.ensures.holds.late stamp too_long).0;
   short = c.call.ensures.holds.short;
 }
+
+pub returns-clause-batch : goal.returns-clause-batch
+returns-clause-batch c =
+    batch_kept _ _ _ _ _ _ _ c.call.ensures.says c.call.ensures.failed c.call.ensures.repeats _ c.reserve_result.ensures.trouble
+    (λ a on. refl)

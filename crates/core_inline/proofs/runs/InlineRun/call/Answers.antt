@@ -18,7 +18,7 @@ exchange-requires c =
     sym (ap (λ (r : Run). r.transcript) c.self.view_is) ∙ take_all i.answered (rank_in i.world).transcript (c.self.invariant.all whole) in
     record {
       ready = c.self.invariant.ready whole running;
-      can = subst (λ (l : List Said). CanCall l c.args.call) all c.requires.can;
+      can = subst (λ (l : List Said). CanCall l c.args.call) all (c.requires.can (sym (ap (λ (r : Run). r.failed) c.self.view_is) ∙ whole));
       going = c.requires.going;
     }
 
