@@ -3,6 +3,7 @@
 ghost use Rattle.std.specs.Prelude.{◌≡◌, ◌≤◌, List, ℕ, length, Option, IfOk, OnOk, OnErr};
 ghost use Rattle.adlb_io.specs.Outside.{Gives, Rises};
 
+use adlb_unit::NoMemory;
 use std::error::Error;
 use std::fmt;
 
@@ -17,6 +18,35 @@ impl fmt::Display for Failed {
 }
 
 impl Error for Failed {}
+
+/// Why bytes were not read.
+#[derive(Clone, Copy, Debug, PartialEq, Eq)]
+pub enum SourceFault {
+    /// The source failed.
+    Failed,
+    /// Allocation failed. Contracts never say when: any call that allocates may answer it.
+    Memory,
+}
+
+impl From<Failed> for SourceFault {
+    ghost use Rattle.adlb_io.specs.declared.sources.SourceFault.TheVariants as faults;
+
+    ghost from_gives = { λ _ fault. fault ≡ faults.Failed };
+
+    fn from(_: Failed) -> SourceFault {
+        SourceFault::Failed
+    }
+}
+
+impl From<NoMemory> for SourceFault {
+    ghost use Rattle.adlb_io.specs.declared.sources.SourceFault.TheVariants as faults;
+
+    ghost from_gives = { λ _ fault. fault ≡ faults.Memory };
+
+    fn from(_: NoMemory) -> SourceFault {
+        SourceFault::Memory
+    }
+}
 
 /// Where bytes come from.
 pub trait Source {

@@ -1,11 +1,14 @@
-//! Filling a room from a source, and writing a whole text to a sink.
+//! Reading from a source until it ends or there is no more room, and writing a whole text to a sink.
 
 ghost use Rattle.std.specs.Prelude.{◌≡◌, ◌≤◌, length, take, IfOk, IfErr, OnOk, OnErr, true};
 ghost use Rattle.adlb_io.specs.Outside.{Rises, Takes};
-ghost use Rattle.adlb_io.specs.Whole.{Fills};
+ghost use Rattle.adlb_io.specs.Whole.{Fills, IsCut, Reads};
+ghost use Rattle.adlb_io.specs.Inside.{Appends};
 
 use crate::sinks::{Sink, SinkFault};
-use crate::sources::{Failed, Source};
+use crate::sources::{Failed, Source, SourceFault};
+use adlb_unit::or_no_memory;
+use std::alloc::Global;
 
 /// Reads until the room is full or the source is at its end, and answers how many bytes were read. It takes no more
 /// of the source than the room has place for. `Failed` comes only if the source's count of faults rose (or stands at its
@@ -26,6 +29,50 @@ pub fn fill<S: Source>(source: &mut S, room: &mut [u8]) -> Result<usize, Failed>
         at += n;
     }
     Ok(at)
+}
+
+/// How many bytes are read at once.
+const ROOM: usize = 0x1_0000;
+
+/// Reads until the source is at its end or `most` bytes were read (`Reads`). `Failed` comes only if the source's count of
+/// faults rose (or stands at its last value), and `Memory` if an allocation failed; the count stays then, and at `Ok`.
+pub fn read_up_to<S: Source>(
+    alloc: Global,
+    source: &mut S,
+    most: usize,
+) -> Result<Vec<u8>, SourceFault>
+    ensures read { IfOk result (λ bytes. Reads (S.left source.old) (S.left source.new) most bytes.items) }
+    ensures bound { IfOk result (λ bytes. length bytes.items ≤ most) }
+    ensures counted { OnOk result (S.faults source.new ≡ S.faults source.old) }
+    ensures later { S.faults source.old ≤ S.faults source.new }
+    ensures cause { IfErr result (λ fault. IsCut fault (S.faults source.old) (S.faults source.new)) }
+{
+    let mut bytes = Vec::new(alloc);
+    while bytes.len() < most {
+        let wanted = ROOM.min(most - bytes.len());
+        if read_piece(alloc, source, wanted, &mut bytes)? < wanted {
+            return Ok(bytes);
+        }
+    }
+    Ok(bytes)
+}
+
+// Appends the next bytes, `wanted` or what is left, and answers how many they are.
+fn read_piece<S: Source>(
+    alloc: Global,
+    source: &mut S,
+    wanted: usize,
+    bytes: &mut Vec<u8>,
+) -> Result<usize, SourceFault>
+    ensures appended { IfOk result (λ n. Appends (S.left source.old) (S.left source.new) wanted bytes.old.items bytes.new.items n) }
+    ensures counted { OnOk result (S.faults source.new ≡ S.faults source.old) }
+    ensures later { S.faults source.old ≤ S.faults source.new }
+    ensures cause { IfErr result (λ fault. IsCut fault (S.faults source.old) (S.faults source.new)) }
+{
+    let mut room = or_no_memory(vec![in alloc; 0_u8; wanted])?;
+    let n = fill(source, &mut room)?;
+    or_no_memory(bytes.extend_from_slice(&room[..n]))?;
+    Ok(n)
 }
 
 /// A text was not written whole: why, and how many of its first bytes the sink took.

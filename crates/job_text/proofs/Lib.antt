@@ -4,4 +4,5 @@ pub mod Puzzles
 pub mod SoFar
 pub mod Steps
 pub mod FewBytes
+pub mod Grids
 pub mod Rows

@@ -33,7 +33,8 @@ sign_is n b (inr (d, few, is)) =
     or_from (eqb b 46) _ (and_from (leb (digit_of b) n) (eqb (sign (digit_of b)) b) (le-leb (digit_of b) n le) (eq-eqb (sign (digit_of b)) b (ap
     sign e ∙ sym is)))
 
-is_sign : (n b : ℕ) → is_cell_sign n b ≡ true → IsCellSign n b
+-- a byte that passes is a sign of a cell
+pub is_sign : (n b : ℕ) → is_cell_sign n b ≡ true → IsCellSign n b
 is_sign n b t = elim (or_parts (eqb b 46) (leb (digit_of b) n && eqb (sign (digit_of b)) b) t) [
   | inl dot ↦ inl (eqb-true b 46 dot)
   | inr both ↦
@@ -46,7 +47,8 @@ size_is n (inl e) = rw e refl
 size_is n (inr (inl e)) = rw e refl
 size_is n (inr (inr e)) = rw e refl
 
-is_size_of : (n : ℕ) → is_size n ≡ true → IsSize n
+-- a length that passes is that of a grid
+pub is_size_of : (n : ℕ) → is_size n ≡ true → IsSize n
 is_size_of n t = elim (or_parts (eqb n 16 || eqb n 81) (eqb n 256) t) [
   | inl less ↦ elim (or_parts (eqb n 16) (eqb n 81) less) [ inl e ↦ inl (eqb-true n 16 e) | inr e ↦ inr (inl (eqb-true n 81 e)) ]
   | inr e ↦ inr (inr (eqb-true n 256 e))

@@ -1,5 +1,6 @@
 -- The jobs of an input, or its first line that is refused.
 use Rattle.std.specs.Prelude.{◌≤◌, ⊤, ℕ, ◌+◌, Bool, true, false, List, [], ◌∷◌, Option, Some, None, length, map}
+use Rattle.sudoku_rules.specs.Sides.{IsSudoku}
 use Rattle.job_text.specs.declared.faults.LineWhy.{LineWhy}
 use Rattle.job_text.specs.declared.faults.LineWhy.TheVariants as why
 use Rattle.job_text.specs.declared.items.Item.{Item}
@@ -49,6 +50,11 @@ goes_on on (bad reason) = on
 abbrev pub HasFewBytes : Job → Type 0
 HasFewBytes (Puzzle grid) = ⊤
 HasFewBytes (Batch bytes items) = length bytes ≤ line_limit
+
+-- a puzzle is a grid of side 4, 9 or 16
+abbrev pub HasGrid : Job → Type 0
+HasGrid (Puzzle grid) = IsSudoku grid
+HasGrid (Batch bytes items) = ⊤
 
 -- the first of these lines that is refused, and why; the first of them has the number n
 abbrev pub or_later : Option LineWhy → ℕ → Option (ℕ × LineWhy) → Option (ℕ × LineWhy)

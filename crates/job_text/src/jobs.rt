@@ -1,7 +1,7 @@
 //! The jobs of an input.
 
-ghost use Rattle.std.specs.Prelude.{◌≡◌, ◌≤◌, ◌^◌, ℕ, List, length, Some, None, Err, IfOk};
-ghost use Rattle.job_text.specs.Jobs.{input_jobs, input_refused};
+ghost use Rattle.std.specs.Prelude.{◌≡◌, ◌≤◌, ◌^◌, ℕ, List, length, Some, None, Err, All, IfOk};
+ghost use Rattle.job_text.specs.Jobs.{HasGrid, input_jobs, input_refused};
 
 use crate::faults::{JobsFault, LineWhy};
 use crate::items::Items;
@@ -53,10 +53,12 @@ impl Jobs {
 }
 
 /// Reads the jobs of an input of at most 2^24 bytes. `Refused` is answered exactly if a line is refused, with the
-/// first such line and its reason, unless `Memory` is answered, which may come of any input.
+/// first such line and its reason, unless `Memory` is answered, which may come of any input. There are at most 2^24 jobs.
 pub fn read_jobs(alloc: Global, bytes: &[u8]) -> Result<Jobs, JobsFault>
     requires { length bytes.now ≤ 2 ^ 24 }
     ensures jobs { IfOk result (λ jobs. (input_refused bytes.now ≡ None) × (jobs ≡ input_jobs bytes.now)) }
+    ensures grids { IfOk result (All HasGrid) }
+    ensures few { IfOk result (λ jobs. length jobs ≤ 2 ^ 24) }
     ensures refused { (line : ℕ) (why : LineWhy) → result ≡ Err (JobsFault.Refused line why) →
         input_refused bytes.now ≡ Some (line, why) }
 {

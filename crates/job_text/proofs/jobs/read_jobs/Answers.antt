@@ -5,8 +5,9 @@ use Rattle.job_text.specs.declared.faults.JobsFault.{JobsFault}
 use Rattle.job_text.specs.declared.faults.JobsFault.TheVariants as fault
 use Rattle.job_text.specs.declared.reading.Reading.{Reading}
 use Rattle.job_text.specs.Lines.{lines}
-use Rattle.job_text.specs.Jobs.{HasFewBytes}
+use Rattle.job_text.specs.Jobs.{HasFewBytes, HasGrid}
 use Rattle.job_text.proofs.FewBytes.{few_bytes}
+use Rattle.job_text.proofs.Grids.{have_grids}
 use Rattle.job_text.proofs.Steps.{more_read, refused_next, all_read}
 use Rattle.job_text.proofs.jobs.read_jobs.Goals as goal
 
@@ -36,3 +37,15 @@ invariant_of-result c =
     let before = c.each.invariant.few in
     let few = c.in_ok-list.ensures.few in
     (omega arith, subst (All HasFewBytes) (sym read.1) (few_bytes (lines c.args.bytes.now)))
+
+pub returns-clause-grids : goal.returns-clause-grids
+returns-clause-grids c =
+    let read = all_read c.args.bytes.now c.each.reading c.each.lines c.each.number c.in_ok-list.list.items c.each.invariant
+    c.in_default.ensures.line c.in_ok-list.ensures.jobs in
+    subst (All HasGrid) (sym read.1) (have_grids (lines c.args.bytes.now))
+
+pub returns-clause-few : goal.returns-clause-few
+returns-clause-few c =
+    let before = c.each.invariant.few in
+    let few = c.in_ok-list.ensures.few in
+    omega arith
