@@ -1,0 +1,37 @@
+//! The pieces of a body.
+
+ghost use Rattle.std.specs.Prelude.{◌≡◌, ◌≤◌, ◌++◌, OnOk, IfOk, length};
+
+use adlb_unit::{NoMemory, Payload, or_no_memory};
+use std::alloc::Global;
+
+/// Three pieces, one behind the other, of which the first two are numbers or empty. Its only error is `NoMemory`.
+pub fn joined(alloc: Global, first: &[u8], second: &[u8], third: &[u8]) -> Result<Payload, NoMemory>
+    requires first { length first.now ≤ 8 }
+    requires second { length second.now ≤ 8 }
+    ensures { IfOk result (λ p. p ≡ first.now ++ second.now ++ third.now) }
+{
+    let count = first.len() + second.len() + third.len();
+    let mut bytes = or_no_memory(Vec::with_capacity(alloc, count))?;
+    append(&mut bytes, first)?;
+    append(&mut bytes, second)?;
+    append(&mut bytes, third)?;
+    Ok(Payload::from_vec(bytes))
+}
+
+// Appends the piece.
+fn append(bytes: &mut Vec<u8>, piece: &[u8]) -> Result<(), NoMemory>
+    ensures { OnOk result (bytes.new.items ≡ bytes.old.items ++ piece.now) }
+{
+    or_no_memory(bytes.extend_from_slice(piece))
+}
+
+/// The bytes in place.
+pub fn array_of<const N: usize>(bytes: &[u8]) -> [u8; N]
+    requires { length bytes.now ≡ N }
+    ensures { result ≡ bytes.now }
+{
+    let mut array = [0u8; N];
+    array.copy_from_slice(bytes);
+    array
+}
