@@ -1,0 +1,6 @@
+pub mod Pieces
+pub mod Found
+pub mod Told
+pub mod Parts
+pub mod Unique
+pub mod Worked

@@ -1,0 +1,4 @@
+pub mod Jobs
+pub mod Report
+pub mod Whole
+pub mod Inside
