@@ -1,7 +1,7 @@
 -- What is kept of a run of one rank over one server.
-use Rattle.std.proofs.Common.{◌≡◌, ◌<◌, ◌≤◌, ◌^◌, ◌+◌, ℕ, zero, suc, List, [], ◌∷◌, ◌++◌, length, Option, Some, None, Result, Ok, Err, IfOk, All, map, refl, sym, ap, ◌∙◌, subst, arith, slice_get, slice_index}
+use Rattle.std.proofs.Common.{◌≡◌, ◌||◌, false, ◌<◌, ◌≤◌, ◌^◌, ◌+◌, ℕ, zero, suc, List, [], ◌∷◌, ◌++◌, length, Option, Some, None, Result, Ok, Err, IfOk, All, map, refl, sym, ap, ◌∙◌, subst, arith, slice_get, slice_index}
 use Rattle.std.proofs.lemmas.Result.{IfOk-at_ok}
-use Rattle.std.proofs.lemmas.List.Elements.{All-nil, All-push}
+use Rattle.std.proofs.lemmas.List.Elements.{All-cons, All-head, All-nil, All-tail}
 use Rattle.std.proofs.lemmas.List.Sums.{sum_by-cons}
 use Rattle.adlb_threads.specs.Reports.{Reported}
 use Rattle.adlb_unit.specs.declared.actors.Actor.{Actor}
@@ -10,13 +10,16 @@ use Rattle.adlb_unit.specs.declared.notes.Trouble.TheVariants as troubles
 use Rattle.adlb_unit.specs.declared.notes.Trouble.TheVariants.{TooLong}
 use Rattle.balance_law.proofs.Whole.{balanced}
 use Rattle.bag_ledger.specs.declared.entries.Call.TheVariants as calls_to
-use Rattle.puzzle_app.specs.Jobs.{AreJobs, puzzles}
-use Rattle.puzzle_app.specs.Report.{AreWhole, made_in}
+use Rattle.job_report.specs.Jobs.{puzzles}
+use Rattle.job_text.specs.Jobs.{HasGrid}
+use Rattle.job_text.specs.declared.jobs.Job.TheVariants.{Batch, Puzzle}
+use Rattle.job_report.specs.Whole.{AreWhole, made_in}
 use Rattle.puzzle_law.proofs.Joining.{joined_spent, joined_whole}
-use Rattle.rank_client.specs.Calls.{plus}
+use Rattle.rank_client.proofs.Transcripts.{finished_more}
+use Rattle.rank_client.specs.Calls.{has_finished, plus}
+use Rattle.bag_ledger.specs.declared.entries.Answer.{Answer}
 use Rattle.rank_client.specs.Seat.{Seat}
 use Rattle.sudoku_rules.specs.Sides.{IsSudoku}
-use Rattle.sudoku_rules.proofs.Reading.{reads_is_grid}
 use Rattle.adlb_command.specs.Ends.{fault_by}
 use Rattle.adlb_unit.specs.declared.configs.Config.{Config}
 use Rattle.adlb_unit.specs.declared.names.Rank.{Rank}
@@ -30,8 +33,8 @@ use Rattle.core_inline.specs.Inline.{IsEnd, IsStart, Run, finish_answer, seat_of
 use Rattle.core_inline.specs.Left.{IsLeft}
 use Rattle.core_inline.proofs.Lefts.{nothing_left}
 use Rattle.merge_history.specs.Events.{Event}
-use Rattle.puzzle_app.specs.declared.jobs.Job.{Job}
-use Rattle.puzzle_app.specs.declared.outcomes.PuzzleOutcome.{PuzzleOutcome}
+use Rattle.job_text.specs.declared.jobs.Job.{Job}
+use Rattle.job_report.specs.declared.outcomes.Outcome.{Outcome}
 use Rattle.puzzle_app.specs.declared.outcomes.Settings.{Settings}
 use Rattle.puzzle_app.specs.declared.program.PuzzleProgram.{PuzzleProgram}
 use Rattle.puzzle_app.specs.Follows.{Follows}
@@ -54,7 +57,7 @@ only : (P : Rank → Type 0) → P zeroth → (k : ℕ) → k < 1 → P (record 
 only P here zero low = here
 only P here (suc k) low = absurd (omega arith)
 
-module _ (config : Config) (settings : Settings) (jobs : List Job) (program : PuzzleProgram) (outcome : PuzzleOutcome) (run : Run) (said : List Said) (ledger : List Entry)
+module _ (config : Config) (settings : Settings) (jobs : List Job) (program : PuzzleProgram) (outcome : Outcome) (run : Run) (said : List Said) (ledger : List Entry)
     (transcript : List Said) (left : List LeftUnit) (one_rank : config.ranks ≡ 1) (numbers : HasNumbers config run) (settings_are : program.settings ≡ settings) (jobs_are : program.jobs ≡ Some jobs)
     (follows : Follows program said outcome) (finished : transcript ≡ said ++ finish ∷ []) (ends : IsEnd run ledger transcript left)
   where
@@ -102,23 +105,23 @@ module _ (config : Config) (settings : Settings) (jobs : List Job) (program : Pu
         kept spent (nothing_left ends.last left spent)
 
 -- where the report is of what the program found, it is kept
-pub reports_kept : (config : Config) (settings : Settings) (jobs : List Job) (last : Run) (said transcript : List Said) (ledger : List Entry) (left : List LeftUnit) (outcome : Result PuzzleOutcome RunFault) (result : Result (Reported PuzzleOutcome) RunFault) → config.ranks ≡ 1 → HasNumbers config last → IfOk outcome (HasWorked settings jobs said) → transcript ≡ said ++ finish ∷ [] → IsEnd last ledger transcript left → IfOk result (λ r. IsReportOf config ledger transcript left outcome r) → IfOk result (IsKept settings jobs)
+pub reports_kept : (config : Config) (settings : Settings) (jobs : List Job) (last : Run) (said transcript : List Said) (ledger : List Entry) (left : List LeftUnit) (outcome : Result Outcome RunFault) (result : Result (Reported Outcome) RunFault) → config.ranks ≡ 1 → HasNumbers config last → IfOk outcome (HasWorked settings jobs said) → transcript ≡ said ++ finish ∷ [] → IsEnd last ledger transcript left → IfOk result (λ r. IsReportOf config ledger transcript left outcome r) → IfOk result (IsKept settings jobs)
 reports_kept config settings jobs last said transcript ledger left outcome (Err fault) one numbers worked finished ends is = tt
 reports_kept config settings jobs last said transcript ledger left outcome (Ok r) one numbers worked finished ends is =
-    let P : PuzzleOutcome → Type 0 = HasWorked settings jobs said in
+    let P : Outcome → Type 0 = HasWorked settings jobs said in
     let w : HasWorked settings jobs said is.found = IfOk-at_ok P is.is worked in
     let whole : IsKept settings jobs (one_report config ledger transcript left is.found) = run_is_kept config settings jobs w.program is.found last said ledger transcript left one numbers w.settings_are w.jobs_are w.follows finished ends in
     subst (λ k. IsKept settings jobs k) (sym is.report) whole
 
 -- a report of one transcript, one outcome and no history
-abbrev report_with : Config → List Entry → List (Actor × Event) → List (List Said) → List PuzzleOutcome → List LeftUnit → Reported PuzzleOutcome
+abbrev report_with : Config → List Entry → List (Actor × Event) → List (List Said) → List Outcome → List LeftUnit → Reported Outcome
 report_with config ledger history transcripts outcomes left = record { config = config; ledger = ledger; history = history; transcripts = transcripts; outcomes = outcomes; left = left }
 
-pub reported : {V : Type 0} (config : Config) (ledger : List Entry) (left : List LeftUnit) (history : List (Actor × Event)) (seen_as : V → List Said) (transcripts : List V) (transcript : V) (outcomes : List PuzzleOutcome) (outcome : PuzzleOutcome) → history ≡ [] → transcripts ≡ transcript ∷ [] → outcomes ≡ outcome ∷ [] → report_with config ledger history (map seen_as transcripts) outcomes left ≡ one_report config ledger (seen_as transcript) left outcome
+pub reported : {V : Type 0} (config : Config) (ledger : List Entry) (left : List LeftUnit) (history : List (Actor × Event)) (seen_as : V → List Said) (transcripts : List V) (transcript : V) (outcomes : List Outcome) (outcome : Outcome) → history ≡ [] → transcripts ≡ transcript ∷ [] → outcomes ≡ outcome ∷ [] → report_with config ledger history (map seen_as transcripts) outcomes left ≡ one_report config ledger (seen_as transcript) left outcome
 reported config ledger left history seen_as transcripts transcript outcomes outcome none one found =
     ap (λ (h : List (Actor × Event)). report_with config ledger h (map seen_as transcripts) outcomes left) none
     ∙ ap (λ ts. report_with config ledger [] (map seen_as ts) outcomes left) one
-    ∙ ap (λ (os : List PuzzleOutcome). report_with config ledger [] (seen_as transcript ∷ []) os left) found
+    ∙ ap (λ (os : List Outcome). report_with config ledger [] (seen_as transcript ∷ []) os left) found
 
 -- the fault of a run is that of its trouble, which a world that failed tells
 pub trouble_fault : (trouble : Trouble) (run : Run) → ((stamp : ℕ) → run.failed ≡ Some (TooLong stamp) → 2 ^ 48 ≤ stamp) → ((n : ℕ) → trouble ≡ TooLong n → run.failed ≡ Some (TooLong n)) → IsRunFault (fault_by trouble)
@@ -144,29 +147,26 @@ one_of (y ∷ []) x there one = let same : y ≡ x = cc in ap (λ z. z ∷ []) s
 one_of (y ∷ z ∷ xs) x there one = absurd (omega arith)
 
 -- one rank made fewer units than a number of 128 bits counts
-pub few_made : (settings : Settings) (jobs : List Job) (r : Reported PuzzleOutcome) → r.config.ranks ≡ 1 → IsKept settings jobs r → (k : ℕ) → made_in k r.outcomes < 2 ^ 128
+pub few_made : (settings : Settings) (jobs : List Job) (r : Reported Outcome) → r.config.ranks ≡ 1 → IsKept settings jobs r → (k : ℕ) → made_in k r.outcomes < 2 ^ 128
 few_made settings jobs r one kept k =
     let run = kept.ranks.each zeroth (omega (arith, one)) in
     let same : r.outcomes ≡ run.outcome ∷ [] = one_of r.outcomes run.outcome run.there (kept.ranks.all ∙ one) in
     let few : slice_index run.outcome.made k < 2 ^ 113 = run.follows.few k in
-    let sum : made_in k (run.outcome ∷ []) ≡ slice_index run.outcome.made k + 0 = sum_by-cons (λ (o : PuzzleOutcome). slice_index o.made k) run.outcome [] in
+    let sum : made_in k (run.outcome ∷ []) ≡ slice_index run.outcome.made k + 0 = sum_by-cons (λ (o : Outcome). slice_index o.made k) run.outcome [] in
     rw same (omega (arith, sum, few))
 
--- the jobs of an input are grids, and few
-pub jobs_are_grids : (bytes : List ℕ) (jobs : List Job) → AreJobs bytes jobs → All IsSudoku (puzzles jobs)
+-- where each puzzle of the jobs is a grid, all of them are grids
+pub all_grids : (jobs : List Job) → All HasGrid jobs → All IsSudoku (puzzles jobs)
 unfolding puzzles
-jobs_are_grids bytes jobs are =
-    let one : All IsSudoku (are.0 ∷ []) = All-push IsSudoku [] are.0 (All-nil IsSudoku) (reads_is_grid are.1.text are.0 are.1.reads) in
-    let P : List Job → Type 0 = λ js. All IsSudoku (puzzles js) in
-    subst P (sym are.2) one
-
-pub jobs_are_few : (bytes : List ℕ) (jobs : List Job) → AreJobs bytes jobs → length jobs ≤ 2 ^ 24
-jobs_are_few bytes jobs are = let one : length jobs ≡ 1 = ap length are.2 in omega (arith, one)
+all_grids [] grids = All-nil IsSudoku
+all_grids (Puzzle g ∷ jobs) grids =
+    All-cons IsSudoku g (puzzles jobs) (All-head HasGrid (Puzzle g) jobs grids) (all_grids jobs (All-tail HasGrid (Puzzle g) jobs grids))
+all_grids (Batch common items ∷ jobs) grids = all_grids jobs (All-tail HasGrid (Batch common items) jobs grids)
 
 -- the outcomes that are kept hold what the jobs are to give
-pub kept_whole : (settings : Settings) (jobs : List Job) (r : Reported PuzzleOutcome) → r.config.ranks ≡ 1 → settings.budget < 2 ^ 64 → ((bytes : List ℕ) × AreJobs bytes jobs) → IsKept settings jobs r → AreWhole settings.budget settings.grain jobs r.outcomes
-kept_whole settings jobs r one small some kept =
-    joined_whole balanced r.config r.ledger kept.last settings jobs r.outcomes (omega (arith, one)) kept.legal (jobs_are_grids some.0 jobs some.1) (jobs_are_few some.0 jobs some.1) small kept.ranks
+pub kept_whole : (settings : Settings) (jobs : List Job) (r : Reported Outcome) → r.config.ranks ≡ 1 → settings.budget < 2 ^ 64 → All HasGrid jobs → length jobs ≤ 2 ^ 24 → IsKept settings jobs r → AreWhole settings.budget settings.grain jobs r.outcomes
+kept_whole settings jobs r one small grids few kept =
+    joined_whole balanced r.config r.ledger kept.last settings jobs r.outcomes (omega (arith, one)) kept.legal (all_grids jobs grids) few small kept.ranks
 
 -- a link of the same seat has the same numbers
 pub seat_numbers : (before after : Run) → seat_of after ≡ seat_of before → HasNumbers before.config after
@@ -175,3 +175,18 @@ seat_numbers before after same = record {
   servers = ap (λ (s : Seat). s.servers) same;
   limit = ap (λ (s : Seat). s.limit) same;
 }
+
+-- the numbers stay through two steps
+pub numbers_again : (config : Config) (mid last : Run) → HasNumbers config mid → HasNumbers mid.config last → HasNumbers config last
+numbers_again config mid last first then = record {
+  ranks = then.ranks ∙ first.ranks;
+  servers = then.servers ∙ first.servers;
+  limit = then.limit ∙ first.limit;
+}
+
+-- the end of a batch leaves a rank that has not finished
+pub not_finished : (said : List Said) (answer : Option Answer) → has_finished said ≡ false
+    → has_finished (plus said calls_to.EndBatch answer) ≡ false
+not_finished said None going = going
+not_finished said (Some answer) going =
+    finished_more said (record { call = calls_to.EndBatch; answer = answer }) ∙ ap (λ b. b || false) going

@@ -1,5 +1,5 @@
 -- What stands between the parts of a run: why its input gave no answer, what its world was, and how the writing ended.
-use Rattle.std.specs.Prelude.{◌≡◌, ◌≤◌, ◌^◌, ◌⊎◌, ◌==◌, ℕ, Bool, true, List, [], ◌∷◌, length, take, Option, Some, None, Result, Ok, if◌then◌else◌}
+use Rattle.std.specs.Prelude.{◌≡◌, ◌≤◌, ◌+◌, ◌^◌, ◌⊎◌, ◌==◌, ℕ, Bool, true, List, [], ◌∷◌, length, take, Option, Some, None, Result, Ok, if◌then◌else◌}
 use Rattle.adlb_io.specs.Outside.{Rises, Takes}
 use Rattle.adlb_io.specs.declared.sinks.SinkFault.{SinkFault}
 use Rattle.adlb_io.specs.declared.sinks.SinkFault.TheVariants as sinks
@@ -9,32 +9,33 @@ use Rattle.adlb_threads.specs.Reports.{Reported}
 use Rattle.bag_ledger.specs.declared.entries.Entry.{Entry}
 use Rattle.bag_ledger.specs.declared.entries.Said.{Said}
 use Rattle.core_inline.specs.Inline.{Run}
-use Rattle.puzzle_app.specs.declared.jobs.Job.{Job}
-use Rattle.puzzle_app.specs.declared.outcomes.PuzzleOutcome.{PuzzleOutcome}
+use Rattle.job_text.specs.declared.jobs.Job.{Job}
+use Rattle.job_report.specs.declared.outcomes.Outcome.{Outcome}
 use Rattle.puzzle_app.specs.declared.outcomes.Settings.{Settings}
 use Rattle.puzzle_app.specs.declared.program.PuzzleProgram.{PuzzleProgram}
 use Rattle.puzzle_app.specs.Follows.{Follows}
-use Rattle.puzzle_app.specs.Input.{IsAccepted}
+use Rattle.job_text.specs.Jobs.{input_refused}
 use Rattle.server_core.specs.declared.states.LeftUnit.{LeftUnit}
-use Rattle.adlb_command.specs.Ends.{IsFirst, fault_of}
-use Rattle.adlb_command.specs.Input.{IsNotRefused, IsRefused}
+use Rattle.adlb_command.specs.Ends.{fault_of}
+use Rattle.adlb_command.specs.Input.{HasAccepted, IsRefusedAt, IsTooLong, input_limit}
 use Rattle.adlb_command.specs.declared.ends.RunFault.{RunFault}
-use Rattle.adlb_command.specs.declared.ends.RunFault.TheVariants.{Input, Read, Memory, TooLong}
+use Rattle.adlb_command.specs.declared.ends.RunFault.TheVariants.{Input, Read, Memory, TooLong, TooLarge}
 
 -- Why there was no answer.
 
--- why these bytes gave no jobs: they are not of their form; or an allocation failed, and they are
+-- why these bytes gave no jobs: a line is refused; or an allocation failed
 abbrev pub RefusesBytes : List ℕ → RunFault → Type 0
-RefusesBytes bytes (Input line why) = IsFirst line why × (IsAccepted bytes → ⊥)
-RefusesBytes bytes Memory = (IsAccepted bytes → ⊥) → ⊥
+RefusesBytes bytes (Input line why) = input_refused bytes ≡ Some (line, why)
+RefusesBytes bytes Memory = Unit {0}
 RefusesBytes bytes fault = ⊥
 
 -- why an input gave no answer, with the counts of faults of its source before and after
 abbrev pub Refuses : Option (List ℕ) → ℕ → ℕ → RunFault → Type 0
-Refuses left reads reads' (Input line why) = IsFirst line why × IsRefused left × (reads' ≡ reads)
+Refuses left reads reads' (Input line why) = IsRefusedAt left line why × (reads' ≡ reads)
 Refuses left reads reads' Read = Rises reads reads'
-Refuses left reads reads' Memory = IsNotRefused left
-Refuses left reads reads' (TooLong stamp) = (2 ^ 48 ≤ stamp) × IsNotRefused left
+Refuses left reads reads' Memory = Unit {0}
+Refuses left reads reads' (TooLong stamp) = (2 ^ 48 ≤ stamp) × HasAccepted left
+Refuses left reads reads' (TooLarge taken) = (taken ≡ input_limit + 1) × IsTooLong left × (reads' ≡ reads)
 Refuses left reads reads' fault = ⊥
 
 -- why a run over jobs gave no answer
@@ -52,14 +53,14 @@ pub record HasNumbers (config : Config) (run : Run) : Type 0 where
   pub limit : run.config.limit ≡ config.limit
 
 -- the program of these jobs found this, where its rank had said so much
-pub record HasWorked (settings : Settings) (jobs : List Job) (said : List Said) (outcome : PuzzleOutcome) : Type 0 where
+pub record HasWorked (settings : Settings) (jobs : List Job) (said : List Said) (outcome : Outcome) : Type 0 where
   pub program : PuzzleProgram
   pub settings_are : program.settings ≡ settings
   pub jobs_are : program.jobs ≡ Some jobs
   pub follows : Follows program said outcome
 
 -- the report of a run with one rank and no history
-abbrev pub one_report : Config → List Entry → List Said → List LeftUnit → PuzzleOutcome → Reported PuzzleOutcome
+abbrev pub one_report : Config → List Entry → List Said → List LeftUnit → Outcome → Reported Outcome
 one_report config ledger transcript left outcome = record {
   config = config;
   ledger = ledger;
@@ -70,27 +71,27 @@ one_report config ledger transcript left outcome = record {
 }
 
 -- the report of such a run, whose rank had an outcome
-pub record IsReportOf (config : Config) (ledger : List Entry) (transcript : List Said) (left : List LeftUnit) (outcome : Result PuzzleOutcome RunFault) (r : Reported PuzzleOutcome) : Type 0 where
-  pub found : PuzzleOutcome
+pub record IsReportOf (config : Config) (ledger : List Entry) (transcript : List Said) (left : List LeftUnit) (outcome : Result Outcome RunFault) (r : Reported Outcome) : Type 0 where
+  pub found : Outcome
   pub is : outcome ≡ Ok found
   pub report : r ≡ one_report config ledger transcript left found
 
 -- How the writing ended.
 
 -- the report is kept if a write failed, and if an allocation failed after the sink took a byte
-abbrev pub kept_of : SinkFault → ℕ → Reported PuzzleOutcome → Option (Reported PuzzleOutcome)
+abbrev pub kept_of : SinkFault → ℕ → Reported Outcome → Option (Reported Outcome)
 kept_of sinks.Failed taken report = Some report
 kept_of sinks.Memory taken report = if taken == 0 then None else Some report
 
 -- the whole text was written and flushed, and the report is kept
-pub record WritesAll (report : Reported PuzzleOutcome) (text : List ℕ) (before after : Option (List ℕ)) (flushed : Bool) (fault : Option RunFault) (kept : Option (Reported PuzzleOutcome)) : Type 0 where
+pub record WritesAll (report : Reported Outcome) (text : List ℕ) (before after : Option (List ℕ)) (flushed : Bool) (fault : Option RunFault) (kept : Option (Reported Outcome)) : Type 0 where
   pub fine : fault ≡ None
   pub keeps : kept ≡ Some report
   pub taken : Takes before after text
   pub flush : flushed ≡ true
 
 -- `taken` bytes of its front were
-pub record WritesPart (report : Reported PuzzleOutcome) (text : List ℕ) (before after : Option (List ℕ)) (faults faults' : ℕ) (fault : Option RunFault) (kept : Option (Reported PuzzleOutcome)) : Type 0 where
+pub record WritesPart (report : Reported Outcome) (text : List ℕ) (before after : Option (List ℕ)) (faults faults' : ℕ) (fault : Option RunFault) (kept : Option (Reported Outcome)) : Type 0 where
   pub unwritten : Unwritten
   pub fails : fault ≡ Some (fault_of unwritten.fault)
   pub keeps : kept ≡ kept_of unwritten.fault unwritten.taken report
@@ -98,6 +99,6 @@ pub record WritesPart (report : Reported PuzzleOutcome) (text : List ℕ) (befor
   pub taken : Takes before after (take unwritten.taken text)
   pub cause : unwritten.fault ≡ sinks.Failed → Rises faults faults'
 
-abbrev pub Writes : Reported PuzzleOutcome → List ℕ → Option (List ℕ) → Option (List ℕ) → ℕ → ℕ → Bool → Option RunFault → Option (Reported PuzzleOutcome) → Type 0
+abbrev pub Writes : Reported Outcome → List ℕ → Option (List ℕ) → Option (List ℕ) → ℕ → ℕ → Bool → Option RunFault → Option (Reported Outcome) → Type 0
 Writes report text before after faults faults' flushed fault kept =
     WritesAll report text before after flushed fault kept ⊎ WritesPart report text before after faults faults' fault kept

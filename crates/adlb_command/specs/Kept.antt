@@ -5,14 +5,14 @@ use Rattle.adlb_threads.specs.Reports.{Reported}
 use Rattle.bag_ledger.specs.declared.states.UnitPlace.TheVariants.{Spent}
 use Rattle.bag_ledger.specs.Bag.{Bag, start}
 use Rattle.bag_ledger.specs.Runs.{IsRun, calls}
-use Rattle.puzzle_app.specs.declared.jobs.Job.{Job}
-use Rattle.puzzle_app.specs.declared.outcomes.PuzzleOutcome.{PuzzleOutcome}
+use Rattle.job_text.specs.declared.jobs.Job.{Job}
+use Rattle.job_report.specs.declared.outcomes.Outcome.{Outcome}
 use Rattle.puzzle_app.specs.declared.outcomes.Settings.{Settings}
 use Rattle.puzzle_law.specs.Joined.{IsPuzzleRun}
 
 -- the ledger is a legal run with the configuration of the report; each rank's transcript is its calls in the ledger, in order; each
 -- rank ran its program over these jobs, had this outcome, and then finished; each accepted unit was fetched, and none is left
-pub record IsKept (settings : Settings) (jobs : List Job) (r : Reported PuzzleOutcome) : Type 0 where
+pub record IsKept (settings : Settings) (jobs : List Job) (r : Reported Outcome) : Type 0 where
   pub last : Bag
   pub legal : IsRun (start r.config) r.ledger last
   pub transcripts : (rank : Rank) → rank.0 < r.config.ranks → slice_get r.transcripts rank.0 ≡ Some (calls r.config r.ledger rank)

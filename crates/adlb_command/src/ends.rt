@@ -1,21 +1,23 @@
 //! How a run ends.
 
-ghost use Rattle.std.specs.Prelude.{◌≡◌, Some};
+ghost use Rattle.std.specs.Prelude.{◌≡◌, ◌⊎◌, Some};
 
-use adlb_io::SinkFault;
+use adlb_io::{SinkFault, SourceFault};
 use adlb_threads::Report;
 use adlb_unit::{NoMemory, Trouble};
-use puzzle_app::{JobsFault, LineWhy, PuzzleOutcome};
+use command_words::WordsFault;
+use job_report::Outcome;
+use job_text::{JobsFault, LineWhy};
 use thiserror::Error;
 
 /// Why a run did not write its whole report. Its text is what the user is told.
 #[derive(Clone, Copy, Debug, PartialEq, Eq, Error)]
 pub enum RunFault {
-    /// The input is not of its form: the first line that is refused, from 1, and why.
+    /// A line of the input is refused: the first such line, from 1, and why.
     #[error("line {line}: {why}")]
     Input { line: u64, why: LineWhy },
     /// The words are refused.
-    #[error("usage: adlbrun solve")]
+    #[error("usage: adlbrun solve [--limit N] [--budget N] [--grain N] [--inline]")]
     Usage,
     /// The source failed.
     #[error("read failed")]
@@ -29,6 +31,9 @@ pub enum RunFault {
     /// An event of the run would have this stamp, which is past the last one that is given.
     #[error("stamp limit reached")]
     TooLong { stamp: u64 },
+    /// The input has more than 2^24 bytes, of which this many were taken.
+    #[error("input too large")]
+    TooLarge { taken: u64 },
 }
 
 impl RunFault {
@@ -45,6 +50,7 @@ impl RunFault {
             RunFault::Write => 4,
             RunFault::Memory => 6,
             RunFault::TooLong { .. } => 7,
+            RunFault::TooLarge { .. } => 8,
         }
     }
 }
@@ -85,6 +91,33 @@ impl From<JobsFault> for RunFault {
     }
 }
 
+impl From<SourceFault> for RunFault {
+    ghost use Rattle.adlb_command.specs.Ends.{fault_at};
+
+    ghost from_gives = { λ met fault. fault ≡ fault_at met };
+
+    fn from(met: SourceFault) -> RunFault {
+        match met {
+            SourceFault::Failed => RunFault::Read,
+            SourceFault::Memory => RunFault::Memory,
+        }
+    }
+}
+
+impl From<WordsFault> for RunFault {
+    ghost use Rattle.command_words.specs.declared.commands.WordsFault.TheVariants as words;
+    ghost use Rattle.adlb_command.specs.declared.ends.RunFault.TheVariants as faults;
+
+    ghost from_gives = { λ met fault. ((met ≡ words.Usage) × (fault ≡ faults.Usage)) ⊎ ((met ≡ words.Memory) × (fault ≡ faults.Memory)) };
+
+    fn from(met: WordsFault) -> RunFault {
+        match met {
+            WordsFault::Usage => RunFault::Usage,
+            WordsFault::Memory => RunFault::Memory,
+        }
+    }
+}
+
 impl From<SinkFault> for RunFault {
     ghost use Rattle.adlb_command.specs.Ends.{fault_of};
 
@@ -104,14 +137,14 @@ impl From<SinkFault> for RunFault {
 pub struct RunEnd {
     pub status: u8,
     pub fault: Option<RunFault>,
-    pub report: Option<Report<PuzzleOutcome>>,
+    pub report: Option<Report<Outcome>>,
 }
 
 impl RunEnd {
     ghost use Rattle.adlb_command.specs.Ends.{status_of};
 
     /// The end of a run with this fault, if there is one, and this report, if one is kept.
-    pub fn new(fault: Option<RunFault>, report: Option<Report<PuzzleOutcome>>) -> RunEnd
+    pub fn new(fault: Option<RunFault>, report: Option<Report<Outcome>>) -> RunEnd
         ensures status { result.status ≡ status_of fault }
         ensures fault { result.fault ≡ fault }
         ensures report { result.report ≡ report }

@@ -1,10 +1,10 @@
 //! A run in line: one rank and one server on the caller's own thread.
 
-ghost use Rattle.std.specs.Prelude.{◌≡◌, ◌≤◌, ℕ, List, [], IfOk, OnOk, IfErr, IfSome};
-ghost use Rattle.puzzle_app.specs.Jobs.{AreJobs};
-ghost use Rattle.puzzle_app.specs.Report.{IsReport};
+ghost use Rattle.std.specs.Prelude.{◌≡◌, ◌≤◌, ◌^◌, [], length, All, IfOk, OnOk, IfErr, IfSome};
+ghost use Rattle.job_report.specs.Report.{IsReport};
 ghost use Rattle.adlb_command.specs.Ends.{status_of};
 ghost use Rattle.adlb_command.specs.Input.{IsAtEnd};
+ghost use Rattle.job_text.specs.Jobs.{HasGrid};
 ghost use Rattle.adlb_command.specs.Inside.{IsRunFault, Refuses};
 ghost use Rattle.adlb_command.specs.Kept.{IsKept};
 ghost use Rattle.adlb_command.specs.Top.{EndsBy, IsAnswered, seen};
@@ -15,16 +15,19 @@ use crate::reading::{Asked, read_input};
 use crate::writing::{Answer, write_answer};
 use adlb_io::{Sink, Source};
 use adlb_unit::Config;
-use puzzle_app::{Jobs, Settings, render};
+use job_report::render;
+use job_text::Jobs;
+use puzzle_app::Settings;
 use std::alloc::Global;
 
-/// Reads the input's puzzle line, works it by the program of one rank over one server, and writes its report. It returns,
-/// since nothing in it waits. The budget and the grain are the settings', the limit of the server is the configuration's.
+/// Reads the input's puzzles and batches, works them by the program of one rank over one server, and writes its report. It
+/// returns, since nothing in it waits. The budget and the grain are the settings', the limit of the server is the
+/// configuration's.
 ///
-/// `EndsBy` says of each end what was written and kept and why it came. Status 0: the whole report was written and flushed, and the
-/// kept ledger is a legal run. `Input`: the input is not of its form, and no read failed. `Read` and `Write`: the count of faults of
-/// the source or of the sink rose (or stands at its last value). `TooLong`: a stamp would be past the last one. `Memory`: an
-/// allocation failed; contracts never say when.
+/// `EndsBy` says of each end what was written and kept and why it came. Status 0: the whole report was written and flushed, and
+/// the kept ledger is a legal run. `Input`: a line is refused, and no read failed. `TooLarge`: the input has more than 2^24 bytes.
+/// `Read` and `Write`: the count of faults of the source or of the sink rose (or stands at its last value). `TooLong`: a stamp
+/// would be past the last one. `Memory`: an allocation failed; contracts never say when.
 pub fn solve_inline<S: Source, K: Sink>(
     alloc: Global,
     config: Config,
@@ -68,7 +71,7 @@ fn answer_input<S: Source>(
     answer(alloc, config, settings, jobs, &shown)
 }
 
-// The answer to these jobs, of which there is one puzzle.
+// The answer to these jobs, which are those of an input.
 fn answer(
     alloc: Global,
     config: Config,
@@ -79,7 +82,8 @@ fn answer(
     requires one_rank { config.ranks ≡ 1 }
     requires one_server { config.servers ≡ 1 }
     requires shown { shown.now ≡ jobs }
-    requires some { (bytes : List ℕ) × AreJobs bytes jobs }
+    requires grids { All HasGrid jobs }
+    requires few { length jobs ≤ 2 ^ 24 }
     ensures kept { IfOk result (λ a. IsKept settings jobs a.report) }
     ensures report { IfOk result (λ a. IsReport settings.budget settings.grain jobs a.text.items) }
     ensures config { IfOk result (λ a. a.report.config ≡ config) }

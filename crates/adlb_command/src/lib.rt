@@ -17,4 +17,4 @@ mod writing;
 
 pub use ends::{RunEnd, RunFault};
 pub use inline::solve_inline;
-pub use top::{SETTINGS, run_adlb};
+pub use top::run_adlb;

@@ -1,8 +1,7 @@
 //! The program of one rank over one server, from its jobs to its report.
 
-ghost use Rattle.std.specs.Prelude.{◌≡◌, ℕ, List, [], ◌∷◌, None, true, false, IfOk, IfErr, OnOk};
-ghost use Rattle.core_inline.specs.Inline.{IsEnd};
-ghost use Rattle.puzzle_app.specs.Jobs.{AreJobs};
+ghost use Rattle.std.specs.Prelude.{◌≡◌, [], ◌∷◌, None, true, false, IfOk, IfErr, OnOk};
+ghost use Rattle.core_inline.specs.Inline.{IsEnd, batch_of};
 ghost use Rattle.rank_client.specs.Calls.{has_finished};
 ghost use Rattle.adlb_command.specs.Inside.{HasNumbers, HasWorked, IsReportOf, IsRunFault};
 ghost use Rattle.adlb_command.specs.Kept.{IsKept};
@@ -12,23 +11,24 @@ use adlb_threads::Report;
 use adlb_unit::{Config, NoMemory, Rank, or_no_memory};
 use bag_ledger::{Ledger, Said};
 use core_inline::InlineWorld;
+use job_report::Outcome;
+use job_text::Jobs;
 use merge_history::History;
-use puzzle_app::{Jobs, PuzzleOutcome, PuzzleProgram, Settings};
-use rank_client::RankProgram;
+use puzzle_app::{PuzzleProgram, Settings};
+use rank_client::{Adlb, RankProgram};
 use server_core::LeftUnit;
 use std::alloc::Global;
 
-/// Runs the puzzle program of one rank over one server of its own, and finishes it. What it gives is kept whole
+/// Runs the program of these jobs on one rank over one server of its own, and finishes it. What it gives is kept whole
 /// (`IsKept`). It fails if an allocation fails, or if a stamp would be past the last one.
 pub fn run_program(
     alloc: Global,
     config: Config,
     settings: Settings,
     jobs: Jobs,
-) -> Result<Report<PuzzleOutcome>, RunFault>
+) -> Result<Report<Outcome>, RunFault>
     requires one_rank { config.ranks ≡ 1 }
     requires one_server { config.servers ≡ 1 }
-    requires some { (bytes : List ℕ) × AreJobs bytes jobs }
     ensures kept { IfOk result (IsKept settings jobs) }
     ensures config { IfOk result (λ r. r.config ≡ config) }
     ensures history { IfOk result (λ r. r.history ≡ []) }
@@ -47,16 +47,36 @@ fn work(
     settings: Settings,
     jobs: Jobs,
     world: &mut InlineWorld,
-) -> Result<PuzzleOutcome, RunFault>
+) -> Result<Outcome, RunFault>
     requires empty { world.old.run.transcript ≡ [] }
     requires whole { world.old.run.failed ≡ None }
+    requires closed { batch_of world.old.run ≡ false }
     ensures follows { IfOk result (HasWorked settings jobs world.new.run.transcript) }
+    ensures closed { batch_of world.new.run ≡ false }
     ensures open { has_finished world.new.run.transcript ≡ false }
     ensures config { HasNumbers world.old.run.config world.new.run }
     ensures faults { IfErr result IsRunFault }
 {
     let program = PuzzleProgram::new(alloc, settings, Some(jobs));
-    Ok(program.run(Rank(0), world)?)
+    match program.run(Rank(0), world) {
+        Ok(outcome) => Ok(outcome),
+        Err(trouble) => {
+            close(world);
+            Err(RunFault::from(trouble))
+        }
+    }
+}
+
+// Ends the batch that an error of the program left open, if it did.
+fn close(world: &mut InlineWorld)
+    requires { has_finished world.old.run.transcript ≡ false }
+    ensures closed { batch_of world.new.run ≡ false }
+    ensures open { has_finished world.new.run.transcript ≡ false }
+    ensures config { HasNumbers world.old.run.config world.new.run }
+{
+    if world.batch_open() {
+        let _ = world.end_batch();
+    }
 }
 
 // What stands in the world at its end.
@@ -75,8 +95,8 @@ fn report_of(
     alloc: Global,
     config: Config,
     parts: (Ledger, Vec<Said>, Vec<LeftUnit>),
-    outcome: Result<PuzzleOutcome, RunFault>,
-) -> Result<Report<PuzzleOutcome>, RunFault>
+    outcome: Result<Outcome, RunFault>,
+) -> Result<Report<Outcome>, RunFault>
     requires { IfErr outcome IsRunFault }
     ensures report { IfOk result (λ r. IsReportOf config parts.0 parts.1.items parts.2.items outcome r) }
     ensures faults { IfErr result IsRunFault }

@@ -1,17 +1,17 @@
 //! The reading of an input.
 
-ghost use Rattle.std.specs.Prelude.{◌≡◌, ◌≤◌, ℕ, List, Some, IfOk, OnOk, IfErr};
-ghost use Rattle.puzzle_app.specs.Jobs.{AreJobs};
-ghost use Rattle.adlb_command.specs.Input.{IsAtEnd};
+ghost use Rattle.std.specs.Prelude.{◌≡◌, ◌≤◌, ◌^◌, ℕ, List, Some, length, All, IfOk, OnOk, IfErr};
+ghost use Rattle.job_text.specs.Jobs.{HasGrid};
+ghost use Rattle.adlb_command.specs.Input.{AreJobs, IsAtEnd};
 ghost use Rattle.adlb_command.specs.Inside.{Refuses, RefusesBytes};
 
 use crate::ends::RunFault;
-use adlb_io::{Source, fill};
-use puzzle_app::{Jobs, read_jobs};
+use adlb_io::{Source, read_up_to};
+use job_text::{Jobs, read_jobs};
 use std::alloc::Global;
 
-/// The longest input of this form and one byte more.
-const ROOM: usize = 83;
+/// The most bytes of an input.
+const INPUT_LIMIT: usize = 0x100_0000;
 
 /// The jobs of an input, twice: for the program, and for its report.
 #[derive(Drop)]
@@ -20,27 +20,33 @@ pub struct Asked {
     pub shown: Jobs,
 }
 
-/// Reads the jobs of the input: at most 83 bytes, which must be one puzzle line. `Input` comes exactly if the bytes are not
-/// of this form and no read failed, `Read` only if the source's count of faults rose (or stands at its last value).
+/// Reads the jobs of the input. `TooLarge` comes exactly if it has more than 2^24 bytes, of which one more is then taken, and
+/// `Input` exactly if one of its lines is refused, both only if no read failed; `Read` only if the source's count of faults
+/// rose (or stands at its last value). Any of these yields to `Memory`.
 pub fn read_input<S: Source>(alloc: Global, input: &mut S) -> Result<Asked, RunFault>
     ensures jobs { IfOk result (λ a. (bytes : List ℕ) → S.left input.old ≡ Some bytes → AreJobs bytes a.jobs) }
-    ensures some { IfOk result (λ a. (bytes : List ℕ) × AreJobs bytes a.jobs) }
+    ensures grids { IfOk result (λ a. All HasGrid a.jobs) }
+    ensures few { IfOk result (λ a. length a.jobs ≤ 2 ^ 24) }
     ensures shown { IfOk result (λ a. a.shown ≡ a.jobs) }
     ensures end { OnOk result (IsAtEnd (S.left input.new)) }
     ensures refused { IfErr result (Refuses (S.left input.old) (S.faults input.old) (S.faults input.new)) }
     ensures later { S.faults input.old ≤ S.faults input.new }
 {
-    let mut room = [0u8; ROOM];
-    let Ok(n) = fill(input, &mut room) else {
-        return Err(RunFault::Read);
-    };
-    read_twice(alloc, &room[..n])
+    let bytes = read_up_to(alloc, input, INPUT_LIMIT + 1)?;
+    if bytes.len() > INPUT_LIMIT {
+        let taken = bytes.len() as u64;
+        return Err(RunFault::TooLarge { taken });
+    }
+    read_twice(alloc, &bytes)
 }
 
 // The jobs of an input of these bytes, twice.
 fn read_twice(alloc: Global, bytes: &[u8]) -> Result<Asked, RunFault>
+    requires { length bytes.now ≤ 2 ^ 24 }
     ensures jobs { IfOk result (λ a. AreJobs bytes.now a.jobs) }
     ensures shown { IfOk result (λ a. AreJobs bytes.now a.shown) }
+    ensures grids { IfOk result (λ a. All HasGrid a.jobs) }
+    ensures few { IfOk result (λ a. length a.jobs ≤ 2 ^ 24) }
     ensures refused { IfErr result (RefusesBytes bytes.now) }
 {
     let jobs = read_once(alloc, bytes)?;
@@ -50,7 +56,10 @@ fn read_twice(alloc: Global, bytes: &[u8]) -> Result<Asked, RunFault>
 
 // The jobs of an input of these bytes.
 fn read_once(alloc: Global, bytes: &[u8]) -> Result<Jobs, RunFault>
+    requires { length bytes.now ≤ 2 ^ 24 }
     ensures jobs { IfOk result (AreJobs bytes.now) }
+    ensures grids { IfOk result (All HasGrid) }
+    ensures few { IfOk result (λ jobs. length jobs ≤ 2 ^ 24) }
     ensures refused { IfErr result (RefusesBytes bytes.now) }
 {
     Ok(read_jobs(alloc, bytes)?)

@@ -6,7 +6,7 @@ ghost use Rattle.std.specs.Prelude.{◌<◌};
 
 use crate::ends::RunEnd;
 use crate::inline::solve_inline;
-use crate::top::{SETTINGS, run_adlb};
+use crate::top::run_adlb;
 use adlb_io::{MemorySink, MemorySource, SteadySink, SteadySource};
 use adlb_unit::Config;
 use bag_ledger::Entry;
@@ -15,9 +15,19 @@ use solved::SOLVED;
 use std::alloc::Global;
 use std::test::Fail;
 
+/// The settings of a run without options.
+const SETTINGS: Settings = Settings {
+    budget: 0x100_0000,
+    grain: 0x1_0000,
+};
+
 /// A puzzle in which every cell is forced.
 const FORCED: &str =
     "530070000600195000098000060800060003400803001700020006060000280000419005000080079";
+
+/// Its first 80 cells.
+const SHORT: &str =
+    "53007000060019500009800006080006000340080300170002000606000028000041900500008007";
 
 /// Its solution.
 const FULL: &str =
@@ -200,12 +210,13 @@ fn lists_what_another_solver_lists(rt: HostRuntime) -> Result<(), Fail> {
     Ok(())
 }
 
-// The input is refused, and nothing is written or kept.
-fn is_refused(alloc: Global, bytes: &[u8]) -> Result<bool, Fail> {
-    let ran = run_on(alloc, bytes)?;
+// The input of these two pieces is refused with this text, and nothing is written or kept.
+fn is_refused(alloc: Global, front: &str, end: &str, fault: &str) -> Result<bool, Fail> {
+    let input = format!(in alloc; "{front}{end}")?;
+    let ran = run_on(alloc, input.as_bytes())?;
     Ok(
         ran.status == 1
-            && ran.fault.as_str() == "line 1: later"
+            && ran.fault.as_str() == fault
             && ran.written.is_empty()
             && ran.ledger.is_empty(),
     )
@@ -213,21 +224,88 @@ fn is_refused(alloc: Global, bytes: &[u8]) -> Result<bool, Fail> {
 
 #[test]
 fn refuses_each_bad_input_and_writes_nothing(rt: HostRuntime) -> Result<(), Fail> {
-    // 80 digits, 82, a letter at the end, a bare CR, CR and LF, two line feeds, two lines.
-    let ends = [
-        "", "9\n", "x\n", "9\r", "9\r\n", "9\n\n", "99\n", "9\n9\n", "99",
+    let rows = [
+        (SHORT, "", "line 1: length"),
+        (SHORT, "x", "line 1: character"),
+        (" ", FORCED, "line 1: word"),
+        (FORCED, "\n5300", "line 2: length"),
+        (FORCED, "1", "line 1: length"),
+        ("batch a\n", "1234341221434321\nmax", "line 3: item"),
+        ("batch a\n", "count 256 1", "line 2: number"),
+        ("batch a\n", "count 01 2", "line 2: number"),
+        ("batch a\n", "sum x", "line 2: number"),
+        ("sum", "", "line 1: item"),
+        ("batchx", "", "line 1: word"),
+        ("\r\r", "\n", "line 1: word"),
+        ("\0", "", "line 1: word"),
     ];
-    for end in ends {
-        let front = &FORCED[..80];
-        let input = format!(in rt.alloc(); "{front}{end}")?;
-        let refused = is_refused(rt.alloc(), input.as_bytes())?;
-        assert_eq!(rt; refused, end != "9\n", "{end:?}");
-    }
-    for length in [0, 83, 0x10_0000] {
-        let input = vec![in rt.alloc(); b'1'; length]?;
+    for (front, end, fault) in rows {
         assert!(rt;
-            is_refused(rt.alloc(), input.as_slice())?,
-            "{length} digits"
+            is_refused(rt.alloc(), front, end, fault)?,
+            "{front:?} {end:?}"
+        );
+    }
+    Ok(())
+}
+
+#[test]
+fn a_line_has_at_most_two_to_the_20_bytes(rt: HostRuntime) -> Result<(), Fail> {
+    let mut line = vec![in rt.alloc(); b'#'; 0x10_0000]?;
+    let ran = run_on(rt.alloc(), line.as_slice())?;
+    assert_eq!(rt; (ran.status, ran.written.as_str()), (0, NOTHING));
+    line.push(b'#')?;
+    let ran = run_on(rt.alloc(), line.as_slice())?;
+    assert_eq!(rt; (ran.status, ran.fault.as_str()), (1, "line 1: long"));
+    Ok(())
+}
+
+/// The report of no job.
+const NOTHING: &str = "totals\nboard 0\nsolution 0\njob 0\nanswer 0\n";
+
+/// An empty line and a comment, two puzzles, the second with a remark and no line feed; and its report.
+const PUZZLES: &str = "# x\r\n\r\n\
+    530070000600195000098000060800060003400803001700020006060000280000419005000080079\r\n\
+    534678912672195348198342567859761423426853791713924856961537284287419635345286179 remark";
+
+const PUZZLES_SOLVED: &str = "puzzle 1 solutions 1\n\
+    534678912672195348198342567859761423426853791713924856961537284287419635345286179\n\
+    puzzle 2 solutions 1\n\
+    534678912672195348198342567859761423426853791713924856961537284287419635345286179\n\
+    totals\nboard 2\nsolution 2\njob 0\nanswer 0\n";
+
+/// Puzzles and batches in turn; and their report.
+const MIXED: &str = "batch ab\nmax\n1234341221434321\nbatch\n1234341221434322\n";
+
+const MIXED_SOLVED: &str = "batch 1 bytes 2 items 1\nmax = 98\n\
+    puzzle 1 solutions 1\n1234341221434321\n\
+    batch 2 bytes 0 items 0\npuzzle 2 solutions 0\n\
+    totals\nboard 2\nsolution 1\njob 1\nanswer 1\n";
+
+/// A batch; and its report.
+const ITEMS: &str = "batch abcabc\ncount 97 98\nsum\nmax\ncount 5 4";
+
+const ITEMS_ANSWERED: &str =
+    "batch 1 bytes 6 items 4\ncount 97 98 = 4\nsum = 588\nmax = 99\ncount 5 4 = 0\n\
+    totals\nboard 0\nsolution 0\njob 4\nanswer 4\n";
+
+const EMPTY_BATCH: &str = "batch 1 bytes 3 items 0\ntotals\nboard 0\nsolution 0\njob 0\nanswer 0\n";
+
+#[test]
+fn reads_puzzles_and_batches(rt: HostRuntime) -> Result<(), Fail> {
+    let rows = [
+        ("", NOTHING),
+        ("\r\n\r", NOTHING),
+        (PUZZLES, PUZZLES_SOLVED),
+        (MIXED, MIXED_SOLVED),
+        (ITEMS, ITEMS_ANSWERED),
+        ("batch xyz", EMPTY_BATCH),
+    ];
+    for (input, wanted) in rows {
+        let ran = run_on(rt.alloc(), input.as_bytes())?;
+        assert_eq!(rt;
+            (ran.status, ran.written.as_str()),
+            (0, wanted),
+            "{input:?}"
         );
     }
     Ok(())
@@ -235,15 +313,54 @@ fn refuses_each_bad_input_and_writes_nothing(rt: HostRuntime) -> Result<(), Fail
 
 #[test]
 fn refuses_other_words(rt: HostRuntime) -> Result<(), Fail> {
-    for line in ["", "frob", "solve --ranks 33", "solve solve", "Solve"] {
+    let lines = [
+        "",
+        "frob",
+        "solve --ranks 33",
+        "solve --ranks 2",
+        "solve --stats",
+        "solve --ledger",
+        "solve --limit 63",
+        "solve --grain 0",
+        "solve --inline --inline",
+        "make 1 2",
+        "check",
+        "solve solve",
+        "Solve",
+    ];
+    for line in lines {
         let ran = run_words(rt.alloc(), line, FORCED.as_bytes())?;
         assert_eq!(rt;
             (ran.status, ran.fault.as_str()),
-            (2, "usage: adlbrun solve"),
+            (
+                2,
+                "usage: adlbrun solve [--limit N] [--budget N] [--grain N] [--inline]"
+            ),
             "{line}"
         );
         assert!(rt; ran.written.is_empty() && ran.ledger.is_empty(), "{line}");
     }
+    Ok(())
+}
+
+#[test]
+fn the_words_give_limit_budget_and_grain(rt: HostRuntime) -> Result<(), Fail> {
+    let over = "puzzle 1 over\ntotals\nboard 1\nsolution 0\njob 0\nanswer 0\n";
+    let rows = [
+        ("solve --budget 1", TWO, over, "paqgfFqxo."),
+        ("solve --budget=1 --limit 64 --inline", TWO, over, "prRqxo."),
+    ];
+    for (line, puzzle, wanted, ledger) in rows {
+        let ran = run_words(rt.alloc(), line, puzzle.as_bytes())?;
+        assert_eq!(rt; (ran.status, ran.written.as_str()), (0, wanted), "{line}");
+        assert_eq!(rt; ran.ledger.as_str(), ledger, "{line}");
+    }
+    let one = run_words(rt.alloc(), "solve --grain 16777216", TWO.as_bytes())?;
+    assert!(rt;
+        one.written
+            .as_str()
+            .ends_with("board 1\nsolution 2\njob 0\nanswer 0\n")
+    );
     Ok(())
 }
 

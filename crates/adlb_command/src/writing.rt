@@ -7,12 +7,12 @@ ghost use Rattle.adlb_command.specs.Inside.{Writes, kept_of};
 use crate::ends::{RunEnd, RunFault};
 use adlb_io::{Sink, SinkFault, Unwritten, write_all};
 use adlb_threads::Report;
-use puzzle_app::PuzzleOutcome;
+use job_report::Outcome;
 
 /// What a run answers: the text of its report, and what it keeps.
 #[derive(Drop)]
 pub struct Answer {
-    pub report: Report<PuzzleOutcome>,
+    pub report: Report<Outcome>,
     pub text: Vec<u8>,
 }
 
@@ -31,7 +31,7 @@ pub fn write_answer<K: Sink>(output: &mut K, answer: Answer) -> RunEnd
 }
 
 // The end of a run whose text was not written whole.
-fn cut_off(unwritten: Unwritten, report: Report<PuzzleOutcome>) -> RunEnd
+fn cut_off(unwritten: Unwritten, report: Report<Outcome>) -> RunEnd
     ensures fault { result.fault ≡ Some (fault_of unwritten.fault) }
     ensures report { result.report ≡ kept_of unwritten.fault unwritten.taken report }
     ensures status { result.status ≡ status_of result.fault }

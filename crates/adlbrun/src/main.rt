@@ -1,4 +1,4 @@
-//! The program `adlbrun`: reads a puzzle, works its boards through a queue of units, and writes all its solutions.
+//! The program `adlbrun`: reads puzzles and batches of items, works them, and writes their solutions and answers.
 //!
 //! It hands the words of its command line, standard input and standard output to `run_adlb` of `adlb_command`, tells the fault on
 //! standard error, if there is one, and ends with the status. Nothing is proved of `main`; `unread` says which fault it is if the

@@ -1,6 +1,7 @@
 -- The bodies of units, written and read.
-use Rattle.std.proofs.Common.{◌≡◌, ◌↔◌, ℕ, zero, suc, ◌+◌, ◌-◌, ◌^◌, ◌<◌, ◌≤◌, ◌&&◌, Bool, true, false, cond, List, [], ◌∷◌, ◌++◌, length, map, take, drop, get_or, Option, Some, None, refl, sym, ap, ◌∙◌, subst, arith, length-append, length-drop, lit<}
+use Rattle.std.proofs.Common.{◌≡◌, ◌↔◌, ℕ, zero, suc, ◌+◌, ◌-◌, ◌^◌, ◌<◌, ◌≤◌, ◌&&◌, Bool, true, false, cond, List, [], ◌∷◌, ◌++◌, length, map, take, drop, get_or, Option, Some, None, Result, Ok, Err, refl, sym, ap, ◌∙◌, subst, arith, length-append, length-drop, lit<}
 use Rattle.std.specs.Int.{to_be_bytes, from_be_bytes, w32, w64}
+use Rattle.std.specs.Result.{result_ok}
 use Rattle.std.specs.Str.{bytes_eq}
 use Rattle.std.proofs.lemmas.Slice.Eq.{bytes_eq-Decides}
 use Rattle.std.proofs.lemmas.List.{take-append-drop, length-map, length-take-le, get_or-drop}
@@ -14,6 +15,11 @@ use Rattle.sudoku_rules.proofs.Sides.{sudoku_test, test_sudoku}
 use Rattle.puzzle_app.specs.Bodies.{board_body, board_in, board_of, solution_body, solution_in, solution_of}
 use Rattle.puzzle_app.specs.declared.units.Board.{Board}
 use Rattle.puzzle_app.specs.declared.units.Solution.{Solution}
+
+-- what `ok` keeps of a result
+pub ok_of_some : {X E : Type 0} (r : Result X E) (x : X) → result_ok r ≡ Some x → r ≡ Ok x
+ok_of_some (Ok y) x is = let same : y ≡ x = cc in ap Ok same
+ok_of_some (Err e) x is = absurd (cc)
 
 -- a text is read as one grid
 pub reads_once : (text : List ℕ) (g h : Cells) → Reads text g → Reads text h → g ≡ h

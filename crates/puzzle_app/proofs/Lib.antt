@@ -1,8 +1,6 @@
+pub mod Answered
 pub mod Bodies
 pub mod Calling
-pub mod Forms
-pub mod Parts
-pub mod Pieces
 pub mod Steps
 pub mod Tallies
 pub mod Transcripts

@@ -9,23 +9,25 @@ use Rattle.bag_ledger.specs.declared.entries.Call.TheVariants.{Reserve, Fetch}
 use Rattle.bag_ledger.specs.declared.entries.Said.{Said}
 use Rattle.rank_client.specs.Calls.{has_finished, is_finish}
 use Rattle.sudoku_law.specs.Grid.{Cells}
+use Rattle.puzzle_app.specs.Answered.{answered, items_answered}
 use Rattle.puzzle_app.specs.Books.{Books, Goes, Moves, accepted, rejected, stopped, granted, told, fetched, going, holding, shut, received, brought, said_of}
 use Rattle.puzzle_app.specs.Calls.{answer_of, grant}
-use Rattle.puzzle_app.specs.Jobs.{puzzles}
+use Rattle.job_report.specs.Jobs.{puzzles}
 use Rattle.puzzle_app.specs.declared.calls.Reply.{Reply}
-use Rattle.puzzle_app.specs.declared.jobs.Item.{Item}
-use Rattle.puzzle_app.specs.declared.jobs.Job.{Job}
-use Rattle.puzzle_app.specs.declared.jobs.Job.TheVariants.{Puzzle, Batch}
+use Rattle.job_text.specs.declared.items.Item.{Item}
+use Rattle.job_text.specs.declared.jobs.Job.{Job}
+use Rattle.job_text.specs.declared.jobs.Job.TheVariants.{Puzzle, Batch}
 use Rattle.puzzle_app.specs.Desk.{Brings, Receives}
 use Rattle.puzzle_app.specs.Follows.{Follows, IsSoFar, all_made, roots_of}
-use Rattle.puzzle_app.specs.Made.{child_of, fetched_unit, is_board, is_solution, made_by, put_of, roots, roots_from}
+use Rattle.puzzle_app.specs.Made.{child_of, counts, fetched_unit, is_board, is_solution, made_by, put_of, roots, roots_from}
 use Rattle.puzzle_app.specs.Working.{HasPut, IsGoing, IsStopped, IsTally}
 use Rattle.puzzle_app.specs.declared.desk.Desk.{Desk}
-use Rattle.puzzle_app.specs.declared.outcomes.PuzzleOutcome.{PuzzleOutcome}
+use Rattle.job_report.specs.declared.outcomes.Outcome.{Outcome}
 use Rattle.puzzle_app.specs.declared.program.PuzzleProgram.{PuzzleProgram}
 use Rattle.puzzle_app.specs.declared.units.Board.{Board}
 use Rattle.puzzle_app.specs.declared.units.Made.{Made}
 use Rattle.puzzle_app.specs.declared.units.Made.TheVariants as made
+use Rattle.puzzle_app.proofs.Answered.{answers_counted}
 use Rattle.puzzle_app.proofs.Tallies.{no_root_is_solution, roots_are_boards, tally_same, tally_start, tally_worked}
 
 -- a call behind others
@@ -232,27 +234,39 @@ pub found_few : (p : PuzzleProgram) (said : List Said) (d : Desk) → IsGoing p 
 found_few p said d is short = wide d.found (small d.found (length is.worked) (length said) is.tally.few_found (worked_few p said (going d.waiting.items is.worked d.kept.items) is.goes) short)
 
 -- the counts of an outcome are small
-counts_small : (made : List ℕ) (m n : ℕ) → made ≡ m ∷ n ∷ 0 ∷ 0 ∷ [] → m < 2 ^ 113 → n < 2 ^ 113 → (k : ℕ) → slice_index made k < 2 ^ 113
-counts_small made m n e few_m few_n k = subst (λ (xs : List ℕ). slice_index xs k < 2 ^ 113) (sym e) (at k)
+counts_small : (made : List ℕ) (m n i : ℕ) → made ≡ m ∷ n ∷ i ∷ i ∷ [] → m < 2 ^ 113 → n < 2 ^ 113 → i < 2 ^ 64 →
+    (k : ℕ) → slice_index made k < 2 ^ 113
+counts_small made m n i e few_m few_n few_i k = subst (λ (xs : List ℕ). slice_index xs k < 2 ^ 113) (sym e) (at k)
   where
-    at : (k : ℕ) → slice_index (m ∷ n ∷ 0 ∷ 0 ∷ []) k < 2 ^ 113
+    at : (k : ℕ) → slice_index (m ∷ n ∷ i ∷ i ∷ []) k < 2 ^ 113
     at zero = few_m
     at (suc zero) = few_n
-    at (suc (suc zero)) = lit< tt
-    at (suc (suc (suc zero))) = lit< tt
+    at (suc (suc zero)) = omega (arith, few_i)
+    at (suc (suc (suc zero))) = omega (arith, few_i)
     at (suc (suc (suc (suc k)))) = lit< tt
 
-pub follows_is : (p : PuzzleProgram) (said : List Said) (d : Desk) (outcome : PuzzleOutcome) → IsStopped p said d → length said < 2 ^ 48 → outcome.solutions.items ≡ d.kept.items → outcome.overs.items ≡ d.overs.items → outcome.answers.items ≡ [] → outcome.made ≡ d.boards ∷ d.found ∷ 0 ∷ 0 ∷ [] → Follows p said outcome
-follows_is p said d outcome is short solutions overs answers made =
+-- the calls at the end, with these answers
+pub follows_is : (p : PuzzleProgram) (said : List Said) (d : Desk) (outcome : Outcome) (answers : List (ℕ × ℕ × ℕ)) →
+    IsStopped p said d → length said < 2 ^ 48 → answers ≡ answered p.jobs → length answers < 2 ^ 64 →
+    outcome.solutions.items ≡ d.kept.items → outcome.overs.items ≡ d.overs.items → outcome.answers.items ≡ answers →
+    outcome.made ≡ d.boards ∷ d.found ∷ length answers ∷ length answers ∷ [] → Follows p said outcome
+follows_is p said d outcome answers is short answers_are few_answers solutions overs same made =
     let few : length is.worked ≤ length said = worked_few p said (shut is.left is.worked d.kept.items) is.goes in
+    let items : length answers ≡ items_answered p.jobs = ap length answers_are ∙ answers_counted p.jobs in
     record {
       left = is.left;
       worked = is.worked;
       goes = subst (λ k. Goes p.settings.grain (going (roots_of p) [] []) said (shut is.left is.worked k)) (sym solutions) is.goes;
       overs = rw overs is.tally.overs_are;
-      answers = answers;
-      made = made ∙ ap (λ m. m ∷ d.found ∷ 0 ∷ 0 ∷ []) is.tally.boards_are ∙ ap (λ n. count_by is_board (all_made p is.worked) ∷ n ∷ 0 ∷ 0 ∷ []) is.tally.found_are;
-      few = counts_small outcome.made d.boards d.found made (small d.boards (length is.worked) (length said) is.tally.few_boards few short) (small d.found (length is.worked) (length said) is.tally.few_found few short);
+      answers = same ∙ answers_are;
+      made = made
+          ∙ ap (λ m. m ∷ d.found ∷ length answers ∷ length answers ∷ []) is.tally.boards_are
+          ∙ ap (λ n. count_by is_board (all_made p is.worked) ∷ n ∷ length answers ∷ length answers ∷ []) is.tally.found_are
+          ∙ ap (λ i. counts i (all_made p is.worked)) items;
+      few = counts_small outcome.made d.boards d.found (length answers) made
+          (small d.boards (length is.worked) (length said) is.tally.few_boards few short)
+          (small d.found (length is.worked) (length said) is.tally.few_found few short)
+          few_answers;
     }
 
 -- The start.

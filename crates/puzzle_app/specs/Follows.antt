@@ -4,9 +4,10 @@ use Rattle.std.specs.List.{flat_map, list_any}
 use Rattle.bag_ledger.specs.declared.entries.Answer.{Answer}
 use Rattle.bag_ledger.specs.declared.entries.Call.{Call}
 use Rattle.bag_ledger.specs.declared.entries.Said.{Said}
+use Rattle.puzzle_app.specs.Answered.{answered, items_answered}
 use Rattle.puzzle_app.specs.Books.{Books, Goes, going, said_of, shut}
 use Rattle.puzzle_app.specs.Made.{counts, made_by, roots, walk_of}
-use Rattle.puzzle_app.specs.declared.outcomes.PuzzleOutcome.{PuzzleOutcome}
+use Rattle.job_report.specs.declared.outcomes.Outcome.{Outcome}
 use Rattle.puzzle_app.specs.declared.program.PuzzleProgram.{PuzzleProgram}
 use Rattle.puzzle_app.specs.declared.units.Board.{Board}
 use Rattle.puzzle_app.specs.declared.units.Made.{Made}
@@ -35,12 +36,12 @@ IsUnderWay p said None = IsSoFar p said
 IsUnderWay p said (Some call) = (answer : Answer) × IsSoFar p (said ++ said_of call answer ∷ [])
 
 -- the calls that it has made at its end, which was told, and its outcome: the solutions that stay with it, the numbers of the
--- puzzles that are over, and how many units it made; what still waited then was put nowhere
-pub record Follows (p : PuzzleProgram) (said : List Said) (outcome : PuzzleOutcome) : Type 0 where
+-- puzzles that are over, the answers to the items of its jobs, and how many units it made; what still waited then was put nowhere
+pub record Follows (p : PuzzleProgram) (said : List Said) (outcome : Outcome) : Type 0 where
   pub left : List Made
   pub worked : List Board
   pub goes : Goes p.settings.grain (going (roots_of p) [] []) said (shut left worked outcome.solutions.items)
   pub overs : AreOvers p.settings.grain worked outcome.overs.items
-  pub answers : outcome.answers.items ≡ []
-  pub made : outcome.made ≡ counts (all_made p worked)
+  pub answers : outcome.answers.items ≡ answered p.jobs
+  pub made : outcome.made ≡ counts (items_answered p.jobs) (all_made p worked)
   pub few : (k : ℕ) → slice_index outcome.made k < 2 ^ 113

@@ -1,11 +1,9 @@
+pub mod Answered
 pub mod Bodies
 pub mod Books
 pub mod Calls
 pub mod Desk
 pub mod Follows
-pub mod Input
-pub mod Jobs
 pub mod Made
-pub mod Report
 pub mod Transcripts
 pub mod Working

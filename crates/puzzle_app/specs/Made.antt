@@ -9,8 +9,8 @@ use Rattle.sudoku_law.specs.Grid.{Cells}
 use Rattle.sudoku_law.specs.Tree.{Met, walk}
 use Rattle.sudoku_rules.specs.Sides.{tree_of}
 use Rattle.puzzle_app.specs.Bodies.{board_body, board_of, solution_body, solution_of}
-use Rattle.puzzle_app.specs.Jobs.{puzzles}
-use Rattle.puzzle_app.specs.declared.jobs.Job.{Job}
+use Rattle.job_report.specs.Jobs.{puzzles}
+use Rattle.job_text.specs.declared.jobs.Job.{Job}
 use Rattle.puzzle_app.specs.declared.units.Board.{Board}
 use Rattle.puzzle_app.specs.declared.units.Made.{Made}
 use Rattle.puzzle_app.specs.declared.units.Made.TheVariants as made
@@ -87,6 +87,6 @@ abbrev pub is_solution : Made → Bool
 is_solution (made.Board b) = false
 is_solution (made.Solution s) = true
 
--- how many boards, solutions, jobs and answers
-abbrev pub counts : List Made → List ℕ
-counts units = count_by is_board units ∷ count_by is_solution units ∷ 0 ∷ 0 ∷ []
+-- how many boards, solutions, jobs and answers, where one job and one answer is made of each of these items
+abbrev pub counts : ℕ → List Made → List ℕ
+counts items units = count_by is_board units ∷ count_by is_solution units ∷ items ∷ items ∷ []

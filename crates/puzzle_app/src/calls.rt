@@ -11,6 +11,7 @@ ghost use Rattle.puzzle_app.specs.Made.{put_of};
 
 use crate::units::Made;
 use adlb_unit::{End, Payload, Rank, Target, Trouble, Types, UnitNote, WorkType};
+use bag_ledger::Body;
 use rank_client::{Adlb, EndFault, PutFault};
 use std::alloc::Global;
 
@@ -36,7 +37,7 @@ pub enum Reply {
 /// What a reservation comes to: a unit and its bytes, or an end.
 #[derive(Debug, Drop)]
 pub enum Taken {
-    Unit(UnitNote, Payload),
+    Unit(UnitNote, Body),
     Ended(End),
 }
 

@@ -6,9 +6,9 @@ ghost use Rattle.puzzle_app.specs.Desk.{Brings, Receives, Works, noted};
 ghost use Rattle.adlb_unit.specs.Totals.{total_of};
 ghost use Rattle.puzzle_app.specs.Made.{child_of, fetched_unit, made_by, solution_at};
 
-use crate::outcomes::PuzzleOutcome;
 use crate::units::{Board, Made, Solution, read_unit};
 use adlb_unit::{NoMemory, UnitNote, or_no_memory};
+use job_report::Outcome;
 use std::alloc::Global;
 use std::collections::VecDeque;
 use sudoku_rules::{Expansion, Grid, expand};
@@ -98,18 +98,20 @@ impl Desk {
         Ok(())
     }
 
-    /// What the rank has at its end.
-    pub fn outcome(self, alloc: Global) -> PuzzleOutcome
+    /// What the rank has at its end, with these answers: of each item one job and one answer is counted.
+    pub fn outcome(self, answers: Vec<(u32, u32, u64)>) -> Outcome
         ensures solutions { result.solutions.items ≡ self.kept.items }
         ensures overs { result.overs.items ≡ self.overs.items }
-        ensures answers { result.answers.items ≡ [] }
-        ensures made { result.made ≡ self.boards ∷ self.found ∷ 0 ∷ 0 ∷ [] }
+        ensures answers { result.answers.items ≡ answers.items }
+        ensures made { result.made ≡ self.boards ∷ self.found ∷ length answers.items ∷ length answers.items ∷ [] }
+        ensures few { length answers.items < 2 ^ 64 }
     {
-        PuzzleOutcome {
+        let items = answers.len() as u128;
+        Outcome {
             solutions: self.kept,
             overs: self.overs,
-            answers: Vec::new(alloc),
-            made: [self.boards, self.found, 0, 0],
+            answers,
+            made: [self.boards, self.found, items, items],
         }
     }
 }

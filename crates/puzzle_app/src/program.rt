@@ -1,26 +1,32 @@
 //! The puzzle program of a rank.
 
 ghost use Rattle.std.specs.Prelude.{◌≡◌, ◌<◌, ◌≤◌, ◌^◌, ◌++◌, ◌+◌, [], ℕ, List, length, Some, None, Err, true, false, IfOk, OnOk, MatchBool};
+ghost use Rattle.adlb_unit.specs.Totals.{total_of};
 ghost use Rattle.bag_ledger.specs.declared.entries.Said.{Said};
 ghost use Rattle.rank_client.specs.Calls.{has_finished, unanswered};
+ghost use Rattle.puzzle_app.specs.Answered.{answered};
 ghost use Rattle.puzzle_app.specs.Follows.{Follows, IsUnderWay, roots_of};
 ghost use Rattle.puzzle_app.specs.Working.{HasPut, IsGoing, IsStopped};
-ghost use Rattle.puzzle_app.specs.Made.{roots_from};
-ghost use Rattle.puzzle_app.specs.Jobs.{puzzles};
-ghost use Rattle.puzzle_app.specs.declared.jobs.Job.{Job};
+ghost use Rattle.puzzle_app.specs.Desk.{Brings};
+ghost use Rattle.puzzle_app.specs.Made.{fetched_unit, roots_from};
+ghost use Rattle.job_report.specs.Jobs.{puzzles};
+ghost use Rattle.job_text.specs.declared.jobs.Job.{Job};
 
+use crate::answers::answers_to;
 use crate::calls::{Reply, Taken, put, take};
 use crate::desk::Desk;
-use crate::jobs::{Job, Jobs};
-use crate::outcomes::{PuzzleOutcome, Settings};
+use crate::outcomes::Settings;
 use crate::units::{Board, Made};
-use adlb_unit::{NoMemory, Rank, Trouble};
+use adlb_unit::{NoMemory, Rank, Trouble, UnitNote};
+use bag_ledger::Body;
+use job_report::Outcome;
+use job_text::{Job, Jobs};
 use rank_client::{Adlb, RankProgram};
 use std::alloc::Global;
 use std::collections::VecDeque;
 
 /// The program of a rank. It puts a board of each puzzle, if it has the jobs, and then takes units until it is told an
-/// end: it works boards, and keeps the solutions that come to it.
+/// end: it works boards, and keeps the solutions that come to it. Then it answers the items of its batches.
 #[derive(Drop)]
 pub struct PuzzleProgram {
     alloc: Global,
@@ -59,6 +65,16 @@ impl PuzzleProgram {
         }
     }
 
+    // The answers to the items of its batches.
+    fn answers(&self) -> Result<Vec<(u32, u32, u64)>, NoMemory>
+        ensures { IfOk result (λ answers. answers.items ≡ answered self.now.jobs) }
+    {
+        match &self.jobs {
+            None => Ok(Vec::new(self.alloc)),
+            Some(jobs) => answers_to(self.alloc, jobs),
+        }
+    }
+
     // Puts all that waits. False: an end was told.
     fn put_all<A: Adlb>(&self, link: &mut A, desk: &mut Desk) -> Result<bool, Trouble>
         requires going { IsGoing self.now (A.transcript link.old) desk.old }
@@ -86,6 +102,18 @@ impl PuzzleProgram {
         Ok(true)
     }
 
+    // A unit was fetched.
+    fn bring(&self, desk: &mut Desk, note: &UnitNote, body: &Body) -> Result<(), NoMemory>
+        requires boards { desk.old.boards < 2 ^ 127 }
+        requires found { desk.old.found < 2 ^ 127 }
+        requires bytes { length body.now ≡ total_of note.now }
+        ensures { OnOk result (Brings self.now.settings.grain (fetched_unit note.now body.now) desk.old desk.new) }
+    {
+        let mut room = Vec::new(self.alloc);
+        let bytes = body.whole(&mut room)?;
+        desk.bring(self.alloc, self.settings.grain, note, bytes)
+    }
+
     // Puts, takes and works until an end is told.
     fn work<A: Adlb>(&self, link: &mut A) -> Result<Desk, Trouble>
         requires ranks { 0 < (A.seat link.old).ranks }
@@ -106,8 +134,7 @@ impl PuzzleProgram {
             }
             match take(link)? {
                 Taken::Unit(note, body) => {
-                    let Ok(()) = desk.bring(self.alloc, self.settings.grain, &note, body.bytes())
-                    else {
+                    let Ok(()) = self.bring(&mut desk, &note, &body) else {
                         return Err(Trouble::Memory);
                     };
                 }
@@ -143,7 +170,7 @@ fn place_roots(budget: u64, jobs: &[Job], waiting: &mut VecDeque<Made>) -> Resul
 }
 
 impl RankProgram for PuzzleProgram {
-    type Outcome = PuzzleOutcome;
+    type Outcome = Outcome;
 
     ghost fits = { λ p ranks. Unit {0} };
 
@@ -151,8 +178,11 @@ impl RankProgram for PuzzleProgram {
 
     ghost follows = { λ p rank said outcome. Follows p said outcome };
 
-    fn run<A: Adlb>(&self, rank: Rank, link: &mut A) -> Result<PuzzleOutcome, Trouble> {
+    fn run<A: Adlb>(&self, rank: Rank, link: &mut A) -> Result<Outcome, Trouble> {
         let desk = self.work(link)?;
-        Ok(desk.outcome(self.alloc))
+        let Ok(answers) = self.answers() else {
+            return Err(Trouble::Memory);
+        };
+        Ok(desk.outcome(answers))
     }
 }

@@ -1,14 +1,14 @@
-//! Bodies, inputs, and the program of one rank over a link that has no other.
+//! Bodies, and the program of one rank over a link that has no other.
 
 mod fake;
 
-use crate::jobs::{JobsFault, LineWhy, read_jobs};
-use crate::outcomes::{PuzzleOutcome, Settings};
+use crate::outcomes::Settings;
 use crate::program::PuzzleProgram;
-use crate::reports::render;
 use crate::units::{Board, Solution};
 use adlb_unit::Rank;
 use fake::Fake;
+use job_report::render;
+use job_text::read_jobs;
 use rank_client::RankProgram;
 use std::alloc::Global;
 use std::test::Fail;
@@ -103,25 +103,13 @@ fn solutions_are_read_back(rt: HostRuntime) -> Result<(), Fail> {
     Ok(())
 }
 
-#[test]
-fn refuses_other_inputs(rt: HostRuntime) -> Result<(), Fail> {
-    let lines = format!(in rt.alloc(); "{FORCED}\n\n")?;
-    for bytes in [b"".as_slice(), &FORCED.as_bytes()[..80], lines.as_bytes()] {
-        let refused = JobsFault::Refused {
-            line: 1,
-            why: LineWhy::Later,
-        };
-        assert!(rt; read_jobs(rt.alloc(), bytes).err() == Some(refused));
-        let text = refused.to_string(rt.alloc())?;
-        assert_eq!(rt; text.as_str(), "line 1: later");
+// The report of a run of one rank on this input, where no put is rejected, or each, or each second one.
+fn report_on(alloc: Global, input: &str, every: u64) -> Result<String, Fail> {
+    if input.len() > 1 << 24 {
+        return Err("more than the limit".into());
     }
-    Ok(())
-}
-
-// The report of a run of one rank on this puzzle, where each put of so many is rejected.
-fn report_on(alloc: Global, puzzle: &str, every: u64) -> Result<String, Fail> {
-    let jobs = read_jobs(alloc, puzzle.as_bytes())?;
-    let shown = read_jobs(alloc, puzzle.as_bytes())?;
+    let jobs = read_jobs(alloc, input.as_bytes())?;
+    let shown = read_jobs(alloc, input.as_bytes())?;
     let program = PuzzleProgram::new(alloc, SETTINGS, Some(jobs));
     let mut link = Fake::new(alloc, every);
     let Ok(outcome) = program.run(Rank(0), &mut link) else {
@@ -146,6 +134,29 @@ fn one_rank_writes_the_report(rt: HostRuntime) -> Result<(), Fail> {
         assert_eq!(rt; text.as_str(), one.as_str(), "rejects every {every}");
         let text = report_on(rt.alloc(), TWO, every)?;
         assert_eq!(rt; text.as_str(), two.as_str(), "rejects every {every}");
+    }
+    Ok(())
+}
+
+/// A puzzle of side 4 in which two digits of two rows can be exchanged.
+const SMALL: &str = ".2.4.4.221434321";
+
+/// A batch of the bytes 97, 98, 99, 97 and 98.
+const BATCH: &str = "batch abcab\ncount 98 255\nsum\nmax\n";
+
+#[test]
+fn one_rank_works_puzzles_and_batches(rt: HostRuntime) -> Result<(), Fail> {
+    let input = format!(in rt.alloc(); "{BATCH}{FORCED}\n{SMALL}\nbatch zz\nsum\nbatch\nmax\n")?;
+    let wanted = format!(in rt.alloc();
+        "batch 1 bytes 5 items 3\ncount 98 255 = 3\nsum = 489\nmax = 99\n\
+         puzzle 1 solutions 1\n{FULL}\n\
+         puzzle 2 solutions 2\n1234341221434321\n3214143221434321\n\
+         batch 2 bytes 2 items 1\nsum = 244\nbatch 3 bytes 0 items 1\nmax = 0\n\
+         totals\nboard 4\nsolution 3\njob 5\nanswer 5\n"
+    )?;
+    for every in [0, 1, 2] {
+        let text = report_on(rt.alloc(), input.as_str(), every)?;
+        assert_eq!(rt; text.as_str(), wanted.as_str(), "rejects every {every}");
     }
     Ok(())
 }

@@ -1,8 +1,11 @@
 -- The calls of a rank, kind by kind.
 use Rattle.std.proofs.Common.{◌≡◌, ℕ, true, false, List, [], ◌∷◌, Option, Some, None, refl, sym, ◌∙◌, subst}
+use Rattle.bag_ledger.specs.declared.entries.Answer.{Answer}
 use Rattle.bag_ledger.specs.declared.entries.Said.{Said}
+use Rattle.balance_law.specs.Parcels.{batch_after}
 use Rattle.sudoku_law.specs.Grid.{Cells}
 use Rattle.puzzle_app.specs.Books.{Books, Goes, Moves, accepted, rejected, stopped, granted, told, fetched, received, brought}
+use Rattle.puzzle_app.specs.Made.{put_of}
 use Rattle.puzzle_app.specs.declared.units.Board.{Board}
 use Rattle.puzzle_app.specs.declared.units.Made.{Made}
 use Rattle.puzzle_app.specs.declared.units.Made.TheVariants as made
@@ -19,6 +22,11 @@ by_kind grain P each b s next (stopped x rest w k end e f g) = moved P e f g (ea
 by_kind grain P each b s next (granted w k note e f g) = moved P e f g (each.at_granted w k note)
 by_kind grain P each b s next (told w k end e f g) = moved P e f g (each.at_told w k end)
 by_kind grain P each b s next (fetched w k note bytes e f g) = moved P e f g (each.at_fetched w k note bytes)
+
+-- a put begins no batch and ends none
+pub put_begins_none : (x : Made) (batch : Option (List ℕ)) (answer : Answer) → batch_after batch (put_of x) answer ≡ batch
+put_begins_none (made.Board b) batch answer = refl
+put_begins_none (made.Solution s) batch answer = refl
 
 -- a unit that comes to the rank is no end, and none is held behind it
 pub received_lives : (grain : ℕ) (x : Made) (rest : List Made) (w : List Board) (k : List (ℕ × Cells)) → ((received grain x rest w k).ended ≡ false) × ((received grain x rest w k).held ≡ None)

@@ -9,8 +9,8 @@ use Rattle.sudoku_rules.specs.Sides.{IsSudoku}
 use Rattle.sudoku_rules.proofs.Trees.{children_sudoku, nodes_sudoku}
 use Rattle.puzzle_app.specs.Bodies.{board_body, board_of, solution_body, solution_of}
 use Rattle.puzzle_app.specs.Made.{answer_rank, child_of, fetched_unit, made_by, own_bytes, roots, roots_from, solution_at, unit_of, walk_of}
-use Rattle.puzzle_app.specs.Jobs.{puzzles}
-use Rattle.puzzle_app.specs.declared.jobs.Job.{Job}
+use Rattle.job_report.specs.Jobs.{puzzles}
+use Rattle.job_text.specs.declared.jobs.Job.{Job}
 use Rattle.puzzle_app.specs.declared.units.Board.{Board}
 use Rattle.puzzle_app.specs.declared.units.Made.{Made}
 use Rattle.puzzle_app.specs.declared.units.Made.TheVariants as made

@@ -6,11 +6,11 @@ use Rattle.bag_ledger.specs.declared.states.UnitPlace.TheVariants.{Spent}
 use Rattle.bag_ledger.specs.Bag.{Bag, start}
 use Rattle.bag_ledger.specs.Runs.{IsRun}
 use Rattle.balance_law.specs.Balanced.{AreOrderly, IsBalanced}
-use Rattle.puzzle_app.specs.declared.jobs.Job.{Job}
-use Rattle.puzzle_app.specs.declared.outcomes.PuzzleOutcome.{PuzzleOutcome}
+use Rattle.job_text.specs.declared.jobs.Job.{Job}
+use Rattle.job_report.specs.declared.outcomes.Outcome.{Outcome}
 use Rattle.puzzle_app.specs.declared.outcomes.Settings.{Settings}
-use Rattle.puzzle_app.specs.Jobs.{puzzles}
-use Rattle.puzzle_app.specs.Report.{AreWhole}
+use Rattle.job_report.specs.Jobs.{puzzles}
+use Rattle.job_report.specs.Whole.{AreWhole}
 use Rattle.puzzle_law.specs.Joined.{IsPuzzleRun}
 use Rattle.puzzle_law.proofs.Orderly.{run_is_orderly}
 use Rattle.puzzle_law.proofs.Whole.{run_is_whole}
@@ -19,14 +19,23 @@ use Rattle.sudoku_rules.specs.Sides.{IsSudoku}
 -- what is conserved in every legal run of orderly ranks
 abbrev Conserves : Type 0
 Conserves =
-    (config : Config) (ledger : List Entry) (last : Bag) → 0 < config.ranks → IsRun (start config) ledger last → AreOrderly config ledger → IsBalanced config ledger last
+    (config : Config) (ledger : List Entry) (last : Bag) → 0 < config.ranks → IsRun (start config) ledger last → AreOrderly config ledger →
+    IsBalanced config ledger last
 
-pub joined_whole : Conserves → (config : Config) (ledger : List Entry) (last : Bag) (settings : Settings) (jobs : List Job) (outcomes : List PuzzleOutcome) → 0 < config.ranks → IsRun (start config) ledger last → All IsSudoku (puzzles jobs) → length jobs ≤ 2 ^ 24 → settings.budget < 2 ^ 64 → IsPuzzleRun config ledger settings jobs outcomes → AreWhole settings.budget settings.grain jobs outcomes
+pub joined_whole : Conserves →
+    (config : Config) (ledger : List Entry) (last : Bag) (settings : Settings) (jobs : List Job) (outcomes : List Outcome) →
+    0 < config.ranks → IsRun (start config) ledger last → All IsSudoku (puzzles jobs) → length jobs ≤ 2 ^ 24 → settings.budget < 2 ^ 64 →
+    IsPuzzleRun config ledger settings jobs outcomes → AreWhole settings.budget settings.grain jobs outcomes
 joined_whole conserves config ledger last settings jobs outcomes some legal grids few small run =
-    let balanced : IsBalanced config ledger last = conserves config ledger last some legal (run_is_orderly config ledger settings jobs outcomes run) in
+    let balanced : IsBalanced config ledger last =
+    conserves config ledger last some legal (run_is_orderly config ledger settings jobs outcomes run) in
     run_is_whole config ledger last settings jobs outcomes some balanced grids few small run
 
-pub joined_spent : Conserves → (config : Config) (ledger : List Entry) (last : Bag) (settings : Settings) (jobs : List Job) (outcomes : List PuzzleOutcome) → 0 < config.ranks → IsRun (start config) ledger last → IsPuzzleRun config ledger settings jobs outcomes → All (λ u. u.place ≡ Spent) last.units
+pub joined_spent : Conserves →
+    (config : Config) (ledger : List Entry) (last : Bag) (settings : Settings) (jobs : List Job) (outcomes : List Outcome) →
+    0 < config.ranks → IsRun (start config) ledger last → IsPuzzleRun config ledger settings jobs outcomes →
+    All (λ u. u.place ≡ Spent) last.units
 joined_spent conserves config ledger last settings jobs outcomes some legal run =
-    let balanced : IsBalanced config ledger last = conserves config ledger last some legal (run_is_orderly config ledger settings jobs outcomes run) in
+    let balanced : IsBalanced config ledger last =
+    conserves config ledger last some legal (run_is_orderly config ledger settings jobs outcomes run) in
     balanced.spent

@@ -8,6 +8,7 @@ mod Flow
 mod Ranks
 mod Weights
 mod Trees
+mod Answered
 mod Held
 mod Whole
 pub mod Joining

@@ -9,11 +9,11 @@ ghost use Rattle.bag_ledger.specs.declared.entries.Entry.{Entry};
 ghost use Rattle.bag_ledger.specs.declared.states.UnitPlace.TheVariants.{Spent};
 ghost use Rattle.bag_ledger.specs.Bag.{Bag, start};
 ghost use Rattle.bag_ledger.specs.Runs.{IsRun};
-ghost use Rattle.puzzle_app.specs.declared.jobs.Job.{Job};
-ghost use Rattle.puzzle_app.specs.declared.outcomes.PuzzleOutcome.{PuzzleOutcome};
+ghost use Rattle.job_text.specs.declared.jobs.Job.{Job};
+ghost use Rattle.job_report.specs.declared.outcomes.Outcome.{Outcome};
 ghost use Rattle.puzzle_app.specs.declared.outcomes.Settings.{Settings};
-ghost use Rattle.puzzle_app.specs.Jobs.{puzzles};
-ghost use Rattle.puzzle_app.specs.Report.{AreWhole};
+ghost use Rattle.job_report.specs.Jobs.{puzzles};
+ghost use Rattle.job_report.specs.Whole.{AreWhole};
 ghost use Rattle.puzzle_law.specs.Joined.{IsPuzzleRun};
 ghost use Rattle.sudoku_rules.specs.Sides.{IsSudoku};
 
@@ -23,10 +23,10 @@ use balance_law::balance_laws;
 /// ran its puzzle program and then finished, the outcomes together hold exactly what the jobs are to give (`whole`), and
 /// each accepted unit was fetched, so nothing is left (`spent`).
 pub fn joining_laws()
-    ensures whole { (config : Config) (ledger : List Entry) (last : Bag) (settings : Settings) (jobs : List Job) (outcomes : List PuzzleOutcome) →
+    ensures whole { (config : Config) (ledger : List Entry) (last : Bag) (settings : Settings) (jobs : List Job) (outcomes : List Outcome) →
         0 < config.ranks → IsRun (start config) ledger last → All IsSudoku (puzzles jobs) → length jobs ≤ 2 ^ 24 → settings.budget < 2 ^ 64 →
         IsPuzzleRun config ledger settings jobs outcomes → AreWhole settings.budget settings.grain jobs outcomes }
-    ensures spent { (config : Config) (ledger : List Entry) (last : Bag) (settings : Settings) (jobs : List Job) (outcomes : List PuzzleOutcome) →
+    ensures spent { (config : Config) (ledger : List Entry) (last : Bag) (settings : Settings) (jobs : List Job) (outcomes : List Outcome) →
         0 < config.ranks → IsRun (start config) ledger last →
         IsPuzzleRun config ledger settings jobs outcomes → All (λ u. u.place ≡ Spent) last.units }
 {

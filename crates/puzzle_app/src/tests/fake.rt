@@ -1,6 +1,6 @@
 //! A link of one rank, which keeps its own units.
 
-ghost use Rattle.std.specs.Prelude.{◌≡◌, ◌<◌, ◌≤◌, ◌^◌, ◌++◌, ◌∷◌, [], Option, length, Some, None, Ok, Err, false, true, OnOk, OnErr, IfOk, IfErr};
+ghost use Rattle.std.specs.Prelude.{◌≡◌, ◌<◌, ◌≤◌, ◌^◌, ◌++◌, ◌∷◌, [], Option, length, Some, None, Ok, Err, false, true, OnOk, OnErr, IfOk, IfErr, IsErr, is_none, ◌&&◌};
 ghost use Rattle.adlb_unit.specs.Ids.{same_unit};
 ghost use Rattle.adlb_unit.specs.declared.notes.End.{End};
 ghost use Rattle.adlb_unit.specs.declared.notes.Trouble.{Trouble};
@@ -9,12 +9,12 @@ ghost use Rattle.rank_client.specs.Calls.{Repeats, TellsAgain, end_answer, end_o
 use adlb_unit::{
     End, Handle, Payload, Rank, Server, Target, Trouble, Types, UnitId, UnitNote, WorkType,
 };
-use bag_ledger::{Answer, Call, Said};
+use bag_ledger::{Answer, Body, Call, Said};
 use rank_client::{Adlb, EndFault, PutFault};
 use std::alloc::Global;
 use std::collections::VecDeque;
 
-/// It rejects no put, or each, or each second one.
+/// It rejects no put, or each, or each second one, and each batch.
 #[derive(Drop)]
 pub struct Fake {
     alloc: Global,
@@ -22,6 +22,7 @@ pub struct Fake {
     units: VecDeque<(UnitNote, Payload)>,
     trouble: Option<Trouble>,
     every: u64,
+    going: bool,
     ghost within: { length said.items < 2 ^ 48 },
 }
 
@@ -30,6 +31,7 @@ impl Fake {
     pub fn new(alloc: Global, every: u64) -> Fake
         ensures said { result.said.items ≡ [] }
         ensures trouble { result.trouble ≡ None }
+        ensures going { result.going ≡ false }
     {
         Fake {
             alloc,
@@ -37,6 +39,7 @@ impl Fake {
             units: VecDeque::new(alloc),
             trouble: None,
             every,
+            going: false,
         }
     }
 
@@ -46,6 +49,7 @@ impl Fake {
         ensures kept { OnErr result (self.new.said.items ≡ self.old.said.items) }
         ensures fine { OnOk result (self.new.trouble ≡ None) }
         ensures trouble { IfErr result (λ t. self.new.trouble ≡ Some t) }
+        ensures going { self.new.going ≡ self.old.going }
     {
         if self.said.len() >= (1 << 48) - 1 {
             let trouble = Trouble::TooLong { stamp: 1 << 48 };
@@ -91,6 +95,7 @@ impl Fake {
         requires body { length body.now ≤ 2 ^ 20 }
         ensures said { self.new.said ≡ self.old.said }
         ensures trouble { self.new.trouble ≡ self.old.trouble }
+        ensures going { self.new.going ≡ self.old.going }
     {
         let id = UnitId {
             rank: Rank(0),
@@ -270,6 +275,7 @@ impl Fake {
         ensures said { self.new.said ≡ self.old.said }
         ensures told { TellsAgain (end_told self.old.said.items) (put_answer result) }
         ensures repeats { Repeats self.old.trouble (put_trouble result) }
+        ensures going { self.new.going ≡ self.old.going }
     {
         if let Some(trouble) = self.trouble {
             return Err(put_fault(trouble));
@@ -286,12 +292,40 @@ impl Fake {
         }
     }
 
-    // The put ends so, if its answer can be kept.
+    // No batch is going on after a failure.
+    fn shut(&mut self)
+        ensures said { self.new.said ≡ self.old.said }
+        ensures trouble { self.new.trouble ≡ self.old.trouble }
+        ensures going { self.new.going ≡ (self.old.going && is_none self.old.trouble) }
+    {
+        if self.trouble.is_some() {
+            self.going = false;
+        }
+    }
+
+    // Tells the beginning of a batch how it ends: none begins.
+    fn told_begin(&self) -> Result<(), PutFault>
+        ensures none { IsErr result }
+        ensures told { TellsAgain (end_told self.now.said.items) (put_answer result) }
+        ensures repeats { Repeats self.now.trouble (put_trouble result) }
+    {
+        if let Some(trouble) = self.trouble {
+            return Err(put_fault(trouble));
+        }
+        if let Some(end) = end_in(&self.said) {
+            return Err(put_end(end));
+        }
+        Err(PutFault::Rejected)
+    }
+
+    // The put, or the beginning of a batch, ends so, if its answer can be kept.
     fn end_put(&mut self, call: Call, told: Result<(), PutFault>) -> Result<(), PutFault>
         ensures says { self.new.said.items ≡ plus self.old.said.items call (put_answer result) }
         ensures told { (end : Option End) → TellsAgain end (put_answer told) → TellsAgain end (put_answer result) }
         ensures failed { self.new.trouble ≡ put_trouble result }
         ensures repeats { (t : Trouble) → put_trouble told ≡ Some t → put_trouble result ≡ Some t }
+        ensures refused { IsErr told → IsErr result }
+        ensures going { self.new.going ≡ self.old.going }
     {
         match of_put(told) {
             Ok(answer) => match self.say(call, answer) {
@@ -336,6 +370,7 @@ impl Fake {
         ensures same { IfOk result (λ note. told ≡ Ok note) }
         ensures failed { self.new.trouble ≡ end_trouble result }
         ensures repeats { (t : Trouble) → end_trouble told ≡ Some t → end_trouble result ≡ Some t }
+        ensures going { self.new.going ≡ self.old.going }
     {
         match of_reserve(told) {
             Ok(answer) => match self.say(call, answer) {
@@ -352,6 +387,7 @@ impl Fake {
     // Two twins of the bytes of the next unit, which is to have so many.
     fn next_bodies(&mut self, total: u64) -> Result<(Payload, Payload), Trouble>
         ensures said { self.new.said ≡ self.old.said }
+        ensures going { self.new.going ≡ self.old.going }
         ensures total { IfOk result (λ two. length two.0 ≡ total) }
         ensures same { IfOk result (λ two. two.0 ≡ two.1) }
     {
@@ -368,22 +404,26 @@ impl Fake {
     }
 
     // Fetches the next unit, which has this id and so many bytes.
-    fn fetch(&mut self, id: UnitId, total: u64) -> Result<Payload, Trouble>
+    fn fetch(&mut self, id: UnitId, total: u64) -> Result<Body, Trouble>
         ensures says { IfOk result (λ body. self.new.said.items ≡ self.old.said.items ++ record { call = Call.Fetch id; answer = Answer.Body body } ∷ []) }
         ensures kept { OnErr result (self.new.said.items ≡ self.old.said.items) }
         ensures total { IfOk result (λ body. length body ≡ total) }
         ensures fine { OnOk result (self.new.trouble ≡ None) }
         ensures failed { IfErr result (λ t. self.new.trouble ≡ Some t) }
         ensures repeats { (t : Trouble) → self.old.trouble ≡ Some t → result ≡ Err t }
+        ensures going { self.new.going ≡ self.old.going }
     {
         if let Some(trouble) = self.trouble {
             return Err(trouble);
         }
         match self.next_bodies(total) {
-            Ok((body, shown)) => match self.say(Call::Fetch { id }, Answer::Body(shown)) {
-                Ok(()) => Ok(body),
-                Err(trouble) => Err(trouble),
-            },
+            Ok((body, shown)) => {
+                let shown = Answer::Body(Body::alone(shown));
+                match self.say(Call::Fetch { id }, shown) {
+                    Ok(()) => Ok(Body::alone(body)),
+                    Err(trouble) => Err(trouble),
+                }
+            }
             Err(trouble) => {
                 self.trouble = Some(trouble);
                 Err(trouble)
@@ -397,7 +437,7 @@ impl Adlb for Fake {
 
     ghost transcript = { λ l. l.said.items };
 
-    ghost batch = { λ l. false };
+    ghost batch = { λ l. l.going };
 
     ghost failed = { λ l. l.trouble };
 
@@ -419,7 +459,9 @@ impl Adlb for Fake {
             answer,
             body,
         };
-        self.end_put(call, told)
+        let ended = self.end_put(call, told);
+        self.shut();
+        ended
     }
 
     fn reserve(&mut self, types: &Types) -> Result<Handle, EndFault> {
@@ -427,16 +469,20 @@ impl Adlb for Fake {
             types: types.twin(),
         };
         let told = self.told_reserve();
-        match self.end_reserve(call, told) {
+        let ended = self.end_reserve(call, told);
+        self.shut();
+        match ended {
             Ok(note) => Ok(Handle::of(note)),
             Err(fault) => Err(fault),
         }
     }
 
-    fn get_reserved(&mut self, handle: Handle) -> Result<Payload, (Handle, Trouble)> {
+    fn get_reserved(&mut self, handle: Handle) -> Result<Body, (Handle, Trouble)> {
         let id = handle.note().id;
         let total = handle.total();
-        match self.fetch(id, total) {
+        let fetched = self.fetch(id, total);
+        self.shut();
+        match fetched {
             Ok(body) => {
                 let _ = handle.spend();
                 Ok(body)
@@ -447,6 +493,25 @@ impl Adlb for Fake {
 
     fn leave(&mut self, handle: Handle) {
         let _ = handle.spend();
+    }
+
+    fn begin_batch(&mut self, common: Payload) -> Result<(), PutFault> {
+        let told = self.told_begin();
+        let ended = self.end_put(Call::BeginBatch { common }, told);
+        self.going = false;
+        ended
+    }
+
+    fn end_batch(&mut self) -> Result<(), Trouble> {
+        self.going = false;
+        match self.trouble {
+            Some(trouble) => Err(trouble),
+            None => self.say(Call::EndBatch, Answer::Fine),
+        }
+    }
+
+    fn batch_open(&self) -> bool {
+        self.going
     }
 
     fn finish(self) {}

@@ -1,4 +1,5 @@
 use Rattle.std.proofs.Common.{refl}
+use Rattle.core_inline.proofs.Batches.{start_closed}
 use Rattle.adlb_command.proofs.Keeping.{finishes, numbers_of, reports_kept}
 use Rattle.adlb_command.proofs.programs.run_program.Goals as goal
 
@@ -10,3 +11,6 @@ returns-clause-kept c =
     c.work-outcome.ensures.follows
     (finishes c.work-outcome.new.world.run c.finish_inline.new.self.run c.in_ok-parts.parts.1.items c.finish_inline.ensures.says c.in_ok-parts.ensures.whole c.in_ok-parts.ensures.transcript)
     c.in_ok-parts.ensures.ended c.report_of.ensures.report
+
+pub work-outcome-requires-clause-closed : goal.work-outcome-requires-clause-closed
+work-outcome-requires-clause-closed c = start_closed c.args.config.limit c.in_ok-world.world.run c.in_ok-world.ensures

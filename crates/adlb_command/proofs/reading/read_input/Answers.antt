@@ -1,21 +1,35 @@
-use Rattle.std.proofs.lemmas.Result.{IfOk-weaker}
-use Rattle.adlb_command.proofs.Forms.{fault_weaker, filled_end, filled_jobs, filled_refuses, read_same}
+use Rattle.std.proofs.Common.{◌≤◌, ◌+◌, ap, sym, subst, arith, length}
+use Rattle.std.proofs.lemmas.Result.{IfOk-weaker, err_from_is_err_and}
+use Rattle.adlb_io.specs.Whole.{Reads}
+use Rattle.adlb_command.specs.Input.{input_limit}
+use Rattle.adlb_command.proofs.Forms.{fault_weaker, read_end, read_jobs_are, read_refuses, read_same, read_too_long}
 use Rattle.adlb_command.proofs.reading.read_input.Goals as goal
+
+pub returns-then-len-gt-INPUT_LIMIT-clause-refused : goal.returns-then-len-gt-INPUT_LIMIT-clause-refused
+returns-then-len-gt-INPUT_LIMIT-clause-refused g c = (
+  omega (arith, c.len-taken.ensures, c.len.ensures, c.if-len-gt-INPUT_LIMIT.true, c.in_ok-bytes.ensures.bound),
+  read_too_long _ _ c.in_ok-bytes.bytes.items c.in_ok-bytes.ensures.read (omega (arith, c.len.ensures, c.if-len-gt-INPUT_LIMIT.true)),
+  c.in_ok-bytes.ensures.counted,
+)
 
 pub returns-clause-jobs : goal.returns-clause-jobs
 returns-clause-jobs g c =
-    IfOk-weaker c.read_twice.result _ _ (λ a are bytes told. filled_jobs _ _ c.fill.new.room bytes c.in-Ok.n a.jobs c.fill.auto.room c.in-Ok.ensures.bound c.in-Ok.ensures.filled are told) c.read_twice.ensures.jobs
-
-pub returns-clause-some : goal.returns-clause-some
-returns-clause-some g c = IfOk-weaker c.read_twice.result _ _ (λ a are. (_, are)) c.read_twice.ensures.jobs
-
-pub returns-clause-shown : goal.returns-clause-shown
-returns-clause-shown g c = read_same _ c.read_twice.result c.read_twice.ensures.jobs c.read_twice.ensures.shown
+    let reads = subst (λ l. Reads (g.S.Source.left c.args.input.now) (g.S.Source.left c.read_up_to.new.source) (input_limit + 1) l)
+    (sym c.deref.ensures.value) c.in_ok-bytes.ensures.read in
+    let short : length c.deref.result.now ≤ input_limit =
+    omega (arith, ap length c.deref.ensures.value, c.len.ensures, c.if-len-gt-INPUT_LIMIT.false) in
+    IfOk-weaker c.read_twice.result _ _ (λ a are. read_jobs_are _ _ c.deref.result.now reads short a.jobs are) c.read_twice.ensures.jobs
 
 pub returns-clause-end : goal.returns-clause-end
 returns-clause-end g c =
-    IfOk-weaker c.read_twice.result _ _ (λ a are. filled_end _ _ c.fill.new.room c.in-Ok.n are.0 c.fill.auto.room c.in-Ok.ensures.bound c.in-Ok.ensures.filled are.1) c.read_twice.ensures.jobs
+    IfOk-weaker c.read_twice.result _ _
+    (λ a are. read_end _ _ c.in_ok-bytes.bytes.items c.in_ok-bytes.ensures.read (omega (arith, c.len.ensures, c.if-len-gt-INPUT_LIMIT.false)))
+    c.read_twice.ensures.jobs
 
 pub returns-clause-refused : goal.returns-clause-refused
 returns-clause-refused g c =
-    fault_weaker _ _ _ (filled_refuses _ _ c.fill.new.room c.in-Ok.n _ _ c.fill.auto.room c.in-Ok.ensures.bound c.in-Ok.ensures.filled c.in-Ok.ensures.counted) c.read_twice.ensures.refused
+    let reads = subst (λ l. Reads (g.S.Source.left c.args.input.now) (g.S.Source.left c.read_up_to.new.source) (input_limit + 1) l)
+    (sym c.deref.ensures.value) c.in_ok-bytes.ensures.read in
+    let short : length c.deref.result.now ≤ input_limit =
+    omega (arith, ap length c.deref.ensures.value, c.len.ensures, c.if-len-gt-INPUT_LIMIT.false) in
+    fault_weaker _ _ _ (read_refuses _ _ c.deref.result.now reads short _ _ c.in_ok-bytes.ensures.counted) c.read_twice.ensures.refused

@@ -1,5 +1,5 @@
 use Rattle.std.proofs.Common.{◌≡◌, ◌+◌, ◌≤◌, ◌++◌, length, drop}
-use Rattle.puzzle_app.specs.Jobs.{puzzles}
+use Rattle.job_report.specs.Jobs.{puzzles}
 use Rattle.puzzle_app.specs.Made.{roots_from}
 use Rattle.puzzle_app.proofs.program.place_roots.Given as goal
 

@@ -2,8 +2,7 @@ use Rattle.std.proofs.Common.{◌≡◌, ◌∙◌, sym, ap, true, false}
 use Rattle.std.specs.Result.{result_ok}
 use Rattle.std.proofs.lemmas.Slice.Eq.{bytes_eq-Decides}
 use Rattle.sudoku_rules.specs.Reading.{Reads}
-use Rattle.puzzle_app.proofs.Forms.{ok_of_some}
-use Rattle.puzzle_app.proofs.Bodies.{text_found, text_unlike, none_read}
+use Rattle.puzzle_app.proofs.Bodies.{ok_of_some, text_found, text_unlike, none_read}
 use Rattle.puzzle_app.proofs.units.grid_of.Goals as goal
 
 pub returns-in_err-grid-clause-exact : goal.returns-in_err-grid-clause-exact

@@ -1,5 +1,5 @@
 use Rattle.std.proofs.Common.{◌∙◌, ◌++◌, ap, length}
-use Rattle.puzzle_app.specs.Jobs.{puzzles}
+use Rattle.job_report.specs.Jobs.{puzzles}
 use Rattle.puzzle_app.specs.Made.{roots_from}
 use Rattle.puzzle_app.proofs.Steps.{begins_alone, begins_with}
 use Rattle.puzzle_app.proofs.program.PuzzleProgram.begin.Goals as goal

@@ -1,7 +1,5 @@
 use Rattle.std.proofs.Common.{◌∙◌, subst}
 use Rattle.puzzle_app.specs.Calls.{Takes}
-use Rattle.puzzle_app.specs.Desk.{Brings}
-use Rattle.puzzle_app.specs.Made.{fetched_unit}
 use Rattle.puzzle_app.proofs.Steps.{all_is, boards_few, brought_is, brought_so, empty_so, found_few, so_open, stopped_so, told_is}
 use Rattle.puzzle_app.proofs.UnderWay.{take_way, way_so, whole_way}
 use Rattle.puzzle_app.proofs.program.PuzzleProgram.work.Goals as goal
@@ -33,8 +31,8 @@ returns-in_default-bring-clause-so_far g c =
 pub rounds-preserved-in-Ok-bring : goal.rounds-preserved-in-Ok-bring
 rounds-preserved-in-Ok-bring g c =
     let all = all_is _ _ _ c.if-not-branch.false c.in_ok-put_all.ensures.told in
-    let own = subst (λ b. Brings c.args.self.now.settings.grain (fetched_unit c.in-Unit.note b) c.put_all.new.desk c.bring.new.self) c.bytes.ensures c.in-Ok-bring.ensures in record {
-      going = brought_is c.args.self.now _ _ c.put_all.new.desk c.bring.new.self c.in-Unit.note c.in-Unit.body all (subst (λ t. Takes (g.A.Adlb.transcript c.put_all.new.link) (g.A.Adlb.transcript c.take.new.link) t) c.in-Unit.is c.in_ok-note.ensures.takes) own;
+    record {
+      going = brought_is c.args.self.now _ _ c.put_all.new.desk c.bring.new.desk c.in-Unit.note c.in-Unit.body all (subst (λ t. Takes (g.A.Adlb.transcript c.put_all.new.link) (g.A.Adlb.transcript c.take.new.link) t) c.in-Unit.is c.in_ok-note.ensures.takes) c.in-Ok-bring.ensures;
       whole = c.in_ok-note.ensures.fine;
       seat = c.in_ok-note.ensures.seat ∙ c.in_ok-put_all.ensures.seat ∙ c.rounds.invariant.seat;
       batch = λ h. c.in_ok-note.ensures.batch (c.in_ok-put_all.ensures.batch (c.rounds.invariant.batch h));
@@ -43,8 +41,8 @@ rounds-preserved-in-Ok-bring g c =
 pub rounds-preserved : goal.rounds-preserved
 rounds-preserved g c =
     let all = all_is _ _ _ c.if-not-branch.false c.in_ok-put_all.ensures.told in
-    let own = subst (λ b. Brings c.args.self.now.settings.grain (fetched_unit c.in-Unit.note b) c.put_all.new.desk c.bring.new.self) c.bytes.ensures c.in-Ok-bring.ensures in record {
-      going = brought_is c.args.self.now _ _ c.put_all.new.desk c.bring.new.self c.in-Unit.note c.in-Unit.body all (subst (λ t. Takes (g.A.Adlb.transcript c.put_all.new.link) (g.A.Adlb.transcript c.take.new.link) t) c.in-Unit.is c.in_ok-note.ensures.takes) own;
+    record {
+      going = brought_is c.args.self.now _ _ c.put_all.new.desk c.bring.new.desk c.in-Unit.note c.in-Unit.body all (subst (λ t. Takes (g.A.Adlb.transcript c.put_all.new.link) (g.A.Adlb.transcript c.take.new.link) t) c.in-Unit.is c.in_ok-note.ensures.takes) c.in-Ok-bring.ensures;
       whole = c.in_ok-note.ensures.fine;
       seat = c.in_ok-note.ensures.seat ∙ c.in_ok-put_all.ensures.seat ∙ c.rounds.invariant.seat;
       batch = λ h. c.in_ok-note.ensures.batch (c.in_ok-put_all.ensures.batch (c.rounds.invariant.batch h));

@@ -7,7 +7,11 @@ returns-in_err-desk-clause-open g c = so_open c.args.self.now _ (way_so c.args.s
 
 pub returns-clause-follows : goal.returns-clause-follows
 returns-clause-follows g c =
-    follows_is c.args.self.now _ c.in_ok-desk.desk c.outcome.result c.in_ok-desk.ensures.stopped (g.met.A.Adlb.short c.work.new.link) c.outcome.ensures.solutions c.outcome.ensures.overs c.outcome.ensures.answers c.outcome.ensures.made
+    follows_is c.args.self.now _ c.in_ok-desk.desk c.outcome.result _ c.in_ok-desk.ensures.stopped (g.met.A.Adlb.short c.work.new.link) c.in-Ok.ensures c.outcome.ensures.few
+    c.outcome.ensures.solutions c.outcome.ensures.overs c.outcome.ensures.answers c.outcome.ensures.made
 
 pub returns-clause-open : goal.returns-clause-open
 returns-clause-open g c = so_open c.args.self.now _ (way_so c.args.self.now _ _ c.in_ok-desk.ensures.so_far)
+
+pub returns-in_default-clause-open : goal.returns-in_default-clause-open
+returns-in_default-clause-open g c = so_open c.args.self.now _ (way_so c.args.self.now _ _ c.in_ok-desk.ensures.so_far)
