@@ -96,21 +96,22 @@ answered_accepts : (settings : Settings) (left : Option (List ℕ)) (IsWritten :
 answered_accepts settings left IsWritten None keeps = absurd keeps
 answered_accepts settings left IsWritten (Some r) keeps = λ bytes told. (keeps.1.read bytes told).0
 
--- What follows from how a run ended, where nothing outside failed.
+-- What follows from how a run ended, where no read failed.
 
 module _ (settings : Settings) (before after : Seen) (report : Option (Reported Outcome)) (bytes : List ℕ) (told : before.left ≡ Some bytes)
-    (no_read : Rises before.reads after.reads → ⊥) (no_write : Rises before.writes after.writes → ⊥) where
+    (no_read : Rises before.reads after.reads → ⊥) where
   -- an accepted input is answered
-  pub accepted_fine : (fault : Option RunFault) → EndsBy settings before after fault report → IsAccepted bytes → IsFine fault
-  accepted_fine None ends accepted = tt
-  accepted_fine (Some (Input line why)) ends accepted =
+  pub accepted_fine : (Rises before.writes after.writes → ⊥) → (fault : Option RunFault) → EndsBy settings before after fault report
+      → IsAccepted bytes → IsFine fault
+  accepted_fine no_write None ends accepted = tt
+  accepted_fine no_write (Some (Input line why)) ends accepted =
       absurd (not_both (input_refused bytes) (line, why) (ends.0 bytes told).1 accepted.fine)
-  accepted_fine (Some Usage) ends accepted = ends
-  accepted_fine (Some Read) ends accepted = absurd (no_read ends.0)
-  accepted_fine (Some Write) ends accepted = absurd (no_write ends.0)
-  accepted_fine (Some Memory) ends accepted = tt
-  accepted_fine (Some (TooLong stamp)) ends accepted = tt
-  accepted_fine (Some (TooLarge taken)) ends accepted = absurd (omega (arith, ends.1 bytes told, accepted.short))
+  accepted_fine no_write (Some Usage) ends accepted = ends
+  accepted_fine no_write (Some Read) ends accepted = absurd (no_read ends.0)
+  accepted_fine no_write (Some Write) ends accepted = absurd (no_write ends.0)
+  accepted_fine no_write (Some Memory) ends accepted = tt
+  accepted_fine no_write (Some (TooLong stamp)) ends accepted = tt
+  accepted_fine no_write (Some (TooLarge taken)) ends accepted = absurd (omega (arith, ends.1 bytes told, accepted.short))
 
   -- a refused one is refused at its line
   pub refused_there : (fault : Option RunFault) → EndsBy settings before after fault report → (line : ℕ) (why : LineWhy)
@@ -128,7 +129,9 @@ module _ (settings : Settings) (before after : Seen) (report : Option (Reported 
       fault_with (Some x) = Some (Input x.0 x.1)
   refused_there (Some Usage) ends line why short is = absurd ends
   refused_there (Some Read) ends line why short is = absurd (no_read ends.0)
-  refused_there (Some Write) ends line why short is = absurd (no_write ends.0)
+  refused_there (Some Write) ends line why short is =
+      let accepts = answered_accepts settings before.left _ report ends.1 bytes told in
+      absurd (not_both (input_refused bytes) (line, why) is accepts.fine)
   refused_there (Some Memory) ends line why short is = inr refl
   refused_there (Some (TooLong stamp)) ends line why short is =
       absurd (not_both (input_refused bytes) (line, why) is (ends.1 bytes told).fine)
@@ -142,7 +145,8 @@ module _ (settings : Settings) (before after : Seen) (report : Option (Reported 
   overlong_told (Some (Input line why)) ends long = absurd (omega (arith, long, (ends.0 bytes told).0))
   overlong_told (Some Usage) ends long = absurd ends
   overlong_told (Some Read) ends long = absurd (no_read ends.0)
-  overlong_told (Some Write) ends long = absurd (no_write ends.0)
+  overlong_told (Some Write) ends long =
+      let accepts = answered_accepts settings before.left _ report ends.1 bytes told in absurd (omega (arith, long, accepts.short))
   overlong_told (Some Memory) ends long = inr refl
   overlong_told (Some (TooLong stamp)) ends long = absurd (omega (arith, long, (ends.1 bytes told).short))
   overlong_told (Some (TooLarge taken)) ends long = inl (ap (λ n. Some (TooLarge n)) ends.0)

@@ -64,18 +64,17 @@ pub fn run_adlb<S: Source, K: Sink>(
     ensures memory { result.fault ≡ Some RunFault.Memory →
         IsKeptWhereBegun (K.taken output.old) (K.taken output.new) result.report }
 
-    // With accepted words and no fault outside, an accepted input is answered, and any other refused, unless memory fails.
+    // With accepted words, an accepted input is answered if nothing outside failed, and any other is refused if no read failed,
+    // unless memory fails.
     ensures complete { AreAccepted (map string_bytes words.now) → (bytes : List ℕ) → S.left input.old ≡ Some bytes →
         IsAccepted bytes → (Rises (S.faults input.old) (S.faults input.new) → ⊥) →
         (Rises (K.faults output.old) (K.faults output.new) → ⊥) → IsFine result.fault }
     ensures refused { AreAccepted (map string_bytes words.now) → (bytes : List ℕ) (line : ℕ) (why : LineWhy) →
         S.left input.old ≡ Some bytes → length bytes ≤ input_limit → input_refused bytes ≡ Some (line, why) →
         (Rises (S.faults input.old) (S.faults input.new) → ⊥) →
-        (Rises (K.faults output.old) (K.faults output.new) → ⊥) →
         (result.fault ≡ Some (RunFault.Input line why)) ⊎ (result.fault ≡ Some RunFault.Memory) }
     ensures overlong { AreAccepted (map string_bytes words.now) → (bytes : List ℕ) → S.left input.old ≡ Some bytes →
         input_limit < length bytes → (Rises (S.faults input.old) (S.faults input.new) → ⊥) →
-        (Rises (K.faults output.old) (K.faults output.new) → ⊥) →
         (result.fault ≡ Some (RunFault.TooLarge (input_limit + 1))) ⊎ (result.fault ≡ Some RunFault.Memory) }
 
     ensures source { S.faults input.old ≤ S.faults input.new }
