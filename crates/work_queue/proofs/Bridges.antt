@@ -4,6 +4,7 @@ use Rattle.std.specs.List.{slice_get}
 use Rattle.std.proofs.lemmas.Bool.{both_ways, cases_lt}
 use Rattle.std.proofs.lemmas.Bool.Decides.{nat_tests}
 use Rattle.std.proofs.lemmas.Int.{ints}
+use Rattle.std.proofs.lemmas.List.{get_or_default}
 use Rattle.std.proofs.lemmas.List.Sorted.{Contains-permutation, IsPermutation-sym}
 use Rattle.std.proofs.lemmas.Option.{slice_get-get_or, slice_get_within}
 use Rattle.adlb_unit.specs.declared.names.Rank.{Rank}
@@ -15,13 +16,18 @@ use Rattle.work_queue.proofs.Orders.{lower_isnt}
 use Rattle.work_queue.proofs.Pushes.{any_is}
 use Rattle.work_queue.specs.Best.{IsBest, IsOffered, Precedes}
 use Rattle.work_queue.specs.Inside.Index.{IsIndexed, IsLeading, by_turn, entries_of, entry_of, may_have, may_move, moves_first, suits_better}
-use Rattle.work_queue.specs.Push.{GoesBefore, IsFirstToPush, IsMovable}
+use Rattle.work_queue.specs.Push.{GoesBefore, IsFirstToPush, IsMovable, told}
+use Rattle.work_queue.specs.Queue.{id_of}
 use Rattle.work_queue.specs.declared.entries.Entry.{Entry}
 use Rattle.work_queue.specs.declared.indexing.Index.{Index}
 use Rattle.work_queue.specs.declared.placing.Placed.{Placed}
 
 turn_isnt : (x y : ℤ) (k l : ℕ) → (int_lt y x || (not (int_lt x y) && nat_lt k l)) ≡ false → (x <ℤ y) ⊎ ((y ≡ x) × (l ≤ k))
 turn_isnt x y k l test = grind (arith, ints, nat_tests)
+
+-- the leading entry, as it is found
+pub leads_in : (may : Entry → Bool) (outranks : Entry → Entry → Bool) (entries : List Entry) (found : Option Entry) (e : Entry) → found ≡ Some e → IsLeading may outranks entries (length entries) found → IsLeading may outranks entries (length entries) (Some e)
+leads_in may outranks entries found e is leads = rw is at leads
 
 module _ (units : List Placed) (n : ℕ) (index : Index) (indexed : IsIndexed units n index) where
   abbrev stamp_at : ℕ → ℕ
@@ -43,6 +49,14 @@ module _ (units : List Placed) (n : ℕ) (index : Index) (indexed : IsIndexed un
     | inl before ↦ before
     | inr after ↦ absurd (let up = indexed.rising i j 0 (omega (arith, differs, after)) (omega (arith, within, indexed.long)) in omega (arith, up, low))
   ]
+
+  -- its stamp is known, and leads to it
+  pub stamp_known : (e : Entry) → Contains index.entries.items e → Contains index.stamps.items e.stamp
+  stamp_known e there =
+      let at = unit_of_entry e there in
+      let same = ap (λ (x : Entry). x.stamp) at.is in
+      let here : Contains index.stamps.items (stamp_at at.place) = (at.place, at.within, get_or_default index.stamps.items at.place (stamp_at at.place) 0 at.within) in
+      rw same here
 
   module _ (may : Entry → Bool) (outranks : Entry → Entry → Bool) where
     leads_over : (b x : Entry) → IsLeading may outranks index.entries.items (length index.entries.items) (Some b) → Contains index.entries.items x → may x ≡ true → outranks x b ≡ false
@@ -69,16 +83,15 @@ module _ (units : List Placed) (n : ℕ) (index : Index) (indexed : IsIndexed un
         by_class (inr even) = by_prio (sym even.0) (turn_isnt q.unit.prio p.unit.prio (stamp_at other) (stamp_at place) even.1)
 
     -- the entry that leads for the rank is that of the best unit
-    pub best_leads : (b : Entry) → IsLeading (may_have rank types) (suits_better rank) index.entries.items (length index.entries.items) (Some b) → IsBest rank types units b.id
-    best_leads b leads =
-        let at = unit_of_entry b leads.0 in
+    pub best_leads : (b : Entry) → IsLeading (may_have rank types) (suits_better rank) index.entries.items (length index.entries.items) (Some b) → (at : IsEntryAt units index.stamps.items b) → IsBest rank types units (id_of at.unit)
+    best_leads b leads at =
         let p = at.unit in
         let passes : may_have rank types (entry_of p (stamp_at at.place)) ≡ true = rw at.is at leads.1 in
         record {
           place = at.place;
           unit = p;
           here = at.here;
-          has_id = sym (ap (λ (e : Entry). e.id) at.is);
+          has_id = refl;
           is_offered = (at.free, permitted_is rank types p.unit.kind p.unit.target passes);
           is_first = λ other q there differs offered.
               let x = entry_of q (stamp_at other) in
@@ -101,16 +114,15 @@ module _ (units : List Placed) (n : ℕ) (index : Index) (indexed : IsIndexed un
       by_prio (inr tie) = inr (sym tie.0, earlier place other within tie.1 (λ same. differs (sym same)))
 
   -- the entry that leads when units are pushed is that of the unit that is pushed first
-  pub push_leads : (b : Entry) → IsLeading may_move moves_first index.entries.items (length index.entries.items) (Some b) → IsFirstToPush units (b.id, b.length)
-  push_leads b leads =
-      let at = unit_of_entry b leads.0 in
+  pub push_leads : (b : Entry) → IsLeading may_move moves_first index.entries.items (length index.entries.items) (Some b) → (at : IsEntryAt units index.stamps.items b) → IsFirstToPush units (told at.unit)
+  push_leads b leads at =
       let p = at.unit in
       let passes : may_move (entry_of p (stamp_at at.place)) ≡ true = rw at.is at leads.1 in
       record {
         place = at.place;
         unit = p;
         here = at.here;
-        has = sym (ap (λ (e : Entry). (e.id, e.length)) at.is);
+        has = refl;
         is_movable = (at.free, any_is p.unit.target passes);
         is_first = λ other q there differs movable.
             let x = entry_of q (stamp_at other) in

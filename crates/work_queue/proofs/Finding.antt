@@ -1,15 +1,12 @@
 -- A unit that is sought under one key after another.
-use Rattle.std.proofs.Common.{◌≡◌, ◌<◌, ◌≤◌, ◌+◌, ℕ, Bool, List, [], ◌∷◌, ◌++◌, cond, take, drop, get_or, length, Option, None, Some, refl, sym, ap, ◌∙◌, find}
+use Rattle.std.proofs.Common.{◌≡◌, ◌<◌, ◌≤◌, ◌+◌, ℕ, Bool, List, [], ◌∷◌, ◌++◌, take, drop, get_or, length, None, Some, sym, ap, ◌∙◌, find}
 use Rattle.std.specs.Option.{option_or, option_to_list}
 use Rattle.std.proofs.lemmas.List.{take_all, take_more, take-append-drop}
 use Rattle.std.proofs.lemmas.List.Elements.{filter_map-append}
 use Rattle.std.proofs.lemmas.List.Folds.{find-append}
-use Rattle.adlb_unit.specs.declared.names.UnitId.{UnitId}
 use Rattle.slab.specs.Slab.{Slab, get}
-use Rattle.adlb_unit.proofs.Same.{same_unit_from, unit_differs}
 use Rattle.work_queue.proofs.Units.{units_one}
-use Rattle.work_queue.specs.Queue.{id_of, is_unit}
-use Rattle.work_queue.specs.Inside.Units.{HasId, units_at}
+use Rattle.work_queue.specs.Inside.Units.{units_at}
 use Rattle.work_queue.specs.declared.placing.Placed.{Placed}
 
 module _ (test : Placed → Bool) (slots : Slab Placed) (order : List ℕ) where
@@ -39,12 +36,3 @@ module _ (test : Placed → Bool) (slots : Slab Placed) (order : List ℕ) where
   -- it is under no key
   pub nowhere : (i : ℕ) → length order ≤ i → find test (units_at slots (take i order)) ≡ None → find test (units_at slots order) ≡ None
   nowhere i past none = ap (λ o. find test (units_at slots o)) (sym (take_all i order past)) ∙ none
-
--- the unit of an id, if it is the one under the key, and if it is not
-pub found_one : (id : UnitId) (o : Option Placed) → HasId id o → find (is_unit id) (option_to_list o) ≡ o
-found_one id None has = absurd has
-found_one id (Some p) has = ap (λ t. cond t (Some p) None) (same_unit_from (id_of p) id has)
-
-pub missed_one : (id : UnitId) (o : Option Placed) → (HasId id o → ⊥) → find (is_unit id) (option_to_list o) ≡ None
-missed_one id None misses = refl
-missed_one id (Some p) misses = ap (λ t. cond t (Some p) None) (unit_differs (id_of p) id misses)

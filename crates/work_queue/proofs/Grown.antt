@@ -1,7 +1,7 @@
 -- A queue with more room, and with one promise more or less.
 use Rattle.std.proofs.Common.{◌≡◌, ◌≢◌, ◌≤◌, ◌+◌, ℕ, List, ◌∷◌, [], ◌++◌, length, refl, ap, ◌∙◌, sum_by}
 use Rattle.std.specs.List.{filter}
-use Rattle.std.specs.Vec.{vec_capacity, vec_len}
+use Rattle.std.specs.VecDeque.{deque_capacity, deque_len}
 use Rattle.std.proofs.lemmas.List.Elements.{All-filter, All-push}
 use Rattle.std.proofs.lemmas.List.Kept.{AllPairs-filter}
 use Rattle.std.proofs.lemmas.List.Quantifiers.{all_pairs_push}
@@ -19,11 +19,13 @@ pub record IsGrown (w v : Inside) : Type 0 where
   pub items : v.order.items ≡ w.order.items
   pub entries : v.index.entries.items ≡ w.index.entries.items
   pub stamps : v.index.stamps.items ≡ w.index.stamps.items
+  pub names : v.names.kept.items ≡ w.names.kept.items
   pub arrivals : v.arrivals ≡ w.arrivals
   pub slots_room : HasRoomFor v.slots (length v.rooms)
-  pub order_room : vec_len v.order + length v.rooms ≤ vec_capacity v.order
-  pub entries_room : vec_len v.index.entries + length v.rooms ≤ vec_capacity v.index.entries
-  pub stamps_room : vec_len v.index.stamps + length v.rooms ≤ vec_capacity v.index.stamps
+  pub order_room : deque_len v.order + length v.rooms ≤ deque_capacity v.order
+  pub entries_room : deque_len v.index.entries + length v.rooms ≤ deque_capacity v.index.entries
+  pub stamps_room : deque_len v.index.stamps + length v.rooms ≤ deque_capacity v.index.stamps
+  pub names_room : deque_len v.names.kept + length v.rooms ≤ deque_capacity v.names.kept
 
 module _ (w v : Inside) (sound : IsSound w) (grown : IsGrown w v) where
   pub units_kept : units_at v.slots v.order.items ≡ units_at w.slots w.order.items
@@ -46,10 +48,15 @@ module _ (w v : Inside) (sound : IsSound w) (grown : IsGrown w v) where
       below = rw (grown.stamps, grown.arrivals) sound.indexed.below;
       long = rw (units_kept, grown.stamps) sound.indexed.long;
     };
+    named = record {
+      held = rw (units_kept, grown.names, grown.stamps) sound.named.held;
+      by_id = rw grown.names sound.named.by_id;
+    };
     slots_room = grown.slots_room;
     order_room = grown.order_room;
     entries_room = grown.entries_room;
     stamps_room = grown.stamps_room;
+    names_room = grown.names_room;
   }
 
   pub view_rooms : queue_of v ≡ record { units = units_at w.slots w.order.items; promises = v.rooms; common = v.common; arrivals = v.arrivals; limit = v.limit }

@@ -1,51 +1,20 @@
 -- The index when a unit comes, is pinned or goes.
 use Rattle.std.proofs.Common.{◌≡◌, ◌≢◌, ◌<◌, ◌+◌, ℕ, zero, suc, Bool, true, false, cond, List, [], ◌∷◌, ◌++◌, get_or, length, is_none, Option, Some, None, refl, sym, ap, ◌∙◌, All, Contains, arith, inl, inr}
-use Rattle.std.specs.List.{AllPairs, remove, slice_get}
+use Rattle.std.specs.List.{AllPairs, slice_get}
 use Rattle.std.specs.List.Sorted.{IsPermutation}
-use Rattle.std.proofs.lemmas.Bool.{both_ways}
 use Rattle.std.proofs.lemmas.List.{length-append}
-use Rattle.std.proofs.lemmas.List.Elements.{All-contains, All-push, All-weaker, Contains-get_or}
+use Rattle.std.proofs.lemmas.List.Elements.{All-push, All-weaker, Contains-get_or}
 use Rattle.std.proofs.lemmas.List.Quantifiers.{all_pairs_push}
-use Rattle.std.proofs.lemmas.List.Sorted.{All-permutation, Contains-permutation, IsPermutation-cons, IsPermutation-middle, IsPermutation-refl, IsPermutation-remove, IsPermutation-sym, IsPermutation-to_front, IsPermutation-trans, length_permutation}
-use Rattle.std.proofs.lemmas.List.Edits.{length-remove}
+use Rattle.std.proofs.lemmas.List.Sorted.{All-permutation, Contains-permutation, IsPermutation-cons, IsPermutation-middle, IsPermutation-sym, IsPermutation-to_front, IsPermutation-trans}
 use Rattle.std.proofs.lemmas.Option.{none-some, same_Some}
 use Rattle.slab.proofs.SlabLemmas.{Contains-cons, Contains-cons_cases}
 use Rattle.adlb_unit.specs.declared.names.Rank.{Rank}
 use Rattle.work_queue.proofs.Orders.{before_self}
+use Rattle.work_queue.proofs.Sorted.{both_sides}
 use Rattle.work_queue.specs.Inside.Index.{IsInOrder, IsIndexed, entries_of, entry_of, goes_before}
 use Rattle.work_queue.specs.declared.entries.Entry.{Entry}
 use Rattle.work_queue.specs.declared.indexing.Index.{Index}
 use Rattle.work_queue.specs.declared.placing.Placed.{Placed}
-
--- a list of different elements, each of another list as long, has the elements of that one
-pub same_members : {X : Type 0} (xs ys : List X) → AllPairs (λ a b. a ≢ b) xs → ((e : X) → Contains xs e → Contains ys e) → length xs ≡ length ys → IsPermutation xs ys
-same_members [] [] differ member long = IsPermutation-refl []
-same_members [] (y ∷ ys) differ member long = absurd (omega (arith, long))
-same_members {X} (x ∷ xs) ys differ member long =
-    let there = member x (0, omega arith, refl) in
-    let found : IsPermutation ys (x ∷ remove ys there.0) = IsPermutation-remove ys there.0 x there.1 (sym there.2) in
-    let short = length-remove ys there.0 there.1 in
-    let apart : (e : X) → Contains xs e → x ≢ e = λ e in_rest same. differ 0 (suc in_rest.0) e (omega arith) (omega (arith, in_rest.1)) (same ∙ sym in_rest.2) in
-    let rest : IsPermutation xs (remove ys there.0) =
-    same_members xs (remove ys there.0) (λ i j d before within. differ (suc i) (suc j) d (omega arith) (omega arith))
-    (λ e in_rest. elim (Contains-cons_cases x e (remove ys there.0) (Contains-permutation ys (x ∷ remove ys there.0) e found (member e (Contains-cons x e xs in_rest)))) [
-      | inl same ↦ absurd (apart e in_rest same)
-      | inr later ↦ later
-    ])
-    (omega (arith, long, short)) in
-    IsPermutation-trans (x ∷ xs) (x ∷ remove ys there.0) ys (IsPermutation-cons x xs (remove ys there.0) rest) (IsPermutation-sym ys (x ∷ remove ys there.0) found)
-
--- what is left when the first element, which stands there but once, is taken from both
-pub first_cancelled : {X : Type 0} (x : X) (xs ys : List X) → AllPairs (λ a b. a ≢ b) xs → All (λ y. y ≢ x) xs → IsPermutation (x ∷ xs) (x ∷ ys) → IsPermutation xs ys
-first_cancelled {X} x xs ys differ gone same =
-    let G : X → Type 0 = λ y. y ≢ x in
-    let long = length_permutation (x ∷ xs) (x ∷ ys) same in
-    same_members xs ys differ
-    (λ e there. elim (Contains-cons_cases x e ys (Contains-permutation (x ∷ xs) (x ∷ ys) e same (Contains-cons x e xs there))) [
-      | inl is ↦ absurd (All-contains G xs e gone there (sym is))
-      | inr later ↦ later
-    ])
-    (omega (arith, long))
 
 pub entries_append : (xs ys : List Placed) (ss ts : List ℕ) → length ss ≡ length xs → entries_of (xs ++ ys) (ss ++ ts) ≡ entries_of xs ss ++ entries_of ys ts
 entries_append [] ys [] ts long = refl
@@ -143,10 +112,7 @@ module _ (front back : List Placed) (p : Placed) (sf sb : List ℕ) (s n : ℕ) 
   others_held new free order gone left =
       let one : entries_of (p ∷ back) (s ∷ sb) ≡ entry_of p s ∷ entries_of back sb = rw free refl in
       let whole : entries_of (front ++ p ∷ back) old.stamps.items ≡ entries_of front sf ++ entry_of p s ∷ entries_of back sb = ap (λ l. entries_of (front ++ p ∷ back) l) stamps ∙ parted p ∙ ap (λ l. entries_of front sf ++ l) one in
-      let first : IsPermutation (entry_of p s ∷ others) old.entries.items = IsPermutation-trans _ _ _ (IsPermutation-sym _ _ (IsPermutation-middle (entries_of front sf) (entry_of p s) (entries_of back sb))) (rw whole at indexed.held) in
-      let both : IsPermutation (entry_of p s ∷ new) (entry_of p s ∷ others) = IsPermutation-sym _ _ (IsPermutation-trans _ _ _ first left) in
-      let differ : AllPairs (λ a b. a ≢ b) new = λ i j d before within same. both_ways (goes_before (get_or new i d) (get_or new i d)) (before_self (get_or new i d)) (rw (sym same) at (order i j d before within)) in
-      IsPermutation-sym new others (first_cancelled (entry_of p s) new others differ gone both)
+      both_sides goes_before before_self (entries_of front sf) (entries_of back sb) old.entries.items new (entry_of p s) (rw whole at indexed.held) order gone left
 
   -- nothing changes where it was pinned
   pub others_pinned : (rank : Rank) → p.pin ≡ Some rank → IsPermutation others old.entries.items

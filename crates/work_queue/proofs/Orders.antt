@@ -17,7 +17,7 @@ is_lower a b t is = grind (arith, nat_tests)
 pub lower_isnt : (a b : ℕ) (t : Bool) → lower_first a b t ≡ false → (b < a) ⊎ ((a ≡ b) × (t ≡ false))
 lower_isnt a b t test = grind (arith, nat_tests)
 
-lower_trans : (a b c : ℕ) (s t u : Bool) → (s ≡ true → t ≡ true → u ≡ true) → lower_first a b s ≡ true → lower_first b c t ≡ true → lower_first a c u ≡ true
+pub lower_trans : (a b c : ℕ) (s t u : Bool) → (s ≡ true → t ≡ true → u ≡ true) → lower_first a b s ≡ true → lower_first b c t ≡ true → lower_first a c u ≡ true
 lower_trans a b c s t u both first second = is_lower a c u (by_cases (lower_is a b s first) (lower_is b c t second))
   where
     by_cases : (a < b) ⊎ ((a ≡ b) × (s ≡ true)) → (b < c) ⊎ ((b ≡ c) × (t ≡ true)) → (a < c) ⊎ ((a ≡ c) × (u ≡ true))

@@ -6,6 +6,7 @@ use Rattle.std.proofs.lemmas.Bool.{true≢false}
 use Rattle.std.proofs.lemmas.List.{get_or_default}
 use Rattle.std.proofs.lemmas.Option.{slice_get_cases, slice_get_past}
 use Rattle.slab.specs.Slab.{get}
+use Rattle.work_queue.proofs.Found.{not_within}
 use Rattle.work_queue.proofs.Units.{length-units, unit_under}
 use Rattle.work_queue.specs.Inside.{IsSound}
 use Rattle.work_queue.specs.Queue.{seen}
@@ -13,16 +14,16 @@ use Rattle.work_queue.specs.Inside.Units.{units_at}
 use Rattle.work_queue.specs.declared.placing.Placed.{Placed}
 use Rattle.work_queue.specs.declared.queues.WorkQueue.TheInside.{Inside}
 
-pub seen_there : (w : Inside) (items : List ℕ) (place key : ℕ) → IsSound w → items ≡ w.order.items → place < length items → key ≡ get_or items place key → option_map seen (get w.slots key) ≡ option_map seen (slice_get (units_at w.slots w.order.items) place)
-seen_there w items place key sound same within read =
-    let inside : place < length w.order.items = rw same at within in
-    let is : key ≡ get_or w.order.items place 0 = read ∙ get_or_default items place key 0 within ∙ ap (λ l. get_or l place 0) same in
-    ap (λ o. option_map seen o) (ap (λ k. get w.slots k) is ∙ sym (unit_under w.slots w.order.items sound.there place inside))
+pub seen_there : (w : Inside) (place key : ℕ) → IsSound w → place < length w.order.items → key ≡ get_or w.order.items place key → option_map seen (get w.slots key) ≡ option_map seen (slice_get (units_at w.slots w.order.items) place)
+seen_there w place key sound within read =
+    let is : key ≡ get_or w.order.items place 0 = read ∙ get_or_default w.order.items place key 0 within in
+    ap (λ o. option_map seen o) (ap (λ k. get w.slots k) is ∙ sym (unit_under w.slots w.order.items sound.there place within))
 
-pub seen_past : (w : Inside) (items : List ℕ) (place : ℕ) → IsSound w → items ≡ w.order.items → length items ≤ place → None ≡ option_map seen (slice_get (units_at w.slots w.order.items) place)
-seen_past w items place sound same past =
-    let long : length (units_at w.slots w.order.items) ≡ length items = length-units w.slots w.order.items sound.there ∙ sym (ap (λ l. length l) same) in
-    sym (ap (λ o. option_map seen o) (slice_get_past (units_at w.slots w.order.items) place (omega arith)))
+pub seen_past : (w : Inside) (place : ℕ) → IsSound w → (place < length w.order.items → ⊥) → None ≡ option_map seen (slice_get (units_at w.slots w.order.items) place)
+seen_past w place sound past =
+    let long = length-units w.slots w.order.items sound.there in
+    let beyond = not_within place (length w.order.items) past in
+    sym (ap (λ o. option_map seen o) (slice_get_past (units_at w.slots w.order.items) place (omega (arith, long, beyond))))
 
 pub none_past : (units : List Placed) (place : ℕ) → IsNone (option_map seen (slice_get units place)) ↔ (length units ≤ place)
 none_past units place =

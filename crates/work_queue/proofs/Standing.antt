@@ -2,7 +2,7 @@
 use Rattle.std.proofs.Common.{◌≡◌, ◌≢◌, ◌<◌, ◌≤◌, ◌+◌, ℕ, suc, List, ◌∷◌, ◌++◌, take, drop, get_or, length, Option, Some, None, Contains, refl, sym, ap, ◌∙◌, All, IfSome, IsSome, arith, add-one}
 use Rattle.std.specs.List.{remove}
 use Rattle.std.specs.List.Sorted.{IsPermutation}
-use Rattle.std.specs.Vec.{vec_capacity, vec_len}
+use Rattle.std.specs.VecDeque.{deque_capacity, deque_len}
 use Rattle.std.proofs.lemmas.List.{drop_more, get_or_default, length-take-le, take-append-drop}
 use Rattle.std.proofs.lemmas.List.Elements.{All-append, All-drop, All-take}
 use Rattle.std.proofs.lemmas.List.Quantifiers.{all_pairs_remove}
@@ -11,11 +11,15 @@ use Rattle.adlb_unit.specs.declared.names.UnitId.{UnitId}
 use Rattle.slab.specs.Slab.{get}
 use Rattle.work_queue.proofs.Found.{IsFound, only_found}
 use Rattle.work_queue.proofs.Indexed.{entry_there, indexed_taken, others, others_held, others_pinned}
-use Rattle.work_queue.proofs.Units.{Parts, length-units, parts_at, units_parted}
+use Rattle.work_queue.proofs.Names.{name_there, named_taken}
+use Rattle.work_queue.proofs.Units.{Parts, length-units, parts_at, unit_under, units_parted}
 use Rattle.work_queue.specs.Inside.{IsSound}
 use Rattle.work_queue.specs.Queue.{HasFree, id_of}
 use Rattle.work_queue.specs.Inside.Index.{IsInOrder, IsIndexed, entry_of}
+use Rattle.work_queue.specs.Inside.Names.{IsById, IsNamed, name_of}
 use Rattle.work_queue.specs.Inside.Units.{units_at}
+use Rattle.work_queue.specs.declared.naming.Name.{Name}
+use Rattle.work_queue.specs.declared.naming.Names.{Names}
 use Rattle.work_queue.specs.declared.entries.Entry.{Entry}
 use Rattle.work_queue.specs.declared.indexing.Index.{Index}
 use Rattle.work_queue.specs.declared.placing.Placed.{Placed}
@@ -54,14 +58,28 @@ module _ (w : Inside) (place key : ℕ) (p : Placed) (id : UnitId) (sound : IsSo
   pub entry_found : p.pin ≡ None → Contains w.index.entries.items (entry_of p (get_or w.index.stamps.items place 0))
   entry_found free = entry_there (units_at w.slots front) (units_at w.slots back) p _ _ _ w.arrivals w.index indexed_parted stamps_parted as_long free
 
+  -- the unit's name
+  abbrev pub own_name : Name
+  own_name = name_of p (get_or w.index.stamps.items place 0)
+
+  named_parted : IsNamed (units_at w.slots front ++ p ∷ units_at w.slots back) (take place w.index.stamps.items ++ get_or w.index.stamps.items place 0 ∷ drop (suc place) w.index.stamps.items) w.names.kept.items
+  named_parted = rw (units_parted w.slots w.order.items key p front back parts_of, stamps_parted) at sound.named
+
+  pub name_found : Contains w.names.kept.items own_name
+  name_found =
+      name_there (units_at w.slots w.order.items) w.index.stamps.items w.names.kept.items sound.named sound.indexed.long place p (unit_under w.slots w.order.items sound.there place at.within ∙ ap (λ k. get w.slots k) at.key_is ∙ at.found)
+
+  pub named_after_take : (new : List Name) → IsPermutation w.names.kept.items (own_name ∷ new) → All (λ x. x ≢ own_name) new → IsById new → IsNamed (units_at w.slots front ++ units_at w.slots back) (remove w.index.stamps.items place) new
+  named_after_take new left gone order = named_taken (units_at w.slots front) (units_at w.slots back) p _ _ _ w.names.kept.items new named_parted as_long left gone order
+
 -- the index no longer has the entry of the unit at the place, and has as much room
 pub record LeavesIndex (w : Inside) (place : ℕ) (p : Placed) (index : Index) : Type 0 where
   pub left : IsPermutation w.index.entries.items (entry_of p (get_or w.index.stamps.items place 0) ∷ index.entries.items)
   pub gone : All (λ x. x ≢ entry_of p (get_or w.index.stamps.items place 0)) index.entries.items
   pub in_order : IsInOrder index.entries.items
   pub stamps : index.stamps ≡ w.index.stamps
-  pub fewer : vec_len index.entries + 1 ≡ vec_len w.index.entries
-  pub same : vec_capacity index.entries ≡ vec_capacity w.index.entries
+  pub fewer : deque_len index.entries + 1 ≡ deque_len w.index.entries
+  pub same : deque_capacity index.entries ≡ deque_capacity w.index.entries
 
 -- the index has neither the unit's entry, if that was free, nor its stamp
 pub record ForgetsUnit (w : Inside) (place : ℕ) (p : Placed) (index : Index) : Type 0 where
@@ -70,10 +88,18 @@ pub record ForgetsUnit (w : Inside) (place : ℕ) (p : Placed) (index : Index) :
   pub gone : p.pin ≡ None → All (λ x. x ≢ entry_of p (get_or w.index.stamps.items place 0)) index.entries.items
   pub in_order : IsInOrder index.entries.items
   pub stamps : index.stamps.items ≡ remove w.index.stamps.items place
-  pub fewer : vec_len index.entries ≤ vec_len w.index.entries
-  pub same : vec_capacity index.entries ≡ vec_capacity w.index.entries
-  pub stamps_fewer : vec_len index.stamps + 1 ≡ vec_len w.index.stamps
-  pub stamps_same : vec_capacity index.stamps ≡ vec_capacity w.index.stamps
+  pub fewer : deque_len index.entries ≤ deque_len w.index.entries
+  pub same : deque_capacity index.entries ≡ deque_capacity w.index.entries
+  pub stamps_fewer : deque_len index.stamps + 1 ≡ deque_len w.index.stamps
+  pub stamps_same : deque_capacity index.stamps ≡ deque_capacity w.index.stamps
+
+-- the names no longer have that of the unit at the place, and have as much room
+pub record LosesName (w : Inside) (place : ℕ) (p : Placed) (names : Names) : Type 0 where
+  pub left : IsPermutation w.names.kept.items (name_of p (get_or w.index.stamps.items place 0) ∷ names.kept.items)
+  pub gone : All (λ x. x ≢ name_of p (get_or w.index.stamps.items place 0)) names.kept.items
+  pub by_id : IsById names.kept.items
+  pub fewer : deque_len names.kept + 1 ≡ deque_len w.names.kept
+  pub same : deque_capacity names.kept ≡ deque_capacity w.names.kept
 
 module _ (w : Inside) (place key : ℕ) (p : Placed) (id : UnitId) (sound : IsSound w) (at : IsFound w place key p id) (index : Index) (forgets : ForgetsUnit w place p index) where
   abbrev before : List Placed
@@ -106,6 +132,12 @@ module _ (w : Inside) (place key : ℕ) (p : Placed) (id : UnitId) (sound : IsSo
 
   pub stamp_is : (stamp : ℕ) → stamp ≡ get_or w.index.stamps.items place stamp → stamp ≡ get_or w.index.stamps.items place 0
   stamp_is stamp read = read ∙ get_or_default w.index.stamps.items place stamp 0 (stamp_within w place key p id sound at)
+
+  pub name_is : (stamp : ℕ) → stamp ≡ get_or w.index.stamps.items place stamp → record { id = id; stamp = stamp } ≡ name_of p (get_or w.index.stamps.items place 0)
+  name_is stamp read =
+      let f : ℕ → Name = λ s. record { id = id; stamp = s } in
+      let g : UnitId → Name = λ i. record { id = i; stamp = get_or w.index.stamps.items place 0 } in
+      ap f (stamp_is stamp read) ∙ ap g (sym at.has_id)
 
   pub entry_is : (stamp : ℕ) (e : Entry) → e ≡ entry_of p stamp → stamp ≡ get_or w.index.stamps.items place stamp → e ≡ entry_of p (get_or w.index.stamps.items place 0)
   entry_is stamp e is read = is ∙ ap (λ s. entry_of p s) (stamp_is stamp read)

@@ -16,7 +16,7 @@ use Rattle.adlb_unit.specs.Infos.{info_of_prios}
 use Rattle.adlb_unit.specs.declared.names.WorkType.{WorkType}
 use Rattle.adlb_unit.specs.declared.notes.Info.{Info}
 use Rattle.work_queue.proofs.Counted.{info_push, same_told, told}
-use Rattle.work_queue.proofs.Indexed.{same_members}
+use Rattle.work_queue.proofs.Members.{same_members}
 use Rattle.work_queue.proofs.Orders.{before_self, run_trans}
 use Rattle.work_queue.specs.Counts.{counts_of, prios_of}
 use Rattle.work_queue.specs.Inside.Counting.{info_above, info_with, run_above, run_with}

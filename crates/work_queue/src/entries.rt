@@ -1,48 +1,40 @@
 //! What the index has of a free unit, and how it stands to others.
 
-ghost use Rattle.std.specs.Prelude.{◌≡◌, IfSome, IsSome, None, Some};
+ghost use Rattle.std.specs.Prelude.{◌≡◌, IsSome, None, Some};
 ghost use Rattle.slab.specs.Slab.{get};
 ghost use Rattle.work_queue.specs.Inside.Index.{entry_of, goes_before, lower_first, named_by, runs_before, sort_of, by_run, by_turn};
-ghost use Rattle.work_queue.specs.Queue.{IsSmall};
 ghost use Rattle.work_queue.specs.declared.placing.Placed.{Placed};
 ghost use Rattle.adlb_unit.specs.declared.names.Rank.{Rank};
 
 use crate::placing::Placed;
-use adlb_unit::{Rank, Target, UnitId, WorkType};
+use adlb_unit::{Rank, Target, WorkType};
 use slab::Slab;
 
-// What the index has of a free unit.
+// What the index has of a free unit: what orders it, and the stamp, which leads to it. It is small, since entries move.
 #[derive(Clone, Copy, Debug, PartialEq, Eq)]
 pub struct Entry {
-    pub id: UnitId,
     pub kind: WorkType,
     pub target: Target,
     pub prio: i32,
-    // The bytes of the body.
-    pub length: u32,
     // How many units had come before it.
     pub stamp: u64,
 }
 
 // The entry of the unit that came at this count of arrivals.
 pub(crate) fn entry_for(placed: &Placed, stamp: u64) -> Entry
-    requires { IsSmall placed.now }
     ensures { result ≡ entry_of placed.now stamp }
 {
     Entry {
-        id: placed.unit.id,
         kind: placed.unit.kind,
         target: placed.unit.target,
         prio: placed.unit.prio,
-        length: placed.unit.body.len() as u32,
         stamp,
     }
 }
 
 // The entry of the unit under the key.
 pub(crate) fn entry_under(slots: &Slab<Placed>, key: usize, stamp: u64) -> Entry
-    requires there { IsSome (get slots.now key) }
-    requires small { IfSome (get slots.now key) IsSmall }
+    requires { IsSome (get slots.now key) }
     ensures { (p : Placed) → get slots.now key ≡ Some p → result ≡ entry_of p stamp }
 {
     let Some(placed) = slots.get(key) else {
@@ -53,7 +45,6 @@ pub(crate) fn entry_under(slots: &Slab<Placed>, key: usize, stamp: u64) -> Entry
 
 // The entry of the unit under the key, if it is free.
 pub(crate) fn free_entry(slots: &Slab<Placed>, key: usize, stamp: u64) -> Option<Entry>
-    requires { IfSome (get slots.now key) IsSmall }
     ensures free { (p : Placed) → get slots.now key ≡ Some p → p.pin ≡ None → result ≡ Some (entry_of p stamp) }
     ensures pinned { (p : Placed) (rank : Rank) → get slots.now key ≡ Some p → p.pin ≡ Some rank → result ≡ None }
 {

@@ -3,26 +3,27 @@
 ghost use Rattle.std.specs.Prelude.{◌≡◌, ◌≢◌, ◌<◌, ◌≤◌, ◌+◌, ◌++◌, ◌∷◌, [], All, Contains, IfNone, IfSome, OnOk, length, true, false};
 ghost use Rattle.std.specs.List.{AllPairs, remove};
 ghost use Rattle.std.specs.List.Sorted.{IsPermutation, IsPartitionPoint};
-ghost use Rattle.std.specs.Vec.{vec_capacity, vec_len};
+ghost use Rattle.std.specs.VecDeque.{deque_capacity, deque_len};
 ghost use Rattle.work_queue.specs.Inside.Index.{IsInOrder, IsRun, goes_before, runs_before};
 ghost use Rattle.work_queue.specs.declared.entries.Entry.{Entry};
 
 use crate::entries::{Entry, comes_before, is_of_earlier_run};
 use std::alloc::{AllocError, Global};
+use std::collections::VecDeque;
 
 // The entries of the free units in order; and for each unit, free or pinned, in arrival order, how many had come
 // before it.
 #[derive(Drop)]
 pub struct Index {
-    pub(crate) entries: Vec<Entry>,
-    pub(crate) stamps: Vec<u64>,
+    pub(crate) entries: VecDeque<Entry>,
+    pub(crate) stamps: VecDeque<u64>,
 }
 
 // How many entries stand before this one.
-fn place_for(entries: &[Entry], entry: &Entry) -> usize
-    requires { IsInOrder entries.now }
-    ensures within { result ≤ length entries.now }
-    ensures point { IsPartitionPoint (λ x. goes_before x entry.now ≡ true) (λ x. goes_before x entry.now ≡ false) entries.now result }
+fn place_for(entries: &VecDeque<Entry>, entry: &Entry) -> usize
+    requires { IsInOrder entries.now.items }
+    ensures within { result ≤ length entries.now.items }
+    ensures point { IsPartitionPoint (λ x. goes_before x entry.now ≡ true) (λ x. goes_before x entry.now ≡ false) entries.now.items result }
 {
     entries.partition_point(|x| comes_before(x, entry))
 }
@@ -36,19 +37,19 @@ pub struct Run {
 }
 
 // How many entries are not of a run after that of this one.
-fn run_end(entries: &[Entry], entry: &Entry) -> usize
-    requires { IsInOrder entries.now }
-    ensures within { result ≤ length entries.now }
-    ensures point { IsPartitionPoint (λ x. runs_before entry.now x ≡ false) (λ x. runs_before entry.now x ≡ true) entries.now result }
+fn run_end(entries: &VecDeque<Entry>, entry: &Entry) -> usize
+    requires { IsInOrder entries.now.items }
+    ensures within { result ≤ length entries.now.items }
+    ensures point { IsPartitionPoint (λ x. runs_before entry.now x ≡ false) (λ x. runs_before entry.now x ≡ true) entries.now.items result }
 {
     entries.partition_point(|x| !is_of_earlier_run(entry, x))
 }
 
 // The run that begins at this place, whose end is found by binary search.
-pub(crate) fn run_at(entries: &[Entry], place: usize) -> Run
-    requires order { IsInOrder entries.now }
-    requires there { place < length entries.now }
-    ensures { IsRun entries.now place result }
+pub(crate) fn run_at(entries: &VecDeque<Entry>, place: usize) -> Run
+    requires order { IsInOrder entries.now.items }
+    requires there { place < length entries.now.items }
+    ensures { IsRun entries.now.items place result }
 {
     let first = entries[place];
     let end = run_end(entries, &first);
@@ -63,12 +64,12 @@ impl Index {
     pub(crate) fn new(alloc: Global) -> Index
         ensures entries { result.entries.items ≡ [] }
         ensures stamps { result.stamps.items ≡ [] }
-        ensures entries_len { vec_len result.entries ≡ 0 }
-        ensures stamps_len { vec_len result.stamps ≡ 0 }
+        ensures entries_len { deque_len result.entries ≡ 0 }
+        ensures stamps_len { deque_len result.stamps ≡ 0 }
     {
         Index {
-            entries: Vec::new(alloc),
-            stamps: Vec::new(alloc),
+            entries: VecDeque::new(alloc),
+            stamps: VecDeque::new(alloc),
         }
     }
 
@@ -76,12 +77,12 @@ impl Index {
     pub(crate) fn reserve(&mut self, more: usize) -> Result<(), AllocError>
         ensures entries { self.new.entries.items ≡ self.old.entries.items }
         ensures stamps { self.new.stamps.items ≡ self.old.stamps.items }
-        ensures entries_len { vec_len self.new.entries ≡ vec_len self.old.entries }
-        ensures stamps_len { vec_len self.new.stamps ≡ vec_len self.old.stamps }
-        ensures entries_grown { vec_capacity self.old.entries ≤ vec_capacity self.new.entries }
-        ensures stamps_grown { vec_capacity self.old.stamps ≤ vec_capacity self.new.stamps }
-        ensures entries_room { OnOk result (vec_len self.new.entries + more ≤ vec_capacity self.new.entries) }
-        ensures stamps_room { OnOk result (vec_len self.new.stamps + more ≤ vec_capacity self.new.stamps) }
+        ensures entries_len { deque_len self.new.entries ≡ deque_len self.old.entries }
+        ensures stamps_len { deque_len self.new.stamps ≡ deque_len self.old.stamps }
+        ensures entries_grown { deque_capacity self.old.entries ≤ deque_capacity self.new.entries }
+        ensures stamps_grown { deque_capacity self.old.stamps ≤ deque_capacity self.new.stamps }
+        ensures entries_room { OnOk result (deque_len self.new.entries + more ≤ deque_capacity self.new.entries) }
+        ensures stamps_room { OnOk result (deque_len self.new.stamps + more ≤ deque_capacity self.new.stamps) }
     {
         self.entries.reserve(more)?;
         self.stamps.reserve(more)
@@ -91,18 +92,18 @@ impl Index {
     pub(crate) fn add(&mut self, entry: Entry)
         requires order { IsInOrder self.old.entries.items }
         requires last { All (λ x. x.stamp < entry.stamp) self.old.entries.items }
-        requires entries_room { vec_len self.old.entries < vec_capacity self.old.entries }
-        requires stamps_room { vec_len self.old.stamps < vec_capacity self.old.stamps }
+        requires entries_room { deque_len self.old.entries < deque_capacity self.old.entries }
+        requires stamps_room { deque_len self.old.stamps < deque_capacity self.old.stamps }
         ensures entries { IsPermutation (entry ∷ self.old.entries.items) self.new.entries.items }
         ensures order { IsInOrder self.new.entries.items }
         ensures stamps { self.new.stamps.items ≡ self.old.stamps.items ++ entry.stamp ∷ [] }
-        ensures entries_len { vec_len self.new.entries ≡ vec_len self.old.entries + 1 }
-        ensures stamps_len { vec_len self.new.stamps ≡ vec_len self.old.stamps + 1 }
-        ensures entries_grown { vec_capacity self.old.entries ≤ vec_capacity self.new.entries }
-        ensures stamps_grown { vec_capacity self.old.stamps ≤ vec_capacity self.new.stamps }
+        ensures entries_len { deque_len self.new.entries ≡ deque_len self.old.entries + 1 }
+        ensures stamps_len { deque_len self.new.stamps ≡ deque_len self.old.stamps + 1 }
+        ensures entries_grown { deque_capacity self.old.entries ≤ deque_capacity self.new.entries }
+        ensures stamps_grown { deque_capacity self.old.stamps ≤ deque_capacity self.new.stamps }
     {
         let place = place_for(&self.entries, &entry);
-        self.stamps.push_reserved(entry.stamp);
+        self.stamps.push_back_reserved(entry.stamp);
         let added = self.entries.insert(place, entry);
         match added {
             Ok(()) => {}
@@ -118,11 +119,15 @@ impl Index {
         ensures gone { All (λ x. x ≢ entry.now) self.new.entries.items }
         ensures order { IsInOrder self.new.entries.items }
         ensures stamps { self.new.stamps ≡ self.old.stamps }
-        ensures entries_len { vec_len self.new.entries + 1 ≡ vec_len self.old.entries }
-        ensures entries_same { vec_capacity self.new.entries ≡ vec_capacity self.old.entries }
+        ensures entries_len { deque_len self.new.entries + 1 ≡ deque_len self.old.entries }
+        ensures entries_same { deque_capacity self.new.entries ≡ deque_capacity self.old.entries }
     {
         let place = place_for(&self.entries, entry);
-        self.entries.remove(place);
+        let removed = self.entries.remove(place);
+        match removed {
+            Some(_) => {}
+            None => unreachable!(),
+        }
     }
 
     // The unit at this place of the arrival order is gone. This is its entry, if it was free.
@@ -135,14 +140,18 @@ impl Index {
         ensures gone { IfSome entry (λ e. All (λ x. x ≢ e) self.new.entries.items) }
         ensures order { IsInOrder self.new.entries.items }
         ensures stamps { self.new.stamps.items ≡ remove self.old.stamps.items place }
-        ensures entries_len { vec_len self.new.entries ≤ vec_len self.old.entries }
-        ensures entries_same { vec_capacity self.new.entries ≡ vec_capacity self.old.entries }
-        ensures stamps_len { vec_len self.new.stamps + 1 ≡ vec_len self.old.stamps }
-        ensures stamps_same { vec_capacity self.new.stamps ≡ vec_capacity self.old.stamps }
+        ensures entries_len { deque_len self.new.entries ≤ deque_len self.old.entries }
+        ensures entries_same { deque_capacity self.new.entries ≡ deque_capacity self.old.entries }
+        ensures stamps_len { deque_len self.new.stamps + 1 ≡ deque_len self.old.stamps }
+        ensures stamps_same { deque_capacity self.new.stamps ≡ deque_capacity self.old.stamps }
     {
         if let Some(entry) = entry {
             self.leave(&entry);
         }
-        self.stamps.remove(place);
+        let removed = self.stamps.remove(place);
+        match removed {
+            Some(_) => {}
+            None => unreachable!(),
+        }
     }
 }

@@ -12,7 +12,7 @@ use crate::fitting::fit_at;
 use crate::placing::{Placed, UnitFacts};
 use crate::queues::WorkQueue;
 use crate::ranking::first_to_move;
-use crate::searching::unit_of;
+use crate::searching::stamped;
 use adlb_unit::{Info, Rank, Target, Types, UnitId, WorkType};
 
 impl WorkQueue {
@@ -67,7 +67,11 @@ impl WorkQueue {
     {
         match first_to_move(&self.index.entries) {
             None => None,
-            Some(entry) => Some((entry.id, entry.length)),
+            Some(entry) => {
+                let stamps = &self.index.stamps;
+                let placed = stamped(&self.slots, &self.order, stamps, entry.stamp);
+                Some((placed.unit.id, placed.unit.body.len() as u32))
+            }
         }
     }
 
@@ -80,8 +84,8 @@ impl WorkQueue {
         ensures free { IfSome result (λ id. HasFree id self.now.units) }
         ensures found { result ≡ first_fit asked.now self.now.units }
     {
-        for key in &self.order {
-            if let Some(id) = fit_at(&self.slots, *key, asked) {
+        for place in 0..self.order.len() {
+            if let Some(id) = fit_at(&self.slots, self.order[place], asked) {
                 return Some(id);
             }
         }
@@ -102,6 +106,10 @@ impl WorkQueue {
         ensures distinct { HasDistinctIds self.now.units }
         ensures small { All IsSmall self.now.units }
     {
-        unit_of(&self.slots, &self.order, id)
+        let place = self.names.place_of(&self.index.stamps, id);
+        match self.order.get(place) {
+            Some(key) => self.slots.get(*key),
+            None => None,
+        }
     }
 }

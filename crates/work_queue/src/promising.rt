@@ -6,6 +6,7 @@ ghost use Rattle.work_queue.specs.Queue.{Exceeds, HasNoPromise, HasNoUnit, HasPr
 
 use crate::entries::entry_for;
 use crate::growth::make_room;
+use crate::naming::Name;
 use crate::placing::Placed;
 use crate::queues::{AddFault, WorkQueue};
 use adlb_unit::{Unit, UnitId};
@@ -28,7 +29,14 @@ impl WorkQueue {
             return Err(AddFault::Full { charge });
         }
         let more = self.rooms.len() + 1;
-        if make_room(&mut self.slots, &mut self.order, &mut self.index, more).is_err() {
+        let grown = make_room(
+            &mut self.slots,
+            &mut self.order,
+            &mut self.index,
+            &mut self.names,
+            more,
+        );
+        if grown.is_err() {
             return Err(AddFault::Memory);
         }
         if self.rooms.add(id, n).is_err() {
@@ -47,10 +55,14 @@ impl WorkQueue {
         ensures { self.new ≡ with_arrival self.old unit }
     {
         self.rooms.remove(unit.id);
+        self.names.add(Name {
+            id: unit.id,
+            stamp: self.arrivals,
+        });
         let placed = Placed { unit, pin: None };
         self.index.add(entry_for(&placed, self.arrivals));
         let key = self.slots.insert_reserved(placed);
-        self.order.push_reserved(key);
+        self.order.push_back_reserved(key);
         self.arrivals += 1;
     }
 

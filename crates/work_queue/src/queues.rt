@@ -11,13 +11,15 @@ ghost use Rattle.work_queue.specs.Queue.{Queue, Promise, HasApartPromises, HasDi
 use crate::entries::{entry_for, entry_under, free_entry};
 use crate::growth::make_room;
 use crate::indexing::Index;
+use crate::naming::{Name, Names};
 use crate::placing::{Placed, UnitFacts};
 use crate::ranking::best_entry;
 use crate::rooms::Rooms;
-use crate::searching::{pin_at, place_of, seen_at, take_at};
+use crate::searching::{pin_at, seen_at, stamped, take_at};
 use adlb_unit::{Payload, Rank, Types, Unit, UnitId};
 use slab::Slab;
 use std::alloc::Global;
+use std::collections::VecDeque;
 use std::marker::Model;
 use thiserror::Error;
 
@@ -39,10 +41,12 @@ pub enum AddFault {
 pub struct WorkQueue {
     // The units, each under a key that it keeps as long as it stays.
     pub(crate) slots: Slab<Placed>,
-    // The keys in arrival order. All three have room for each unit that is promised room.
-    pub(crate) order: Vec<usize>,
+    // The keys in arrival order. All four have room for each unit that is promised room.
+    pub(crate) order: VecDeque<usize>,
     // The free units in order.
     pub(crate) index: Index,
+    // The units by their ids.
+    pub(crate) names: Names,
     pub(crate) rooms: Rooms,
     // The bytes of common parts.
     pub(crate) common: u64,
@@ -71,8 +75,9 @@ impl WorkQueue {
     {
         WorkQueue {
             slots: Slab::new(alloc),
-            order: Vec::new(alloc),
+            order: VecDeque::new(alloc),
             index: Index::new(alloc),
+            names: Names::new(alloc),
             rooms: Rooms::new(alloc),
             common: 0,
             charge: 0,
@@ -124,13 +129,24 @@ impl WorkQueue {
             return Err((unit, AddFault::Full { charge }));
         }
         let more = self.rooms.len() + 1;
-        if make_room(&mut self.slots, &mut self.order, &mut self.index, more).is_err() {
+        let grown = make_room(
+            &mut self.slots,
+            &mut self.order,
+            &mut self.index,
+            &mut self.names,
+            more,
+        );
+        if grown.is_err() {
             return Err((unit, AddFault::Memory));
         }
+        self.names.add(Name {
+            id: unit.id,
+            stamp: self.arrivals,
+        });
         let placed = Placed { unit, pin: None };
         self.index.add(entry_for(&placed, self.arrivals));
         let key = self.slots.insert_reserved(placed);
-        self.order.push_reserved(key);
+        self.order.push_back_reserved(key);
         self.charge += length;
         self.arrivals += 1;
         Ok(())
@@ -147,7 +163,14 @@ impl WorkQueue {
     {
         match best_entry(&self.index.entries, rank, types) {
             None => None,
-            Some(entry) => Some(entry.id),
+            Some(entry) => {
+                let stamps = &self.index.stamps;
+                Some(
+                    stamped(&self.slots, &self.order, stamps, entry.stamp)
+                        .unit
+                        .id,
+                )
+            }
         }
     }
 
@@ -159,7 +182,7 @@ impl WorkQueue {
         ensures held { HasPinned id rank self.new.units }
         ensures facts { All (λ p. id_of p ≡ id → result ≡ facts_of p) self.old.units }
     {
-        let place = place_of(&self.slots, &self.order, id);
+        let place = self.names.place_of(&self.index.stamps, id);
         let key = self.order[place];
         let entry = entry_under(&self.slots, key, self.index.stamps[place]);
         self.index.leave(&entry);
@@ -192,9 +215,13 @@ impl WorkQueue {
         ensures taken { self.new ≡ without self.old id }
         ensures unit { All (λ p. id_of p ≡ id → result ≡ p.unit) self.old.units }
     {
-        let place = place_of(&self.slots, &self.order, id);
-        let key = self.order.remove(place);
-        let entry = free_entry(&self.slots, key, self.index.stamps[place]);
+        let place = self.names.place_of(&self.index.stamps, id);
+        let Some(key) = self.order.remove(place) else {
+            unreachable!()
+        };
+        let stamp = self.index.stamps[place];
+        let entry = free_entry(&self.slots, key, stamp);
+        self.names.remove(Name { id, stamp });
         self.index.forget(place, entry);
         let unit = take_at(&mut self.slots, key);
         self.charge -= unit.body.len() as u64;

@@ -7,6 +7,7 @@ ghost use Rattle.work_queue.specs.Inside.Index.{IsInOrder, IsLeading, leading, m
 use crate::entries::{Entry, turn_comes_first};
 use crate::indexing::run_at;
 use adlb_unit::{Rank, Target, Types, class_for, permits};
+use std::collections::VecDeque;
 
 // For the rank, `entry` comes before `other`.
 fn is_better(rank: Rank, entry: &Entry, other: &Entry) -> bool
@@ -34,9 +35,9 @@ fn better_of(rank: Rank, found: Option<Entry>, entry: Entry) -> Entry
 }
 
 // The best entry for the rank: of each run that it may have, the first is looked at.
-pub(crate) fn best_entry(entries: &[Entry], rank: Rank, types: &Types) -> Option<Entry>
-    requires { IsInOrder entries.now }
-    ensures { IsLeading (may_have rank types.now) (suits_better rank) entries.now (length entries.now) result }
+pub(crate) fn best_entry(entries: &VecDeque<Entry>, rank: Rank, types: &Types) -> Option<Entry>
+    requires { IsInOrder entries.now.items }
+    ensures { IsLeading (may_have rank types.now) (suits_better rank) entries.now.items (length entries.now.items) result }
 {
     let mut best: Option<Entry> = None;
     let mut place = 0;
@@ -77,9 +78,9 @@ fn first_of(found: Option<Entry>, entry: Entry) -> Entry
 }
 
 // The entry that is pushed first: of each run of target any, the last is looked at.
-pub(crate) fn first_to_move(entries: &[Entry]) -> Option<Entry>
-    requires { IsInOrder entries.now }
-    ensures { IsLeading may_move moves_first entries.now (length entries.now) result }
+pub(crate) fn first_to_move(entries: &VecDeque<Entry>) -> Option<Entry>
+    requires { IsInOrder entries.now.items }
+    ensures { IsLeading may_move moves_first entries.now.items (length entries.now.items) result }
 {
     let mut first: Option<Entry> = None;
     let mut place = 0;

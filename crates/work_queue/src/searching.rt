@@ -1,39 +1,19 @@
-//! Units in their slots, by the list of keys in arrival order.
+//! Units in their slots, by their keys and by their stamps.
 
-ghost use Rattle.std.specs.Prelude.{◌≡◌, ◌<◌, ◌^◌, ◌≤◌, ◌↔◌, IfSome, IsSome, IsTrue, None, Some, ◌+◌, find, length, slice_index};
-ghost use Rattle.std.specs.Option.{option_copied, option_map, option_to_list};
+ghost use Rattle.std.specs.Prelude.{◌≡◌, ◌<◌, ◌^◌, ℕ, All, Contains, IfSome, IsSome, None, Some, ◌+◌, length, slice_index};
+ghost use Rattle.std.specs.List.{AllPairs, slice_get};
+ghost use Rattle.std.specs.Option.{option_map};
 ghost use Rattle.slab.specs.Slab.{get, slab_len, with_value, Updates};
 ghost use Rattle.work_queue.specs.Facts.{facts_of};
-ghost use Rattle.work_queue.specs.Queue.{HasUnit, IsSmall, is_unit, seen};
-ghost use Rattle.work_queue.specs.Inside.Units.{units_at, HasId};
+ghost use Rattle.work_queue.specs.Inside.Units.{units_at};
+ghost use Rattle.work_queue.specs.Queue.{IsSmall, seen};
 ghost use Rattle.work_queue.specs.declared.placing.Placed.{Placed};
 
+use crate::naming::place_of_stamp;
 use crate::placing::{Placed, UnitFacts};
 use adlb_unit::{Rank, Unit, UnitId};
 use slab::Slab;
-
-// The place of the unit's key.
-pub(crate) fn place_of(slots: &Slab<Placed>, order: &[usize], id: UnitId) -> usize
-    requires { HasUnit id (units_at slots.now order.now) }
-    ensures within { result < length order.now }
-    ensures found { HasId id (get slots.now (slice_index order.now result)) }
-{
-    for place in 0..order.len() {
-        if has_id(slots, order[place], id) {
-            return place;
-        }
-    }
-    unreachable!()
-}
-
-fn has_id(slots: &Slab<Placed>, key: usize, id: UnitId) -> bool
-    ensures { IsTrue result ↔ HasId id (get slots.now key) }
-{
-    match slots.get(key) {
-        Some(placed) => placed.unit.id == id,
-        None => false,
-    }
-}
+use std::collections::VecDeque;
 
 // The unit under the key, with its pin.
 pub(crate) fn seen_at(slots: &Slab<Placed>, key: usize) -> Option<(UnitId, Option<Rank>)>
@@ -73,18 +53,22 @@ pub(crate) fn take_at(slots: &mut Slab<Placed>, key: usize) -> Unit
     placed.unit
 }
 
-// The unit of this id.
-pub(crate) fn unit_of<'a>(
+// The unit of this stamp, which is found by binary search.
+pub(crate) fn stamped<'a>(
     slots: &'a Slab<Placed>,
-    order: &[usize],
-    id: UnitId,
-) -> Option<&'a Placed>
-    ensures { option_copied result ≡ find (is_unit id) (units_at slots.now order.now) }
+    order: &VecDeque<usize>,
+    stamps: &VecDeque<u64>,
+    stamp: u64,
+) -> &'a Placed
+    requires there { All (λ key. IsSome (get slots.now key)) order.now.items }
+    requires rising { AllPairs (λ a b. a < b) stamps.now.items }
+    requires long { length stamps.now.items ≡ length order.now.items }
+    requires known { Contains stamps.now.items stamp }
+    ensures { (place : ℕ) (p : Placed) → slice_get (units_at slots.now order.now.items) place ≡ Some p → slice_index stamps.now.items place ≡ stamp → result.now ≡ p }
 {
-    for key in order {
-        if has_id(slots, *key, id) {
-            return slots.get(*key);
-        }
-    }
-    None
+    let place = place_of_stamp(stamps, stamp);
+    let Some(placed) = slots.get(order[place]) else {
+        unreachable!()
+    };
+    placed
 }

@@ -49,7 +49,7 @@ IsInOrder entries = AllPairs (λ a b. goes_before a b ≡ true) entries
 
 -- the entry of a unit that came at this count of arrivals
 abbrev pub entry_of : Placed → ℕ → Entry
-entry_of p stamp = record { id = p.unit.id; kind = p.unit.kind; target = p.unit.target; prio = p.unit.prio; length = length p.unit.body; stamp = stamp }
+entry_of p stamp = record { kind = p.unit.kind; target = p.unit.target; prio = p.unit.prio; stamp = stamp }
 
 -- the entries of the free units, which came at these counts
 abbrev pub entries_of : List Placed → List ℕ → List Entry

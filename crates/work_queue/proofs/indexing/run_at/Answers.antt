@@ -1,11 +1,11 @@
 use Rattle.std.proofs.Common.{arith}
-use Rattle.work_queue.proofs.Runs.{read_goes_on, read_run}
+use Rattle.work_queue.proofs.Runs.{is_run, run_goes_on}
 use Rattle.work_queue.proofs.indexing.run_at.Goals as goal
 
-pub overflow_sub-result : goal.overflow_sub-result
-overflow_sub-result c =
-    let on = read_goes_on c.args.entries.now c.args.place c.run_end-end.result _ c.requires.order c.requires.there c.run_end-end.ensures.point in
+pub overflow_sub-end : goal.overflow_sub-end
+overflow_sub-end c =
+    let on = run_goes_on c.args.entries.now.items c.args.place c.run_end-end.result c.index.result.now c.requires.order c.requires.there c.index.ensures c.run_end-end.ensures.point in
     omega (arith, on)
 
 pub returns : goal.returns
-returns c = read_run c.args.entries.now c.args.place c.run_end-end.result _ c.requires.order c.requires.there c.run_end-end.ensures.point c.run_end-end.ensures.within
+returns c = is_run c.args.entries.now.items c.args.place c.run_end-end.result c.index.result.now c.requires.order c.requires.there c.index.ensures c.run_end-end.ensures.point c.index-2.result.now c.index-2.ensures c.run_end-end.ensures.within

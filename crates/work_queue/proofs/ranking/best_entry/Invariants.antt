@@ -4,9 +4,9 @@ use Rattle.work_queue.proofs.ranking.best_entry.Given as goal
 
 abbrev pub invariant-loop-place : goal.invariant-loop-place
 invariant-loop-place l = record {
-  within : l.place ≤ length l.entries;
-  leads : IsLeading (may_have l.rank l.types) (suits_better l.rank) l.entries l.place l.best;
+  within : l.place ≤ length l.entries.items;
+  leads : IsLeading (may_have l.rank l.types) (suits_better l.rank) l.entries.items l.place l.best;
 }
 
 abbrev pub decreases-loop-place : goal.decreases-loop-place
-decreases-loop-place l = length l.entries - l.place
+decreases-loop-place l = length l.entries.items - l.place

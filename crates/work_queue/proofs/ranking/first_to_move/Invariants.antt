@@ -4,9 +4,9 @@ use Rattle.work_queue.proofs.ranking.first_to_move.Given as goal
 
 abbrev pub invariant-loop-place : goal.invariant-loop-place
 invariant-loop-place l = record {
-  within : l.place ≤ length l.entries;
-  leads : IsLeading may_move moves_first l.entries l.place l.first;
+  within : l.place ≤ length l.entries.items;
+  leads : IsLeading may_move moves_first l.entries.items l.place l.first;
 }
 
 abbrev pub decreases-loop-place : goal.decreases-loop-place
-decreases-loop-place l = length l.entries - l.place
+decreases-loop-place l = length l.entries.items - l.place

@@ -9,4 +9,4 @@ pub returns-clause-order : goal.returns-clause-order
 returns-clause-order c =
     rw c.in-Ok.ensures.items
     (order_added c.args.self.now.entries.items c.args.entry c.place_for-place.result c.requires.order
-    (rw c.deref.ensures.value at c.place_for-place.ensures.within) (rw c.deref.ensures.value at c.place_for-place.ensures.point) c.requires.last)
+    c.place_for-place.ensures.within c.place_for-place.ensures.point c.requires.last)

@@ -1,15 +1,15 @@
-use Rattle.std.proofs.Common.{ap, ◌∙◌, refl, sym}
+use Rattle.std.proofs.Common.{ap, arith, ◌∙◌, refl, sym}
 use Rattle.std.proofs.lemmas.Bool.{false≢true}
 use Rattle.work_queue.specs.Fits.{first_fit}
 use Rattle.work_queue.proofs.FirstFits.{fit_is, fit_is_free, fit_under, no_fit, no_fit_under, none_asked, some_asked}
 use Rattle.work_queue.proofs.queues.WorkQueue.fits.Goals as goal
 
-pub loop-key-preserved : goal.loop-key-preserved
-loop-key-preserved c = no_fit_under c.args.asked.now c.self.inside.slots c.self.inside.order.items _ c.loop-key.key-index c.deref-key-items.ensures.value c.loop-key-test.true c.loop-key.invariant (sym c.in_default.is ∙ c.fit_at.ensures)
+pub loop-place-preserved : goal.loop-place-preserved
+loop-place-preserved c = no_fit_under c.args.asked.now c.self.inside.slots c.self.inside.order.items c.loop-place.place c.index.result.now c.index.ensures (omega (arith, c.loop-place-test.true)) c.loop-place.invariant (sym c.in_default.is ∙ c.fit_at.ensures)
 
 pub returns-in-Some-clause-found : goal.returns-in-Some-clause-found
 returns-in-Some-clause-found c =
-    fit_under c.args.asked.now c.self.inside.slots c.self.inside.order.items _ c.loop-key.key-index c.in-Some.id c.deref-key-items.ensures.value c.loop-key-test.true c.loop-key.invariant (sym c.in-Some.is ∙ c.fit_at.ensures)
+    fit_under c.args.asked.now c.self.inside.slots c.self.inside.order.items c.loop-place.place c.index.result.now c.in-Some.id c.index.ensures (omega (arith, c.loop-place-test.true)) c.loop-place.invariant (sym c.in-Some.is ∙ c.fit_at.ensures)
     ∙ ap (λ q. first_fit c.args.asked.now q.units) c.self.view_is
 
 pub returns-in-Some-clause-first : goal.returns-in-Some-clause-first
@@ -24,6 +24,6 @@ returns-in-Some-clause-free c = fit_is_free c.args.asked.now c.args.self.now.uni
 pub returns-clause-some : goal.returns-clause-some
 returns-clause-some c =
     let whole =
-    no_fit c.args.asked.now c.self.inside.slots c.self.inside.order.items _ c.loop-key.key-index c.deref-key-items.ensures.value c.loop-key-test.false c.loop-key.invariant
+    no_fit c.args.asked.now c.self.inside.slots c.self.inside.order.items c.loop-place.place (omega (arith, c.loop-place-test.false)) c.loop-place.invariant
     ∙ ap (λ q. first_fit c.args.asked.now q.units) c.self.view_is in
     (λ no_such. absurd (false≢true no_such), λ some. absurd (none_asked c.args.asked.now c.args.self.now.units whole some))

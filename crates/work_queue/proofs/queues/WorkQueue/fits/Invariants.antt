@@ -3,5 +3,5 @@ use Rattle.work_queue.specs.Fits.{asked_for}
 use Rattle.work_queue.specs.Inside.Units.{units_at}
 use Rattle.work_queue.proofs.queues.WorkQueue.fits.Given as goal
 
-abbrev pub invariant-loop-key : goal.invariant-loop-key
-invariant-loop-key l = find (asked_for l.asked) (units_at l.self-inside.slots (take l.key-index l.self-inside.order.items)) ≡ None
+abbrev pub invariant-loop-place : goal.invariant-loop-place
+invariant-loop-place l = find (asked_for l.asked) (units_at l.self-inside.slots (take l.place l.self-inside.order.items)) ≡ None

@@ -1,5 +1,5 @@
 use Rattle.std.proofs.Common.{◌≡◌, ◌≤◌, ◌+◌, ◌++◌, ◌∷◌, [], ap, ◌∙◌, refl, sym, subst, arith, rules, length}
-use Rattle.std.specs.Vec.{vec_capacity, vec_len}
+use Rattle.std.specs.VecDeque.{deque_capacity, deque_len}
 use Rattle.std.proofs.lemmas.List.{length-append}
 use Rattle.std.proofs.lemmas.List.Sums.{sum_by_push}
 use Rattle.slab.specs.Slab.{HasRoomFor, slab_len}
@@ -16,12 +16,13 @@ invariant_of-self-2 c =
     let Unpromised : Queue → Type 0 = λ q. HasNoPromise c.args.id q.promises in
     let added : c.add.new.self ≡ w.rooms ++ room ∷ [] = search rules in
     let long : length c.add.new.self ≡ length w.rooms + 1 = ap (λ l. length l) added ∙ length-append w.rooms (room ∷ []) in
-    let slots : HasRoomFor c.make_room.new.slots (c.len-more.result + 1) = search rules in
-    let keys : vec_len c.make_room.new.order + (c.len-more.result + 1) ≤ vec_capacity c.make_room.new.order = search rules in
-    let entries : vec_len c.make_room.new.index.entries + (c.len-more.result + 1) ≤ vec_capacity c.make_room.new.index.entries = search rules in
-    let stamps : vec_len c.make_room.new.index.stamps + (c.len-more.result + 1) ≤ vec_capacity c.make_room.new.index.stamps = search rules in
+    let slots : HasRoomFor c.make_room-grown.new.slots (c.len-more.result + 1) = search rules in
+    let keys : deque_len c.make_room-grown.new.order + (c.len-more.result + 1) ≤ deque_capacity c.make_room-grown.new.order = search rules in
+    let entries : deque_len c.make_room-grown.new.index.entries + (c.len-more.result + 1) ≤ deque_capacity c.make_room-grown.new.index.entries = search rules in
+    let stamps : deque_len c.make_room-grown.new.index.stamps + (c.len-more.result + 1) ≤ deque_capacity c.make_room-grown.new.index.stamps = search rules in
+    let names : deque_len c.make_room-grown.new.names.kept + (c.len-more.result + 1) ≤ deque_capacity c.make_room-grown.new.names.kept = search rules in
     sound_rooms w _ c.self.invariant
-    (record { slots = c.make_room.ensures.slots; items = c.make_room.ensures.items; entries = c.make_room.ensures.entries; stamps = c.make_room.ensures.stamps; arrivals = refl; slots_room = omega arith; order_room = omega arith; entries_room = omega arith; stamps_room = omega arith })
+    (record { slots = c.make_room-grown.ensures.slots; items = c.make_room-grown.ensures.items; entries = c.make_room-grown.ensures.entries; stamps = c.make_room-grown.ensures.stamps; names = c.make_room-grown.ensures.names; arrivals = refl; slots_room = omega arith; order_room = omega arith; entries_room = omega arith; stamps_room = omega arith; names_room = omega arith })
     (rw added (once_more w.rooms c.args.id c.args.n c.self.invariant.once (subst Unpromised (sym c.self.view_is) c.requires.unpromised)))
     (rw added (apart_more (units_at w.slots w.order.items) w.rooms c.args.id c.args.n c.self.invariant.apart (subst New (sym c.self.view_is) c.requires.new)))
     (rw added (omega (arith, sum_by_push promised w.rooms room)))
@@ -29,30 +30,34 @@ invariant_of-self-2 c =
 
 pub invariant_of-self : goal.invariant_of-self
 invariant_of-self c = sound_grown c.self.inside _ c.self.invariant (record {
-  slots = c.make_room.ensures.slots;
-  items = c.make_room.ensures.items;
-  entries = c.make_room.ensures.entries;
-  stamps = c.make_room.ensures.stamps;
+  slots = c.make_room-grown.ensures.slots;
+  items = c.make_room-grown.ensures.items;
+  entries = c.make_room-grown.ensures.entries;
+  stamps = c.make_room-grown.ensures.stamps;
+  names = c.make_room-grown.ensures.names;
   arrivals = refl;
-  slots_room = let same = ap (λ s. slab_len s) c.make_room.ensures.slots in omega (arith, same);
+  slots_room = let same = ap (λ s. slab_len s) c.make_room-grown.ensures.slots in omega (arith, same);
   order_room = omega arith;
   entries_room = omega arith;
   stamps_room = omega arith;
+  names_room = omega arith;
 }) refl refl refl refl
 
 pub invariant_of-self-then-is_err-2 : goal.invariant_of-self-then-is_err-2
 invariant_of-self-then-is_err-2 c =
     let rooms : c.add.new.self ≡ c.self.inside.rooms = search rules in
     let long = ap (λ l. length l) rooms in
-    let same = ap (λ s. slab_len s) c.make_room.ensures.slots in
+    let same = ap (λ s. slab_len s) c.make_room-grown.ensures.slots in
     sound_grown c.self.inside _ c.self.invariant (record {
-      slots = c.make_room.ensures.slots;
-      items = c.make_room.ensures.items;
-      entries = c.make_room.ensures.entries;
-      stamps = c.make_room.ensures.stamps;
+      slots = c.make_room-grown.ensures.slots;
+      items = c.make_room-grown.ensures.items;
+      entries = c.make_room-grown.ensures.entries;
+      stamps = c.make_room-grown.ensures.stamps;
+      names = c.make_room-grown.ensures.names;
       arrivals = refl;
       slots_room = omega (arith, same, long);
       order_room = omega (arith, long);
       entries_room = omega (arith, long);
       stamps_room = omega (arith, long);
+      names_room = omega (arith, long);
     }) rooms refl refl refl
