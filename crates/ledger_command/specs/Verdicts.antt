@@ -1,0 +1,21 @@
+-- What is told of a ledger, and its line.
+use Rattle.std.specs.Prelude.{◌≡◌, ℕ, List, [], ◌∷◌, ◌++◌, length, codes, decimal}
+use Rattle.adlb_unit.specs.declared.configs.Config.{Config}
+use Rattle.bag_ledger.specs.declared.entries.Entry.{Entry}
+use Rattle.bag_ledger.specs.Bag.{start}
+use Rattle.bag_ledger.specs.Runs.{IsFirstIllegal, IsLegal}
+use Rattle.ledger_command.specs.declared.verdicts.Verdict.{Verdict}
+use Rattle.ledger_command.specs.declared.verdicts.Verdict.TheVariants.{Legal, Illegal}
+
+-- the ledger is a legal run of this many entries; or the entries before this place are steps, and the one at it is none
+abbrev pub IsVerdict : Config → List Entry → Verdict → Type 0
+IsVerdict config ledger (Legal entries) = IsLegal config ledger × (entries ≡ length ledger)
+IsVerdict config ledger (Illegal place) = IsFirstIllegal (start config) ledger place
+
+-- a word, a blank, a number and a line feed
+abbrev pub numbered : List ℕ → ℕ → List ℕ
+numbered word n = word ++ codes " " ++ decimal n ++ 10 ∷ []
+
+abbrev pub line_of : Verdict → List ℕ
+line_of (Legal entries) = numbered (codes "legal") entries
+line_of (Illegal place) = numbered (codes "illegal") place
