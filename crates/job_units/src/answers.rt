@@ -6,7 +6,7 @@ ghost use Rattle.job_units.specs.Forms.{IsAnswer};
 ghost use Rattle.job_units.specs.Reading.{answer_of_body};
 ghost use Rattle.job_units.specs.declared.answers.Answer.{Answer};
 
-use crate::pieces::{array_of, joined};
+use crate::pieces::{array_of, joined, long_word, word};
 use adlb_unit::{NoMemory, Payload};
 use std::alloc::Global;
 
@@ -26,13 +26,14 @@ impl Answer {
     #[tactic(auto, unfolding(crate::specs::Bodies::answer_body))]
     pub fn body(&self, alloc: Global) -> Result<Payload, NoMemory>
         ensures body { IfOk result (λ p. p ≡ answer_body self.now) }
+        ensures form { IsAnswer self.now }
         ensures long { IfOk result (λ p. length p ≡ 16) }
     {
         joined(
             alloc,
-            &self.batch.to_be_bytes(),
-            &self.number.to_be_bytes(),
-            &self.value.to_be_bytes(),
+            &word(self.batch),
+            &word(self.number),
+            &long_word(self.value),
         )
     }
 

@@ -7,7 +7,7 @@ ghost use Rattle.job_units.specs.Reading.{board_of_body};
 ghost use Rattle.job_units.specs.declared.boards.Board.{Board};
 
 use crate::grids::grid_of;
-use crate::pieces::{array_of, joined};
+use crate::pieces::{array_of, joined, long_word, word};
 use adlb_unit::{NoMemory, Payload};
 use std::alloc::Global;
 use sudoku_rules::Grid;
@@ -28,13 +28,14 @@ impl Board {
     #[tactic(auto, unfolding(crate::specs::Bodies::board_body))]
     pub fn body(&self, alloc: Global) -> Result<Payload, NoMemory>
         ensures body { IfOk result (λ p. p ≡ board_body self.now) }
+        ensures form { IsBoard self.now }
         ensures long { IfOk result (λ p. length p ≡ 12 + length self.now.grid) }
         ensures few { IfOk result (λ p. length p ≤ 268) }
     {
         joined(
             alloc,
-            &self.puzzle.to_be_bytes(),
-            &self.budget.to_be_bytes(),
+            &word(self.puzzle),
+            &long_word(self.budget),
             self.grid.text().as_slice(),
         )
     }

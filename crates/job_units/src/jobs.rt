@@ -10,7 +10,7 @@ ghost use Rattle.job_units.specs.Works.{answer_of};
 ghost use Rattle.job_units.specs.declared.jobs.Job.{Job};
 
 use crate::answers::Answer;
-use crate::pieces::{array_of, joined};
+use crate::pieces::{array_of, joined, word};
 use adlb_unit::{NoMemory, Payload};
 use job_text::Item;
 use lane_bytes::{count_range, max_byte, sum_bytes};
@@ -32,12 +32,13 @@ impl Job {
     #[tactic(auto, unfolding(crate::specs::Bodies::job_body))]
     pub fn body(&self, alloc: Global) -> Result<Payload, NoMemory>
         ensures body { IfOk result (λ p. p ≡ job_body self.now) }
+        ensures form { IsJob self.now }
         ensures long { IfOk result (λ p. length p ≡ 11) }
     {
         joined(
             alloc,
-            &self.batch.to_be_bytes(),
-            &self.number.to_be_bytes(),
+            &word(self.batch),
+            &word(self.number),
             &bytes_of(&self.item),
         )
     }

@@ -1,6 +1,7 @@
 //! The pieces of a body.
 
-ghost use Rattle.std.specs.Prelude.{◌≡◌, ◌≤◌, ◌++◌, OnOk, IfOk, length};
+ghost use Rattle.std.specs.Prelude.{◌≡◌, ◌≤◌, ◌<◌, ◌^◌, ◌++◌, OnOk, IfOk, length};
+ghost use Rattle.std.specs.Int.{to_be_bytes, w32, w64};
 
 use adlb_unit::{NoMemory, Payload, or_no_memory};
 use std::alloc::Global;
@@ -24,6 +25,22 @@ fn append(bytes: &mut Vec<u8>, piece: &[u8]) -> Result<(), NoMemory>
     ensures { OnOk result (bytes.new.items ≡ bytes.old.items ++ piece.now) }
 {
     or_no_memory(bytes.extend_from_slice(piece))
+}
+
+/// The bytes of a number, which it fits.
+pub fn word(number: u32) -> [u8; 4]
+    ensures bytes { result ≡ to_be_bytes w32 number }
+    ensures fits { number < 2 ^ 32 }
+{
+    number.to_be_bytes()
+}
+
+/// The bytes of a long number, which it fits.
+pub fn long_word(number: u64) -> [u8; 8]
+    ensures bytes { result ≡ to_be_bytes w64 number }
+    ensures fits { number < 2 ^ 64 }
+{
+    number.to_be_bytes()
 }
 
 /// The bytes in place.

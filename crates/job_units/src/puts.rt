@@ -2,6 +2,7 @@
 
 ghost use Rattle.std.specs.Prelude.{◌≡◌, ◌≤◌, ◌<◌, ℕ, length, IfOk};
 ghost use Rattle.adlb_unit.specs.Targets.{Aims};
+ghost use Rattle.job_units.specs.Forms.{IsUnit};
 ghost use Rattle.job_units.specs.Puts.{call_of, put_of};
 
 use crate::units::{ANSWER, ANSWERS, BOARD, JOB, Made, SOLUTION};
@@ -25,11 +26,13 @@ pub struct Putting {
 }
 
 impl Made {
-    /// How the unit is put (`put_of`). The target is any rank or rank 0. Its only error is `NoMemory`.
+    /// How the unit is put (`put_of`). The target is any rank or rank 0, and the unit is read back from its body (`form`).
+    /// Its only error is `NoMemory`.
     pub fn putting(&self, alloc: Global) -> Result<Putting, NoMemory>
         ensures put { IfOk result (λ p. call_of p ≡ put_of self.now) }
         ensures few { IfOk result (λ p. length p.body ≤ 268) }
         ensures target { (ranks : ℕ) → 0 < ranks → IfOk result (λ p. Aims p.target ranks) }
+        ensures form { IsUnit self.now }
     {
         match self {
             Made::Board(board) => {

@@ -7,7 +7,7 @@ ghost use Rattle.job_units.specs.Reading.{solution_of_body};
 ghost use Rattle.job_units.specs.declared.solutions.Solution.{Solution};
 
 use crate::grids::grid_of;
-use crate::pieces::{array_of, joined};
+use crate::pieces::{array_of, joined, word};
 use adlb_unit::{NoMemory, Payload};
 use std::alloc::Global;
 use sudoku_rules::Grid;
@@ -27,13 +27,14 @@ impl Solution {
     #[tactic(auto, unfolding(crate::specs::Bodies::solution_body))]
     pub fn body(&self, alloc: Global) -> Result<Payload, NoMemory>
         ensures body { IfOk result (λ p. p ≡ solution_body self.now) }
+        ensures form { IsSolution self.now }
         ensures long { IfOk result (λ p. length p ≡ 4 + length self.now.grid) }
         ensures few { IfOk result (λ p. length p ≤ 260) }
     {
         joined(
             alloc,
             b"".as_slice(),
-            &self.puzzle.to_be_bytes(),
+            &word(self.puzzle),
             self.grid.text().as_slice(),
         )
     }

@@ -1,7 +1,9 @@
-pub mod Answered
-pub mod Bodies
-pub mod Calling
-pub mod Steps
-pub mod Tallies
+pub mod Counting
 pub mod Transcripts
+pub mod Calling
+pub mod Adding
+pub mod Tallies
+pub mod Steps
 pub mod UnderWay
+pub mod Inputs
+pub mod Receiving

@@ -1,45 +1,59 @@
 -- The books of a rank that works: which call it makes next, and what the answer leaves.
-use Rattle.std.specs.Prelude.{◌≡◌, ℕ, Bool, true, false, List, [], ◌∷◌, ◌++◌, Option, Some, None}
-use Rattle.adlb_unit.specs.declared.notes.End.{End}
+use Rattle.std.specs.Prelude.{◌≡◌, ℕ, Bool, true, false, List, [], ◌∷◌, ◌++◌, map, Option, Some, None}
+use Rattle.std.specs.List.{flat_map}
+use Rattle.adlb_unit.specs.declared.notes.End as told_end
 use Rattle.adlb_unit.specs.declared.notes.UnitNote.{UnitNote}
 use Rattle.bag_ledger.specs.declared.entries.Answer.{Answer}
 use Rattle.bag_ledger.specs.declared.entries.Answer.TheVariants.{Fine, Rejected, Ended, Granted, Body}
 use Rattle.bag_ledger.specs.declared.entries.Call.{Call}
-use Rattle.bag_ledger.specs.declared.entries.Call.TheVariants.{Reserve, Fetch}
+use Rattle.bag_ledger.specs.declared.entries.Call.TheVariants.{Reserve, Fetch, BeginBatch, EndBatch}
 use Rattle.bag_ledger.specs.declared.entries.Said.{Said}
-use Rattle.sudoku_law.specs.Grid.{Cells}
-use Rattle.puzzle_app.specs.declared.units.Board.{Board}
-use Rattle.puzzle_app.specs.declared.units.Made.{Made}
-use Rattle.puzzle_app.specs.declared.units.Made.TheVariants as made
-use Rattle.puzzle_app.specs.Made.{fetched_unit, made_by, put_of}
+use Rattle.job_units.specs.declared.jobs.Job.{Job}
+use Rattle.job_units.specs.declared.units.Made.{Made}
+use Rattle.job_units.specs.Forms.{IsUnit}
+use Rattle.job_units.specs.Puts.{put_of}
+use Rattle.job_units.specs.Reading.{common_bytes, fetched as unit_fetched}
+use Rattle.puzzle_app.specs.Arrivals.{Arrival, arrival, bytes_on, makes}
+use Rattle.puzzle_app.specs.Tasks.{Task, Put, Begin, End, as_units, put_all}
 
--- the units that were made and are still to be put, in order; the unit that was granted and is to be fetched; the boards that
--- were worked, in order; the solutions that stay with the rank, by puzzle; and whether an end was told
+-- what the rank is still to do, in order; the common bytes of the batch that is going on; the unit that was granted and is to be
+-- fetched; the units that came to the rank, in order; and whether an end was told
 pub record Books : Type 0 where
-  pub waiting : List Made
+  pub tasks : List Task
+  pub on : Option (List ℕ)
   pub held : Option UnitNote
-  pub worked : List Board
-  pub kept : List (ℕ × Cells)
+  pub came : List Arrival
   pub ended : Bool
 
-abbrev pub going : List Made → List Board → List (ℕ × Cells) → Books
-going waiting worked kept = record { waiting = waiting; held = None; worked = worked; kept = kept; ended = false }
+abbrev pub going : List Task → Option (List ℕ) → List Arrival → Books
+going tasks on came = record { tasks = tasks; on = on; held = None; came = came; ended = false }
 
-abbrev pub holding : UnitNote → List Board → List (ℕ × Cells) → Books
-holding note worked kept = record { waiting = []; held = Some note; worked = worked; kept = kept; ended = false }
+abbrev pub holding : UnitNote → List Arrival → Books
+holding note came = record { tasks = []; on = None; held = Some note; came = came; ended = false }
 
-abbrev pub shut : List Made → List Board → List (ℕ × Cells) → Books
-shut waiting worked kept = record { waiting = waiting; held = None; worked = worked; kept = kept; ended = true }
+abbrev pub shut : List Task → Option (List ℕ) → List Arrival → Books
+shut tasks on came = record { tasks = tasks; on = on; held = None; came = came; ended = true }
 
--- a unit comes to this rank: a board is worked, and what it makes is put before all else; a solution stays
-abbrev pub received : ℕ → Made → List Made → List Board → List (ℕ × Cells) → Books
-received grain (made.Board b) waiting worked kept = going (made_by grain b ++ waiting) (worked ++ b ∷ []) kept
-received grain (made.Solution s) waiting worked kept = going waiting worked (kept ++ (s.puzzle, s.grid) ∷ [])
+-- a unit comes to the rank: what its work makes is put before all else
+abbrev pub received : ℕ → Arrival → List Task → Option (List ℕ) → List Arrival → Books
+received grain a tasks on came = going (put_all (makes grain a) ++ tasks) on (came ++ a ∷ [])
 
 -- what a fetch brings, if it has the form of a unit
-abbrev pub brought : ℕ → Option Made → List Board → List (ℕ × Cells) → Books
-brought grain None worked kept = going [] worked kept
-brought grain (Some unit) worked kept = received grain unit [] worked kept
+abbrev pub brought : ℕ → List ℕ → Option Made → List Arrival → Books
+brought grain common None came = going [] None came
+brought grain common (Some unit) came = received grain (arrival common unit) [] None came
+
+-- a batch is going on: its jobs are put, and it is ended
+abbrev pub in_batch : List ℕ → List Job → List Task → List Arrival → Books
+in_batch common jobs tasks came = going (put_all (as_units jobs) ++ End ∷ tasks) (Some common) came
+
+-- no server takes the batch: its jobs come to the rank
+abbrev pub over_bytes : List ℕ → List Job → List Arrival
+over_bytes common jobs = map (arrival common) (as_units jobs)
+
+abbrev pub without_batch : ℕ → List ℕ → List Job → List Task → List Arrival → Books
+without_batch grain common jobs tasks came =
+    going (put_all (flat_map (makes grain) (over_bytes common jobs)) ++ tasks) None (came ++ over_bytes common jobs)
 
 abbrev pub said_of : Call → Answer → Said
 said_of call answer = record { call = call; answer = answer }
@@ -47,17 +61,42 @@ said_of call answer = record { call = call; answer = answer }
 -- the next call of a rank, with its answer
 pub data Moves (grain : ℕ) (b : Books) (s : Said) (next : Books) : Type 0 where
   -- it puts the first unit that waits, and a server takes it
-  accepted : (unit : Made) (rest : List Made) (worked : List Board) (kept : List (ℕ × Cells)) → b ≡ going (unit ∷ rest) worked kept → s ≡ said_of (put_of unit) Fine → next ≡ going rest worked kept → Moves grain b s next
+  accepted : (unit : Made) (rest : List Task) (on : Option (List ℕ)) (came : List Arrival) → IsUnit unit →
+      b ≡ going (Put unit ∷ rest) on came → s ≡ said_of (put_of unit) Fine → next ≡ going rest on came → Moves grain b s next
   -- no server takes it: the unit comes to this rank
-  rejected : (unit : Made) (rest : List Made) (worked : List Board) (kept : List (ℕ × Cells)) → b ≡ going (unit ∷ rest) worked kept → s ≡ said_of (put_of unit) Rejected → next ≡ received grain unit rest worked kept → Moves grain b s next
+  rejected : (unit : Made) (rest : List Task) (on : Option (List ℕ)) (came : List Arrival) →
+      b ≡ going (Put unit ∷ rest) on came → s ≡ said_of (put_of unit) Rejected →
+      next ≡ received grain (arrival (bytes_on on) unit) rest on came → Moves grain b s next
   -- it is told an end at the put
-  stopped : (unit : Made) (rest : List Made) (worked : List Board) (kept : List (ℕ × Cells)) (end : End) → b ≡ going (unit ∷ rest) worked kept → s ≡ said_of (put_of unit) (Ended end) → next ≡ shut rest worked kept → Moves grain b s next
+  stopped : (unit : Made) (rest : List Task) (on : Option (List ℕ)) (came : List Arrival) (end : told_end.End) →
+      b ≡ going (Put unit ∷ rest) on came → s ≡ said_of (put_of unit) (Ended end) → next ≡ shut rest on came → Moves grain b s next
+  -- it begins a batch, and a server keeps the common bytes
+  begun : (common : List ℕ) (jobs : List Job) (rest : List Task) (came : List Arrival) →
+      b ≡ going (Begin common jobs ∷ rest) None came → s ≡ said_of (BeginBatch common) Fine → next ≡ in_batch common jobs rest came →
+      Moves grain b s next
+  -- no server keeps them
+  refused : (common : List ℕ) (jobs : List Job) (rest : List Task) (came : List Arrival) →
+      b ≡ going (Begin common jobs ∷ rest) None came → s ≡ said_of (BeginBatch common) Rejected →
+      next ≡ without_batch grain common jobs rest came → Moves grain b s next
+  -- it is told an end there: its jobs are left
+  stopped_before : (common : List ℕ) (jobs : List Job) (rest : List Task) (came : List Arrival) (end : told_end.End) →
+      b ≡ going (Begin common jobs ∷ rest) None came → s ≡ said_of (BeginBatch common) (Ended end) →
+      next ≡ shut (put_all (as_units jobs) ++ rest) None came → Moves grain b s next
+  -- it ends the batch, each job of which was put; or behind an end
+  closed : (common : List ℕ) (rest : List Task) (came : List Arrival) →
+      b ≡ going (End ∷ rest) (Some common) came → s ≡ said_of EndBatch Fine → next ≡ going rest None came → Moves grain b s next
+  closed_behind : (common : List ℕ) (rest : List Task) (came : List Arrival) →
+      b ≡ shut rest (Some common) came → s ≡ said_of EndBatch Fine → next ≡ shut rest None came → Moves grain b s next
   -- nothing waits: it reserves a unit of any type, and one is granted
-  granted : (worked : List Board) (kept : List (ℕ × Cells)) (note : UnitNote) → b ≡ going [] worked kept → s ≡ said_of (Reserve None) (Granted note) → next ≡ holding note worked kept → Moves grain b s next
+  granted : (came : List Arrival) (note : UnitNote) →
+      b ≡ going [] None came → s ≡ said_of (Reserve None) (Granted note) → next ≡ holding note came → Moves grain b s next
   -- or an end is told
-  told : (worked : List Board) (kept : List (ℕ × Cells)) (end : End) → b ≡ going [] worked kept → s ≡ said_of (Reserve None) (Ended end) → next ≡ shut [] worked kept → Moves grain b s next
+  told : (came : List Arrival) (end : told_end.End) →
+      b ≡ going [] None came → s ≡ said_of (Reserve None) (Ended end) → next ≡ shut [] None came → Moves grain b s next
   -- it fetches the unit that was granted
-  fetched : (worked : List Board) (kept : List (ℕ × Cells)) (note : UnitNote) (bytes : List ℕ) → b ≡ holding note worked kept → s ≡ said_of (Fetch note.id) (Body bytes) → next ≡ brought grain (fetched_unit note bytes) worked kept → Moves grain b s next
+  fetched : (came : List Arrival) (note : UnitNote) (bytes : List ℕ) →
+      b ≡ holding note came → s ≡ said_of (Fetch note.id) (Body bytes) →
+      next ≡ brought grain (common_bytes note.length bytes) (unit_fetched note bytes) came → Moves grain b s next
 
 -- the calls lead from these books to those
 abbrev pub Goes : ℕ → Books → List Said → Books → Type 0

@@ -1,5 +1,5 @@
 -- What the calls of a rank add to its transcript.
-use Rattle.std.specs.Prelude.{◌≡◌, ◌⊎◌, List, [], ◌∷◌, ◌++◌, length, Option, None}
+use Rattle.std.specs.Prelude.{◌≡◌, ◌⊎◌, Bool, true, false, List, [], ◌∷◌, ◌++◌, length, Option, None}
 use Rattle.adlb_unit.specs.Totals.{total_of}
 use Rattle.adlb_unit.specs.declared.notes.UnitNote.{UnitNote}
 use Rattle.bag_ledger.specs.declared.entries.Answer.{Answer}
@@ -14,11 +14,15 @@ use Rattle.puzzle_app.specs.declared.calls.Reply.TheVariants as replies
 use Rattle.puzzle_app.specs.declared.calls.Taken.{Taken}
 use Rattle.puzzle_app.specs.declared.calls.Taken.TheVariants as takes
 
--- the answer of a put
+-- the answer of a put, and of the beginning of a batch
 abbrev pub answer_of : Reply → Answer
 answer_of replies.Accepted = answers.Fine
 answer_of replies.Rejected = answers.Rejected
 answer_of (replies.Ended end) = answers.Ended end
+
+abbrev pub is_accepted : Reply → Bool
+is_accepted replies.Accepted = true
+is_accepted _ = false
 
 -- a unit is granted to who reserves one of any type
 abbrev pub grant : UnitNote → Said
@@ -32,7 +36,8 @@ Takes before after (takes.Ended end) = after ≡ before ++ said_of (Reserve None
 -- the reservation failed, or a unit was granted and its fetch failed; perhaps what failed was begun
 abbrev pub Fails : List Said → List Said → Option Call → Type 0
 Fails before after begun =
-    ((after ≡ before) × Pends begun (Reserve None)) ⊎ ((note : UnitNote) × (after ≡ before ++ grant note ∷ []) × Pends begun (Fetch note.id))
+    ((after ≡ before) × Pends begun (Reserve None)) ⊎
+    ((note : UnitNote) × (after ≡ before ++ grant note ∷ []) × Pends begun (Fetch note.id))
 
 -- a fetch gives as many bytes as the note says
 abbrev pub IsWhole : Taken → Type 0

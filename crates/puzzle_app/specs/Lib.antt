@@ -1,9 +1,8 @@
-pub mod Answered
-pub mod Bodies
+pub mod Tasks
+pub mod Arrivals
 pub mod Books
 pub mod Calls
 pub mod Desk
 pub mod Follows
-pub mod Made
 pub mod Transcripts
 pub mod Working

@@ -1,16 +1,17 @@
 -- What is read off the calls of a rank.
-use Rattle.std.specs.Prelude.{ℕ, ◌==◌, Bool, true, false, List, [], ◌∷◌, ◌++◌, Option, Some, None, map}
+use Rattle.std.specs.Prelude.{◌==◌, ◌||◌, Bool, true, false, List, [], ◌∷◌, ◌++◌, map, Option, Some, None}
 use Rattle.adlb_unit.specs.declared.notes.UnitNote.{UnitNote}
 use Rattle.bag_ledger.specs.declared.entries.Answer.{Answer}
 use Rattle.bag_ledger.specs.declared.entries.Answer.TheVariants as answers
 use Rattle.bag_ledger.specs.declared.entries.Call.{Call}
 use Rattle.bag_ledger.specs.declared.entries.Call.TheVariants as calls_to
 use Rattle.bag_ledger.specs.declared.entries.Said.{Said}
-use Rattle.sudoku_law.specs.Grid.{Cells}
-use Rattle.puzzle_app.specs.Made.{fetched_unit, put_of, solution_at}
-use Rattle.puzzle_app.specs.declared.units.Board.{Board}
-use Rattle.puzzle_app.specs.declared.units.Made.{Made}
-use Rattle.puzzle_app.specs.declared.units.Made.TheVariants as made
+use Rattle.job_units.specs.declared.jobs.Job.{Job}
+use Rattle.job_units.specs.declared.units.Made.{Made}
+use Rattle.job_units.specs.Puts.{put_of}
+use Rattle.job_units.specs.Reading.{fetched}
+use Rattle.puzzle_app.specs.Arrivals.{Arrival}
+use Rattle.puzzle_app.specs.Tasks.{Task, Put, Begin, End, as_units}
 
 abbrev pub put_call : Call → List Call
 put_call (calls_to.Put kind prio target answer body) = calls_to.Put kind prio target answer body ∷ []
@@ -26,42 +27,62 @@ abbrev pub note_of : Answer → Option UnitNote
 note_of (answers.Granted note) = Some note
 note_of _ = None
 
--- the call that puts a fetched unit, if it has the form of one
-abbrev pub call_of : Option Made → List Call
-call_of None = []
-call_of (Some unit) = put_of unit ∷ []
+-- units as the calls that put them
+abbrev pub calls_of : List Made → List Call
+calls_of units = map put_of units
 
--- what comes to the rank with a call, as the call that puts it: a unit that no server takes, or one that is fetched, of which
--- the note was told by the call before
-abbrev pub comes : Option UnitNote → Call → Answer → List Call
-comes held (calls_to.Put kind prio target answer body) answers.Rejected = calls_to.Put kind prio target answer body ∷ []
-comes (Some note) (calls_to.Fetch id) (answers.Body bytes) = call_of (fetched_unit note bytes)
-comes held call answer = []
+abbrev pub came_calls : List Arrival → List Call
+came_calls came = map (λ (a : Arrival). put_of a.unit) came
+
+-- the jobs of the batches among tasks, batch by batch
+unfoldable pub batches_in : List Task → List (List Job)
+batches_in [] = []
+batches_in (Put unit ∷ tasks) = batches_in tasks
+batches_in (Begin common jobs ∷ tasks) = jobs ∷ batches_in tasks
+batches_in (End ∷ tasks) = batches_in tasks
+
+-- the batches that are still to be begun after a call
+abbrev pub batches_after : Call → List (List Job) → List (List Job)
+batches_after (calls_to.BeginBatch common) (jobs ∷ batches) = batches
+batches_after call batches = batches
+
+-- the jobs of a batch that no server took, where `batches` were still to be begun
+abbrev pub refused : List (List Job) → Call → Answer → List Made
+refused (jobs ∷ batches) (calls_to.BeginBatch common) answers.Rejected = as_units jobs
+refused batches call answer = []
+
+unfoldable pub all_refused : List (List Job) → List Said → List Made
+all_refused batches [] = []
+all_refused batches (s ∷ said) = refused batches s.call s.answer ++ all_refused (batches_after s.call batches) said
+
+-- the unit of a fetch, if it has the form of one
+abbrev pub units_in : Option Made → List Made
+units_in None = []
+units_in (Some unit) = unit ∷ []
+
+-- what comes to the rank with a call, as the calls that put it: a unit that no server takes; one that is fetched, of which the note was
+-- told by the call before; and the jobs of a batch that no server takes
+abbrev pub comes : Option UnitNote → List (List Job) → Call → Answer → List Call
+comes held batches (calls_to.Put kind prio target answer body) answers.Rejected = calls_to.Put kind prio target answer body ∷ []
+comes (Some note) batches (calls_to.Fetch id) (answers.Body bytes) = calls_of (units_in (fetched note bytes))
+comes held batches call answer = calls_of (refused batches call answer)
 
 -- all that comes to the rank, in order
-unfoldable pub all_come : Option UnitNote → List Said → List Call
-all_come held [] = []
-all_come held (s ∷ said) = comes held s.call s.answer ++ all_come (note_of s.answer) said
+unfoldable pub all_come : Option UnitNote → List (List Job) → List Said → List Call
+all_come held batches [] = []
+all_come held batches (s ∷ said) = comes held batches s.call s.answer ++ all_come (note_of s.answer) (batches_after s.call batches) said
 
--- the call puts a board, or a solution
-abbrev pub puts_board : Call → Bool
-puts_board (calls_to.Put kind prio target answer body) = kind.0 == 0
-puts_board _ = false
-
-abbrev pub puts_solution : Call → Bool
-puts_solution (calls_to.Put kind prio target answer body) = kind.0 == 1
-puts_solution _ = false
-
--- the boards and the solutions as the calls that put them
-abbrev pub board_calls : List Board → List Call
-board_calls worked = map (λ b. put_of (made.Board b)) worked
-
-abbrev pub solution_calls : List (ℕ × Cells) → List Call
-solution_calls kept = map (λ s. put_of (solution_at s.0 s.1)) kept
-
--- a rank puts, reserves and fetches, and makes no other call
+-- a rank puts, reserves and fetches, begins and ends batches, and makes no other call
 abbrev pub is_own : Call → Bool
 is_own (calls_to.Put kind prio target answer body) = true
 is_own (calls_to.Reserve types) = true
 is_own (calls_to.Fetch id) = true
+is_own (calls_to.BeginBatch common) = true
+is_own calls_to.EndBatch = true
 is_own _ = false
+
+-- while a batch goes on, a rank puts jobs and answers, and ends the batch
+abbrev pub is_within : Call → Bool
+is_within (calls_to.Put kind prio target answer body) = (kind.0 == 2) || (kind.0 == 3)
+is_within calls_to.EndBatch = true
+is_within _ = false

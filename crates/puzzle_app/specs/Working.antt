@@ -1,36 +1,78 @@
 -- A rank while it works: its calls so far and its desk agree.
-use Rattle.std.specs.Prelude.{◌≡◌, ℕ, ◌+◌, ◌*◌, ◌^◌, ◌≤◌, List, [], length, count_by}
+use Rattle.std.specs.Prelude.{◌≡◌, ℕ, ◌+◌, ◌*◌, ◌^◌, ◌≤◌, Bool, List, [], ◌∷◌, ◌++◌, length, count_by, Option, None, MatchBool}
 use Rattle.bag_ledger.specs.declared.entries.Said.{Said}
+use Rattle.job_text.specs.declared.items.Item.{Item}
+use Rattle.job_text.specs.declared.jobs.Job.{Job}
+use Rattle.job_text.specs.declared.jobs.Job.TheVariants.{Puzzle, Batch}
+use Rattle.job_units.specs.Puts.{is_kind}
+use Rattle.job_units.specs.Works.{child_of}
+use Rattle.puzzle_app.specs.Arrivals.{Arrival, answers_in, bytes_on, solutions_in}
 use Rattle.puzzle_app.specs.Books.{Goes, going, shut}
-use Rattle.puzzle_app.specs.Follows.{AreOvers, all_made, roots_of}
-use Rattle.puzzle_app.specs.Made.{is_board, is_solution}
+use Rattle.puzzle_app.specs.Follows.{AreOvers, all_made, start_of}
+use Rattle.puzzle_app.specs.Tasks.{Task, Put, Begin, as_units, jobs_from, put_all}
 use Rattle.puzzle_app.specs.declared.desk.Desk.{Desk}
 use Rattle.puzzle_app.specs.declared.program.PuzzleProgram.{PuzzleProgram}
-use Rattle.puzzle_app.specs.declared.units.Board.{Board}
-use Rattle.puzzle_app.specs.declared.units.Made.{Made}
+use Rattle.puzzle_app.specs.declared.program.Place.{Place}
 
--- what was counted where these boards were worked
-pub record IsTally (p : PuzzleProgram) (worked : List Board) (overs : List ℕ) (boards found : ℕ) : Type 0 where
-  pub overs_are : AreOvers p.settings.grain worked overs
-  pub boards_are : boards ≡ count_by is_board (all_made p worked)
-  pub found_are : found ≡ count_by is_solution (all_made p worked)
-  pub few_boards : boards ≤ 2 ^ 64 * (length worked + 1)
-  pub few_found : found ≤ 2 ^ 64 * (length worked + 1)
+-- the items of a batch as jobs that are put
+abbrev pub job_tasks : ℕ → List Item → List Task
+job_tasks batch items = put_all (as_units (jobs_from batch 1 items))
 
--- the calls lead to what lies on the desk, and nothing is to be fetched
-pub record IsGoing (p : PuzzleProgram) (said : List Said) (d : Desk) : Type 0 where
-  pub worked : List Board
-  pub goes : Goes p.settings.grain (going (roots_of p) [] []) said (going d.waiting.items worked d.kept.items)
-  pub tally : IsTally p worked d.overs.items d.boards d.found
+-- the task of a job that is reached here, and where the next job is reached
+abbrev pub task_at : ℕ → Place → Job → Task
+task_at budget at (Puzzle g) = Put (child_of at.puzzle (budget, g))
+task_at budget at (Batch common items) = Begin common (jobs_from at.batch 1 items)
 
--- the same, and nothing waits
-pub record HasPut (p : PuzzleProgram) (said : List Said) (d : Desk) : Type 0 where
-  pub going : IsGoing p said d
+abbrev pub behind : Place → Job → Place
+behind at (Puzzle g) = record { puzzle = at.puzzle + 1; batch = at.batch }
+behind at (Batch common items) = record { puzzle = at.puzzle; batch = at.batch + 1 }
+
+-- a puzzle is one board
+abbrev pub board_count : Job → ℕ
+board_count (Puzzle g) = 1
+board_count (Batch common items) = 0
+
+-- what stays on the desk, and what was counted, when these units came in this number of calls
+pub record IsTally (p : PuzzleProgram) (came : List Arrival) (calls : ℕ) (d : Desk) : Type 0 where
+  pub kept : d.kept.items ≡ solutions_in came
+  pub answers : d.answers.items ≡ answers_in came
+  pub overs : AreOvers p.settings.grain came d.overs.items
+  pub boards : d.boards ≡ count_by (is_kind 0) (all_made p came)
+  pub found : d.found ≡ count_by (is_kind 1) (all_made p came)
+  pub jobs : d.jobs ≡ count_by (is_kind 2) (all_made p came)
+  pub answered : d.answered ≡ count_by (is_kind 3) (all_made p came)
+  pub few_boards : d.boards ≤ 2 ^ 64 * (calls + 1)
+  pub few_found : d.found ≤ 2 ^ 64 * (calls + 1)
+  pub few_jobs : d.jobs ≤ 2 ^ 64
+  pub few_answered : d.answered ≤ 2 ^ 64 * (calls + 1)
+
+-- the calls lead to what waits on the desk and then the rest of the tasks, and nothing is to be fetched
+pub record IsGoing (p : PuzzleProgram) (said : List Said) (d : Desk) (rest : List Task) (on : Option (List ℕ)) : Type 0 where
+  pub came : List Arrival
+  pub goes : Goes p.settings.grain (start_of p) said (going (put_all d.waiting.items ++ rest) on came)
+  pub tally : IsTally p came (length said) d
+
+-- as well, and nothing waits
+pub record HasPut (p : PuzzleProgram) (said : List Said) (d : Desk) (rest : List Task) (on : Option (List ℕ)) : Type 0 where
+  pub going : IsGoing p said d rest on
   pub none : d.waiting.items ≡ []
 
 -- an end was told
-pub record IsStopped (p : PuzzleProgram) (said : List Said) (d : Desk) : Type 0 where
-  pub left : List Made
-  pub worked : List Board
-  pub goes : Goes p.settings.grain (going (roots_of p) [] []) said (shut left worked d.kept.items)
-  pub tally : IsTally p worked d.overs.items d.boards d.found
+pub record IsStopped (p : PuzzleProgram) (said : List Said) (d : Desk) (on : Option (List ℕ)) : Type 0 where
+  pub left : List Task
+  pub came : List Arrival
+  pub goes : Goes p.settings.grain (start_of p) said (shut left on came)
+  pub tally : IsTally p came (length said) d
+
+-- all before the rest was done, or an end was told
+abbrev pub Passes : PuzzleProgram → List Said → Desk → List Task → Option (List ℕ) → Bool → Type 0
+Passes p said d rest on all = MatchBool all (HasPut p said d rest on) (IsStopped p said d on)
+
+-- these tasks are the next, in a batch with these common bytes, if in one
+abbrev pub CanDo : PuzzleProgram → List Said → Desk → List ℕ → List Task → Type 0
+CanDo p said d common first =
+    (rest : List Task) × (on : Option (List ℕ)) × (bytes_on on ≡ common) × IsGoing p said d (first ++ rest) on
+
+-- this task is the next, and no batch goes on
+abbrev pub CanDoNext : PuzzleProgram → List Said → Desk → Task → Type 0
+CanDoNext p said d task = (rest : List Task) × IsGoing p said d (task ∷ rest) None

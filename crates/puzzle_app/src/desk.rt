@@ -2,86 +2,134 @@
 
 ghost use Rattle.std.specs.Prelude.{◌≡◌, ◌==◌, ◌+◌, ◌<◌, ◌≤◌, ◌^◌, ◌++◌, ◌∷◌, [], length, map, OnOk, if◌then◌else◌};
 ghost use Rattle.std.specs.List.{list_any};
-ghost use Rattle.puzzle_app.specs.Desk.{Brings, Receives, Works, noted};
 ghost use Rattle.adlb_unit.specs.Totals.{total_of};
-ghost use Rattle.puzzle_app.specs.Made.{child_of, fetched_unit, made_by, solution_at};
+ghost use Rattle.job_units.specs.Reading.{common_bytes, fetched};
+ghost use Rattle.job_units.specs.Works.{child_of, solution_at};
+ghost use Rattle.puzzle_app.specs.Arrivals.{arrival};
+ghost use Rattle.puzzle_app.specs.Desk.{Answers, Brings, HasRoom, Receives, Works, answers_to, noted};
+ghost use Rattle.puzzle_app.specs.Tasks.{jobs_from};
 
-use crate::units::{Board, Made, Solution, read_unit};
 use adlb_unit::{NoMemory, UnitNote, or_no_memory};
+use bag_ledger::Body;
 use job_report::Outcome;
+use job_text::Item;
+use job_units::{Board, Fetch, Job, Made, Solution, read_fetch};
 use std::alloc::Global;
 use std::collections::VecDeque;
 use sudoku_rules::{Expansion, Grid, expand};
 
-/// The units that wait to be put, in order, the solutions that stay with the rank, the puzzles that are over, and how
-/// many boards and solutions were made.
+/// The units that wait to be put, in order; the solutions and the answers that stay with the rank; the puzzles that are
+/// over; and how many boards, solutions, jobs and answers were made.
 #[derive(Drop)]
 pub struct Desk {
     pub waiting: VecDeque<Made>,
     pub kept: Vec<(u32, Grid)>,
+    pub answers: Vec<(u32, u32, u64)>,
     pub overs: Vec<u32>,
     pub boards: u128,
     pub found: u128,
+    pub jobs: u128,
+    pub answered: u128,
 }
 
 impl Desk {
-    /// An empty desk.
-    pub fn new(alloc: Global) -> Desk
+    /// A desk on which nothing waits or stays. So many boards and jobs are made of the jobs of an input.
+    pub fn new(alloc: Global, boards: u128, jobs: u128) -> Desk
         ensures waiting { result.waiting.items ≡ [] }
         ensures kept { result.kept.items ≡ [] }
+        ensures answers { result.answers.items ≡ [] }
         ensures overs { result.overs.items ≡ [] }
-        ensures boards { result.boards ≡ 0 }
+        ensures boards { result.boards ≡ boards }
         ensures found { result.found ≡ 0 }
+        ensures jobs { result.jobs ≡ jobs }
+        ensures answered { result.answered ≡ 0 }
     {
         Desk {
             waiting: VecDeque::new(alloc),
             kept: Vec::new(alloc),
+            answers: Vec::new(alloc),
             overs: Vec::new(alloc),
-            boards: 0,
+            boards,
             found: 0,
+            jobs,
+            answered: 0,
         }
     }
 
-    /// A unit comes to the rank (`Receives`): a board is worked, and a solution stays. Its only error is
-    /// `NoMemory`.
-    pub fn receive(&mut self, alloc: Global, grain: u64, made: &Made) -> Result<(), NoMemory>
-        requires boards { self.old.boards < 2 ^ 127 }
-        requires found { self.old.found < 2 ^ 127 }
-        ensures { OnOk result (Receives grain made.now self.old self.new) }
+    /// A unit comes to the rank (`Receives`): a board is worked, a job over these common bytes, and a solution or an
+    /// answer stays. Its only error is `NoMemory`.
+    pub fn receive(
+        &mut self,
+        alloc: Global,
+        grain: u64,
+        common: &[u8],
+        made: &Made,
+    ) -> Result<(), NoMemory>
+        requires room { HasRoom self.old }
+        requires common { length common.now < 2 ^ 56 }
+        ensures { OnOk result (Receives grain (arrival common.now made.now) self.old self.new) }
     {
         match made {
             Made::Board(board) => self.work(alloc, grain, board),
-            Made::Solution(solution) => match self.kept.push((solution.puzzle, solution.grid)) {
-                Ok(()) => Ok(()),
-                Err(_) => Err(NoMemory),
-            },
+            Made::Solution(solution) => {
+                or_no_memory(self.kept.push((solution.puzzle, solution.grid)))
+            }
+            Made::Job(job) => {
+                self.answered += 1;
+                let answer = Made::Answer(job.answer(common));
+                or_no_memory(self.waiting.push_front(answer))
+            }
+            Made::Answer(answer) => {
+                or_no_memory(
+                    self.answers
+                        .push((answer.batch, answer.number, answer.value)),
+                )
+            }
         }
     }
 
-    /// A unit of this note is fetched, with these bytes (`Brings`); one that has not the form of its type is
-    /// dropped. Its only error is `NoMemory`.
+    /// A fetch of a unit of this note comes (`Brings`). A unit that has not the form of its type is dropped. Its only
+    /// error is `NoMemory`.
     pub fn bring(
         &mut self,
         alloc: Global,
         grain: u64,
         note: &UnitNote,
-        bytes: &[u8],
+        body: &Body,
     ) -> Result<(), NoMemory>
-        requires boards { self.old.boards < 2 ^ 127 }
-        requires found { self.old.found < 2 ^ 127 }
-        requires bytes { length bytes.now ≡ total_of note.now }
-        ensures { OnOk result (Brings grain (fetched_unit note.now bytes.now) self.old self.new) }
+        requires room { HasRoom self.old }
+        requires total { length body.now ≡ total_of note.now }
+        ensures { OnOk result (Brings grain (common_bytes note.now.length body.now)
+            (fetched note.now body.now) self.old self.new) }
     {
-        match read_unit(note, bytes) {
-            Some(made) => self.receive(alloc, grain, &made),
-            None => Ok(()),
+        let mut room = Vec::new(alloc);
+        match read_fetch(note, body, &mut room) {
+            Ok(
+                Fetch {
+                    common,
+                    unit: Some(made),
+                },
+            ) => self.receive(alloc, grain, common, &made),
+            Ok(_) => Ok(()),
+            Err(NoMemory) => Err(NoMemory),
         }
+    }
+
+    /// The items of a batch that no server takes come to the rank (`Answers`): their answers wait behind all else. Its
+    /// only error is `NoMemory`.
+    pub fn answer_all(&mut self, batch: u32, common: &[u8], items: &[Item]) -> Result<(), NoMemory>
+        requires room { HasRoom self.old }
+        requires common { length common.now < 2 ^ 56 }
+        requires few { length items.now ≤ 2 ^ 24 }
+        ensures { OnOk result (Answers batch common.now items.now self.old self.new) }
+    {
+        self.answered += items.len() as u128;
+        put_answers_last(&mut self.waiting, batch, common, items)
     }
 
     // Works a board: what it makes waits before all else.
     fn work(&mut self, alloc: Global, grain: u64, board: &Board) -> Result<(), NoMemory>
-        requires boards { self.old.boards < 2 ^ 127 }
-        requires found { self.old.found < 2 ^ 127 }
+        requires { HasRoom self.old }
         ensures { OnOk result (Works grain board.now self.old self.new) }
     {
         let met = expand(alloc, board.budget, &board.grid, grain)?;
@@ -98,20 +146,18 @@ impl Desk {
         Ok(())
     }
 
-    /// What the rank has at its end, with these answers: of each item one job and one answer is counted.
-    pub fn outcome(self, answers: Vec<(u32, u32, u64)>) -> Outcome
+    /// What the rank has at its end.
+    pub fn outcome(self) -> Outcome
         ensures solutions { result.solutions.items ≡ self.kept.items }
         ensures overs { result.overs.items ≡ self.overs.items }
-        ensures answers { result.answers.items ≡ answers.items }
-        ensures made { result.made ≡ self.boards ∷ self.found ∷ length answers.items ∷ length answers.items ∷ [] }
-        ensures few { length answers.items < 2 ^ 64 }
+        ensures answers { result.answers.items ≡ self.answers.items }
+        ensures made { result.made ≡ self.boards ∷ self.found ∷ self.jobs ∷ self.answered ∷ [] }
     {
-        let items = answers.len() as u128;
         Outcome {
             solutions: self.kept,
             overs: self.overs,
-            answers,
-            made: [self.boards, self.found, items, items],
+            answers: self.answers,
+            made: [self.boards, self.found, self.jobs, self.answered],
         }
     }
 }
@@ -126,8 +172,8 @@ fn note_over(over: bool, numbers: &mut Vec<u32>, number: u32) -> Result<(), NoMe
     or_no_memory(numbers.push(number))
 }
 
-/// The number is among them.
-pub fn has(numbers: &[u32], number: u32) -> bool
+// The number is among them.
+fn has(numbers: &[u32], number: u32) -> bool
     ensures { result ≡ list_any (λ n. n == number) numbers.now }
 {
     numbers.iter().any(|n| *n == number)
@@ -143,9 +189,7 @@ fn put_solutions_first(
 {
     'grids: while let Some(grid) = grids.pop() {
         let made = Made::Solution(Solution { puzzle, grid });
-        if waiting.push_front(made).is_err() {
-            return Err(NoMemory);
-        }
+        or_no_memory(waiting.push_front(made))?;
     }
     Ok(())
 }
@@ -164,9 +208,32 @@ fn put_children_first(
             budget,
             grid,
         });
-        if waiting.push_front(made).is_err() {
-            return Err(NoMemory);
-        }
+        or_no_memory(waiting.push_front(made))?;
+    }
+    Ok(())
+}
+
+// The answers to the items of a batch wait behind all else, in order.
+fn put_answers_last(
+    waiting: &mut VecDeque<Made>,
+    batch: u32,
+    common: &[u8],
+    items: &[Item],
+) -> Result<(), NoMemory>
+    requires common { length common.now < 2 ^ 56 }
+    requires few { length items.now ≤ 2 ^ 24 }
+    ensures { OnOk result (waiting.new.items ≡ waiting.old.items ++
+        answers_to common.now (jobs_from batch 1 items.now)) }
+{
+    let mut number: u32 = 1;
+    for item in items {
+        let job = Job {
+            batch,
+            number,
+            item: *item,
+        };
+        or_no_memory(waiting.push_back(Made::Answer(job.answer(common))))?;
+        number += 1;
     }
     Ok(())
 }

@@ -1,12 +1,12 @@
 //! The puzzle program: how each rank works the jobs of an input over any link.
 //!
-//! A `PuzzleProgram` works the jobs of `job_text` by the calls of `rank_client`, and ends with an outcome of `job_report`.
-//! `specs/Bodies.antt` says how a unit is written, `specs/Books.antt` and `specs/Follows.antt` which calls a rank makes,
-//! and `specs/Answered.antt` what it answers of batches.
-//! `calls_add_up` and `calls_in_order` say what follows from the relation of a rank's calls for its transcript alone.
+//! A `PuzzleProgram` works the jobs of `job_text` by the calls of `rank_client`, with the units of `job_units`, and
+//! ends with an outcome of `job_report`. `specs/Tasks.antt` says what a rank is to do with the jobs of an input,
+//! `specs/Arrivals.antt` what the units that come to it make, `specs/Books.antt` which call it makes next, and
+//! `specs/Follows.antt` with what outcome it ends. `calls_add_up` and `calls_in_order` say what follows from the
+//! relation of a rank's calls for its transcript alone.
 #![tactic(auto)]
 
-mod answers;
 mod calls;
 mod desk;
 mod laws;
@@ -14,10 +14,7 @@ mod outcomes;
 mod program;
 #[cfg(test)]
 mod tests;
-mod texts;
-mod units;
 
 pub use laws::{calls_add_up, calls_in_order};
 pub use outcomes::Settings;
 pub use program::PuzzleProgram;
-pub use units::{Board, Made, Solution};

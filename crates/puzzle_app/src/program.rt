@@ -1,37 +1,61 @@
 //! The puzzle program of a rank.
 
-ghost use Rattle.std.specs.Prelude.{◌≡◌, ◌<◌, ◌≤◌, ◌^◌, ◌++◌, ◌+◌, [], ℕ, List, length, Some, None, Err, true, false, IfOk, OnOk, MatchBool};
-ghost use Rattle.adlb_unit.specs.Totals.{total_of};
+ghost use Rattle.std.specs.Prelude.{◌≡◌, ◌<◌, ◌≤◌, ◌^◌, ◌++◌, ◌∷◌, ◌+◌, [], ℕ, List, Option, length, Some, None, Err, true, false, IfOk, OnOk, MatchBool, All};
 ghost use Rattle.bag_ledger.specs.declared.entries.Said.{Said};
-ghost use Rattle.rank_client.specs.Calls.{has_finished, unanswered};
-ghost use Rattle.puzzle_app.specs.Answered.{answered};
-ghost use Rattle.puzzle_app.specs.Follows.{Follows, IsUnderWay, roots_of};
-ghost use Rattle.puzzle_app.specs.Working.{HasPut, IsGoing, IsStopped};
-ghost use Rattle.puzzle_app.specs.Desk.{Brings};
-ghost use Rattle.puzzle_app.specs.Made.{fetched_unit, roots_from};
-ghost use Rattle.job_report.specs.Jobs.{puzzles};
+ghost use Rattle.job_report.specs.Jobs.{all_items, item_count, puzzles};
+ghost use Rattle.job_text.specs.Jobs.{HasFewBytes};
 ghost use Rattle.job_text.specs.declared.jobs.Job.{Job};
+ghost use Rattle.rank_client.specs.Calls.{has_finished, unanswered};
+ghost use Rattle.puzzle_app.specs.Arrivals.{bytes_on};
+ghost use Rattle.puzzle_app.specs.Follows.{Follows, IsUnderWay, tasks_of};
+ghost use Rattle.puzzle_app.specs.Tasks.{Begin, End, Put, Task, jobs_from, put_all, tasks_from};
+ghost use Rattle.puzzle_app.specs.Working.{CanDo, CanDoNext, HasPut, IsGoing, IsStopped, Passes, behind, board_count, job_tasks, task_at};
 
-use crate::answers::answers_to;
-use crate::calls::{Reply, Taken, put, take};
+use crate::calls::{Reply, Taken, begin, put, take};
 use crate::desk::Desk;
 use crate::outcomes::Settings;
-use crate::units::{Board, Made};
-use adlb_unit::{NoMemory, Rank, Trouble, UnitNote};
-use bag_ledger::Body;
+use adlb_unit::{Payload, Rank, Trouble};
 use job_report::Outcome;
-use job_text::{Job, Jobs};
+use job_text::{Item, Job, Jobs};
+use job_units::{Board, Job as JobUnit, Made};
 use rank_client::{Adlb, RankProgram};
 use std::alloc::Global;
-use std::collections::VecDeque;
 
-/// The program of a rank. It puts a board of each puzzle, if it has the jobs, and then takes units until it is told an
-/// end: it works boards, and keeps the solutions that come to it. Then it answers the items of its batches.
+/// The program of a rank. If it has the jobs of an input, it goes through them in order: it puts a board of each
+/// puzzle, and the items of each batch as jobs of a batch, which it answers itself if no server keeps the common bytes.
+/// Then it takes units until it is told an end: it works boards and jobs, and keeps the solutions and answers that come
+/// to it.
 #[derive(Drop)]
 pub struct PuzzleProgram {
     alloc: Global,
     settings: Settings,
     jobs: Option<Jobs>,
+}
+
+/// The numbers of the next puzzle and of the next batch.
+#[derive(Clone, Copy, Debug)]
+pub struct Place {
+    pub puzzle: u32,
+    pub batch: u32,
+}
+
+impl Place {
+    // The place behind a job.
+    fn behind(self, job: &Job) -> Place
+        requires few { self.puzzle + self.batch ≤ 2 ^ 25 }
+        ensures { result ≡ behind self job.now }
+    {
+        match job {
+            Job::Puzzle(_) => Place {
+                puzzle: self.puzzle + 1,
+                batch: self.batch,
+            },
+            Job::Batch { .. } => Place {
+                puzzle: self.puzzle,
+                batch: self.batch + 1,
+            },
+        }
+    }
 }
 
 impl PuzzleProgram {
@@ -47,52 +71,48 @@ impl PuzzleProgram {
         }
     }
 
-    // The desk at the start: a board of each puzzle waits.
-    fn begin(&self) -> Result<Desk, NoMemory>
-        ensures { IfOk result (IsGoing self.now []) }
+    // The desk at the start.
+    fn desk(&self) -> Desk
+        ensures none { result.waiting.items ≡ [] }
+        ensures going { IsGoing self.now [] result (tasks_of self.now) None }
     {
-        let mut desk = Desk::new(self.alloc);
         match &self.jobs {
-            None => Ok(desk),
+            None => Desk::new(self.alloc, 0, 0),
             Some(jobs) => {
-                desk.boards = place_roots(
-                    self.settings.budget,
-                    jobs.as_slice(),
-                    &mut desk.waiting,
-                )?;
-                Ok(desk)
+                let (boards, items) = count_made(jobs.as_slice());
+                Desk::new(self.alloc, boards, items)
             }
         }
     }
 
-    // The answers to the items of its batches.
-    fn answers(&self) -> Result<Vec<(u32, u32, u64)>, NoMemory>
-        ensures { IfOk result (λ answers. answers.items ≡ answered self.now.jobs) }
-    {
-        match &self.jobs {
-            None => Ok(Vec::new(self.alloc)),
-            Some(jobs) => answers_to(self.alloc, jobs),
-        }
-    }
-
-    // Puts all that waits. False: an end was told.
-    fn put_all<A: Adlb>(&self, link: &mut A, desk: &mut Desk) -> Result<bool, Trouble>
-        requires going { IsGoing self.now (A.transcript link.old) desk.old }
+    // Puts all that waits, over these common bytes of the batch that goes on. False: an end was told.
+    fn put_all<A: Adlb>(
+        &self,
+        link: &mut A,
+        desk: &mut Desk,
+        common: &[u8],
+    ) -> Result<bool, Trouble>
+        requires going { CanDo self.now (A.transcript link.old) desk.old common.now [] }
+        requires common { length common.now < 2 ^ 56 }
         requires ranks { 0 < (A.seat link.old).ranks }
         requires whole { A.failed link.old ≡ None }
-        ensures told { IfOk result (λ all. MatchBool all (HasPut self.now (A.transcript link.new) desk.new) (IsStopped self.now (A.transcript link.new) desk.new)) }
-        ensures so_far { IsUnderWay self.now (A.transcript link.new) (unanswered (A.failed link.new) (A.begun link.new)) }
+        ensures told { (rest : List Task) (on : Option (List ℕ)) → bytes_on on ≡ common.now →
+            IsGoing self.now (A.transcript link.old) desk.old rest on →
+            IfOk result (λ all. Passes self.now (A.transcript link.new) desk.new rest on all) }
+        ensures so_far { IsUnderWay self.now (A.transcript link.new)
+            (unanswered (A.failed link.new) (A.begun link.new)) }
         ensures whole { OnOk result (A.failed link.new ≡ None) }
         ensures more { length (A.transcript link.old) ≤ length (A.transcript link.new) }
         ensures seat { A.seat link.new ≡ A.seat link.old }
-        ensures batch { A.batch link.old ≡ false → A.batch link.new ≡ false }
-        ensures too_long { (stamp : ℕ) → result ≡ Err (Trouble.TooLong stamp) → A.failed link.new ≡ Some (Trouble.TooLong stamp) }
+        ensures batch { OnOk result (A.batch link.new ≡ A.batch link.old) }
+        ensures too_long { (stamp : ℕ) → result ≡ Err (Trouble.TooLong stamp) →
+            A.failed link.new ≡ Some (Trouble.TooLong stamp) }
     {
         'puts: while let Some(made) = desk.waiting.pop_front() {
             match put(self.alloc, link, &made)? {
                 Reply::Accepted => {}
                 Reply::Rejected => {
-                    let Ok(()) = desk.receive(self.alloc, self.settings.grain, &made) else {
+                    let Ok(()) = desk.receive(self.alloc, self.settings.grain, common, &made) else {
                         return Err(Trouble::Memory);
                     };
                 }
@@ -102,71 +122,341 @@ impl PuzzleProgram {
         Ok(true)
     }
 
-    // A unit was fetched.
-    fn bring(&self, desk: &mut Desk, note: &UnitNote, body: &Body) -> Result<(), NoMemory>
-        requires boards { desk.old.boards < 2 ^ 127 }
-        requires found { desk.old.found < 2 ^ 127 }
-        requires bytes { length body.now ≡ total_of note.now }
-        ensures { OnOk result (Brings self.now.settings.grain (fetched_unit note.now body.now) desk.old desk.new) }
-    {
-        let mut room = Vec::new(self.alloc);
-        let bytes = body.whole(&mut room)?;
-        desk.bring(self.alloc, self.settings.grain, note, bytes)
-    }
-
-    // Puts, takes and works until an end is told.
-    fn work<A: Adlb>(&self, link: &mut A) -> Result<Desk, Trouble>
+    // Puts this unit, and all that waits then. False: an end was told.
+    fn put_next<A: Adlb>(
+        &self,
+        link: &mut A,
+        desk: &mut Desk,
+        made: Made,
+        common: &[u8],
+    ) -> Result<bool, Trouble>
+        requires none { desk.old.waiting.items ≡ [] }
+        requires going { CanDo self.now (A.transcript link.old) desk.old common.now (Put made ∷ []) }
+        requires common { length common.now < 2 ^ 56 }
         requires ranks { 0 < (A.seat link.old).ranks }
         requires whole { A.failed link.old ≡ None }
-        requires empty { A.transcript link.old ≡ [] }
-        ensures stopped { IfOk result (IsStopped self.now (A.transcript link.new)) }
-        ensures so_far { IsUnderWay self.now (A.transcript link.new) (unanswered (A.failed link.new) (A.begun link.new)) }
+        ensures told { (rest : List Task) (on : Option (List ℕ)) → bytes_on on ≡ common.now →
+            IsGoing self.now (A.transcript link.old) desk.old (Put made ∷ rest) on →
+            IfOk result (λ all. Passes self.now (A.transcript link.new) desk.new rest on all) }
+        ensures so_far { IsUnderWay self.now (A.transcript link.new)
+            (unanswered (A.failed link.new) (A.begun link.new)) }
+        ensures whole { OnOk result (A.failed link.new ≡ None) }
         ensures seat { A.seat link.new ≡ A.seat link.old }
-        ensures batch { A.batch link.old ≡ false → A.batch link.new ≡ false }
-        ensures too_long { (stamp : ℕ) → result ≡ Err (Trouble.TooLong stamp) → A.failed link.new ≡ Some (Trouble.TooLong stamp) }
+        ensures batch { OnOk result (A.batch link.new ≡ A.batch link.old) }
+        ensures too_long { (stamp : ℕ) → result ≡ Err (Trouble.TooLong stamp) →
+            A.failed link.new ≡ Some (Trouble.TooLong stamp) }
     {
-        let Ok(mut desk) = self.begin() else {
-            return Err(Trouble::Memory);
-        };
-        'rounds: loop {
-            if !self.put_all(link, &mut desk)? {
-                return Ok(desk);
+        match desk.waiting.push_back(made) {
+            Ok(()) => self.put_all(link, desk, common),
+            Err(_) => Err(Trouble::Memory),
+        }
+    }
+
+    // Puts the items of a batch that goes on as jobs. False: an end was told.
+    fn put_jobs<A: Adlb>(
+        &self,
+        link: &mut A,
+        desk: &mut Desk,
+        batch: u32,
+        common: &[u8],
+        items: &[Item],
+    ) -> Result<bool, Trouble>
+        requires none { desk.old.waiting.items ≡ [] }
+        requires going { CanDo self.now (A.transcript link.old) desk.old common.now (job_tasks batch items.now) }
+        requires common { length common.now < 2 ^ 56 }
+        requires few { length items.now ≤ 2 ^ 24 }
+        requires ranks { 0 < (A.seat link.old).ranks }
+        requires whole { A.failed link.old ≡ None }
+        ensures told { (rest : List Task) (on : Option (List ℕ)) → bytes_on on ≡ common.now →
+            IsGoing self.now (A.transcript link.old) desk.old (job_tasks batch items.now ++ rest) on →
+            IfOk result (λ all. Passes self.now (A.transcript link.new) desk.new rest on all) }
+        ensures so_far { IsUnderWay self.now (A.transcript link.new)
+            (unanswered (A.failed link.new) (A.begun link.new)) }
+        ensures whole { OnOk result (A.failed link.new ≡ None) }
+        ensures seat { A.seat link.new ≡ A.seat link.old }
+        ensures batch { OnOk result (A.batch link.new ≡ A.batch link.old) }
+        ensures too_long { (stamp : ℕ) → result ≡ Err (Trouble.TooLong stamp) →
+            A.failed link.new ≡ Some (Trouble.TooLong stamp) }
+    {
+        let mut number: u32 = 1;
+        for item in items {
+            let job = Made::Job(JobUnit {
+                batch,
+                number,
+                item: *item,
+            });
+            if !self.put_next(link, desk, job, common)? {
+                return Ok(false);
             }
-            match take(link)? {
-                Taken::Unit(note, body) => {
-                    let Ok(()) = self.bring(&mut desk, &note, &body) else {
-                        return Err(Trouble::Memory);
-                    };
-                }
-                Taken::Ended(_) => return Ok(desk),
+            number += 1;
+        }
+        Ok(true)
+    }
+
+    // Puts the items of a batch that goes on as jobs, and ends it. False: an end was told.
+    fn put_kept<A: Adlb>(
+        &self,
+        link: &mut A,
+        desk: &mut Desk,
+        batch: u32,
+        common: &[u8],
+        items: &[Item],
+    ) -> Result<bool, Trouble>
+        requires none { desk.old.waiting.items ≡ [] }
+        requires going { (rest : List Task) ×
+            IsGoing self.now (A.transcript link.old) desk.old
+            (job_tasks batch items.now ++ End ∷ rest) (Some common.now) }
+        requires common { length common.now < 2 ^ 56 }
+        requires few { length items.now ≤ 2 ^ 24 }
+        requires ranks { 0 < (A.seat link.old).ranks }
+        requires whole { A.failed link.old ≡ None }
+        requires open { A.batch link.old ≡ true }
+        ensures told { (rest : List Task) →
+            IsGoing self.now (A.transcript link.old) desk.old
+            (job_tasks batch items.now ++ End ∷ rest) (Some common.now) →
+            IfOk result (λ all. Passes self.now (A.transcript link.new) desk.new rest None all) }
+        ensures so_far { IsUnderWay self.now (A.transcript link.new)
+            (unanswered (A.failed link.new) (A.begun link.new)) }
+        ensures whole { OnOk result (A.failed link.new ≡ None) }
+        ensures seat { A.seat link.new ≡ A.seat link.old }
+        ensures batch { OnOk result (A.batch link.new ≡ false) }
+        ensures too_long { (stamp : ℕ) → result ≡ Err (Trouble.TooLong stamp) →
+            A.failed link.new ≡ Some (Trouble.TooLong stamp) }
+    {
+        let all = self.put_jobs(link, desk, batch, common, items)?;
+        match link.end_batch() {
+            Ok(()) => Ok(all),
+            Err(trouble) => Err(trouble),
+        }
+    }
+
+    // Begins a batch and puts its items, or answers them if no server keeps the common bytes. False: an end was told.
+    fn put_batch<A: Adlb>(
+        &self,
+        link: &mut A,
+        desk: &mut Desk,
+        batch: u32,
+        common: &Payload,
+        items: &[Item],
+    ) -> Result<bool, Trouble>
+        requires none { desk.old.waiting.items ≡ [] }
+        requires going { CanDoNext self.now (A.transcript link.old) desk.old
+            (Begin common.now (jobs_from batch 1 items.now)) }
+        requires common { length common.now ≤ 2 ^ 20 }
+        requires few { length items.now ≤ 2 ^ 24 }
+        requires ranks { 0 < (A.seat link.old).ranks }
+        requires whole { A.failed link.old ≡ None }
+        requires closed { A.batch link.old ≡ false }
+        ensures told { (rest : List Task) →
+            IsGoing self.now (A.transcript link.old) desk.old
+            (Begin common.now (jobs_from batch 1 items.now) ∷ rest) None →
+            IfOk result (λ all. Passes self.now (A.transcript link.new) desk.new rest None all) }
+        ensures so_far { IsUnderWay self.now (A.transcript link.new)
+            (unanswered (A.failed link.new) (A.begun link.new)) }
+        ensures whole { OnOk result (A.failed link.new ≡ None) }
+        ensures seat { A.seat link.new ≡ A.seat link.old }
+        ensures batch { OnOk result (A.batch link.new ≡ false) }
+        ensures too_long { (stamp : ℕ) → result ≡ Err (Trouble.TooLong stamp) →
+            A.failed link.new ≡ Some (Trouble.TooLong stamp) }
+    {
+        match begin(self.alloc, link, common)? {
+            Reply::Accepted => self.put_kept(link, desk, batch, common.bytes(), items),
+            Reply::Rejected => {
+                let Ok(()) = desk.answer_all(batch, common.bytes(), items) else {
+                    return Err(Trouble::Memory);
+                };
+                self.put_all(link, desk, b"".as_slice())
+            }
+            Reply::Ended(_) => Ok(false),
+        }
+    }
+
+    // Does what a job of the input asks: its place is this one. False: an end was told.
+    fn put_job<A: Adlb>(
+        &self,
+        link: &mut A,
+        desk: &mut Desk,
+        job: &Job,
+        at: Place,
+    ) -> Result<bool, Trouble>
+        requires none { desk.old.waiting.items ≡ [] }
+        requires going { CanDoNext self.now (A.transcript link.old) desk.old
+            (task_at self.now.settings.budget at job.now) }
+        requires bytes { HasFewBytes job.now }
+        requires ranks { 0 < (A.seat link.old).ranks }
+        requires whole { A.failed link.old ≡ None }
+        requires closed { A.batch link.old ≡ false }
+        ensures told { (rest : List Task) →
+            IsGoing self.now (A.transcript link.old) desk.old
+            (task_at self.now.settings.budget at job.now ∷ rest) None →
+            IfOk result (λ all. Passes self.now (A.transcript link.new) desk.new rest None all) }
+        ensures so_far { IsUnderWay self.now (A.transcript link.new)
+            (unanswered (A.failed link.new) (A.begun link.new)) }
+        ensures whole { OnOk result (A.failed link.new ≡ None) }
+        ensures seat { A.seat link.new ≡ A.seat link.old }
+        ensures batch { OnOk result (A.batch link.new ≡ false) }
+        ensures too_long { (stamp : ℕ) → result ≡ Err (Trouble.TooLong stamp) →
+            A.failed link.new ≡ Some (Trouble.TooLong stamp) }
+    {
+        match job {
+            Job::Puzzle(grid) => {
+                let board = Made::Board(Board {
+                    puzzle: at.puzzle,
+                    budget: self.settings.budget,
+                    grid: *grid,
+                });
+                self.put_next(link, desk, board, b"".as_slice())
+            }
+            Job::Batch { common, items } => {
+                self.put_batch(link, desk, at.batch, common, items.as_slice())
             }
         }
     }
+
+    // Does what the jobs of the input ask, in order. False: an end was told.
+    fn put_input<A: Adlb>(
+        &self,
+        link: &mut A,
+        desk: &mut Desk,
+        jobs: &[Job],
+    ) -> Result<bool, Trouble>
+        requires none { desk.old.waiting.items ≡ [] }
+        requires going { IsGoing self.now (A.transcript link.old) desk.old
+            (tasks_from self.now.settings.budget 1 1 jobs.now) None }
+        requires bytes { All HasFewBytes jobs.now }
+        requires few { length jobs.now ≤ 2 ^ 24 }
+        requires ranks { 0 < (A.seat link.old).ranks }
+        requires whole { A.failed link.old ≡ None }
+        requires closed { A.batch link.old ≡ false }
+        ensures told { IfOk result (λ all. Passes self.now (A.transcript link.new) desk.new [] None all) }
+        ensures so_far { IsUnderWay self.now (A.transcript link.new)
+            (unanswered (A.failed link.new) (A.begun link.new)) }
+        ensures whole { OnOk result (A.failed link.new ≡ None) }
+        ensures seat { A.seat link.new ≡ A.seat link.old }
+        ensures batch { OnOk result (A.batch link.new ≡ false) }
+        ensures too_long { (stamp : ℕ) → result ≡ Err (Trouble.TooLong stamp) →
+            A.failed link.new ≡ Some (Trouble.TooLong stamp) }
+    {
+        let mut at = Place {
+            puzzle: 1,
+            batch: 1,
+        };
+        for job in jobs {
+            if !self.put_job(link, desk, job, at)? {
+                return Ok(false);
+            }
+            at = at.behind(job);
+        }
+        Ok(true)
+    }
+
+    // Takes units, works, and puts what was made, until an end is told.
+    fn take_all<A: Adlb>(&self, link: &mut A, desk: &mut Desk) -> Result<(), Trouble>
+        requires going { HasPut self.now (A.transcript link.old) desk.old [] None }
+        requires ranks { 0 < (A.seat link.old).ranks }
+        requires whole { A.failed link.old ≡ None }
+        ensures stopped { OnOk result (IsStopped self.now (A.transcript link.new) desk.new None) }
+        ensures so_far { IsUnderWay self.now (A.transcript link.new)
+            (unanswered (A.failed link.new) (A.begun link.new)) }
+        ensures seat { A.seat link.new ≡ A.seat link.old }
+        ensures batch { OnOk result (A.batch link.new ≡ A.batch link.old) }
+        ensures too_long { (stamp : ℕ) → result ≡ Err (Trouble.TooLong stamp) →
+            A.failed link.new ≡ Some (Trouble.TooLong stamp) }
+    {
+        'rounds: loop {
+            match take(link)? {
+                Taken::Unit(note, body) => {
+                    let Ok(()) = desk.bring(self.alloc, self.settings.grain, &note, &body) else {
+                        return Err(Trouble::Memory);
+                    };
+                    if !self.put_all(link, desk, b"".as_slice())? {
+                        return Ok(());
+                    }
+                }
+                Taken::Ended(_) => return Ok(()),
+            }
+        }
+    }
+
+    // Does what its jobs ask, if it has any. False: an end was told.
+    fn put_own<A: Adlb>(&self, link: &mut A, desk: &mut Desk) -> Result<bool, Trouble>
+        requires none { desk.old.waiting.items ≡ [] }
+        requires going { IsGoing self.now (A.transcript link.old) desk.old (tasks_of self.now) None }
+        requires ranks { 0 < (A.seat link.old).ranks }
+        requires whole { A.failed link.old ≡ None }
+        requires closed { A.batch link.old ≡ false }
+        ensures told { IfOk result (λ all. Passes self.now (A.transcript link.new) desk.new [] None all) }
+        ensures so_far { IsUnderWay self.now (A.transcript link.new)
+            (unanswered (A.failed link.new) (A.begun link.new)) }
+        ensures whole { OnOk result (A.failed link.new ≡ None) }
+        ensures seat { A.seat link.new ≡ A.seat link.old }
+        ensures batch { OnOk result (A.batch link.new ≡ false) }
+        ensures too_long { (stamp : ℕ) → result ≡ Err (Trouble.TooLong stamp) →
+            A.failed link.new ≡ Some (Trouble.TooLong stamp) }
+    {
+        match &self.jobs {
+            Some(jobs) => self.put_input(link, desk, jobs.as_slice()),
+            None => Ok(true),
+        }
+    }
+
+    // Does what its jobs ask, and takes units until an end is told.
+    fn work<A: Adlb>(&self, link: &mut A, desk: &mut Desk) -> Result<(), Trouble>
+        requires none { desk.old.waiting.items ≡ [] }
+        requires going { IsGoing self.now (A.transcript link.old) desk.old (tasks_of self.now) None }
+        requires ranks { 0 < (A.seat link.old).ranks }
+        requires whole { A.failed link.old ≡ None }
+        requires closed { A.batch link.old ≡ false }
+        ensures stopped { OnOk result (IsStopped self.now (A.transcript link.new) desk.new None) }
+        ensures so_far { IsUnderWay self.now (A.transcript link.new)
+            (unanswered (A.failed link.new) (A.begun link.new)) }
+        ensures seat { A.seat link.new ≡ A.seat link.old }
+        ensures batch { OnOk result (A.batch link.new ≡ false) }
+        ensures too_long { (stamp : ℕ) → result ≡ Err (Trouble.TooLong stamp) →
+            A.failed link.new ≡ Some (Trouble.TooLong stamp) }
+    {
+        if !self.put_own(link, desk)? {
+            return Ok(());
+        }
+        self.take_all(link, desk)
+    }
 }
 
-// A board of each puzzle waits, in order, numbered from 1. It gives their number.
-fn place_roots(budget: u64, jobs: &[Job], waiting: &mut VecDeque<Made>) -> Result<u128, NoMemory>
+// How many boards and jobs are made of the jobs of an input.
+fn count_made(jobs: &[Job]) -> (u128, u128)
     requires few { length jobs.now ≤ 2 ^ 24 }
-    ensures roots { IfOk result (λ n. waiting.new.items ≡ waiting.old.items ++ roots_from budget 1 (puzzles jobs.now)) }
-    ensures count { IfOk result (λ n. n ≡ length (puzzles jobs.now)) }
-    ensures few { IfOk result (λ n. n ≤ 2 ^ 24) }
+    ensures boards { result.0 ≡ length (puzzles jobs.now) }
+    ensures items { result.1 ≡ all_items jobs.now }
+    ensures few_boards { result.0 ≤ 2 ^ 24 }
+    ensures few_items { result.1 ≤ 2 ^ 48 }
 {
-    let mut next = 1;
+    let mut boards: u128 = 0;
+    let mut items: u128 = 0;
     for job in jobs {
-        let Job::Puzzle(grid) = job else {
-            continue;
-        };
-        let board = Board {
-            puzzle: next,
-            budget,
-            grid: *grid,
-        };
-        let Ok(()) = waiting.push_back(Made::Board(board)) else {
-            return Err(NoMemory);
-        };
-        next += 1;
+        boards += boards_in(job);
+        items += items_in(job);
     }
-    Ok((next - 1) as u128)
+    (boards, items)
+}
+
+fn boards_in(job: &Job) -> u128
+    ensures is { result ≡ board_count job.now }
+    ensures few { result ≤ 1 }
+{
+    match job {
+        Job::Puzzle(_) => 1,
+        Job::Batch { .. } => 0,
+    }
+}
+
+fn items_in(job: &Job) -> u128
+    ensures is { result ≡ item_count job.now }
+    ensures few { result ≤ 2 ^ 24 }
+{
+    match job {
+        Job::Puzzle(_) => 0,
+        Job::Batch { items, .. } => items.as_slice().len() as u128,
+    }
 }
 
 impl RankProgram for PuzzleProgram {
@@ -179,10 +469,8 @@ impl RankProgram for PuzzleProgram {
     ghost follows = { λ p rank said outcome. Follows p said outcome };
 
     fn run<A: Adlb>(&self, rank: Rank, link: &mut A) -> Result<Outcome, Trouble> {
-        let desk = self.work(link)?;
-        let Ok(answers) = self.answers() else {
-            return Err(Trouble::Memory);
-        };
-        Ok(desk.outcome(answers))
+        let mut desk = self.desk();
+        self.work(link, &mut desk)?;
+        Ok(desk.outcome())
     }
 }

@@ -1,18 +1,16 @@
-//! Bodies, and the program of one rank over a link that has no other.
+//! The program of one rank over a link that has no other.
 
 mod fake;
 
 use crate::outcomes::Settings;
 use crate::program::PuzzleProgram;
-use crate::units::{Board, Solution};
 use adlb_unit::Rank;
 use fake::Fake;
 use job_report::render;
 use job_text::read_jobs;
-use rank_client::RankProgram;
+use rank_client::{Adlb, RankProgram};
 use std::alloc::Global;
 use std::test::Fail;
-use sudoku_rules::parse_grid;
 
 /// The settings of a run without options.
 const SETTINGS: Settings = Settings {
@@ -36,74 +34,10 @@ const TWO: &str =
 const OTHER: &str =
     "534678912672195348198342567859763421426851793713924856961537284287419635345286179";
 
-// The numbers of the first bytes, and the rest as text.
-fn shown(alloc: Global, bytes: &[u8], head: usize) -> Result<String, Fail> {
-    if bytes.len() < head {
-        return Err("too short".into());
-    }
-    let (front, rest) = bytes.split_at(head);
-    let rest = str::from_utf8(rest).unwrap_or("?");
-    Ok(format!(in alloc; "{front:?} {rest}")?)
-}
+/// More calls than a run here has.
+const MANY: usize = 1 << 20;
 
-// How a board's body is read back, with its first byte and without it.
-fn board_read(body: &[u8], board: Board) -> (bool, bool) {
-    if body.is_empty() {
-        return (false, false);
-    }
-    (
-        Board::read(body) == Some(board),
-        Board::read(&body[1..]) == None,
-    )
-}
-
-// The body of a board, and how it is read back.
-fn board_body(alloc: Global, board: Board) -> Result<(String, (bool, bool)), Fail> {
-    let body = board.body(alloc)?;
-    let read = board_read(body.bytes(), board);
-    Ok((shown(alloc, body.bytes(), 12)?, read))
-}
-
-// The body of a solution, and whether it is read back as one, and not as a board.
-fn solution_body(alloc: Global, solution: Solution) -> Result<(String, (bool, bool)), Fail> {
-    let body = solution.body(alloc)?;
-    let read = (
-        Solution::read(body.bytes()) == Some(solution),
-        Board::read(body.bytes()) == None,
-    );
-    Ok((shown(alloc, body.bytes(), 4)?, read))
-}
-
-#[test]
-fn boards_are_read_back(rt: HostRuntime) -> Result<(), Fail> {
-    let grid = parse_grid(TWO.as_bytes())?;
-    let rows = [
-        (0x100_0000, "[0, 0, 0, 1, 0, 0, 0, 0, 1, 0, 0, 0]"),
-        (0x7f_ffff, "[0, 0, 0, 1, 0, 0, 0, 0, 0, 127, 255, 255]"),
-    ];
-    for (budget, head) in rows {
-        let board = Board {
-            puzzle: 1,
-            budget,
-            grid,
-        };
-        let (body, read) = board_body(rt.alloc(), board)?;
-        let wanted = format!(in rt.alloc(); "{head} {TWO}")?;
-        assert_eq!(rt; (body.as_str(), read), (wanted.as_str(), (true, true)));
-    }
-    Ok(())
-}
-
-#[test]
-fn solutions_are_read_back(rt: HostRuntime) -> Result<(), Fail> {
-    let grid = parse_grid(TWO.as_bytes())?;
-    let (body, read) = solution_body(rt.alloc(), Solution { puzzle: 258, grid })?;
-    let wanted = format!(in rt.alloc(); "[0, 0, 1, 2] {TWO}")?;
-    assert_eq!(rt; (body.as_str(), read), (wanted.as_str(), (true, true)));
-    Ok(())
-}
-
-// The report of a run of one rank on this input, where no put is rejected, or each, or each second one.
+// The report of a run of one rank on this input, if no put or batch is rejected, or each, or each second or third one.
 fn report_on(alloc: Global, input: &str, every: u64) -> Result<String, Fail> {
     if input.len() > 1 << 24 {
         return Err("more than the limit".into());
@@ -111,7 +45,7 @@ fn report_on(alloc: Global, input: &str, every: u64) -> Result<String, Fail> {
     let jobs = read_jobs(alloc, input.as_bytes())?;
     let shown = read_jobs(alloc, input.as_bytes())?;
     let program = PuzzleProgram::new(alloc, SETTINGS, Some(jobs));
-    let mut link = Fake::new(alloc, every);
+    let mut link = Fake::new(alloc, every, MANY);
     let Ok(outcome) = program.run(Rank(0), &mut link) else {
         return Err("no outcome".into());
     };
@@ -129,7 +63,7 @@ fn one_rank_writes_the_report(rt: HostRuntime) -> Result<(), Fail> {
     let two = format!(in rt.alloc();
         "puzzle 1 solutions 2\n{FULL}\n{OTHER}\ntotals\nboard 3\nsolution 2\njob 0\nanswer 0\n"
     )?;
-    for every in [0, 1, 2] {
+    for every in [0, 1, 2, 3] {
         let text = report_on(rt.alloc(), FORCED, every)?;
         assert_eq!(rt; text.as_str(), one.as_str(), "rejects every {every}");
         let text = report_on(rt.alloc(), TWO, every)?;
@@ -146,17 +80,47 @@ const BATCH: &str = "batch abcab\ncount 98 255\nsum\nmax\n";
 
 #[test]
 fn one_rank_works_puzzles_and_batches(rt: HostRuntime) -> Result<(), Fail> {
-    let input = format!(in rt.alloc(); "{BATCH}{FORCED}\n{SMALL}\nbatch zz\nsum\nbatch\nmax\n")?;
+    let input = format!(in rt.alloc();
+        "{BATCH}{FORCED}\n{SMALL}\nbatch q\nbatch zz\nsum\nbatch\nmax\n"
+    )?;
     let wanted = format!(in rt.alloc();
         "batch 1 bytes 5 items 3\ncount 98 255 = 3\nsum = 489\nmax = 99\n\
          puzzle 1 solutions 1\n{FULL}\n\
          puzzle 2 solutions 2\n1234341221434321\n3214143221434321\n\
-         batch 2 bytes 2 items 1\nsum = 244\nbatch 3 bytes 0 items 1\nmax = 0\n\
+         batch 2 bytes 1 items 0\nbatch 3 bytes 2 items 1\nsum = 244\nbatch 4 bytes 0 items 1\nmax = 0\n\
          totals\nboard 4\nsolution 3\njob 5\nanswer 5\n"
     )?;
-    for every in [0, 1, 2] {
+    for every in [0, 1, 2, 3] {
         let text = report_on(rt.alloc(), input.as_str(), every)?;
         assert_eq!(rt; text.as_str(), wanted.as_str(), "rejects every {every}");
+    }
+    Ok(())
+}
+
+// How many calls a run of one rank on a batch makes, what it counts as made, and whether a batch goes on at its end.
+fn stopped_after(alloc: Global, stops: usize) -> Result<(usize, [u128; 4], bool), Fail> {
+    let jobs = read_jobs(alloc, BATCH.as_bytes())?;
+    let program = PuzzleProgram::new(alloc, SETTINGS, Some(jobs));
+    let mut link = Fake::new(alloc, 0, stops);
+    let Ok(outcome) = program.run(Rank(0), &mut link) else {
+        return Err("no outcome".into());
+    };
+    let made = outcome.made;
+    Ok((link.transcript().len(), made, link.batch_open()))
+}
+
+#[test]
+fn an_end_stops_a_rank_and_its_batch(rt: HostRuntime) -> Result<(), Fail> {
+    let rows = [
+        (0, (1, [0, 0, 3, 0], false)),
+        (1, (3, [0, 0, 3, 0], false)),
+        (3, (5, [0, 0, 3, 0], false)),
+        (5, (6, [0, 0, 3, 0], false)),
+        (7, (8, [0, 0, 3, 1], false)),
+    ];
+    for (stops, wanted) in rows {
+        let stopped = stopped_after(rt.alloc(), stops)?;
+        assert_eq!(rt; stopped, wanted, "after {stops} calls");
     }
     Ok(())
 }

@@ -1,16 +1,15 @@
 -- Lists by counts: lists that every test counts alike are each other's reorderings.
-use Rattle.std.proofs.Common.{◌≡◌, ◌↔◌, ℕ, suc, ◌+◌, ◌≤◌, ◌==◌, Bool, true, false, cond, ◌&&◌, List, [], ◌∷◌, refl, sym, ap, ◌∙◌, arith, inl, inr, Contains, IsPermutation, count_by, remove}
+use Rattle.std.proofs.Common.{◌≡◌, ◌↔◌, ℕ, suc, ◌+◌, ◌≤◌, ◌==◌, Bool, true, cond, ◌&&◌, List, [], ◌∷◌, refl, sym, ap, ◌∙◌, arith, inl, inr, Contains, IsPermutation, count_by, remove}
 use Rattle.std.specs.Str.{bytes_eq}
 use Rattle.std.proofs.lemmas.Bool.{and_from, and_parts, cases_Bool, eq-eqb, eqb-true}
 use Rattle.std.proofs.lemmas.List.Sorted.{IsPermutation-sym, IsPermutation-cons, IsPermutation-refl, IsPermutation-trans, IsPermutation-remove, sum_by-IsPermutation}
 use Rattle.std.proofs.lemmas.List.Sums.{sum_by-cons}
 use Rattle.std.proofs.lemmas.Slice.Eq.{bytes_eq-Decides}
 use Rattle.sudoku_law.specs.Grid.{Cells}
-use Rattle.puzzle_app.specs.declared.units.Board.{Board}
-use Rattle.puzzle_app.specs.declared.units.Made.{Made}
-use Rattle.puzzle_app.specs.declared.units.Made.TheVariants as made
-use Rattle.puzzle_app.specs.declared.units.Solution.{Solution}
-use Rattle.puzzle_law.proofs.Sums.{one_if}
+use Rattle.job_units.specs.declared.units.Made.{Made}
+use Rattle.job_units.proofs.Same.{same_unit, unit_test}
+use Rattle.puzzle_app.specs.Arrivals.{Arrival}
+use Rattle.puzzle_law.proofs.Sums.{count_one, one_if}
 
 -- of a type with a test of equality
 module _ (X : Type 0) (equal : X → X → Bool) (exact : (a b : X) → (equal a b ≡ true) ↔ (a ≡ b)) where
@@ -34,9 +33,11 @@ module _ (X : Type 0) (equal : X → X → Bool) (exact : (a b : X) → (equal a
 
   pub permuted_by_counts : (xs ys : List X) → ((p : X → Bool) → count_by p xs ≡ count_by p ys) → IsPermutation xs ys
   permuted_by_counts [] [] same = IsPermutation-refl []
-  permuted_by_counts [] (y ∷ ys) same = absurd (let e : 0 ≡ count_by (equal y) (y ∷ ys) = same (equal y) in omega (arith, counts_itself y ys))
+  permuted_by_counts [] (y ∷ ys) same =
+      absurd (let e : 0 ≡ count_by (equal y) (y ∷ ys) = same (equal y) in omega (arith, counts_itself y ys))
   permuted_by_counts (x ∷ xs) ys same =
-      let there : Contains ys x = counted_there x ys (let e : count_by (equal x) (x ∷ xs) ≡ count_by (equal x) ys = same (equal x) in omega (arith, counts_itself x xs)) in
+      let its : count_by (equal x) (x ∷ xs) ≡ count_by (equal x) ys = same (equal x) in
+      let there : Contains ys x = counted_there x ys (omega (arith, its, counts_itself x xs)) in
       let rest : List X = remove ys there.0 in
       let moved : IsPermutation ys (x ∷ rest) = IsPermutation-remove ys there.0 x there.1 (sym there.2) in
       let left : IsPermutation xs rest = permuted_by_counts xs rest (λ p.
@@ -50,48 +51,55 @@ module _ (X : Type 0) (equal : X → X → Bool) (exact : (a b : X) → (equal a
 pub grids_by_counts : (xs ys : List Cells) → ((p : Cells → Bool) → count_by p xs ≡ count_by p ys) → IsPermutation xs ys
 grids_by_counts = permuted_by_counts Cells bytes_eq bytes_eq-Decides
 
--- Units.
+-- Units with the common bytes over which they are worked.
 
-abbrev same_unit : Made → Made → Bool
-same_unit (made.Board a) (made.Board b) = (a.puzzle == b.puzzle) && ((a.budget == b.budget) && bytes_eq a.grid b.grid)
-same_unit (made.Board a) (made.Solution t) = false
-same_unit (made.Solution s) (made.Board b) = false
-same_unit (made.Solution s) (made.Solution t) = (s.puzzle == t.puzzle) && bytes_eq s.grid t.grid
+abbrev same_piece : Arrival → Arrival → Bool
+same_piece a b = same_unit a.unit b.unit && bytes_eq a.common b.common
 
-boards_are : (a b : Board) → (a.puzzle ≡ b.puzzle) × (a.budget ≡ b.budget) × (a.grid ≡ b.grid) → a ≡ b
-boards_are a b e =
-    let with_puzzle : ℕ → Board = λ x. record { puzzle = x; budget = a.budget; grid = a.grid } in
-    let with_budget : ℕ → Board = λ x. record { puzzle = b.puzzle; budget = x; grid = a.grid } in
-    let with_grid : Cells → Board = λ x. record { puzzle = b.puzzle; budget = b.budget; grid = x } in
-    ap with_puzzle e.0 ∙ ap with_budget e.1 ∙ ap with_grid e.2
+pieces_are : (a b : Arrival) → a.unit ≡ b.unit → a.common ≡ b.common → a ≡ b
+pieces_are a b e f =
+    let with_unit : Made → Arrival = λ x. record { unit = x; common = a.common } in
+    let with_common : List ℕ → Arrival = λ x. record { unit = b.unit; common = x } in
+    ap with_unit e ∙ ap with_common f
 
-solutions_are : (s t : Solution) → (s.puzzle ≡ t.puzzle) × (s.grid ≡ t.grid) → s ≡ t
-solutions_are s t e =
-    let with_puzzle : ℕ → Solution = λ x. record { puzzle = x; grid = s.grid } in
-    let with_grid : Cells → Solution = λ x. record { puzzle = t.puzzle; grid = x } in
-    ap with_puzzle e.0 ∙ ap with_grid e.1
-
-unit_exact : (x y : Made) → (same_unit x y ≡ true) ↔ (x ≡ y)
-unit_exact (made.Board a) (made.Board b) = (
+piece_exact : (a b : Arrival) → (same_piece a b ≡ true) ↔ (a ≡ b)
+piece_exact a b = (
   λ e.
-      let first = and_parts (a.puzzle == b.puzzle) ((a.budget == b.budget) && bytes_eq a.grid b.grid) e in
-      let rest = and_parts (a.budget == b.budget) (bytes_eq a.grid b.grid) first.1 in
-      ap made.Board (boards_are a b (eqb-true a.puzzle b.puzzle first.0, eqb-true a.budget b.budget rest.0, (bytes_eq-Decides a.grid b.grid).0 rest.1)),
+      let parts = and_parts (same_unit a.unit b.unit) (bytes_eq a.common b.common) e in
+      pieces_are a b ((unit_test a.unit b.unit).0 parts.0) ((bytes_eq-Decides a.common b.common).0 parts.1),
   λ e.
-      let same : a ≡ b = cc in
-      and_from (a.puzzle == b.puzzle) ((a.budget == b.budget) && bytes_eq a.grid b.grid) (eq-eqb a.puzzle b.puzzle (ap (λ (x : Board). x.puzzle) same))
-      (and_from (a.budget == b.budget) (bytes_eq a.grid b.grid) (eq-eqb a.budget b.budget (ap (λ (x : Board). x.budget) same)) ((bytes_eq-Decides a.grid b.grid).1 (ap (λ (x : Board). x.grid) same))),
-)
-unit_exact (made.Board a) (made.Solution t) = (λ e. absurd (cc), λ e. absurd (cc))
-unit_exact (made.Solution s) (made.Board b) = (λ e. absurd (cc), λ e. absurd (cc))
-unit_exact (made.Solution s) (made.Solution t) = (
-  λ e.
-      let parts = and_parts (s.puzzle == t.puzzle) (bytes_eq s.grid t.grid) e in
-      ap made.Solution (solutions_are s t (eqb-true s.puzzle t.puzzle parts.0, (bytes_eq-Decides s.grid t.grid).0 parts.1)),
-  λ e.
-      let same : s ≡ t = cc in
-      and_from (s.puzzle == t.puzzle) (bytes_eq s.grid t.grid) (eq-eqb s.puzzle t.puzzle (ap (λ (x : Solution). x.puzzle) same)) ((bytes_eq-Decides s.grid t.grid).1 (ap (λ (x : Solution). x.grid) same)),
+      and_from (same_unit a.unit b.unit) (bytes_eq a.common b.common) ((unit_test a.unit b.unit).1 (ap (λ (x : Arrival). x.unit) e))
+      ((bytes_eq-Decides a.common b.common).1 (ap (λ (x : Arrival). x.common) e)),
 )
 
-pub units_by_counts : (xs ys : List Made) → ((q : Made → Bool) → count_by q xs ≡ count_by q ys) → IsPermutation xs ys
-units_by_counts = permuted_by_counts Made same_unit unit_exact
+pub pieces_by_counts : (xs ys : List Arrival) → ((q : Arrival → Bool) → count_by q xs ≡ count_by q ys) → IsPermutation xs ys
+pieces_by_counts = permuted_by_counts Arrival same_piece piece_exact
+
+-- A single number.
+
+abbrev any_number : ℕ → Bool
+any_number n = true
+
+-- numbers that every test counts like a single one are that one
+pub one_by_counts : (ns : List ℕ) (n : ℕ) → ((p : ℕ → Bool) → count_by p ns ≡ count_by p (n ∷ [])) → ns ≡ n ∷ []
+one_by_counts [] n same = absurd (let e : 0 ≡ count_by any_number (n ∷ []) = same any_number in omega (arith, e, count_one any_number n))
+one_by_counts (m ∷ []) n same = elim (cases_Bool (m == n)) [
+  | inl t ↦ ap (λ k. k ∷ []) (eqb-true m n t)
+  | inr f ↦
+      let is : ℕ → Bool = λ k. k == n in
+      let e : count_by is (m ∷ []) ≡ count_by is (n ∷ []) = same is in
+      let one : Bool → ℕ = λ b. cond b 1 0 in
+      let here : one_if is m ≡ 0 = ap one f in
+      let there : one_if is n ≡ 1 = ap one (eq-eqb n n refl) in
+      absurd (omega (arith, e, count_one is m, count_one is n, here, there))
+]
+one_by_counts (m ∷ k ∷ ns) n same = absurd (
+    let e : count_by any_number (m ∷ k ∷ ns) ≡ count_by any_number (n ∷ []) = same any_number in
+    omega (
+      arith,
+      e,
+      count_one any_number n,
+      sum_by-cons (one_if any_number) m (k ∷ ns),
+      sum_by-cons (one_if any_number) k ns,
+    )
+    )

@@ -1,5 +1,5 @@
 -- How ledger, programs and report are joined, over the law of what every run of orderly ranks conserves.
-use Rattle.std.proofs.Common.{◌≡◌, ◌<◌, ◌≤◌, ◌^◌, List, length, All}
+use Rattle.std.proofs.Common.{◌≡◌, ◌<◌, true, List, All}
 use Rattle.adlb_unit.specs.declared.configs.Config.{Config}
 use Rattle.bag_ledger.specs.declared.entries.Entry.{Entry}
 use Rattle.bag_ledger.specs.declared.states.UnitPlace.TheVariants.{Spent}
@@ -24,12 +24,12 @@ Conserves =
 
 pub joined_whole : Conserves →
     (config : Config) (ledger : List Entry) (last : Bag) (settings : Settings) (jobs : List Job) (outcomes : List Outcome) →
-    0 < config.ranks → IsRun (start config) ledger last → All IsSudoku (puzzles jobs) → length jobs ≤ 2 ^ 24 → settings.budget < 2 ^ 64 →
+    0 < config.ranks → IsRun (start config) ledger last → All IsSudoku (puzzles jobs) →
     IsPuzzleRun config ledger settings jobs outcomes → AreWhole settings.budget settings.grain jobs outcomes
-joined_whole conserves config ledger last settings jobs outcomes some legal grids few small run =
+joined_whole conserves config ledger last settings jobs outcomes some legal grids run =
     let balanced : IsBalanced config ledger last =
     conserves config ledger last some legal (run_is_orderly config ledger settings jobs outcomes run) in
-    run_is_whole config ledger last settings jobs outcomes some balanced grids few small run
+    run_is_whole config ledger last settings jobs outcomes some balanced grids run
 
 pub joined_spent : Conserves →
     (config : Config) (ledger : List Entry) (last : Bag) (settings : Settings) (jobs : List Job) (outcomes : List Outcome) →
@@ -39,3 +39,12 @@ joined_spent conserves config ledger last settings jobs outcomes some legal run 
     let balanced : IsBalanced config ledger last =
     conserves config ledger last some legal (run_is_orderly config ledger settings jobs outcomes run) in
     balanced.spent
+
+pub joined_freed : Conserves →
+    (config : Config) (ledger : List Entry) (last : Bag) (settings : Settings) (jobs : List Job) (outcomes : List Outcome) →
+    0 < config.ranks → IsRun (start config) ledger last → IsPuzzleRun config ledger settings jobs outcomes →
+    All (λ p. (p.closed ≡ true) × (p.freed ≡ true)) last.parts
+joined_freed conserves config ledger last settings jobs outcomes some legal run =
+    let balanced : IsBalanced config ledger last =
+    conserves config ledger last some legal (run_is_orderly config ledger settings jobs outcomes run) in
+    balanced.freed

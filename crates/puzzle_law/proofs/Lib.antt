@@ -1,13 +1,13 @@
-mod Forms
 mod Calls
 mod Orderly
 mod Sums
 mod Counting
-mod Units
+mod Pieces
 mod Flow
 mod Ranks
 mod Weights
 mod Trees
+mod First
 mod Answered
 mod Held
 mod Whole

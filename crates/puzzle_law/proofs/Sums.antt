@@ -37,6 +37,11 @@ pub add_if : (b : Bool) (m n : ℕ) → cond b m 0 + cond b n 0 ≡ cond b (m + 
 add_if true m n = refl
 add_if false m n = omega arith
 
+-- nothing either way
+pub none_if : (b : Bool) → cond {A = ℕ} b 0 0 ≡ 0
+none_if true = refl
+none_if false = refl
+
 -- one more of each
 pub sum_one_more : {X : Type 0} (f : X → ℕ) (xs : List X) → sum_by (λ x. 1 + f x) xs ≡ length xs + sum_by f xs
 sum_one_more f [] = refl

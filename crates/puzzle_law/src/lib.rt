@@ -3,7 +3,7 @@
 //! It speaks of definitions alone and has no code. `specs/Joined.antt` says what a run of puzzle programs is.
 #![tactic(auto)]
 
-ghost use Rattle.std.specs.Prelude.{◌≡◌, ◌<◌, ◌≤◌, ◌^◌, ℕ, List, All, length};
+ghost use Rattle.std.specs.Prelude.{◌≡◌, ◌<◌, true, List, All};
 ghost use Rattle.adlb_unit.specs.declared.configs.Config.{Config};
 ghost use Rattle.bag_ledger.specs.declared.entries.Entry.{Entry};
 ghost use Rattle.bag_ledger.specs.declared.states.UnitPlace.TheVariants.{Spent};
@@ -20,15 +20,21 @@ ghost use Rattle.sudoku_rules.specs.Sides.{IsSudoku};
 use balance_law::balance_laws;
 
 /// The joining of ledger, programs and report, for every configuration. In a legal run in which each rank
-/// ran its puzzle program and then finished, the outcomes together hold exactly what the jobs are to give (`whole`), and
-/// each accepted unit was fetched, so nothing is left (`spent`).
+/// ran its puzzle program and then finished, the outcomes together hold exactly what the jobs are to give (`whole`); each
+/// accepted unit was fetched, so no unit is left (`spent`); and the common part of each batch was freed (`freed`).
 pub fn joining_laws()
-    ensures whole { (config : Config) (ledger : List Entry) (last : Bag) (settings : Settings) (jobs : List Job) (outcomes : List Outcome) →
-        0 < config.ranks → IsRun (start config) ledger last → All IsSudoku (puzzles jobs) → length jobs ≤ 2 ^ 24 → settings.budget < 2 ^ 64 →
+    ensures whole { (config : Config) (ledger : List Entry) (last : Bag) (settings : Settings) (jobs : List Job)
+        (outcomes : List Outcome) →
+        0 < config.ranks → IsRun (start config) ledger last → All IsSudoku (puzzles jobs) →
         IsPuzzleRun config ledger settings jobs outcomes → AreWhole settings.budget settings.grain jobs outcomes }
-    ensures spent { (config : Config) (ledger : List Entry) (last : Bag) (settings : Settings) (jobs : List Job) (outcomes : List Outcome) →
-        0 < config.ranks → IsRun (start config) ledger last →
-        IsPuzzleRun config ledger settings jobs outcomes → All (λ u. u.place ≡ Spent) last.units }
+    ensures spent { (config : Config) (ledger : List Entry) (last : Bag) (settings : Settings) (jobs : List Job)
+        (outcomes : List Outcome) →
+        0 < config.ranks → IsRun (start config) ledger last → IsPuzzleRun config ledger settings jobs outcomes →
+        All (λ u. u.place ≡ Spent) last.units }
+    ensures freed { (config : Config) (ledger : List Entry) (last : Bag) (settings : Settings) (jobs : List Job)
+        (outcomes : List Outcome) →
+        0 < config.ranks → IsRun (start config) ledger last → IsPuzzleRun config ledger settings jobs outcomes →
+        All (λ p. (p.closed ≡ true) × (p.freed ≡ true)) last.parts }
 {
     balance_laws();
 }

@@ -1,34 +1,39 @@
 //! A link of one rank, which keeps its own units.
 
-ghost use Rattle.std.specs.Prelude.{◌≡◌, ◌<◌, ◌≤◌, ◌^◌, ◌++◌, ◌∷◌, [], Option, length, Some, None, Ok, Err, false, true, OnOk, OnErr, IfOk, IfErr, IsErr, is_none, ◌&&◌};
+ghost use Rattle.std.specs.Prelude.{◌≡◌, ◌<◌, ◌≤◌, ◌^◌, ◌++◌, ◌∷◌, [], Option, length, Some, None, Ok, Err, false, true, OnOk, OnErr, IfOk, IfErr, is_none, ◌&&◌};
 ghost use Rattle.adlb_unit.specs.Ids.{same_unit};
 ghost use Rattle.adlb_unit.specs.declared.notes.End.{End};
 ghost use Rattle.adlb_unit.specs.declared.notes.Trouble.{Trouble};
 ghost use Rattle.rank_client.specs.Calls.{Repeats, TellsAgain, end_answer, end_of, end_told, end_trouble, fetches, grants, is_fetched, is_granted, plus, put_answer, put_trouble};
 
 use adlb_unit::{
-    End, Handle, Payload, Rank, Server, Target, Trouble, Types, UnitId, UnitNote, WorkType,
+    BatchId, CommonRef, End, Handle, NoMemory, Payload, Rank, Server, Target, Trouble, Types,
+    UnitId, UnitNote, WorkType,
 };
 use bag_ledger::{Answer, Body, Call, Said};
 use rank_client::{Adlb, EndFault, PutFault};
 use std::alloc::Global;
 use std::collections::VecDeque;
 
-/// It rejects no put, or each, or each second one, and each batch.
+/// It rejects no put and no batch, or each, or each second or third one. It tells an end when no unit is left, or after
+/// a number of calls.
 #[derive(Drop)]
 pub struct Fake {
     alloc: Global,
     said: Vec<Said>,
-    units: VecDeque<(UnitNote, Payload)>,
+    units: VecDeque<(UnitNote, Body)>,
+    common: Option<Payload>,
     trouble: Option<Trouble>,
     every: u64,
+    stops: usize,
     going: bool,
     ghost within: { length said.items < 2 ^ 48 },
 }
 
 impl Fake {
-    /// A link that rejects no put where `every` is 0, and else every so many.
-    pub fn new(alloc: Global, every: u64) -> Fake
+    /// A link that rejects nothing if `every` is 0, and otherwise each put and batch behind a multiple of that many
+    /// calls. It tells an end to each call behind `stops` calls.
+    pub fn new(alloc: Global, every: u64, stops: usize) -> Fake
         ensures said { result.said.items ≡ [] }
         ensures trouble { result.trouble ≡ None }
         ensures going { result.going ≡ false }
@@ -37,15 +42,18 @@ impl Fake {
             alloc,
             said: Vec::new(alloc),
             units: VecDeque::new(alloc),
+            common: None,
             trouble: None,
             every,
+            stops,
             going: false,
         }
     }
 
     // One more call with its answer.
     fn say(&mut self, call: Call, answer: Answer) -> Result<(), Trouble>
-        ensures said { OnOk result (self.new.said.items ≡ self.old.said.items ++ record { call = call; answer = answer } ∷ []) }
+        ensures said { OnOk result (self.new.said.items ≡
+            self.old.said.items ++ record { call = call; answer = answer } ∷ []) }
         ensures kept { OnErr result (self.new.said.items ≡ self.old.said.items) }
         ensures fine { OnOk result (self.new.trouble ≡ None) }
         ensures trouble { IfErr result (λ t. self.new.trouble ≡ Some t) }
@@ -68,7 +76,18 @@ impl Fake {
         }
     }
 
-    // This put is to be rejected.
+    // An end that is to be told: one that was told, or the first.
+    fn end(&self) -> Option<End>
+        ensures again { (end : End) → end_told self.now.said.items ≡ Some end → result ≡ Some end }
+    {
+        match end_in(&self.said) {
+            Some(end) => Some(end),
+            None if self.said.len() >= self.stops => Some(End::Exhausted),
+            None => None,
+        }
+    }
+
+    // This put or batch is to be rejected.
     fn rejects(&self) -> bool {
         match self.every {
             0 => false,
@@ -81,6 +100,30 @@ impl Fake {
         match self.units.front() {
             Some((note, _)) => Some(*note),
             None => None,
+        }
+    }
+
+    // The common part of the batch that goes on.
+    fn part(&self) -> Option<CommonRef> {
+        match &self.common {
+            Some(common) if self.going => Some(CommonRef {
+                batch: BatchId {
+                    rank: Rank(0),
+                    number: 0,
+                },
+                server: Server(0),
+                length: u32::try_from(common.len()).ok()?,
+            }),
+            _ => None,
+        }
+    }
+
+    // The bytes that a fetch of a unit with this body will give.
+    fn whole(&self, body: &Payload) -> Result<Body, NoMemory> {
+        let own = body.twin(self.alloc)?;
+        match &self.common {
+            Some(common) if self.going => Ok(Body::joined(common.twin(self.alloc)?, own)),
+            _ => Ok(Body::alone(own)),
         }
     }
 
@@ -107,10 +150,10 @@ impl Fake {
             prio,
             answer,
             server: Server(0),
-            common: None,
+            common: self.part(),
             length: body.len() as u32,
         };
-        let Ok(body) = body.twin(self.alloc) else {
+        let Ok(body) = self.whole(body) else {
             return Err(Trouble::Memory);
         };
         match self.units.push_back((note, body)) {
@@ -280,7 +323,7 @@ impl Fake {
         if let Some(trouble) = self.trouble {
             return Err(put_fault(trouble));
         }
-        if let Some(end) = end_in(&self.said) {
+        if let Some(end) = self.end() {
             return Err(put_end(end));
         }
         if self.rejects() {
@@ -303,19 +346,28 @@ impl Fake {
         }
     }
 
-    // Tells the beginning of a batch how it ends: none begins.
-    fn told_begin(&self) -> Result<(), PutFault>
-        ensures none { IsErr result }
-        ensures told { TellsAgain (end_told self.now.said.items) (put_answer result) }
-        ensures repeats { Repeats self.now.trouble (put_trouble result) }
+    // Tells the beginning of a batch how it ends.
+    fn told_begin(&mut self, common: &Payload) -> Result<(), PutFault>
+        ensures said { self.new.said ≡ self.old.said }
+        ensures told { TellsAgain (end_told self.old.said.items) (put_answer result) }
+        ensures repeats { Repeats self.old.trouble (put_trouble result) }
     {
         if let Some(trouble) = self.trouble {
             return Err(put_fault(trouble));
         }
-        if let Some(end) = end_in(&self.said) {
+        if let Some(end) = self.end() {
             return Err(put_end(end));
         }
-        Err(PutFault::Rejected)
+        if self.rejects() {
+            return Err(PutFault::Rejected);
+        }
+        match common.twin(self.alloc) {
+            Ok(common) => {
+                self.common = Some(common);
+                Ok(())
+            }
+            Err(_) => Err(PutFault::Memory),
+        }
     }
 
     // The put, or the beginning of a batch, ends so, if its answer can be kept.
@@ -324,7 +376,6 @@ impl Fake {
         ensures told { (end : Option End) → TellsAgain end (put_answer told) → TellsAgain end (put_answer result) }
         ensures failed { self.new.trouble ≡ put_trouble result }
         ensures repeats { (t : Trouble) → put_trouble told ≡ Some t → put_trouble result ≡ Some t }
-        ensures refused { IsErr told → IsErr result }
         ensures going { self.new.going ≡ self.old.going }
     {
         match of_put(told) {
@@ -349,7 +400,7 @@ impl Fake {
         if let Some(trouble) = self.trouble {
             return Err(end_fault(trouble));
         }
-        if let Some(end) = end_in(&self.said) {
+        if let Some(end) = self.end() {
             return Err(end_end(end));
         }
         match self.next() {
@@ -384,8 +435,8 @@ impl Fake {
         }
     }
 
-    // Two twins of the bytes of the next unit, which is to have so many.
-    fn next_bodies(&mut self, total: u64) -> Result<(Payload, Payload), Trouble>
+    // The bytes of the next unit twice, if they are as many.
+    fn next_bodies(&mut self, total: u64) -> Result<(Body, Body), Trouble>
         ensures said { self.new.said ≡ self.old.said }
         ensures going { self.new.going ≡ self.old.going }
         ensures total { IfOk result (λ two. length two.0 ≡ total) }
@@ -403,9 +454,10 @@ impl Fake {
         }
     }
 
-    // Fetches the next unit, which has this id and so many bytes.
+    // Fetches the next unit, which has this id and this number of bytes.
     fn fetch(&mut self, id: UnitId, total: u64) -> Result<Body, Trouble>
-        ensures says { IfOk result (λ body. self.new.said.items ≡ self.old.said.items ++ record { call = Call.Fetch id; answer = Answer.Body body } ∷ []) }
+        ensures says { IfOk result (λ body. self.new.said.items ≡
+            self.old.said.items ++ record { call = Call.Fetch id; answer = Answer.Body body } ∷ []) }
         ensures kept { OnErr result (self.new.said.items ≡ self.old.said.items) }
         ensures total { IfOk result (λ body. length body ≡ total) }
         ensures fine { OnOk result (self.new.trouble ≡ None) }
@@ -418,9 +470,8 @@ impl Fake {
         }
         match self.next_bodies(total) {
             Ok((body, shown)) => {
-                let shown = Answer::Body(Body::alone(shown));
-                match self.say(Call::Fetch { id }, shown) {
-                    Ok(()) => Ok(Body::alone(body)),
+                match self.say(Call::Fetch { id }, Answer::Body(shown)) {
+                    Ok(()) => Ok(body),
                     Err(trouble) => Err(trouble),
                 }
             }
@@ -496,9 +547,9 @@ impl Adlb for Fake {
     }
 
     fn begin_batch(&mut self, common: Payload) -> Result<(), PutFault> {
-        let told = self.told_begin();
+        let told = self.told_begin(&common);
         let ended = self.end_put(Call::BeginBatch { common }, told);
-        self.going = false;
+        self.going = ended.is_ok();
         ended
     }
 

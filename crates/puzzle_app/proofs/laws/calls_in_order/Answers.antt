@@ -1,5 +1,5 @@
-use Rattle.puzzle_app.proofs.Calling.{goes_at, move_asks, move_fetches, move_holds, move_lives, so_front, so_own, so_told}
-use Rattle.puzzle_app.proofs.Steps.{so_open}
+use Rattle.puzzle_app.proofs.Calling.{goes_at, goes_within, move_asks, move_begins, move_fetches, move_last, so_front, so_on, so_open, so_own, so_told}
+use Rattle.puzzle_app.proofs.Adding.{move_holds}
 use Rattle.puzzle_app.proofs.laws.calls_in_order.Goals as goal
 
 pub returns : goal.returns
@@ -11,6 +11,9 @@ returns c = record {
   reserves = move_asks;
   grants = move_holds;
   fetches = move_fetches;
-  last = move_lives;
+  begins = move_begins;
+  within = goes_within;
+  going_on = so_on;
+  last = move_last;
   told = so_told;
 }

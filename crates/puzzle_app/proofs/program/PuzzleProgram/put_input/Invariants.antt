@@ -1,0 +1,15 @@
+use Rattle.std.proofs.Common.{◌≡◌, ◌+◌, ◌≤◌, None, false, [], drop}
+use Rattle.puzzle_app.specs.Tasks.{tasks_from}
+use Rattle.puzzle_app.specs.Working.{IsGoing}
+use Rattle.puzzle_app.proofs.program.PuzzleProgram.put_input.Given as goal
+
+abbrev pub invariant-loop-job : goal.invariant-loop-job
+invariant-loop-job g l = record {
+  few : l.at.puzzle + l.at.batch ≤ 2 + l.job-index;
+  none : l.desk.waiting.items ≡ [];
+  going : IsGoing l.self (g.A.Adlb.transcript l.link) l.desk
+      (tasks_from l.self.settings.budget l.at.puzzle l.at.batch (drop l.job-index l.jobs)) None;
+  whole : g.A.Adlb.failed l.link ≡ None;
+  seat : g.A.Adlb.seat l.link ≡ g.A.Adlb.seat l.fn.link;
+  batch : g.A.Adlb.batch l.link ≡ false;
+}

@@ -1,0 +1,18 @@
+use Rattle.std.proofs.Common.{◌≡◌, ◌+◌, ◌++◌, None, List, ℕ, Option, [], drop}
+use Rattle.puzzle_app.specs.Arrivals.{bytes_on}
+use Rattle.puzzle_app.specs.Tasks.{Task, as_units, jobs_from, put_all}
+use Rattle.puzzle_app.specs.Working.{IsGoing}
+use Rattle.puzzle_app.proofs.program.PuzzleProgram.put_jobs.Given as goal
+
+abbrev pub invariant-loop-item : goal.invariant-loop-item
+invariant-loop-item g l = record {
+  numbered : l.number ≡ l.item-index + 1;
+  none : l.desk.waiting.items ≡ [];
+  going : (rest : List Task) (on : Option (List ℕ)) → bytes_on on ≡ l.common →
+      IsGoing l.self (g.A.Adlb.transcript l.fn.link) l.fn.desk (put_all (as_units (jobs_from l.batch 1 l.items)) ++ rest) on →
+      IsGoing l.self (g.A.Adlb.transcript l.link) l.desk
+      (put_all (as_units (jobs_from l.batch l.number (drop l.item-index l.items))) ++ rest) on;
+  whole : g.A.Adlb.failed l.link ≡ None;
+  seat : g.A.Adlb.seat l.link ≡ g.A.Adlb.seat l.fn.link;
+  batch : g.A.Adlb.batch l.link ≡ g.A.Adlb.batch l.fn.link;
+}
