@@ -1,5 +1,6 @@
 pub mod Pieces
-pub mod Found
+pub mod Sought
+pub mod Summed
 pub mod Told
 pub mod Parts
 pub mod Unique

@@ -6,11 +6,12 @@ use Rattle.sudoku_law.specs.Grid.{Cells}
 use Rattle.job_text.specs.declared.items.Item.{Item}
 use Rattle.job_text.specs.declared.jobs.Job.{Job}
 use Rattle.job_text.specs.declared.jobs.Job.TheVariants.{Puzzle, Batch}
-use Rattle.job_report.specs.Inside.{batch_told}
+use Rattle.job_report.specs.Inside.{batch_told, grids_at, is_over_at}
 use Rattle.job_report.specs.Jobs.{all_boards, all_items, all_solutions}
 use Rattle.job_report.specs.Report.{AreParts, IsPuzzlePart, IsReport, batch_head, batch_part, totals}
-use Rattle.job_report.specs.Whole.{AreHeld, AreWhole, IsHeld, made_in}
+use Rattle.job_report.specs.Whole.{AreHeld, AreWhole, IsHeld, found, made_in, told_over}
 use Rattle.job_report.specs.declared.answers.Answers.{Answers}
+use Rattle.job_report.specs.declared.found.Found.{Found}
 use Rattle.job_report.specs.declared.outcomes.Outcome.{Outcome}
 use Rattle.job_report.proofs.Told.{IsLookUp, lines_are}
 
@@ -31,6 +32,13 @@ before_at all p q b d left outcomes text next e1 e2 e3 before =
 abbrev pub AddsPuzzle : ℕ → List Outcome → List ℕ → List ℕ → Type 0
 AddsPuzzle p outcomes text next =
     (part : List ℕ) × (next ≡ text ++ part) × ((budget : ℕ) (g : Cells) → IsHeld budget p g outcomes → IsPuzzlePart budget p g part)
+
+-- it was made of what all outcomes tell of the puzzle
+pub adds_puzzle : (p : ℕ) (f : Found) (outcomes : List Outcome) (text next : List ℕ) →
+    ((part : List ℕ) × (next ≡ text ++ part) × ((all : List Outcome) (budget : ℕ) (g : Cells) → grids_at f p ≡ found p all →
+    is_over_at f p ≡ told_over p all → IsHeld budget p g all → IsPuzzlePart budget p g part)) →
+    grids_at f p ≡ found p outcomes → is_over_at f p ≡ told_over p outcomes → AddsPuzzle p outcomes text next
+adds_puzzle p f outcomes text next (part, is, law) grids over = (part, is, λ budget g held. law outcomes budget g grids over held)
 
 -- one more puzzle
 pub puzzle_before : (all : List Job) (p b : ℕ) (g : Cells) (left : List Job) (outcomes : List Outcome) (text next : List ℕ) →
@@ -62,7 +70,7 @@ batch_before all p b common items left answers outcomes text next looked added s
     )
 
 -- the jobs that are left begin with this one
-begins : (i : ℕ) (jobs : List Job) (job same : Job) → i < length jobs → job ≡ get_or jobs i job → job ≡ same →
+pub begins : (i : ℕ) (jobs : List Job) (job same : Job) → i < length jobs → job ≡ get_or jobs i job → job ≡ same →
     drop i jobs ≡ same ∷ drop (i + 1) jobs
 begins i jobs job same within is kind = drop_more jobs i job within ∙ ap (λ j. j ∷ drop (i + 1) jobs) (sym is ∙ kind)
 
@@ -89,7 +97,7 @@ batch_more i p b jobs job common items bytes listed answers outcomes text next w
     batch_before jobs p b common items (drop (i + 1) jobs) answers outcomes text next looked told here
 
 -- the totals behind all parts
-totals_are : (budget grain : ℕ) (jobs : List Job) (outcomes : List Outcome) → AreWhole budget grain jobs outcomes →
+pub totals_are : (budget grain : ℕ) (jobs : List Job) (outcomes : List Outcome) → AreWhole budget grain jobs outcomes →
     totals (made_in 0 outcomes) (made_in 1 outcomes) (made_in 2 outcomes) (made_in 3 outcomes)
     ≡ totals (all_boards budget grain jobs) (all_solutions budget jobs) (all_items jobs) (all_items jobs)
 totals_are budget grain jobs outcomes whole =

@@ -13,6 +13,7 @@ use Rattle.job_text.specs.declared.jobs.Job.TheVariants.{Puzzle, Batch}
 use Rattle.job_units.specs.Items.{answer_to}
 use Rattle.job_report.specs.Jobs.{puzzles}
 use Rattle.job_report.specs.Report.{IsReport, line, totals}
+use Rattle.job_report.specs.Summary.{summary}
 use Rattle.job_report.specs.Whole.{AreWhole, IsHeld, answers_in, answers_of, found_in}
 use Rattle.job_report.specs.declared.outcomes.Outcome.{Outcome}
 
@@ -53,6 +54,16 @@ mixed_reported = record {
   job_parts = (from_second, (line (codes "puzzle 1 over"), from_third, refl, (from_fourth, ([], refl, refl), refl), refl), refl);
   whole = refl;
 }
+
+-- their summary with this budget, and with one for which the puzzle is not over
+pub mixed_summed : summary 1 1 mixed ≡ line (codes "puzzles 1 over 1 solutions 0") ++ line (codes "batches 3 items 4") ++ totals 1 0 4 4
+unfolding digits puzzles box_for any_below count_up fewest_below branches at_cell grown
+mixed_summed = refl
+
+pub mixed_summed_in_full :
+    summary 8 1 mixed ≡ line (codes "puzzles 1 over 0 solutions 2") ++ line (codes "batches 3 items 4") ++ totals 3 2 4 4
+unfolding digits puzzles box_for any_below count_up fewest_below branches at_cell grown
+mixed_summed_in_full = refl
 
 -- answers in some order
 abbrev all_told : List (ℕ × ℕ × ℕ)

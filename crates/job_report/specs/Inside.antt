@@ -1,12 +1,47 @@
--- For the crate itself. Answers that were looked up, and the lines with them.
-use Rattle.std.specs.Prelude.{ℕ, ◌+◌, List, [], ◌∷◌, ◌++◌, length}
+-- For the crate itself. What was looked up, and the lines with it.
+use Rattle.std.specs.Prelude.{ℕ, ◌+◌, ◌<◌, ◌≤◌, ◌^◌, Bool, List, [], ◌∷◌, ◌++◌, length, if◌then◌else◌}
 use Rattle.std.specs.declared.cmp.Ordering.{Ordering}
 use Rattle.std.specs.BTreeMap.{get}
-use Rattle.std.specs.Option.{unwrap_or}
+use Rattle.std.specs.BTreeSet.{contains}
+use Rattle.std.specs.Option.{option_map_or, unwrap_or}
 use Rattle.std.specs.Ordering.{nat_cmp, ordering_then}
 use Rattle.job_text.specs.declared.items.Item.{Item}
 use Rattle.job_report.specs.Report.{batch_head, item_line}
 use Rattle.job_report.specs.declared.answers.Answers.{Answers}
+use Rattle.job_report.specs.declared.found.Found.{Found}
+use Rattle.job_report.specs.declared.summaries.Counts.{Counts}
+use Rattle.sudoku_law.specs.Grid.{Cells}
+
+-- the solutions that are told of puzzle n, and whether it is told to be over
+abbrev pub grids_at : Found → ℕ → List Cells
+grids_at f n = option_map_or (λ grids. grids.items) (get nat_cmp f.grids n) []
+
+abbrev pub is_over_at : Found → ℕ → Bool
+is_over_at f n = contains nat_cmp f.overs n
+
+-- puzzle n counts as over or not, and how many solutions are told of it if it does not
+abbrev pub over_count_at : Found → ℕ → ℕ
+over_count_at f n = if is_over_at f n then 1 else 0
+
+abbrev pub solution_count_at : Found → ℕ → ℕ
+solution_count_at f n = if is_over_at f n then 0 else length (grids_at f n)
+
+-- the sums of these over puzzles, the first of which has the number n
+abbrev pub overs_from : Found → ℕ → List Cells → ℕ
+overs_from f n [] = 0
+overs_from f n (g ∷ rest) = over_count_at f n + overs_from f (n + 1) rest
+
+abbrev pub solutions_from : Found → ℕ → List Cells → ℕ
+solutions_from f n [] = 0
+solutions_from f n (g ∷ rest) = solution_count_at f n + solutions_from f (n + 1) rest
+
+-- one more job can be counted
+pub record HasRoom (counts : Counts) : Type 0 where
+  pub puzzles : counts.puzzles < 2 ^ 24
+  pub overs : counts.overs < 2 ^ 24
+  pub solutions : counts.solutions ≤ 2 ^ 88
+  pub batches : counts.batches < 2 ^ 24
+  pub items : counts.items ≤ 2 ^ 48
 
 -- items in order: by batch, then by number
 abbrev pub by_item : ℕ × ℕ → ℕ × ℕ → Ordering

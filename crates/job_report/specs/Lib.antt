@@ -1,4 +1,5 @@
 pub mod Jobs
 pub mod Report
+pub mod Summary
 pub mod Whole
 pub mod Inside

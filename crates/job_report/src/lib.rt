@@ -1,18 +1,23 @@
-//! The report of puzzles and batches, from what the ranks have at their ends.
+//! The report of puzzles and batches, or a summary of it, from what the ranks have at their ends.
 //!
 //! It stands on the jobs of `job_text`, the grids of `sudoku_rules` and `sudoku_law`, and the answers to items of
-//! `job_units`. `specs/Report.antt` says what is written of which jobs (`IsReport`), and `specs/Whole.antt` what the
-//! outcomes of all ranks together are to hold for it (`AreWhole`).
+//! `job_units`. `specs/Report.antt` says what is written of which jobs (`IsReport`), `specs/Summary.antt` what the
+//! summary of jobs is (`summary`), and `specs/Whole.antt` what the outcomes of all ranks together are to hold for both
+//! (`AreWhole`).
 #![tactic(auto)]
 
 mod answers;
 mod batches;
+mod found;
 mod outcomes;
 mod puzzles;
 mod reports;
+mod summaries;
 #[cfg(test)]
 mod tests;
 mod texts;
+mod totals;
 
 pub use outcomes::Outcome;
 pub use reports::render;
+pub use summaries::summarize;

@@ -1,14 +1,15 @@
 //! The part of a puzzle.
 
-ghost use Rattle.std.specs.Prelude.{◌≡◌, ◌==◌, ◌++◌, ℕ, List, length, IfOk, OnOk};
-ghost use Rattle.std.specs.List.{list_any};
+ghost use Rattle.std.specs.Prelude.{◌≡◌, ◌++◌, ℕ, List, length, OnOk};
 ghost use Rattle.sudoku_law.specs.Grid.{Cells};
+ghost use Rattle.job_report.specs.Inside.{grids_at, is_over_at};
 ghost use Rattle.job_report.specs.Report.{IsPuzzlePart, grid_lines, over_part, solutions_part};
-ghost use Rattle.job_report.specs.Whole.{IsHeld, found, found_in, told_over};
+ghost use Rattle.job_report.specs.Whole.{IsHeld, found as found_of, told_over};
+ghost use Rattle.job_report.specs.declared.outcomes.Outcome.{Outcome};
 
-use crate::outcomes::Outcome;
+use crate::found::Found;
 use crate::texts::{append, append_count, append_number};
-use adlb_unit::{NoMemory, or_no_memory};
+use adlb_unit::NoMemory;
 use std::alloc::Global;
 use sudoku_rules::{Grid, in_text_order};
 
@@ -17,66 +18,19 @@ pub(crate) fn append_puzzle(
     alloc: Global,
     text: &mut Vec<u8>,
     number: u32,
-    outcomes: &[Outcome],
+    found: &Found,
 ) -> Result<(), NoMemory>
     ensures { OnOk result ((part : List ℕ) × (text.new.items ≡ text.old.items ++ part) ×
-        ((budget : ℕ) (g : Cells) → IsHeld budget number g outcomes.now → IsPuzzlePart budget number g part)) }
+        ((outcomes : List Outcome) (budget : ℕ) (g : Cells) → grids_at found.now number ≡ found_of number outcomes →
+        is_over_at found.now number ≡ told_over number outcomes → IsHeld budget number g outcomes → IsPuzzlePart budget number g part)) }
 {
-    if is_over(number, outcomes) {
+    if found.is_over(number) {
         append_over(text, number)?;
         return Ok(());
     }
-    let mut grids = solutions_of(alloc, number, outcomes)?;
+    let mut grids = found.solutions(alloc, number)?;
     in_text_order(&mut grids)?;
     append_solutions(text, number, &grids)?;
-    Ok(())
-}
-
-// Some outcome tells that the puzzle is over.
-fn is_over(number: u32, outcomes: &[Outcome]) -> bool
-    ensures { result ≡ told_over number outcomes.now }
-{
-    for outcome in outcomes {
-        if has(&outcome.overs, number) {
-            return true;
-        }
-    }
-    false
-}
-
-// The number is among them.
-fn has(numbers: &[u32], number: u32) -> bool
-    ensures { result ≡ list_any (λ n. n == number) numbers.now }
-{
-    numbers.iter().any(|n| *n == number)
-}
-
-// The solutions of the puzzle in all outcomes.
-fn solutions_of(alloc: Global, number: u32, outcomes: &[Outcome]) -> Result<Vec<Grid>, NoMemory>
-    ensures { IfOk result (λ grids. grids.items ≡ found number outcomes.now) }
-{
-    let mut grids = Vec::new(alloc);
-    for outcome in outcomes {
-        add_solutions(&mut grids, number, &outcome.solutions)?;
-    }
-    Ok(grids)
-}
-
-// Adds the solutions of the puzzle among these.
-fn add_solutions(
-    grids: &mut Vec<Grid>,
-    number: u32,
-    solutions: &[(u32, Grid)],
-) -> Result<(), NoMemory>
-    ensures { OnOk result (grids.new.items ≡ grids.old.items ++ found_in number solutions.now) }
-{
-    for solution in solutions {
-        let (puzzle, grid) = *solution;
-        if puzzle != number {
-            continue;
-        }
-        or_no_memory(grids.push(grid))?;
-    }
     Ok(())
 }
 

@@ -1,14 +1,15 @@
 //! The report of the jobs of an input.
 
-ghost use Rattle.std.specs.Prelude.{◌≡◌, ◌++◌, ◌<◌, ◌^◌, ℕ, IfOk, OnOk};
-ghost use Rattle.job_report.specs.Report.{IsReport, totals};
+ghost use Rattle.std.specs.Prelude.{◌<◌, ◌^◌, ℕ, IfOk};
+ghost use Rattle.job_report.specs.Report.{IsReport};
 ghost use Rattle.job_report.specs.Whole.{AreWhole, made_in};
 
 use crate::answers::Answers;
 use crate::batches::append_batch;
+use crate::found::Found;
 use crate::outcomes::Outcome;
 use crate::puzzles::append_puzzle;
-use crate::texts::{append, append_count};
+use crate::totals::append_totals;
 use adlb_unit::NoMemory;
 use job_text::{Job, Jobs};
 use std::alloc::Global;
@@ -21,6 +22,7 @@ pub fn render(alloc: Global, jobs: &Jobs, outcomes: &[Outcome]) -> Result<Vec<u8
     ensures { (budget grain : ℕ) → AreWhole budget grain jobs.now outcomes.now →
         IfOk result (λ text. IsReport budget grain jobs.now text.items) }
 {
+    let found = Found::of(alloc, outcomes)?;
     let answers = Answers::of(alloc, outcomes)?;
     let mut text = Vec::new(alloc);
     let mut puzzle: u32 = 1;
@@ -29,7 +31,7 @@ pub fn render(alloc: Global, jobs: &Jobs, outcomes: &[Outcome]) -> Result<Vec<u8
     for job in jobs {
         match job {
             Job::Puzzle(_) => {
-                append_puzzle(alloc, &mut text, puzzle, outcomes)?;
+                append_puzzle(alloc, &mut text, puzzle, &found)?;
                 puzzle += 1;
             }
             Job::Batch { common, items } => {
@@ -40,31 +42,4 @@ pub fn render(alloc: Global, jobs: &Jobs, outcomes: &[Outcome]) -> Result<Vec<u8
     }
     append_totals(&mut text, outcomes)?;
     Ok(text)
-}
-
-// Appends how many units of each type were made.
-fn append_totals(text: &mut Vec<u8>, outcomes: &[Outcome]) -> Result<(), NoMemory>
-    requires room { (k : ℕ) → made_in k outcomes.now < 2 ^ 128 }
-    ensures { OnOk result (text.new.items ≡ text.old.items ++
-        totals (made_in 0 outcomes.now) (made_in 1 outcomes.now) (made_in 2 outcomes.now) (made_in 3 outcomes.now)) }
-{
-    append(text, b"totals\n")?;
-    append_count(text, b"board", made_of(0, outcomes))?;
-    append_count(text, b"solution", made_of(1, outcomes))?;
-    append_count(text, b"job", made_of(2, outcomes))?;
-    append_count(text, b"answer", made_of(3, outcomes))?;
-    Ok(())
-}
-
-// How many units of a type all made.
-fn made_of(kind: usize, outcomes: &[Outcome]) -> u128
-    requires kind { kind < 4 }
-    requires room { made_in kind outcomes.now < 2 ^ 128 }
-    ensures { result ≡ made_in kind outcomes.now }
-{
-    let mut total = 0;
-    for outcome in outcomes {
-        total += outcome.made[kind];
-    }
-    total
 }

@@ -1,10 +1,10 @@
-//! Reports of jobs, from what two ranks are said to have.
+//! Reports and summaries of jobs, from what two ranks are said to have.
 
 ghost use Rattle.std.specs.Prelude.{◌<◌, ◌^◌, ℕ, slice_index, IfOk, vec_len};
 ghost use Rattle.job_report.specs.Whole.{made_in};
 
 use super::*;
-use job_text::read_jobs;
+use job_text::{Jobs, read_jobs};
 use std::alloc::Global;
 use std::process::Abort;
 use std::test::Fail;
@@ -26,7 +26,7 @@ const NOTHING: Told = Told {
     made: [0, 0, 0, 0],
 };
 
-/// An input, what two ranks are said to have, and the report.
+/// An input, what two ranks are said to have, and what is written of them.
 type Row = (&'static [u8], Told, Told, &'static str);
 
 // The grids of these texts.
@@ -56,14 +56,27 @@ fn outcome_of(alloc: Global, told: &Told) -> Result<Outcome, Fail>
     })
 }
 
-// The report of the input's jobs, from the two outcomes.
-fn report_of(alloc: Global, input: &[u8], first: &Told, second: &Told) -> Result<String, Fail> {
+// The jobs of the input.
+fn jobs_of(alloc: Global, input: &[u8]) -> Result<Jobs, Fail> {
     if input.len() > 1 << 24 {
         return Err("long".into());
     }
-    let jobs = read_jobs(alloc, input)?;
+    Ok(read_jobs(alloc, input)?)
+}
+
+// The report of the input's jobs, from the two outcomes.
+fn report_of(alloc: Global, input: &[u8], first: &Told, second: &Told) -> Result<String, Fail> {
+    let jobs = jobs_of(alloc, input)?;
     let outcomes = [outcome_of(alloc, first)?, outcome_of(alloc, second)?];
     let text = render(alloc, &jobs, &outcomes)?;
+    Ok(String::from_utf8(text).unwrap_or(String::new(alloc)))
+}
+
+// The summary of the input's jobs, from the two outcomes.
+fn summary_of(alloc: Global, input: &[u8], first: &Told, second: &Told) -> Result<String, Fail> {
+    let jobs = jobs_of(alloc, input)?;
+    let outcomes = [outcome_of(alloc, first)?, outcome_of(alloc, second)?];
+    let text = summarize(alloc, &jobs, &outcomes)?;
     Ok(String::from_utf8(text).unwrap_or(String::new(alloc)))
 }
 
@@ -240,6 +253,36 @@ const MIXED: &[Row] = &[(
      totals\nboard 2\nsolution 1\njob 3\nanswer 3\n",
 )];
 
+/// Summaries of no job, and of three puzzles, the first of which is over, among two batches.
+const SUMMARIES: &[Row] = &[
+    (
+        b"",
+        NOTHING,
+        NOTHING,
+        "puzzles 0 over 0 solutions 0\n\
+         batches 0 items 0\n\
+         totals\nboard 0\nsolution 0\njob 0\nanswer 0\n",
+    ),
+    (
+        b"batch abc\nmax\n................\n..343412..434321\nbatch cab!\nmax\nsum\n1234341221434321",
+        Told {
+            solutions: &[(2, "2134341212434321"), (1, "1234341221434321")],
+            answers: &[(2, 2, 327), (1, 1, 99)],
+            made: [3, 2, 1, 2],
+            ..NOTHING
+        },
+        Told {
+            solutions: &[(3, "1234341221434321"), (2, "1234341221434321")],
+            overs: &[1],
+            answers: &[(2, 1, 99)],
+            made: [2, 2, 2, 1],
+        },
+        "puzzles 3 over 1 solutions 3\n\
+         batches 2 items 3\n\
+         totals\nboard 5\nsolution 4\njob 3\nanswer 3\n",
+    ),
+];
+
 #[test]
 fn puzzles_have_their_solutions_in_text_order(rt: HostRuntime) -> Result<(), Fail> {
     check(&rt, rt.alloc(), PUZZLES)
@@ -258,4 +301,13 @@ fn batches_have_a_line_for_each_item(rt: HostRuntime) -> Result<(), Fail> {
 #[test]
 fn jobs_stand_in_input_order(rt: HostRuntime) -> Result<(), Fail> {
     check(&rt, rt.alloc(), MIXED)
+}
+
+#[test]
+fn summaries_count_solutions_of_puzzles_that_are_not_over(rt: HostRuntime) -> Result<(), Fail> {
+    for (input, first, second, expected) in SUMMARIES {
+        let text = summary_of(rt.alloc(), input, first, second)?;
+        assert_eq!(rt; text.as_str(), *expected);
+    }
+    Ok(())
 }
