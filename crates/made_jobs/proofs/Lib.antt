@@ -1,0 +1,5 @@
+pub mod Drawing
+pub mod Lengths
+pub mod Relabelling
+pub mod Signs
+mod Worked

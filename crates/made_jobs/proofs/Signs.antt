@@ -1,0 +1,71 @@
+-- The signs of a made puzzle are dots and digits.
+use Rattle.std.proofs.Common.{◌≡◌, ◌∙◌, inl, inr, ℕ, zero, suc, ◌+◌, ◌-◌, ◌%◌, ◌<◌, List, [], ◌∷◌, get_or, length, set, refl, sym, subst, arith, length-set}
+use Rattle.std.specs.Prelude.{All, codes, swap}
+use Rattle.std.proofs.lemmas.Bool.{cases_lt}
+use Rattle.std.proofs.lemmas.List.{get_or_past}
+use Rattle.std.proofs.lemmas.List.Elements.{All-from_get_or, All-get_or, All-head, All-map, All-set}
+use Rattle.rand_pcg.specs.Lcg.{Lcg}
+use Rattle.made_jobs.specs.Made.{blanks, draw, exchange, exchanges, full_grid, puzzle, relabelled, shuffled, sign_for}
+use Rattle.made_jobs.specs.Signs.{IsDigit, IsPuzzle, IsSign}
+use Rattle.made_jobs.proofs.Lengths.{puzzle_long}
+use Rattle.made_jobs.proofs.Relabelling.{grid_long, are_digits, grid_digit}
+
+-- what holds of each element holds of each after an exchange
+swap_keeps : (P : ℕ → Type 0) (xs : List ℕ) (i j : ℕ) → All P xs → All P (swap xs i j)
+swap_keeps P [] i j all = all
+swap_keeps P (x ∷ xs) i j all =
+    All-set P (set (x ∷ xs) i (get_or (x ∷ xs) j x)) j (get_or (x ∷ xs) i x) (at i) (All-set P (x ∷ xs) i (get_or (x ∷ xs) j x) (at j) all)
+  where
+    at : (k : ℕ) → P (get_or (x ∷ xs) k x)
+    at k = elim (cases_lt k (length (x ∷ xs))) [
+      | inl within ↦ All-get_or P (x ∷ xs) k x within all
+      | inr past ↦ subst P (sym (get_or_past (x ∷ xs) k x past)) (All-head P x xs all)
+    ]
+
+swap_long : (xs : List ℕ) (i j : ℕ) → length (swap xs i j) ≡ length xs
+swap_long [] i j = refl
+swap_long (x ∷ xs) i j =
+    length-set (set (x ∷ xs) i (get_or (x ∷ xs) j x)) j (get_or (x ∷ xs) i x) ∙ length-set (x ∷ xs) i (get_or (x ∷ xs) j x)
+
+-- nine digits
+record AreNine (signs : List ℕ) : Type 0 where
+  long : length signs ≡ 9
+  each : All IsDigit signs
+
+exchanges_keep : (place : ℕ) (at : List ℕ × Lcg) → AreNine at.0 → AreNine (exchanges place at).0
+unfolding exchanges
+exchanges_keep zero at nine = nine
+exchanges_keep (suc before) at nine =
+    exchanges_keep before (exchange (suc before) at) (record {
+      long = swap_long at.0 (suc before) ((draw at.1).0 % (suc before + 1)) ∙ nine.long;
+      each = swap_keeps IsDigit at.0 (suc before) ((draw at.1).0 % (suc before + 1)) nine.each;
+    })
+
+shuffled_nine : (generator : Lcg) → AreNine (shuffled generator).0
+unfolding shuffled
+shuffled_nine generator =
+    exchanges_keep 8 (codes "123456789", generator) (record { long = refl; each = are_digits (codes "123456789") refl refl })
+
+relabelled_digits : (signs : List ℕ) → AreNine signs → All IsSign (relabelled signs)
+unfolding relabelled
+relabelled_digits signs nine =
+    All-map IsSign (sign_for signs) full_grid
+    (All-from_get_or (λ digit. IsSign (sign_for signs digit)) full_grid 0
+    (λ place within. inr (All-get_or IsDigit signs (get_or full_grid place 0 - 49) 0 (few place within) nine.each)))
+  where
+    few : (place : ℕ) → place < length full_grid → get_or full_grid place 0 - 49 < length signs
+    few place within = omega (arith, nine.long, (grid_digit place (omega (arith, within, grid_long))).1)
+
+blanks_keep : (times : ℕ) (at : List ℕ × Lcg) → All IsSign at.0 → All IsSign (blanks times at).0
+unfolding blanks
+blanks_keep zero at all = all
+blanks_keep (suc times) at all =
+    All-set IsSign (blanks times at).0 ((draw (blanks times at).1).0 % 81) 46 (inl refl) (blanks_keep times at all)
+
+pub puzzle_signs : (generator : Lcg) → IsPuzzle (puzzle generator).0
+unfolding puzzle
+puzzle_signs generator = record {
+  long = puzzle_long generator;
+  each = blanks_keep 40 (relabelled (shuffled generator).0, (shuffled generator).1)
+      (relabelled_digits (shuffled generator).0 (shuffled_nine generator));
+}

@@ -1,0 +1,18 @@
+//! Inputs of any size, made from a seed: puzzles and batches, the same for a seed on each machine.
+//!
+//! It stands on the generator PCG32 of `rand_pcg` and the sinks of `adlb_io`. `specs/Made.antt` says what text is made
+//! of a count and a seed (`made_text`), and `specs/Ends.antt` how its writing ends (`MakesTo`).
+#![tactic(auto)]
+
+mod faults;
+mod laws;
+mod makers;
+#[cfg(test)]
+mod tests;
+mod texts;
+mod writing;
+
+pub use faults::MadeFault;
+pub use laws::made_laws;
+pub use texts::made;
+pub use writing::write_made;

@@ -1,0 +1,6 @@
+mod Fronts
+mod Signs
+mod MadeLines
+mod Accepted
+mod Counted
+mod Worked
