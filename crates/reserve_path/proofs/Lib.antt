@@ -1,0 +1,9 @@
+pub mod Conditions
+pub mod Examples
+pub mod Granted
+pub mod Others
+pub mod Outcomes
+pub mod Places
+pub mod Resting
+pub mod Rooms
+pub mod Sound

@@ -1,0 +1,73 @@
+-- What a step comes to if a unit was granted, and if none was.
+use Rattle.std.proofs.Common.{◌≡◌, ℕ, Option, None, Some, List, [], ◌∷◌, get_or, refl, ap, sym, ◌∙◌}
+use Rattle.std.specs.Prelude.{slice_get}
+use Rattle.std.specs.List.{position}
+use Rattle.std.specs.Option.{option_map}
+use Rattle.adlb_unit.specs.declared.names.Rank.{Rank}
+use Rattle.adlb_unit.specs.declared.names.Server.{Server}
+use Rattle.adlb_unit.specs.declared.notes.UnitNote.{UnitNote}
+use Rattle.work_queue.specs.Queue.{Queue}
+use Rattle.work_queue.specs.declared.placing.Placed.{Placed}
+use Rattle.reserve_path.specs.Calls.{after_none, gone, step_for, step_of}
+use Rattle.reserve_path.specs.Grants.{best_for, note_of}
+use Rattle.reserve_path.specs.Parked.{ParkedModel, entry_of, is_of}
+use Rattle.reserve_path.specs.declared.waits.Waiting.{Waiting}
+use Rattle.reserve_path.proofs.Places.{found_at}
+use Rattle.reserve_path.specs.declared.steps.ReserveStep.TheVariants as comes_to
+
+some_same : {X : Type 0} (x y : X) → Some x ≡ Some y → x ≡ y
+some_same x y same = cc (same)
+
+pub some_step : (me : Server) (o : Option Placed) (servers : List Server) (note : UnitNote)
+    → Some note ≡ option_map (λ p. note_of me p.unit) o
+    → comes_to.Granted note ≡ step_for me o servers
+some_step me None servers note is = absurd (cc (is))
+some_step me (Some p) servers note is = ap (λ n. comes_to.Granted n) (some_same note (note_of me p.unit) is)
+
+pub some_gone : (me : Server) (m : ParkedModel) (rank : Rank) (o : Option Placed) (note : UnitNote)
+    → Some note ≡ option_map (λ p. note_of me p.unit) o → gone m rank ≡ after_none m rank o
+some_gone me m rank None note is = absurd (cc (is))
+some_gone me m rank (Some p) note is = refl
+
+pub none_granted : (me : Server) (o : Option Placed) → None ≡ option_map (λ p. note_of me p.unit) o → o ≡ None
+none_granted me None is = refl
+none_granted me (Some p) is = absurd (cc (is))
+
+-- The rank that was found at a place is the one that is told of.
+
+pub one_now : (i m : ParkedModel) → i ≡ m → (rank : Rank) (n : ℕ) (read e : Waiting) → position (is_of rank) m.parked.waiting ≡ Some n
+    → read ≡ get_or i.parked.waiting n read → entry_of m rank ≡ Some e → read ≡ e
+one_now i m view rank n read e there is found =
+    is ∙ ap (λ (x : ParkedModel). get_or x.parked.waiting n read) view
+    ∙ some_same (get_or m.parked.waiting n read) e (sym (found_at (is_of rank) m.parked.waiting n read there) ∙ found)
+
+-- so what was granted is what is told of it
+pub note_now : (i m : ParkedModel) → i ≡ m → (q : Queue) (rank : Rank) (read e : Waiting) → read ≡ e → (given : Option UnitNote)
+    → given ≡ option_map (λ p. note_of i.me p.unit) (best_for q rank read.wish.types)
+    → given ≡ option_map (λ p. note_of m.me p.unit) (best_for q rank e.wish.types)
+note_now i m view q rank read e same given is =
+    is ∙ ap (λ (x : ParkedModel). option_map (λ (p : Placed). note_of x.me p.unit) (best_for q rank read.wish.types)) view
+    ∙ ap (λ (x : Waiting). option_map (λ (p : Placed). note_of m.me p.unit) (best_for q rank x.wish.types)) same
+
+pub read_one : (m : ParkedModel) (rank : Rank) (n : ℕ) (e : Waiting) → position (is_of rank) m.parked.waiting ≡ Some n
+    → entry_of m rank ≡ Some e
+    → get_or m.parked.waiting n e ≡ e
+read_one m rank n e there found =
+    some_same (get_or m.parked.waiting n e) e (sym (found_at (is_of rank) m.parked.waiting n e there) ∙ found)
+
+-- What is asked stands first among those to be asked; the rank is idle if none is left.
+
+pub asks_first : (o : Option Server) (s : Server) → step_of o ≡ comes_to.Ask s → o ≡ Some s
+asks_first None s is = absurd (cc (is))
+asks_first (Some t) s is = let same : t ≡ s = cc (is) in ap (λ (u : Server). Some u) same
+
+pub idle_none : (o : Option Server) → step_of o ≡ comes_to.Idle → o ≡ None
+idle_none None is = refl
+idle_none (Some t) is = absurd (cc (is))
+
+pub none_first : (servers : List Server) → slice_get servers 0 ≡ None → servers ≡ []
+none_first [] is = refl
+none_first (s ∷ servers) is = absurd (cc (is))
+
+pub first_of_none : (servers : List Server) → servers ≡ [] → step_of (slice_get servers 0) ≡ comes_to.Idle
+first_of_none servers none = rw none refl

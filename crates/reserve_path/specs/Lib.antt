@@ -1,0 +1,5 @@
+pub mod Calls
+pub mod Grants
+pub mod Inside
+pub mod Parked
+pub mod Rest

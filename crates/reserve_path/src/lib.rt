@@ -1,0 +1,34 @@
+//! The ranks that wait at one server for a unit, and how a unit finds its way to one of them.
+//!
+//! A server is the home of some ranks. A rank that reserves at its home is parked there if no free unit is permitted
+//! to it: its home asks the other servers one after the other, in ring order, and while a server is unanswered
+//! the rank gets nothing else. After each answer that there is none, the home looks at its own queue again, then asks
+//! the next server; after the last the rank is idle. A server that had no unit for another home's rank keeps a wish,
+//! and when a unit becomes free there for which no rank waits, the wish is taken off and a hint goes to the rank's
+//! home, which asks that server again.
+//!
+//! It stands on the queue of `work_queue`. `specs/Parked.antt` says what waits, `specs/Grants.antt` what is granted,
+//! and `specs/Calls.antt` what each call makes of both. Three laws are read off these definitions: what is granted is
+//! the best unit (`grant_laws`); no free unit lies for an idle rank (`parked_laws`); and none does for a rank that
+//! waits elsewhere and has a wish (`wish_laws`). `specs/Rest.antt` has the words of the latter two.
+#![tactic(auto)]
+
+mod granting;
+mod hinting;
+mod laws;
+mod offering;
+mod parking;
+mod reserving;
+mod ring;
+mod steps;
+#[cfg(test)]
+mod tests;
+mod waits;
+mod wishes;
+
+pub use laws::{grant_laws, parked_laws, wish_laws};
+pub use parking::Parked;
+pub use ring::ToAsk;
+pub use steps::ReserveStep;
+pub use waits::Waiting;
+pub use wishes::Wish;
