@@ -1,5 +1,5 @@
 -- What is kept of a run of one rank over one server.
-use Rattle.std.proofs.Common.{◌≡◌, ◌||◌, false, ◌<◌, ◌≤◌, ◌^◌, ◌+◌, ℕ, zero, suc, List, [], ◌∷◌, ◌++◌, length, Option, Some, None, Result, Ok, Err, IfOk, All, map, refl, sym, ap, ◌∙◌, subst, arith, slice_get, slice_index}
+use Rattle.std.proofs.Common.{◌≡◌, ◌||◌, true, false, ◌<◌, ◌≤◌, ◌^◌, ◌+◌, ℕ, zero, suc, List, [], ◌∷◌, ◌++◌, length, Option, Some, None, Result, Ok, Err, IfOk, All, map, refl, sym, ap, ◌∙◌, subst, arith, slice_get, slice_index}
 use Rattle.std.proofs.lemmas.Result.{IfOk-at_ok}
 use Rattle.std.proofs.lemmas.List.Elements.{All-cons, All-head, All-nil, All-tail}
 use Rattle.std.proofs.lemmas.List.Sums.{sum_by-cons}
@@ -14,7 +14,7 @@ use Rattle.job_report.specs.Jobs.{puzzles}
 use Rattle.job_text.specs.Jobs.{HasGrid}
 use Rattle.job_text.specs.declared.jobs.Job.TheVariants.{Batch, Puzzle}
 use Rattle.job_report.specs.Whole.{AreWhole, made_in}
-use Rattle.puzzle_law.proofs.Joining.{joined_spent, joined_whole}
+use Rattle.puzzle_law.proofs.Joining.{joined_freed, joined_spent, joined_whole}
 use Rattle.rank_client.proofs.Transcripts.{finished_more}
 use Rattle.rank_client.specs.Calls.{has_finished, plus}
 use Rattle.bag_ledger.specs.declared.entries.Answer.{Answer}
@@ -88,21 +88,23 @@ module _ (config : Config) (settings : Settings) (jobs : List Job) (program : Pu
       all = sym one_rank;
     }
 
-    kept : All (λ u. u.place ≡ Spent) ends.last.units → (IsLeft ends.last left → left ≡ []) → IsKept settings jobs (one_report config ledger transcript left outcome)
-    kept spent none = record {
+    kept : All (λ u. u.place ≡ Spent) ends.last.units → All (λ p. (p.closed ≡ true) × (p.freed ≡ true)) ends.last.parts → (IsLeft ends.last left → left ≡ []) → IsKept settings jobs (one_report config ledger transcript left outcome)
+    kept spent freed none = record {
       last = ends.last;
       legal = legal;
       transcripts = λ rank below. only (λ r. slice_get (transcript ∷ []) r.0 ≡ Some (calls config ledger r)) (ap Some (sym said_is)) rank.0 (low rank.0 below);
       all = sym one_rank;
       ranks = puzzle_run;
       spent = spent;
+      freed = freed;
       left = none ends.left_is;
     }
 
     pub run_is_kept : IsKept settings jobs (one_report config ledger transcript left outcome)
     run_is_kept =
         let spent : All (λ u. u.place ≡ Spent) ends.last.units = joined_spent balanced config ledger ends.last settings jobs (outcome ∷ []) (omega (arith, one_rank)) legal puzzle_run in
-        kept spent (nothing_left ends.last left spent)
+        let freed : All (λ p. (p.closed ≡ true) × (p.freed ≡ true)) ends.last.parts = joined_freed balanced config ledger ends.last settings jobs (outcome ∷ []) (omega (arith, one_rank)) legal puzzle_run in
+        kept spent freed (nothing_left ends.last left spent)
 
 -- where the report is of what the program found, it is kept
 pub reports_kept : (config : Config) (settings : Settings) (jobs : List Job) (last : Run) (said transcript : List Said) (ledger : List Entry) (left : List LeftUnit) (outcome : Result Outcome RunFault) (result : Result (Reported Outcome) RunFault) → config.ranks ≡ 1 → HasNumbers config last → IfOk outcome (HasWorked settings jobs said) → transcript ≡ said ++ finish ∷ [] → IsEnd last ledger transcript left → IfOk result (λ r. IsReportOf config ledger transcript left outcome r) → IfOk result (IsKept settings jobs)
@@ -164,9 +166,9 @@ all_grids (Puzzle g ∷ jobs) grids =
 all_grids (Batch common items ∷ jobs) grids = all_grids jobs (All-tail HasGrid (Batch common items) jobs grids)
 
 -- the outcomes that are kept hold what the jobs are to give
-pub kept_whole : (settings : Settings) (jobs : List Job) (r : Reported Outcome) → r.config.ranks ≡ 1 → settings.budget < 2 ^ 64 → All HasGrid jobs → length jobs ≤ 2 ^ 24 → IsKept settings jobs r → AreWhole settings.budget settings.grain jobs r.outcomes
-kept_whole settings jobs r one small grids few kept =
-    joined_whole balanced r.config r.ledger kept.last settings jobs r.outcomes (omega (arith, one)) kept.legal (all_grids jobs grids) few small kept.ranks
+pub kept_whole : (settings : Settings) (jobs : List Job) (r : Reported Outcome) → r.config.ranks ≡ 1 → All HasGrid jobs → IsKept settings jobs r → AreWhole settings.budget settings.grain jobs r.outcomes
+kept_whole settings jobs r one grids kept =
+    joined_whole balanced r.config r.ledger kept.last settings jobs r.outcomes (omega (arith, one)) kept.legal (all_grids jobs grids) kept.ranks
 
 -- a link of the same seat has the same numbers
 pub seat_numbers : (before after : Run) → seat_of after ≡ seat_of before → HasNumbers before.config after

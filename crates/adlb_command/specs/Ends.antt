@@ -1,5 +1,5 @@
--- The faults of a run, and its exit status.
-use Rattle.std.specs.Prelude.{ℕ, Option, Some, None}
+-- The faults of a command, and its exit status.
+use Rattle.std.specs.Prelude.{ℕ, Option, Some, None, Result, Ok, Err}
 use Rattle.adlb_io.specs.declared.sinks.SinkFault.{SinkFault}
 use Rattle.adlb_io.specs.declared.sinks.SinkFault.TheVariants as sinks
 use Rattle.adlb_io.specs.declared.sources.SourceFault.{SourceFault}
@@ -8,8 +8,13 @@ use Rattle.adlb_unit.specs.declared.notes.Trouble.{Trouble}
 use Rattle.adlb_unit.specs.declared.notes.Trouble.TheVariants as troubles
 use Rattle.job_text.specs.declared.faults.JobsFault.{JobsFault}
 use Rattle.job_text.specs.declared.faults.JobsFault.TheVariants as refusals
+use Rattle.ledger_command.specs.declared.faults.CheckFault.{CheckFault}
+use Rattle.ledger_command.specs.declared.faults.CheckFault.TheVariants as checks
+use Rattle.ledger_command.specs.declared.verdicts.Verdict.{Verdict}
+use Rattle.made_jobs.specs.declared.faults.MadeFault.{MadeFault}
+use Rattle.made_jobs.specs.declared.faults.MadeFault.TheVariants as makes
 use Rattle.adlb_command.specs.declared.ends.RunFault.{RunFault}
-use Rattle.adlb_command.specs.declared.ends.RunFault.TheVariants.{Input, Usage, Read, Write, Memory, TooLong, TooLarge}
+use Rattle.adlb_command.specs.declared.ends.RunFault.TheVariants.{Input, Usage, Read, Write, Memory, TooLong, TooLarge, Entry}
 
 abbrev pub status_of : Option RunFault → ℕ
 status_of None = 0
@@ -20,15 +25,7 @@ status_of (Some Write) = 4
 status_of (Some Memory) = 6
 status_of (Some (TooLong stamp)) = 7
 status_of (Some (TooLarge taken)) = 8
-
--- the faults before which nothing is written
-abbrev pub IsEarly : Option RunFault → Type 0
-IsEarly (Some (Input line why)) = Unit {0}
-IsEarly (Some Usage) = Unit {0}
-IsEarly (Some Read) = Unit {0}
-IsEarly (Some (TooLong stamp)) = Unit {0}
-IsEarly (Some (TooLarge taken)) = Unit {0}
-IsEarly fault = ⊥
+status_of (Some (Entry line)) = 1
 
 -- there is no fault, or one that neither the outside nor the input brings about
 abbrev pub IsFine : Option RunFault → Type 0
@@ -54,3 +51,26 @@ fault_at sources.Memory = Memory
 abbrev pub fault_of : SinkFault → RunFault
 fault_of sinks.Failed = Write
 fault_of sinks.Memory = Memory
+
+-- Which fault one of a check is, and that of its end.
+
+abbrev pub fault_at_check : CheckFault → RunFault
+fault_at_check checks.Read = Read
+fault_at_check checks.Write = Write
+fault_at_check checks.Memory = Memory
+fault_at_check (checks.TooLarge taken) = TooLarge taken
+fault_at_check (checks.Entry line) = Entry line
+
+abbrev pub fault_told : Result Verdict CheckFault → Option RunFault
+fault_told (Ok verdict) = None
+fault_told (Err fault) = Some (fault_at_check fault)
+
+-- and of a making
+
+abbrev pub fault_at_making : MadeFault → RunFault
+fault_at_making makes.Write = Write
+fault_at_making makes.Memory = Memory
+
+abbrev pub fault_made : Result (Unit {0}) MadeFault → Option RunFault
+fault_made (Ok done) = None
+fault_made (Err fault) = Some (fault_at_making fault)

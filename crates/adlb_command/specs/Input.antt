@@ -1,5 +1,6 @@
--- The end of an input, and whether it is refused.
-use Rattle.std.specs.Prelude.{◌≡◌, ◌≤◌, ◌<◌, ◌^◌, ℕ, List, [], length, Option, Some, None}
+-- Which inputs are accepted, refused and too long.
+use Rattle.std.specs.Prelude.{◌≡◌, ◌≤◌, ◌^◌, ℕ, List, length, Option, Some, None}
+use Rattle.adlb_io.specs.Inputs.{HasMore}
 use Rattle.job_text.specs.declared.faults.LineWhy.{LineWhy}
 use Rattle.job_text.specs.declared.jobs.Job.{Job}
 use Rattle.job_text.specs.Jobs.{input_jobs, input_refused}
@@ -17,11 +18,6 @@ pub record IsAccepted (bytes : List ℕ) : Type 0 where
 abbrev pub AreJobs : List ℕ → List Job → Type 0
 AreJobs bytes jobs = IsAccepted bytes × (jobs ≡ input_jobs bytes)
 
--- a source that tells what is left has nothing left
-abbrev pub IsAtEnd : Option (List ℕ) → Type 0
-IsAtEnd None = Unit {0}
-IsAtEnd (Some bytes) = bytes ≡ []
-
 -- a source that tells what is left has an input whose first refused line is this one, for this reason
 abbrev pub IsRefusedAt : Option (List ℕ) → ℕ → LineWhy → Type 0
 IsRefusedAt left line why = (bytes : List ℕ) → left ≡ Some bytes → (length bytes ≤ input_limit) × (input_refused bytes ≡ Some (line, why))
@@ -31,4 +27,4 @@ abbrev pub HasAccepted : Option (List ℕ) → Type 0
 HasAccepted left = (bytes : List ℕ) → left ≡ Some bytes → IsAccepted bytes
 
 abbrev pub IsTooLong : Option (List ℕ) → Type 0
-IsTooLong left = (bytes : List ℕ) → left ≡ Some bytes → input_limit < length bytes
+IsTooLong left = HasMore input_limit left

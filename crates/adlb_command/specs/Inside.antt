@@ -16,7 +16,13 @@ use Rattle.puzzle_app.specs.declared.program.PuzzleProgram.{PuzzleProgram}
 use Rattle.puzzle_app.specs.Follows.{Follows}
 use Rattle.job_text.specs.Jobs.{input_refused}
 use Rattle.server_core.specs.declared.states.LeftUnit.{LeftUnit}
+use Rattle.command_words.specs.Ranges.{IsIn, counts}
+use Rattle.command_words.specs.Said.{IsRunWithin}
+use Rattle.command_words.specs.declared.commands.Command.TheVariants.{Solve, Check, Make, Drill}
 use Rattle.adlb_command.specs.Ends.{fault_of}
+use Rattle.adlb_command.specs.Words.{Say}
+use Rattle.adlb_command.specs.declared.words.Accepted.{Accepted}
+use Rattle.adlb_command.specs.declared.words.Accepted.TheVariants as accepted
 use Rattle.adlb_command.specs.Input.{HasAccepted, IsRefusedAt, IsTooLong, input_limit}
 use Rattle.adlb_command.specs.declared.ends.RunFault.{RunFault}
 use Rattle.adlb_command.specs.declared.ends.RunFault.TheVariants.{Input, Read, Memory, TooLong, TooLarge}
@@ -102,3 +108,10 @@ pub record WritesPart (report : Reported Outcome) (text : List ℕ) (before afte
 abbrev pub Writes : Reported Outcome → List ℕ → Option (List ℕ) → Option (List ℕ) → ℕ → ℕ → Bool → Option RunFault → Option (Reported Outcome) → Type 0
 Writes report text before after faults faults' flushed fault kept =
     WritesAll report text before after flushed fault kept ⊎ WritesPart report text before after faults faults' fault kept
+
+-- the words say this command, and its numbers are within their limits
+abbrev pub IsAcceptedAs : List (List ℕ) → Accepted → Type 0
+IsAcceptedAs words (accepted.Solve w) = Say words (Solve w) × IsRunWithin w.options
+IsAcceptedAs words accepted.Check = Say words Check
+IsAcceptedAs words (accepted.Make count seed) = Say words (Make count seed)
+IsAcceptedAs words (accepted.Drill count seed o) = Say words (Drill count seed o) × IsIn counts count × IsRunWithin o

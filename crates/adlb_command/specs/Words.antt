@@ -1,21 +1,34 @@
 -- Which command lines are accepted, and what they say.
-use Rattle.std.specs.Prelude.{◌≡◌, List, ℕ, Some, false}
+use Rattle.std.specs.Prelude.{◌≡◌, List, ℕ, Some}
 use Rattle.adlb_unit.specs.declared.configs.Config.{Config}
 use Rattle.command_words.specs.Said.{command_of}
-use Rattle.command_words.specs.declared.commands.Command.TheVariants.{Solve}
+use Rattle.command_words.specs.declared.commands.Command.{Command}
+use Rattle.command_words.specs.declared.commands.Command.TheVariants.{Solve, Check, Make, Drill}
 use Rattle.command_words.specs.declared.commands.RunOptions.{RunOptions}
+use Rattle.command_words.specs.declared.commands.SolveWords.{SolveWords}
 use Rattle.puzzle_app.specs.declared.outcomes.Settings.{Settings}
+use Rattle.adlb_command.specs.declared.extras.Extras.{Extras}
 
--- the words are the command `solve` with these options, and ask for nothing behind the report
-abbrev pub Say : List (List ℕ) → RunOptions → Type 0
-Say words options = command_of words ≡ Some (Solve (record { options = options; stats = false; ledger = false }))
+-- the words say this command
+abbrev pub Say : List (List ℕ) → Command → Type 0
+Say words command = command_of words ≡ Some command
+
+-- the commands that are carried out
+abbrev pub IsCarriedOut : Command → Type 0
+IsCarriedOut (Solve words) = Unit {0}
+IsCarriedOut Check = Unit {0}
+IsCarriedOut (Make count seed) = Unit {0}
+IsCarriedOut (Drill count seed run) = Unit {0}
 
 abbrev pub AreAccepted : List (List ℕ) → Type 0
-AreAccepted words = (options : RunOptions) × Say words options
+AreAccepted words = (command : Command) × Say words command × IsCarriedOut command
 
--- the settings of the puzzles, and the numbers of a run with these options: one rank, one server, and its limit
+-- the settings of the puzzles, what follows the report, and the numbers of the run: one rank, one server, and its limit
 abbrev pub settings_of : RunOptions → Settings
 settings_of options = record { budget = options.budget; grain = options.grain }
+
+abbrev pub extras_of : SolveWords → Extras
+extras_of words = record { stats = words.stats; ledger = words.ledger }
 
 pub record IsConfigOf (options : RunOptions) (config : Config) : Type 0 where
   pub ranks : config.ranks ≡ 1

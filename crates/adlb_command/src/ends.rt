@@ -1,4 +1,4 @@
-//! How a run ends.
+//! How a command ends.
 
 ghost use Rattle.std.specs.Prelude.{◌≡◌, ◌⊎◌, Some};
 
@@ -8,16 +8,18 @@ use adlb_unit::{NoMemory, Trouble};
 use command_words::WordsFault;
 use job_report::Outcome;
 use job_text::{JobsFault, LineWhy};
+use ledger_command::CheckFault;
+use made_jobs::MadeFault;
 use thiserror::Error;
 
-/// Why a run did not write its whole report. Its text is what the user is told.
+/// Why a command did not write its whole output. Its text is what the user is told.
 #[derive(Clone, Copy, Debug, PartialEq, Eq, Error)]
 pub enum RunFault {
     /// A line of the input is refused: the first such line, from 1, and why.
     #[error("line {line}: {why}")]
     Input { line: u64, why: LineWhy },
     /// The words are refused.
-    #[error("usage: adlbrun solve [--limit N] [--budget N] [--grain N] [--inline]")]
+    #[error("usage: adlbrun solve, make, drill or check with their options")]
     Usage,
     /// The source failed.
     #[error("read failed")]
@@ -31,9 +33,12 @@ pub enum RunFault {
     /// An event of the run would have this stamp, which is past the last one that is given.
     #[error("stamp limit reached")]
     TooLong { stamp: u64 },
-    /// The input has more than 2^24 bytes, of which this many were taken.
+    /// The input has more than 2^24 bytes, or 2^26 for `check`, of which this many were taken.
     #[error("input too large")]
     TooLarge { taken: u64 },
+    /// The input of `check` is the text of no ledger: its first line, from 1, that is not what is due.
+    #[error("line {line}: entry")]
+    Entry { line: u64 },
 }
 
 impl RunFault {
@@ -44,7 +49,7 @@ impl RunFault {
         ensures { result ≡ status_of (Some self.now) }
     {
         match self {
-            RunFault::Input { .. } => 1,
+            RunFault::Input { .. } | RunFault::Entry { .. } => 1,
             RunFault::Usage => 2,
             RunFault::Read => 3,
             RunFault::Write => 4,
@@ -131,8 +136,37 @@ impl From<SinkFault> for RunFault {
     }
 }
 
-/// How a run ended: its exit status, why it did not write its whole report, if so, and what it kept: a report if some of it
-/// was written, or if a write failed.
+impl From<CheckFault> for RunFault {
+    ghost use Rattle.adlb_command.specs.Ends.{fault_at_check};
+
+    ghost from_gives = { λ met fault. fault ≡ fault_at_check met };
+
+    fn from(met: CheckFault) -> RunFault {
+        match met {
+            CheckFault::Read => RunFault::Read,
+            CheckFault::Write => RunFault::Write,
+            CheckFault::Memory => RunFault::Memory,
+            CheckFault::TooLarge { taken } => RunFault::TooLarge { taken },
+            CheckFault::Entry { line } => RunFault::Entry { line },
+        }
+    }
+}
+
+impl From<MadeFault> for RunFault {
+    ghost use Rattle.adlb_command.specs.Ends.{fault_at_making};
+
+    ghost from_gives = { λ met fault. fault ≡ fault_at_making met };
+
+    fn from(met: MadeFault) -> RunFault {
+        match met {
+            MadeFault::Write => RunFault::Write,
+            MadeFault::Memory => RunFault::Memory,
+        }
+    }
+}
+
+/// How a command ended: its exit status, why it did not write its whole output, if so, and what it kept: a report of a run if some of
+/// it was written, or if a write failed.
 #[derive(Debug, Drop)]
 pub struct RunEnd {
     pub status: u8,

@@ -1,20 +1,27 @@
-//! The command `adlbrun` as a library: from the words and the input to the report, over any source and sink.
+//! The command `adlbrun` as a library: from the words and the input to the output, over any source and sink.
 //!
-//! `run_adlb` is the whole of it, and `solve_inline` what it does once its words are accepted. `specs/Top.antt` says how a run
-//! ends, `specs/Kept.antt` what it keeps, `specs/Ends.antt` which exit status it has, and `specs/Words.antt` which words are
-//! accepted. The program `adlbrun` hands it the command line, standard input and standard output.
+//! `run_adlb` is the whole of it, and `solve_inline` what the command `solve` does; `check` is `ledger_command`'s. `specs/Top.antt`
+//! says how a command ends, `specs/Kept.antt` what is kept of a run, `specs/Ends.antt` which exit status there is, and
+//! `specs/Words.antt` which words are accepted; `end_laws` says what follows of accepted and refused inputs. The program `adlbrun` hands it the command line, standard input and standard output.
 #![tactic(auto)]
 
+mod drilling;
 mod ends;
+mod extras;
 mod inline;
+mod laws;
 mod programs;
 mod reading;
 #[cfg(test)]
 mod tests;
 mod top;
+mod wanted;
 mod words;
 mod writing;
 
+pub use drilling::drill_inline;
 pub use ends::{RunEnd, RunFault};
+pub use extras::Extras;
 pub use inline::solve_inline;
+pub use laws::end_laws;
 pub use top::run_adlb;

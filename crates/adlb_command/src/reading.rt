@@ -2,7 +2,8 @@
 
 ghost use Rattle.std.specs.Prelude.{◌≡◌, ◌≤◌, ◌^◌, ℕ, List, Some, length, All, IfOk, OnOk, IfErr};
 ghost use Rattle.job_text.specs.Jobs.{HasGrid};
-ghost use Rattle.adlb_command.specs.Input.{AreJobs, IsAtEnd};
+ghost use Rattle.adlb_io.specs.Inputs.{IsAtEnd};
+ghost use Rattle.adlb_command.specs.Input.{AreJobs};
 ghost use Rattle.adlb_command.specs.Inside.{Refuses, RefusesBytes};
 
 use crate::ends::RunFault;
@@ -26,7 +27,6 @@ pub struct Asked {
 pub fn read_input<S: Source>(alloc: Global, input: &mut S) -> Result<Asked, RunFault>
     ensures jobs { IfOk result (λ a. (bytes : List ℕ) → S.left input.old ≡ Some bytes → AreJobs bytes a.jobs) }
     ensures grids { IfOk result (λ a. All HasGrid a.jobs) }
-    ensures few { IfOk result (λ a. length a.jobs ≤ 2 ^ 24) }
     ensures shown { IfOk result (λ a. a.shown ≡ a.jobs) }
     ensures end { OnOk result (IsAtEnd (S.left input.new)) }
     ensures refused { IfErr result (Refuses (S.left input.old) (S.faults input.old) (S.faults input.new)) }
@@ -40,13 +40,12 @@ pub fn read_input<S: Source>(alloc: Global, input: &mut S) -> Result<Asked, RunF
     read_twice(alloc, &bytes)
 }
 
-// The jobs of an input of these bytes, twice.
-fn read_twice(alloc: Global, bytes: &[u8]) -> Result<Asked, RunFault>
+/// The jobs of an input of these bytes, twice.
+pub fn read_twice(alloc: Global, bytes: &[u8]) -> Result<Asked, RunFault>
     requires { length bytes.now ≤ 2 ^ 24 }
     ensures jobs { IfOk result (λ a. AreJobs bytes.now a.jobs) }
     ensures shown { IfOk result (λ a. AreJobs bytes.now a.shown) }
     ensures grids { IfOk result (λ a. All HasGrid a.jobs) }
-    ensures few { IfOk result (λ a. length a.jobs ≤ 2 ^ 24) }
     ensures refused { IfErr result (RefusesBytes bytes.now) }
 {
     let jobs = read_once(alloc, bytes)?;
@@ -59,7 +58,6 @@ fn read_once(alloc: Global, bytes: &[u8]) -> Result<Jobs, RunFault>
     requires { length bytes.now ≤ 2 ^ 24 }
     ensures jobs { IfOk result (AreJobs bytes.now) }
     ensures grids { IfOk result (All HasGrid) }
-    ensures few { IfOk result (λ jobs. length jobs ≤ 2 ^ 24) }
     ensures refused { IfErr result (RefusesBytes bytes.now) }
 {
     Ok(read_jobs(alloc, bytes)?)

@@ -5,6 +5,7 @@ mod solved;
 ghost use Rattle.std.specs.Prelude.{◌<◌};
 
 use crate::ends::RunEnd;
+use crate::extras::Extras;
 use crate::inline::solve_inline;
 use crate::top::run_adlb;
 use adlb_io::{MemorySink, MemorySource, SteadySink, SteadySource};
@@ -19,6 +20,12 @@ use std::test::Fail;
 const SETTINGS: Settings = Settings {
     budget: 0x100_0000,
     grain: 0x1_0000,
+};
+
+/// Nothing follows the report.
+const NO_EXTRAS: Extras = Extras {
+    stats: false,
+    ledger: false,
 };
 
 /// A puzzle in which every cell is forced.
@@ -131,7 +138,7 @@ fn solve_on(alloc: Global, puzzle: &str, settings: Settings, limit: u64) -> Resu
     let config = Config::new(1, 1, limit).ok().ok_or("no such limit")?;
     let mut input = SteadySource::new(puzzle.as_bytes().to_vec(alloc)?);
     let mut output = SteadySink::new(alloc);
-    let end = solve_inline(alloc, config, settings, &mut input, &mut output);
+    let end = solve_inline(alloc, config, settings, NO_EXTRAS, &mut input, &mut output);
     seen(alloc, end, output.taken())
 }
 
@@ -259,6 +266,17 @@ fn a_line_has_at_most_two_to_the_20_bytes(rt: HostRuntime) -> Result<(), Fail> {
     Ok(())
 }
 
+#[test]
+fn an_input_has_at_most_two_to_the_24_bytes(rt: HostRuntime) -> Result<(), Fail> {
+    let mut input = vec![in rt.alloc(); b'\n'; 0x100_0000]?;
+    let ran = run_on(rt.alloc(), input.as_slice())?;
+    assert_eq!(rt; (ran.status, ran.written.as_str()), (0, NOTHING));
+    input.push(b'\n')?;
+    let ran = run_on(rt.alloc(), input.as_slice())?;
+    assert_eq!(rt; (ran.status, ran.fault.as_str()), (8, "input too large"));
+    Ok(())
+}
+
 /// The report of no job.
 const NOTHING: &str = "totals\nboard 0\nsolution 0\njob 0\nanswer 0\n";
 
@@ -318,13 +336,15 @@ fn refuses_other_words(rt: HostRuntime) -> Result<(), Fail> {
         "frob",
         "solve --ranks 33",
         "solve --ranks 2",
-        "solve --stats",
-        "solve --ledger",
+        "solve --stats --stats",
         "solve --limit 63",
         "solve --grain 0",
         "solve --inline --inline",
-        "make 1 2",
-        "check",
+        "make 100001 2",
+        "make 1",
+        "drill 1",
+        "drill 1 2 --stats",
+        "check --stats",
         "solve solve",
         "Solve",
     ];
@@ -334,7 +354,7 @@ fn refuses_other_words(rt: HostRuntime) -> Result<(), Fail> {
             (ran.status, ran.fault.as_str()),
             (
                 2,
-                "usage: adlbrun solve [--limit N] [--budget N] [--grain N] [--inline]"
+                "usage: adlbrun solve, make, drill or check with their options"
             ),
             "{line}"
         );
@@ -361,6 +381,141 @@ fn the_words_give_limit_budget_and_grain(rt: HostRuntime) -> Result<(), Fail> {
             .as_str()
             .ends_with("board 1\nsolution 2\njob 0\nanswer 0\n")
     );
+    Ok(())
+}
+
+/// The ledger of a run without jobs.
+const NO_JOBS: &str = "totals\nboard 0\nsolution 0\njob 0\nanswer 0\n\
+    ledger 1 1 67108864\nasked 0 0 any\nexhausted\nover 0 0 exhausted\nfinished 0 1\nend 4\n";
+
+const BOTH_EXTRAS: &str = "totals\nboard 0\nsolution 0\njob 0\nanswer 0\n\
+    stats\naccepted 0\nrefused 0\nrejected 0\ngranted 0\npushed 0\nleft 0\n\
+    ledger 1 1 67108864\nasked 0 0 any\nexhausted\nover 0 0 exhausted\nfinished 0 1\nend 4\n";
+
+#[test]
+fn counts_and_the_ledger_follow_the_report(rt: HostRuntime) -> Result<(), Fail> {
+    let rows = [
+        ("solve --ledger --inline", "", NO_JOBS),
+        ("solve --ledger --stats", "", BOTH_EXTRAS),
+        (
+            "solve --stats",
+            FORCED,
+            "stats\naccepted 2\nrefused 0\nrejected 0\ngranted 2\npushed 0\nleft 0\n",
+        ),
+        (
+            "solve --stats --limit 64",
+            FORCED,
+            "stats\naccepted 0\nrefused 2\nrejected 2\ngranted 0\npushed 0\nleft 0\n",
+        ),
+        (
+            "solve --stats",
+            ITEMS,
+            "stats\naccepted 8\nrefused 0\nrejected 0\ngranted 8\npushed 0\nleft 0\n",
+        ),
+    ];
+    for (line, input, end) in rows {
+        let ran = run_words(rt.alloc(), line, input.as_bytes())?;
+        assert!(rt;
+            ran.status == 0 && ran.written.as_str().ends_with(end),
+            "{line} {input:?}"
+        );
+    }
+    Ok(())
+}
+
+// What `check` writes of the ledger that `solve` wrote with these words on this input.
+fn checked(alloc: Global, line: &str, input: &str) -> Result<String, Fail> {
+    let solved = run_words(alloc, line, input.as_bytes())?;
+    let (_, text) = solved
+        .written
+        .as_str()
+        .split_once("\nledger ")
+        .ok_or("no ledger")?;
+    let text = format!(in alloc; "ledger {text}")?;
+    let ran = run_words(alloc, "check", text.as_bytes())?;
+    Ok(ran.written)
+}
+
+#[test]
+fn a_written_ledger_is_legal(rt: HostRuntime) -> Result<(), Fail> {
+    let rows = [
+        ("solve --ledger", "", "legal 4\n"),
+        ("solve --ledger", FORCED, "legal 16\n"),
+        ("solve --ledger --limit 64", FORCED, "legal 10\n"),
+    ];
+    for (line, input, wanted) in rows {
+        let told = checked(rt.alloc(), line, input)?;
+        assert_eq!(rt; told.as_str(), wanted, "{line} {input:?}");
+    }
+    let mixed = checked(rt.alloc(), "solve --ledger --stats", MIXED)?;
+    assert!(rt; mixed.as_str().starts_with("legal "));
+    Ok(())
+}
+
+#[test]
+fn makes_an_input_that_it_solves(rt: HostRuntime) -> Result<(), Fail> {
+    let none = run_words(rt.alloc(), "make 0 7", b"x")?;
+    assert_eq!(rt; (none.status, none.written.as_str()), (0, ""));
+    let made = run_words(rt.alloc(), "make 8 1", b"")?;
+    assert_eq!(rt;
+        (made.status, made.written.as_str().lines().count()),
+        (0, 12)
+    );
+    let solved = run_on(rt.alloc(), made.written.as_str().as_bytes())?;
+    assert!(rt; solved.status == 0 && solved.written.as_str().ends_with("job 3\nanswer 3\n"));
+    Ok(())
+}
+
+/// The summary of no puzzle.
+const NO_DRILL: &str = "drill 0 7\npuzzles 0 over 0 solutions 0\nbatches 0 items 0\n\
+    totals\nboard 0\nsolution 0\njob 0\nanswer 0\n";
+
+#[test]
+fn drills_made_inputs(rt: HostRuntime) -> Result<(), Fail> {
+    let rows = [
+        (
+            "drill 0 7",
+            "drill 0 7\npuzzles 0 over 0 solutions 0\n",
+            NO_DRILL,
+        ),
+        (
+            "drill 64 +001",
+            "drill 64 1\npuzzles 64 over ",
+            "job 24\nanswer 24\n",
+        ),
+        (
+            "drill 3 4 --budget 1",
+            "drill 3 4\npuzzles 3 over 3 solutions 0\nbatches 0 items 0\n",
+            "totals\nboard 3\nsolution 0\njob 0\nanswer 0\n",
+        ),
+    ];
+    for (line, begin, end) in rows {
+        let ran = run_words(rt.alloc(), line, b"x")?;
+        assert!(rt;
+            ran.status == 0
+                && ran.written.as_str().starts_with(begin)
+                && ran.written.as_str().ends_with(end),
+            "{line}"
+        );
+    }
+    Ok(())
+}
+
+#[test]
+fn a_text_of_no_ledger_is_refused(rt: HostRuntime) -> Result<(), Fail> {
+    let rows = [
+        ("", 1, "line 1: entry", ""),
+        ("ledger 1 1 64\nend 1\n", 1, "line 2: entry", ""),
+        ("ledger 1 1 64\nexhausted\nend 1\n", 0, "", "illegal 0\n"),
+    ];
+    for (text, status, fault, written) in rows {
+        let ran = run_words(rt.alloc(), "check", text.as_bytes())?;
+        assert_eq!(rt;
+            (ran.status, ran.fault.as_str(), ran.written.as_str()),
+            (status, fault, written),
+            "{text:?}"
+        );
+    }
     Ok(())
 }
 

@@ -1,14 +1,15 @@
 use Rattle.std.proofs.Common.{◌≤◌, ◌+◌, ap, sym, subst, arith, length}
 use Rattle.std.proofs.lemmas.Result.{IfOk-weaker, err_from_is_err_and}
+use Rattle.adlb_io.proofs.Inputs.{read_end, read_too_long}
 use Rattle.adlb_io.specs.Whole.{Reads}
 use Rattle.adlb_command.specs.Input.{input_limit}
-use Rattle.adlb_command.proofs.Forms.{fault_weaker, read_end, read_jobs_are, read_refuses, read_same, read_too_long}
+use Rattle.adlb_command.proofs.Forms.{fault_weaker, read_jobs_are, read_refuses, read_same}
 use Rattle.adlb_command.proofs.reading.read_input.Goals as goal
 
 pub returns-then-len-gt-INPUT_LIMIT-clause-refused : goal.returns-then-len-gt-INPUT_LIMIT-clause-refused
 returns-then-len-gt-INPUT_LIMIT-clause-refused g c = (
   omega (arith, c.len-taken.ensures, c.len.ensures, c.if-len-gt-INPUT_LIMIT.true, c.in_ok-bytes.ensures.bound),
-  read_too_long _ _ c.in_ok-bytes.bytes.items c.in_ok-bytes.ensures.read (omega (arith, c.len.ensures, c.if-len-gt-INPUT_LIMIT.true)),
+  read_too_long input_limit _ _ c.in_ok-bytes.bytes.items c.in_ok-bytes.ensures.read (omega (arith, c.len.ensures, c.if-len-gt-INPUT_LIMIT.true)),
   c.in_ok-bytes.ensures.counted,
 )
 
@@ -23,7 +24,7 @@ returns-clause-jobs g c =
 pub returns-clause-end : goal.returns-clause-end
 returns-clause-end g c =
     IfOk-weaker c.read_twice.result _ _
-    (λ a are. read_end _ _ c.in_ok-bytes.bytes.items c.in_ok-bytes.ensures.read (omega (arith, c.len.ensures, c.if-len-gt-INPUT_LIMIT.false)))
+    (λ a are. read_end input_limit _ _ c.in_ok-bytes.bytes.items c.in_ok-bytes.ensures.read (omega (arith, c.len.ensures, c.if-len-gt-INPUT_LIMIT.false)))
     c.read_twice.ensures.jobs
 
 pub returns-clause-refused : goal.returns-clause-refused

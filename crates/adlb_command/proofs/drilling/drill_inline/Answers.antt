@@ -1,0 +1,15 @@
+use Rattle.std.proofs.Common.{[], Some, refl}
+use Rattle.adlb_io.specs.Inputs.{seen}
+use Rattle.made_jobs.specs.Made.{made_text}
+use Rattle.adlb_command.proofs.Ending.{ends_answered}
+use Rattle.adlb_command.specs.declared.wanted.Wanted.TheVariants.{Summary}
+use Rattle.adlb_command.proofs.drilling.drill_inline.Goals as goal
+
+pub returns-in-Ok-clause-ends : goal.returns-in-Ok-clause-ends
+returns-in-Ok-clause-ends g c = λ left reads.
+    ends_answered c.args.settings (Summary c.args.count c.args.seed)
+    (seen (Some (made_text c.args.count c.args.seed)) 0 (g.K.Sink.taken c.args.output.now) (g.K.Sink.faults c.args.output.now)
+    (g.K.Sink.all_flushed c.args.output.now))
+    (seen (Some []) 0 (g.K.Sink.taken c.write_answer.new.output) (g.K.Sink.faults c.write_answer.new.output)
+    (g.K.Sink.all_flushed c.write_answer.new.output))
+    c.in-Ok.answer.report c.in-Ok.answer.text.items c.in-Ok.ensures.answered refl _ _ c.write_answer.ensures.written
