@@ -10,6 +10,7 @@ use adlb_unit::Letter;
 use crossbeam_channel::protocol::{Join, Lesson, Outcome, Protocol, Split};
 use crossbeam_channel::{Pass, RuledReceiver, RuledSender, bounded_with};
 use std::alloc::{AllocError, Global};
+use std::hint::spin_loop;
 use std::sync::Wait;
 
 /// The rule itself.
@@ -113,8 +114,42 @@ pub fn send<R: Wait>(rt: &R, end: &MailSender, pass: &mut MailPass, posted: Post
     unreachable!()
 }
 
-/// Receives a letter, and waits for one.
+/// How often a receive looks for a letter before it waits. An answer comes mostly within that time, and a thread that waits
+/// is slow to wake.
+const TRIES: u32 = 256;
+
+/// After so many tries the pauses between them are longer.
+const SHORT_TRIES: u32 = 16;
+
+const LONG_PAUSE: u32 = 4;
+
+// Lets the processor rest after a try.
+fn pause(tries: u32) {
+    let hints = if tries < SHORT_TRIES { 1 } else { LONG_PAUSE };
+    for _ in 0..hints {
+        spin_loop();
+    }
+}
+
+/// Receives a letter. It looks for one several times, and then waits for one.
 pub fn receive<R: Wait>(rt: &R, end: &MailReceiver, pass: &mut MailPass) -> Posted
+    requires seat { IsSeatAt (receives_on end.now) pass.old }
+    requires gets { (view pass.old).gets ≡ true }
+    ensures seat { IsSeatAt (receives_on end.now) pass.new }
+    ensures view { view pass.new ≡ after_receive (view pass.old) result }
+    ensures from { result.from < (view pass.old).senders }
+{
+    for tries in 0..TRIES {
+        if let Ok(posted) = end.try_recv_as::<Receives, R>(rt, pass) {
+            return posted;
+        }
+        pause(tries);
+    }
+    wait_for(rt, end, pass)
+}
+
+// Receives a letter, and waits for one.
+fn wait_for<R: Wait>(rt: &R, end: &MailReceiver, pass: &mut MailPass) -> Posted
     requires seat { IsSeatAt (receives_on end.now) pass.old }
     requires gets { (view pass.old).gets ≡ true }
     ensures seat { IsSeatAt (receives_on end.now) pass.new }

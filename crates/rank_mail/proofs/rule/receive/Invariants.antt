@@ -3,8 +3,8 @@ use Rattle.crossbeam_channel.specs.Claims.{view, IsSeatAt}
 use Rattle.crossbeam_channel.specs.Ends.{receives_on}
 use Rattle.rank_mail.proofs.rule.receive.Given as goal
 
-abbrev pub invariant-loop : goal.invariant-loop
-invariant-loop g l = record {
+abbrev pub invariant-loop-tries : goal.invariant-loop-tries
+invariant-loop-tries g l = record {
   seat : IsSeatAt (receives_on l.end) l.pass;
   same : view l.pass ≡ view l.initial.pass;
   gets : (view l.pass).gets ≡ true;

@@ -1,0 +1,33 @@
+//! Gates, which a rank passes after each grant and each fetch.
+
+use adlb_unit::{NoMemory, Rank};
+
+/// What a rank has just got, with the number of its call.
+#[derive(Clone, Copy, Debug, PartialEq, Eq)]
+pub enum GatePoint {
+    /// A unit was granted.
+    Granted { call: u64 },
+    /// A unit was fetched.
+    Fetched { call: u64 },
+}
+
+/// Where a rank may be held up, so that a test decides who goes on. Nothing that a rank is told depends on it.
+pub trait Gate {
+    /// Returns when the rank may go on.
+    fn pass(&self, rank: Rank, point: GatePoint);
+
+    /// The same gate, for another rank. Its only error is `NoMemory`.
+    fn twin(&self) -> Result<Self, NoMemory>;
+}
+
+/// A gate that is always open.
+#[derive(Clone, Copy, Debug, PartialEq, Eq)]
+pub struct FreeGate {}
+
+impl Gate for FreeGate {
+    fn pass(&self, _rank: Rank, _point: GatePoint) {}
+
+    fn twin(&self) -> Result<FreeGate, NoMemory> {
+        Ok(FreeGate {})
+    }
+}
