@@ -26,7 +26,7 @@ all_changed_at P Q f new old n [] all = All-nil Q
 all_changed_at P Q f new old zero (x ∷ xs) all = All-cons Q (f x) xs (new x (All-head P x xs all)) (All-weaker P Q old xs (All-tail P x xs all))
 all_changed_at P Q f new old (suc n) (x ∷ xs) all = All-cons Q x (change_at f n xs) (old x (All-head P x xs all)) (all_changed_at P Q f new old n xs (All-tail P x xs all))
 
-all_changed_first : {X : Type 0} (P Q : X → Type 0) (f : X → X) (test : X → Bool) → ((x : X) → P x → Q (f x)) → ((x : X) → P x → Q x) → (xs : List X) → All P xs → All Q (change_first f test xs)
+pub all_changed_first : {X : Type 0} (P Q : X → Type 0) (f : X → X) (test : X → Bool) → ((x : X) → P x → Q (f x)) → ((x : X) → P x → Q x) → (xs : List X) → All P xs → All Q (change_first f test xs)
 all_changed_first P Q f test new old [] all = All-nil Q
 all_changed_first P Q f test new old (x ∷ xs) all = by_test (all_changed_first P Q f test new old xs (All-tail P x xs all)) (test x) refl
   where

@@ -388,8 +388,10 @@ impl Machine {
         }
     }
 
-    // Takes the step of this entry, where it is one.
-    pub(crate) fn apply(&mut self, entry: &Entry) -> Result<bool, NoMemory>
+    /// Takes the step of this entry if it is one, and otherwise answers false and changes nothing (`step`). Each counter of the
+    /// bag has room for one more, as it has after fewer than `2^64 - 2` steps (`HasRoom`). Its only error is `NoMemory`, and then
+    /// the machine is of no use.
+    pub fn apply(&mut self, entry: &Entry) -> Result<bool, NoMemory>
         requires { HasRoom (2 ^ 64 - 2) self.old }
         ensures { IfOk result (λ it. MatchBool it (step self.old entry.now ≡ Some self.new) ((step self.old entry.now ≡ None) × (self.new ≡ self.old))) }
     {

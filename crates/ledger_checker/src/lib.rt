@@ -1,8 +1,9 @@
 //! The checker of ledgers: where a ledger is no legal run.
 //!
-//! A machine keeps the state of the bag that the entries before leave, and takes each entry that is a step of the bag from there.
-//! `first_illegal` gives the place of the first entry that is none. It stands on `adlb_unit`, on `bag_ledger`, which says what
-//! a step is, and on `bag_tables`, which keeps what the state has.
+//! A machine keeps the state of the bag that the entries before leave, and takes each entry that is a step of the bag from
+//! there. `first_illegal` gives the place of the first entry that is none; `Machine` is public for whoever also looks at the
+//! states between. It stands on `adlb_unit`, on `bag_ledger`, which says what a step is, and on `bag_tables`, which keeps what
+//! the state has.
 #![tactic(auto)]
 
 mod checking;
@@ -11,3 +12,4 @@ mod legality;
 mod machines;
 
 pub use checking::first_illegal;
+pub use machines::Machine;

@@ -14,9 +14,9 @@ use bag_tables::{Parts, Promises, Ranks, Units};
 use std::alloc::Global;
 use std::marker::Model;
 
-// The state of the bag. It is seen as a `Bag`.
+/// The state of the bag, kept in tables that are looked up by ids. It is seen as a `Bag`.
 #[derive(Drop)]
-pub(crate) struct Machine {
+pub struct Machine {
     pub(crate) alloc: Global,
     pub(crate) ranks: Ranks,
     pub(crate) units: Units,
@@ -40,8 +40,8 @@ impl Model for Machine {
 }
 
 impl Machine {
-    // The bag at the start of a run.
-    pub(crate) fn new(alloc: Global, config: &Config) -> Result<Machine, NoMemory>
+    /// The bag at the start of a run of this configuration (`start`). Its only error is `NoMemory`.
+    pub fn new(alloc: Global, config: &Config) -> Result<Machine, NoMemory>
         ensures { IfOk result (λ m. m ≡ start config.now) }
     {
         let ranks = Ranks::new(alloc, config.ranks)?;
@@ -82,19 +82,22 @@ impl Machine {
         self.exhausted
     }
 
-    pub(crate) fn rank(&self, rank: Rank) -> Option<&RankState>
+    /// What the rank does, or `None` if it is not in the run (`rank_at`).
+    pub fn rank(&self, rank: Rank) -> Option<&RankState>
         ensures { MatchOption result (rank_at self.now rank ≡ None) (λ r. rank_at self.now rank ≡ Some r.now) }
     {
         self.ranks.get(rank)
     }
 
-    pub(crate) fn unit(&self, id: UnitId) -> Option<&Placed>
+    /// The unit of this id and its place, or `None` if none was accepted (`unit_of`).
+    pub fn unit(&self, id: UnitId) -> Option<&Placed>
         ensures { MatchOption result (unit_of self.now id ≡ None) (λ u. unit_of self.now id ≡ Some u.now) }
     {
         self.units.get(id)
     }
 
-    pub(crate) fn part(&self, batch: BatchId) -> Option<&Part>
+    /// The common part of this batch, or `None` if none was kept (`part_of`).
+    pub fn part(&self, batch: BatchId) -> Option<&Part>
         ensures { MatchOption result (part_of self.now batch ≡ None) (λ p. part_of self.now batch ≡ Some p.now) }
     {
         self.parts.get(batch)

@@ -1,0 +1,4 @@
+mod Equal
+mod Found
+mod Hearing
+mod Small
