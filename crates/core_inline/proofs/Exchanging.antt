@@ -13,7 +13,9 @@ use Rattle.bag_ledger.specs.declared.entries.Call.TheVariants as calls_to
 use Rattle.bag_ledger.specs.declared.entries.Said.{Said}
 use Rattle.bag_ledger.proofs.Tests.{some_is}
 use Rattle.rank_client.specs.declared.pendings.Pending.TheVariants as waits_for
+use Rattle.rank_client.specs.Answers.{CanCall, answers_call}
 use Rattle.rank_client.specs.Calls.{is_finish, is_open}
+use Rattle.rank_client.specs.Remembered.{pending_call}
 use Rattle.rank_client.specs.Rules.{is_idle}
 use Rattle.rank_client.specs.State.{ClientModel}
 use Rattle.rank_client.specs.Step.{Made, call_stamp, letter_stamp}
@@ -25,10 +27,9 @@ use Rattle.core_run.specs.World.{World, after_rank, client_of, happens, pool_of}
 use Rattle.core_world.specs.Applied.{event_answer, event_stamp}
 use Rattle.core_world.specs.Seen.{Seen}
 use Rattle.core_inline.specs.Inline.{zeroth}
-use Rattle.core_inline.specs.inside.Answers.{CanCall, answers_call}
 use Rattle.core_inline.specs.inside.Pairs.{IsAnswered, IsFinished, IsIdle, IsLone, IsReady, IsTrue, first_server, rank_in, server_in}
 use Rattle.core_inline.specs.inside.Pairs.{with_call, is_ended}
-use Rattle.core_inline.proofs.Clients.{GoesBy, IsBegun, IsEnded, IsPending, call_begins, call_ends, call_goes, is_common, pending_call}
+use Rattle.core_inline.proofs.Clients.{GoesBy, IsBegun, IsEnded, IsPending, call_begins, call_ends, call_goes, is_common}
 use Rattle.core_inline.proofs.Failing.{IsStage}
 use Rattle.core_inline.proofs.Hosts.{finish_ends, nobody_waits, serve_clock}
 use Rattle.core_inline.proofs.Reached.{IsCalled, IsHeard, IsServed, asked, facts, lone_next, one_of, rank_own, server_own}
@@ -80,6 +81,7 @@ pending_other (waits_for.Fetch request note) call is = ap is_finish (sym (some_i
 pending_other (waits_for.Common request note common own) call is = ap is_finish (sym (some_is is))
 pending_other (waits_for.Keep request common first tried) call is = ap is_finish (sym (some_is is))
 pending_other (waits_for.Close request batch) call is = ap is_finish (sym (some_is is))
+pending_other (waits_for.Count request kind) call is = ap is_finish (sym (some_is is))
 
 finish_is : (call : Call) → is_finish call ≡ true → call ≡ calls_to.Finish
 finish_is calls_to.Finish is = refl
@@ -136,7 +138,6 @@ answered_now now said call stamp x lone whole other rank nobody over counted few
       going = over.finished ∙ other;
       rank = over.rank;
       nobody = nobody;
-      counted = omega (arith, long, over.clock, counted);
       few = omega (arith, long, over.clock, few);
       behind = omega (arith, long, behind);
     } in
@@ -151,7 +152,7 @@ answered_now now said call stamp x lone whole other rank nobody over counted few
 
 -- The rank begins a call.
 
-module _ (w : Seen) (i : IsReady w) (call : Call) (can : CanCall (rank_in w).transcript call) where
+module _ (w : Seen) (i : IsReady w) (call : Call) (can : CanCall 1 1 (rank_in w).transcript call) where
   abbrev said : List Said
   said = (rank_in w).transcript
 
@@ -218,7 +219,7 @@ module _ (w : Seen) (i : IsReady w) (call : Call) (can : CanCall (rank_in w).tra
                 ap one (f.unhandled i.rests.going),
               );
           early = omega (arith, clock, early);
-          counted = omega (arith, clock, i.rests.counted);
+          counted = omega (arith, clock, i.rests.rank.counted);
           few = omega (arith, clock, i.rests.few);
           behind = omega (arith, ap (λ (s : ServerModel). s.clock) server_now, i.rests.behind);
           common = λ is. absurd (cc);
@@ -249,7 +250,7 @@ module _ (w : Seen) (i : IsReady w) (call : Call) (can : CanCall (rank_in w).tra
         | inl over ↦
             subst (λ k. IsAnswered said call k now) (some_is (sym over.answers_it ∙ sym answer_is ∙ given))
             (answered_now now said call (call_stamp (rank_in w)) b.x lone_now whole other rank_now nobody_now over
-            (omega (arith, i.rests.counted)) (omega (arith, i.rests.few))
+            (omega (arith, i.rests.rank.counted)) (omega (arith, i.rests.few))
             (omega (arith, ap (λ (s : ServerModel). s.clock) server_now, i.rests.behind)) early)
         | inr sent ↦ let none : None ≡ Some a = sym sent.1 ∙ sym answer_is ∙ given in absurd (cc)
       ]

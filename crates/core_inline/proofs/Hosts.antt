@@ -10,12 +10,12 @@ use Rattle.server_law.specs.Carried.{Served, all_counted, all_done, carried, don
 use Rattle.server_law.proofs.Carrying.{carried_state}
 use Rattle.server_law.proofs.Endings.{ends_quiet}
 use Rattle.server_law.proofs.Handled.{acts_handle, ends_event_decides}
-use Rattle.server_law.specs.State.{ServerModel, Waiting, Kept, Wish, is_finished, idle, runs}
+use Rattle.server_law.specs.State.{ServerModel, Waiting, Kept, Wish, is_finished, idle, runs, runs_at_home}
 use Rattle.server_law.specs.Sure.{SitsIn, AreSure, TakeNone}
 use Rattle.server_law.specs.Step.{acts, ticked, serve, next_stamp}
 use Rattle.server_law.specs.Endings.{ends_event, is_quiet, fits, tells_all, verdict, exhausts}
 use Rattle.server_law.specs.Finding.{best_for}
-use Rattle.server_law.specs.Reserves.{expects_reserve, reserve, reserve_now}
+use Rattle.server_law.specs.Reserves.{reserve, reserve_now}
 use Rattle.server_law.specs.Plan.{Decider, in_order, plan, decided}
 use Rattle.server_law.proofs.Tests.{quiet_is_tested}
 use Rattle.core_law.proofs.Acts.{counted_kept}
@@ -178,7 +178,7 @@ module _ (t : ServerModel) (one_rank : t.config.ranks ≡ 1) (one_server : t.con
   acts_leave : (m : Message) (list : List Act) → acts t by_rank m ≡ Some list → Leaves list
   acts_leave (tells.Reserve request types) list is =
       let k = t.kept in
-      subst Leaves (ruled t (expects_reserve t zeroth) (reserve_now k (wish request types)) [] list is)
+      subst Leaves (ruled t (runs_at_home t zeroth) (reserve_now k (wish request types)) [] list is)
       (reserve_leaves request types k.done k.exhausted (best_for k (wish request types)) refl refl)
   acts_leave m list is = other_leaves m list refl is
 

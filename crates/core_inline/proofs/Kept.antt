@@ -22,7 +22,7 @@ use Rattle.core_inline.specs.Inline.{IsTold, batch_of, zeroth}
 use Rattle.core_inline.specs.Left.{IsLeft}
 use Rattle.core_inline.specs.inside.Fields.{IsInside, run_of}
 use Rattle.core_inline.specs.inside.Pairs.{IsAnswered, IsFailed, IsFinished, IsReady, IsTrue, is_ended, rank_in, server_in, with_call}
-use Rattle.core_inline.proofs.Batches.{not_open}
+use Rattle.rank_client.proofs.OpenBatches.{not_open}
 use Rattle.core_inline.proofs.Begun.{begun_is, retold}
 use Rattle.core_inline.proofs.Reached.{facts}
 

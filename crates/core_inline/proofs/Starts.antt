@@ -8,10 +8,10 @@ use Rattle.adlb_unit.specs.Limits.{Refuses}
 use Rattle.bag_ledger.specs.declared.entries.Call.{Call}
 use Rattle.bag_ledger.specs.declared.entries.Said.{Said}
 use Rattle.bag_ledger.specs.Runs.{call_of}
-use Rattle.rank_client.specs.Calls.{granted, has_finished}
+use Rattle.rank_client.specs.Calls.{has_finished}
 use Rattle.rank_client.specs.State.{ClientModel, start as new_client}
-use Rattle.rank_client.proofs.Granted.{grants_come_first}
-use Rattle.rank_client.proofs.Transcripts.{none_finished, none_told}
+use Rattle.rank_client.proofs.StepsTell.{steps_tell}
+use Rattle.rank_client.proofs.Transcripts.{none_finished}
 use Rattle.server_law.specs.State.{start as new_pool}
 use Rattle.server_core.specs.Left.{left_of}
 use Rattle.core_run.specs.World.{start}
@@ -19,8 +19,7 @@ use Rattle.core_law.proofs.EveryRun.{client_at, pool_at}
 use Rattle.core_world.specs.Seen.{Seen, new_world}
 use Rattle.core_inline.specs.Inline.{IsEnd, IsInline, IsOpen, IsStart, IsTold, Run, zeroth}
 use Rattle.core_inline.specs.inside.Fields.{IsInside, run_of}
-use Rattle.core_inline.specs.inside.Pairs.{AreHeld, IsIdle, IsLone, IsTrue, first_server, is_ended, rank_in, server_in}
-use Rattle.core_inline.proofs.Batches.{none_opened}
+use Rattle.core_inline.specs.inside.Pairs.{IsIdle, IsLone, IsTrue, first_server, is_ended, rank_in, server_in}
 use Rattle.core_inline.proofs.Begun.{retold}
 use Rattle.core_inline.proofs.Exchanging.{true_after}
 use Rattle.core_inline.proofs.Kept.{begun_now, inside_of}
@@ -30,10 +29,6 @@ pub accepts : (limit : ℕ) (fault : ConfigFault) → 64 ≤ limit → limit ≤
 accepts limit (Ranks given) least most refused = refused.0 (omega arith, omega arith)
 accepts limit (Servers given) least most refused = refused.1 (omega arith, omega arith)
 accepts limit (Limit given) least most refused = refused.2 (least, most)
-
-none_held : AreHeld [] []
-unfolding granted
-none_held note g = absurd (omega (arith, g.1.1))
 
 module _ (config : Config) (one_rank : config.ranks ≡ 1) (one_server : config.servers ≡ 1) where
   abbrev now : Seen
@@ -53,15 +48,8 @@ module _ (config : Config) (one_rank : config.ranks ≡ 1) (one_server : config.
       let first : IsIdle (new_client config zeroth) (new_pool config first_server) = record {
         idle = refl;
         going = refl;
-        rank = record {
-          finishes = none_finished;
-          told = none_told;
-          first = grants_come_first.at_start config zeroth;
-          held = none_held;
-          opened = sym none_opened;
-        };
+        rank = steps_tell.at_start config zeroth;
         nobody = refl;
-        counted = omega arith;
         few = omega arith;
         behind = omega arith;
       } in

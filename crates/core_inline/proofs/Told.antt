@@ -22,7 +22,8 @@ use Rattle.core_inline.specs.Inline.{IsOpen, IsTold, zeroth}
 use Rattle.core_inline.specs.Left.{IsLeft}
 use Rattle.core_inline.specs.inside.Pairs.{IsLone, first_server, with_call}
 use Rattle.bag_ledger.specs.declared.entries.Answer.{Answer}
-use Rattle.core_inline.proofs.Clients.{IsPending, pending_call}
+use Rattle.core_inline.proofs.Clients.{IsPending}
+use Rattle.rank_client.specs.Remembered.{pending_call}
 use Rattle.core_inline.proofs.Lefts.{left_is}
 use Rattle.core_inline.proofs.Opened.{IsToldOf}
 use Rattle.core_inline.proofs.Reached.{rank_own, server_own}
@@ -127,6 +128,11 @@ beyond c (waits_for.Close request batch) None call is = still c (waits_for.Close
 beyond c (waits_for.Close request batch) (Some (tells.Closed to)) call is =
     record { more = _ ∷ []; begun = _; says = refl; open_call = (refl, refl); of_it = inr is }
 beyond c (waits_for.Close request batch) (Some _) call is =
+    record { more = []; begun = None; says = sym (append-nil c.transcript); open_call = refl; of_it = inl refl }
+beyond c (waits_for.Count request kind) None call is = still c (waits_for.Count request kind) None call refl is
+beyond c (waits_for.Count request kind) (Some (tells.Counted to info)) call is =
+    record { more = _ ∷ []; begun = _; says = refl; open_call = (refl, refl); of_it = inr is }
+beyond c (waits_for.Count request kind) (Some _) call is =
     record { more = []; begun = None; says = sym (append-nil c.transcript); open_call = refl; of_it = inl refl }
 
 module _ (w : World) (l : IsLone w) where

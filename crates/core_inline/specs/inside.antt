@@ -1,5 +1,4 @@
 -- What private contracts cite.
-pub mod Answers
 pub mod Begun
 pub mod Fields
 pub mod Pairs

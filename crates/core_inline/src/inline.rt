@@ -7,11 +7,12 @@ ghost use Rattle.bag_ledger.specs.declared.entries.Call.{Call};
 ghost use Rattle.rank_client.specs.Calls.{Began, Repeats, has_finished, plus};
 ghost use Rattle.core_inline.specs.Inline.{seat_of, IsEnd, IsInline, IsStart, batch_of, finish_answer};
 
-use crate::answers::{done_result, fetch_result, put_result, reserve_result};
 use crate::runs::InlineRun;
-use adlb_unit::{Handle, NoMemory, Payload, Rank, Target, Trouble, Types, WorkType};
+use adlb_unit::{Handle, Info, NoMemory, Payload, Rank, Target, Trouble, Types, WorkType};
 use bag_ledger::{Body, Call, Ledger, Said};
-use rank_client::{Adlb, EndFault, PutFault};
+use rank_client::{
+    Adlb, EndFault, PutFault, count_result, done_result, fetch_result, put_result, reserve_result,
+};
 use server_core::LeftUnit;
 use std::alloc::Global;
 
@@ -138,6 +139,10 @@ impl Adlb for InlineWorld {
 
     fn end_batch(&mut self) -> Result<(), Trouble> {
         done_result(self.run.call(Call::EndBatch))
+    }
+
+    fn num_units(&mut self, kind: WorkType) -> Result<Info, Trouble> {
+        count_result(self.run.call(Call::Count { kind }))
     }
 
     fn batch_open(&self) -> bool {

@@ -5,7 +5,6 @@
 //! calls, and `specs/Left.antt` says which units are left at the end; `specs/inside` has what private contracts cite.
 #![tactic(auto)]
 
-mod answers;
 mod inline;
 mod laws;
 mod pairs;

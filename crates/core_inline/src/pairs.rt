@@ -2,8 +2,8 @@
 
 ghost use Rattle.std.specs.Prelude.{◌≡◌, false, IfOk, IfErr, OnOk, Some};
 ghost use Rattle.bag_ledger.specs.declared.entries.Call.{Call};
-ghost use Rattle.core_inline.specs.inside.Answers.{CanCall};
 ghost use Rattle.core_inline.specs.inside.Pairs.{IsAnswered, IsFailed, IsFinished, IsReady, rank_in};
+ghost use Rattle.rank_client.specs.Answers.{CanCall};
 ghost use Rattle.rank_client.specs.Calls.{is_finish, is_open};
 
 use adlb_unit::{Actor, Rank, Server, Trouble};
@@ -15,7 +15,7 @@ use core_world::World;
 // those of its common part.
 pub(crate) fn exchange(world: &mut World, call: Call) -> Result<Answer, Trouble>
     requires ready { IsReady world.old }
-    requires can { CanCall (rank_in world.old).transcript call }
+    requires can { CanCall 1 1 (rank_in world.old).transcript call }
     requires going { is_finish call ≡ false }
     ensures answered { IfOk result (λ a. IsAnswered (rank_in world.old).transcript call a world.new) }
     ensures failed { IfErr result (λ t. IsFailed (rank_in world.old).transcript call t world.new) }

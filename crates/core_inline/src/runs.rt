@@ -3,8 +3,8 @@
 ghost use Rattle.std.specs.Prelude.{◌≡◌, ◌<◌, ◌≤◌, ◌^◌, ◌↔◌, ◌++◌, ◌∷◌, [], ℕ, None, Some, Err, true, false, IfOk, IfErr, OnOk};
 ghost use Rattle.adlb_unit.specs.declared.notes.Trouble.{Trouble};
 ghost use Rattle.bag_ledger.specs.declared.entries.Call.{Call};
+ghost use Rattle.rank_client.specs.Answers.{CanCall, IsAnswer, answered, answers_call, heeds_end, troubled};
 ghost use Rattle.rank_client.specs.Calls.{Began, Repeats, TellsAgain, end_told, has_finished, is_finish, plus};
-ghost use Rattle.core_inline.specs.inside.Answers.{CanCall, IsAnswer, answered, answers_call, heeds_end, troubled};
 ghost use Rattle.core_inline.specs.Inline.{IsEnd, IsInline, IsStart, batch_of, finish_answer};
 
 use crate::pairs::{exchange, finish};
@@ -56,7 +56,7 @@ impl InlineRun {
     // One call of the rank, from its beginning to its answer.
     pub(crate) fn call(&mut self, call: Call) -> Result<Answer, Trouble>
         requires running { has_finished self.old.transcript ≡ false }
-        requires can { self.old.failed ≡ None → CanCall self.old.transcript call }
+        requires can { self.old.failed ≡ None → CanCall 1 1 self.old.transcript call }
         requires going { is_finish call ≡ false }
         ensures says { self.new.transcript ≡ plus self.old.transcript call (answered result) }
         ensures kind { IfOk result (λ a. answers_call call a ≡ true) }

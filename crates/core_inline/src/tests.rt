@@ -4,7 +4,7 @@ ghost use Rattle.std.specs.Prelude.{◌≡◌, ◌≤◌, ◌^◌, length, false
 ghost use Rattle.rank_client.specs.Calls.{granted, has_finished, is_fetched};
 
 use crate::inline::InlineWorld;
-use adlb_unit::{Handle, Payload, Rank, Server, Target, Types, UnitId, WorkType};
+use adlb_unit::{Handle, Info, Payload, Rank, Server, Target, Trouble, Types, UnitId, WorkType};
 use bag_ledger::{Body, Entry};
 use rank_client::{Adlb, EndFault, PutFault};
 use server_core::LeftUnit;
@@ -17,6 +17,8 @@ use std::test::Fail;
 enum Act {
     // A unit of this type, of this byte `n` times, is put and accepted.
     Put(u32, u8, u8),
+    // A unit of this type, of this priority and of one byte, an `a`, is put and accepted.
+    PutAt(u32, i32),
     // A put of `n` bytes is rejected.
     PutRejected(u8),
     // A put is told that all work is used up.
@@ -27,6 +29,8 @@ enum Act {
     Leave,
     // A reserve is told that all work is used up.
     Exhausted,
+    // A count of this type tells so many units, this highest priority, and so many that have it.
+    Count(u32, u64, Option<i32>, u64),
     // A batch with the common part `xy` begins.
     Begin,
     // The beginning of a batch with a common part of `n` bytes is rejected, and no batch is going on.
@@ -45,12 +49,12 @@ fn body(alloc: Global, byte: u8, n: u8) -> Result<Payload, Fail>
     Ok(Payload::from_vec(bytes))
 }
 
-fn put(world: &mut InlineWorld, kind: u32, body: Payload) -> Result<(), PutFault>
+fn put(world: &mut InlineWorld, kind: u32, prio: i32, body: Payload) -> Result<(), PutFault>
     requires running { has_finished world.old.run.transcript ≡ false }
     requires size { length body ≤ 255 }
     ensures { has_finished world.new.run.transcript ≡ false }
 {
-    world.put(WorkType(kind), 0, Target::Any, None, body)
+    world.put(WorkType(kind), prio, Target::Any, None, body)
 }
 
 fn reserve(world: &mut InlineWorld) -> Result<Handle, EndFault>
@@ -60,6 +64,13 @@ fn reserve(world: &mut InlineWorld) -> Result<Handle, EndFault>
     ensures once { IfOk result (λ note. is_fetched note.id world.new.run.transcript ≡ false) }
 {
     world.reserve(&Types::any())
+}
+
+fn count(world: &mut InlineWorld, kind: u32) -> Result<Info, Trouble>
+    requires { has_finished world.old.run.transcript ≡ false }
+    ensures { has_finished world.new.run.transcript ≡ false }
+{
+    world.num_units(WorkType(kind))
 }
 
 // The bytes of a unit that is reserved and fetched.
@@ -120,13 +131,14 @@ fn play_one(rt: &impl Abort, alloc: Global, world: &mut InlineWorld, act: Act) -
     ensures { has_finished world.new.run.transcript ≡ false }
 {
     match act {
-        Act::Put(kind, byte, n) => put(world, kind, body(alloc, byte, n)?)?,
+        Act::Put(kind, byte, n) => put(world, kind, 0, body(alloc, byte, n)?)?,
+        Act::PutAt(kind, prio) => put(world, kind, prio, body(alloc, b'a', 1)?)?,
         Act::PutRejected(n) => {
-            let answer = put(world, 1, body(alloc, 0, n)?);
+            let answer = put(world, 1, 0, body(alloc, 0, n)?);
             assert_eq!(rt; answer, Err(PutFault::Rejected));
         }
         Act::PutOver => {
-            let answer = put(world, 1, body(alloc, 0, 1)?);
+            let answer = put(world, 1, 0, body(alloc, 0, 1)?);
             assert_eq!(rt; answer, Err(PutFault::Exhausted));
         }
         Act::Work(common, byte, n) => {
@@ -145,6 +157,10 @@ fn play_one(rt: &impl Abort, alloc: Global, world: &mut InlineWorld, act: Act) -
             }
             Err(fault) => assert_eq!(rt; fault, EndFault::Exhausted),
         },
+        Act::Count(kind, free, top, at_top) => {
+            let info = count(world, kind)?;
+            assert_eq!(rt; info, Info { free, top, at_top });
+        }
         Act::Begin => begin(rt, world, Payload::copy(alloc, b"xy".as_slice())?)?,
         Act::BeginRejected(n) => {
             let answer = begin(rt, world, body(alloc, 0, n)?);
@@ -310,11 +326,59 @@ fn units_that_are_not_fetched_are_left(rt: HostRuntime) -> Result<(), Fail> {
 }
 
 #[test]
+fn free_units_of_a_type_are_counted_by_their_priority(rt: HostRuntime) -> Result<(), Fail> {
+    let acts = [
+        Act::PutAt(1, 3),
+        Act::PutAt(1, 7),
+        Act::Count(1, 2, Some(7), 1),
+        Act::Count(2, 0, None, 0),
+        // The unit of priority 7 is fetched.
+        Act::Work("", b'a', 1),
+        Act::Count(1, 1, Some(3), 1),
+        // A unit that is pinned is not counted.
+        Act::Leave,
+        Act::Count(1, 0, None, 0),
+        // After an end was told the home is asked as before.
+        Act::Exhausted,
+        Act::Count(1, 0, None, 0),
+    ];
+    let ledger = [
+        "Putting 0 0: type 1, 1 bytes, Some(97)",
+        "Accepted { server: Server(0), id: UnitId { rank: Rank(0), number: 0 } }",
+        "Putting 0 1: type 1, 1 bytes, Some(97)",
+        "Accepted { server: Server(0), id: UnitId { rank: Rank(0), number: 1 } }",
+        "Counting { rank: Rank(0), call: 2, kind: WorkType(1) }",
+        "Counted { server: Server(0), rank: Rank(0), call: 2, info: Info { free: 2, top: Some(7), at_top: 1 } }",
+        "Counting { rank: Rank(0), call: 3, kind: WorkType(2) }",
+        "Counted { server: Server(0), rank: Rank(0), call: 3, info: Info { free: 0, top: None, at_top: 0 } }",
+        "Asked 0 4",
+        "Granted { server: Server(0), rank: Rank(0), call: 4, id: UnitId { rank: Rank(0), number: 1 } }",
+        "Fetching { rank: Rank(0), call: 5, id: UnitId { rank: Rank(0), number: 1 } }",
+        "Fetched { server: Server(0), rank: Rank(0), id: UnitId { rank: Rank(0), number: 1 } }",
+        "Counting { rank: Rank(0), call: 6, kind: WorkType(1) }",
+        "Counted { server: Server(0), rank: Rank(0), call: 6, info: Info { free: 1, top: Some(3), at_top: 1 } }",
+        "Asked 0 7",
+        "Granted { server: Server(0), rank: Rank(0), call: 7, id: UnitId { rank: Rank(0), number: 0 } }",
+        "Counting { rank: Rank(0), call: 8, kind: WorkType(1) }",
+        "Counted { server: Server(0), rank: Rank(0), call: 8, info: Info { free: 0, top: None, at_top: 0 } }",
+        "Asked 0 9",
+        "Exhausted",
+        "Over { rank: Rank(0), call: 9, end: Exhausted }",
+        "Counting { rank: Rank(0), call: 10, kind: WorkType(1) }",
+        "Counted { server: Server(0), rank: Rank(0), call: 10, info: Info { free: 0, top: None, at_top: 0 } }",
+        "Finished { rank: Rank(0), call: 11 }",
+    ];
+    let left = [unit(0, Some(Rank(0)))];
+    check(&rt, rt.alloc(), 64, &acts, 12, &ledger, &left)
+}
+
+#[test]
 fn units_of_a_batch_share_its_common_part(rt: HostRuntime) -> Result<(), Fail> {
     let acts = [
         Act::Begin,
         Act::Put(1, b'a', 1),
         Act::Put(1, b'b', 1),
+        Act::Count(1, 2, Some(0), 2),
         Act::End,
         Act::Work("xy", b'a', 1),
         Act::Work("xy", b'b', 1),
@@ -326,22 +390,24 @@ fn units_of_a_batch_share_its_common_part(rt: HostRuntime) -> Result<(), Fail> {
         "Accepted { server: Server(0), id: UnitId { rank: Rank(0), number: 1 } }",
         "Putting 0 2: type 1, 1 bytes, Some(98)",
         "Accepted { server: Server(0), id: UnitId { rank: Rank(0), number: 2 } }",
-        "Closing { rank: Rank(0), call: 3 }",
+        "Counting { rank: Rank(0), call: 3, kind: WorkType(1) }",
+        "Counted { server: Server(0), rank: Rank(0), call: 3, info: Info { free: 2, top: Some(0), at_top: 2 } }",
+        "Closing { rank: Rank(0), call: 4 }",
         "Closed { server: Server(0), batch: BatchId { rank: Rank(0), number: 0 } }",
-        "Asked 0 4",
-        "Granted { server: Server(0), rank: Rank(0), call: 4, id: UnitId { rank: Rank(0), number: 1 } }",
-        "Fetching { rank: Rank(0), call: 5, id: UnitId { rank: Rank(0), number: 1 } }",
+        "Asked 0 5",
+        "Granted { server: Server(0), rank: Rank(0), call: 5, id: UnitId { rank: Rank(0), number: 1 } }",
+        "Fetching { rank: Rank(0), call: 6, id: UnitId { rank: Rank(0), number: 1 } }",
         "Fetched { server: Server(0), rank: Rank(0), id: UnitId { rank: Rank(0), number: 1 } }",
         "CommonFetched { server: Server(0), rank: Rank(0), batch: BatchId { rank: Rank(0), number: 0 } }",
-        "Asked 0 6",
-        "Granted { server: Server(0), rank: Rank(0), call: 6, id: UnitId { rank: Rank(0), number: 2 } }",
-        "Fetching { rank: Rank(0), call: 7, id: UnitId { rank: Rank(0), number: 2 } }",
+        "Asked 0 7",
+        "Granted { server: Server(0), rank: Rank(0), call: 7, id: UnitId { rank: Rank(0), number: 2 } }",
+        "Fetching { rank: Rank(0), call: 8, id: UnitId { rank: Rank(0), number: 2 } }",
         "Fetched { server: Server(0), rank: Rank(0), id: UnitId { rank: Rank(0), number: 2 } }",
         "CommonFetched { server: Server(0), rank: Rank(0), batch: BatchId { rank: Rank(0), number: 0 } }",
         "Freed { server: Server(0), batch: BatchId { rank: Rank(0), number: 0 } }",
-        "Finished { rank: Rank(0), call: 8 }",
+        "Finished { rank: Rank(0), call: 9 }",
     ];
-    check(&rt, rt.alloc(), 64, &acts, 9, &ledger, &[])
+    check(&rt, rt.alloc(), 64, &acts, 10, &ledger, &[])
 }
 
 #[test]

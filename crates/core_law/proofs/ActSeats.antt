@@ -18,7 +18,7 @@ use Rattle.adlb_unit.specs.declared.names.BatchId.{BatchId}
 use Rattle.bag_ledger.specs.declared.entries.Entry.TheVariants as enters
 use Rattle.batch_store.specs.Store.{closed, fetched, is_due}
 use Rattle.batch_store.specs.declared.parts.Part.{Part}
-use Rattle.server_law.specs.Acts.{Act, Accepts, Around, Closes, Ends_keep, Ends_put, Ends_reserve, Fetches, Fetches_part, Finds, Gives, Grants, Heard, Keeps, Notes_finish, Parks, Refuses, Refuses_part, ServerSaying, Shuts, Tells, comes, entries, frees, of_rank, says, takes}
+use Rattle.server_law.specs.Acts.{Act, Accepts, Around, Closes, Counts, Ends_keep, Ends_put, Ends_reserve, Fetches, Fetches_part, Finds, Gives, Grants, Heard, Keeps, Notes_finish, Parks, Refuses, Refuses_part, ServerSaying, Shuts, Tells, comes, entries, frees, of_rank, says, takes}
 use Rattle.core_run.specs.World.{World, client_of, pool_of}
 use Rattle.core_law.specs.Acting.{AreFront, IsAct, acted}
 use Rattle.core_law.specs.Lawful.{Each, IsAsked, IsFact, IsOfCall, IsSeat, IsWaiting, OfCall}
@@ -37,6 +37,7 @@ about (Grants wish unit) = Some wish.rank
 about (Ends_reserve wish end) = Some wish.rank
 about (Parks wish) = Some wish.rank
 about (Fetches rank request id unit) = Some rank
+about (Counts rank request kind) = Some rank
 about (Notes_finish rank) = Some rank
 about (Gives at wish rest unit) = Some wish.rank
 about (Tells at wish rest end) = Some wish.rank
@@ -140,6 +141,7 @@ reserve_asked c (waits_for.Fetch request note) k wish is = absurd (cc is.0)
 reserve_asked c (waits_for.Common request note common own) k wish is = absurd (cc is.0)
 reserve_asked c (waits_for.Keep request common first tried) k wish is = absurd (cc is.0)
 reserve_asked c (waits_for.Close request batch) k wish is = absurd (cc is.0)
+reserve_asked c (waits_for.Count request kind) k wish is = absurd (cc is.0)
 
 -- the rank comes to wait
 pub parks_stays : (w : World) (k : Server) (wish : Wish) (b : Bag) (me : Rank) (coming : Option Message) → IsMade w k (Parks wish) b b

@@ -11,6 +11,7 @@ use Rattle.adlb_unit.specs.declared.names.CommonRef.{CommonRef}
 use Rattle.adlb_unit.specs.declared.names.Rank.{Rank}
 use Rattle.adlb_unit.specs.declared.names.Server.{Server}
 use Rattle.adlb_unit.specs.declared.names.UnitId.{UnitId}
+use Rattle.adlb_unit.specs.declared.names.WorkType.{WorkType}
 use Rattle.adlb_unit.specs.declared.notes.UnitNote.{UnitNote}
 use Rattle.adlb_unit.specs.declared.units.Unit.{Unit as Work}
 use Rattle.bag_ledger.specs.Bag.{Bag}
@@ -101,6 +102,7 @@ put_asked c (waits_for.Reserve request types) k unit is = absurd (cc is.0)
 put_asked c (waits_for.Fetch request note) k unit is = absurd (cc is.0)
 put_asked c (waits_for.Common request note common own) k unit is = absurd (cc is.0)
 put_asked c (waits_for.Keep request common first tried) k unit is = absurd (cc is.0)
+put_asked c (waits_for.Count to kind) k unit is = absurd (cc is.0)
 put_asked c (waits_for.Close request batch) k unit is = absurd (cc is.0)
 
 fetch_asked : (c : ClientModel) (p : Pending) (k : Server) (request : ℕ) (id : UnitId) → IsAsked c p k (tells.Fetch request id)
@@ -110,6 +112,7 @@ fetch_asked c (waits_for.Put unit first tried) k request id is = absurd (cc is.0
 fetch_asked c (waits_for.Reserve to types) k request id is = absurd (cc is.0)
 fetch_asked c (waits_for.Common to note common own) k request id is = absurd (cc is.0)
 fetch_asked c (waits_for.Keep to common first tried) k request id is = absurd (cc is.0)
+fetch_asked c (waits_for.Count to kind) k request id is = absurd (cc is.0)
 fetch_asked c (waits_for.Close to batch) k request id is = absurd (cc is.0)
 fetch_asked c (waits_for.Fetch to note) k request id is = let e = is.0 in (note, cc, cc, is.1)
 
@@ -122,6 +125,7 @@ common_asked c (waits_for.Reserve to types) k request batch is = absurd (cc is.0
 common_asked c (waits_for.Fetch to note) k request batch is = absurd (cc is.0)
 common_asked c (waits_for.Common to note common own) k request batch is = let e = is.0 in (note, common, own, cc, cc, is.1)
 common_asked c (waits_for.Keep to common first tried) k request batch is = absurd (cc is.0)
+common_asked c (waits_for.Count to kind) k request batch is = absurd (cc is.0)
 common_asked c (waits_for.Close to other) k request batch is = absurd (cc is.0)
 
 keep_asked : (c : ClientModel) (p : Pending) (k : Server) (request : ℕ) (common : List ℕ) → IsAsked c p k (tells.KeepCommon request common)
@@ -132,6 +136,7 @@ keep_asked c (waits_for.Reserve to types) k request common is = absurd (cc is.0)
 keep_asked c (waits_for.Fetch to note) k request common is = absurd (cc is.0)
 keep_asked c (waits_for.Common to note part own) k request common is = absurd (cc is.0)
 keep_asked c (waits_for.Keep to other first tried) k request common is = let e = is.0 in (first, tried, cc, is.1)
+keep_asked c (waits_for.Count to kind) k request common is = absurd (cc is.0)
 keep_asked c (waits_for.Close to other) k request common is = absurd (cc is.0)
 
 close_asked : (c : ClientModel) (p : Pending) (k : Server) (request : ℕ) (batch : BatchId) (accepted : ℕ)
@@ -143,7 +148,19 @@ close_asked c (waits_for.Reserve to types) k request batch accepted is = absurd 
 close_asked c (waits_for.Fetch to note) k request batch accepted is = absurd (cc is.0)
 close_asked c (waits_for.Common to note part own) k request batch accepted is = absurd (cc is.0)
 close_asked c (waits_for.Keep to other first tried) k request batch accepted is = absurd (cc is.0)
+close_asked c (waits_for.Count to kind) k request batch accepted is = absurd (cc is.0)
 close_asked c (waits_for.Close to common) k request batch accepted is = let e = is.0 in (common, cc, cc, cc, is.1)
+
+count_asked : (c : ClientModel) (p : Pending) (k : Server) (request : ℕ) (kind : WorkType) → IsAsked c p k (tells.Count request kind)
+    → (p ≡ waits_for.Count request kind) × (k ≡ home c.config c.me)
+count_asked c waits_for.Nothing k request kind is = absurd is
+count_asked c (waits_for.Put unit first tried) k request kind is = absurd (cc is.0)
+count_asked c (waits_for.Reserve to types) k request kind is = absurd (cc is.0)
+count_asked c (waits_for.Fetch to note) k request kind is = absurd (cc is.0)
+count_asked c (waits_for.Common to note part own) k request kind is = absurd (cc is.0)
+count_asked c (waits_for.Keep to other first tried) k request kind is = absurd (cc is.0)
+count_asked c (waits_for.Close to batch) k request kind is = absurd (cc is.0)
+count_asked c (waits_for.Count to other) k request kind is = let e = is.0 in (cc, is.1)
 
 -- a put that was asked for last at this server
 pub record IsPutHere (w : World) (k : Server) (b : Bag) (unit : Work) : Type 0 where
@@ -275,3 +292,17 @@ common_here w k a b rank request batch l is takes_it =
     let its = asked_call w k a b rank (tells.FetchCommon request batch) l is takes_it refl in
     let of = common_asked (client_of w rank) (client_of w rank).pending k request batch its.2 in
     record { note = of.0; common = of.1; own = of.2; calling = record { within = its.0; call = of.3; busy = refl; seat = its.1 }; named = of.4; here = of.5 }
+
+-- Counts.
+
+-- a count whose rank has its home here
+pub record IsCountHere (w : World) (k : Server) (b : Bag) (rank : Rank) (request : ℕ) (kind : WorkType) : Type 0 where
+  pub calling : IsCalling w b rank (waits_for.Count request kind)
+  pub here : k ≡ home (client_of w rank).config (client_of w rank).me
+
+pub count_here : (w : World) (k : Server) (a : Act) (b : Bag) (rank : Rank) (request : ℕ) (kind : WorkType) → IsLawful w b → IsAct w k a
+    → takes a ≡ of_rank rank (tells.Count request kind) ∷ [] → IsCountHere w k b rank request kind
+count_here w k a b rank request kind l is takes_it =
+    let its = asked_call w k a b rank (tells.Count request kind) l is takes_it refl in
+    let of = count_asked (client_of w rank) (client_of w rank).pending k request kind its.2 in
+    record { calling = record { within = its.0; call = of.0; busy = refl; seat = its.1 }; here = of.1 }

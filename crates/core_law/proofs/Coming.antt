@@ -18,6 +18,7 @@ use Rattle.adlb_unit.specs.declared.names.Server.{Server}
 use Rattle.adlb_unit.specs.declared.names.UnitId.{UnitId}
 use Rattle.adlb_unit.specs.declared.names.WorkType.{WorkType}
 use Rattle.adlb_unit.specs.declared.notes.End.{End}
+use Rattle.adlb_unit.specs.declared.notes.Info.{Info}
 use Rattle.adlb_unit.specs.declared.notes.UnitNote.{UnitNote}
 use Rattle.adlb_unit.specs.declared.units.Unit.{Unit}
 use Rattle.adlb_unit.proofs.Same.{same_unit_from, same_unit_is, unit_differs}
@@ -445,3 +446,26 @@ fetched_comes c request note me work u b next w there same run =
           facts = facts_in d refl;
           still = still_same moved_bag d refl refl (still_moved b id Spent refl w.still);
         })
+
+-- A count is told.
+
+pub counted_comes : (c : ClientModel) (request : ℕ) (kind : WorkType) (me : Server) (info : Info) (b next : Bag)
+    → Waits c (waits_for.Count request kind) b → IsRun b (enters.Counted me c.me request info ∷ []) next
+    → Comes c (waits_for.Count request kind) (tells.Counted request info) b next (enters.Counted me c.me request info ∷ [])
+counted_comes c request kind me info b next w run =
+    let e = enters.Counted me c.me request info in
+    let s = single b next e run in
+    let d : Bag = with_rank c.me ended b in
+    let said_so : Said = record { call = calls_to.Count kind; answer = answers.Info info } in
+    let told : says b e ≡ Some (c.me, said_so) = rw w.rank refl in
+    rw s.1 (record {
+      rank = rank_changed b c.me ended (in_call c (waits_for.Count request kind) None) w.rank;
+      servers = w.servers;
+      caused = w.caused;
+      held = w.held;
+      said = ap (λ l. c.transcript ++ l) (sym (one_call b e c.me said_so told));
+      owed = tt;
+      accepted = accepted_same b d c.batch c.accepted refl w.accepted;
+      facts = facts_same b d (c.handles ++ []) refl w.facts;
+      still = still_same b d refl refl w.still;
+    })

@@ -8,6 +8,7 @@ use Rattle.adlb_unit.specs.declared.messages.Message.TheVariants as tells
 use Rattle.adlb_unit.specs.declared.names.Rank.{Rank}
 use Rattle.adlb_unit.specs.declared.names.Server.{Server}
 use Rattle.adlb_unit.specs.declared.names.UnitId.{UnitId}
+use Rattle.adlb_unit.specs.declared.names.WorkType.{WorkType}
 use Rattle.adlb_unit.specs.declared.notes.End.{End}
 use Rattle.adlb_unit.specs.declared.notes.UnitNote.{UnitNote}
 use Rattle.adlb_unit.specs.declared.units.Unit.{Unit as Work}
@@ -23,6 +24,7 @@ use Rattle.bag_ledger.proofs.Tests.{some_is}
 use Rattle.bag_law.specs.Calls.{IsTrueSaid}
 use Rattle.bag_law.proofs.Facts.{put_is_new}
 use Rattle.bag_law.proofs.Sound.{run_calls_are_true, run_is_sound}
+use Rattle.work_queue.specs.Counts.{counts_of}
 use Rattle.work_queue.specs.Queue.{charge_of}
 use Rattle.work_queue.specs.declared.placing.Placed.{Placed}
 use Rattle.rank_client.specs.Calls.{is_fetched, is_granted}
@@ -31,7 +33,7 @@ use Rattle.rank_client.specs.declared.pendings.Pending.TheVariants as waits_for
 use Rattle.rank_client.specs.Agreement.{HasAccepted as HasAcceptedOf, in_call}
 use Rattle.rank_client.specs.Expected.{IsAtServer, IsAwaited, IsNewNote}
 use Rattle.server_law.specs.State.{ServerModel, Wish}
-use Rattle.server_law.specs.Acts.{Act, Accepts, Around, Closes, Ends_keep, Ends_put, Ends_reserve, Fetches, Fetches_part, Gives, Grants, Keeps, Refuses, Refuses_part, Tells, batch_of, entries, frees, unit_of as unit_named}
+use Rattle.server_law.specs.Acts.{Act, Accepts, Around, Closes, Counts, Ends_keep, Ends_put, Ends_reserve, Fetches, Fetches_part, Gives, Grants, Keeps, Refuses, Refuses_part, Tells, batch_of, entries, frees, unit_of as unit_named}
 use Rattle.server_law.specs.Agreement.{ServerAgrees}
 use Rattle.server_law.specs.Finding.{unit_with}
 use Rattle.server_law.specs.Legal.{AsksFor, Begins, HasAccepted, Needs, Offers}
@@ -53,8 +55,8 @@ use Rattle.core_law.specs.Lawful.{IsLawful, IsSeat}
 use Rattle.core_law.specs.Seats.{IsStill}
 use Rattle.core_law.specs.Well.{IsWell}
 use Rattle.core_law.proofs.ActSeats.{about}
-use Rattle.core_law.proofs.Answering.{IsCalling, IsPutHere, IsReserveHere, Replies, fetch_here, idle_here, one_self, put_here, reply_passes, reserve_here, waits_so, IsKeepHere, close_here, common_here, keep_here}
-use Rattle.core_law.proofs.Coming.{Comes, IsEnded, Waits, accepted_comes, fetched_comes, granted_comes, over_comes, put_ended, refused_comes, reserve_ended, fetched_shares, keep_ended}
+use Rattle.core_law.proofs.Answering.{IsCalling, IsPutHere, IsReserveHere, Replies, fetch_here, idle_here, one_self, put_here, reply_passes, reserve_here, waits_so, IsKeepHere, close_here, common_here, count_here, keep_here}
+use Rattle.core_law.proofs.Coming.{Comes, IsEnded, Waits, accepted_comes, counted_comes, fetched_comes, granted_comes, over_comes, put_ended, refused_comes, reserve_ended, fetched_shares, keep_ended}
 use Rattle.core_law.proofs.PartComing.{closed_comes, common_comes, kept_comes, part_refused_comes, with_frees}
 use Rattle.core_law.proofs.Gone.{is_taken, taken_gone}
 use Rattle.core_law.proofs.Ring.{not_tried}
@@ -421,3 +423,20 @@ module _ (w : World) (k : Server) (b : Bag) (well : IsWell w) (l : IsLawful w b)
       (with_frees c p now b n (enters.CommonFetched me c.me batch) me batch (fetched part)
       (λ n run. subst (λ x. Comes c p (tells.Bytes request x) b n (enters.CommonFetched me c.me batch ∷ [])) bytes
       (common_comes c request h.note h.common h.own batch lot.0 me b n waits lot.1.found run))))
+
+  -- Counts.
+
+  pub counts_succeeds : (rank : Rank) (request : ℕ) (kind : WorkType) → IsAct w k (Counts rank request kind)
+      → Succeeds w k (Counts rank request kind) b
+  counts_succeeds rank request kind is =
+      let h = count_here w k (Counts rank request kind) b rank request kind l is refl in
+      let p = waits_for.Count request kind in
+      let me = (pool_of w k).me in
+      let info = counts_of kind (pool_of w k).kept.queue.units in
+      let now = tells.Counted request info in
+      let waits = waits_so w b rank p well l h.calling in
+      decides (Counts rank request kind) rank p now refl h.calling
+      (record { said = refl; one_goes = let e = one_self rank in omega arith; nobody = refl }) (refl, h.here)
+      (_, rank_is rank p h.calling, refl) (λ n.
+      renamed rank p now n (λ x. enters.Counted me x request info ∷ []) h.calling
+      (counted_comes (client_of w rank) request kind me info b n waits))

@@ -57,7 +57,7 @@ server number = server_named number
 abbrev unit : ℕ → ℕ → UnitId
 unit number call = record { rank = rank_named number; number = call }
 
--- the rank begins to put forty bytes of type 2, to reserve any type, to fetch the unit, to finish
+-- the rank begins to put forty bytes of type 2, to reserve any type, to fetch the unit, to count type 2, to finish
 abbrev puts : ℕ → Event
 puts number = occurs.Call (rank number) (calls_to.Put (record { 0 = 2 }) (pos 0) Any None (replicate 40 7))
 
@@ -66,6 +66,9 @@ reserves number = occurs.Call (rank number) (calls_to.Reserve None)
 
 abbrev fetches : ℕ → UnitId → Event
 fetches number id = occurs.Call (rank number) (calls_to.Fetch id)
+
+abbrev counts : ℕ → Event
+counts number = occurs.Call (rank number) (calls_to.Count (record { 0 = 2 }))
 
 abbrev finishes : ℕ → Event
 finishes number = occurs.Call (rank number) calls_to.Finish
@@ -93,6 +96,16 @@ rejected_after_each_server : ledger_after two_servers
     ∷ enters.Refused (server 0) (unit 0 2) 40 ∷ enters.Refused (server 1) (unit 0 2) 40 ∷ enters.Rejected (rank 0) 2 ∷ [])
 unfolding post
 rejected_after_each_server = refl
+
+-- a count tells of what the home took, and of nothing at the other server
+home_alone_is_counted : ledger_after two_servers
+    (puts 0 ∷ asks 0 0 ∷ hears 0 0 ∷ puts 0 ∷ asks 0 1 ∷ hears 0 1 ∷ counts 0 ∷ asks 0 0 ∷ hears 0 0 ∷ [])
+    ≡ Some (
+    putting 0 0 ∷ enters.Accepted (server 0) (unit 0 0) ∷ putting 0 1 ∷ enters.Accepted (server 1) (unit 0 1)
+    ∷ enters.Counting (rank 0) 2 (record { 0 = 2 })
+    ∷ enters.Counted (server 0) (rank 0) 2 (record { free = 1; top = Some (pos 0); at_top = 1 }) ∷ [])
+unfolding post
+home_alone_is_counted = refl
 
 -- with one server what was put is granted and fetched; then all is used up, and with the only rank the server has ended
 one_server_alone : ledger_after one_server

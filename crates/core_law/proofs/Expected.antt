@@ -9,7 +9,7 @@ use Rattle.std.proofs.lemmas.List.Sums.{AllPass-from_list_all}
 use Rattle.adlb_unit.specs.Ids.{same_unit, same_batch}
 use Rattle.adlb_unit.specs.Limits.{stamp_limit}
 use Rattle.adlb_unit.specs.Links.{is_within, place_of}
-use Rattle.adlb_unit.specs.Targets.{Aims, home_of}
+use Rattle.adlb_unit.specs.Targets.{Aims, home, home_of}
 use Rattle.adlb_unit.specs.declared.actors.Actor.{Actor}
 use Rattle.adlb_unit.specs.declared.actors.Actor.TheVariants as by
 use Rattle.adlb_unit.specs.declared.configs.Config.{Config}
@@ -173,6 +173,10 @@ close_awaited c request batch b s w sound a at =
       },
     )
 
+-- its home is here
+at_home : (c : ClientModel) (s : ServerModel) → s.config ≡ c.config → s.me ≡ home c.config c.me → home_of s.config.servers c.me ≡ s.me.0
+at_home c s same asked = ap (λ (k : Config). home_of k.servers c.me) same ∙ ap (λ (k : Server). k.0) (sym asked)
+
 -- and that the rank runs there
 request_awaited : (c : ClientModel) (p : Pending) (b : Bag) (s : ServerModel) (m : Message) → Waits c p b → IsSoundBag b → ServerAgrees b s
     → s.config ≡ c.config → IsAsked c p s.me m → RunsHere s c.me → IsAwaitedHere s c.me m
@@ -180,8 +184,7 @@ request_awaited c waits_for.Nothing b s m w sound a same asked runs = absurd ask
 request_awaited c (waits_for.Put unit first tried) b s m w sound a same asked runs =
     subst (IsAwaitedHere s c.me) (sym asked.0) (put_awaited c unit first tried b s sound w.still a w.rank w.call.0 same)
 request_awaited c (waits_for.Reserve request types) b s m w sound a same asked runs =
-    let home = ap (λ (k : Config). home_of k.servers c.me) same ∙ ap (λ (k : Server). k.0) (sym asked.1) in
-    subst (IsAwaitedHere s c.me) (sym asked.0) (home, runs)
+    subst (IsAwaitedHere s c.me) (sym asked.0) (at_home c s same asked.1, runs)
 request_awaited c (waits_for.Fetch request note) b s m w sound a same asked runs =
     let held = All-contains (IsHeld b c.me) (c.handles ++ note ∷ []) note w.held (Contains-push c.handles note) in
     subst (IsAwaitedHere s c.me) (sym asked.0) (fetch_awaited c.me note b s held a asked.1)
@@ -194,6 +197,8 @@ request_awaited c (waits_for.Keep request common first tried) b s m w sound a sa
     subst (IsAwaitedHere s c.me) (sym asked.0) (none, w.call.2)
 request_awaited c (waits_for.Close request batch) b s m w sound a same asked runs =
     subst (IsAwaitedHere s c.me) (sym asked.0) (close_awaited c request batch b s w sound a asked.1)
+request_awaited c (waits_for.Count request kind) b s m w sound a same asked runs =
+    subst (IsAwaitedHere s c.me) (sym asked.0) (at_home c s same asked.1, runs)
 
 -- A rank whose request or Finish letter is under way runs at the server.
 
@@ -336,6 +341,7 @@ awaited_busy c (waits_for.Fetch request note) from m is = refl
 awaited_busy c (waits_for.Common request note common own) from m is = refl
 awaited_busy c (waits_for.Keep request common first tried) from m is = refl
 awaited_busy c (waits_for.Close request batch) from m is = refl
+awaited_busy c (waits_for.Count request kind) from m is = refl
 
 to_rank : (w : World) (b : Bag) (from : Server) (me : Rank) (letter : Letter) (rest : List Letter) → IsWell w
     → IsLawful w b

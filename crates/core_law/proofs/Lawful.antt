@@ -15,7 +15,7 @@ use Rattle.bag_ledger.specs.Runs.{IsLegal, IsRun}
 use Rattle.bag_ledger.proofs.Tests.{some_is}
 use Rattle.rank_client.specs.declared.pendings.Pending.{Pending}
 use Rattle.rank_client.specs.declared.pendings.Pending.TheVariants as waits_for
-use Rattle.rank_client.specs.Agreement.{IsHeld, fetch_coming, put_coming, reserve_coming, said, close_coming, common_coming}
+use Rattle.rank_client.specs.Agreement.{IsHeld, fetch_coming, put_coming, reserve_coming, said, close_coming, common_coming, count_coming}
 use Rattle.rank_client.specs.Calls.{plus}
 use Rattle.rank_client.specs.Rules.{call_of}
 use Rattle.rank_client.specs.State.{ClientModel, start as new_client}
@@ -133,6 +133,7 @@ said_behind c (waits_for.Fetch request note) (Some m) = plus_behind c.transcript
 said_behind c (waits_for.Common request note common own) (Some m) = plus_behind c.transcript (calls_to.Fetch note.id) (common_coming own m)
 said_behind c (waits_for.Keep request common first tried) (Some m) = plus_behind c.transcript (calls_to.BeginBatch common) (put_coming m)
 said_behind c (waits_for.Close request batch) (Some m) = plus_behind c.transcript calls_to.EndBatch (close_coming m)
+said_behind c (waits_for.Count request kind) (Some m) = plus_behind c.transcript (calls_to.Count kind) (count_coming m)
 
 pub ledger_tells : (config : Config) (events : List Event) (w : World) (rank : Rank) → rank.0 < config.ranks
     → Runs (start config) events w

@@ -79,6 +79,7 @@ owed_after me b next (waits_for.Put unit first tried) coming k is = tt
 owed_after me b next (waits_for.Reserve request types) coming k is = tt
 owed_after me b next (waits_for.Keep request common first tried) coming k is = tt
 owed_after me b next (waits_for.Close request batch) coming k is = tt
+owed_after me b next (waits_for.Count request kind) coming k is = tt
 
 accepted_after : (me : Rank) (b next : Bag) (o : Option CommonRef) (n : ℕ) → ((c : CommonRef) → o ≡ Some c → c.batch.rank.0 ≡ me.0) → KeepsUnits me b next
     → HasAccepted b o n → HasAccepted next o n

@@ -8,7 +8,7 @@ use Rattle.adlb_unit.specs.Links.{is_within, place_of}
 use Rattle.adlb_unit.specs.declared.actors.Actor.TheVariants as by
 use Rattle.adlb_unit.specs.declared.configs.Config.{Config}
 use Rattle.adlb_unit.specs.declared.names.Server.{Server}
-use Rattle.server_law.specs.Acts.{Accepts, Act, Closes, Ends_keep, Ends_put, Ends_reserve, Fetches, Fetches_part, Gives, Grants, Heard, Keeps, Notes_finish, Parks, Refuses, Refuses_part, Tells, comes, does, finished_after, says, takes, waiting_after}
+use Rattle.server_law.specs.Acts.{Accepts, Act, Closes, Counts, Ends_keep, Ends_put, Ends_reserve, Fetches, Fetches_part, Gives, Grants, Heard, Keeps, Notes_finish, Parks, Refuses, Refuses_part, Tells, comes, does, finished_after, says, takes, waiting_after}
 use Rattle.server_law.specs.Carried.{done}
 use Rattle.server_law.specs.State.{Kept, ServerModel, is_finished, is_home, is_waiting, runs}
 use Rattle.server_law.specs.Sure.{Sure, SitsIn}
@@ -88,6 +88,7 @@ said_within config me (Refuses_part rank request common) s own come sits = (come
 said_within config me (Ends_keep rank request common end) s own come sits = (come.0, tt)
 said_within config me (Closes request batch accepted part) s own come sits = (come.0, tt)
 said_within config me (Fetches_part rank request batch part) s own come sits = (come.0, tt)
+said_within config me (Counts rank request kind) s own come sits = (come.0, tt)
 said_within config me _ s own come sits = tt
 
 -- The Finish letter of a rank that ran, as far as the server knew.

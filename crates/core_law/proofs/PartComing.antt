@@ -58,6 +58,7 @@ owed_same b n (waits_for.Put unit first tried) coming same is = tt
 owed_same b n (waits_for.Reserve request types) coming same is = tt
 owed_same b n (waits_for.Keep request common first tried) coming same is = tt
 owed_same b n (waits_for.Close request batch) coming same is = tt
+owed_same b n (waits_for.Count request kind) coming same is = tt
 
 -- the same where the part is freed
 freed_comes : (c : ClientModel) (p : Pending) (a : Message) (b : Bag) (e : Entry) (me : Server) (batch : BatchId)

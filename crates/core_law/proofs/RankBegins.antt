@@ -31,7 +31,7 @@ use Rattle.bag_ledger.specs.declared.entries.Call.TheVariants as calls_to
 use Rattle.bag_ledger.specs.declared.entries.Entry.{Entry}
 use Rattle.rank_client.specs.declared.pendings.Pending.{Pending}
 use Rattle.rank_client.specs.declared.pendings.Pending.TheVariants as waits_for
-use Rattle.rank_client.specs.Rules.{ClientResponse, ClientSaying, asked, asks, close, farewell, fetch, finish, first_server, held, is_free, is_idle, keep, open_call, over, put, reserve, unit_put}
+use Rattle.rank_client.specs.Rules.{ClientResponse, ClientSaying, asked, asks, close, count, farewell, fetch, finish, first_server, held, is_free, is_idle, keep, open_call, over, put, reserve, unit_put}
 use Rattle.rank_client.specs.State.{ClientModel}
 use Rattle.adlb_unit.specs.Ring.{behind}
 use Rattle.rank_client.specs.Step.{Made, begin, call_stamp, made, ticked}
@@ -52,6 +52,7 @@ idle_is (waits_for.Fetch request note) e = absurd (cc)
 idle_is (waits_for.Common request note common own) e = absurd (cc)
 idle_is (waits_for.Keep request common first tried) e = absurd (cc)
 idle_is (waits_for.Close request batch) e = absurd (cc)
+idle_is (waits_for.Count request kind) e = absurd (cc)
 
 none_is : {X : Type 0} (o : Option X) → is_none o ≡ true → o ≡ None
 none_is None e = refl
@@ -179,6 +180,12 @@ module _ (run : Config) (me : Rank) (s : ClientModel) (own : IsClient run me s) 
       let there : batch.server.0 < s.config.servers = subst (IsAt s.config) is own.batch in
       asks_opens s.puts s.handles _ batch.server _ _ (refl, λ b. (_, refl)) (refl, refl) (refl, is) there own.notes (notes_same s.handles)
 
+  count_opens : (kind : WorkType) → Began run me s (made (count now kind))
+  count_opens kind =
+      let some : 0 < s.config.servers = s.config.servers_within.0 in
+      asks_opens s.puts s.handles _ (home s.config s.me) _ _ (refl, λ b. (_, refl)) (refl, refl) refl
+      (mod_below s.me.0 s.config.servers some) own.notes (notes_same s.handles)
+
   finish_opens : Began run me s (made (finish now))
   finish_opens =
       let z = finish now in
@@ -219,6 +226,7 @@ module _ (run : Config) (me : Rank) (s : ClientModel) (own : IsClient run me s) 
       (λ is. let parts = and_parts (is_none s.batch) (nat_le (length common) (2 ^ 20)) is in
       keep_opens common s.end (none_is s.batch parts.0) (leb-true (length common) (2 ^ 20) parts.1))
   call_opens calls_to.EndBatch = close_opens s.batch refl
+  call_opens (calls_to.Count kind) = count_opens kind
   call_opens calls_to.Finish = if_some (λ z. Began run me s (made z)) (is_none s.batch) _ (λ is. finish_opens)
   call_opens _ = tt
 

@@ -22,7 +22,7 @@ use Rattle.bag_ledger.specs.declared.entries.Call.{Call}
 use Rattle.bag_ledger.specs.declared.entries.Entry.{Entry}
 use Rattle.rank_client.specs.declared.pendings.Pending.{Pending}
 use Rattle.rank_client.specs.declared.pendings.Pending.TheVariants as waits_for
-use Rattle.rank_client.specs.Rules.{ClientResponse, answer_call, asked, begun_batch, ends, expects_note, hear_close, hear_common, hear_fetch, hear_keep, hear_put, hear_reserve, is_at_server, is_for, is_idle, own_came, part_refused, refused}
+use Rattle.rank_client.specs.Rules.{ClientResponse, answer_call, asked, begun_batch, ends, expects_note, hear_close, hear_common, hear_count, hear_fetch, hear_keep, hear_put, hear_reserve, is_at_server, is_for, is_idle, own_came, part_refused, refused}
 use Rattle.rank_client.specs.State.{ClientModel}
 use Rattle.rank_client.specs.Step.{hear, letter_stamp, made, ticked}
 use Rattle.core_law.specs.Lawful.{Each}
@@ -291,6 +291,15 @@ module _ (run : Config) (me : Rank) (s : ClientModel) (own : IsClient run me s) 
         (number request batch.server from to for (call_is (waits_for.Close request batch) is).0) tt tt own.notes (notes_in s.handles []))
     close_heard request batch from _ is = tt
 
+    count_heard : (request : ℕ) (kind : WorkType) (from : Server) (m : Message) → s.pending ≡ waits_for.Count request kind
+        → Hears m (hear_count now request kind from m)
+    count_heard request kind from (tells.Counted to info) is =
+        if_some (λ z. Heard run me s (tells.Counted to info) (made z)) (is_for request (home s.config s.me) from to) _
+        (λ for. ended (waits_for.Count request kind) (tells.Counted to info) s.end s.batch s.accepted s.handles [] _ _ is refl refl
+        (number request (home s.config s.me) from to for (call_is (waits_for.Count request kind) is)) tt own.batch own.notes
+        (notes_in s.handles []))
+    count_heard request kind from _ is = tt
+
     call_heard : (p : Pending) (from : Server) (m : Message) → s.pending ≡ p → Hears m (answer_call now p from m)
     call_heard waits_for.Nothing from m is = tt
     call_heard (waits_for.Put unit first tried) from m is = put_heard unit first tried from m is
@@ -299,6 +308,7 @@ module _ (run : Config) (me : Rank) (s : ClientModel) (own : IsClient run me s) 
     call_heard (waits_for.Common request note common own_bytes) from m is = common_heard request note common own_bytes from m is
     call_heard (waits_for.Keep request common first tried) from m is = keep_heard request common first tried from m is
     call_heard (waits_for.Close request batch) from m is = close_heard request batch from m is
+    call_heard (waits_for.Count request kind) from m is = count_heard request kind from m is
 
 pub hears : (run : Config) (me : Rank) (s : ClientModel) (from : Server) (letter : Letter) → IsClient run me s
     → OnSome (hear s from letter) (Heard run me s letter.message)

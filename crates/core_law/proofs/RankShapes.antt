@@ -110,6 +110,7 @@ asked_request s (waits_for.Fetch request note) to m a = ap is_request a.0
 asked_request s (waits_for.Common request note common own) to m a = ap is_request a.0
 asked_request s (waits_for.Keep request common first tried) to m a = ap is_request a.0
 asked_request s (waits_for.Close request batch) to m a = ap is_request a.0
+asked_request s (waits_for.Count request kind) to m a = ap is_request a.0
 
 pub asked_busy : (s : ClientModel) (p : Pending) (to : Server) (m : Message) → IsAsked s p to m → is_idle p ≡ false
 asked_busy s waits_for.Nothing to m a = absurd a
@@ -119,6 +120,7 @@ asked_busy s (waits_for.Fetch request note) to m a = refl
 asked_busy s (waits_for.Common request note common own) to m a = refl
 asked_busy s (waits_for.Keep request common first tried) to m a = refl
 asked_busy s (waits_for.Close request batch) to m a = refl
+asked_busy s (waits_for.Count request kind) to m a = refl
 
 pub asked_number : (s : ClientModel) (p : Pending) (to : Server) (m : Message) → IsCall s p → IsAsked s p to m → request_of m + 1 ≡ s.next
 asked_number s waits_for.Nothing to m call a = absurd a
@@ -128,3 +130,4 @@ asked_number s (waits_for.Fetch request note) to m call a = ap (λ k. request_of
 asked_number s (waits_for.Common request note common own) to m call a = ap (λ k. request_of k + 1) a.0 ∙ call.0
 asked_number s (waits_for.Keep request common first tried) to m call a = ap (λ k. request_of k + 1) a.0 ∙ call.0
 asked_number s (waits_for.Close request batch) to m call a = ap (λ k. request_of k + 1) a.0 ∙ call.0
+asked_number s (waits_for.Count request kind) to m call a = ap (λ k. request_of k + 1) a.0 ∙ call

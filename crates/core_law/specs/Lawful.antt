@@ -47,6 +47,7 @@ IsAsked s (waits_for.Fetch request note) to m = (m ≡ tells.Fetch request note.
 IsAsked s (waits_for.Common request note common own) to m = (m ≡ tells.FetchCommon request common.batch) × (to ≡ common.server)
 IsAsked s (waits_for.Keep request common first tried) to m = (m ≡ tells.KeepCommon request common) × (to ≡ asked s first tried)
 IsAsked s (waits_for.Close request batch) to m = (m ≡ tells.CloseBatch request batch.batch s.accepted) × (to ≡ batch.server)
+IsAsked s (waits_for.Count request kind) to m = (m ≡ tells.Count request kind) × (to ≡ home s.config s.me)
 
 -- a request of the rank is the last one of its pending call, where nothing is decided; an answer to it is what was decided, and is
 -- awaited

@@ -44,6 +44,7 @@ IsCall s (waits_for.Common request note common own) = (request + 1 ≡ s.next) �
 IsCall s (waits_for.Keep request common first tried) =
     (request + 1 ≡ s.next) × (s.batch ≡ None) × (length common ≤ body_limit) × (tried < s.config.servers)
 IsCall s (waits_for.Close request batch) = (request + 1 ≡ s.next) × (s.batch ≡ Some batch)
+IsCall s (waits_for.Count request kind) = request + 1 ≡ s.next
 
 -- of the client of this rank
 pub record IsClient (run : Config) (rank : Rank) (s : ClientModel) : Type 0 where

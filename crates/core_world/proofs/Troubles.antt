@@ -67,6 +67,7 @@ call_leaves s (calls_to.Reserve types) = leaves_if s.trouble _ (rank_rules.reser
 call_leaves s (calls_to.Fetch id) = fetch_leaves s id (rank_rules.held s id)
 call_leaves s (calls_to.BeginBatch common) = leaves_if s.trouble _ (rank_rules.keep s common s.end) (keep_leaves s common s.end)
 call_leaves s calls_to.EndBatch = close_leaves s s.batch
+call_leaves s (calls_to.Count kind) = refl
 call_leaves s calls_to.Finish = leaves_if s.trouble _ (rank_rules.finish s) refl
 call_leaves s _ = tt
 
@@ -120,6 +121,11 @@ hear_close_leaves : (s : ClientModel) (request : ℕ) (batch : CommonRef) (from 
 hear_close_leaves s request batch from (tells.Closed to) = leaves_if s.trouble _ _ refl
 hear_close_leaves s request batch from _ = tt
 
+hear_count_leaves : (s : ClientModel) (request : ℕ) (kind : WorkType) (from : Server) (message : Message)
+    → Leaves s.trouble (rank_rules.hear_count s request kind from message)
+hear_count_leaves s request kind from (tells.Counted to info) = leaves_if s.trouble _ _ refl
+hear_count_leaves s request kind from _ = tt
+
 answer_leaves : (s : ClientModel) (pending : Pending) (from : Server) (message : Message) → Leaves s.trouble (rank_rules.answer_call s pending from message)
 answer_leaves s waits_for.Nothing from message = tt
 answer_leaves s (waits_for.Put unit first tried) from message = hear_put_leaves s unit first tried from message
@@ -128,6 +134,7 @@ answer_leaves s (waits_for.Fetch request note) from message = hear_fetch_leaves 
 answer_leaves s (waits_for.Common request note common own) from message = hear_common_leaves s request note common own from message
 answer_leaves s (waits_for.Keep request common first tried) from message = hear_keep_leaves s request common first tried from message
 answer_leaves s (waits_for.Close request batch) from message = hear_close_leaves s request batch from message
+answer_leaves s (waits_for.Count request kind) from message = hear_count_leaves s request kind from message
 
 -- letters leave it
 post_leaves : (x : rank_step.Made) (says : List rank_rules.ClientSaying) → (rank_step.post x says).state.trouble ≡ x.state.trouble

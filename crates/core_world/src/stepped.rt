@@ -26,6 +26,8 @@ enum Does {
     Puts(usize),
     // It puts this byte.
     PutsByte(u8),
+    // It puts a byte with this priority.
+    PutsAt(i32),
     // It begins a batch with these common bytes.
     Begins([u8; 2]),
     Ends,
@@ -33,6 +35,8 @@ enum Does {
     Reserves,
     // It fetches its unit of this number.
     Fetches(u64),
+    // It counts the units of this type.
+    Counts(u32),
     Finishes,
     // The second handles the front letter of the first.
     Delivers(Actor, Actor),
@@ -64,6 +68,8 @@ enum Line<'a> {
     Answered,
     // The two runs of bytes with which its last call was answered.
     Body,
+    // What its last call, a count, was told.
+    Info,
     // The ledger, each entry as `row` has it.
     Ledger,
     // The units that are left at the server of this number.
@@ -73,7 +79,8 @@ enum Line<'a> {
 fn event(alloc: Global, does: Does) -> Result<Event, Fail> {
     Ok(match does {
         Does::Puts(size) => Event::Call(Rank(0), put(alloc, size)?),
-        Does::PutsByte(byte) => Event::Call(Rank(0), put_of(Payload::copy(alloc, &[byte])?)),
+        Does::PutsByte(byte) => Event::Call(Rank(0), put_of(Payload::copy(alloc, &[byte])?, 0)),
+        Does::PutsAt(prio) => Event::Call(Rank(0), put_of(Payload::copy(alloc, b"a")?, prio)),
         Does::Begins(bytes) => Event::Call(
             Rank(0),
             Call::BeginBatch {
@@ -88,6 +95,12 @@ fn event(alloc: Global, does: Does) -> Result<Event, Fail> {
             },
         ),
         Does::Fetches(number) => Event::Call(Rank(0), fetch(number)),
+        Does::Counts(kind) => Event::Call(
+            Rank(0),
+            Call::Count {
+                kind: WorkType(kind),
+            },
+        ),
         Does::Finishes => Event::Call(Rank(0), Call::Finish),
         Does::Delivers(from, to) => Event::Deliver(from, to),
     })
@@ -95,13 +108,13 @@ fn event(alloc: Global, does: Does) -> Result<Event, Fail> {
 
 fn put(alloc: Global, size: usize) -> Result<Call, Fail> {
     let bytes = vec![in alloc; 7_u8; size]?;
-    Ok(put_of(Payload::from_vec(bytes)))
+    Ok(put_of(Payload::from_vec(bytes), 0))
 }
 
-fn put_of(body: Payload) -> Call {
+fn put_of(body: Payload, prio: i32) -> Call {
     Call::Put {
         kind: WorkType(1),
-        prio: 0,
+        prio,
         target: Target::Any,
         answer: None,
         body,
@@ -130,6 +143,7 @@ fn is_that(event: &Event, does: Does) -> bool {
     match (event, does) {
         (Event::Call(Rank(0), Call::Put { body, .. }), Does::Puts(size)) => body.len() == size,
         (Event::Call(Rank(0), Call::EndBatch), Does::Ends) => true,
+        (Event::Call(Rank(0), Call::Count { kind }), Does::Counts(number)) => kind.0 == number,
         (Event::Call(Rank(0), Call::Finish), Does::Finishes) => true,
         (Event::Deliver(from, to), Does::Delivers(a, b)) => *from == a && *to == b,
         _ => false,
@@ -147,6 +161,13 @@ fn row(entry: &Entry) -> (&'static str, u64, u32, u64) {
         Entry::Granted { server, id, .. } => ("granted", id.number, server.0, 0),
         Entry::Fetching { id, .. } => ("fetching", id.number, 0, 0),
         Entry::Fetched { server, id, .. } => ("fetched", id.number, server.0, 0),
+        Entry::Counting { call, .. } => ("counting", *call, 0, 0),
+        Entry::Counted {
+            server,
+            call,
+            info,
+            ..
+        } => ("counted", *call, server.0, info.free),
         Entry::Finished { call, .. } => ("finished", *call, 0, 0),
         entry => part_row(entry),
     }
@@ -237,6 +258,20 @@ fn body(alloc: Global, world: &World) -> Result<String, Fail>
     }
 }
 
+fn info(alloc: Global, world: &World) -> Result<String, Fail>
+    requires { world.now.world.config.ranks ≡ 1 }
+{
+    match world.transcript(Rank(0)).last() {
+        Some(
+            Said {
+                answer: Answer::Info(info),
+                ..
+            },
+        ) => Ok(format!(in alloc; "{info:?}")?),
+        _ => Err("the last call was no count".into()),
+    }
+}
+
 // What a line of a scene gives, as it is shown.
 fn shown(alloc: Global, world: &mut World, servers: u32, line: Line) -> Result<String, Fail>
     requires ranks { world.old.world.config.ranks ≡ 1 }
@@ -249,6 +284,7 @@ fn shown(alloc: Global, world: &mut World, servers: u32, line: Line) -> Result<S
         Line::Waiting(from, to) => count(alloc, world.waiting(from, to)),
         Line::Answered => count(alloc, world.transcript(Rank(0)).len() as u64),
         Line::Body => body(alloc, world),
+        Line::Info => info(alloc, world),
         Line::Ledger => rows(alloc, world.ledger().entries()),
         Line::Left(number) => left(alloc, world, servers, number),
     }
@@ -370,6 +406,57 @@ fn each_server_hears_of_the_end_and_keeps_what_is_left(rt: HostRuntime) -> Resul
     play(&rt, rt.alloc(), 3, &scene)
 }
 
+// The only server of a run takes two units, of priorities 3 and 7.
+const TWO_PRIORITIES: [Does; 6] = [
+    Does::PutsAt(3),
+    Does::Delivers(RANK, FIRST),
+    Does::Delivers(FIRST, RANK),
+    Does::PutsAt(7),
+    Does::Delivers(RANK, FIRST),
+    Does::Delivers(FIRST, RANK),
+];
+
+// A count of this type.
+const fn count_of(kind: u32) -> [Does; 3] {
+    [
+        Does::Counts(kind),
+        Does::Delivers(RANK, FIRST),
+        Does::Delivers(FIRST, RANK),
+    ]
+}
+
+#[test]
+fn a_count_tells_of_the_units_of_a_type(rt: HostRuntime) -> Result<(), Fail> {
+    let scene = [
+        (Line::Runs(&TWO_PRIORITIES), "6 done"),
+        (Line::Runs(&count_of(1)), "3 done"),
+        (Line::Info, "Info { free: 2, top: Some(7), at_top: 1 }"),
+        (Line::Runs(&count_of(2)), "3 done"),
+        (Line::Info, "Info { free: 0, top: None, at_top: 0 }"),
+        (
+            Line::Ledger,
+            "putting 0 0 1; accepted 0 0 0; putting 1 0 1; accepted 1 0 0; \
+                counting 2 0 0; counted 2 0 2; counting 3 0 0; counted 3 0 0; ",
+        ),
+    ];
+    play(&rt, rt.alloc(), 1, &scene)
+}
+
+#[test]
+fn a_count_tells_of_the_home_alone(rt: HostRuntime) -> Result<(), Fail> {
+    let scene = [
+        (Line::Runs(&FILLS), "9 done"),
+        (Line::Applies(Does::Counts(1)), "done"),
+        (Line::Waiting(RANK, SECOND), "0"),
+        // It waits for the answer.
+        (Line::Applies(Does::Counts(1)), "refused"),
+        (Line::Applies(Does::Delivers(RANK, FIRST)), "done"),
+        (Line::Applies(Does::Delivers(FIRST, RANK)), "done"),
+        (Line::Info, "Info { free: 1, top: Some(0), at_top: 1 }"),
+    ];
+    play(&rt, rt.alloc(), 3, &scene)
+}
+
 // A batch over the bytes `xy`: the units `a` and `b` are put.
 const BATCH: [Does; 9] = [
     Does::Begins([b'x', b'y']),
@@ -410,6 +497,8 @@ fn a_common_part_is_fetched_with_each_unit_and_then_freed(rt: HostRuntime) -> Re
         (Line::Runs(&BATCH), "9 done"),
         // A batch is going on, so the rank does not finish.
         (Line::Applies(Does::Finishes), "refused"),
+        (Line::Runs(&count_of(1)), "3 done"),
+        (Line::Info, "Info { free: 2, top: Some(0), at_top: 2 }"),
         (Line::Runs(&END), "3 done"),
         (Line::Runs(&work(1)), "8 done"),
         (Line::Body, "xy a"),
@@ -418,9 +507,9 @@ fn a_common_part_is_fetched_with_each_unit_and_then_freed(rt: HostRuntime) -> Re
         (
             Line::Ledger,
             "keeping 0 0 2; kept 0 0 0; putting 1 0 1; accepted 1 0 0; putting 2 0 1; accepted 2 0 0; \
-                closing 3 0 0; closed 0 0 0; asked 4 0 0; granted 1 0 0; fetching 1 0 0; fetched 1 0 0; \
-                common fetched 0 0 0; asked 6 0 0; granted 2 0 0; fetching 2 0 0; fetched 2 0 0; \
-                common fetched 0 0 0; freed 0 0 0; ",
+                counting 3 0 0; counted 3 0 2; closing 4 0 0; closed 0 0 0; asked 5 0 0; granted 1 0 0; \
+                fetching 1 0 0; fetched 1 0 0; common fetched 0 0 0; asked 7 0 0; granted 2 0 0; \
+                fetching 2 0 0; fetched 2 0 0; common fetched 0 0 0; freed 0 0 0; ",
         ),
         (Line::Left(0), "[]"),
     ];

@@ -1,4 +1,5 @@
-//! Two puts, two reserves with their fetches, and Finish, of one rank at one server, taken step by step.
+//! A batch of two puts with a count in it, two reserves with their fetches, and Finish, of one rank at one server, taken step
+//! by step.
 
 use adlb_unit::{
     Actor, Config, Letter, Payload, Rank, Sending, Server, Target, Types, UnitId, WorkType,
@@ -18,13 +19,18 @@ const SERVER: Actor = Actor::Server(Server(0));
 // The call of this number.
 fn call(alloc: Global, number: u32) -> Result<Call, Fail> {
     Ok(match number {
-        0 => put(alloc, b"a")?,
-        1 => put(alloc, b"b")?,
-        2 | 4 => Call::Reserve {
+        0 => Call::BeginBatch {
+            common: Payload::copy(alloc, b"xy")?,
+        },
+        1 => put(alloc, b"a")?,
+        2 => put(alloc, b"b")?,
+        3 => Call::Count { kind: WorkType(1) },
+        4 => Call::EndBatch,
+        5 | 7 => Call::Reserve {
             types: Types::any(),
         },
-        3 => Call::Fetch { id: unit(0) },
-        5 => Call::Fetch { id: unit(1) },
+        6 => Call::Fetch { id: unit(1) },
+        8 => Call::Fetch { id: unit(2) },
         _ => Call::Finish,
     })
 }
@@ -110,14 +116,19 @@ fn serve(
     Ok((sends, happened))
 }
 
-// The rank hears a letter of the server, by which its call ends.
-fn hear(alloc: Global, client: &mut ClientCore, letter: Letter) -> Result<Happened, Fail> {
+// The rank hears a letter of the server: what it sends, if its call goes on, and its event.
+fn hear(
+    alloc: Global,
+    client: &mut ClientCore,
+    letter: Letter,
+) -> Result<(Vec<Sending>, Happened), Fail> {
     if !client.expects(Server(0), &letter) {
         return Err("not expected by the rank".into());
     }
     let twin = letter.twin(alloc)?;
     let step = client.hear(Server(0), letter).ok().ok_or("hear")?;
-    Ok(Happened {
+    let sends = twins(alloc, &step.sends)?;
+    let happened = Happened {
         stamp: step.stamp,
         cause: Cause::Got {
             from: SERVER,
@@ -125,7 +136,8 @@ fn hear(alloc: Global, client: &mut ClientCore, letter: Letter) -> Result<Happen
         },
         sends: step.sends,
         entries: step.entries,
-    })
+    };
+    Ok((sends, happened))
 }
 
 // The rank and the server with their events so far.
@@ -152,20 +164,27 @@ impl Stepped {
         let (sends, happened) = begin(alloc, &mut self.client, number)?;
         self.of_rank.push(happened)?;
         for sending in sends {
-            self.exchange(alloc, sending.letter)?;
+            // The bytes of a unit are followed by those of its common part.
+            for more in self.exchange(alloc, sending.letter)? {
+                let _ = self.exchange(alloc, more.letter)?;
+            }
         }
         Ok(())
     }
 
-    // The server handles the letter, and the rank hears what it answers.
-    fn exchange(&mut self, alloc: Global, letter: Letter) -> Result<(), Fail> {
+    // The server handles the letter, and the rank hears what it answers: what it sends then.
+    fn exchange(&mut self, alloc: Global, letter: Letter) -> Result<Vec<Sending>, Fail> {
         let (answers, happened) = serve(alloc, &mut self.server, RANK, letter)?;
         self.of_server.push(happened)?;
+        let mut more = Vec::new(alloc);
         for answer in answers {
-            let heard = hear(alloc, &mut self.client, answer.letter)?;
+            let (sends, heard) = hear(alloc, &mut self.client, answer.letter)?;
             self.of_rank.push(heard)?;
+            for sending in sends {
+                more.push(sending)?;
+            }
         }
-        Ok(())
+        Ok(more)
     }
 
     // The journals of the two.
@@ -188,10 +207,10 @@ impl Stepped {
     }
 }
 
-// All seven calls, and the journals merged.
+// All ten calls, and the journals merged.
 fn merged(alloc: Global, config: &Config) -> Result<History, Fail> {
     let mut stepped = Stepped::new(alloc, *config)?;
-    for number in 0..7 {
+    for number in 0..10 {
         stepped.round(alloc, number)?;
     }
     let journals = stepped.journals(alloc)?;
@@ -210,7 +229,7 @@ fn stepped_journals_merge_to_a_legal_run(rt: HostRuntime) -> Result<(), Fail> {
     let found = first_illegal(alloc, &ledger, &config);
     assert_eq!(rt;
         (history.events.len(), ledger.entries().len(), found),
-        (20, 13, Ok(None))
+        (33, 22, Ok(None))
     );
     Ok(())
 }

@@ -1,6 +1,6 @@
 //! Entries with one change.
 
-use adlb_unit::{End, Rank, UnitId};
+use adlb_unit::{End, Info, Rank, UnitId};
 use bag_ledger::Entry;
 use std::alloc::Global;
 use std::test::Fail;
@@ -10,6 +10,15 @@ fn other(id: UnitId) -> UnitId {
     UnitId {
         rank: id.rank,
         number: id.number.wrapping_add(1000),
+    }
+}
+
+// One more free unit.
+fn one_more(info: Info) -> Info {
+    Info {
+        free: info.free.wrapping_add(1),
+        top: info.top,
+        at_top: info.at_top,
     }
 }
 
@@ -63,6 +72,18 @@ fn plain_copy(entry: &Entry) -> Result<Entry, Fail> {
         },
         Entry::Fetching { rank, call, id } => Entry::Fetching { rank, call, id },
         Entry::Fetched { server, rank, id } => Entry::Fetched { server, rank, id },
+        Entry::Counting { rank, call, kind } => Entry::Counting { rank, call, kind },
+        Entry::Counted {
+            server,
+            rank,
+            call,
+            info,
+        } => Entry::Counted {
+            server,
+            rank,
+            call,
+            info,
+        },
         Entry::Over { rank, call, end } => Entry::Over { rank, call, end },
         Entry::Finished { rank, call } => Entry::Finished { rank, call },
         _ => return Err("an entry of another kind".into()),
@@ -71,7 +92,7 @@ fn plain_copy(entry: &Entry) -> Result<Entry, Fail> {
 }
 
 /// The entry with one change, by which it is no step where it was one: a call of another number, a unit that was not put,
-/// another charge, another end; an end in place of exhaustion, and a Finish in place of a put.
+/// another charge, another number of free units, another end; an end in place of exhaustion, and a Finish in place of a put.
 pub(crate) fn changed(entry: &Entry) -> Result<Entry, Fail> {
     let changed = match entry {
         Entry::Asked { rank, call, types } => Entry::Asked {
@@ -104,6 +125,22 @@ fn changed_plain(entry: &Entry) -> Result<Entry, Fail> {
         Entry::Rejected { rank, call } => Entry::Rejected {
             rank,
             call: call.wrapping_add(1),
+        },
+        Entry::Counting { rank, call, kind } => Entry::Counting {
+            rank,
+            call: call.wrapping_add(1),
+            kind,
+        },
+        Entry::Counted {
+            server,
+            rank,
+            call,
+            info,
+        } => Entry::Counted {
+            server,
+            rank,
+            call,
+            info: one_more(info),
         },
         Entry::Over { rank, call, .. } => Entry::Over {
             rank,

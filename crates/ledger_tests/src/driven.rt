@@ -75,6 +75,7 @@ fn is_judged(alloc: Global, ledger: &Ledger, config: &Config, number: u64) -> Re
 fn driven_runs_are_legal_and_one_change_shows(rt: HostRuntime) -> Result<(), Fail> {
     let mut rejects = false;
     let mut settles = false;
+    let mut counts = false;
     for number in 0..RUNS {
         let config = config_of(number)?;
         let world = driven(rt.alloc(), config, number)?;
@@ -90,9 +91,18 @@ fn driven_runs_are_legal_and_one_change_shows(rt: HostRuntime) -> Result<(), Fai
         );
         rejects = rejects || entries.iter().any(|e| matches!(e, Entry::Rejected { .. }));
         settles = settles || entries.windows(2).any(is_settled);
+        counts = counts || entries.iter().any(is_count);
     }
-    assert!(rt; rejects && settles);
+    assert!(rt; rejects && settles && counts);
     Ok(())
+}
+
+// A count told of some unit.
+fn is_count(entry: &Entry) -> bool {
+    match entry {
+        Entry::Counted { info, .. } => info.free > 0,
+        _ => false,
+    }
 }
 
 // The unit was granted right behind its coming.

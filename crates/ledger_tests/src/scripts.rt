@@ -39,21 +39,24 @@ impl Words {
 // A call that a rank may make, in a run of so many.
 fn call(alloc: Global, words: &mut Words, ranks: u32) -> Result<Call, Fail> {
     let word = words.next();
-    let call = match word % 4 {
+    let call = match word % 5 {
         0 | 1 => Call::Put {
-            kind: WorkType(word / 4 % 3),
-            prio: (word / 12 % 2) as i32,
-            target: target(word / 24, ranks),
+            kind: WorkType(word / 5 % 3),
+            prio: (word / 15 % 2) as i32,
+            target: target(word / 30, ranks),
             answer: None,
             body: body(alloc, words)?,
         },
         2 => Call::Reserve {
             types: Types::any(),
         },
+        3 => Call::Count {
+            kind: WorkType(word / 5 % 3),
+        },
         _ => Call::Fetch {
             id: UnitId {
                 rank: Rank(words.next() % ranks.max(1)),
-                number: (word / 4 % 40) as u64,
+                number: (word / 5 % 40) as u64,
             },
         },
     };

@@ -75,6 +75,7 @@ put_heard s from m x to rule is (waits_for.Fetch request note) put some gave = a
 put_heard s from m x to rule is (waits_for.Common request note common own) put some gave = absurd (cc)
 put_heard s from m x to rule is (waits_for.Keep request common first tried) put some gave = absurd (cc)
 put_heard s from m x to rule is (waits_for.Close request batch) put some gave = absurd (cc)
+put_heard s from m x to rule is (waits_for.Count request kind) put some gave = absurd (cc)
 put_heard s from m x to rule is (waits_for.Put unit first tried) put some gave =
     ap (option_map made) (is p) ∙ by_test (is_for unit.id.number (asked s first tried) from to) (subst IsSome (is p) some)
   where
@@ -129,6 +130,7 @@ keep_heard s from m x to rule is (waits_for.Reserve request types) keep some gav
 keep_heard s from m x to rule is (waits_for.Fetch request note) keep some gave = absurd (cc)
 keep_heard s from m x to rule is (waits_for.Common request note common own) keep some gave = absurd (cc)
 keep_heard s from m x to rule is (waits_for.Close request batch) keep some gave = absurd (cc)
+keep_heard s from m x to rule is (waits_for.Count request kind) keep some gave = absurd (cc)
 keep_heard s from m x to rule is (waits_for.Keep request common first tried) keep some gave =
     ap (option_map made) (is p) ∙ by_test (is_for request (asked s first tried) from to) (subst IsSome (is p) some)
   where

@@ -31,7 +31,7 @@ use Rattle.rank_client.specs.declared.pendings.Pending.{Pending}
 use Rattle.rank_client.specs.declared.pendings.Pending.TheVariants as waits_for
 use Rattle.rank_client.specs.Agreement.{ClientAgrees, Follows, HasAccepted, IsCaused, IsHeld, running}
 use Rattle.adlb_unit.specs.declared.names.CommonRef.{CommonRef}
-use Rattle.rank_client.specs.Rules.{ClientResponse, ClientSaying, close, closing, entry_of, fetch, fetched, finish, held, is_free, is_idle, keep, open_call, over, put, reserve, unit_put}
+use Rattle.rank_client.specs.Rules.{ClientResponse, ClientSaying, close, closing, count, entry_of, fetch, fetched, finish, held, is_free, is_idle, keep, open_call, over, put, reserve, unit_put}
 use Rattle.rank_client.specs.State.{ClientModel}
 use Rattle.rank_client.specs.Step.{Made, begin, call_stamp, made, post, ticked}
 use Rattle.rank_client.proofs.Entries.{rank_changed, saying, same_unit_is, silent, some_is, step_of, then_saying}
@@ -84,7 +84,7 @@ pub record IsFree (s : ClientModel) (b : Bag) : Type 0 where
   pub none : IsFalse (has_due b)
   pub going : s.finished ≡ false
 
-idle_is : (p : Pending) → is_idle p ≡ true → p ≡ waits_for.Nothing
+pub idle_is : (p : Pending) → is_idle p ≡ true → p ≡ waits_for.Nothing
 idle_is waits_for.Nothing e = refl
 idle_is (waits_for.Put unit first tried) e = absurd (cc)
 idle_is (waits_for.Reserve request types) e = absurd (cc)
@@ -92,6 +92,7 @@ idle_is (waits_for.Fetch request note) e = absurd (cc)
 idle_is (waits_for.Common request note common own) e = absurd (cc)
 idle_is (waits_for.Keep request common first tried) e = absurd (cc)
 idle_is (waits_for.Close request batch) e = absurd (cc)
+idle_is (waits_for.Count request kind) e = absurd (cc)
 
 -- a rank that is free runs in the bag
 pub free_of : (s : ClientModel) (b : Bag) → is_free s ≡ true → ClientAgrees s None b → IsFalse (has_due b) → IsFree s b
@@ -286,6 +287,22 @@ close_follows s b (Some batch) free is =
       accepted = rw free.going free.accepted;
     })
 
+-- Counts.
+
+count_follows : (s : ClientModel) (b : Bag) (kind : WorkType) → IsFree s b → Follows s None b (bare (count s kind))
+count_follows s b kind free =
+    let entry : Entry = enters.Counting s.me s.next kind in
+    let legal : Legal b entry = (running s, (free.rank, refl, refl)) in
+    waits_follows s b entry (begun (does.Counting s.next kind)) (bare (count s kind)) free (step_of b entry free.none legal) refl refl refl
+    (record {
+      rank = rw free.going (rank_changed b s.me (begun (does.Counting s.next kind)) (running s) free.rank);
+      servers = free.servers;
+      caused = rw free.going free.caused;
+      held = All-same (IsHeld b s.me) _ s.handles (append-nil s.handles) free.held;
+      owed = tt;
+      accepted = rw free.going free.accepted;
+    })
+
 none_is : {X : Type 0} (o : Option X) → is_none o ≡ true → o ≡ None
 none_is None e = refl
 none_is (Some x) e = absurd (cc)
@@ -310,7 +327,7 @@ opens s b (calls_to.BeginBatch common) free = by_test (is_none s.batch && nat_le
     by_test false is = tt
 opens s b calls_to.EndBatch free = close_follows s b s.batch free refl
 opens s b calls_to.SetDone free = tt
-opens s b (calls_to.Count kind) free = tt
+opens s b (calls_to.Count kind) free = count_follows s b kind free
 opens s b calls_to.Finish free = by_test (is_none s.batch) refl
   where
     by_test : (t : Bool) → is_none s.batch ≡ t → LawOf s.transcript s.me b (if t then Some (finish s) else None)

@@ -27,7 +27,7 @@ use Rattle.rank_client.specs.declared.pendings.Pending.TheVariants as waits_for
 use Rattle.rank_client.specs.Calls.{fetches, grants, is_fetched, is_granted}
 use Rattle.rank_client.specs.Granted.{AreGranted, GrantsComeFirst, IsGrantedFirst}
 use Rattle.adlb_unit.specs.declared.names.CommonRef.{CommonRef}
-use Rattle.rank_client.specs.Rules.{ClientResponse, ClientSaying, answer_call, call_of, close, fetch, hear_close, hear_common, hear_fetch, hear_keep, hear_put, hear_reserve, held, is_free, keep, open_call, own_came, part_refused, put, refused, reserve, unit_put}
+use Rattle.rank_client.specs.Rules.{ClientResponse, ClientSaying, answer_call, call_of, close, count, fetch, hear_close, hear_common, hear_count, hear_fetch, hear_keep, hear_put, hear_reserve, held, is_free, keep, open_call, own_came, part_refused, put, refused, reserve, unit_put}
 use Rattle.rank_client.specs.State.{ClientModel, start}
 use Rattle.rank_client.specs.Step.{Made, begin, call_stamp, hear, letter_stamp, made, post, ticked}
 use Rattle.rank_client.proofs.Begins.{found_is}
@@ -36,15 +36,15 @@ use Rattle.rank_client.proofs.Transcripts.{fetched_more, granted_more}
 
 -- Options.
 
-if_is : {X : Type 0} (t : Bool) (x y : X) → cond t (Some x) None ≡ Some y → x ≡ y
+pub if_is : {X : Type 0} (t : Bool) (x y : X) → cond t (Some x) None ≡ Some y → x ≡ y
 if_is true x y e = some_is e
 if_is false x y e = absurd (cc)
 
-if_there : {X : Type 0} (t : Bool) (o : Option X) (y : X) → cond t o None ≡ Some y → o ≡ Some y
+pub if_there : {X : Type 0} (t : Bool) (o : Option X) (y : X) → cond t o None ≡ Some y → o ≡ Some y
 if_there true o y e = e
 if_there false o y e = absurd (cc)
 
-map_is : {X Y : Type 0} (f : X → Y) (o : Option X) (y : Y) → option_map f o ≡ Some y → (x : X) × (o ≡ Some x) × (f x ≡ y)
+pub map_is : {X Y : Type 0} (f : X → Y) (o : Option X) (y : Y) → option_map f o ≡ Some y → (x : X) × (o ≡ Some x) × (f x ≡ y)
 map_is f None y e = absurd (cc)
 map_is f (Some x) y e = (x, refl, some_is e)
 
@@ -116,12 +116,16 @@ close_keeps : (s : ClientModel) (o : Option CommonRef) (y : ClientResponse) → 
 close_keeps s None y is g = absurd (cc)
 close_keeps s (Some batch) y is g = subst Keeps (some_is is) (record { held = g.held; fetching = tt; fetched = g.fetched })
 
-open_keeps : (s : ClientModel) (call : Call) (y : ClientResponse) → open_call s call ≡ Some y → IsGrantedFirst s → Keeps y
+count_keeps : (s : ClientModel) (kind : WorkType) → IsGrantedFirst s → Keeps (count s kind)
+count_keeps s kind g = record { held = g.held; fetching = tt; fetched = g.fetched }
+
+pub open_keeps : (s : ClientModel) (call : Call) (y : ClientResponse) → open_call s call ≡ Some y → IsGrantedFirst s → Keeps y
 open_keeps s (calls_to.Put kind prio target answer body) y is g = subst Keeps (if_is _ _ y is) (put_keeps s (unit_put s kind prio target answer body) s.end g)
 open_keeps s (calls_to.Reserve types) y is g = subst Keeps (if_is _ _ y is) (reserve_keeps s types s.end g)
 open_keeps s (calls_to.Fetch id) y is g = fetch_keeps s id (held s id) y refl is g
 open_keeps s (calls_to.BeginBatch common) y is g = subst Keeps (if_is _ _ y is) (keep_keeps s common s.end g)
 open_keeps s calls_to.EndBatch y is g = close_keeps s s.batch y is g
+open_keeps s (calls_to.Count kind) y is g = subst Keeps (some_is is) (count_keeps s kind g)
 open_keeps s calls_to.Finish y is g = subst Keeps (if_is _ _ y is) (call_over s.transcript s.handles s.pending calls_to.Finish answers.Fine g (λ id no. absurd (cc)))
 open_keeps s _ y is g = absurd (cc)
 
@@ -174,7 +178,14 @@ hear_close_keeps : (s : ClientModel) (request : ℕ) (batch : CommonRef) (from :
 hear_close_keeps s request batch from (tells.Closed to) y is g = subst Keeps (if_is _ _ y is) (call_over s.transcript s.handles s.pending calls_to.EndBatch answers.Fine g (λ id no. absurd (cc)))
 hear_close_keeps s request batch from _ y is g = absurd (cc)
 
-answer_keeps : (s : ClientModel) (p : Pending) (from : Server) (m : Message) (y : ClientResponse) → s.pending ≡ p → answer_call s p from m ≡ Some y → IsGrantedFirst s → Keeps y
+hear_count_keeps : (s : ClientModel) (request : ℕ) (kind : WorkType) (from : Server) (m : Message) (y : ClientResponse)
+    → hear_count s request kind from m ≡ Some y → IsGrantedFirst s → Keeps y
+hear_count_keeps s request kind from (tells.Counted to info) y is g =
+    subst Keeps (if_is _ _ y is)
+    (call_over s.transcript s.handles s.pending (calls_to.Count kind) (answers.Info info) g (λ id no. absurd (cc)))
+hear_count_keeps s request kind from _ y is g = absurd (cc)
+
+pub answer_keeps : (s : ClientModel) (p : Pending) (from : Server) (m : Message) (y : ClientResponse) → s.pending ≡ p → answer_call s p from m ≡ Some y → IsGrantedFirst s → Keeps y
 answer_keeps s waits_for.Nothing from m y waits is g = absurd (cc)
 answer_keeps s (waits_for.Put unit first tried) from m y waits is g = hear_put_keeps s unit first tried from m y is g
 answer_keeps s (waits_for.Reserve request types) from m y waits is g = hear_reserve_keeps s request types from m y is g
@@ -186,6 +197,7 @@ answer_keeps s (waits_for.Common request note common own) from m y waits is g =
     hear_common_keeps s request note common own from m y is (subst P waits g).fetching g
 answer_keeps s (waits_for.Keep request common first tried) from m y waits is g = hear_keep_keeps s request common first tried from m y is g
 answer_keeps s (waits_for.Close request batch) from m y waits is g = hear_close_keeps s request batch from m y is g
+answer_keeps s (waits_for.Count request kind) from m y waits is g = hear_count_keeps s request kind from m y is g
 
 -- A step.
 

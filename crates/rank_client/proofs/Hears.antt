@@ -215,6 +215,19 @@ close_heard s b request batch from (tells.Closed to) a = by_test (is_for request
     by_test false = tt
 close_heard s b request batch from _ a = tt
 
+count_heard : (s : ClientModel) (b : Bag) (request : ℕ) (kind : WorkType) (from : Server) (m : Message)
+    → Awaits s b (waits_for.Count request kind) m
+    → LawOf (said s (waits_for.Count request kind) (Some m)) s.me b (answer_call s (waits_for.Count request kind) from m)
+count_heard s b request kind from (tells.Counted to info) a = by_test (is_for request (home s.config s.me) from to)
+  where
+    by_test : (t : Bool)
+        → LawOf (said s (waits_for.Count request kind) (Some (tells.Counted to info))) s.me b
+        (if t then Some (ends s [] (calls_to.Count kind) (answers.Info info)) else None)
+    by_test true =
+        heard s s b (calls_to.Count kind) (answers.Info info) a.rank a.servers a.caused (alone s b a.held) a.accepted a.going refl refl refl
+    by_test false = tt
+count_heard s b request kind from _ a = tt
+
 call_heard : (s : ClientModel) (b : Bag) (p : Pending) (from : Server) (m : Message) → Awaits s b p m → LawOf (said s p (Some m)) s.me b (answer_call s p from m)
 call_heard s b waits_for.Nothing from m a = tt
 call_heard s b (waits_for.Put unit first tried) from m a = put_heard s b unit first tried from m a
@@ -223,6 +236,7 @@ call_heard s b (waits_for.Fetch request note) from m a = fetch_heard s b request
 call_heard s b (waits_for.Common request note common own) from m a = common_heard s b request note common own from m a
 call_heard s b (waits_for.Keep request common first tried) from m a = keep_heard s b request common first tried from m a
 call_heard s b (waits_for.Close request batch) from m a = close_heard s b request batch from m a
+call_heard s b (waits_for.Count request kind) from m a = count_heard s b request kind from m a
 
 -- the same where the event has its stamp
 later_heard : (s : ClientModel) (stamp : ℕ) (b : Bag) (p : Pending) (from : Server) (m : Message) → Awaits s b p m → LawOf (said s p (Some m)) s.me b (answer_call (ticked s stamp) p from m)
@@ -236,6 +250,7 @@ later_heard s stamp b p from m a = rw (said_ticked s stamp p m) (call_heard (tic
     said_ticked s stamp (waits_for.Common request note common own) m = refl
     said_ticked s stamp (waits_for.Keep request common first tried) m = refl
     said_ticked s stamp (waits_for.Close request batch) m = refl
+    said_ticked s stamp (waits_for.Count request kind) m = refl
 
 -- the law of a letter
 pub hears : (s : ClientModel) (from : Server) (letter : Letter) (x : Made) (b : Bag) → hear s from letter ≡ Some x → ClientAgrees s (Some letter.message) b → IsFalse (has_due b) → Follows s (Some letter.message) b x

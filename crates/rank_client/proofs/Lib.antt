@@ -1,6 +1,7 @@
 pub mod Awaited
 pub mod Begins
 pub mod Calling
+mod CallsTell
 pub mod Entries
 mod Examples
 pub mod Expected
@@ -8,5 +9,11 @@ pub mod Farewells
 pub mod Granted
 pub mod Hears
 pub mod Insides
+mod LettersTell
+mod Naming
+mod Notes
+pub mod OpenBatches
 pub mod Ring
+pub mod StepsTell
+mod Telling
 pub mod Transcripts

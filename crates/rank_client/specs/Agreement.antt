@@ -82,6 +82,10 @@ abbrev pub in_close : ClientModel → ℕ → Option Message → RankState
 in_close s request None = record (running s) { status = does.Closing request }
 in_close s request (Some _) = record (running s) { batch = None }
 
+abbrev pub in_count : ClientModel → ℕ → WorkType → Option Message → RankState
+in_count s request kind None = record (running s) { status = does.Counting request kind }
+in_count s request kind (Some _) = running s
+
 abbrev pub in_call : ClientModel → Pending → Option Message → RankState
 in_call s waits_for.Nothing coming = running s
 in_call s (waits_for.Put unit first tried) coming = in_put s unit first tried coming
@@ -90,6 +94,7 @@ in_call s (waits_for.Fetch request note) coming = in_fetch s request note coming
 in_call s (waits_for.Common request note common own) coming = in_common s request note coming
 in_call s (waits_for.Keep request common first tried) coming = in_keep s request common first tried coming
 in_call s (waits_for.Close request batch) coming = in_close s request coming
+in_call s (waits_for.Count request kind) coming = in_count s request kind coming
 
 abbrev pub rank_of : ClientModel → Bool → Option Message → RankState
 rank_of s true coming = record (running s) { status = does.Finished }
@@ -120,6 +125,10 @@ abbrev pub close_coming : Message → Option Answer
 close_coming (tells.Closed to) = Some answers.Fine
 close_coming _ = None
 
+abbrev pub count_coming : Message → Option Answer
+count_coming (tells.Counted to info) = Some (answers.Info info)
+count_coming _ = None
+
 -- the transcript and then that call
 abbrev pub said : ClientModel → Pending → Option Message → List Said
 said s pending None = s.transcript
@@ -130,6 +139,7 @@ said s (waits_for.Fetch request note) (Some m) = plus s.transcript (calls_to.Fet
 said s (waits_for.Common request note common own) (Some m) = plus s.transcript (calls_to.Fetch note.id) (common_coming own m)
 said s (waits_for.Keep request common first tried) (Some m) = plus s.transcript (calls_to.BeginBatch common) (put_coming m)
 said s (waits_for.Close request batch) (Some m) = plus s.transcript calls_to.EndBatch (close_coming m)
+said s (waits_for.Count request kind) (Some m) = plus s.transcript (calls_to.Count kind) (count_coming m)
 
 -- The units that the rank holds: those of its handles, one that is granted by an answer which comes back, and one that is asked for.
 

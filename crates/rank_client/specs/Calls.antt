@@ -5,6 +5,7 @@ use Rattle.adlb_unit.specs.Ids.{same_unit}
 use Rattle.adlb_unit.specs.declared.names.UnitId.{UnitId}
 use Rattle.adlb_unit.specs.declared.notes.End.{End}
 use Rattle.adlb_unit.specs.declared.notes.End.TheVariants as ends_by
+use Rattle.adlb_unit.specs.declared.notes.Info.{Info}
 use Rattle.adlb_unit.specs.declared.notes.Trouble.{Trouble}
 use Rattle.adlb_unit.specs.declared.notes.Trouble.TheVariants as troubles
 use Rattle.adlb_unit.specs.declared.notes.UnitNote.{UnitNote}
@@ -66,6 +67,15 @@ done_answer (Err trouble) = None
 abbrev pub done_trouble : Result (Unit {0}) Trouble → Option Trouble
 done_trouble (Ok done) = None
 done_trouble (Err trouble) = Some trouble
+
+-- a count
+abbrev pub count_answer : Result Info Trouble → Option Answer
+count_answer (Ok info) = Some (answers.Info info)
+count_answer (Err trouble) = None
+
+abbrev pub count_trouble : Result Info Trouble → Option Trouble
+count_trouble (Ok info) = None
+count_trouble (Err trouble) = Some trouble
 
 -- What a transcript has.
 

@@ -60,6 +60,11 @@ abbrev pub AnswersClose : ℕ → CommonRef → Server → Message → Type 0
 AnswersClose request batch from (tells.Closed to) = IsFor request batch.server from to
 AnswersClose request batch from _ = ⊥
 
+-- a count, which the rank's home was asked
+abbrev pub AnswersCount : ℕ → Server → Server → Message → Type 0
+AnswersCount request at from (tells.Counted to info) = IsFor request at from to
+AnswersCount request at from _ = ⊥
+
 -- the pending call awaits such an answer, with this request, from this server
 abbrev pub IsAwaited : ClientModel → Pending → Server → Message → Type 0
 IsAwaited s waits_for.Nothing from message = ⊥
@@ -70,6 +75,7 @@ IsAwaited s (waits_for.Common request note common own) from message = AnswersCom
 -- a batch's beginning is answered as a put is
 IsAwaited s (waits_for.Keep request common first tried) from message = AnswersPut request (asked s first tried) from message
 IsAwaited s (waits_for.Close request batch) from message = AnswersClose request batch from message
+IsAwaited s (waits_for.Count request kind) from message = AnswersCount request (home s.config s.me) from message
 
 -- beside it: the rank has not finished, and the stamp is one that is given
 pub record IsExpected (s : ClientModel) (from : Server) (letter : Letter) : Type 0 where

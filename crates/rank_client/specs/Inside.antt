@@ -78,10 +78,12 @@ HasRoom config notes space room (waits_for.Keep request common first tried) =
     (vec_len room.tries + tried + 1 ≡ config.servers) × All (λ body. body ≡ common) room.tries.items × (first.0 < config.servers)
     × (1 ≤ vec_capacity room.entries) × (room.entries.items ≡ []) × (length common ≤ body_limit)
 HasRoom config notes space room (waits_for.Close request batch) = Prim.Unit {0}
+HasRoom config notes space room (waits_for.Count request kind) = Prim.Unit {0}
 
--- room for the letters and the entry of Finish
+-- room for the calls to come in the transcript, each of which names two units at most, and for the letters and the entry of Finish
 pub record CanFinish (i : Inside) : Type 0 where
-  pub said : vec_len i.said + awaited i.pending ≤ vec_capacity i.said
+  pub said : awaited i.pending ≤ i.said.places
+  pub ids : awaited i.pending + awaited i.pending ≤ i.said.ids
   pub letters : i.config.servers ≤ vec_capacity i.farewell.sends
   pub entry : 1 ≤ vec_capacity i.farewell.entries
   pub unsent : i.farewell.sends.items ≡ []
@@ -134,6 +136,10 @@ is_common _ = false
 abbrev pub is_close : Pending → Bool
 is_close (waits_for.Close request batch) = true
 is_close _ = false
+
+abbrev pub is_count : Pending → Bool
+is_count (waits_for.Count request kind) = true
+is_count _ = false
 
 -- a batch's beginning that is pending
 pub record Keep : Type 0 where

@@ -145,6 +145,13 @@ abbrev pub close : ClientModel → Option CommonRef → Option ClientResponse
 close s None = None
 close s (Some batch) = Some (closing s batch)
 
+-- Count.
+
+-- the home is asked
+abbrev pub count : ClientModel → WorkType → ClientResponse
+count s kind =
+    asks s (enters.Counting s.me s.next kind) (home s.config s.me) (tells.Count s.next kind) (waits_for.Count s.next kind)
+
 -- Finish.
 
 abbrev pub farewell : ℕ → ClientSaying
@@ -179,6 +186,7 @@ open_call s (calls_to.Fetch id) = fetch s id (held s id)
 open_call s (calls_to.BeginBatch common) =
     if is_none s.batch && nat_le (length common) body_limit then Some (keep s common s.end) else None
 open_call s calls_to.EndBatch = close s s.batch
+open_call s (calls_to.Count kind) = Some (count s kind)
 open_call s calls_to.Finish = if is_none s.batch then Some (finish s) else None
 open_call s _ = None
 
@@ -291,6 +299,12 @@ hear_close s request batch from (tells.Closed to) =
     if is_for request batch.server from to then Some (ends (record s { batch = None }) [] calls_to.EndBatch answers.Fine) else None
 hear_close s request batch from _ = None
 
+-- the home tells of its free units
+abbrev pub hear_count : ClientModel → ℕ → WorkType → Server → Message → Option ClientResponse
+hear_count s request kind from (tells.Counted to info) =
+    if is_for request (home s.config s.me) from to then Some (ends s [] (calls_to.Count kind) (answers.Info info)) else None
+hear_count s request kind from _ = None
+
 -- the rule of a letter; nothing where the pending call does not await it
 abbrev pub answer_call : ClientModel → Pending → Server → Message → Option ClientResponse
 answer_call s waits_for.Nothing from message = None
@@ -300,3 +314,4 @@ answer_call s (waits_for.Fetch request note) from message = hear_fetch s request
 answer_call s (waits_for.Common request note common own) from message = hear_common s request note common own from message
 answer_call s (waits_for.Keep request common first tried) from message = hear_keep s request common first tried from message
 answer_call s (waits_for.Close request batch) from message = hear_close s request batch from message
+answer_call s (waits_for.Count request kind) from message = hear_count s request kind from message

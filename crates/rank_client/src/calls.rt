@@ -67,6 +67,7 @@ impl ClientCore {
             Call::Fetch { id } => self.held(*id).is_some(),
             Call::BeginBatch { common } => self.batch.is_none() && common.len() <= BODY_LIMIT,
             Call::EndBatch => self.batch.is_some(),
+            Call::Count { .. } => true,
             Call::Finish => self.batch.is_none(),
             _ => false,
         }
@@ -95,9 +96,7 @@ impl ClientCore {
         ensures err { OnErr result (self.new ≡ self.old) }
     {
         let mut entries = with_room(self.alloc, 2)?;
-        if self.said.reserve(2).is_err() {
-            return Err(NoMemory);
-        }
+        self.said.make_room()?;
         entries.push_reserved(entry);
         entries.push_reserved(Entry::Over {
             rank: self.me,
@@ -138,7 +137,8 @@ impl ClientCore {
     {
         let mut sends = with_room(self.alloc, 1)?;
         let mut entries = with_room(self.alloc, 1)?;
-        if self.said.reserve(2).is_err() || self.handles.reserve(1).is_err() {
+        self.said.make_room()?;
+        if self.handles.reserve(1).is_err() {
             return Err(NoMemory);
         }
         sends.push_reserved(write(&mut self.sent, self.clock, to, message));
@@ -277,6 +277,7 @@ impl ClientCore {
                 Some(batch) => self.close(batch),
                 None => unreachable!(),
             },
+            Call::Count { kind } => self.count(kind),
             Call::Finish => Ok(self.finish()),
             _ => unreachable!(),
         }

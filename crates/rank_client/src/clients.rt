@@ -1,16 +1,18 @@
 //! What a client keeps of its rank.
 
-ghost use Rattle.std.specs.Prelude.{◌≡◌, ◌<◌, ◌≤◌, ◌+◌, ◌∷◌, ◌++◌, [], false, length, map, is_some, IfOk, slice_index_or, slice_set};
+ghost use Rattle.std.specs.Prelude.{◌≡◌, ◌<◌, ◌≤◌, ◌+◌, ◌∷◌, ◌++◌, [], false, length, map, Some, is_some, IfOk, slice_index_or, slice_set};
 ghost use Rattle.std.specs.Vec.{vec_len, vec_capacity};
 ghost use Rattle.adlb_unit.specs.Limits.{stamp_limit};
 ghost use Rattle.adlb_unit.specs.Links.{sending};
 ghost use Rattle.adlb_unit.specs.declared.actors.Actor.{Actor};
 ghost use Rattle.rank_client.specs.Calls.{plus};
 ghost use Rattle.rank_client.specs.State.{ClientModel, start};
+ghost use Rattle.rank_client.specs.Step.{first_trouble};
 ghost use Rattle.adlb_unit.specs.Ring.{behind};
 
 use crate::pendings::Pending;
 use crate::rooms::{Farewell, Room};
+use crate::said::Transcript;
 use adlb_unit::{
     Actor, CommonRef, Config, End, Letter, Message, NoMemory, Rank, Sending, Server, Trouble,
     UnitNote,
@@ -35,7 +37,7 @@ pub struct ClientCore {
     pub(crate) clock: u64,
     pub(crate) sent: Vec<u64>,
     pub(crate) finished: bool,
-    pub(crate) said: Vec<Said>,
+    pub(crate) said: Transcript,
     pub(crate) trouble: Option<Trouble>,
     pub(crate) farewell: Farewell,
     pub(crate) alloc: Global,
@@ -60,9 +62,9 @@ impl ClientCore {
         ensures { IfOk result (λ c. c ≡ start config me) }
     {
         let servers = config.servers as usize;
-        let (Ok(sent), Ok(said), Ok(sends), Ok(entries)) = (
+        let said = Transcript::new(alloc)?;
+        let (Ok(sent), Ok(sends), Ok(entries)) = (
             vec![in alloc; 0; servers],
-            Vec::with_capacity(alloc, 1),
             Vec::with_capacity(alloc, servers),
             Vec::with_capacity(alloc, 1),
         ) else {
@@ -100,7 +102,7 @@ impl ClientCore {
     pub fn into_transcript(self) -> Vec<Said>
         ensures { result.items ≡ self.transcript }
     {
-        self.said
+        self.said.into_calls()
     }
 
     /// What made the client fail, if anything did.
@@ -117,13 +119,22 @@ impl ClientCore {
         self.batch.is_some()
     }
 
-    // The client has failed.
-    pub(crate) fn fail(&mut self, trouble: Trouble) -> Trouble
-        ensures failed { self.new ≡ record self.old { trouble = Some trouble } }
-        ensures result { result ≡ trouble }
+    /// The number of the next call.
+    pub fn next_call(&self) -> u64
+        ensures { result ≡ self.now.next }
     {
-        self.trouble = Some(trouble);
-        trouble
+        self.next
+    }
+
+    /// The client has failed, and gives what made it fail: the trouble of its first failure, which stays, and otherwise this one.
+    /// Nothing else changes.
+    pub fn fail(&mut self, trouble: Trouble) -> Trouble
+        ensures failed { self.new ≡ record self.old { trouble = Some result } }
+        ensures first { Some result ≡ first_trouble self.old.trouble (Some trouble) }
+    {
+        let first = self.trouble.unwrap_or(trouble);
+        self.trouble = Some(first);
+        first
     }
 }
 

@@ -3,7 +3,7 @@
 use crate::clients::ClientCore;
 use crate::steps::ClientStep;
 use adlb_unit::{
-    Actor, BatchId, CommonRef, Config, End, Letter, Message, Payload, Rank, Sending, Server,
+    Actor, BatchId, CommonRef, Config, End, Info, Letter, Message, Payload, Rank, Sending, Server,
     Target, Types, UnitId, UnitNote, WorkType,
 };
 use bag_ledger::{Answer, Call, Entry};
@@ -22,6 +22,8 @@ enum Makes {
     // A batch with a common part of four bytes.
     BeginBatch,
     EndBatch,
+    // A count of the units of type 1.
+    Count,
     Finish,
 }
 
@@ -39,6 +41,8 @@ enum Says {
     Ended(u64, End),
     Nothing(u64),
     Closed(u64),
+    // So many units are free, and one of them has the highest priority, 7.
+    Counted(u64, u64),
     Finish,
 }
 
@@ -87,6 +91,7 @@ fn call(alloc: Global, makes: Makes) -> Result<Call, Fail> {
             common: Payload::copy(alloc, b"part")?,
         },
         Makes::EndBatch => Call::EndBatch,
+        Makes::Count => Call::Count { kind: WorkType(1) },
         Makes::Finish => Call::Finish,
     })
 }
@@ -117,6 +122,10 @@ fn message(alloc: Global, says: Says) -> Result<Message, Fail> {
         Says::Ended(request, end) => Message::Ended { request, end },
         Says::Nothing(request) => Message::Nothing { request },
         Says::Closed(request) => Message::Closed { request },
+        Says::Counted(request, free) => Message::Counted {
+            request,
+            info: info(free),
+        },
         Says::Finish => Message::Finish,
     })
 }
@@ -131,6 +140,15 @@ fn note(number: u64, server: u32, common: Option<CommonRef>) -> UnitNote {
         server: Server(server),
         common,
         length: 4,
+    }
+}
+
+// So many units are free, and one of them has the highest priority, 7.
+fn info(free: u64) -> Info {
+    Info {
+        free,
+        top: Some(7),
+        at_top: 1,
     }
 }
 
@@ -240,6 +258,7 @@ fn name(entry: &Entry) -> (&'static str, u64) {
         Entry::Fetching { call, .. } => ("fetching", *call),
         Entry::Keeping { call, .. } => ("keeping", *call),
         Entry::Closing { call, .. } => ("closing", *call),
+        Entry::Counting { call, .. } => ("counting", *call),
         Entry::Over { call, .. } => ("over", *call),
         Entry::Finished { call, .. } => ("finished", *call),
         _ => ("other", 0),
@@ -465,6 +484,36 @@ fn the_common_bytes_stand_before_the_units_own(rt: HostRuntime) -> Result<(), Fa
         (Line::Hears(0, Says::Bytes(1, b"unit")), "6 to 0"),
         (Line::Expects(0, 1, Says::Bytes(1, b"par")), "no"),
         (Line::Hears(0, Says::Bytes(1, b"part")), "8 bytes part|unit"),
+    ];
+    play(&rt, rt.alloc(), 1, &scene)
+}
+
+#[test]
+fn a_count_is_told_by_the_home(rt: HostRuntime) -> Result<(), Fail> {
+    let scene = [
+        (Line::Begins(Makes::Count), "1 to 0 counting 0"),
+        (Line::IsReady(Makes::Count), "no"),
+        (Line::Expects(1, 1, Says::Counted(0, 2)), "no"),
+        (Line::Expects(0, 1, Says::Counted(1, 2)), "no"),
+        (Line::Expects(0, 1, Says::Nothing(0)), "no"),
+        (
+            Line::Hears(0, Says::Counted(0, 2)),
+            "3 Info(Info { free: 2, top: Some(7), at_top: 1 })",
+        ),
+        (Line::Answered, "1"),
+    ];
+    play(&rt, rt.alloc(), 2, &scene)
+}
+
+#[test]
+fn after_an_end_the_home_is_asked_for_a_count(rt: HostRuntime) -> Result<(), Fail> {
+    let scene = [
+        (Line::Begins(Makes::Reserve), "1 to 0 asked 0"),
+        (
+            Line::Hears(0, Says::Ended(0, End::Exhausted)),
+            "3 Ended(Exhausted)",
+        ),
+        (Line::Begins(Makes::Count), "4 to 0 counting 1"),
     ];
     play(&rt, rt.alloc(), 1, &scene)
 }

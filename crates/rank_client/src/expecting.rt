@@ -2,16 +2,13 @@
 
 ghost use Rattle.std.specs.Prelude.{◌≡◌, ◌<◌, ◌↔◌, ◌&&◌, IsTrue, IsSome};
 ghost use Rattle.adlb_unit.specs.declared.messages.Message.{Message};
-ghost use Rattle.bag_ledger.specs.declared.entries.Said.{Said};
-ghost use Rattle.rank_client.specs.Calls.{fetches, grants, is_fetched, is_granted};
-ghost use Rattle.rank_client.specs.Expected.{AnswersClose, AnswersCommon, AnswersFetch, AnswersPut, AnswersReserve, IsAwaited, IsExpected};
+ghost use Rattle.rank_client.specs.Expected.{AnswersClose, AnswersCommon, AnswersCount, AnswersFetch, AnswersPut, AnswersReserve, IsAwaited, IsExpected};
 ghost use Rattle.rank_client.specs.Rules.{expects_note, is_at_server, is_for};
 ghost use Rattle.rank_client.specs.Step.{hear};
 
 use crate::clients::{ClientCore, behind};
 use crate::pendings::Pending;
-use adlb_unit::{CommonRef, Letter, Message, STAMP_LIMIT, Server, UnitId, UnitNote};
-use bag_ledger::{Answer, Call, Said};
+use adlb_unit::{CommonRef, Letter, Message, STAMP_LIMIT, Server, UnitNote};
 
 impl ClientCore {
     /// The letter is expected (`IsExpected`): the pending call awaits such an answer, with this request, from this server.
@@ -50,6 +47,10 @@ impl ClientCore {
                 answers_put(*request, at, from, message)
             }
             Pending::Close { request, batch } => answers_close(*request, batch, from, message),
+            Pending::Count { request, .. } => {
+                let home = self.config.home(self.me);
+                answers_count(*request, home, from, message)
+            }
         }
     }
 
@@ -72,8 +73,7 @@ impl ClientCore {
     {
         note.server.0 < self.config.servers
             && self.is_at_server(note.common)
-            && !is_granted(note.id, &self.said)
-            && !is_fetched(note.id, &self.said)
+            && !self.said.names(note.id)
     }
 
     // The common part, if there is one, is at a server of the run.
@@ -136,36 +136,11 @@ fn answers_close(request: u64, batch: &CommonRef, from: Server, message: &Messag
     }
 }
 
-// A unit of this id was granted.
-#[tactic(auto, unfolding(crate::specs::Calls::is_granted))]
-fn is_granted(id: UnitId, said: &[Said]) -> bool
-    ensures { result ≡ is_granted id said.now }
+fn answers_count(request: u64, home: Server, from: Server, message: &Message) -> bool
+    ensures { IsTrue result ↔ AnswersCount request home from message.now }
 {
-    said.iter().any(|s| grants(id, &s.answer))
-}
-
-fn grants(id: UnitId, answer: &Answer) -> bool
-    ensures { result ≡ grants id answer.now }
-{
-    match answer {
-        Answer::Granted(note) => note.id == id,
-        _ => false,
-    }
-}
-
-// A unit of this id was fetched.
-#[tactic(auto, unfolding(crate::specs::Calls::is_fetched))]
-fn is_fetched(id: UnitId, said: &[Said]) -> bool
-    ensures { result ≡ is_fetched id said.now }
-{
-    said.iter().any(|s| fetches(id, &s.call))
-}
-
-fn fetches(id: UnitId, call: &Call) -> bool
-    ensures { result ≡ fetches id call.now }
-{
-    match call {
-        Call::Fetch { id: fetched } => *fetched == id,
+    match message {
+        Message::Counted { request: to, .. } => is_for(request, home, from, *to),
         _ => false,
     }
 }

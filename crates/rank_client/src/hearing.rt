@@ -61,6 +61,7 @@ impl ClientCore {
             Pending::Common { .. } => self.hear_common(from, message),
             Pending::Keep { .. } => self.hear_keep(from, message),
             Pending::Close { .. } => self.hear_close(from, message),
+            Pending::Count { .. } => self.hear_count(from, message),
             Pending::Nothing => unreachable!(),
         }
     }

@@ -8,6 +8,7 @@ ghost use Rattle.bag_ledger.specs.Bag.{Bag, has_due};
 ghost use Rattle.rank_client.specs.Agreement.{ClientAgrees, Follows};
 ghost use Rattle.rank_client.specs.Expected.{ExpectedAreHeard};
 ghost use Rattle.rank_client.specs.Granted.{GrantsComeFirst};
+ghost use Rattle.rank_client.specs.Says.{StepsTell};
 ghost use Rattle.rank_client.specs.State.{ClientModel};
 ghost use Rattle.rank_client.specs.Step.{Made, begin, hear};
 
@@ -22,4 +23,11 @@ pub fn client_laws()
         hear s from letter ≡ Some x → ClientAgrees s (Some letter.message) b → IsFalse (has_due b) → Follows s (Some letter.message) b x }
     ensures expected_are_heard { ExpectedAreHeard }
     ensures grants_come_first { GrantsComeFirst }
+{}
+
+/// What each step of a rank makes of its transcript, with any number of servers: it tells of the call that is begun or pending, and
+/// adds it with its answer once it has one, which is what such a call can be answered. And the rank is ready for each call that it
+/// can make (`StepsTell`).
+pub fn says_laws()
+    ensures { StepsTell }
 {}

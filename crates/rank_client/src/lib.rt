@@ -4,12 +4,15 @@
 //! call adds to a rank's transcript. `specs/State.antt` is what contracts see of a client, `specs/Rules.antt` has the rule of
 //! each call and of each letter, `specs/Step.antt` the step that follows it, and `specs/Expected.antt` says which letters have a
 //! step; `laws` states that the entries of a step are steps of the bag, and that its answers are those that the bag's ledger
-//! gives.
+//! gives. `specs/Answers.antt` says which calls a rank can make and what each can be answered, and `specs/Says.antt` what the steps
+//! of a call make of the transcript.
 #![tactic(auto)]
 
+mod answers;
 mod batches;
 mod calls;
 mod clients;
+mod counts;
 #[cfg(test)]
 mod driven;
 mod expecting;
@@ -22,11 +25,13 @@ mod pendings;
 mod programs;
 mod puts;
 mod rooms;
+mod said;
 mod steps;
 
+pub use answers::{count_result, done_result, fetch_result, put_result, reserve_result};
 pub use clients::ClientCore;
 pub use faults::{EndFault, PutFault};
-pub use laws::client_laws;
+pub use laws::{client_laws, says_laws};
 pub use links::Adlb;
 pub use pendings::Pending;
 pub use programs::RankProgram;

@@ -6,11 +6,11 @@ ghost use Rattle.adlb_unit.specs.Totals.{total_of};
 ghost use Rattle.adlb_unit.specs.declared.notes.Trouble.{Trouble};
 ghost use Rattle.bag_ledger.specs.declared.entries.Call.{Call};
 ghost use Rattle.bag_ledger.specs.declared.entries.Said.{Said};
-ghost use Rattle.rank_client.specs.Calls.{Began, Repeats, TellsAgain, done_answer, done_trouble, end_answer, end_told, end_trouble, fetch_answer, fetch_trouble, granted, has_finished, is_granted, is_fetched, plus, put_answer, put_trouble};
+ghost use Rattle.rank_client.specs.Calls.{Began, Repeats, TellsAgain, count_answer, count_trouble, done_answer, done_trouble, end_answer, end_told, end_trouble, fetch_answer, fetch_trouble, granted, has_finished, is_granted, is_fetched, plus, put_answer, put_trouble};
 ghost use Rattle.rank_client.specs.Seat.{Seat};
 
 use crate::faults::{EndFault, PutFault};
-use adlb_unit::{Handle, Payload, Rank, Target, Trouble, Types, WorkType};
+use adlb_unit::{Handle, Info, Payload, Rank, Target, Trouble, Types, WorkType};
 use bag_ledger::{Body, Call, Said};
 
 /// What a rank can do. Each call but `leave`, `batch_open` and `transcript` waits for its answer and adds itself with the answer to the
@@ -121,6 +121,17 @@ pub trait Adlb {
     /// A batch is going on. A link that has failed has none.
     fn batch_open(&self) -> bool
         ensures { result ≡ batch self.now };
+
+    /// Tells of the units of this type that are free at the rank's home: how many there are, their highest priority, and how many
+    /// have it. It works after an end was told as well.
+    fn num_units(&mut self, kind: WorkType) -> Result<Info, Trouble>
+        requires running { has_finished (transcript self.old) ≡ false }
+        ensures says { transcript self.new ≡ plus (transcript self.old) (Call.Count kind) (count_answer result) }
+        ensures seat { seat self.new ≡ seat self.old }
+        ensures batch { batch self.new ≡ (batch self.old && is_none (count_trouble result)) }
+        ensures failed { failed self.new ≡ count_trouble result }
+        ensures repeats { Repeats (failed self.old) (count_trouble result) }
+        ensures began { Began (failed self.old) (begun self.old) (Call.Count kind) (failed self.new) (begun self.new) };
 
     /// Leaves the run. No batch is going on.
     fn finish(self)

@@ -1,6 +1,6 @@
 //! The call that a rank has begun and not heard the answer of.
 
-use adlb_unit::{CommonRef, Payload, Server, Types, Unit, UnitNote};
+use adlb_unit::{CommonRef, Payload, Server, Types, Unit, UnitNote, WorkType};
 
 /// The pending call. A put or a common part has gone to its first server and, after so many of them refused it, to the next in
 /// ring order.
@@ -42,5 +42,10 @@ pub enum Pending {
     Close {
         request: u64,
         batch: CommonRef,
+    },
+    /// The home is asked what of this type is free there.
+    Count {
+        request: u64,
+        kind: WorkType,
     },
 }

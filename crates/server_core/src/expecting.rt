@@ -4,7 +4,7 @@ ghost use Rattle.std.specs.Prelude.{◌≡◌, ◌<◌, ◌↔◌, IsTrue, IsSom
 ghost use Rattle.batch_store.specs.Store.{CanClose, CanFetch, Keeps, part_in};
 ghost use Rattle.server_law.specs.Acts.{batch_of};
 ghost use Rattle.server_law.specs.Expected.{IsAwaited, IsExpected, IsNew};
-ghost use Rattle.server_law.specs.State.{Kept, ServerModel};
+ghost use Rattle.server_law.specs.State.{Kept, ServerModel, runs_at_home};
 ghost use Rattle.server_law.specs.Step.{serve};
 ghost use Rattle.work_queue.specs.Queue.{HasNoPromise, HasNoUnit, HasPinned};
 
@@ -35,7 +35,7 @@ impl ServerState {
     {
         match message {
             Message::Put { unit } => self.is_new(from, unit),
-            Message::Reserve { .. } => self.is_home(from) && self.runs(from),
+            Message::Reserve { .. } => self.runs_at_home(from),
             Message::Fetch { id, .. } => self.is_pinned(*id, from),
             Message::KeepCommon { request, common } => {
                 self.keeps_none(from, *request) && common.len() <= BODY_LIMIT
@@ -46,9 +46,18 @@ impl ServerState {
                 ..
             } => batch.rank.0 == from.0 && self.can_close(*batch, *accepted),
             Message::FetchCommon { batch, .. } => self.can_share(*batch),
+            Message::Count { .. } => self.runs_at_home(from),
             Message::Finish => self.runs(from),
             _ => false,
         }
+    }
+
+    // The rank's home is here, and it runs.
+    fn runs_at_home(&self, rank: Rank) -> bool
+        requires { rank.0 < self.now.config.ranks }
+        ensures { result ≡ runs_at_home self.now rank }
+    {
+        self.is_home(rank) && self.runs(rank)
     }
 
     // The rank may put the unit here.

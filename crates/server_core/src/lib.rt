@@ -8,6 +8,7 @@
 #![tactic(auto)]
 
 mod batches;
+mod counts;
 mod ending;
 mod expecting;
 mod fetches;

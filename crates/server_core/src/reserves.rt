@@ -5,8 +5,8 @@ ghost use Rattle.adlb_unit.specs.declared.names.WorkType.{WorkType};
 ghost use Rattle.server_core.specs.Out.{HasPlaces, HasRoom, Out, going_on, made, with_answer};
 ghost use Rattle.server_law.specs.Acts.{Act, Grants, to_rank};
 ghost use Rattle.server_law.specs.Carried.{counted, posted};
-ghost use Rattle.server_law.specs.Reserves.{expects_reserve, reserve_now};
-ghost use Rattle.server_law.specs.State.{Kept, ServerModel};
+ghost use Rattle.server_law.specs.Reserves.{reserve_now};
+ghost use Rattle.server_law.specs.State.{Kept, ServerModel, runs_at_home};
 ghost use Rattle.work_queue.specs.Queue.{HasFree, id_of};
 
 use crate::outgoing::Outgoing;
@@ -19,7 +19,7 @@ impl ServerState {
     // The rank gets the best free unit; if there is none, it waits.
     pub(crate) fn reserve(&mut self, asks: Waiting, out: &mut Outgoing)
         requires rank { asks.rank.0 < self.old.config.ranks }
-        requires expected { expects_reserve self.old asks.rank ≡ true }
+        requires expected { runs_at_home self.old asks.rank ≡ true }
         requires room { HasRoom self.old out.old 2 }
 
         ensures made { made self.new out.new ≡ going_on out.old (reserve_now self.old.kept (record { rank = asks.rank; request = asks.request; types = asks.types }) ∷ []) self.old }

@@ -107,6 +107,7 @@ impl ServerState {
                 accepted,
             } => Ok(self.close(request, batch, accepted, out)),
             Message::FetchCommon { request, batch } => self.share(from, request, batch, out),
+            Message::Count { request, kind } => Ok(self.count(from, request, kind, out)),
             Message::Finish => Ok(self.finish(from)),
             _ => unreachable!(),
         }

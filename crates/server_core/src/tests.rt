@@ -28,6 +28,8 @@ enum Says {
     Close(u64, u64, u64),
     // A fetch, in this request, of the common part of rank 0's batch of this number.
     Share(u64, u64),
+    // A count, in this request, of the units of this type.
+    Count(u64, u32),
     Done(u64),
     Finish,
 }
@@ -62,6 +64,12 @@ const GRANTS_SECOND: &str = "2 [Sending { to: Rank(Rank(0)), letter: Letter { st
     kind: WorkType(5), prio: 3, answer: None, server: Server(0), common: None, length: 2 } } } }] \
     [Granted { server: Server(0), rank: Rank(0), call: 1, id: UnitId { rank: Rank(0), number: 0 } }]";
 
+// Rank 0 counts, in its call 2, a type of which no unit is free, as the third thing that happens.
+const COUNTS_NONE_THIRD: &str =
+    "3 [Sending { to: Rank(Rank(0)), letter: Letter { stamp: 3, place: 2, \
+    message: Counted { request: 2, info: Info { free: 0, top: None, at_top: 0 } } } }] \
+    [Counted { server: Server(0), rank: Rank(0), call: 2, info: Info { free: 0, top: None, at_top: 0 } }]";
+
 // Rank 0 begins a batch, and its common part is kept as the first thing that happens.
 const KEEPS_FIRST: &str = "1 [Sending { to: Rank(Rank(0)), letter: Letter { stamp: 1, place: 0, \
     message: Accepted { request: 0 } } }] \
@@ -92,6 +100,10 @@ fn message(alloc: Global, says: Says) -> Result<Message, Fail> {
         Says::Share(request, number) => Message::FetchCommon {
             request,
             batch: batch_id(number),
+        },
+        Says::Count(request, kind) => Message::Count {
+            request,
+            kind: WorkType(kind),
         },
         Says::Done(request) => Message::Done { request },
         Says::Finish => Message::Finish,
@@ -256,6 +268,45 @@ fn grants_and_then_is_exhausted(rt: HostRuntime) -> Result<(), Fail> {
         ),
     ];
     play(&rt, rt.alloc(), 1, 1, 0, &scene)
+}
+
+#[test]
+fn counts_what_is_free_of_a_type(rt: HostRuntime) -> Result<(), Fail> {
+    let scene = [
+        (
+            Line::Hears(0, Says::Put(0, 0, 2, Target::Any)),
+            ACCEPTS_FIRST,
+        ),
+        (Line::Hears(0, Says::Reserve(1)), GRANTS_SECOND),
+        // The unit is pinned.
+        (Line::Hears(0, Says::Count(2, 5)), COUNTS_NONE_THIRD),
+        (
+            Line::Hears(0, Says::Put(0, 3, 2, Target::Only(Rank(0)))),
+            "4 [Sending { to: Rank(Rank(0)), letter: Letter { stamp: 4, place: 3, \
+                message: Accepted { request: 3 } } }] \
+                [Accepted { server: Server(0), id: UnitId { rank: Rank(0), number: 3 } }]",
+        ),
+        (
+            Line::Hears(0, Says::Count(4, 5)),
+            "5 [Sending { to: Rank(Rank(0)), letter: Letter { stamp: 5, place: 4, \
+                message: Counted { request: 4, info: Info { free: 1, top: Some(3), at_top: 1 } } } }] \
+                [Counted { server: Server(0), rank: Rank(0), call: 4, \
+                info: Info { free: 1, top: Some(3), at_top: 1 } }]",
+        ),
+    ];
+    play(&rt, rt.alloc(), 1, 1, 0, &scene)
+}
+
+#[test]
+fn expects_a_count_of_a_rank_that_runs_at_its_home(rt: HostRuntime) -> Result<(), Fail> {
+    let home = [
+        (Line::Expects(RANK, Says::Count(0, 5)), "yes"),
+        (Line::Hears(0, Says::Reserve(0)), "1 [] []"),
+        (Line::Expects(RANK, Says::Count(0, 5)), "no"),
+    ];
+    play(&rt, rt.alloc(), 1, 2, 0, &home)?;
+    let other = [(Line::Expects(RANK, Says::Count(0, 5)), "no")];
+    play(&rt, rt.alloc(), 1, 2, 1, &other)
 }
 
 #[test]

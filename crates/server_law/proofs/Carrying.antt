@@ -20,8 +20,8 @@ use Rattle.server_law.specs.Endings.{ends_event}
 use Rattle.server_law.specs.Finding.{is_pinned_as}
 use Rattle.server_law.specs.Plan.{Decider, Plan, decided, in_order, plan}
 use Rattle.server_law.specs.Puts.{expects_put, put_now, settles}
-use Rattle.server_law.specs.Reserves.{expects_reserve, reserve_now}
-use Rattle.server_law.specs.State.{ServerModel, Wish, runs}
+use Rattle.server_law.specs.Reserves.{reserve_now}
+use Rattle.server_law.specs.State.{ServerModel, Wish, runs, runs_at_home}
 use Rattle.server_law.specs.Step.{acts, next_stamp, rule, serve, ticked}
 
 -- Letters.
@@ -114,7 +114,7 @@ pub put_handled : (s : ServerModel) (from : Rank) (unit : Work) → expects_put 
 put_handled s from unit expected =
     handled_by s (by.Rank from) (tells.Put unit) (put_now s.kept unit) (settles unit.id ∷ []) (rw expected refl)
 
-pub reserve_handled : (s : ServerModel) (wish : Wish) → expects_reserve s wish.rank ≡ true
+pub reserve_handled : (s : ServerModel) (wish : Wish) → runs_at_home s wish.rank ≡ true
     → handled s (by.Rank wish.rank) (tells.Reserve wish.request wish.types)
     ≡ Some (followed_by (performed (reserve_now s.kept wish) s) (ends_event ∷ []))
 reserve_handled s wish expected =

@@ -349,6 +349,20 @@ while_a_unit_fits_nothing_follows = refl
 it_is_found_once : ends_event (made both (record empty { exhausted = true })) ≡ []
 it_is_found_once = refl
 
+-- Counts: of units of priorities 3 and 7, then of the one that is left free, and of a type of which there is none.
+
+abbrev counts : ℕ → ℕ → Said
+counts request kind = says 0 (tells.Count request (record { 0 = kind }))
+
+abbrev counted : ℕ → ℕ → Option ℤ → ℕ → Entry
+counted request free top at_top = enters.Counted (server 0) (rank 0) request (record { free = free; top = top; at_top = at_top })
+
+free_units_of_the_type_are_counted :
+    drop 2 (entered (begun one_rank) (puts 0 (sized_unit 4 0 (pos 3) targets.Any) ∷ puts 0 (sized_unit 4 1 (pos 7) targets.Any)
+    ∷ counts 2 2 ∷ counts 3 5 ∷ reserves 0 4 ∷ counts 5 2 ∷ []))
+    ≡ counted 2 2 (Some (pos 7)) 1 ∷ counted 3 0 None 0 ∷ enters.Granted (server 0) (rank 0) 4 (id 1) ∷ counted 5 1 (Some (pos 3)) 1 ∷ []
+free_units_of_the_type_are_counted = refl
+
 -- Which letters are expected, with three ranks, after some letters.
 
 abbrev is_expected_after : List Said → Said → Option Bool
@@ -380,6 +394,12 @@ a_rank_does_not_finish_twice = refl
 
 a_rank_reserves_at_its_home_alone : is_some (heard (start two_servers (server 1)) (reserves 0 0)) ≡ false
 a_rank_reserves_at_its_home_alone = refl
+
+a_rank_counts_at_its_home_alone : is_some (heard (start two_servers (server 1)) (counts 0 2)) ≡ false
+a_rank_counts_at_its_home_alone = refl
+
+a_rank_that_waits_does_not_count : is_expected_after (reserves 0 0 ∷ []) (counts 1 2) ≡ Some false
+a_rank_that_waits_does_not_count = refl
 
 a_rank_finishes_at_each_server : is_some (heard (start two_servers (server 1)) (says 0 tells.Finish)) ≡ true
 a_rank_finishes_at_each_server = refl

@@ -17,14 +17,13 @@ use Rattle.server_law.specs.Fetches.{fetch}
 use Rattle.server_law.specs.Finding.{is_pinned_as}
 use Rattle.server_law.specs.Plan.{in_order}
 use Rattle.server_law.specs.Puts.{expects_put}
-use Rattle.server_law.specs.Reserves.{expects_reserve}
-use Rattle.server_law.specs.State.{ServerModel, runs}
+use Rattle.server_law.specs.State.{ServerModel, runs, runs_at_home}
 use Rattle.server_law.specs.Step.{acts, next_stamp, rule, ticked}
 use Rattle.adlb_unit.specs.declared.names.BatchId.{BatchId}
 use Rattle.batch_store.specs.Store.{part_in}
 use Rattle.batch_store.specs.declared.parts.Part.{Part}
 use Rattle.server_law.specs.Batches.{can_close, can_fetch, close, expects_keep, part_if, share}
-use Rattle.server_law.proofs.Tests.{Says, below_says, both_say, close_says, keep_says, share_says, expects_put_says, expects_reserve_says, pinned_says, runs_says}
+use Rattle.server_law.proofs.Tests.{Says, below_says, both_say, close_says, keep_says, share_says, expects_put_says, runs_at_home_says, pinned_says, runs_says}
 
 -- Options.
 
@@ -65,7 +64,7 @@ share_some from request batch (Some p) there = there
 -- there is a rule for what is awaited
 pub rule_awaited : (s : ServerModel) (from : Rank) (message : Message) → IsSome (rule s (by.Rank from) message) ↔ IsAwaited s from message
 rule_awaited s from (tells.Put unit) = if_some (expects_put s from unit) _ (expects_put_says s from unit)
-rule_awaited s from (tells.Reserve request types) = if_some (expects_reserve s from) _ (expects_reserve_says s from)
+rule_awaited s from (tells.Reserve request types) = if_some (runs_at_home s from) _ (runs_at_home_says s from)
 rule_awaited s from (tells.Fetch request id) =
     fetch_some from request id (find (is_pinned_as id from) s.kept.queue.units) (pinned_says id from s.kept.queue.units)
 rule_awaited s from (tells.KeepCommon request common) = if_some (expects_keep s from request common) _ (keep_says s from request common)
@@ -74,6 +73,7 @@ rule_awaited s from (tells.CloseBatch request batch accepted) =
     (close_says s from batch accepted)
 rule_awaited s from (tells.FetchCommon request batch) =
     share_some from request batch (part_if (can_fetch s.kept.queue.common) (part_in s.kept.parts batch)) (share_says s batch)
+rule_awaited s from (tells.Count request kind) = if_some (runs_at_home s from) _ (runs_at_home_says s from)
 rule_awaited s from tells.Finish = if_some (runs s.kept from) _ (runs_says s from)
 rule_awaited s from _ = (λ some. absurd (cc), λ never. absurd never)
 

@@ -29,8 +29,8 @@ use Rattle.server_law.specs.Fetches.{fetch}
 use Rattle.server_law.specs.Finding.{Place, best_for, exceeds, is_free_as, is_pinned_as, taker}
 use Rattle.server_law.specs.Plan.{Decider, Plan, decided, in_order, plan}
 use Rattle.server_law.specs.Puts.{expects_put, gives, is_over, put, put_now, settles, settles_as}
-use Rattle.server_law.specs.Reserves.{expects_reserve, reserve}
-use Rattle.server_law.specs.State.{ServerModel, Waiting, Wish, runs}
+use Rattle.server_law.specs.Reserves.{reserve}
+use Rattle.server_law.specs.State.{ServerModel, Waiting, Wish, runs, runs_at_home}
 use Rattle.server_law.specs.Step.{rule}
 use Rattle.server_law.specs.Sure.{ActsHandle, AreSure, HandledBy, HasCause, IsExhausted, SitsIn, Sure, TakeNone}
 use Rattle.server_law.proofs.Places.{Takes, idle_is, taker_found}
@@ -169,7 +169,7 @@ put_plan s unit expected true over done is = made refl (expected, done) refl (se
 put_plan s unit expected false true done is = made refl (expected, done, is) refl (settles_decides unit.id, tt)
 put_plan s unit expected false false done is = made refl (expected, done, is) refl (settles_decides unit.id, tt)
 
-reserve_plan : (s : ServerModel) (wish : Wish) → expects_reserve s wish.rank ≡ true
+reserve_plan : (s : ServerModel) (wish : Wish) → runs_at_home s wish.rank ≡ true
     → (is_done used_up : Bool) (best : Option Placed) → s.kept.done ≡ is_done → s.kept.exhausted ≡ used_up → best_for s.kept wish ≡ best
     → IsPlan s (by.Rank wish.rank) (tells.Reserve wish.request wish.types)
     (record { first = reserve is_done used_up best wish; follow = [] })
@@ -228,7 +228,7 @@ planned s (by.Rank from) (tells.Put unit) = if_plan s (by.Rank from) (tells.Put 
     subst P is (put_plan s unit own s.kept.done (is_over s.kept.queue unit) refl refl))
 planned s (by.Rank from) (tells.Reserve request types) =
     let wish : Wish = record { rank = from; request = request; types = types } in
-    if_plan s (by.Rank from) (tells.Reserve request types) (expects_reserve s from) _ (λ expected.
+    if_plan s (by.Rank from) (tells.Reserve request types) (runs_at_home s from) _ (λ expected.
     reserve_plan s wish expected s.kept.done s.kept.exhausted (best_for s.kept wish) refl refl refl)
 planned s (by.Rank from) (tells.Fetch request id) = fetch_plan s from request id (find (is_pinned_as id from) s.kept.queue.units) refl
 planned s (by.Rank from) (tells.KeepCommon request common) =
@@ -236,6 +236,8 @@ planned s (by.Rank from) (tells.KeepCommon request common) =
     keep_plan s from request common expected s.kept.done (exceeds s.kept.queue (length common)) refl refl)
 planned s (by.Rank from) (tells.CloseBatch request batch accepted) = close_plan s from request batch accepted (part_in s.kept.parts batch) refl
 planned s (by.Rank from) (tells.FetchCommon request batch) = share_plan s from request batch (part_in s.kept.parts batch) refl
+planned s (by.Rank from) (tells.Count request kind) =
+    if_plan s (by.Rank from) (tells.Count request kind) (runs_at_home s from) _ (λ expected. made refl expected refl tt)
 planned s (by.Rank from) tells.Finish =
     if_plan s (by.Rank from) tells.Finish (runs s.kept from) _ (λ runs. made refl runs refl tt)
 planned s (by.Rank from) _ = tt

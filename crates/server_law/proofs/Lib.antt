@@ -2,6 +2,7 @@ pub mod BestFits
 pub mod ByIds
 pub mod Carrying
 pub mod Components
+pub mod Counting
 pub mod Elsewhere
 pub mod Endings
 pub mod Entering

@@ -3,9 +3,11 @@ use Rattle.std.proofs.Common.{◌≡◌, ℕ, ◌+◌, ◌≤◌, ◌<◌, ◌==
 use Rattle.std.specs.Prelude.{IsTrue, option_and_then}
 use Rattle.std.proofs.lemmas.Bool.{false_from_ne_true, ltb-false, ltb-true}
 use Rattle.adlb_unit.specs.Permit.{permitted}
+use Rattle.adlb_unit.specs.Targets.{home_of}
 use Rattle.adlb_unit.specs.declared.names.Rank.{Rank}
 use Rattle.adlb_unit.specs.declared.names.Server.{Server}
 use Rattle.adlb_unit.specs.declared.names.UnitId.{UnitId}
+use Rattle.adlb_unit.specs.declared.names.WorkType.{WorkType}
 use Rattle.adlb_unit.specs.declared.notes.End.{End}
 use Rattle.adlb_unit.specs.declared.notes.End.TheVariants as ends_by
 use Rattle.adlb_unit.specs.declared.units.Unit.{Unit as Work}
@@ -21,23 +23,26 @@ use Rattle.bag_ledger.specs.declared.states.UnitPlace.{UnitPlace}
 use Rattle.bag_ledger.specs.declared.states.UnitPlace.TheVariants.{Free, Travelling, Pinned, Spent}
 use Rattle.bag_ledger.proofs.Charge.{unit_put}
 use Rattle.bag_law.proofs.Turn.{sum_same}
+use Rattle.work_queue.specs.Counts.{counts_of}
 use Rattle.work_queue.specs.Queue.{charge_of, has_other_id, pinned_by, size_of, with_unit}
 use Rattle.work_queue.specs.declared.placing.Placed.{Placed}
-use Rattle.server_law.specs.Acts.{Accepts, Closes, Ends_keep, Ends_put, Ends_reserve, Fetches, Fetches_part, Finds, Gives, Grants, Keeps, Notes_finish, Parks, Refuses, Refuses_part, Shuts, Tells, entries}
+use Rattle.server_law.specs.Acts.{Accepts, Closes, Counts, Ends_keep, Ends_put, Ends_reserve, Fetches, Fetches_part, Finds, Gives, Grants, Keeps, Notes_finish, Parks, Refuses, Refuses_part, Shuts, Tells, entries}
 use Rattle.adlb_unit.specs.declared.names.CommonRef.{CommonRef}
 use Rattle.server_law.specs.Agreement.{ServerAgrees, UnitWeight, of_batch, pinned_weight, weight_at}
 use Rattle.server_law.specs.Carried.{done}
 use Rattle.server_law.specs.Finding.{unit_with}
 use Rattle.server_law.specs.Legal.{ActsAreLegal, AsksFor, Does, IsOpen, Offers}
 use Rattle.server_law.specs.Puts.{is_over}
-use Rattle.server_law.specs.State.{ServerModel, Wish}
+use Rattle.server_law.specs.State.{ServerModel, Wish, runs_at_home}
 use Rattle.server_law.specs.Sure.{HasCause, IsExhausted}
 use Rattle.server_law.proofs.BestFits.{IsFit, best_is_fit}
 use Rattle.server_law.proofs.ByIds.{free_is_found, pinned_is_found}
 use Rattle.server_law.proofs.Components.{known_agrees, shared_agrees, units_agree, with_units}
+use Rattle.server_law.proofs.Counting.{info_agrees}
 use Rattle.server_law.proofs.Entering.{AreSteps, charge_agrees, is_step, none_changed}
 use Rattle.server_law.proofs.PartEntries.{closes, fetches_part, keeps, refuses_part}
 use Rattle.server_law.proofs.Lodging.{holds_added, holds_pinned, holds_taken, lodged, place_is}
+use Rattle.server_law.proofs.Tests.{runs_at_home_says}
 
 -- Puts.
 
@@ -122,6 +127,18 @@ fetches b s rank request id p m rests asks found pin =
     (rw rests refl, (asks.0, request, u.0, asks.1, asks.2, rw m.servers m.within, (u.1.found, place)), refl)
     (units_agree b s _ now s.kept.queue.arrivals m holds) rests
 
+-- Counts.
+
+counts : (b : Bag) (s : ServerModel) (rank : Rank) (request : ℕ) (kind : WorkType) → ServerAgrees b s → has_due b ≡ false
+    → Does b rank (is_at.Counting request kind) → runs_at_home s rank ≡ true
+    → AreSteps b (entries (Counts rank request kind) s) (done (Counts rank request kind) s)
+counts b s rank request kind m rests of home =
+    is_step b (enters.Counted s.me rank request (counts_of kind s.kept.queue.units)) (done (Counts rank request kind) s)
+    (rw rests refl, (of.0, kind, of.1, of.2, (rw m.servers m.within, at_home), sym (info_agrees b s kind m)), refl) m rests
+  where
+    at_home : s.me.0 ≡ home_of b.servers rank
+    at_home = rw m.servers (sym ((runs_at_home_says s rank).0 home).0)
+
 -- Exhaustion.
 
 finds : (b : Bag) (s : ServerModel) → ServerAgrees b s → has_due b ≡ false → IsExhausted s → IsTrue (settled b)
@@ -154,6 +171,7 @@ acts_are_legal b s (Parks wish) m rests sits sure needs = (b, refl, m, rests)
 acts_are_legal b s (Fetches rank request id unit) m rests sits sure needs =
     let at = pinned_is_found s.kept.queue.units id rank sure.0 m.units.distinct sure.1 in
     fetches b s rank request id sure.0 m rests needs at.0 at.1
+acts_are_legal b s (Counts rank request kind) m rests sits sure needs = counts b s rank request kind m rests needs sure
 acts_are_legal b s (Notes_finish rank) m rests sits sure needs = (b, refl, m, rests)
 acts_are_legal b s (Gives at wish rest unit) m rests sits sure needs =
     let found = sure.0 in

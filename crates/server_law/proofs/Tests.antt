@@ -30,8 +30,7 @@ use Rattle.server_law.specs.Expected.{IsHome, IsNew, Runs, WaitsIdle}
 use Rattle.server_law.specs.Finding.{has_promise, has_unit, is_free_as, is_idle, is_pin, is_pinned_as}
 use Rattle.server_law.specs.Puts.{expects_put}
 use Rattle.server_law.specs.Quiet.{QuietIsTested}
-use Rattle.server_law.specs.Reserves.{expects_reserve}
-use Rattle.server_law.specs.State.{Kept, ServerModel, Waiting, is_finished, is_home, is_of, is_waiting, runs}
+use Rattle.server_law.specs.State.{Kept, ServerModel, Waiting, is_finished, is_home, is_of, is_waiting, runs, runs_at_home}
 
 -- Tests in general.
 
@@ -202,8 +201,8 @@ runs_says s rank =
     let both = both_say (not (is_waiting s.kept rank)) (not (is_finished s.kept rank)) waits ended in
     (λ is. record { waits_not = (both.0 is).0; finished_not = (both.0 is).1 }, λ (is : Runs s rank). both.1 (is.waits_not, is.finished_not))
 
-pub expects_reserve_says : (s : ServerModel) (rank : Rank) → Says (expects_reserve s rank) (IsHome s rank × Runs s rank)
-expects_reserve_says s rank = both_say (is_home s.config s.me rank) (runs s.kept rank) (is_home_says s rank) (runs_says s rank)
+pub runs_at_home_says : (s : ServerModel) (rank : Rank) → Says (runs_at_home s rank) (IsHome s rank × Runs s rank)
+runs_at_home_says s rank = both_say (is_home s.config s.me rank) (runs s.kept rank) (is_home_says s rank) (runs_says s rank)
 
 pub expects_put_says : (s : ServerModel) (from : Rank) (unit : Work) → Says (expects_put s from unit) (IsNew s from unit)
 expects_put_says s from unit =

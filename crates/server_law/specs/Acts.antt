@@ -10,11 +10,13 @@ use Rattle.adlb_unit.specs.declared.names.BatchId.{BatchId}
 use Rattle.adlb_unit.specs.declared.names.Rank.{Rank}
 use Rattle.adlb_unit.specs.declared.names.Server.{Server}
 use Rattle.adlb_unit.specs.declared.names.UnitId.{UnitId}
+use Rattle.adlb_unit.specs.declared.names.WorkType.{WorkType}
 use Rattle.adlb_unit.specs.declared.notes.End.{End}
 use Rattle.adlb_unit.specs.declared.units.Unit.{Unit as Work}
 use Rattle.bag_ledger.specs.declared.entries.Entry.{Entry}
 use Rattle.bag_ledger.specs.declared.entries.Entry.TheVariants as enters
 use Rattle.bag_ledger.specs.Runs.{note_of}
+use Rattle.work_queue.specs.Counts.{counts_of}
 use Rattle.work_queue.specs.Queue.{Queue, charge_of, with_common, with_pin, with_unit, without, without_common}
 use Rattle.batch_store.specs.Store.{Store, changed, closed, fetched, is_due, with_fresh}
 use Rattle.batch_store.specs.declared.parts.Part.{Part}
@@ -46,6 +48,8 @@ pub data Act : Type 0 where
   Parks : Wish → Act
   -- a fetch of the unit of this id, in the call of this number
   Fetches : Rank → ℕ → UnitId → Work → Act
+  -- a count of the free units of a type, in the call of this number
+  Counts : Rank → ℕ → WorkType → Act
   Notes_finish : Rank → Act
   -- a batch begins with this common part, in the call of this number: the part is kept, there is no room for it, or the call is ended
   Keeps : Rank → ℕ → List ℕ → Act
@@ -84,6 +88,7 @@ takes (Grants wish unit) = of_rank wish.rank (tells.Reserve wish.request wish.ty
 takes (Ends_reserve wish end) = of_rank wish.rank (tells.Reserve wish.request wish.types) ∷ []
 takes (Parks wish) = of_rank wish.rank (tells.Reserve wish.request wish.types) ∷ []
 takes (Fetches rank request id unit) = of_rank rank (tells.Fetch request id) ∷ []
+takes (Counts rank request kind) = of_rank rank (tells.Count request kind) ∷ []
 takes (Notes_finish rank) = of_rank rank tells.Finish ∷ []
 takes (Keeps rank request common) = of_rank rank (tells.KeepCommon request common) ∷ []
 takes (Refuses_part rank request common) = of_rank rank (tells.KeepCommon request common) ∷ []
@@ -174,6 +179,7 @@ says (Ends_put unit end) s = to_rank unit.id.rank (tells.Ended unit.id.number en
 says (Grants wish unit) s = to_rank wish.rank (tells.Grant wish.request (note_of s.me unit)) ∷ []
 says (Ends_reserve wish end) s = to_rank wish.rank (tells.Ended wish.request end) ∷ []
 says (Fetches rank request id unit) s = to_rank rank (tells.Bytes request unit.body) ∷ []
+says (Counts rank request kind) s = to_rank rank (tells.Counted request (counts_of kind s.kept.queue.units)) ∷ []
 says (Gives at wish rest unit) s = to_rank wish.rank (tells.Grant wish.request (note_of s.me unit)) ∷ []
 says (Tells at wish rest end) s = to_rank wish.rank (tells.Ended wish.request end) ∷ []
 says (Keeps rank request common) s = to_rank rank (tells.Accepted request) ∷ []
@@ -194,6 +200,7 @@ entries (Ends_put unit end) s = enters.Over unit.id.rank unit.id.number end ∷ 
 entries (Grants wish unit) s = enters.Granted s.me wish.rank wish.request unit.id ∷ []
 entries (Ends_reserve wish end) s = enters.Over wish.rank wish.request end ∷ []
 entries (Fetches rank request id unit) s = enters.Fetched s.me rank id ∷ []
+entries (Counts rank request kind) s = enters.Counted s.me rank request (counts_of kind s.kept.queue.units) ∷ []
 entries (Gives at wish rest unit) s = enters.Granted s.me wish.rank wish.request unit.id ∷ []
 entries (Tells at wish rest end) s = enters.Over wish.rank wish.request end ∷ []
 entries Finds s = enters.Exhausted ∷ []

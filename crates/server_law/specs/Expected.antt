@@ -48,6 +48,8 @@ IsAwaited s from (tells.CloseBatch request batch accepted) =
     (batch.rank ≡ from) × PartKept s.kept.parts batch s.kept.queue.common (CanClose accepted)
 -- the part is here, and, if closed, was fetched fewer times than units of the batch were accepted
 IsAwaited s from (tells.FetchCommon request batch) = PartKept s.kept.parts batch s.kept.queue.common CanFetch
+-- the sender's home is here, and it runs
+IsAwaited s from (tells.Count request kind) = IsHome s from × Runs s from
 -- the sender runs
 IsAwaited s from tells.Finish = Runs s from
 IsAwaited s from _ = ⊥

@@ -17,7 +17,7 @@ use Rattle.bag_ledger.specs.declared.states.RankState.{RankState}
 use Rattle.bag_ledger.specs.declared.states.Status.{Status}
 use Rattle.bag_ledger.specs.declared.states.Status.TheVariants as is_at
 use Rattle.bag_law.specs.Sound.{IsSoundBag}
-use Rattle.server_law.specs.Acts.{Act, Accepts, Closes, Ends_keep, Ends_put, Ends_reserve, Fetches, Fetches_part, Finds, Gives, Grants, Keeps, Refuses, Refuses_part, Tells, batch_of, entries}
+use Rattle.server_law.specs.Acts.{Act, Accepts, Closes, Counts, Ends_keep, Ends_put, Ends_reserve, Fetches, Fetches_part, Finds, Gives, Grants, Keeps, Refuses, Refuses_part, Tells, batch_of, entries}
 use Rattle.server_law.specs.Agreement.{ServerAgrees}
 use Rattle.server_law.specs.Carried.{done}
 use Rattle.server_law.specs.State.{ServerModel, Wish}
@@ -68,6 +68,7 @@ Needs (Ends_put unit end) b me = Does b unit.id.rank (is_at.Putting unit)
 Needs (Grants wish unit) b me = AsksFor b wish
 Needs (Ends_reserve wish end) b me = AsksFor b wish
 Needs (Fetches rank request id unit) b me = Does b rank (is_at.Fetching request id false)
+Needs (Counts rank request kind) b me = Does b rank (is_at.Counting request kind)
 Needs (Gives at wish rest unit) b me = AsksFor b wish
 Needs (Tells at wish rest end) b me = AsksFor b wish
 Needs Finds b me = IsTrue (settled b)

@@ -2,6 +2,7 @@ pub mod Acts
 pub mod Agreement
 pub mod Batches
 pub mod Carried
+pub mod Counts
 pub mod Endings
 pub mod Expected
 pub mod Fetches

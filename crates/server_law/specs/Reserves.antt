@@ -1,16 +1,11 @@
 -- The rule of Reserve.
-use Rattle.std.specs.Prelude.{Bool, true, false, ◌&&◌, List, [], Option, None, Some, if◌then◌else◌}
-use Rattle.adlb_unit.specs.declared.names.Rank.{Rank}
+use Rattle.std.specs.Prelude.{Bool, true, false, List, [], Option, None, Some, if◌then◌else◌}
 use Rattle.adlb_unit.specs.declared.notes.End.TheVariants as ends_by
 use Rattle.work_queue.specs.declared.placing.Placed.{Placed}
 use Rattle.server_law.specs.Acts.{Act, Ends_reserve, Grants, Parks}
 use Rattle.server_law.specs.Finding.{best_for}
 use Rattle.server_law.specs.Plan.{Plan, plan}
-use Rattle.server_law.specs.State.{Kept, ServerModel, Wish, is_home, runs}
-
--- the sender's home is here, and it runs
-abbrev pub expects_reserve : ServerModel → Rank → Bool
-expects_reserve s from = is_home s.config s.me from && runs s.kept from
+use Rattle.server_law.specs.State.{Kept, ServerModel, Wish, runs_at_home}
 
 -- where the problem is done; where all work is used up; where there is a unit; else
 abbrev pub reserve : Bool → Bool → Option Placed → Wish → Act
@@ -24,4 +19,4 @@ abbrev pub reserve_now : Kept → Wish → Act
 reserve_now k wish = reserve k.done k.exhausted (best_for k wish) wish
 
 abbrev pub reserve_rule : ServerModel → Wish → Option Plan
-reserve_rule s wish = if expects_reserve s wish.rank then plan (reserve_now s.kept wish) [] else None
+reserve_rule s wish = if runs_at_home s wish.rank then plan (reserve_now s.kept wish) [] else None

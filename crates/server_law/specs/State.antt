@@ -97,3 +97,7 @@ is_finished k rank = slice_index_or k.finished rank.0 false
 -- the rank neither waits nor has finished, as far as the server knows
 abbrev pub runs : Kept → Rank → Bool
 runs k rank = not (is_waiting k rank) && not (is_finished k rank)
+
+-- the rank's home is here, and it runs
+abbrev pub runs_at_home : ServerModel → Rank → Bool
+runs_at_home s rank = is_home s.config s.me rank && runs s.kept rank

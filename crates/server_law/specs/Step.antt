@@ -11,6 +11,7 @@ use Rattle.adlb_unit.specs.declared.messages.Message.TheVariants as tells
 use Rattle.server_law.specs.Acts.{Act}
 use Rattle.server_law.specs.Batches.{close_rule, keep_rule, share_rule}
 use Rattle.server_law.specs.Carried.{Served, carried}
+use Rattle.server_law.specs.Counts.{count_rule}
 use Rattle.server_law.specs.Endings.{ends_event}
 use Rattle.server_law.specs.Fetches.{fetch_rule}
 use Rattle.server_law.specs.Finishes.{finish_rule}
@@ -27,6 +28,7 @@ rule s (by.Rank from) (tells.Fetch request id) = fetch_rule s from request id
 rule s (by.Rank from) (tells.KeepCommon request common) = keep_rule s from request common
 rule s (by.Rank from) (tells.CloseBatch request batch accepted) = close_rule s from request batch accepted
 rule s (by.Rank from) (tells.FetchCommon request batch) = share_rule s from request batch
+rule s (by.Rank from) (tells.Count request kind) = count_rule s from request kind
 rule s (by.Rank from) tells.Finish = finish_rule s from
 rule s from _ = None
 

@@ -7,15 +7,14 @@ use Rattle.adlb_unit.specs.declared.notes.End.{End}
 use Rattle.adlb_unit.specs.declared.notes.End.TheVariants as ends_by
 use Rattle.adlb_unit.specs.declared.units.Unit.{Unit as Work}
 use Rattle.work_queue.specs.declared.placing.Placed.{Placed}
-use Rattle.server_law.specs.Acts.{Act, Accepts, Around, Closes, Ends_keep, Ends_put, Ends_reserve, Fetches, Fetches_part, Finds, Gives, Grants, Heard, Keeps, Notes_finish, Parks, Refuses, Refuses_part, Shuts, Tells, around, goes, takes}
+use Rattle.server_law.specs.Acts.{Act, Accepts, Around, Closes, Counts, Ends_keep, Ends_put, Ends_reserve, Fetches, Fetches_part, Finds, Gives, Grants, Heard, Keeps, Notes_finish, Parks, Refuses, Refuses_part, Shuts, Tells, around, goes, takes}
 use Rattle.batch_store.specs.Store.{part_in}
 use Rattle.server_law.specs.Batches.{can_close, can_fetch, expects_keep}
 use Rattle.server_law.specs.Carried.{done}
 use Rattle.server_law.specs.Endings.{fits, is_quiet}
 use Rattle.server_law.specs.Finding.{best_for, exceeds, is_free_as, is_pinned_as, permits}
 use Rattle.server_law.specs.Puts.{expects_put, is_over}
-use Rattle.server_law.specs.Reserves.{expects_reserve}
-use Rattle.server_law.specs.State.{Kept, ServerModel, Waiting, runs}
+use Rattle.server_law.specs.State.{Kept, ServerModel, Waiting, runs, runs_at_home}
 use Rattle.server_law.specs.Step.{acts}
 
 -- who goes waits where the act says
@@ -50,10 +49,11 @@ abbrev pub Sure : Act → ServerModel → Type 0
 Sure (Accepts unit) s = (expects_put s unit.id.rank unit ≡ true) × (s.kept.done ≡ false) × (is_over s.kept.queue unit ≡ false)
 Sure (Refuses unit) s = (expects_put s unit.id.rank unit ≡ true) × (s.kept.done ≡ false) × (is_over s.kept.queue unit ≡ true)
 Sure (Ends_put unit end) s = (expects_put s unit.id.rank unit ≡ true) × HasCause s.kept end
-Sure (Grants wish unit) s = (expects_reserve s wish.rank ≡ true) × IsFound (best_for s.kept wish) unit
-Sure (Ends_reserve wish end) s = (expects_reserve s wish.rank ≡ true) × HasCause s.kept end
-Sure (Parks wish) s = (expects_reserve s wish.rank ≡ true) × (best_for s.kept wish ≡ None)
+Sure (Grants wish unit) s = (runs_at_home s wish.rank ≡ true) × IsFound (best_for s.kept wish) unit
+Sure (Ends_reserve wish end) s = (runs_at_home s wish.rank ≡ true) × HasCause s.kept end
+Sure (Parks wish) s = (runs_at_home s wish.rank ≡ true) × (best_for s.kept wish ≡ None)
 Sure (Fetches rank request id unit) s = IsFound (find (is_pinned_as id rank) s.kept.queue.units) unit
+Sure (Counts rank request kind) s = runs_at_home s rank ≡ true
 Sure (Notes_finish rank) s = runs s.kept rank ≡ true
 Sure (Gives at wish rest unit) s = IsFound (find (is_free_as unit.id) s.kept.queue.units) unit × (permits unit wish ≡ true)
 Sure (Tells at wish rest end) s = HasCause s.kept end

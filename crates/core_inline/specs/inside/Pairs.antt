@@ -1,22 +1,19 @@
 -- A world of one rank and one server between two calls, and what a call leaves of it.
-use Rattle.std.specs.Prelude.{ℕ, ◌+◌, ◌*◌, ◌≡◌, ◌⊎◌, ◌<◌, ◌≤◌, Bool, true, false, ◌&&◌, slice_index_or, List, [], ◌∷◌, ◌++◌, find, length}
+use Rattle.std.specs.Prelude.{ℕ, ◌+◌, ◌*◌, ◌≡◌, ◌⊎◌, ◌<◌, ◌≤◌, Bool, true, false, ◌&&◌, slice_index_or, List, [], ◌∷◌, ◌++◌, length}
 use Rattle.std.specs.Prelude.{take, Option, None, Some, is_some}
-use Rattle.adlb_unit.specs.Ids.{same_unit}
 use Rattle.adlb_unit.specs.Limits.{stamp_limit}
 use Rattle.adlb_unit.specs.declared.names.Server.{Server}
-use Rattle.adlb_unit.specs.declared.names.UnitId.{UnitId}
 use Rattle.adlb_unit.specs.declared.notes.Trouble.{Trouble}
 use Rattle.adlb_unit.specs.declared.notes.Trouble.TheVariants.{TooLong}
-use Rattle.adlb_unit.specs.declared.notes.UnitNote.{UnitNote}
 use Rattle.bag_ledger.specs.declared.entries.Answer.{Answer}
 use Rattle.bag_ledger.specs.declared.entries.Answer.TheVariants as answers
 use Rattle.bag_ledger.specs.declared.entries.Call.{Call}
 use Rattle.bag_ledger.specs.declared.entries.Call.TheVariants as calls_to
 use Rattle.bag_ledger.specs.declared.entries.Said.{Said}
-use Rattle.rank_client.specs.declared.pendings.Pending.{Pending}
 use Rattle.rank_client.specs.declared.pendings.Pending.TheVariants as waits_for
-use Rattle.rank_client.specs.Calls.{end_told, granted, has_finished, is_fetched, is_open}
-use Rattle.rank_client.specs.Granted.{IsGrantedFirst}
+use Rattle.rank_client.specs.Answers.{IsAnswerTo}
+use Rattle.rank_client.specs.Calls.{is_open}
+use Rattle.rank_client.specs.Remembered.{Remembers}
 use Rattle.rank_client.specs.State.{ClientModel}
 use Rattle.server_core.specs.Left.{left_of}
 use Rattle.server_law.specs.State.{ServerModel}
@@ -26,7 +23,6 @@ use Rattle.core_run.specs.World.{World, client_of, pool_of, start}
 use Rattle.core_world.specs.Seen.{Seen}
 use Rattle.core_inline.specs.Inline.{IsTold, zeroth}
 use Rattle.core_inline.specs.Left.{IsLeft}
-use Rattle.core_inline.specs.inside.Answers.{IsAnswerTo}
 
 -- the only server
 abbrev pub first_server : Server
@@ -53,36 +49,12 @@ pub record IsLone (w : World) : Type 0 where
   pub events : List Event
   pub run : Runs (start w.config) events w
 
--- the note of this id
-abbrev pub note_with : UnitId → List UnitNote → Option UnitNote
-note_with id notes = find (λ n. same_unit n.id id) notes
-
--- each unit that was granted and not fetched is held
-abbrev pub AreHeld : List Said → List UnitNote → Type 0
-AreHeld said notes = (note : UnitNote) → granted note said → is_fetched note.id said ≡ false → note_with note.id notes ≡ Some note
-
--- the unit that is fetched by the pending call
-abbrev pub fetched_by : Pending → List UnitNote
-fetched_by (waits_for.Fetch request note) = note ∷ []
-fetched_by (waits_for.Common request note common own) = note ∷ []
-fetched_by pending = []
-
--- what a client knows of its transcript: whether Finish was called, the end that was told, the units that it holds, and whether a
--- batch is going on
-pub record Remembers (c : ClientModel) : Type 0 where
-  pub finishes : has_finished c.transcript ≡ c.finished
-  pub told : end_told c.transcript ≡ c.end
-  pub first : IsGrantedFirst c
-  pub held : AreHeld c.transcript (c.handles ++ fetched_by c.pending)
-  pub opened : is_some c.batch ≡ is_open c.transcript
-
 -- the rank runs, no call is pending, and nobody waits at the server; each call took a stamp of its own, and five events at most
 pub record IsIdle (c : ClientModel) (s : ServerModel) : Type 0 where
   pub idle : c.pending ≡ waits_for.Nothing
   pub going : c.finished ≡ false
   pub rank : Remembers c
   pub nobody : s.kept.parked.waiting ≡ []
-  pub counted : length c.transcript ≤ c.clock
   pub few : c.clock ≤ 5 * length c.transcript
   pub behind : s.clock ≤ 5 * length c.transcript
 

@@ -7,7 +7,7 @@ ghost use Rattle.adlb_unit.specs.declared.notes.Trouble.{Trouble};
 ghost use Rattle.rank_client.specs.Calls.{Repeats, TellsAgain, end_answer, end_of, end_told, end_trouble, fetches, grants, is_fetched, is_granted, plus, put_answer, put_trouble};
 
 use adlb_unit::{
-    BatchId, CommonRef, End, Handle, NoMemory, Payload, Rank, Server, Target, Trouble, Types,
+    BatchId, CommonRef, End, Handle, Info, NoMemory, Payload, Rank, Server, Target, Trouble, Types,
     UnitId, UnitNote, WorkType,
 };
 use bag_ledger::{Answer, Body, Call, Said};
@@ -481,6 +481,30 @@ impl Fake {
             }
         }
     }
+
+    // Counts no unit.
+    fn count(&mut self, kind: WorkType) -> Result<Info, Trouble>
+        ensures says { IfOk result (λ info. self.new.said.items ≡
+            self.old.said.items ++ record { call = Call.Count kind; answer = Answer.Info info } ∷ []) }
+        ensures kept { OnErr result (self.new.said.items ≡ self.old.said.items) }
+        ensures fine { OnOk result (self.new.trouble ≡ None) }
+        ensures failed { IfErr result (λ t. self.new.trouble ≡ Some t) }
+        ensures repeats { (t : Trouble) → self.old.trouble ≡ Some t → result ≡ Err t }
+        ensures going { self.new.going ≡ self.old.going }
+    {
+        if let Some(trouble) = self.trouble {
+            return Err(trouble);
+        }
+        let info = Info {
+            free: 0,
+            top: None,
+            at_top: 0,
+        };
+        match self.say(Call::Count { kind }, Answer::Info(info)) {
+            Ok(()) => Ok(info),
+            Err(trouble) => Err(trouble),
+        }
+    }
 }
 
 impl Adlb for Fake {
@@ -559,6 +583,12 @@ impl Adlb for Fake {
             Some(trouble) => Err(trouble),
             None => self.say(Call::EndBatch, Answer::Fine),
         }
+    }
+
+    fn num_units(&mut self, kind: WorkType) -> Result<Info, Trouble> {
+        let counted = self.count(kind);
+        self.shut();
+        counted
     }
 
     fn batch_open(&self) -> bool {

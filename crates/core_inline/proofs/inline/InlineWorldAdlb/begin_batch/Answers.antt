@@ -1,4 +1,4 @@
-use Rattle.core_inline.proofs.Batches.{batch_begun, not_open}
+use Rattle.rank_client.proofs.OpenBatches.{batch_begun, not_open}
 use Rattle.core_inline.proofs.inline.InlineWorldAdlb.begin_batch.Goals as goal
 
 pub invariant_of-self : goal.invariant_of-self

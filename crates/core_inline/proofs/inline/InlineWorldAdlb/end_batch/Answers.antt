@@ -1,5 +1,5 @@
 use Rattle.std.proofs.lemmas.Bool.{and_parts}
-use Rattle.core_inline.proofs.Batches.{batch_ended}
+use Rattle.rank_client.proofs.OpenBatches.{batch_ended}
 use Rattle.core_inline.proofs.inline.InlineWorldAdlb.end_batch.Goals as goal
 
 pub invariant_of-self : goal.invariant_of-self

@@ -1,5 +1,5 @@
 use Rattle.std.proofs.Common.{refl}
-use Rattle.core_inline.proofs.Batches.{batch_kept}
+use Rattle.rank_client.proofs.OpenBatches.{batch_kept}
 use Rattle.core_inline.proofs.inline.InlineWorldAdlb.get_reserved.Goals as goal
 
 pub invariant_of-self : goal.invariant_of-self

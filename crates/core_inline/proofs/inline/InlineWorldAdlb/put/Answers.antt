@@ -1,6 +1,6 @@
 use Rattle.std.proofs.Common.{refl, subst}
 use Rattle.adlb_unit.specs.Targets.{Aims}
-use Rattle.core_inline.proofs.Batches.{batch_kept}
+use Rattle.rank_client.proofs.OpenBatches.{batch_kept}
 use Rattle.core_inline.proofs.inline.InlineWorldAdlb.put.Goals as goal
 
 pub invariant_of-self : goal.invariant_of-self

@@ -2,7 +2,7 @@ use Rattle.std.proofs.Common.{◌≡◌, ◌+◌, None, List, sym, ap, ◌∙◌
 use Rattle.bag_ledger.specs.declared.entries.Said.{Said}
 use Rattle.rank_client.specs.Calls.{Began, has_finished}
 use Rattle.rank_client.proofs.Awaited.{none_left}
-use Rattle.core_inline.specs.inside.Answers.{CanCall}
+use Rattle.rank_client.specs.Answers.{CanCall}
 use Rattle.core_inline.specs.Inline.{Run}
 use Rattle.core_inline.specs.inside.Fields.{run_of}
 use Rattle.core_inline.specs.inside.Pairs.{rank_in}
@@ -18,7 +18,7 @@ exchange-requires c =
     sym (ap (λ (r : Run). r.transcript) c.self.view_is) ∙ take_all i.answered (rank_in i.world).transcript (c.self.invariant.all whole) in
     record {
       ready = c.self.invariant.ready whole running;
-      can = subst (λ (l : List Said). CanCall l c.args.call) all (c.requires.can (sym (ap (λ (r : Run). r.failed) c.self.view_is) ∙ whole));
+      can = subst (λ (l : List Said). CanCall 1 1 l c.args.call) all (c.requires.can (sym (ap (λ (r : Run). r.failed) c.self.view_is) ∙ whole));
       going = c.requires.going;
     }
 

@@ -5,7 +5,7 @@ use Rattle.rank_client.specs.Calls.{Began}
 use Rattle.core_inline.specs.Inline.{Run}
 use Rattle.core_inline.specs.inside.Fields.{run_of}
 use Rattle.core_inline.proofs.Kept.{failed_began, failed_inside, grown_began, left_inside}
-use Rattle.core_inline.proofs.Batches.{not_some}
+use Rattle.rank_client.proofs.OpenBatches.{not_some}
 use Rattle.core_inline.proofs.runs.InlineRun.finish.Goals as goal
 
 pub invariant_of-self-in-Ok : goal.invariant_of-self-in-Ok

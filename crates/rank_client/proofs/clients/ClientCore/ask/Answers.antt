@@ -16,13 +16,13 @@ invariant_of-self-2 c =
     let fresh : IsFresh (state_of c.self.inside) = subst IsFresh (sym c.self.view_is) c.requires.fresh in
     let there : c.args.to.0 < c.self.inside.config.servers = subst (λ (s : ClientModel). c.args.to.0 < s.config.servers) (sym c.self.view_is) c.requires.server in
     let room : HasRoom c.self.inside.config 0 1 c.args.room c.args.pending = subst (λ (s : ClientModel). HasRoom s.config 0 1 c.args.room c.args.pending) (sym c.self.view_is) c.requires.room in
-    let more = on_ok {P = vec_len c.reserve-else-is_err.new.self + 1 ≤ vec_capacity c.reserve-else-is_err.new.self} c.reserve-else-is_err.result (sym c.is_err-else-is_err.ensures.value ∙ c.if-is_err-2.false) c.reserve-else-is_err.ensures.ok in
-    let two = on_ok {P = vec_len c.reserve.new.self + 2 ≤ vec_capacity c.reserve.new.self} c.reserve.result (sym c.is_err.ensures.value ∙ c.if-is_err.false) c.reserve.ensures.ok in
+    let more = on_ok {P = vec_len c.reserve.new.self + 1 ≤ vec_capacity c.reserve.new.self} c.reserve.result (sym c.is_err.ensures.value ∙ c.if-is_err.false) c.reserve.ensures.ok in
     record {
-      sound = asked_sound (state_of c.self.inside) _ _ _ _ c.args.to.0 c.self.invariant.sound fresh there c.write.ensures.counted c.reserve-else-is_err.ensures.items c.reserve.ensures.items;
-      room = room_with c.self.inside.config (vec_len c.reserve-else-is_err.new.self) (vec_capacity c.reserve-else-is_err.new.self) c.args.room c.args.pending (omega (arith, more)) room;
+      sound = asked_sound (state_of c.self.inside) _ _ _ _ c.args.to.0 c.self.invariant.sound fresh there c.write.ensures.counted c.reserve.ensures.items c.in_ok-make_room.ensures.items;
+      room = room_with c.self.inside.config (vec_len c.reserve.new.self) (vec_capacity c.reserve.new.self) c.args.room c.args.pending (omega (arith, more)) room;
       finish = λ going. record {
-        said = omega (arith, two, awaited_few c.args.pending);
+        said = omega (arith, c.in_ok-make_room.ensures.places, awaited_few c.args.pending);
+        ids = omega (arith, c.in_ok-make_room.ensures.ids, awaited_few c.args.pending);
         letters = (c.self.invariant.finish going).letters;
         entry = (c.self.invariant.finish going).entry;
         unsent = (c.self.invariant.finish going).unsent;

@@ -25,7 +25,7 @@ invariant_of-self c = record {
   sound = fewer_notes (state_of c.self-2.inside) c.args.id _ c.self-2.invariant.sound c.drop_note.ensures.items;
   room = room_fewer c.self-2.inside.config (vec_len c.self-2.inside.handles) (vec_len c.drop_note.new.handles) (vec_capacity c.self-2.inside.handles) (vec_capacity c.drop_note.new.handles) c.self-2.inside.room c.self-2.inside.pending
       c.drop_note.ensures.fewer c.drop_note.ensures.room c.self-2.invariant.room;
-  finish = λ going. let could = c.self-2.invariant.finish going in record { said = could.said; letters = could.letters; entry = could.entry; unsent = could.unsent; unmade = could.unmade };
+  finish = λ going. let could = c.self-2.invariant.finish going in record { said = could.said; ids = could.ids; letters = could.letters; entry = could.entry; unsent = could.unsent; unmade = could.unmade };
 }
 
 pub returns-clause-ok : goal.returns-clause-ok

@@ -25,6 +25,7 @@ invariant_of-self c =
       room = (omega (arith, fits, room.0), room.1, omega (arith, ap common_length part, room.2), room.3);
       finish = λ going. let could = c.self.invariant.finish going in record {
         said = omega (arith, could.said, ap awaited pending);
+        ids = omega (arith, could.ids, ap awaited pending);
         letters = could.letters;
         entry = could.entry;
         unsent = could.unsent;

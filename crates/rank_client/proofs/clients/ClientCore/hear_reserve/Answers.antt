@@ -18,7 +18,8 @@ invariant_of-self-in-Grant c =
       sound = granted_sound (state_of c.self.inside) c.replace.new.dest _ _ c.in-Grant.note _ c.self.invariant.sound fresh there c.push_reserved.ensures.items c.push_reserved-in-Grant.ensures.items;
       room = subst (λ (p : Pending). HasRoom c.self.inside.config (vec_len c.push_reserved.new.self) (vec_capacity c.push_reserved.new.self) c.self.inside.room p) (sym c.replace.ensures.after) tt;
       finish = λ going. let could = c.self.invariant.finish going in record {
-        said = omega (arith, could.said, ap awaited pending, ap awaited c.replace.ensures.after, c.push_reserved-in-Grant.ensures.len, c.push_reserved-in-Grant.ensures.capacity);
+        said = omega (arith, could.said, ap awaited pending, ap awaited c.replace.ensures.after, c.push_reserved-in-Grant.ensures.places);
+        ids = omega (arith, could.ids, ap awaited pending, ap awaited c.replace.ensures.after, c.push_reserved-in-Grant.ensures.ids);
         letters = could.letters;
         entry = could.entry;
         unsent = could.unsent;
@@ -36,7 +37,8 @@ invariant_of-self c =
       sound = granted_sound (state_of c.self.inside) c.replace.new.dest _ _ c.in-Grant.note _ c.self.invariant.sound fresh there c.push_reserved.ensures.items c.push_reserved-in-Grant.ensures.items;
       room = subst (λ (p : Pending). HasRoom c.self.inside.config (vec_len c.push_reserved.new.self) (vec_capacity c.push_reserved.new.self) c.self.inside.room p) (sym c.replace.ensures.after) tt;
       finish = λ going. let could = c.self.invariant.finish going in record {
-        said = omega (arith, could.said, ap awaited pending, ap awaited c.replace.ensures.after, c.push_reserved-in-Grant.ensures.len, c.push_reserved-in-Grant.ensures.capacity);
+        said = omega (arith, could.said, ap awaited pending, ap awaited c.replace.ensures.after, c.push_reserved-in-Grant.ensures.places);
+        ids = omega (arith, could.ids, ap awaited pending, ap awaited c.replace.ensures.after, c.push_reserved-in-Grant.ensures.ids);
         letters = could.letters;
         entry = could.entry;
         unsent = could.unsent;

@@ -39,6 +39,7 @@ invariant_of-self c =
       room = (omega (arith, less, room.0), popped.0, room.2, room.3, room.4);
       finish = λ going. let could = c.self.invariant.finish going in record {
         said = omega (arith, could.said, ap awaited pending);
+        ids = omega (arith, could.ids, ap awaited pending);
         letters = could.letters;
         entry = could.entry;
         unsent = could.unsent;

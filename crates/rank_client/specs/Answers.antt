@@ -1,5 +1,5 @@
 -- Which answers a call can have.
-use Rattle.std.specs.Prelude.{◌≡◌, ◌≤◌, Bool, true, false, List, length, Option, None, Some, Result, Ok, Err}
+use Rattle.std.specs.Prelude.{ℕ, ◌≡◌, ◌≤◌, Bool, true, false, List, length, Option, None, Some, Result, Ok, Err}
 use Rattle.adlb_unit.specs.Limits.{body_limit}
 use Rattle.adlb_unit.specs.Targets.{Aims}
 use Rattle.adlb_unit.specs.declared.notes.Trouble.{Trouble}
@@ -21,7 +21,7 @@ abbrev pub troubled : Result Answer Trouble → Option Trouble
 troubled (Ok answer) = None
 troubled (Err trouble) = Some trouble
 
--- what a put and the beginning of a batch can be answered, what a reserve, what a fetch, and what the end of a batch and Finish
+-- what a put and the beginning of a batch can be answered, what a reserve, what a fetch, what the end of a batch and Finish, and what a count
 abbrev pub answers_put : Answer → Bool
 answers_put answers.Fine = true
 answers_put answers.Rejected = true
@@ -41,12 +41,17 @@ abbrev pub answers_done : Answer → Bool
 answers_done answers.Fine = true
 answers_done _ = false
 
+abbrev pub answers_count : Answer → Bool
+answers_count (answers.Info info) = true
+answers_count _ = false
+
 abbrev pub answers_call : Call → Answer → Bool
 answers_call (calls_to.Put kind prio target answer body) = answers_put
 answers_call (calls_to.Reserve types) = answers_reserve
 answers_call (calls_to.Fetch id) = answers_fetch
 answers_call (calls_to.BeginBatch common) = answers_put
 answers_call calls_to.EndBatch = answers_done
+answers_call (calls_to.Count kind) = answers_count
 answers_call calls_to.Finish = answers_done
 answers_call _ = λ a. false
 
@@ -57,17 +62,19 @@ heeds_end (calls_to.Reserve types) = true
 heeds_end (calls_to.BeginBatch common) = true
 heeds_end _ = false
 
--- the rank can make the call: a put with a body of at most 2^20 bytes for a rank of the run, a reserve, a fetch of a unit that was
--- granted and not fetched; the end of the batch that is going on; or, while none is, the beginning of one with a common part of at
--- most 2^20 bytes, or Finish
-abbrev pub CanCall : List Said → Call → Type 0
-CanCall said (calls_to.Put kind prio target answer body) = (length body ≤ body_limit) × Aims target 1
-CanCall said (calls_to.Reserve types) = Unit {0}
-CanCall said (calls_to.Fetch id) = (note : UnitNote) × granted note said × (note.id ≡ id) × (is_fetched id said ≡ false)
-CanCall said (calls_to.BeginBatch common) = (length common ≤ body_limit) × (is_open said ≡ false)
-CanCall said calls_to.EndBatch = is_open said ≡ true
-CanCall said calls_to.Finish = is_open said ≡ false
-CanCall said _ = ⊥
+-- The rank can make the call, in a run of so many ranks and servers: a put with a body of at most 2^20 bytes for a rank of the run; a
+-- reserve, where there is one server; a fetch of a unit that was granted and not fetched; the end of the batch that is going on; a count; or,
+-- while none is, the beginning of one with a common part of at most 2^20 bytes, or Finish.
+abbrev pub CanCall : ℕ → ℕ → List Said → Call → Type 0
+CanCall ranks servers said (calls_to.Put kind prio target answer body) = (length body ≤ body_limit) × Aims target ranks
+CanCall ranks servers said (calls_to.Reserve types) = servers ≡ 1
+CanCall ranks servers said (calls_to.Fetch id) =
+    (note : UnitNote) × granted note said × (note.id ≡ id) × (is_fetched id said ≡ false)
+CanCall ranks servers said (calls_to.BeginBatch common) = (length common ≤ body_limit) × (is_open said ≡ false)
+CanCall ranks servers said calls_to.EndBatch = is_open said ≡ true
+CanCall ranks servers said (calls_to.Count kind) = Unit {0}
+CanCall ranks servers said calls_to.Finish = is_open said ≡ false
+CanCall ranks servers said _ = ⊥
 
 -- what is known of an answer: a unit is granted that was not granted and not fetched before, and as many bytes come as the note says
 abbrev pub IsAnswer : List Said → Call → Answer → Type 0

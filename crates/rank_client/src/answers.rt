@@ -1,15 +1,15 @@
-//! The answers of a rank's calls, as each call tells them.
+//! The answers of a rank's calls, as each call of a link tells them.
 
 ghost use Rattle.std.specs.Prelude.{◌≡◌, None, Some, Err, IfOk, IfErr, true};
-ghost use Rattle.core_inline.specs.inside.Answers.{answered, answers_done, answers_fetch, answers_put, answers_reserve, troubled};
-ghost use Rattle.rank_client.specs.Calls.{done_answer, done_trouble, end_answer, end_trouble, fetch_answer, fetch_trouble, put_answer, put_trouble};
+ghost use Rattle.rank_client.specs.Answers.{answered, answers_count, answers_done, answers_fetch, answers_put, answers_reserve, troubled};
+ghost use Rattle.rank_client.specs.Calls.{count_answer, count_trouble, done_answer, done_trouble, end_answer, end_trouble, fetch_answer, fetch_trouble, put_answer, put_trouble};
 
-use adlb_unit::{End, Handle, Trouble};
+use crate::faults::{EndFault, PutFault};
+use adlb_unit::{End, Handle, Info, Trouble};
 use bag_ledger::{Answer, Body};
-use rank_client::{EndFault, PutFault};
 
-// What a put tells, or the beginning of a batch.
-pub(crate) fn put_result(answer: Result<Answer, Trouble>) -> Result<(), PutFault>
+/// What a put tells, or the beginning of a batch, if it had this answer, or failed with this trouble.
+pub fn put_result(answer: Result<Answer, Trouble>) -> Result<(), PutFault>
     requires { IfOk answer (λ a. answers_put a ≡ true) }
     ensures answer { put_answer result ≡ answered answer }
     ensures trouble { put_trouble result ≡ troubled answer }
@@ -25,8 +25,8 @@ pub(crate) fn put_result(answer: Result<Answer, Trouble>) -> Result<(), PutFault
     }
 }
 
-// What a reserve tells.
-pub(crate) fn reserve_result(answer: Result<Answer, Trouble>) -> Result<Handle, EndFault>
+/// What a reserve tells, if it had this answer, or failed with this trouble.
+pub fn reserve_result(answer: Result<Answer, Trouble>) -> Result<Handle, EndFault>
     requires { IfOk answer (λ a. answers_reserve a ≡ true) }
     ensures answer { end_answer result ≡ answered answer }
     ensures trouble { end_trouble result ≡ troubled answer }
@@ -41,8 +41,8 @@ pub(crate) fn reserve_result(answer: Result<Answer, Trouble>) -> Result<Handle, 
     }
 }
 
-// What a fetch tells. A refusal hands the handle back.
-pub(crate) fn fetch_result(
+/// What a fetch tells, if it had this answer, or failed with this trouble, which hands the handle back.
+pub fn fetch_result(
     handle: Handle,
     answer: Result<Answer, Trouble>,
 ) -> Result<Body, (Handle, Trouble)>
@@ -61,8 +61,8 @@ pub(crate) fn fetch_result(
     }
 }
 
-// What the end of a batch tells.
-pub(crate) fn done_result(answer: Result<Answer, Trouble>) -> Result<(), Trouble>
+/// What the end of a batch tells, if it had this answer, or failed with this trouble.
+pub fn done_result(answer: Result<Answer, Trouble>) -> Result<(), Trouble>
     requires { IfOk answer (λ a. answers_done a ≡ true) }
     ensures answer { done_answer result ≡ answered answer }
     ensures trouble { done_trouble result ≡ troubled answer }
@@ -71,5 +71,18 @@ pub(crate) fn done_result(answer: Result<Answer, Trouble>) -> Result<(), Trouble
         Ok(Answer::Fine) => Ok(()),
         Ok(_) => unreachable!(),
         Err(trouble) => Err(trouble),
+    }
+}
+
+/// What a count tells, if it had this answer, or failed with this trouble.
+pub fn count_result(answer: Result<Answer, Trouble>) -> Result<Info, Trouble>
+    requires { IfOk answer (λ a. answers_count a ≡ true) }
+    ensures answer { count_answer result ≡ answered answer }
+    ensures trouble { count_trouble result ≡ troubled answer }
+{
+    match answer {
+        Ok(Answer::Info(info)) => Ok(info),
+        Ok(_) => unreachable!(),
+        Err(met) => Err(met),
     }
 }

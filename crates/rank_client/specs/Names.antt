@@ -1,0 +1,22 @@
+-- The ids that stand beside a transcript.
+use Rattle.std.specs.Prelude.{◌≡◌, ◌-◌, ℕ, Bool, ◌&&◌, ◌||◌, nat_eq}
+use Rattle.std.specs.Vec.{vec_len, vec_capacity}
+use Rattle.std.specs.HashSet.{HashSet, contains, spare}
+use Rattle.adlb_unit.specs.declared.names.UnitId.{UnitId}
+use Rattle.rank_client.specs.declared.said.Transcript.TheInside.{Inside}
+use Rattle.rank_client.specs.Calls.{is_fetched, is_granted}
+use Rattle.rank_client.specs.Transcript.{TranscriptModel}
+
+-- the set has this id
+abbrev pub same_key : ℕ × ℕ → ℕ × ℕ → Bool
+same_key a b = nat_eq a.0 b.0 && nat_eq a.1 b.1
+
+abbrev pub has_id : {S : Type 0} → HashSet (ℕ × ℕ) S → UnitId → Bool
+has_id ids id = contains same_key ids (id.rank.0, id.number)
+
+abbrev pub transcript_of : Inside → TranscriptModel
+transcript_of i = record { items = i.said.items; places = vec_capacity i.said - vec_len i.said; ids = spare i.ids }
+
+-- the ids are those of the units that were granted or fetched
+abbrev pub AreNamed : Inside → Type 0
+AreNamed i = (id : UnitId) → has_id i.ids id ≡ (is_granted id i.said.items || is_fetched id i.said.items)
