@@ -1,0 +1,5 @@
+mod Called
+mod Exchanges
+mod FewEntries
+mod Scripts
+mod Steps
