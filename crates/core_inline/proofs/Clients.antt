@@ -18,7 +18,7 @@ use Rattle.rank_client.specs.declared.pendings.Pending.TheVariants as waits_for
 use Rattle.rank_client.specs.Answers.{CanCall, IsAnswerTo}
 use Rattle.rank_client.specs.Calls.{has_finished, is_finish}
 use Rattle.rank_client.specs.Remembered.{Remembers, pending_call}
-use Rattle.rank_client.specs.Rules.{ClientResponse, answer_call, own_came, part_refused, refused}
+use Rattle.rank_client.specs.Rules.{ClientResponse, answer_call, looked, own_came, part_refused, refused}
 use Rattle.rank_client.specs.Says.{Tells}
 use Rattle.rank_client.specs.State.{ClientModel}
 use Rattle.rank_client.specs.Step.{Made, begin, call_stamp, hear, letter_stamp, made, ticked}
@@ -125,7 +125,7 @@ module _ (c : ClientModel) (one_server : c.config.servers ≡ 1) where
   abbrev Passes : ClientResponse → Type 0
   Passes z = (made z).answer ≡ None → is_common (made z).state.pending ≡ true
 
-  -- there is no server but the one that refused
+  -- there is no server but the one that refused or looked
   tried_all : (tried : ℕ) → nat_lt (tried + 1) c.config.servers ≡ false
   tried_all tried =
       rw one_server (false_from_ne_true (nat_lt (tried + 1) 1) (λ more. absurd (omega (arith, ltb-true (tried + 1) 1 more))))
@@ -146,6 +146,12 @@ module _ (c : ClientModel) (one_server : c.config.servers ≡ 1) where
   passes (waits_for.Reserve request types) from (tells.Grant to note) z is = subst Passes (if_is _ _ z is) (λ none. absurd (cc))
   passes (waits_for.Reserve request types) from (tells.Ended to end) z is = subst Passes (if_is _ _ z is) (λ none. absurd (cc))
   passes (waits_for.Reserve request types) from _ z is = absurd (cc)
+  passes (waits_for.Try request types tried) from (tells.Grant to note) z is = subst Passes (if_is _ _ z is) (λ none. absurd (cc))
+  passes (waits_for.Try request types tried) from (tells.Nothing to) z is =
+      subst Passes (if_is _ _ z is)
+      (subst (λ (more : Bool). Passes (looked c request types tried more)) (sym (tried_all tried)) (λ none. absurd (cc)))
+  passes (waits_for.Try request types tried) from (tells.Ended to end) z is = subst Passes (if_is _ _ z is) (λ none. absurd (cc))
+  passes (waits_for.Try request types tried) from _ z is = absurd (cc)
   passes (waits_for.Fetch request note) from (tells.Bytes to body) z is =
       subst Passes (if_is _ _ z is) (own_passes request note body note.common)
   passes (waits_for.Fetch request note) from _ z is = absurd (cc)

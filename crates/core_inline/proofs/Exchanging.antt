@@ -77,6 +77,7 @@ pending_other : (p : Pending) (call : Call) → pending_call p ≡ Some call →
 pending_other waits_for.Nothing call is = absurd (cc)
 pending_other (waits_for.Put unit first tried) call is = ap is_finish (sym (some_is is))
 pending_other (waits_for.Reserve request types) call is = ap is_finish (sym (some_is is))
+pending_other (waits_for.Try request types tried) call is = ap is_finish (sym (some_is is))
 pending_other (waits_for.Fetch request note) call is = ap is_finish (sym (some_is is))
 pending_other (waits_for.Common request note common own) call is = ap is_finish (sym (some_is is))
 pending_other (waits_for.Keep request common first tried) call is = ap is_finish (sym (some_is is))

@@ -7,8 +7,7 @@ use Rattle.bag_ledger.specs.declared.entries.Answer.{Answer}
 use Rattle.bag_ledger.specs.declared.entries.Answer.TheVariants as answers
 use Rattle.bag_ledger.specs.declared.entries.Call.{Call}
 use Rattle.bag_ledger.specs.declared.entries.Said.{Said}
-use Rattle.rank_client.specs.Calls.{end_answer, fetches, granted, has_finished, is_fetched, is_finish, plus}
-use Rattle.rank_client.specs.declared.faults.EndFault.{EndFault}
+use Rattle.rank_client.specs.Calls.{fetches, granted, has_finished, is_fetched, is_finish, plus}
 use Rattle.rank_client.proofs.Transcripts.{fetched_more, finished_more, granted_last}
 
 -- a call other than Finish
@@ -30,13 +29,14 @@ last_unfetched said now call note is before other =
     ap (is_fetched note.id) is ∙ fetched_more note.id said (record { call = call; answer = answers.Granted note })
     ∙ or_from (is_fetched note.id said) (fetches note.id call) before other
 
-pub granted_result : (said now : List Said) (call : Call) (r : Result UnitNote EndFault) → now ≡ plus said call (end_answer r)
-    → IfOk r (λ note. granted note now)
-granted_result said now call (Ok note) is = last_granted said now call note is
-granted_result said now call (Err fault) is = tt
+-- of a reserve or a try, whose answer is this function of its result
+module _ {E : Type 0} (answer : Result UnitNote E → Option Answer) (ok : (note : UnitNote) → answer (Ok note) ≡ Some (answers.Granted note))
+    (said now : List Said) (call : Call) where
+  pub granted_result : (r : Result UnitNote E) → now ≡ plus said call (answer r) → IfOk r (λ note. granted note now)
+  granted_result (Ok note) is = last_granted said now call note (is ∙ ap (plus said call) (ok note))
+  granted_result (Err fault) is = tt
 
-pub unfetched_result : (said now : List Said) (call : Call) (r : Result UnitNote EndFault) → now ≡ plus said call (end_answer r)
-    → ((id : UnitId) → fetches id call ≡ false) → IfOk r (λ note. is_fetched note.id said ≡ false)
-    → IfOk r (λ note. is_fetched note.id now ≡ false)
-unfetched_result said now call (Ok note) is other before = last_unfetched said now call note is before (other note.id)
-unfetched_result said now call (Err fault) is other before = tt
+  pub unfetched_result : (r : Result UnitNote E) → now ≡ plus said call (answer r) → ((id : UnitId) → fetches id call ≡ false)
+      → IfOk r (λ note. is_fetched note.id said ≡ false) → IfOk r (λ note. is_fetched note.id now ≡ false)
+  unfetched_result (Ok note) is other before = last_unfetched said now call note (is ∙ ap (plus said call) (ok note)) before (other note.id)
+  unfetched_result (Err fault) is other before = tt

@@ -82,6 +82,15 @@ beyond c (waits_for.Reserve request types) (Some (tells.Ended to end)) call is =
     record { more = _ ∷ []; begun = _; says = refl; open_call = (refl, refl); of_it = inr is }
 beyond c (waits_for.Reserve request types) (Some _) call is =
     record { more = []; begun = None; says = sym (append-nil c.transcript); open_call = refl; of_it = inl refl }
+beyond c (waits_for.Try request types tried) None call is = still c (waits_for.Try request types tried) None call refl is
+beyond c (waits_for.Try request types tried) (Some (tells.Nothing to)) call is =
+    still c (waits_for.Try request types tried) (Some (tells.Nothing to)) call refl is
+beyond c (waits_for.Try request types tried) (Some (tells.Grant to note)) call is =
+    record { more = _ ∷ []; begun = _; says = refl; open_call = (refl, refl); of_it = inr is }
+beyond c (waits_for.Try request types tried) (Some (tells.Ended to end)) call is =
+    record { more = _ ∷ []; begun = _; says = refl; open_call = (refl, refl); of_it = inr is }
+beyond c (waits_for.Try request types tried) (Some _) call is =
+    record { more = []; begun = None; says = sym (append-nil c.transcript); open_call = refl; of_it = inl refl }
 beyond c (waits_for.Fetch request note) None call is = still c (waits_for.Fetch request note) None call refl is
 beyond c (waits_for.Fetch request note) (Some m) call is = own_came note.common refl m
   where

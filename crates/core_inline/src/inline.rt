@@ -11,7 +11,8 @@ use crate::runs::InlineRun;
 use adlb_unit::{Handle, Info, NoMemory, Payload, Rank, Target, Trouble, Types, WorkType};
 use bag_ledger::{Body, Call, Ledger, Said};
 use rank_client::{
-    Adlb, EndFault, PutFault, count_result, done_result, fetch_result, put_result, reserve_result,
+    Adlb, EndFault, PutFault, TryFault, count_result, done_result, fetch_result, put_result,
+    reserve_result, try_result,
 };
 use server_core::LeftUnit;
 use std::alloc::Global;
@@ -119,6 +120,14 @@ impl Adlb for InlineWorld {
     fn reserve(&mut self, types: &Types) -> Result<Handle, EndFault> {
         reserve_result(
             self.run.call(Call::Reserve {
+                types: types.twin(),
+            }),
+        )
+    }
+
+    fn ireserve(&mut self, types: &Types) -> Result<Handle, TryFault> {
+        try_result(
+            self.run.call(Call::Try {
                 types: types.twin(),
             }),
         )

@@ -6,7 +6,7 @@ ghost use Rattle.rank_client.specs.Calls.{granted, has_finished, is_fetched};
 use crate::inline::InlineWorld;
 use adlb_unit::{Handle, Info, Payload, Rank, Server, Target, Trouble, Types, UnitId, WorkType};
 use bag_ledger::{Body, Entry};
-use rank_client::{Adlb, EndFault, PutFault};
+use rank_client::{Adlb, EndFault, PutFault, TryFault};
 use server_core::LeftUnit;
 use std::alloc::Global;
 use std::process::Abort;
@@ -29,6 +29,12 @@ enum Act {
     Leave,
     // A reserve is told that all work is used up.
     Exhausted,
+    // A try finds no unit now.
+    TryInVain,
+    // A try is granted a unit, which is left.
+    TryAndLeave,
+    // A try is told that all work is used up.
+    TryOver,
     // A count of this type tells so many units, this highest priority, and so many that have it.
     Count(u32, u64, Option<i32>, u64),
     // A batch with the common part `xy` begins.
@@ -64,6 +70,29 @@ fn reserve(world: &mut InlineWorld) -> Result<Handle, EndFault>
     ensures once { IfOk result (λ note. is_fetched note.id world.new.run.transcript ≡ false) }
 {
     world.reserve(&Types::any())
+}
+
+fn attempt(world: &mut InlineWorld) -> Result<Handle, TryFault>
+    requires { has_finished world.old.run.transcript ≡ false }
+    ensures running { has_finished world.new.run.transcript ≡ false }
+    ensures granted { IfOk result (λ note. granted note world.new.run.transcript) }
+    ensures once { IfOk result (λ note. is_fetched note.id world.new.run.transcript ≡ false) }
+{
+    world.ireserve(&Types::any())
+}
+
+// A try is answered by this fault.
+fn refused(rt: &impl Abort, world: &mut InlineWorld, expected: TryFault)
+    requires { has_finished world.old.run.transcript ≡ false }
+    ensures { has_finished world.new.run.transcript ≡ false }
+{
+    match attempt(world) {
+        Ok(handle) => {
+            world.leave(handle);
+            panic!(rt; "a unit is left");
+        }
+        Err(fault) => assert_eq!(rt; fault, expected),
+    }
 }
 
 fn count(world: &mut InlineWorld, kind: u32) -> Result<Info, Trouble>
@@ -157,6 +186,12 @@ fn play_one(rt: &impl Abort, alloc: Global, world: &mut InlineWorld, act: Act) -
             }
             Err(fault) => assert_eq!(rt; fault, EndFault::Exhausted),
         },
+        Act::TryInVain => refused(rt, world, TryFault::NoCurrentWork),
+        Act::TryAndLeave => {
+            let handle = attempt(world)?;
+            world.leave(handle);
+        }
+        Act::TryOver => refused(rt, world, TryFault::Exhausted),
         Act::Count(kind, free, top, at_top) => {
             let info = count(world, kind)?;
             assert_eq!(rt; info, Info { free, top, at_top });
@@ -208,7 +243,7 @@ fn check(
 }
 
 // An entry as it is shown: of what is put its type, its length and its first byte, of a common part these two, and of a
-// reserve no types.
+// reserve and a try no types.
 fn line(alloc: Global, entry: &Entry) -> Result<String, Fail> {
     Ok(match entry {
         Entry::Putting {
@@ -235,6 +270,7 @@ fn line(alloc: Global, entry: &Entry) -> Result<String, Fail> {
             )?
         }
         Entry::Asked { rank, call, .. } => format!(in alloc; "Asked {} {call}", rank.0)?,
+        Entry::Tried { rank, call, .. } => format!(in alloc; "Tried {} {call}", rank.0)?,
         _ => format!(in alloc; "{entry:?}")?,
     })
 }
@@ -370,6 +406,47 @@ fn free_units_of_a_type_are_counted_by_their_priority(rt: HostRuntime) -> Result
     ];
     let left = [unit(0, Some(Rank(0)))];
     check(&rt, rt.alloc(), 64, &acts, 12, &ledger, &left)
+}
+
+#[test]
+fn a_try_where_nothing_is_looks_once(rt: HostRuntime) -> Result<(), Fail> {
+    let ledger = [
+        "Tried 0 0",
+        "Looked { server: Server(0), rank: Rank(0), call: 0 }",
+        "NoCurrent { rank: Rank(0), call: 0 }",
+        "Finished { rank: Rank(0), call: 1 }",
+    ];
+    check(&rt, rt.alloc(), 64, &[Act::TryInVain], 2, &ledger, &[])
+}
+
+#[test]
+fn a_try_is_granted_what_is_free(rt: HostRuntime) -> Result<(), Fail> {
+    let acts = [
+        Act::Put(1, b'a', 1),
+        Act::TryAndLeave,
+        // The unit is pinned.
+        Act::TryInVain,
+        // Trying does not use up the work, and reserving does.
+        Act::Exhausted,
+        Act::TryOver,
+    ];
+    let ledger = [
+        "Putting 0 0: type 1, 1 bytes, Some(97)",
+        "Accepted { server: Server(0), id: UnitId { rank: Rank(0), number: 0 } }",
+        "Tried 0 1",
+        "Granted { server: Server(0), rank: Rank(0), call: 1, id: UnitId { rank: Rank(0), number: 0 } }",
+        "Tried 0 2",
+        "Looked { server: Server(0), rank: Rank(0), call: 2 }",
+        "NoCurrent { rank: Rank(0), call: 2 }",
+        "Asked 0 3",
+        "Exhausted",
+        "Over { rank: Rank(0), call: 3, end: Exhausted }",
+        "Tried 0 4",
+        "Over { rank: Rank(0), call: 4, end: Exhausted }",
+        "Finished { rank: Rank(0), call: 5 }",
+    ];
+    let left = [unit(0, Some(Rank(0)))];
+    check(&rt, rt.alloc(), 64, &acts, 6, &ledger, &left)
 }
 
 #[test]

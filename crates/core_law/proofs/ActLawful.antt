@@ -11,7 +11,7 @@ use Rattle.bag_ledger.specs.Runs.{IsRun}
 use Rattle.bag_ledger.proofs.Legal.{run_joined}
 use Rattle.bag_law.proofs.Sound.{run_is_sound}
 use Rattle.rank_client.specs.Agreement.{holds}
-use Rattle.server_law.specs.Acts.{Accepts, Act, Closes, Counts, Ends_keep, Ends_put, Ends_reserve, Fetches, Fetches_part, Finds, Gives, Grants, Keeps, Notes_finish, Parks, Refuses, Refuses_part, Shuts, Tells, entries}
+use Rattle.server_law.specs.Acts.{Accepts, Act, Closes, Counts, Ends_keep, Ends_put, Ends_reserve, Ends_try, Fetches, Fetches_part, Finds, Gives, Grants, Grants_try, Keeps, Looks, Notes_finish, Parks, Refuses, Refuses_part, Shuts, Tells, entries}
 use Rattle.server_law.specs.Agreement.{ServerAgrees}
 use Rattle.server_law.specs.Carried.{Served, done}
 use Rattle.server_law.specs.Legal.{Needs}
@@ -28,7 +28,7 @@ use Rattle.core_law.proofs.Actors.{every_pool}
 use Rattle.core_law.proofs.ActSeats.{about, finish_stays, other_stays, parks_stays}
 use Rattle.core_law.proofs.Bags.{not_kept, of_act, run_facts, run_servers}
 use Rattle.core_law.proofs.Coming.{still_same}
-use Rattle.core_law.proofs.Deciding.{IsDone, Succeeds, accepts_succeeds, ends_put_succeeds, ends_reserve_succeeds, fetches_succeeds, gives_succeeds, grants_succeeds, refuses_succeeds, tells_succeeds, closes_succeeds, counts_succeeds, ends_keep_succeeds, fetches_part_succeeds, keeps_succeeds, refuses_part_succeeds}
+use Rattle.core_law.proofs.Deciding.{IsDone, Succeeds, accepts_succeeds, ends_put_succeeds, ends_reserve_succeeds, fetches_succeeds, gives_succeeds, grants_succeeds, refuses_succeeds, tells_succeeds, closes_succeeds, counts_succeeds, ends_keep_succeeds, ends_try_succeeds, fetches_part_succeeds, grants_try_succeeds, keeps_succeeds, looks_succeeds, refuses_part_succeeds}
 use Rattle.core_law.proofs.Events.{event_keeps}
 use Rattle.core_law.proofs.Resting.{bag_is_settled}
 use Rattle.core_law.proofs.Seats.{IsMade}
@@ -60,6 +60,9 @@ module _ (w : World) (k : Server) (b : Bag) (well : IsWell w) (l : IsLawful w b)
   succeeds (Grants wish unit) is = grants_succeeds w k b well l is.here wish unit is
   succeeds (Ends_reserve wish end) is = ends_reserve_succeeds w k b well l is.here wish end is
   succeeds (Parks wish) is = unchanged (Parks wish) refl tt (λ r coming told m seat. parks_stays w k wish b r coming m seat)
+  succeeds (Grants_try wish unit) is = grants_try_succeeds w k b well l is.here wish unit is
+  succeeds (Ends_try wish end) is = ends_try_succeeds w k b well l is.here wish end is
+  succeeds (Looks wish) is = looks_succeeds w k b well l is.here wish is
   succeeds (Fetches rank request id unit) is = fetches_succeeds w k b well l is.here rank request id unit is
   succeeds (Counts rank request kind) is = counts_succeeds w k b well l is.here rank request kind is
   succeeds (Notes_finish rank) is = unchanged (Notes_finish rank) refl tt (λ r coming told m seat. finish_stays w k rank b r coming m seat)

@@ -18,7 +18,7 @@ use Rattle.adlb_unit.specs.declared.names.BatchId.{BatchId}
 use Rattle.bag_ledger.specs.declared.entries.Entry.TheVariants as enters
 use Rattle.batch_store.specs.Store.{closed, fetched, is_due}
 use Rattle.batch_store.specs.declared.parts.Part.{Part}
-use Rattle.server_law.specs.Acts.{Act, Accepts, Around, Closes, Counts, Ends_keep, Ends_put, Ends_reserve, Fetches, Fetches_part, Finds, Gives, Grants, Heard, Keeps, Notes_finish, Parks, Refuses, Refuses_part, ServerSaying, Shuts, Tells, comes, entries, frees, of_rank, says, takes}
+use Rattle.server_law.specs.Acts.{Act, Accepts, Around, Closes, Counts, Ends_keep, Ends_put, Ends_reserve, Ends_try, Fetches, Fetches_part, Finds, Gives, Grants, Grants_try, Heard, Keeps, Looks, Notes_finish, Parks, Refuses, Refuses_part, ServerSaying, Shuts, Tells, comes, entries, frees, of_rank, says, takes}
 use Rattle.core_run.specs.World.{World, client_of, pool_of}
 use Rattle.core_law.specs.Acting.{AreFront, IsAct, acted}
 use Rattle.core_law.specs.Lawful.{Each, IsAsked, IsFact, IsOfCall, IsSeat, IsWaiting, OfCall}
@@ -36,6 +36,9 @@ about (Ends_put unit end) = Some unit.id.rank
 about (Grants wish unit) = Some wish.rank
 about (Ends_reserve wish end) = Some wish.rank
 about (Parks wish) = Some wish.rank
+about (Grants_try wish unit) = Some wish.rank
+about (Ends_try wish end) = Some wish.rank
+about (Looks wish) = Some wish.rank
 about (Fetches rank request id unit) = Some rank
 about (Counts rank request kind) = Some rank
 about (Notes_finish rank) = Some rank
@@ -137,6 +140,7 @@ pub reserve_asked : (c : ClientModel) (p : Pending) (k : Server) (wish : Wish) â
 reserve_asked c waits_for.Nothing k wish is = absurd is
 reserve_asked c (waits_for.Put unit first tried) k wish is = absurd (cc is.0)
 reserve_asked c (waits_for.Reserve request types) k wish is = let e = is.0 in (cc, is.1)
+reserve_asked c (waits_for.Try request types tried) k wish is = absurd (cc is.0)
 reserve_asked c (waits_for.Fetch request note) k wish is = absurd (cc is.0)
 reserve_asked c (waits_for.Common request note common own) k wish is = absurd (cc is.0)
 reserve_asked c (waits_for.Keep request common first tried) k wish is = absurd (cc is.0)

@@ -20,7 +20,7 @@ use Rattle.rank_client.specs.declared.pendings.Pending.{Pending}
 use Rattle.rank_client.specs.declared.pendings.Pending.TheVariants as waits_for
 use Rattle.rank_client.specs.Agreement.{said}
 use Rattle.rank_client.specs.Expected.{IsAwaited}
-use Rattle.rank_client.specs.Rules.{asked, is_idle}
+use Rattle.rank_client.specs.Rules.{asked, is_idle, looks_at}
 use Rattle.rank_client.specs.State.{ClientModel}
 use Rattle.server_law.specs.State.{Waiting, Wish, idle}
 use Rattle.server_law.specs.Acts.{Act, Around, Heard, comes, entries, goes, of_rank, says, takes, to_rank}
@@ -99,6 +99,7 @@ put_asked : (c : ClientModel) (p : Pending) (k : Server) (unit : Work) → IsAsk
 put_asked c waits_for.Nothing k unit is = absurd is
 put_asked c (waits_for.Put other first tried) k unit is = let e = is.0 in (first, tried, cc, is.1)
 put_asked c (waits_for.Reserve request types) k unit is = absurd (cc is.0)
+put_asked c (waits_for.Try request types tried) k unit is = absurd (cc is.0)
 put_asked c (waits_for.Fetch request note) k unit is = absurd (cc is.0)
 put_asked c (waits_for.Common request note common own) k unit is = absurd (cc is.0)
 put_asked c (waits_for.Keep request common first tried) k unit is = absurd (cc is.0)
@@ -110,6 +111,7 @@ fetch_asked : (c : ClientModel) (p : Pending) (k : Server) (request : ℕ) (id :
 fetch_asked c waits_for.Nothing k request id is = absurd is
 fetch_asked c (waits_for.Put unit first tried) k request id is = absurd (cc is.0)
 fetch_asked c (waits_for.Reserve to types) k request id is = absurd (cc is.0)
+fetch_asked c (waits_for.Try to types tried) k request id is = absurd (cc is.0)
 fetch_asked c (waits_for.Common to note common own) k request id is = absurd (cc is.0)
 fetch_asked c (waits_for.Keep to common first tried) k request id is = absurd (cc is.0)
 fetch_asked c (waits_for.Count to kind) k request id is = absurd (cc is.0)
@@ -122,6 +124,7 @@ common_asked : (c : ClientModel) (p : Pending) (k : Server) (request : ℕ) (bat
 common_asked c waits_for.Nothing k request batch is = absurd is
 common_asked c (waits_for.Put unit first tried) k request batch is = absurd (cc is.0)
 common_asked c (waits_for.Reserve to types) k request batch is = absurd (cc is.0)
+common_asked c (waits_for.Try to types tried) k request batch is = absurd (cc is.0)
 common_asked c (waits_for.Fetch to note) k request batch is = absurd (cc is.0)
 common_asked c (waits_for.Common to note common own) k request batch is = let e = is.0 in (note, common, own, cc, cc, is.1)
 common_asked c (waits_for.Keep to common first tried) k request batch is = absurd (cc is.0)
@@ -133,6 +136,7 @@ keep_asked : (c : ClientModel) (p : Pending) (k : Server) (request : ℕ) (commo
 keep_asked c waits_for.Nothing k request common is = absurd is
 keep_asked c (waits_for.Put unit first tried) k request common is = absurd (cc is.0)
 keep_asked c (waits_for.Reserve to types) k request common is = absurd (cc is.0)
+keep_asked c (waits_for.Try to types tried) k request common is = absurd (cc is.0)
 keep_asked c (waits_for.Fetch to note) k request common is = absurd (cc is.0)
 keep_asked c (waits_for.Common to note part own) k request common is = absurd (cc is.0)
 keep_asked c (waits_for.Keep to other first tried) k request common is = let e = is.0 in (first, tried, cc, is.1)
@@ -145,6 +149,7 @@ close_asked : (c : ClientModel) (p : Pending) (k : Server) (request : ℕ) (batc
 close_asked c waits_for.Nothing k request batch accepted is = absurd is
 close_asked c (waits_for.Put unit first tried) k request batch accepted is = absurd (cc is.0)
 close_asked c (waits_for.Reserve to types) k request batch accepted is = absurd (cc is.0)
+close_asked c (waits_for.Try to types tried) k request batch accepted is = absurd (cc is.0)
 close_asked c (waits_for.Fetch to note) k request batch accepted is = absurd (cc is.0)
 close_asked c (waits_for.Common to note part own) k request batch accepted is = absurd (cc is.0)
 close_asked c (waits_for.Keep to other first tried) k request batch accepted is = absurd (cc is.0)
@@ -156,11 +161,24 @@ count_asked : (c : ClientModel) (p : Pending) (k : Server) (request : ℕ) (kind
 count_asked c waits_for.Nothing k request kind is = absurd is
 count_asked c (waits_for.Put unit first tried) k request kind is = absurd (cc is.0)
 count_asked c (waits_for.Reserve to types) k request kind is = absurd (cc is.0)
+count_asked c (waits_for.Try to types tried) k request kind is = absurd (cc is.0)
 count_asked c (waits_for.Fetch to note) k request kind is = absurd (cc is.0)
 count_asked c (waits_for.Common to note part own) k request kind is = absurd (cc is.0)
 count_asked c (waits_for.Keep to other first tried) k request kind is = absurd (cc is.0)
 count_asked c (waits_for.Close to batch) k request kind is = absurd (cc is.0)
 count_asked c (waits_for.Count to other) k request kind is = let e = is.0 in (cc, is.1)
+
+try_asked : (c : ClientModel) (p : Pending) (k : Server) (wish : Wish) → IsAsked c p k (tells.Try wish.request wish.types)
+    → (tried : ℕ) × (p ≡ waits_for.Try wish.request wish.types tried) × (k ≡ looks_at c tried)
+try_asked c waits_for.Nothing k wish is = absurd is
+try_asked c (waits_for.Put unit first tried) k wish is = absurd (cc is.0)
+try_asked c (waits_for.Reserve to types) k wish is = absurd (cc is.0)
+try_asked c (waits_for.Try to types tried) k wish is = let e = is.0 in (tried, cc, is.1)
+try_asked c (waits_for.Fetch to note) k wish is = absurd (cc is.0)
+try_asked c (waits_for.Common to note part own) k wish is = absurd (cc is.0)
+try_asked c (waits_for.Keep to other first tried) k wish is = absurd (cc is.0)
+try_asked c (waits_for.Close to batch) k wish is = absurd (cc is.0)
+try_asked c (waits_for.Count to kind) k wish is = absurd (cc is.0)
 
 -- a put that was asked for last at this server
 pub record IsPutHere (w : World) (k : Server) (b : Bag) (unit : Work) : Type 0 where
@@ -187,6 +205,19 @@ reserve_here w k a b wish l is takes_it =
     let its = asked_call w k a b wish.rank (tells.Reserve wish.request wish.types) l is takes_it refl in
     let of = reserve_asked (client_of w wish.rank) (client_of w wish.rank).pending k wish its.2 in
     record { calling = record { within = its.0; call = of.0; busy = refl; seat = its.1 }; here = of.1 }
+
+-- a try for which this server was asked last
+pub record IsTryHere (w : World) (k : Server) (b : Bag) (wish : Wish) : Type 0 where
+  pub tried : ℕ
+  pub calling : IsCalling w b wish.rank (waits_for.Try wish.request wish.types tried)
+  pub here : k ≡ looks_at (client_of w wish.rank) tried
+
+pub try_here : (w : World) (k : Server) (a : Act) (b : Bag) (wish : Wish) → IsLawful w b → IsAct w k a
+    → takes a ≡ of_rank wish.rank (tells.Try wish.request wish.types) ∷ [] → IsTryHere w k b wish
+try_here w k a b wish l is takes_it =
+    let its = asked_call w k a b wish.rank (tells.Try wish.request wish.types) l is takes_it refl in
+    let of = try_asked (client_of w wish.rank) (client_of w wish.rank).pending k wish its.2 in
+    record { tried = of.0; calling = record { within = its.0; call = of.1; busy = refl; seat = its.1 }; here = of.2 }
 
 -- a fetch from this server
 pub record IsFetchHere (w : World) (k : Server) (b : Bag) (rank : Rank) (request : ℕ) (id : UnitId) : Type 0 where

@@ -16,7 +16,7 @@ use Rattle.bag_law.specs.Sound.{IsSoundBag}
 use Rattle.adlb_unit.specs.declared.names.BatchId.{BatchId}
 use Rattle.batch_store.specs.Store.{closed, fetched, is_due}
 use Rattle.batch_store.specs.declared.parts.Part.{Part}
-use Rattle.server_law.specs.Acts.{Act, Accepts, Closes, Fetches, Fetches_part, Finds, Gives, Grants, Keeps, Notes_finish, Parks, Shuts, entries, frees}
+use Rattle.server_law.specs.Acts.{Act, Accepts, Closes, Fetches, Fetches_part, Finds, Gives, Grants, Grants_try, Keeps, Notes_finish, Parks, Shuts, entries, frees}
 use Rattle.server_law.specs.Agreement.{ServerAgrees}
 use Rattle.server_law.specs.Legal.{ServersStay, keeper}
 use Rattle.server_law.specs.State.{ServerModel}
@@ -30,6 +30,7 @@ abbrev pub is_of_act : Entry → Bool
 is_of_act (enters.Refused server id used) = true
 is_of_act (enters.Accepted server id) = true
 is_of_act (enters.Granted server rank call id) = true
+is_of_act (enters.Looked server rank call) = true
 is_of_act (enters.Fetched server rank id) = true
 is_of_act (enters.Kept server batch) = true
 is_of_act (enters.Closed server batch) = true
@@ -70,6 +71,7 @@ pub not_kept : (a : Act) (s : ServerModel) (other : Server) → Sure a s → s.m
     → Each (λ e. keeper e ≢ Some other) (entries a s)
 not_kept (Accepts unit) s other sure within differs = ((λ is. differs (some_is is)), tt)
 not_kept (Grants wish unit) s other sure within differs = ((λ is. differs (some_is is)), tt)
+not_kept (Grants_try wish unit) s other sure within differs = ((λ is. differs (some_is is)), tt)
 not_kept (Fetches rank request id unit) s other sure within differs = ((λ is. differs (some_is is)), tt)
 not_kept (Gives at wish rest unit) s other sure within differs = ((λ is. differs (some_is is)), tt)
 not_kept Finds s other sure within differs =
@@ -100,6 +102,7 @@ facts_after b n (enters.Accepted server id) notes is step facts =
 facts_after b n (enters.Granted server rank call id) notes is step facts =
     let pinned = Pinned server rank in
     facts_same (moved id pinned b) n notes (ap (λ (x : Bag). x.units) step.2) (facts_moved b id pinned notes facts)
+facts_after b n (enters.Looked server rank call) notes is step facts = facts_same b n notes (ap (λ (x : Bag). x.units) step.2) facts
 facts_after b n (enters.Fetched server rank id) notes is step facts =
     facts_same (moved id Spent b) n notes (ap (λ (x : Bag). x.units) step.2) (facts_moved b id Spent notes facts)
 facts_after b n (enters.Kept server batch) notes is step facts =

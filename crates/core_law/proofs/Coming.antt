@@ -8,6 +8,8 @@ use Rattle.std.proofs.lemmas.List.Elements.{All-cons, All-head, All-push, All-sa
 use Rattle.std.proofs.lemmas.List.{get_or_append_left, length-append}
 use Rattle.std.proofs.lemmas.List.FromFn.{map-range_with_len_more}
 use Rattle.adlb_unit.specs.Ids.{same_batch, same_unit}
+use Rattle.adlb_unit.specs.Targets.{home}
+use Rattle.adlb_unit.specs.declared.configs.Config.{Config}
 use Rattle.adlb_unit.specs.declared.names.CommonRef.{CommonRef}
 use Rattle.bag_ledger.specs.declared.states.Part.{Part}
 use Rattle.bag_law.proofs.Plain.{shared_parts}
@@ -43,8 +45,8 @@ use Rattle.bag_ledger.proofs.Tests.{some_is}
 use Rattle.bag_ledger.proofs.Turns.{changed_here}
 use Rattle.rank_client.specs.declared.pendings.Pending.{Pending}
 use Rattle.rank_client.specs.declared.pendings.Pending.TheVariants as waits_for
-use Rattle.rank_client.specs.Agreement.{ClientAgrees, IsCaused, IsHeld, holds, in_call, note_coming, putting as rank_putting, ring_from, running, said, HasAccepted, IsOwedIn, accepted_by}
-use Rattle.rank_client.specs.Rules.{asked, call_of}
+use Rattle.rank_client.specs.Agreement.{ClientAgrees, IsCaused, IsHeld, holds, in_call, note_coming, putting as rank_putting, ring_from, running, said, trying as rank_trying, HasAccepted, IsOwedIn, accepted_by}
+use Rattle.rank_client.specs.Rules.{asked, call_of, looks_at}
 use Rattle.rank_client.specs.State.{ClientModel}
 use Rattle.adlb_unit.specs.Ring.{behind}
 use Rattle.core_law.specs.Own.{IsCall}
@@ -181,6 +183,11 @@ pub reserve_ended : (c : ClientModel) (request : ℕ) (types : Option (List Work
 reserve_ended c request types to end =
     record { call = calls_to.Reserve types; calls = refl; rank = refl; end_is = refl; notes = refl; said = refl; owed = λ x. tt; batch = refl; accepted = refl }
 
+pub try_ended : (c : ClientModel) (request : ℕ) (types : Option (List WorkType)) (tried to : ℕ) (end : End)
+    → IsEnded c (waits_for.Try request types tried) to end
+try_ended c request types tried to end =
+    record { call = calls_to.Try types; calls = refl; rank = refl; end_is = refl; notes = refl; said = refl; owed = λ x. tt; batch = refl; accepted = refl }
+
 pub keep_ended : (c : ClientModel) (request : ℕ) (common : List ℕ) (first : Server) (tried to : ℕ) (end : End)
     → IsEnded c (waits_for.Keep request common first tried) to end
 keep_ended c request common first tried to end =
@@ -188,14 +195,13 @@ keep_ended c request common first tried to end =
 
 -- The unit is refused.
 
-declined_next : (c : ClientModel) (unit : Unit) (first : Server) (tried : ℕ) (me : Server) → me ≡ asked c first tried
-    → declined_by me (rank_putting c unit first tried) ≡ rank_putting c unit first (tried + 1)
-declined_next c unit first tried me is =
-    let more : ring_from c.config first (tried + 1) ≡ ring_from c.config first tried ++ behind c.config first tried ∷ [] =
-    map-range_with_len_more (behind c.config first) 0 tried tried (omega arith) in
-    let list : ring_from c.config first tried ++ me ∷ [] ≡ ring_from c.config first (tried + 1) =
-    ap (λ s. ring_from c.config first tried ++ s ∷ []) is ∙ sym more in
-    ap (λ declined. record (running c) { status = does.Putting unit; declined = declined }) list
+-- one more server was asked in ring order
+pub ring_next : (config : Config) (first : Server) (tried : ℕ) (me : Server) → me ≡ behind config first tried
+    → ring_from config first tried ++ me ∷ [] ≡ ring_from config first (tried + 1)
+ring_next config first tried me is =
+    let more : ring_from config first (tried + 1) ≡ ring_from config first tried ++ behind config first tried ∷ [] =
+    map-range_with_len_more (behind config first) 0 tried tried (omega arith) in
+    ap (λ s. ring_from config first tried ++ s ∷ []) is ∙ sym more
 
 pub refused_comes : (c : ClientModel) (unit : Unit) (first : Server) (tried : ℕ) (me : Server) (b next : Bag) (used : ℕ)
     → Waits c (waits_for.Put unit first tried) b → me ≡ asked c first tried → IsRun b (enters.Refused me unit.id used ∷ []) next
@@ -207,8 +213,8 @@ refused_comes c unit first tried me b next used w is run =
     let now : next ≡ with_rank c.me (declined_by me) b = s.1 ∙ ap (λ r. with_rank r (declined_by me) b) who in
     let none : says b e ≡ None = refl in
     rw now (record {
-      rank =
-          rank_changed b c.me (declined_by me) (rank_putting c unit first tried) w.rank ∙ ap Some (declined_next c unit first tried me is);
+      rank = rank_changed b c.me (declined_by me) (rank_putting c unit first tried) w.rank
+          ∙ ap (λ l. Some (record (running c) { status = does.Putting unit; declined = l })) (ring_next c.config first tried me is);
       servers = w.servers;
       caused = w.caused;
       held = w.held;
@@ -320,37 +326,106 @@ still_moved b id place here still = record {
       (λ (u : Lodged). same_unit u.unit.id id) b.units (λ u. here) still.lodged;
 }
 
-pub granted_comes : (c : ClientModel) (request : ℕ) (types : Option (List WorkType)) (me : Server) (work : Unit) (u : Lodged) (b next : Bag)
-    → Waits c (waits_for.Reserve request types) b → unit_of b work.id ≡ Some u → u.unit ≡ work → u.place ≡ Free me
+-- a call that a grant may answer
+pub record IsGranted (c : ClientModel) (p : Pending) (request : ℕ) (note : UnitNote) : Type 0 where
+  pub call : Call
+  pub calls : runs.call_of (in_call c p None).status ≡ Some call
+  pub rank : ended (in_call c p None) ≡ in_call c p (Some (tells.Grant request note))
+  pub end_is : (in_call c p (Some (tells.Grant request note))).end ≡ (in_call c p None).end
+  pub none : note_coming p None ≡ []
+  pub notes : note_coming p (Some (tells.Grant request note)) ≡ note ∷ []
+  pub said : said c p (Some (tells.Grant request note)) ≡ c.transcript ++ record { call = call; answer = answers.Granted note } ∷ []
+  pub owed : (x : Bag) → IsOwedIn x p (Some (tells.Grant request note))
+  pub batch : (in_call c p (Some (tells.Grant request note))).batch ≡ (in_call c p None).batch
+  pub accepted : accepted_by c p (Some (tells.Grant request note)) ≡ accepted_by c p None
+
+pub reserve_granted : (c : ClientModel) (request : ℕ) (types : Option (List WorkType)) (to : ℕ) (note : UnitNote)
+    → IsGranted c (waits_for.Reserve request types) to note
+reserve_granted c request types to note = record {
+  call = calls_to.Reserve types;
+  calls = refl;
+  rank = refl;
+  end_is = refl;
+  none = refl;
+  notes = refl;
+  said = refl;
+  owed = λ x. tt;
+  batch = refl;
+  accepted = refl;
+}
+
+pub try_granted : (c : ClientModel) (request : ℕ) (types : Option (List WorkType)) (tried to : ℕ) (note : UnitNote)
+    → IsGranted c (waits_for.Try request types tried) to note
+try_granted c request types tried to note = record {
+  call = calls_to.Try types;
+  calls = refl;
+  rank = refl;
+  end_is = refl;
+  none = refl;
+  notes = refl;
+  said = refl;
+  owed = λ x. tt;
+  batch = refl;
+  accepted = refl;
+}
+
+pub granted_comes : (c : ClientModel) (p : Pending) (request : ℕ) (me : Server) (work : Unit) (u : Lodged) (b next : Bag)
+    → IsGranted c p request (note_of me work) → Waits c p b → unit_of b work.id ≡ Some u → u.unit ≡ work → u.place ≡ Free me
     → IsRun b (enters.Granted me c.me request work.id ∷ []) next
-    → Comes c (waits_for.Reserve request types) (tells.Grant request (note_of me work)) b next (enters.Granted me c.me request work.id ∷ [])
-granted_comes c request types me work u b next w there same free run =
+    → Comes c p (tells.Grant request (note_of me work)) b next (enters.Granted me c.me request work.id ∷ [])
+granted_comes c p request me work u b next g w there same free run =
     let id : UnitId = work.id in
     let e = enters.Granted me c.me request id in
     let s = single b next e run in
     let moved_bag : Bag = moved id (Pinned me c.me) b in
     let d : Bag = with_rank c.me ended moved_bag in
     let note : UnitNote = note_of me work in
-    let said_so : Said = record { call = calls_to.Reserve types; answer = answers.Granted note } in
-    let told : says b e ≡ Some (c.me, said_so) = rw (there, same, w.rank) refl in
+    let said_so : Said = record { call = g.call; answer = answers.Granted note } in
+    let told : says b e ≡ Some (c.me, said_so) = rw (there, same, w.rank, g.calls) refl in
     let handles : All (IsHeld b c.me) c.handles =
-    All-same (IsHeld b c.me) c.handles (c.handles ++ []) (sym (append-nil c.handles)) w.held in
+    All-same (IsHeld b c.me) c.handles (c.handles ++ []) (sym (append-nil c.handles))
+    (subst (λ (l : List UnitNote). All (IsHeld b c.me) (c.handles ++ l)) g.none w.held) in
+    let facts : All (IsFact b) (c.handles ++ []) = subst (λ (l : List UnitNote). All (IsFact b) (c.handles ++ l)) g.none w.facts in
     let left : All (IsHeld d c.me) c.handles =
     All-weaker (IsHeld b c.me) (IsHeld d c.me) (λ n h. held_through b id me (Pinned me c.me) c.me u n there free h) c.handles handles in
     let here : IsHeld d c.me note = (record u { place = Pinned me c.me }, (moved_here b id (Pinned me c.me) u there, refl)) in
     rw s.1 (record {
-      rank = rank_changed moved_bag c.me ended (in_call c (waits_for.Reserve request types) None) w.rank;
+      rank = rank_changed moved_bag c.me ended (in_call c p None) w.rank ∙ ap Some g.rank;
+      servers = w.servers;
+      caused = rw g.end_is w.caused;
+      held = rw g.notes (All-push (IsHeld d c.me) c.handles note left here);
+      said = g.said ∙ ap (λ l. c.transcript ++ l) (sym (one_call b e c.me said_so told));
+      owed = g.owed d;
+      accepted = rw (g.batch, g.accepted) (accepted_same b d (in_call c p None).batch (accepted_by c p None) refl w.accepted);
+      facts = rw g.notes
+          (granted_facts c.handles note d
+          (facts_same moved_bag d (c.handles ++ []) refl (facts_moved b id (Pinned me c.me) (c.handles ++ []) facts))
+          (record u { place = Pinned me c.me }, moved_here b id (Pinned me c.me) u there, ap (note_of me) (sym same)));
+      still = still_same moved_bag d refl refl (still_moved b id (Pinned me c.me) refl w.still);
+    })
+
+-- A server has looked in vain.
+
+pub looked_comes : (c : ClientModel) (request : ℕ) (types : Option (List WorkType)) (tried : ℕ) (me : Server) (b next : Bag)
+    → Waits c (waits_for.Try request types tried) b → me ≡ looks_at c tried → IsRun b (enters.Looked me c.me request ∷ []) next
+    → Comes c (waits_for.Try request types tried) (tells.Nothing request) b next (enters.Looked me c.me request ∷ [])
+looked_comes c request types tried me b next w is run =
+    let e = enters.Looked me c.me request in
+    let s = single b next e run in
+    let d : Bag = with_rank c.me (declined_by me) b in
+    let none : says b e ≡ None = refl in
+    rw s.1 (record {
+      rank = rank_changed b c.me (declined_by me) (rank_trying c request types tried) w.rank
+          ∙ ap (λ l. Some (record (running c) { status = does.Trying request types; declined = l }))
+          (ring_next c.config (home c.config c.me) tried me is);
       servers = w.servers;
       caused = w.caused;
-      held = All-push (IsHeld d c.me) c.handles note left here;
-      said = ap (λ l. c.transcript ++ l) (sym (one_call b e c.me said_so told));
+      held = w.held;
+      said = sym (append-nil c.transcript) ∙ ap (λ l. c.transcript ++ l) (sym (no_call b e c.me none));
       owed = tt;
       accepted = accepted_same b d c.batch c.accepted refl w.accepted;
-      facts =
-          granted_facts c.handles note d
-          (facts_same moved_bag d (c.handles ++ []) refl (facts_moved b id (Pinned me c.me) (c.handles ++ []) w.facts))
-          (record u { place = Pinned me c.me }, moved_here b id (Pinned me c.me) u there, ap (note_of me) (sym same));
-      still = still_same moved_bag d refl refl (still_moved b id (Pinned me c.me) refl w.still);
+      facts = facts_same b d (c.handles ++ []) refl w.facts;
+      still = still_same b d refl refl w.still;
     })
 
 -- A unit is fetched.

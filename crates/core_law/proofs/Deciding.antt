@@ -33,10 +33,11 @@ use Rattle.rank_client.specs.declared.pendings.Pending.TheVariants as waits_for
 use Rattle.rank_client.specs.Agreement.{HasAccepted as HasAcceptedOf, in_call}
 use Rattle.rank_client.specs.Expected.{IsAtServer, IsAwaited, IsNewNote}
 use Rattle.server_law.specs.State.{ServerModel, Wish}
-use Rattle.server_law.specs.Acts.{Act, Accepts, Around, Closes, Counts, Ends_keep, Ends_put, Ends_reserve, Fetches, Fetches_part, Gives, Grants, Keeps, Refuses, Refuses_part, Tells, batch_of, entries, frees, unit_of as unit_named}
+use Rattle.server_law.specs.Acts.{Act, Accepts, Around, Closes, Counts, Ends_keep, Ends_put, Ends_reserve, Ends_try, Fetches, Fetches_part, Gives, Grants, Grants_try, Keeps, Looks, Refuses, Refuses_part, Tells, batch_of, entries, frees, unit_of as unit_named}
 use Rattle.server_law.specs.Agreement.{ServerAgrees}
-use Rattle.server_law.specs.Finding.{unit_with}
-use Rattle.server_law.specs.Legal.{AsksFor, Begins, HasAccepted, Needs, Offers}
+use Rattle.server_law.specs.Finding.{best_for, unit_with}
+use Rattle.server_law.specs.Legal.{AsksFor, Begins, HasAccepted, Needs, Offers, TriesFor}
+use Rattle.server_law.specs.Sure.{IsFound}
 use Rattle.server_law.proofs.Elsewhere.{begun_is_new, put_shares_open}
 use Rattle.server_law.proofs.PartEntries.{lodged_part}
 use Rattle.batch_store.specs.Store.{closed, fetched}
@@ -55,8 +56,8 @@ use Rattle.core_law.specs.Lawful.{IsLawful, IsSeat}
 use Rattle.core_law.specs.Seats.{IsStill}
 use Rattle.core_law.specs.Well.{IsWell}
 use Rattle.core_law.proofs.ActSeats.{about}
-use Rattle.core_law.proofs.Answering.{IsCalling, IsPutHere, IsReserveHere, Replies, fetch_here, idle_here, one_self, put_here, reply_passes, reserve_here, waits_so, IsKeepHere, close_here, common_here, count_here, keep_here}
-use Rattle.core_law.proofs.Coming.{Comes, IsEnded, Waits, accepted_comes, counted_comes, fetched_comes, granted_comes, over_comes, put_ended, refused_comes, reserve_ended, fetched_shares, keep_ended}
+use Rattle.core_law.proofs.Answering.{IsCalling, IsPutHere, IsReserveHere, IsTryHere, Replies, fetch_here, idle_here, one_self, put_here, reply_passes, reserve_here, try_here, waits_so, IsKeepHere, close_here, common_here, count_here, keep_here}
+use Rattle.core_law.proofs.Coming.{Comes, IsEnded, IsGranted, Waits, accepted_comes, counted_comes, fetched_comes, granted_comes, looked_comes, over_comes, put_ended, refused_comes, reserve_ended, reserve_granted, try_ended, try_granted, fetched_shares, keep_ended}
 use Rattle.core_law.proofs.PartComing.{closed_comes, common_comes, kept_comes, part_refused_comes, with_frees}
 use Rattle.core_law.proofs.Gone.{is_taken, taken_gone}
 use Rattle.core_law.proofs.Ring.{not_tried}
@@ -202,6 +203,16 @@ module _ (w : World) (k : Server) (b : Bag) (well : IsWell w) (l : IsLawful w b)
       ends_wish (Tells at wish rest end) wish end h refl refl
       (record { said = refl; one_goes = let e = one_self wish.rank in omega arith; nobody = refl }) (asks_now wish h)
 
+  pub tries_now : (wish : Wish) → IsTryHere w k b wish → TriesFor b wish
+  tries_now wish h = (_, rank_is wish.rank (waits_for.Try wish.request wish.types h.tried) h.calling, refl)
+
+  pub ends_try_succeeds : (wish : Wish) (end : End) → IsAct w k (Ends_try wish end) → Succeeds w k (Ends_try wish end) b
+  ends_try_succeeds wish end is =
+      let h = try_here w k (Ends_try wish end) b wish l is refl in
+      ends (Ends_try wish end) wish.rank (waits_for.Try wish.request wish.types h.tried) wish.request end refl refl h.calling
+      (try_ended (client_of w wish.rank) wish.request wish.types h.tried wish.request end)
+      (record { said = refl; one_goes = let e = one_self wish.rank in omega arith; nobody = refl }) (refl, h.here) (tries_now wish h)
+
   -- Grants.
 
   -- the part that a unit shares is at a server of the run
@@ -243,30 +254,57 @@ module _ (w : World) (k : Server) (b : Bag) (well : IsWell w) (l : IsLawful w b)
         common = common_at c unit.common (waits_so w b rank p well l is).servers (shares_at unit u.0 u.1 u.2);
       }
 
-  grants : (a : Act) (wish : Wish) (unit : Work) → about a ≡ Some wish.rank
-      → entries a (pool_of w k) ≡ enters.Granted (pool_of w k).me wish.rank wish.request unit.id ∷ [] → IsReserveHere w k b wish
-      → IsFreeAt b (pool_of w k).me unit → Replies w k a wish.rank (tells.Grant wish.request (note_of (pool_of w k).me unit))
-      → Needs a b (pool_of w k).me → Succeeds w k a b
-  grants a wish unit tells_of_it entered h u r needs =
+  -- the note of the unit, and the letter that grants it
+  abbrev note_here : Work → UnitNote
+  note_here unit = note_of (pool_of w k).me unit
+
+  abbrev grant : Wish → Work → Message
+  grant wish unit = tells.Grant wish.request (note_here unit)
+
+  -- a free unit is granted in a call that awaits it from here
+  grants : (a : Act) (wish : Wish) (unit : Work) (p : Pending) → about a ≡ Some wish.rank
+      → entries a (pool_of w k) ≡ enters.Granted (pool_of w k).me wish.rank wish.request unit.id ∷ [] → IsCalling w b wish.rank p
+      → IsGranted (client_of w wish.rank) p wish.request (note_here unit)
+      → (IsNewNote (client_of w wish.rank) (note_here unit) → IsAwaited (client_of w wish.rank) p k (grant wish unit))
+      → IsFreeAt b (pool_of w k).me unit → Replies w k a wish.rank (grant wish unit) → Needs a b (pool_of w k).me → Succeeds w k a b
+  grants a wish unit p tells_of_it entered calling granted awaited u r needs =
       let me = (pool_of w k).me in
       let c = client_of w wish.rank in
-      let p = waits_for.Reserve wish.request wish.types in
-      let now = tells.Grant wish.request (note_of me unit) in
-      let waits = waits_so w b wish.rank p well l h.calling in
-      decides a wish.rank p now tells_of_it h.calling r ((refl, h.here), note_is_new wish.rank p unit h.calling u) needs (λ n.
+      let now = grant wish unit in
+      let waits = waits_so w b wish.rank p well l calling in
+      decides a wish.rank p now tells_of_it calling r (awaited (note_is_new wish.rank p unit calling u)) needs (λ n.
       subst (λ (es : List Entry). IsRun b es n → Comes c p now b n es) (sym entered)
-      (renamed wish.rank p now n (λ x. enters.Granted me x wish.request unit.id ∷ []) h.calling
-      (granted_comes c wish.request wish.types me unit u.0 b n waits u.1 u.2 u.3)))
+      (renamed wish.rank p now n (λ x. enters.Granted me x wish.request unit.id ∷ []) calling
+      (granted_comes c p wish.request me unit u.0 b n granted waits u.1 u.2 u.3)))
+
+  -- in a reserve
+  grants_wish : (a : Act) (wish : Wish) (unit : Work) → about a ≡ Some wish.rank
+      → entries a (pool_of w k) ≡ enters.Granted (pool_of w k).me wish.rank wish.request unit.id ∷ [] → IsReserveHere w k b wish
+      → IsFreeAt b (pool_of w k).me unit → Replies w k a wish.rank (grant wish unit) → Needs a b (pool_of w k).me → Succeeds w k a b
+  grants_wish a wish unit tells_of_it entered h u r needs =
+      grants a wish unit (waits_for.Reserve wish.request wish.types) tells_of_it entered h.calling
+      (reserve_granted (client_of w wish.rank) wish.request wish.types wish.request (note_here unit)) (λ new. ((refl, h.here), new)) u r needs
+
+  -- the best unit is free in the bag
+  best_at : (wish : Wish) (unit : Work) → IsFound (best_for (pool_of w k).kept wish) unit → IsFreeAt b (pool_of w k).me unit
+  best_at wish unit found =
+      let agrees = l.pools k here in
+      let fit = best_is_fit (pool_of w k).kept wish found.0 agrees.units.distinct found.1 in
+      free_at b (pool_of w k) found.0 unit agrees found.2 fit.found fit.free
 
   pub grants_succeeds : (wish : Wish) (unit : Work) → IsAct w k (Grants wish unit) → Succeeds w k (Grants wish unit) b
   grants_succeeds wish unit is =
       let h = reserve_here w k (Grants wish unit) b wish l is refl in
-      let agrees = l.pools k here in
-      let found = is.sure.1 in
-      let fit = best_is_fit (pool_of w k).kept wish found.0 agrees.units.distinct found.1 in
-      let u = free_at b (pool_of w k) found.0 unit agrees found.2 fit.found fit.free in
-      grants (Grants wish unit) wish unit refl refl h u
+      grants_wish (Grants wish unit) wish unit refl refl h (best_at wish unit is.sure.1)
       (record { said = refl; one_goes = let e = one_self wish.rank in omega arith; nobody = refl }) (asks_now wish h)
+
+  pub grants_try_succeeds : (wish : Wish) (unit : Work) → IsAct w k (Grants_try wish unit) → Succeeds w k (Grants_try wish unit) b
+  grants_try_succeeds wish unit is =
+      let h = try_here w k (Grants_try wish unit) b wish l is refl in
+      grants (Grants_try wish unit) wish unit (waits_for.Try wish.request wish.types h.tried) refl refl h.calling
+      (try_granted (client_of w wish.rank) wish.request wish.types h.tried wish.request (note_here unit)) (λ new. ((refl, h.here), new))
+      (best_at wish unit is.sure) (record { said = refl; one_goes = let e = one_self wish.rank in omega arith; nobody = refl })
+      (tries_now wish h)
 
   pub gives_succeeds : (at : Around) (wish : Wish) (rest : List Server) (unit : Work) → IsAct w k (Gives at wish rest unit)
       → Succeeds w k (Gives at wish rest unit) b
@@ -278,8 +316,23 @@ module _ (w : World) (k : Server) (b : Bag) (well : IsWell w) (l : IsLawful w b)
       let free = free_is_found units unit.id found.0 agrees.units.distinct found.1 in
       let there = ap (λ (v : Work). unit_with v.id units) found.2 ∙ free.0 in
       let u = free_at b (pool_of w k) found.0 unit agrees found.2 there free.1 in
-      grants (Gives at wish rest unit) wish unit refl refl h u
+      grants_wish (Gives at wish rest unit) wish unit refl refl h u
       (record { said = refl; one_goes = let e = one_self wish.rank in omega arith; nobody = refl }) (asks_now wish h)
+
+  -- Looks.
+
+  pub looks_succeeds : (wish : Wish) → IsAct w k (Looks wish) → Succeeds w k (Looks wish) b
+  looks_succeeds wish is =
+      let h = try_here w k (Looks wish) b wish l is refl in
+      let p = waits_for.Try wish.request wish.types h.tried in
+      let c = client_of w wish.rank in
+      let me = (pool_of w k).me in
+      let now = tells.Nothing wish.request in
+      let waits = waits_so w b wish.rank p well l h.calling in
+      decides (Looks wish) wish.rank p now refl h.calling
+      (record { said = refl; one_goes = let e = one_self wish.rank in omega arith; nobody = refl }) (refl, h.here) (tries_now wish h) (λ n.
+      renamed wish.rank p now n (λ x. enters.Looked me x wish.request ∷ []) h.calling
+      (looked_comes c wish.request wish.types h.tried me b n waits (me_is ∙ h.here)))
 
   -- Fetches.
 

@@ -41,6 +41,9 @@ one_server = sized 1 1 (omega arith, omega arith) (omega arith, omega arith)
 abbrev two_servers : Config
 two_servers = sized 1 2 (omega arith, omega arith) (omega arith, omega arith)
 
+abbrev three_servers : Config
+three_servers = sized 1 3 (omega arith, omega arith) (omega arith, omega arith)
+
 abbrev two_ranks : Config
 two_ranks = sized 2 1 (omega arith, omega arith) (omega arith, omega arith)
 
@@ -57,7 +60,7 @@ server number = server_named number
 abbrev unit : ℕ → ℕ → UnitId
 unit number call = record { rank = rank_named number; number = call }
 
--- the rank begins to put forty bytes of type 2, to reserve any type, to fetch the unit, to count type 2, to finish
+-- the rank begins to put forty bytes of type 2, to reserve any type, to fetch the unit, to count type 2, to try for any type, to finish
 abbrev puts : ℕ → Event
 puts number = occurs.Call (rank number) (calls_to.Put (record { 0 = 2 }) (pos 0) Any None (replicate 40 7))
 
@@ -69,6 +72,9 @@ fetches number id = occurs.Call (rank number) (calls_to.Fetch id)
 
 abbrev counts : ℕ → Event
 counts number = occurs.Call (rank number) (calls_to.Count (record { 0 = 2 }))
+
+abbrev tries : ℕ → Event
+tries number = occurs.Call (rank number) (calls_to.Try None)
 
 abbrev finishes : ℕ → Event
 finishes number = occurs.Call (rank number) calls_to.Finish
@@ -106,6 +112,26 @@ home_alone_is_counted : ledger_after two_servers
     ∷ enters.Counted (server 0) (rank 0) 2 (record { free = 1; top = Some (pos 0); at_top = 1 }) ∷ [])
 unfolding post
 home_alone_is_counted = refl
+
+-- a try goes round the ring from the home on, and after each server has looked there is no unit now
+each_server_looks : ledger_after three_servers (tries 0 ∷ asks 0 0 ∷ hears 0 0 ∷ asks 0 1 ∷ hears 0 1 ∷ asks 0 2 ∷ hears 0 2 ∷ [])
+    ≡ Some (
+    enters.Tried (rank 0) 0 None ∷ enters.Looked (server 0) (rank 0) 0 ∷ enters.Looked (server 1) (rank 0) 0
+    ∷ enters.Looked (server 2) (rank 0) 0 ∷ enters.NoCurrent (rank 0) 0 ∷ [])
+unfolding post
+each_server_looks = refl
+
+-- the unit is at server 1, which grants it, and from there it is fetched
+other_server_grants : ledger_after two_servers
+    (puts 0 ∷ asks 0 0 ∷ hears 0 0 ∷ puts 0 ∷ asks 0 1 ∷ hears 0 1 ∷ tries 0 ∷ asks 0 0 ∷ hears 0 0 ∷ tries 0 ∷ asks 0 0 ∷ hears 0 0
+    ∷ asks 0 1 ∷ hears 0 1 ∷ fetches 0 (unit 0 1) ∷ asks 0 1 ∷ hears 0 1 ∷ [])
+    ≡ Some (
+    putting 0 0 ∷ enters.Accepted (server 0) (unit 0 0) ∷ putting 0 1 ∷ enters.Accepted (server 1) (unit 0 1)
+    ∷ enters.Tried (rank 0) 2 None ∷ enters.Granted (server 0) (rank 0) 2 (unit 0 0) ∷ enters.Tried (rank 0) 3 None
+    ∷ enters.Looked (server 0) (rank 0) 3 ∷ enters.Granted (server 1) (rank 0) 3 (unit 0 1) ∷ enters.Fetching (rank 0) 4 (unit 0 1)
+    ∷ enters.Fetched (server 1) (rank 0) (unit 0 1) ∷ [])
+unfolding post is_granted is_fetched
+other_server_grants = refl
 
 -- with one server what was put is granted and fetched; then all is used up, and with the only rank the server has ended
 one_server_alone : ledger_after one_server
@@ -220,6 +246,25 @@ told_in_order = refl
 none_waits_on : waiting_after two_ranks both_in_vain ≡ Some (([], false) ∷ [])
 unfolding post
 none_waits_on = refl
+
+-- While rank 1 waits rank 0 tries in vain, and nothing is found used up before it reserves as well.
+abbrev try_beside : List Event
+try_beside = reserves 1 ∷ asks 1 0 ∷ tries 0 ∷ asks 0 0 ∷ hears 0 0 ∷ []
+
+trying_is_not_waiting : ledger_after two_ranks try_beside
+    ≡ Some (
+    enters.Asked (rank 1) 0 None ∷ enters.Tried (rank 0) 0 None ∷ enters.Looked (server 0) (rank 0) 0 ∷ enters.NoCurrent (rank 0) 0 ∷ [])
+unfolding post
+trying_is_not_waiting = refl
+
+other_waits_beside : waiting_after two_ranks try_beside ≡ Some ((rank 1 ∷ [], false) ∷ [])
+unfolding post
+other_waits_beside = refl
+
+-- one letter stands for the try: the request, and the answer
+one_letter_tries : calls_along two_ranks 0 try_beside ≡ Some 0 ∷ Some 0 ∷ Some 0 ∷ Some 1 ∷ Some 1 ∷ Some 0 ∷ []
+unfolding post measure
+one_letter_tries = refl
 
 -- Rank 0 finishes while rank 1 waits: all work is used up, and rank 1 is told. When it has finished too, the server has ended.
 abbrev finish_beside : List Event

@@ -185,6 +185,7 @@ request_awaited c (waits_for.Put unit first tried) b s m w sound a same asked ru
     subst (IsAwaitedHere s c.me) (sym asked.0) (put_awaited c unit first tried b s sound w.still a w.rank w.call.0 same)
 request_awaited c (waits_for.Reserve request types) b s m w sound a same asked runs =
     subst (IsAwaitedHere s c.me) (sym asked.0) (at_home c s same asked.1, runs)
+request_awaited c (waits_for.Try request types tried) b s m w sound a same asked runs = subst (IsAwaitedHere s c.me) (sym asked.0) tt
 request_awaited c (waits_for.Fetch request note) b s m w sound a same asked runs =
     let held = All-contains (IsHeld b c.me) (c.handles ++ note ∷ []) note w.held (Contains-push c.handles note) in
     subst (IsAwaitedHere s c.me) (sym asked.0) (fetch_awaited c.me note b s held a asked.1)
@@ -337,6 +338,7 @@ awaited_busy : (c : ClientModel) (p : Pending) (from : Server) (m : Message) →
 awaited_busy c waits_for.Nothing from m is = absurd is
 awaited_busy c (waits_for.Put unit first tried) from m is = refl
 awaited_busy c (waits_for.Reserve request types) from m is = refl
+awaited_busy c (waits_for.Try request types tried) from m is = refl
 awaited_busy c (waits_for.Fetch request note) from m is = refl
 awaited_busy c (waits_for.Common request note common own) from m is = refl
 awaited_busy c (waits_for.Keep request common first tried) from m is = refl

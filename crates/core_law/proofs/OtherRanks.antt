@@ -77,6 +77,7 @@ owed_after me b next (waits_for.Fetch request note) (Some _) k is = tt
 owed_after me b next waits_for.Nothing coming k is = tt
 owed_after me b next (waits_for.Put unit first tried) coming k is = tt
 owed_after me b next (waits_for.Reserve request types) coming k is = tt
+owed_after me b next (waits_for.Try request types tried) coming k is = tt
 owed_after me b next (waits_for.Keep request common first tried) coming k is = tt
 owed_after me b next (waits_for.Close request batch) coming k is = tt
 owed_after me b next (waits_for.Count request kind) coming k is = tt

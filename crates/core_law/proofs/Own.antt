@@ -8,7 +8,7 @@ use Rattle.adlb_unit.specs.Links.{is_within, place_of}
 use Rattle.adlb_unit.specs.declared.actors.Actor.TheVariants as by
 use Rattle.adlb_unit.specs.declared.configs.Config.{Config}
 use Rattle.adlb_unit.specs.declared.names.Server.{Server}
-use Rattle.server_law.specs.Acts.{Accepts, Act, Closes, Counts, Ends_keep, Ends_put, Ends_reserve, Fetches, Fetches_part, Gives, Grants, Heard, Keeps, Notes_finish, Parks, Refuses, Refuses_part, Tells, comes, does, finished_after, says, takes, waiting_after}
+use Rattle.server_law.specs.Acts.{Accepts, Act, Closes, Counts, Ends_keep, Ends_put, Ends_reserve, Ends_try, Fetches, Fetches_part, Gives, Grants, Grants_try, Heard, Keeps, Looks, Notes_finish, Parks, Refuses, Refuses_part, Tells, comes, does, finished_after, says, takes, waiting_after}
 use Rattle.server_law.specs.Carried.{done}
 use Rattle.server_law.specs.State.{Kept, ServerModel, is_finished, is_home, is_waiting, runs}
 use Rattle.server_law.specs.Sure.{Sure, SitsIn}
@@ -74,6 +74,9 @@ said_within config me (Refuses unit) s own come sits = (come.0, tt)
 said_within config me (Ends_put unit end) s own come sits = (come.0, tt)
 said_within config me (Grants wish unit) s own come sits = (come.0, tt)
 said_within config me (Ends_reserve wish end) s own come sits = (come.0, tt)
+said_within config me (Grants_try wish unit) s own come sits = (come.0, tt)
+said_within config me (Ends_try wish end) s own come sits = (come.0, tt)
+said_within config me (Looks wish) s own come sits = (come.0, tt)
 said_within config me (Fetches rank request id unit) s own come sits = (come.0, tt)
 said_within config me (Gives at wish rest unit) s own come sits =
     let gone = each_gone (IsEntry config me) (Gives at wish rest unit) s sits

@@ -1,7 +1,6 @@
 -- What the entries of a server make of the rank whose batch begins or ends, or that fetches common bytes.
-use Rattle.std.proofs.Common.{◌≡◌, ◌⊎◌, inl, inr, ◌+◌, ℕ, Bool, true, false, cond, List, [], ◌∷◌, ◌++◌, length, Option, Some, None, refl, sym, ap, ◌∙◌, subst, find, append-nil, arith}
+use Rattle.std.proofs.Common.{◌≡◌, ◌⊎◌, inl, inr, ◌+◌, ℕ, Bool, true, false, cond, List, [], ◌∷◌, ◌++◌, length, Option, Some, None, refl, sym, ap, ◌∙◌, subst, find, append-nil}
 use Rattle.std.specs.Prelude.{All, option_and_then, option_map}
-use Rattle.std.proofs.lemmas.List.FromFn.{map-range_with_len_more}
 use Rattle.adlb_unit.specs.Ids.{same_batch, same_unit}
 use Rattle.bag_ledger.specs.declared.states.Placed.{Placed as Lodged}
 use Rattle.adlb_unit.specs.declared.messages.Message.{Message}
@@ -12,7 +11,6 @@ use Rattle.adlb_unit.specs.declared.names.Rank.{Rank}
 use Rattle.adlb_unit.specs.declared.names.Server.{Server}
 use Rattle.adlb_unit.specs.declared.notes.UnitNote.{UnitNote}
 use Rattle.adlb_unit.proofs.Same.{same_batch_from}
-use Rattle.adlb_unit.specs.Ring.{behind}
 use Rattle.bag_ledger.specs.declared.entries.Answer.TheVariants as answers
 use Rattle.bag_ledger.specs.declared.entries.Call.TheVariants as calls_to
 use Rattle.bag_ledger.specs.declared.entries.Entry.{Entry}
@@ -29,11 +27,11 @@ use Rattle.batch_store.specs.Store.{is_due}
 use Rattle.batch_store.specs.declared.parts.Part.{Part}
 use Rattle.rank_client.specs.declared.pendings.Pending.{Pending}
 use Rattle.rank_client.specs.declared.pendings.Pending.TheVariants as waits_for
-use Rattle.rank_client.specs.Agreement.{HasAccepted, IsOwed, IsOwedIn, in_call, keeping as rank_keeping, ring_from, running}
+use Rattle.rank_client.specs.Agreement.{HasAccepted, IsOwed, IsOwedIn, in_call, keeping as rank_keeping, running}
 use Rattle.rank_client.specs.Rules.{asked, begun_batch}
 use Rattle.rank_client.specs.State.{ClientModel}
 use Rattle.server_law.specs.Acts.{batch_of, frees, unit_of as unit_named}
-use Rattle.core_law.proofs.Coming.{Comes, Waits, accepted_same, no_call, one_call, rank_changed, single, still_same}
+use Rattle.core_law.proofs.Coming.{Comes, Waits, accepted_same, no_call, one_call, rank_changed, ring_next, single, still_same}
 use Rattle.core_law.proofs.Gone.{facts_same}
 
 -- A part is freed behind the entry, if it is due then.
@@ -56,6 +54,7 @@ owed_same b n (waits_for.Fetch request note) (Some _) same is = tt
 owed_same b n waits_for.Nothing coming same is = tt
 owed_same b n (waits_for.Put unit first tried) coming same is = tt
 owed_same b n (waits_for.Reserve request types) coming same is = tt
+owed_same b n (waits_for.Try request types tried) coming same is = tt
 owed_same b n (waits_for.Keep request common first tried) coming same is = tt
 owed_same b n (waits_for.Close request batch) coming same is = tt
 owed_same b n (waits_for.Count request kind) coming same is = tt
@@ -124,15 +123,6 @@ kept_comes c request common first tried me b next w is new run =
       still = still_same b d refl refl w.still;
     })
 
-declined_next : (c : ClientModel) (request : ℕ) (common : List ℕ) (first : Server) (tried : ℕ) (me : Server) → me ≡ asked c first tried
-    → declined_by me (rank_keeping c request common first tried) ≡ rank_keeping c request common first (tried + 1)
-declined_next c request common first tried me is =
-    let more : ring_from c.config first (tried + 1) ≡ ring_from c.config first tried ++ behind c.config first tried ∷ [] =
-    map-range_with_len_more (behind c.config first) 0 tried tried (omega arith) in
-    let list : ring_from c.config first tried ++ me ∷ [] ≡ ring_from c.config first (tried + 1) =
-    ap (λ s. ring_from c.config first tried ++ s ∷ []) is ∙ sym more in
-    ap (λ declined. record (running c) { status = does.Keeping request common; declined = declined }) list
-
 pub part_refused_comes : (c : ClientModel) (request : ℕ) (common : List ℕ) (first : Server) (tried : ℕ) (me : Server) (b next : Bag) (used : ℕ)
     → Waits c (waits_for.Keep request common first tried) b → me ≡ asked c first tried
     → IsRun b (enters.Refused me (unit_named c.me request) used ∷ []) next
@@ -144,7 +134,7 @@ part_refused_comes c request common first tried me b next used w is run =
     let none : says b e ≡ None = refl in
     rw (s.1) (record {
       rank = rank_changed b c.me (declined_by me) (rank_keeping c request common first tried) w.rank
-          ∙ ap Some (declined_next c request common first tried me is);
+          ∙ ap (λ l. Some (record (running c) { status = does.Keeping request common; declined = l })) (ring_next c.config first tried me is);
       servers = w.servers;
       caused = w.caused;
       held = w.held;

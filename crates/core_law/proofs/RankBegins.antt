@@ -31,7 +31,7 @@ use Rattle.bag_ledger.specs.declared.entries.Call.TheVariants as calls_to
 use Rattle.bag_ledger.specs.declared.entries.Entry.{Entry}
 use Rattle.rank_client.specs.declared.pendings.Pending.{Pending}
 use Rattle.rank_client.specs.declared.pendings.Pending.TheVariants as waits_for
-use Rattle.rank_client.specs.Rules.{ClientResponse, ClientSaying, asked, asks, close, count, farewell, fetch, finish, first_server, held, is_free, is_idle, keep, open_call, over, put, reserve, unit_put}
+use Rattle.rank_client.specs.Rules.{ClientResponse, ClientSaying, asked, asks, close, count, farewell, fetch, finish, first_server, held, is_free, is_idle, keep, look, looks_at, open_call, over, put, reserve, unit_put}
 use Rattle.rank_client.specs.State.{ClientModel}
 use Rattle.adlb_unit.specs.Ring.{behind}
 use Rattle.rank_client.specs.Step.{Made, begin, call_stamp, made, ticked}
@@ -48,6 +48,7 @@ idle_is : (p : Pending) → is_idle p ≡ true → p ≡ waits_for.Nothing
 idle_is waits_for.Nothing e = refl
 idle_is (waits_for.Put unit first tried) e = absurd (cc)
 idle_is (waits_for.Reserve request types) e = absurd (cc)
+idle_is (waits_for.Try request types tried) e = absurd (cc)
 idle_is (waits_for.Fetch request note) e = absurd (cc)
 idle_is (waits_for.Common request note common own) e = absurd (cc)
 idle_is (waits_for.Keep request common first tried) e = absurd (cc)
@@ -153,6 +154,13 @@ module _ (run : Config) (me : Rank) (s : ClientModel) (own : IsClient run me s) 
       asks_opens s.puts s.handles _ (home s.config s.me) _ _ (refl, λ b. (_, refl)) (refl, refl) (refl, one)
       (mod_below s.me.0 s.config.servers some) own.notes (notes_same s.handles)
 
+  look_opens : (types : Option (List WorkType)) (end : Option End) → Began run me s (made (look now types end))
+  look_opens types (Some end) = over_opens s.puts _ _ end (refl, λ b. (_, refl))
+  look_opens types None =
+      let some : 0 < s.config.servers = s.config.servers_within.0 in
+      asks_opens s.puts s.handles _ (looks_at s 0) _ _ (refl, λ b. (_, refl)) (refl, refl) (refl, some)
+      (mod_below ((home s.config s.me).0 + 0) s.config.servers some) own.notes (notes_same s.handles)
+
   fetch_opens : (id : UnitId) (o : Option UnitNote) → held s id ≡ o → Opens (fetch now id o)
   fetch_opens id None is = tt
   fetch_opens id (Some note) is =
@@ -220,6 +228,7 @@ module _ (run : Config) (me : Rank) (s : ClientModel) (own : IsClient run me s) 
       put_opens kind prio target answer body s.end (leb-true (length body) (2 ^ 20) parts.0) parts.1)
   call_opens (calls_to.Reserve types) =
       if_some (λ z. Began run me s (made z)) (s.config.servers == 1) _ (λ is. reserve_opens types s.end (eqb-true s.config.servers 1 is))
+  call_opens (calls_to.Try types) = look_opens types s.end
   call_opens (calls_to.Fetch id) = fetch_opens id (held s id) refl
   call_opens (calls_to.BeginBatch common) =
       if_some (λ z. Began run me s (made z)) (is_none s.batch && nat_le (length common) (2 ^ 20)) _

@@ -22,7 +22,7 @@ use Rattle.bag_ledger.specs.declared.entries.Call.{Call}
 use Rattle.bag_ledger.specs.declared.entries.Entry.{Entry}
 use Rattle.rank_client.specs.declared.pendings.Pending.{Pending}
 use Rattle.rank_client.specs.declared.pendings.Pending.TheVariants as waits_for
-use Rattle.rank_client.specs.Rules.{ClientResponse, answer_call, asked, begun_batch, ends, expects_note, hear_close, hear_common, hear_count, hear_fetch, hear_keep, hear_put, hear_reserve, is_at_server, is_for, is_idle, own_came, part_refused, refused}
+use Rattle.rank_client.specs.Rules.{ClientResponse, answer_call, asked, begun_batch, ends, expects_note, hear_close, hear_common, hear_count, hear_fetch, hear_keep, hear_look, hear_put, hear_reserve, is_at_server, is_for, is_idle, looked, looks_at, own_came, part_refused, refused}
 use Rattle.rank_client.specs.State.{ClientModel}
 use Rattle.rank_client.specs.Step.{hear, letter_stamp, made, ticked}
 use Rattle.core_law.specs.Lawful.{Each}
@@ -46,6 +46,11 @@ module _ (run : Config) (me : Rank) (s : ClientModel) (own : IsClient run me s) 
     at_is : (o : Option CommonRef) → is_at_server s o ≡ true → IsAt s.config o
     at_is None is = tt
     at_is (Some c) is = ltb-true c.server.0 s.config.servers is
+
+    known : (note : UnitNote) → expects_note now note ≡ true → IsNote s.config note
+    known note is =
+        let there = and_parts (nat_lt note.server.0 s.config.servers) (is_at_server s note.common) (and_parts _ _ (and_parts _ _ is).0).0 in
+        record { there = ltb-true note.server.0 s.config.servers there.0; common = at_is note.common there.1 }
 
     -- the call that was pending
     call_is : (p : Pending) → s.pending ≡ p → IsCall s p
@@ -148,20 +153,74 @@ module _ (run : Config) (me : Rank) (s : ClientModel) (own : IsClient run me s) 
         if_some (λ z. Heard run me s (tells.Grant to note) (made z)) (is_for request (home s.config s.me) from to && expects_note now note)
         _
         (λ for. let parts = and_parts (is_for request (home s.config s.me) from to) (expects_note now note) for in
-        let there = and_parts (nat_lt note.server.0 s.config.servers) (is_at_server s note.common) (and_parts _ _ (and_parts _ _ parts.1).0).0 in
-        let known : IsNote s.config note = record {
-          there = ltb-true note.server.0 s.config.servers there.0;
-          common = at_is note.common there.1;
-        } in
         ended (waits_for.Reserve request types) (tells.Grant to note) s.end s.batch s.accepted (s.handles ++ note ∷ []) [] _ _ is refl refl
         (number request (home s.config s.me) from to parts.0 (call_is (waits_for.Reserve request types) is).0) tt own.batch
-        (All-push (IsNote s.config) s.handles note own.notes known) (All-contains_itself (s.handles ++ note ∷ [])))
+        (All-push (IsNote s.config) s.handles note own.notes (known note parts.1)) (All-contains_itself (s.handles ++ note ∷ [])))
     reserve_heard request types from (tells.Ended to end) is =
         if_some (λ z. Heard run me s (tells.Ended to end) (made z)) (is_for request (home s.config s.me) from to) _
         (λ for. ended (waits_for.Reserve request types) (tells.Ended to end) (Some end) s.batch s.accepted s.handles [] _ _ is refl refl
         (number request (home s.config s.me) from to for (call_is (waits_for.Reserve request types) is).0) tt own.batch own.notes
         (notes_in s.handles []))
     reserve_heard request types from _ is = tt
+
+    looked_heard : (request : ℕ) (types : Option (List WorkType)) (tried to : ℕ) (t : Bool) → nat_lt (tried + 1) s.config.servers ≡ t
+        → s.pending ≡ waits_for.Try request types tried → to + 1 ≡ s.next
+        → Heard run me s (tells.Nothing to) (made (looked now request types tried t))
+    looked_heard request types tried to true more is number =
+        let was = call_is (waits_for.Try request types tried) is in
+        let some : 0 < s.config.servers = s.config.servers_within.0 in
+        record {
+          kind = refl;
+          busy = ap is_idle is;
+          number = number;
+          going = going;
+          next = refl;
+          own = record {
+            config = own.config;
+            me = own.me;
+            call = (was.0, ltb-true (tried + 1) s.config.servers more);
+            rests = λ is. absurd (cc (is, going));
+            batch = own.batch;
+            notes = own.notes;
+          };
+          entries = tt;
+          notes = rw is (All-contains_itself (s.handles ++ []));
+          made = record { rule = looked now request types tried true; is = refl; sent = refl; later = later };
+          after = It_asks (record {
+            to = looks_at s (tried + 1);
+            letter = _;
+            asked = (refl, refl);
+            request = refl;
+            number = was.0;
+            busy = refl;
+            within = mod_below ((home s.config s.me).0 + (tried + 1)) s.config.servers some;
+            finished = going;
+            sends = refl;
+          });
+          stays = going;
+        }
+    looked_heard request types tried to false more is number =
+        ended (waits_for.Try request types tried) (tells.Nothing to) s.end s.batch s.accepted s.handles _ _ _ is refl refl number
+        ((refl, λ b. (_, refl)), tt) own.batch own.notes (notes_in s.handles [])
+
+    look_heard : (request : ℕ) (types : Option (List WorkType)) (tried : ℕ) (from : Server) (m : Message)
+        → s.pending ≡ waits_for.Try request types tried → Hears m (hear_look now request types tried from m)
+    look_heard request types tried from (tells.Grant to note) is =
+        if_some (λ z. Heard run me s (tells.Grant to note) (made z)) (is_for request (looks_at s tried) from to && expects_note now note) _
+        (λ for. let parts = and_parts (is_for request (looks_at s tried) from to) (expects_note now note) for in
+        ended (waits_for.Try request types tried) (tells.Grant to note) s.end s.batch s.accepted (s.handles ++ note ∷ []) [] _ _ is refl refl
+        (number request (looks_at s tried) from to parts.0 (call_is (waits_for.Try request types tried) is).0) tt own.batch
+        (All-push (IsNote s.config) s.handles note own.notes (known note parts.1)) (All-contains_itself (s.handles ++ note ∷ [])))
+    look_heard request types tried from (tells.Nothing to) is =
+        if_some (λ z. Heard run me s (tells.Nothing to) (made z)) (is_for request (looks_at s tried) from to) _
+        (λ for. looked_heard request types tried to (nat_lt (tried + 1) s.config.servers) refl is
+        (number request (looks_at s tried) from to for (call_is (waits_for.Try request types tried) is).0))
+    look_heard request types tried from (tells.Ended to end) is =
+        if_some (λ z. Heard run me s (tells.Ended to end) (made z)) (is_for request (looks_at s tried) from to) _
+        (λ for. ended (waits_for.Try request types tried) (tells.Ended to end) (Some end) s.batch s.accepted s.handles [] _ _ is refl refl
+        (number request (looks_at s tried) from to for (call_is (waits_for.Try request types tried) is).0) tt own.batch own.notes
+        (notes_in s.handles []))
+    look_heard request types tried from _ is = tt
 
     own_heard : (request to : ℕ) (note : UnitNote) (own_bytes : List ℕ) (o : Option CommonRef) → note.common ≡ o
         → s.pending ≡ waits_for.Fetch request note → to + 1 ≡ s.next
@@ -304,6 +363,7 @@ module _ (run : Config) (me : Rank) (s : ClientModel) (own : IsClient run me s) 
     call_heard waits_for.Nothing from m is = tt
     call_heard (waits_for.Put unit first tried) from m is = put_heard unit first tried from m is
     call_heard (waits_for.Reserve request types) from m is = reserve_heard request types from m is
+    call_heard (waits_for.Try request types tried) from m is = look_heard request types tried from m is
     call_heard (waits_for.Fetch request note) from m is = fetch_heard request note from m is
     call_heard (waits_for.Common request note common own_bytes) from m is = common_heard request note common own_bytes from m is
     call_heard (waits_for.Keep request common first tried) from m is = keep_heard request common first tried from m is

@@ -106,6 +106,7 @@ pub asked_request : (s : ClientModel) (p : Pending) (to : Server) (m : Message) 
 asked_request s waits_for.Nothing to m a = absurd a
 asked_request s (waits_for.Put unit first tried) to m a = ap is_request a.0
 asked_request s (waits_for.Reserve request types) to m a = ap is_request a.0
+asked_request s (waits_for.Try request types tried) to m a = ap is_request a.0
 asked_request s (waits_for.Fetch request note) to m a = ap is_request a.0
 asked_request s (waits_for.Common request note common own) to m a = ap is_request a.0
 asked_request s (waits_for.Keep request common first tried) to m a = ap is_request a.0
@@ -116,6 +117,7 @@ pub asked_busy : (s : ClientModel) (p : Pending) (to : Server) (m : Message) →
 asked_busy s waits_for.Nothing to m a = absurd a
 asked_busy s (waits_for.Put unit first tried) to m a = refl
 asked_busy s (waits_for.Reserve request types) to m a = refl
+asked_busy s (waits_for.Try request types tried) to m a = refl
 asked_busy s (waits_for.Fetch request note) to m a = refl
 asked_busy s (waits_for.Common request note common own) to m a = refl
 asked_busy s (waits_for.Keep request common first tried) to m a = refl
@@ -126,6 +128,7 @@ pub asked_number : (s : ClientModel) (p : Pending) (to : Server) (m : Message) �
 asked_number s waits_for.Nothing to m call a = absurd a
 asked_number s (waits_for.Put unit first tried) to m call a = ap (λ k. request_of k + 1) a.0 ∙ call.0.call
 asked_number s (waits_for.Reserve request types) to m call a = ap (λ k. request_of k + 1) a.0 ∙ call.0
+asked_number s (waits_for.Try request types tried) to m call a = ap (λ k. request_of k + 1) a.0 ∙ call.0
 asked_number s (waits_for.Fetch request note) to m call a = ap (λ k. request_of k + 1) a.0 ∙ call.0
 asked_number s (waits_for.Common request note common own) to m call a = ap (λ k. request_of k + 1) a.0 ∙ call.0
 asked_number s (waits_for.Keep request common first tried) to m call a = ap (λ k. request_of k + 1) a.0 ∙ call.0

@@ -19,7 +19,7 @@ use Rattle.rank_client.specs.declared.pendings.Pending.{Pending}
 use Rattle.rank_client.specs.declared.pendings.Pending.TheVariants as waits_for
 use Rattle.rank_client.specs.Agreement.{ClientAgrees, holds, said}
 use Rattle.rank_client.specs.Expected.{IsAwaited}
-use Rattle.rank_client.specs.Rules.{asked}
+use Rattle.rank_client.specs.Rules.{asked, looks_at}
 use Rattle.rank_client.specs.State.{ClientModel}
 use Rattle.server_law.specs.Agreement.{ServerAgrees}
 use Rattle.server_law.specs.State.{Waiting}
@@ -43,6 +43,7 @@ abbrev pub IsAsked : ClientModel → Pending → Server → Message → Type 0
 IsAsked s waits_for.Nothing to m = ⊥
 IsAsked s (waits_for.Put unit first tried) to m = (m ≡ tells.Put unit) × (to ≡ asked s first tried)
 IsAsked s (waits_for.Reserve request types) to m = (m ≡ tells.Reserve request types) × (to ≡ home s.config s.me)
+IsAsked s (waits_for.Try request types tried) to m = (m ≡ tells.Try request types) × (to ≡ looks_at s tried)
 IsAsked s (waits_for.Fetch request note) to m = (m ≡ tells.Fetch request note.id) × (to ≡ note.server)
 IsAsked s (waits_for.Common request note common own) to m = (m ≡ tells.FetchCommon request common.batch) × (to ≡ common.server)
 IsAsked s (waits_for.Keep request common first tried) to m = (m ≡ tells.KeepCommon request common) × (to ≡ asked s first tried)

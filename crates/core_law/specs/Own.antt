@@ -33,12 +33,13 @@ pub record IsNote (config : Config) (note : UnitNote) : Type 0 where
   pub there : note.server.0 < config.servers
   pub common : IsAt config note.common
 
--- the call that is pending is the last one. A put has not been refused by each server, nor has a common
--- part; a unit that is fetched is no longer held
+-- the call that is pending is the last one. A put has not been refused by each server, nor has a common part, and not each server
+-- has looked for a try; a unit that is fetched is no longer held
 abbrev pub IsCall : ClientModel → Pending → Type 0
 IsCall s waits_for.Nothing = Prim.Unit {0}
 IsCall s (waits_for.Put unit first tried) = IsOffer s unit × (tried < s.config.servers)
 IsCall s (waits_for.Reserve request types) = (request + 1 ≡ s.next) × (s.config.servers ≡ 1)
+IsCall s (waits_for.Try request types tried) = (request + 1 ≡ s.next) × (tried < s.config.servers)
 IsCall s (waits_for.Fetch request note) = (request + 1 ≡ s.next) × IsNote s.config note × All (λ n. same_unit n.id note.id ≡ false) s.handles
 IsCall s (waits_for.Common request note common own) = (request + 1 ≡ s.next) × (common.server.0 < s.config.servers)
 IsCall s (waits_for.Keep request common first tried) =

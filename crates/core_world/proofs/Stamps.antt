@@ -73,6 +73,7 @@ told_none : (s : ClientModel) (pending : Pending) (from : Server) (message : Mes
 told_none s waits_for.Nothing from (tells.Broken trouble) some = absurd (cc)
 told_none s (waits_for.Put unit first tried) from (tells.Broken trouble) some = absurd (cc)
 told_none s (waits_for.Reserve request types) from (tells.Broken trouble) some = absurd (cc)
+told_none s (waits_for.Try request types tried) from (tells.Broken trouble) some = absurd (cc)
 told_none s (waits_for.Fetch request note) from (tells.Broken trouble) some = absurd (cc)
 told_none s (waits_for.Common request note common own) from (tells.Broken trouble) some = absurd (cc)
 told_none s (waits_for.Keep request common first tried) from (tells.Broken trouble) some = absurd (cc)

@@ -48,6 +48,10 @@ reserve_leaves : (s : ClientModel) (types : Option (List WorkType)) (end : Optio
 reserve_leaves s types None = refl
 reserve_leaves s types (Some end) = refl
 
+look_leaves : (s : ClientModel) (types : Option (List WorkType)) (end : Option End) → (rank_rules.look s types end).state.trouble ≡ s.trouble
+look_leaves s types None = refl
+look_leaves s types (Some end) = refl
+
 fetch_leaves : (s : ClientModel) (id : UnitId) (note : Option UnitNote) → Leaves s.trouble (rank_rules.fetch s id note)
 fetch_leaves s id None = tt
 fetch_leaves s id (Some note) = refl
@@ -64,6 +68,7 @@ call_leaves : (s : ClientModel) (call : Call) → Leaves s.trouble (rank_rules.o
 call_leaves s (calls_to.Put kind prio target answer body) =
     leaves_if s.trouble _ (rank_rules.put s (rank_rules.unit_put s kind prio target answer body) s.end) (put_leaves s (rank_rules.unit_put s kind prio target answer body) s.end)
 call_leaves s (calls_to.Reserve types) = leaves_if s.trouble _ (rank_rules.reserve s types s.end) (reserve_leaves s types s.end)
+call_leaves s (calls_to.Try types) = look_leaves s types s.end
 call_leaves s (calls_to.Fetch id) = fetch_leaves s id (rank_rules.held s id)
 call_leaves s (calls_to.BeginBatch common) = leaves_if s.trouble _ (rank_rules.keep s common s.end) (keep_leaves s common s.end)
 call_leaves s calls_to.EndBatch = close_leaves s s.batch
@@ -86,6 +91,20 @@ hear_reserve_leaves : (s : ClientModel) (request : ℕ) (types : Option (List Wo
 hear_reserve_leaves s request types from (tells.Grant to note) = leaves_if s.trouble _ _ refl
 hear_reserve_leaves s request types from (tells.Ended to end) = leaves_if s.trouble _ _ refl
 hear_reserve_leaves s request types from _ = tt
+
+looked_leaves : (s : ClientModel) (request : ℕ) (types : Option (List WorkType)) (tried : ℕ) (more : Bool)
+    → (rank_rules.looked s request types tried more).state.trouble ≡ s.trouble
+looked_leaves s request types tried true = refl
+looked_leaves s request types tried false = refl
+
+hear_look_leaves : (s : ClientModel) (request : ℕ) (types : Option (List WorkType)) (tried : ℕ) (from : Server) (message : Message)
+    → Leaves s.trouble (rank_rules.hear_look s request types tried from message)
+hear_look_leaves s request types tried from (tells.Grant to note) = leaves_if s.trouble _ _ refl
+hear_look_leaves s request types tried from (tells.Nothing to) =
+    leaves_if s.trouble _ (rank_rules.looked s request types tried (nat_lt (tried + 1) s.config.servers))
+    (looked_leaves s request types tried (nat_lt (tried + 1) s.config.servers))
+hear_look_leaves s request types tried from (tells.Ended to end) = leaves_if s.trouble _ _ refl
+hear_look_leaves s request types tried from _ = tt
 
 own_leaves : (s : ClientModel) (request : ℕ) (note : UnitNote) (own : List ℕ) (common : Option CommonRef)
     → (rank_rules.own_came s request note own common).state.trouble ≡ s.trouble
@@ -130,6 +149,7 @@ answer_leaves : (s : ClientModel) (pending : Pending) (from : Server) (message :
 answer_leaves s waits_for.Nothing from message = tt
 answer_leaves s (waits_for.Put unit first tried) from message = hear_put_leaves s unit first tried from message
 answer_leaves s (waits_for.Reserve request types) from message = hear_reserve_leaves s request types from message
+answer_leaves s (waits_for.Try request types tried) from message = hear_look_leaves s request types tried from message
 answer_leaves s (waits_for.Fetch request note) from message = hear_fetch_leaves s request note from message
 answer_leaves s (waits_for.Common request note common own) from message = hear_common_leaves s request note common own from message
 answer_leaves s (waits_for.Keep request common first tried) from message = hear_keep_leaves s request common first tried from message

@@ -33,6 +33,8 @@ enum Does {
     Ends,
     // It reserves a unit of any type.
     Reserves,
+    // It tries for a unit of any type.
+    Tries,
     // It fetches its unit of this number.
     Fetches(u64),
     // It counts the units of this type.
@@ -94,6 +96,12 @@ fn event(alloc: Global, does: Does) -> Result<Event, Fail> {
                 types: Types::any(),
             },
         ),
+        Does::Tries => Event::Call(
+            Rank(0),
+            Call::Try {
+                types: Types::any(),
+            },
+        ),
         Does::Fetches(number) => Event::Call(Rank(0), fetch(number)),
         Does::Counts(kind) => Event::Call(
             Rank(0),
@@ -144,6 +152,7 @@ fn is_that(event: &Event, does: Does) -> bool {
         (Event::Call(Rank(0), Call::Put { body, .. }), Does::Puts(size)) => body.len() == size,
         (Event::Call(Rank(0), Call::EndBatch), Does::Ends) => true,
         (Event::Call(Rank(0), Call::Count { kind }), Does::Counts(number)) => kind.0 == number,
+        (Event::Call(Rank(0), Call::Try { .. }), Does::Tries) => true,
         (Event::Call(Rank(0), Call::Finish), Does::Finishes) => true,
         (Event::Deliver(from, to), Does::Delivers(a, b)) => *from == a && *to == b,
         _ => false,
@@ -159,6 +168,9 @@ fn row(entry: &Entry) -> (&'static str, u64, u32, u64) {
         Entry::Rejected { call, .. } => ("rejected", *call, 0, 0),
         Entry::Asked { call, .. } => ("asked", *call, 0, 0),
         Entry::Granted { server, id, .. } => ("granted", id.number, server.0, 0),
+        Entry::Tried { call, .. } => ("tried", *call, 0, 0),
+        Entry::Looked { server, call, .. } => ("looked", *call, server.0, 0),
+        Entry::NoCurrent { call, .. } => ("no current", *call, 0, 0),
         Entry::Fetching { id, .. } => ("fetching", id.number, 0, 0),
         Entry::Fetched { server, id, .. } => ("fetched", id.number, server.0, 0),
         Entry::Counting { call, .. } => ("counting", *call, 0, 0),
@@ -455,6 +467,73 @@ fn a_count_tells_of_the_home_alone(rt: HostRuntime) -> Result<(), Fail> {
         (Line::Info, "Info { free: 1, top: Some(0), at_top: 1 }"),
     ];
     play(&rt, rt.alloc(), 3, &scene)
+}
+
+// A try for which each of three servers is asked.
+const LOOKS: [Does; 7] = [
+    Does::Tries,
+    Does::Delivers(RANK, FIRST),
+    Does::Delivers(FIRST, RANK),
+    Does::Delivers(RANK, SECOND),
+    Does::Delivers(SECOND, RANK),
+    Does::Delivers(RANK, THIRD),
+    Does::Delivers(THIRD, RANK),
+];
+
+#[test]
+fn there_is_no_work_after_each_server_has_looked(rt: HostRuntime) -> Result<(), Fail> {
+    let scene = [
+        (Line::Runs(&LOOKS), "7 done"),
+        (
+            Line::Ledger,
+            "tried 0 0 0; looked 0 0 0; looked 0 1 0; looked 0 2 0; no current 0 0 0; ",
+        ),
+        (Line::Answered, "1"),
+        (Line::Applies(Does::Tries), "done"),
+        // The rank awaits the home, and no other server is asked before that has answered.
+        (Line::Applies(Does::Tries), "refused"),
+        (Line::Waiting(RANK, FIRST), "1"),
+        (Line::Waiting(RANK, SECOND), "0"),
+    ];
+    play(&rt, rt.alloc(), 3, &scene)
+}
+
+#[test]
+fn a_try_is_granted_the_unit_of_another_server(rt: HostRuntime) -> Result<(), Fail> {
+    // The home is full, so the unit of 9 bytes is at the second server.
+    let puts = [
+        Does::Puts(56),
+        Does::Delivers(RANK, FIRST),
+        Does::Delivers(FIRST, RANK),
+        Does::Puts(9),
+        Does::Delivers(RANK, SECOND),
+        Does::Delivers(SECOND, RANK),
+    ];
+    // The first try is granted the home's unit, and the second that of the second server.
+    let tries = [
+        Does::Tries,
+        Does::Delivers(RANK, FIRST),
+        Does::Delivers(FIRST, RANK),
+        Does::Tries,
+        Does::Delivers(RANK, FIRST),
+        Does::Delivers(FIRST, RANK),
+        Does::Delivers(RANK, SECOND),
+        Does::Delivers(SECOND, RANK),
+        Does::Fetches(1),
+        Does::Delivers(RANK, SECOND),
+        Does::Delivers(SECOND, RANK),
+    ];
+    let scene = [
+        (Line::Runs(&puts), "6 done"),
+        (Line::Runs(&tries), "11 done"),
+        (
+            Line::Ledger,
+            "putting 0 0 56; accepted 0 0 0; putting 1 0 9; accepted 1 1 0; tried 2 0 0; granted 0 0 0; \
+                tried 3 0 0; looked 3 0 0; granted 1 1 0; fetching 1 0 0; fetched 1 1 0; ",
+        ),
+        (Line::Answered, "5"),
+    ];
+    play(&rt, rt.alloc(), 2, &scene)
 }
 
 // A batch over the bytes `xy`: the units `a` and `b` are put.

@@ -47,6 +47,11 @@ pub(crate) fn copied(alloc: Global, entry: &Entry) -> Result<Entry, Fail> {
             call: *call,
             types: types.twin(),
         },
+        Entry::Tried { rank, call, types } => Entry::Tried {
+            rank: *rank,
+            call: *call,
+            types: types.twin(),
+        },
         Entry::Exhausted => Entry::Exhausted,
         plain => return plain_copy(plain),
     };
@@ -70,6 +75,8 @@ fn plain_copy(entry: &Entry) -> Result<Entry, Fail> {
             call,
             id,
         },
+        Entry::Looked { server, rank, call } => Entry::Looked { server, rank, call },
+        Entry::NoCurrent { rank, call } => Entry::NoCurrent { rank, call },
         Entry::Fetching { rank, call, id } => Entry::Fetching { rank, call, id },
         Entry::Fetched { server, rank, id } => Entry::Fetched { server, rank, id },
         Entry::Counting { rank, call, kind } => Entry::Counting { rank, call, kind },
@@ -100,6 +107,11 @@ pub(crate) fn changed(entry: &Entry) -> Result<Entry, Fail> {
             call: call.wrapping_add(1),
             types: types.twin(),
         },
+        Entry::Tried { rank, call, types } => Entry::Tried {
+            rank: *rank,
+            call: call.wrapping_add(1),
+            types: types.twin(),
+        },
         Entry::Putting { rank, call, .. } => Entry::Finished {
             rank: *rank,
             call: call.wrapping_add(1),
@@ -123,6 +135,15 @@ fn changed_plain(entry: &Entry) -> Result<Entry, Fail> {
             used: used.wrapping_add(1),
         },
         Entry::Rejected { rank, call } => Entry::Rejected {
+            rank,
+            call: call.wrapping_add(1),
+        },
+        Entry::Looked { server, rank, call } => Entry::Looked {
+            server,
+            rank,
+            call: call.wrapping_add(1),
+        },
+        Entry::NoCurrent { rank, call } => Entry::NoCurrent {
             rank,
             call: call.wrapping_add(1),
         },

@@ -76,6 +76,8 @@ fn driven_runs_are_legal_and_one_change_shows(rt: HostRuntime) -> Result<(), Fai
     let mut rejects = false;
     let mut settles = false;
     let mut counts = false;
+    let mut looks_on = false;
+    let mut tries = false;
     for number in 0..RUNS {
         let config = config_of(number)?;
         let world = driven(rt.alloc(), config, number)?;
@@ -92,8 +94,12 @@ fn driven_runs_are_legal_and_one_change_shows(rt: HostRuntime) -> Result<(), Fai
         rejects = rejects || entries.iter().any(|e| matches!(e, Entry::Rejected { .. }));
         settles = settles || entries.windows(2).any(is_settled);
         counts = counts || entries.iter().any(is_count);
+        looks_on = looks_on || entries.windows(2).any(is_look_on);
+        // With several servers no rank reserves, so what is granted is granted to a try.
+        tries = tries
+            || config.servers > 1 && entries.iter().any(|e| matches!(e, Entry::Granted { .. }));
     }
-    assert!(rt; rejects && settles && counts);
+    assert!(rt; rejects && settles && counts && looks_on && tries);
     Ok(())
 }
 
@@ -101,6 +107,21 @@ fn driven_runs_are_legal_and_one_change_shows(rt: HostRuntime) -> Result<(), Fai
 fn is_count(entry: &Entry) -> bool {
     match entry {
         Entry::Counted { info, .. } => info.free > 0,
+        _ => false,
+    }
+}
+
+// One server looked right behind another in the same call.
+fn is_look_on(pair: &[Entry]) -> bool {
+    match pair {
+        [
+            Entry::Looked { server, call, .. },
+            Entry::Looked {
+                server: next,
+                call: same,
+                ..
+            },
+        ] => server != next && call == same,
         _ => false,
     }
 }

@@ -39,11 +39,11 @@ impl Words {
 // A call that a rank may make, in a run of so many.
 fn call(alloc: Global, words: &mut Words, ranks: u32) -> Result<Call, Fail> {
     let word = words.next();
-    let call = match word % 5 {
+    let call = match word % 6 {
         0 | 1 => Call::Put {
-            kind: WorkType(word / 5 % 3),
-            prio: (word / 15 % 2) as i32,
-            target: target(word / 30, ranks),
+            kind: WorkType(word / 6 % 3),
+            prio: (word / 18 % 2) as i32,
+            target: target(word / 36, ranks),
             answer: None,
             body: body(alloc, words)?,
         },
@@ -51,12 +51,15 @@ fn call(alloc: Global, words: &mut Words, ranks: u32) -> Result<Call, Fail> {
             types: Types::any(),
         },
         3 => Call::Count {
-            kind: WorkType(word / 5 % 3),
+            kind: WorkType(word / 6 % 3),
+        },
+        4 => Call::Try {
+            types: Types::any(),
         },
         _ => Call::Fetch {
             id: UnitId {
                 rank: Rank(words.next() % ranks.max(1)),
-                number: (word / 5 % 40) as u64,
+                number: (word / 6 % 40) as u64,
             },
         },
     };

@@ -1,5 +1,5 @@
 -- The rule of a letter that the pending call awaits.
-use Rattle.std.proofs.Common.{◌≡◌, ◌≤◌, ◌<◌, ◌+◌, ◌∷◌, ◌++◌, [], ◌^◌, ◌⊎◌, inl, inr, ℕ, List, Option, Some, None, length, get_or, set, Bool, true, false, ◌&&◌, ◌==◌, not, refl, arith, ap, subst, ◌∙◌}
+use Rattle.std.proofs.Common.{Global, Vec, ◌≡◌, ◌≤◌, ◌<◌, ◌+◌, ◌∷◌, ◌++◌, [], ◌^◌, ◌⊎◌, inl, inr, ℕ, List, Option, Some, None, length, get_or, set, Bool, true, false, ◌&&◌, ◌==◌, not, refl, sym, arith, ap, subst, ◌∙◌}
 use Rattle.std.proofs.Math.ListN.{length-set}
 use Rattle.std.proofs.lemmas.List.{length_push}
 use Rattle.std.specs.Prelude.{if◌then◌else◌, IfSome, IsSome, nat_le, nat_lt, slice_index_or, slice_set}
@@ -18,40 +18,54 @@ use Rattle.adlb_unit.specs.declared.names.WorkType.{WorkType}
 use Rattle.adlb_unit.specs.declared.notes.Trouble.TheVariants as troubles
 use Rattle.adlb_unit.specs.declared.notes.UnitNote.{UnitNote}
 use Rattle.adlb_unit.specs.declared.units.Unit.{Unit}
-use Rattle.bag_ledger.specs.declared.entries.Answer.TheVariants as answers
-use Rattle.bag_ledger.specs.declared.entries.Call.TheVariants as calls_to
 use Rattle.bag_ledger.specs.declared.entries.Entry.{Entry}
 use Rattle.bag_ledger.specs.declared.entries.Said.{Said}
 use Rattle.rank_client.specs.declared.pendings.Pending.{Pending}
 use Rattle.rank_client.specs.declared.pendings.Pending.TheVariants as waits_for
 use Rattle.adlb_unit.specs.declared.names.CommonRef.{CommonRef}
-use Rattle.rank_client.specs.Inside.{IsFresh, IsPlaced, IsSound, Keep, Put, is_keep, is_put, keep_of, put_of}
-use Rattle.rank_client.specs.Rules.{ClientResponse, answer_call, asked, ends, expects_note, hear_keep, hear_put, is_at_server, is_for, own_came, part_refused, refused}
+use Rattle.std.specs.Vec.{vec_capacity, vec_len}
+use Rattle.rank_client.specs.declared.clients.ClientCore.TheInside.{Inside}
+use Rattle.rank_client.specs.Inside.{HasRoom, IsFresh, IsInside, IsPlaced, IsSound, Keep, Look, Put, awaited, is_keep, is_put, is_try, keep_of, look_of, put_of, state_of}
+use Rattle.rank_client.specs.Transcript.{TranscriptModel}
+use Rattle.rank_client.specs.Rules.{ClientResponse, answer_call, asked, expects_note, hear_keep, hear_look, hear_put, is_at_server, is_for, looked, looks_at, own_came, part_refused, refused}
 use Rattle.rank_client.specs.State.{ClientModel}
 use Rattle.adlb_unit.specs.Ring.{behind}
 use Rattle.rank_client.specs.Step.{Made, hear, letter_stamp, letter_trouble, made, ticked, told_trouble}
 use Rattle.rank_client.proofs.Insides.{first_letter}
 
 -- the note of a grant that is awaited names servers of the run
-pub granted_placed : (s : ClientModel) (p : Pending) (request : ℕ) (types : Option (List WorkType)) (from : Server) (m : Message) (to : ℕ) (note : UnitNote) → p ≡ waits_for.Reserve request types → m ≡ tells.Grant to note
-    → IsSome (answer_call s p from m) → IsPlaced s.config note
-granted_placed s p request types from m to note p_is m_is some =
-    let here : IsSome (answer_call s (waits_for.Reserve request types) from (tells.Grant to note)) = subst (λ (q : Pending). IsSome (answer_call s q from (tells.Grant to note))) p_is (subst (λ (x : Message). IsSome (answer_call s p from x)) m_is some) in
-    by_test (is_for request (home s.config s.me) from to && expects_note s note) refl here
+note_placed : (s : ClientModel) (note : UnitNote) → expects_note s note ≡ true → IsPlaced s.config note
+note_placed s note expected =
+    let one = (and_parts _ _ expected).0 in
+    let two = (and_parts _ _ one).0 in
+    let three = and_parts _ _ two in
+    (ltb-true note.server.0 s.config.servers three.0, common_at note.common three.1)
   where
     common_at : (o : Option CommonRef) → is_at_server s o ≡ true → IfSome o (λ (c : CommonRef). c.server.0 < s.config.servers)
     common_at None is = tt
     common_at (Some c) is = ltb-true c.server.0 s.config.servers is
 
-    by_test : (t : Bool) → (is_for request (home s.config s.me) from to && expects_note s note) ≡ t
-        → IsSome (if t then Some (ends (record s { handles = s.handles ++ note ∷ [] }) [] (calls_to.Reserve types) (answers.Granted note)) else None) → IsPlaced s.config note
-    by_test true is some =
-        let expected = (and_parts (is_for request (home s.config s.me) from to) (expects_note s note) is).1 in
-        let one = (and_parts _ _ expected).0 in
-        let two = (and_parts _ _ one).0 in
-        let three = and_parts _ _ two in
-        (ltb-true note.server.0 s.config.servers three.0, common_at note.common three.1)
-    by_test false is some = absurd (cc)
+pub granted_placed : (s : ClientModel) (p : Pending) (from : Server) (m : Message) (to : ℕ) (note : UnitNote) → m ≡ tells.Grant to note
+    → IsSome (answer_call s p from m) → IsPlaced s.config note
+granted_placed s p from m to note m_is some = by_pending p (subst (λ (x : Message). IsSome (answer_call s p from x)) m_is some)
+  where
+    by_test : (for_it : Bool) (z : ClientResponse) → IsSome (if for_it && expects_note s note then Some z else None) → IsPlaced s.config note
+    by_test for_it z some = by_both (for_it && expects_note s note) refl some
+      where
+        by_both : (t : Bool) → (for_it && expects_note s note) ≡ t → IsSome (if t then Some z else None) → IsPlaced s.config note
+        by_both true is some = note_placed s note (and_parts for_it (expects_note s note) is).1
+        by_both false is some = absurd (cc)
+
+    by_pending : (q : Pending) → IsSome (answer_call s q from (tells.Grant to note)) → IsPlaced s.config note
+    by_pending waits_for.Nothing some = absurd (cc)
+    by_pending (waits_for.Put unit first tried) some = absurd (cc)
+    by_pending (waits_for.Reserve request types) some = by_test (is_for request (home s.config s.me) from to) _ some
+    by_pending (waits_for.Try request types tried) some = by_test (is_for request (looks_at s tried) from to) _ some
+    by_pending (waits_for.Fetch request note) some = absurd (cc)
+    by_pending (waits_for.Common request note common own) some = absurd (cc)
+    by_pending (waits_for.Keep request common first tried) some = absurd (cc)
+    by_pending (waits_for.Close request batch) some = absurd (cc)
+    by_pending (waits_for.Count request kind) some = absurd (cc)
 
 -- a put that is pending is told by its parts
 pub put_is : (p : Put) (unit : Unit) (first : Server) (tried : ℕ) → waits_for.Put unit first tried ≡ put_of p
@@ -71,6 +85,7 @@ pub put_heard : (s : ClientModel) (from : Server) (m : Message) (x : Made) (to :
     → ((p : Put) → pending ≡ put_of p → made (rule p) ≡ x) → option_map made (answer_call s pending from m) ≡ Some x
 put_heard s from m x to rule is waits_for.Nothing put some gave = absurd (cc)
 put_heard s from m x to rule is (waits_for.Reserve request types) put some gave = absurd (cc)
+put_heard s from m x to rule is (waits_for.Try request types tried) put some gave = absurd (cc)
 put_heard s from m x to rule is (waits_for.Fetch request note) put some gave = absurd (cc)
 put_heard s from m x to rule is (waits_for.Common request note common own) put some gave = absurd (cc)
 put_heard s from m x to rule is (waits_for.Keep request common first tried) put some gave = absurd (cc)
@@ -127,6 +142,7 @@ pub keep_heard : (s : ClientModel) (from : Server) (m : Message) (x : Made) (to 
 keep_heard s from m x to rule is waits_for.Nothing keep some gave = absurd (cc)
 keep_heard s from m x to rule is (waits_for.Put unit first tried) keep some gave = absurd (cc)
 keep_heard s from m x to rule is (waits_for.Reserve request types) keep some gave = absurd (cc)
+keep_heard s from m x to rule is (waits_for.Try request types tried) keep some gave = absurd (cc)
 keep_heard s from m x to rule is (waits_for.Fetch request note) keep some gave = absurd (cc)
 keep_heard s from m x to rule is (waits_for.Common request note common own) keep some gave = absurd (cc)
 keep_heard s from m x to rule is (waits_for.Close request batch) keep some gave = absurd (cc)
@@ -147,6 +163,47 @@ pub offered_gives : (s : ClientModel) (request : ℕ) (common next : List ℕ) (
     → letter ≡ sending s.clock (slice_index_or s.sent to.0 0) (by.Server to) (tells.KeepCommon request next) → before ≡ [] → sends ≡ before ++ letter ∷ [] → entries ≡ []
     → made (part_refused s request common first tried true) ≡ record { state = record s { pending = waits_for.Keep request common first (tried + 1); sent = sent }; sends = sends; entries = entries; answer = None }
 offered_gives s request common next first to tried letter sends before entries sent to_is next_is sent_is letter_is before_is sends_is entries_is =
+    rw (sends_is, entries_is, before_is, letter_is, sent_is, next_is, to_is) refl
+
+-- a try that is pending is told by its parts
+pub look_is : (p : Look) (request : ℕ) (types : Option (List WorkType)) (tried : ℕ) → waits_for.Try request types tried ≡ look_of p
+    → record { request = request; types = types; tried = tried } ≡ p
+look_is p request types tried is =
+    let same_request : request ≡ p.request = cc in
+    let same_types : types ≡ p.types = cc in
+    let same_tried : tried ≡ p.tried = cc in
+    let whole : ℕ → Option (List WorkType) → ℕ → Look = λ r k t. record { request = r; types = k; tried = t } in
+    ap (λ r. whole r types tried) same_request ∙ ap (λ k. whole p.request k tried) same_types ∙ ap (λ t. whole p.request p.types t) same_tried
+
+-- a letter that it awaits, which passes this test, is heard by its rule
+pub look_heard : (s : ClientModel) (from : Server) (m : Message) (x : Made) (test : Look → Bool) (rule : Look → ClientResponse)
+    → ((p : Look) → hear_look s p.request p.types p.tried from m ≡ (if test p then Some (rule p) else None))
+    → (pending : Pending) → is_try pending ≡ true → IsSome (answer_call s pending from m)
+    → ((p : Look) → pending ≡ look_of p → made (rule p) ≡ x) → option_map made (answer_call s pending from m) ≡ Some x
+look_heard s from m x test rule is waits_for.Nothing look some gave = absurd (cc)
+look_heard s from m x test rule is (waits_for.Put unit first tried) look some gave = absurd (cc)
+look_heard s from m x test rule is (waits_for.Reserve request types) look some gave = absurd (cc)
+look_heard s from m x test rule is (waits_for.Fetch request note) look some gave = absurd (cc)
+look_heard s from m x test rule is (waits_for.Common request note common own) look some gave = absurd (cc)
+look_heard s from m x test rule is (waits_for.Keep request common first tried) look some gave = absurd (cc)
+look_heard s from m x test rule is (waits_for.Close request batch) look some gave = absurd (cc)
+look_heard s from m x test rule is (waits_for.Count request kind) look some gave = absurd (cc)
+look_heard s from m x test rule is (waits_for.Try request types tried) look some gave =
+    ap (option_map made) (is p) ∙ by_test (test p) (subst IsSome (is p) some)
+  where
+    p : Look
+    p = record { request = request; types = types; tried = tried }
+
+    by_test : (t : Bool) → IsSome (if t then Some (rule p) else None) → option_map made (if t then Some (rule p) else None) ≡ Some x
+    by_test true some = ap Some (gave p refl)
+    by_test false some = absurd (cc)
+
+-- the next server is asked to look
+pub looked_gives : (s : ClientModel) (request : ℕ) (types next : Option (List WorkType)) (to : Server) (tried : ℕ) (letter : Sending) (sends before : List Sending) (entries : List Entry) (sent : List ℕ)
+    → to ≡ looks_at s (tried + 1) → next ≡ types → sent ≡ slice_set s.sent to.0 (slice_index_or s.sent to.0 0 + 1)
+    → letter ≡ sending s.clock (slice_index_or s.sent to.0 0) (by.Server to) (tells.Try request next) → before ≡ [] → sends ≡ before ++ letter ∷ [] → entries ≡ []
+    → made (looked s request types tried true) ≡ record { state = record s { pending = waits_for.Try request types (tried + 1); sent = sent }; sends = sends; entries = entries; answer = None }
+looked_gives s request types next to tried letter sends before entries sent to_is next_is sent_is letter_is before_is sends_is entries_is =
     rw (sends_is, entries_is, before_is, letter_is, sent_is, next_is, to_is) refl
 
 -- The fields stay sound.
@@ -184,6 +241,23 @@ granted_sound s pending handles transcript note said sound fresh there notes_is 
       batch = sound.batch;
       notes = All-same N _ _ notes_is (All-push N s.handles note sound.notes there);
     }
+
+pub granted_inside : (i : Inside) (pending : Pending) (handles : Vec UnitNote Global) (said : TranscriptModel) (note : UnitNote) (more : Said) → IsInside i
+    → IsFresh (state_of i) → IsPlaced i.config note → awaited i.pending ≡ 2 → waits_for.Nothing ≡ pending
+    → handles.items ≡ i.handles.items ++ note ∷ [] → said.items ≡ i.said.items ++ more ∷ [] → i.said.places ≤ said.places + 1
+    → i.said.ids ≤ said.ids + 2 → IsInside (record i { pending = pending; handles = handles; said = said })
+granted_inside i pending handles said note more inside fresh there busy idle notes_is said_is places ids = record {
+  sound = granted_sound (state_of i) pending _ _ note more inside.sound fresh there notes_is said_is;
+  room = subst (λ (p : Pending). HasRoom i.config (vec_len handles) (vec_capacity handles) i.room p) idle tt;
+  finish = λ going. let could = inside.finish going in record {
+    said = omega (arith, could.said, busy, ap awaited (sym idle), places);
+    ids = omega (arith, could.ids, busy, ap awaited (sym idle), ids);
+    letters = could.letters;
+    entry = could.entry;
+    unsent = could.unsent;
+    unmade = could.unmade;
+  };
+}
 
 -- A letter that is expected.
 

@@ -31,7 +31,7 @@ use Rattle.rank_client.specs.declared.pendings.Pending.{Pending}
 use Rattle.rank_client.specs.declared.pendings.Pending.TheVariants as waits_for
 use Rattle.rank_client.specs.Agreement.{ClientAgrees, Follows, HasAccepted, IsCaused, IsHeld, running}
 use Rattle.adlb_unit.specs.declared.names.CommonRef.{CommonRef}
-use Rattle.rank_client.specs.Rules.{ClientResponse, ClientSaying, close, closing, count, entry_of, fetch, fetched, finish, held, is_free, is_idle, keep, open_call, over, put, reserve, unit_put}
+use Rattle.rank_client.specs.Rules.{ClientResponse, ClientSaying, close, closing, count, entry_of, fetch, fetched, finish, held, is_free, is_idle, keep, look, open_call, over, put, reserve, unit_put}
 use Rattle.rank_client.specs.State.{ClientModel}
 use Rattle.rank_client.specs.Step.{Made, begin, call_stamp, made, post, ticked}
 use Rattle.rank_client.proofs.Entries.{rank_changed, saying, same_unit_is, silent, some_is, step_of, then_saying}
@@ -88,6 +88,7 @@ pub idle_is : (p : Pending) → is_idle p ≡ true → p ≡ waits_for.Nothing
 idle_is waits_for.Nothing e = refl
 idle_is (waits_for.Put unit first tried) e = absurd (cc)
 idle_is (waits_for.Reserve request types) e = absurd (cc)
+idle_is (waits_for.Try request types tried) e = absurd (cc)
 idle_is (waits_for.Fetch request note) e = absurd (cc)
 idle_is (waits_for.Common request note common own) e = absurd (cc)
 idle_is (waits_for.Keep request common first tried) e = absurd (cc)
@@ -199,6 +200,36 @@ reserve_follows s b types None free told =
       owed = tt;
       accepted = rw free.going free.accepted;
     })
+
+-- Try.
+
+look_follows : (s : ClientModel) (b : Bag) (types : Option (List WorkType)) (end : Option End) → IsFree s b → s.end ≡ end → Follows s None b (bare (look s types end))
+look_follows s b types end free told = by_end end told
+  where
+    entry : Entry
+    entry = enters.Tried s.me s.next types
+
+    tries : RankState → RankState
+    tries = begun (does.Trying s.next types)
+
+    legal : Legal b entry
+    legal = (running s, (free.rank, refl, refl))
+
+    step : Steps b entry (with_rank s.me tries b)
+    step = step_of b entry free.none legal
+
+    by_end : (o : Option End) → s.end ≡ o → Follows s None b (bare (look s types o))
+    by_end (Some e) is = over_follows s b entry (calls_to.Try types) e tries (does.Trying s.next types) free is step refl refl refl refl
+    by_end None is =
+        waits_follows s b entry tries (bare (look s types None)) free step refl refl refl
+        (record {
+          rank = rw free.going (rank_changed b s.me tries (running s) free.rank);
+          servers = free.servers;
+          caused = rw free.going free.caused;
+          held = All-same (IsHeld b s.me) _ s.handles (append-nil s.handles) free.held;
+          owed = tt;
+          accepted = rw free.going free.accepted;
+        })
 
 -- the note that is found is that of the unit, and stands among the notes
 pub found_is : (P : UnitNote → Type 0) (id : UnitId) (notes : List UnitNote) (note : UnitNote) → find (λ n. same_unit n.id id) notes ≡ Some note → All P notes → (note.id ≡ id) × P note
@@ -318,7 +349,7 @@ opens s b (calls_to.Reserve types) free = by_test (s.config.servers == 1)
     by_test : (t : Bool) → LawOf s.transcript s.me b (if t then Some (reserve s types s.end) else None)
     by_test true = reserve_follows s b types s.end free refl
     by_test false = tt
-opens s b (calls_to.Try types) free = tt
+opens s b (calls_to.Try types) free = look_follows s b types s.end free refl
 opens s b (calls_to.Fetch id) free = fetch_follows s b id (held s id) free refl
 opens s b (calls_to.BeginBatch common) free = by_test (is_none s.batch && nat_le (length common) (2 ^ 20)) refl
   where

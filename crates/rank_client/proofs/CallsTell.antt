@@ -25,7 +25,7 @@ use Rattle.rank_client.specs.Calls.{fetches, goes_on, is_fetched, is_finish, is_
 use Rattle.rank_client.specs.Granted.{AreGranted, IsGrantedFirst}
 use Rattle.rank_client.specs.Remembered.{AreHeld, IsFitting, IsTaken, Remembers, fetched_by, note_with, pending_call}
 use Rattle.rank_client.specs.Rules.{ClientResponse, answered, call_of, close, count, fetch, finish, held, is_free, is_idle, keep, open_call}
-use Rattle.rank_client.specs.Rules.{put, reserve, unit_put, waiting}
+use Rattle.rank_client.specs.Rules.{look, put, reserve, unit_put, waiting}
 use Rattle.rank_client.specs.Says.{Tells}
 use Rattle.rank_client.specs.State.{ClientModel}
 use Rattle.rank_client.specs.Step.{Made, begin, call_stamp, made, ticked}
@@ -85,6 +85,10 @@ module _ (s : ClientModel) (r : Remembers s) (idle : s.pending ≡ waits_for.Not
       over_tells (calls_to.Reserve types) s.puts end told refl refl tt (λ on. refl) (λ id. refl) first
   reserve_tells types None untold first = asks_tells (calls_to.Reserve types) s.puts _ refl refl first tt (λ heeds. untold)
 
+  look_tells : (types : Option (List WorkType)) (end : Option End) → s.end ≡ end → Goes (calls_to.Try types) (look t types end)
+  look_tells types (Some end) told first = over_tells (calls_to.Try types) s.puts end told refl refl tt (λ on. refl) (λ id. refl) first
+  look_tells types None untold first = asks_tells (calls_to.Try types) s.puts _ refl refl first tt (λ heeds. untold)
+
   keep_tells : (common : List ℕ) (end : Option End) → s.end ≡ end → Goes (calls_to.BeginBatch common) (keep t common end)
   keep_tells common (Some end) told first =
       over_tells (calls_to.BeginBatch common) (s.puts + 1) end told refl refl tt (λ on. refl) (λ id. refl) first
@@ -135,6 +139,7 @@ module _ (s : ClientModel) (r : Remembers s) (idle : s.pending ≡ waits_for.Not
       subst (Goes (calls_to.Put kind prio target answer body)) (if_is _ _ z is)
       (put_tells (unit_put t kind prio target answer body) s.end refl)
   open_tells (calls_to.Reserve types) z is = subst (Goes (calls_to.Reserve types)) (if_is _ _ z is) (reserve_tells types s.end refl)
+  open_tells (calls_to.Try types) z is = subst (Goes (calls_to.Try types)) (some_is is) (look_tells types s.end refl)
   open_tells (calls_to.Fetch id) z is = fetch_tells id (held t id) z refl is
   open_tells (calls_to.BeginBatch common) z is =
       subst (Goes (calls_to.BeginBatch common)) (if_is _ _ z is) (keep_tells common s.end refl)
@@ -183,6 +188,7 @@ module _ (s : ClientModel) (r : Remembers s) (idle : s.pending ≡ waits_for.Not
   opens (calls_to.Put kind prio target answer body) can =
       some_when _ _ (and_from _ _ (le-leb (length body) body_limit can.0) (aims_in s.config target can.1))
   opens (calls_to.Reserve types) can = some_when _ _ (eq-eqb s.config.servers 1 can)
+  opens (calls_to.Try types) can = refl
   opens (calls_to.Fetch id) can =
       let note : UnitNote = can.0 in
       let unfetched : is_fetched note.id s.transcript ≡ false = ap (λ i. is_fetched i s.transcript) can.2 ∙ can.3 in

@@ -15,8 +15,8 @@ use Rattle.bag_ledger.proofs.Tests.{same_server_is}
 use Rattle.rank_client.specs.declared.pendings.Pending.{Pending}
 use Rattle.rank_client.specs.declared.pendings.Pending.TheVariants as waits_for
 use Rattle.rank_client.specs.Calls.{is_fetched, is_granted}
-use Rattle.rank_client.specs.Expected.{AnswersClose, AnswersCommon, AnswersCount, AnswersFetch, AnswersPut, AnswersReserve, ExpectedAreHeard, IsAtServer, IsAwaited, IsFor, IsNewNote}
-use Rattle.rank_client.specs.Rules.{ClientResponse, answer_call, asked, expects_note, hear_close, hear_common, hear_count, hear_fetch, hear_keep, hear_put, hear_reserve, is_at_server, is_for}
+use Rattle.rank_client.specs.Expected.{AnswersClose, AnswersCommon, AnswersCount, AnswersFetch, AnswersPut, AnswersReserve, AnswersTry, ExpectedAreHeard, IsAtServer, IsAwaited, IsFor, IsNewNote}
+use Rattle.rank_client.specs.Rules.{ClientResponse, answer_call, asked, expects_note, hear_close, hear_common, hear_count, hear_fetch, hear_keep, hear_look, hear_put, hear_reserve, is_at_server, is_for, looks_at}
 use Rattle.rank_client.specs.State.{ClientModel}
 use Rattle.rank_client.specs.Step.{letter_stamp, made, ticked}
 
@@ -95,6 +95,20 @@ reserve_awaited s request types from (tells.Ended to end) =
     let is = for_is request (home s.config s.me) from to in (λ some. is.0 (if_some _ _ some), λ here. some_if _ _ (is.1 here))
 reserve_awaited s request types from _ = (λ some. absurd (cc), λ here. absurd here)
 
+look_awaited : (s : ClientModel) (request : ℕ) (types : Option (List WorkType)) (tried : ℕ) (from : Server) (m : Message)
+    → IsSome (hear_look s request types tried from m) ↔ AnswersTry s request tried from m
+look_awaited s request types tried from (tells.Grant to note) =
+    let is = for_is request (looks_at s tried) from to in
+    let new = note_is s note in (
+      λ some. let parts = and_parts (is_for request (looks_at s tried) from to) (expects_note s note) (if_some _ _ some) in (is.0 parts.0, new.0 parts.1),
+      λ here. some_if _ _ (and_from _ _ (is.1 here.0) (new.1 here.1)),
+    )
+look_awaited s request types tried from (tells.Nothing to) =
+    let is = for_is request (looks_at s tried) from to in (λ some. is.0 (if_some _ _ some), λ here. some_if _ _ (is.1 here))
+look_awaited s request types tried from (tells.Ended to end) =
+    let is = for_is request (looks_at s tried) from to in (λ some. is.0 (if_some _ _ some), λ here. some_if _ _ (is.1 here))
+look_awaited s request types tried from _ = (λ some. absurd (cc), λ here. absurd here)
+
 fetch_awaited : (s : ClientModel) (request : ℕ) (note : UnitNote) (from : Server) (m : Message) → IsSome (hear_fetch s request note from m) ↔ AnswersFetch request note from m
 fetch_awaited s request note from (tells.Bytes to body) =
     let is = for_is request note.server from to in (
@@ -135,6 +149,7 @@ awaited : (s : ClientModel) (p : Pending) (from : Server) (m : Message) → IsSo
 awaited s waits_for.Nothing from m = (λ some. absurd (cc), λ here. absurd here)
 awaited s (waits_for.Put unit first tried) from m = put_awaited s unit first tried from m
 awaited s (waits_for.Reserve request types) from m = reserve_awaited s request types from m
+awaited s (waits_for.Try request types tried) from m = look_awaited s request types tried from m
 awaited s (waits_for.Fetch request note) from m = fetch_awaited s request note from m
 awaited s (waits_for.Common request note common own) from m = common_awaited s request note common own from m
 awaited s (waits_for.Keep request common first tried) from m = keep_awaited s request common first tried from m
@@ -161,10 +176,19 @@ reserve_ticked s stamp request from (tells.Grant to note) = (λ here. (here.0, n
 reserve_ticked s stamp request from (tells.Ended to end) = (λ here. here, λ here. here)
 reserve_ticked s stamp request from _ = (λ here. here, λ here. here)
 
+look_ticked : (s : ClientModel) (stamp request tried : ℕ) (from : Server) (m : Message)
+    → AnswersTry s request tried from m ↔ AnswersTry (ticked s stamp) request tried from m
+look_ticked s stamp request tried from (tells.Grant to note) =
+    (λ here. (here.0, new_ticked s stamp note here.1), λ here. (here.0, new_before s stamp note here.1))
+look_ticked s stamp request tried from (tells.Nothing to) = (λ here. here, λ here. here)
+look_ticked s stamp request tried from (tells.Ended to end) = (λ here. here, λ here. here)
+look_ticked s stamp request tried from _ = (λ here. here, λ here. here)
+
 awaited_ticked : (s : ClientModel) (stamp : ℕ) (p : Pending) (from : Server) (m : Message) → IsAwaited s p from m ↔ IsAwaited (ticked s stamp) p from m
 awaited_ticked s stamp waits_for.Nothing from m = (λ here. here, λ here. here)
 awaited_ticked s stamp (waits_for.Put unit first tried) from m = (λ here. here, λ here. here)
 awaited_ticked s stamp (waits_for.Reserve request types) from m = reserve_ticked s stamp request from m
+awaited_ticked s stamp (waits_for.Try request types tried) from m = look_ticked s stamp request tried from m
 awaited_ticked s stamp (waits_for.Fetch request note) from m = (λ here. here, λ here. here)
 awaited_ticked s stamp (waits_for.Common request note common own) from m = (λ here. here, λ here. here)
 awaited_ticked s stamp (waits_for.Keep request common first tried) from m = (λ here. here, λ here. here)

@@ -27,7 +27,7 @@ use Rattle.rank_client.specs.declared.pendings.Pending.TheVariants as waits_for
 use Rattle.rank_client.specs.Calls.{fetches, grants, is_fetched, is_granted}
 use Rattle.rank_client.specs.Granted.{AreGranted, GrantsComeFirst, IsGrantedFirst}
 use Rattle.adlb_unit.specs.declared.names.CommonRef.{CommonRef}
-use Rattle.rank_client.specs.Rules.{ClientResponse, ClientSaying, answer_call, call_of, close, count, fetch, hear_close, hear_common, hear_count, hear_fetch, hear_keep, hear_put, hear_reserve, held, is_free, keep, open_call, own_came, part_refused, put, refused, reserve, unit_put}
+use Rattle.rank_client.specs.Rules.{ClientResponse, ClientSaying, answer_call, call_of, close, count, fetch, hear_close, hear_common, hear_count, hear_fetch, hear_keep, hear_look, hear_put, hear_reserve, held, is_free, keep, look, looked, open_call, own_came, part_refused, put, refused, reserve, unit_put}
 use Rattle.rank_client.specs.State.{ClientModel, start}
 use Rattle.rank_client.specs.Step.{Made, begin, call_stamp, hear, letter_stamp, made, post, ticked}
 use Rattle.rank_client.proofs.Begins.{found_is}
@@ -74,12 +74,13 @@ call_over said notes pending call answer g was =
     }
 
 -- a unit is granted
-unit_granted : (said : List Said) (notes : List UnitNote) (pending : Pending) (types : Option (List WorkType)) (note : UnitNote) → AreGranted said notes pending
-    → AreGranted (said ++ record { call = calls_to.Reserve types; answer = answers.Granted note } ∷ []) (notes ++ note ∷ []) waits_for.Nothing
-unit_granted said notes pending types note g =
-    let more : Said = record { call = calls_to.Reserve types; answer = answers.Granted note } in
+unit_granted : (said : List Said) (notes : List UnitNote) (pending : Pending) (call : Call) (note : UnitNote) → AreGranted said notes pending
+    → ((id : UnitId) → fetches id call ≡ false)
+    → AreGranted (said ++ record { call = call; answer = answers.Granted note } ∷ []) (notes ++ note ∷ []) waits_for.Nothing
+unit_granted said notes pending call note g none =
+    let more : Said = record { call = call; answer = answers.Granted note } in
     let Q : UnitNote → Type 0 = λ n. is_granted n.id (said ++ more ∷ []) ≡ true in
-    let over = call_over said notes pending (calls_to.Reserve types) (answers.Granted note) g (λ id no. absurd (cc)) in
+    let over = call_over said notes pending call (answers.Granted note) g (λ id is. let not : fetches id call ≡ false = none id in absurd (cc)) in
     let now : is_granted note.id (said ++ more ∷ []) ≡ true = granted_more note.id said more ∙ ap (λ t. is_granted note.id said || t) (same_unit_from note.id note.id refl) ∙ or_right (is_granted note.id said) in
     record { held = All-push Q notes note over.held now; fetching = tt; fetched = over.fetched }
 
@@ -100,6 +101,10 @@ put_keeps s unit None g = record { held = g.held; fetching = tt; fetched = g.fet
 reserve_keeps : (s : ClientModel) (types : Option (List WorkType)) (end : Option End) → IsGrantedFirst s → Keeps (reserve s types end)
 reserve_keeps s types (Some end) g = call_over s.transcript s.handles s.pending (calls_to.Reserve types) (answers.Ended end) g (λ id no. absurd (cc))
 reserve_keeps s types None g = record { held = g.held; fetching = tt; fetched = g.fetched }
+
+look_keeps : (s : ClientModel) (types : Option (List WorkType)) (end : Option End) → IsGrantedFirst s → Keeps (look s types end)
+look_keeps s types (Some end) g = call_over s.transcript s.handles s.pending (calls_to.Try types) (answers.Ended end) g (λ id no. absurd (cc))
+look_keeps s types None g = record { held = g.held; fetching = tt; fetched = g.fetched }
 
 fetch_keeps : (s : ClientModel) (id : UnitId) (o : Option UnitNote) (y : ClientResponse) → held s id ≡ o → fetch s id o ≡ Some y → IsGrantedFirst s → Keeps y
 fetch_keeps s id None y found is g = absurd (cc)
@@ -122,6 +127,7 @@ count_keeps s kind g = record { held = g.held; fetching = tt; fetched = g.fetche
 pub open_keeps : (s : ClientModel) (call : Call) (y : ClientResponse) → open_call s call ≡ Some y → IsGrantedFirst s → Keeps y
 open_keeps s (calls_to.Put kind prio target answer body) y is g = subst Keeps (if_is _ _ y is) (put_keeps s (unit_put s kind prio target answer body) s.end g)
 open_keeps s (calls_to.Reserve types) y is g = subst Keeps (if_is _ _ y is) (reserve_keeps s types s.end g)
+open_keeps s (calls_to.Try types) y is g = subst Keeps (some_is is) (look_keeps s types s.end g)
 open_keeps s (calls_to.Fetch id) y is g = fetch_keeps s id (held s id) y refl is g
 open_keeps s (calls_to.BeginBatch common) y is g = subst Keeps (if_is _ _ y is) (keep_keeps s common s.end g)
 open_keeps s calls_to.EndBatch y is g = close_keeps s s.batch y is g
@@ -142,9 +148,26 @@ hear_put_keeps s unit first tried from (tells.Ended to end) y is g = subst Keeps
 hear_put_keeps s unit first tried from _ y is g = absurd (cc)
 
 hear_reserve_keeps : (s : ClientModel) (request : ℕ) (types : Option (List WorkType)) (from : Server) (m : Message) (y : ClientResponse) → hear_reserve s request types from m ≡ Some y → IsGrantedFirst s → Keeps y
-hear_reserve_keeps s request types from (tells.Grant to note) y is g = subst Keeps (if_is _ _ y is) (unit_granted s.transcript s.handles s.pending types note g)
+hear_reserve_keeps s request types from (tells.Grant to note) y is g = subst Keeps (if_is _ _ y is) (unit_granted s.transcript s.handles s.pending (calls_to.Reserve types) note g (λ id. refl))
 hear_reserve_keeps s request types from (tells.Ended to end) y is g = subst Keeps (if_is _ _ y is) (call_over s.transcript s.handles s.pending (calls_to.Reserve types) (answers.Ended end) g (λ id no. absurd (cc)))
 hear_reserve_keeps s request types from _ y is g = absurd (cc)
+
+looked_keeps : (s : ClientModel) (request : ℕ) (types : Option (List WorkType)) (tried : ℕ) (more : Bool) → IsGrantedFirst s
+    → Keeps (looked s request types tried more)
+looked_keeps s request types tried true g = record { held = g.held; fetching = tt; fetched = g.fetched }
+looked_keeps s request types tried false g =
+    call_over s.transcript s.handles s.pending (calls_to.Try types) answers.NoCurrent g (λ id no. absurd (cc))
+
+hear_look_keeps : (s : ClientModel) (request : ℕ) (types : Option (List WorkType)) (tried : ℕ) (from : Server) (m : Message) (y : ClientResponse)
+    → hear_look s request types tried from m ≡ Some y → IsGrantedFirst s → Keeps y
+hear_look_keeps s request types tried from (tells.Grant to note) y is g =
+    subst Keeps (if_is _ _ y is) (unit_granted s.transcript s.handles s.pending (calls_to.Try types) note g (λ id. refl))
+hear_look_keeps s request types tried from (tells.Nothing to) y is g =
+    subst Keeps (if_is _ _ y is) (looked_keeps s request types tried (nat_lt (tried + 1) s.config.servers) g)
+hear_look_keeps s request types tried from (tells.Ended to end) y is g =
+    subst Keeps (if_is _ _ y is)
+    (call_over s.transcript s.handles s.pending (calls_to.Try types) (answers.Ended end) g (λ id no. absurd (cc)))
+hear_look_keeps s request types tried from _ y is g = absurd (cc)
 
 -- a fetch is over
 fetch_over : (s : ClientModel) (note : UnitNote) (body : List ℕ) → is_granted note.id s.transcript ≡ true → IsGrantedFirst s
@@ -189,6 +212,7 @@ pub answer_keeps : (s : ClientModel) (p : Pending) (from : Server) (m : Message)
 answer_keeps s waits_for.Nothing from m y waits is g = absurd (cc)
 answer_keeps s (waits_for.Put unit first tried) from m y waits is g = hear_put_keeps s unit first tried from m y is g
 answer_keeps s (waits_for.Reserve request types) from m y waits is g = hear_reserve_keeps s request types from m y is g
+answer_keeps s (waits_for.Try request types tried) from m y waits is g = hear_look_keeps s request types tried from m y is g
 answer_keeps s (waits_for.Fetch request note) from m y waits is g =
     let P : Pending → Type 0 = λ p. AreGranted s.transcript s.handles p in
     hear_fetch_keeps s request note from m y is (subst P waits g).fetching g

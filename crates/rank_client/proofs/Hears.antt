@@ -19,14 +19,15 @@ use Rattle.bag_ledger.specs.declared.entries.Call.{Call}
 use Rattle.bag_ledger.specs.declared.entries.Call.TheVariants as calls_to
 use Rattle.bag_ledger.specs.declared.entries.Entry.{Entry}
 use Rattle.bag_ledger.specs.declared.entries.Entry.TheVariants as enters
+use Rattle.bag_ledger.specs.declared.entries.Said.{Said}
 use Rattle.bag_ledger.specs.Bag.{Bag, has_due, rank_at}
 use Rattle.bag_ledger.specs.Runs.{says}
 use Rattle.bag_ledger.specs.Steps.{Legal, Steps, ended, with_rank}
 use Rattle.rank_client.specs.declared.pendings.Pending.{Pending}
 use Rattle.rank_client.specs.declared.pendings.Pending.TheVariants as waits_for
-use Rattle.rank_client.specs.Agreement.{ClientAgrees, Follows, HasAccepted, IsCaused, IsHeld, IsOwedIn, accepted_by, fetch_coming, in_call, keeping, note_coming, putting, running, said}
+use Rattle.rank_client.specs.Agreement.{ClientAgrees, Follows, HasAccepted, IsCaused, IsHeld, IsOwedIn, accepted_by, fetch_coming, in_call, keeping, note_coming, putting, running, said, trying}
 use Rattle.rank_client.specs.Calls.{plus}
-use Rattle.rank_client.specs.Rules.{answer_call, asked, begun_batch, call_of, ends, expects_note, is_for, own_came, part_refused, refused}
+use Rattle.rank_client.specs.Rules.{answer_call, asked, begun_batch, call_of, ends, expects_note, is_for, looked, looks_at, own_came, part_refused, refused}
 use Rattle.rank_client.specs.State.{ClientModel}
 use Rattle.rank_client.specs.Step.{Made, hear, letter_stamp, made, ticked}
 use Rattle.rank_client.proofs.Begins.{Holds, LawOf, bare, free_agrees, law_of_made}
@@ -117,6 +118,52 @@ reserve_heard s b request types from (tells.Ended to end) a = by_test (is_for re
     by_test true = heard s (record s { end = Some end }) b (calls_to.Reserve types) (answers.Ended end) a.rank a.servers a.caused (alone s b a.held) a.accepted a.going refl refl refl
     by_test false = tt
 reserve_heard s b request types from _ a = tt
+
+-- Try.
+
+in_vain : (s : ClientModel) (b : Bag) (request : ℕ) (types : Option (List WorkType)) (tried to : ℕ) (t : Bool)
+    → nat_lt (tried + 1) s.config.servers ≡ t → Awaits s b (waits_for.Try request types tried) (tells.Nothing to)
+    → Holds s.transcript s.me b (bare (looked s request types tried t))
+in_vain s b request types tried to true more a = (
+  b,
+  refl,
+  record { rank = rw a.going a.rank; servers = a.servers; caused = rw a.going a.caused; held = a.held; owed = tt; accepted = rw a.going a.accepted },
+  sym (append-nil s.transcript),
+)
+in_vain s b request types tried to false more a =
+    let entry : Entry = enters.NoCurrent s.me request in
+    let r = trying s request types (tried + 1) in
+    let said_so : Said = record { call = calls_to.Try types; answer = answers.NoCurrent } in
+    let enough : s.config.servers ≤ tried + 1 = ltb-false (tried + 1) s.config.servers more in
+    let all = all_asked s.config (home s.config s.me) (tried + 1) b r a.servers enough refl in
+    let legal : Legal b entry = (r, types, a.rank, refl, all) in
+    let step : Steps b entry (with_rank s.me ended b) = step_of b entry a.none legal in
+    let told : says b entry ≡ Some (s.me, said_so) = rw a.rank refl in (
+      with_rank s.me ended b,
+      (with_rank s.me ended b, step, refl),
+      free_agrees _ (with_rank s.me ended b) refl a.going (rank_changed b s.me ended r a.rank) a.servers a.caused (alone s b a.held) a.accepted,
+      ap (λ said. s.transcript ++ said) (sym (saying b (with_rank s.me ended b) entry s.me said_so step told)),
+    )
+
+look_heard : (s : ClientModel) (b : Bag) (request : ℕ) (types : Option (List WorkType)) (tried : ℕ) (from : Server) (m : Message)
+    → Awaits s b (waits_for.Try request types tried) m
+    → LawOf (said s (waits_for.Try request types tried) (Some m)) s.me b (answer_call s (waits_for.Try request types tried) from m)
+look_heard s b request types tried from (tells.Grant to note) a = by_test (is_for request (looks_at s tried) from to && expects_note s note)
+  where
+    by_test : (t : Bool) → LawOf (said s (waits_for.Try request types tried) (Some (tells.Grant to note))) s.me b (if t then Some (ends (record s { handles = s.handles ++ note ∷ [] }) [] (calls_to.Try types) (answers.Granted note)) else None)
+    by_test true = heard s (record s { handles = s.handles ++ note ∷ [] }) b (calls_to.Try types) (answers.Granted note) a.rank a.servers a.caused a.held a.accepted a.going refl refl refl
+    by_test false = tt
+look_heard s b request types tried from (tells.Nothing to) a = by_test (is_for request (looks_at s tried) from to)
+  where
+    by_test : (t : Bool) → LawOf s.transcript s.me b (if t then Some (looked s request types tried (nat_lt (tried + 1) s.config.servers)) else None)
+    by_test true = in_vain s b request types tried to (nat_lt (tried + 1) s.config.servers) refl a
+    by_test false = tt
+look_heard s b request types tried from (tells.Ended to end) a = by_test (is_for request (looks_at s tried) from to)
+  where
+    by_test : (t : Bool) → LawOf (said s (waits_for.Try request types tried) (Some (tells.Ended to end))) s.me b (if t then Some (ends (record s { end = Some end }) [] (calls_to.Try types) (answers.Ended end)) else None)
+    by_test true = heard s (record s { end = Some end }) b (calls_to.Try types) (answers.Ended end) a.rank a.servers a.caused (alone s b a.held) a.accepted a.going refl refl refl
+    by_test false = tt
+look_heard s b request types tried from _ a = tt
 
 -- Fetch.
 
@@ -232,6 +279,7 @@ call_heard : (s : ClientModel) (b : Bag) (p : Pending) (from : Server) (m : Mess
 call_heard s b waits_for.Nothing from m a = tt
 call_heard s b (waits_for.Put unit first tried) from m a = put_heard s b unit first tried from m a
 call_heard s b (waits_for.Reserve request types) from m a = reserve_heard s b request types from m a
+call_heard s b (waits_for.Try request types tried) from m a = look_heard s b request types tried from m a
 call_heard s b (waits_for.Fetch request note) from m a = fetch_heard s b request note from m a
 call_heard s b (waits_for.Common request note common own) from m a = common_heard s b request note common own from m a
 call_heard s b (waits_for.Keep request common first tried) from m a = keep_heard s b request common first tried from m a
@@ -246,6 +294,7 @@ later_heard s stamp b p from m a = rw (said_ticked s stamp p m) (call_heard (tic
     said_ticked s stamp waits_for.Nothing m = refl
     said_ticked s stamp (waits_for.Put unit first tried) m = refl
     said_ticked s stamp (waits_for.Reserve request types) m = refl
+    said_ticked s stamp (waits_for.Try request types tried) m = refl
     said_ticked s stamp (waits_for.Fetch request note) m = refl
     said_ticked s stamp (waits_for.Common request note common own) m = refl
     said_ticked s stamp (waits_for.Keep request common first tried) m = refl

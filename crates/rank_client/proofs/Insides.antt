@@ -56,6 +56,7 @@ pub room_with : (config : Config) (notes space : ℕ) (room : Room) (pending : P
 room_with config notes space room waits_for.Nothing more has = tt
 room_with config notes space room (waits_for.Put unit first tried) more has = has
 room_with config notes space room (waits_for.Reserve request types) more has = more
+room_with config notes space room (waits_for.Try request types tried) more has = (more, has.1, has.2, has.3)
 room_with config notes space room (waits_for.Fetch request note) more has = has
 room_with config notes space room (waits_for.Common request note common own) more has = has
 room_with config notes space room (waits_for.Keep request common first tried) more has = has
@@ -66,6 +67,7 @@ pub awaited_few : (pending : Pending) → awaited pending ≤ 2
 awaited_few waits_for.Nothing = omega arith
 awaited_few (waits_for.Put unit first tried) = omega arith
 awaited_few (waits_for.Reserve request types) = omega arith
+awaited_few (waits_for.Try request types tried) = omega arith
 awaited_few (waits_for.Fetch request note) = omega arith
 awaited_few (waits_for.Common request note common own) = omega arith
 awaited_few (waits_for.Keep request common first tried) = omega arith
@@ -81,6 +83,7 @@ pub room_fewer : (config : Config) (notes fewer space same : ℕ) (room : Room) 
 room_fewer config notes fewer space same room waits_for.Nothing less is has = tt
 room_fewer config notes fewer space same room (waits_for.Put unit first tried) less is has = has
 room_fewer config notes fewer space same room (waits_for.Reserve request types) less is has = omega (arith, has)
+room_fewer config notes fewer space same room (waits_for.Try request types tried) less is has = (omega (arith, has.0), has.1, has.2, has.3)
 room_fewer config notes fewer space same room (waits_for.Fetch request note) less is has = has
 room_fewer config notes fewer space same room (waits_for.Common request note common own) less is has = has
 room_fewer config notes fewer space same room (waits_for.Keep request common first tried) less is has = has

@@ -23,10 +23,10 @@ use Rattle.bag_ledger.specs.declared.entries.Call.TheVariants as calls_to
 use Rattle.rank_client.specs.declared.pendings.Pending.{Pending}
 use Rattle.rank_client.specs.declared.pendings.Pending.TheVariants as waits_for
 use Rattle.rank_client.specs.Answers.{IsAnswer, answers_call, heeds_end}
-use Rattle.rank_client.specs.Calls.{end_of, fetches, goes_on, is_finish, plus}
+use Rattle.rank_client.specs.Calls.{end_of, fetches, goes_on, is_fetched, is_finish, is_granted, plus}
 use Rattle.rank_client.specs.Granted.{AreGranted, IsGrantedFirst}
 use Rattle.rank_client.specs.Remembered.{AreHeld, IsFitting, IsTaken, Remembers, fetched_by, pending_call}
-use Rattle.rank_client.specs.Rules.{ClientResponse, answer_call, answered, asked, begun_batch, call_of, own_came, part_refused, refused}
+use Rattle.rank_client.specs.Rules.{ClientResponse, answer_call, answered, asked, begun_batch, call_of, ends, looked, own_came, part_refused, refused}
 use Rattle.rank_client.specs.Says.{Tells}
 use Rattle.rank_client.specs.State.{ClientModel}
 use Rattle.rank_client.specs.Step.{Made, hear, letter_stamp, made, ticked}
@@ -51,7 +51,7 @@ module _ (s : ClientModel) (r : Remembers s) (going : s.finished ≡ false) (sta
   held_idle : fetched_by s.pending ≡ [] → AreHeld s.transcript s.handles
   held_idle none = subst (AreHeld s.transcript) (ap (λ l. s.handles ++ l) none ∙ append-nil s.handles) r.held
 
-  -- Where no end was told before: a put, a reserve, or the beginning of a batch.
+  -- Where no end was told before: a put, a reserve, a try, or the beginning of a batch.
 
   module _ (call : Call) (other : is_finish call ≡ false) (untold : s.end ≡ None) (none : fetched_by s.pending ≡ [])
       (fetches_none : (id : UnitId) → fetches id call ≡ false) where
@@ -65,6 +65,18 @@ module _ (s : ClientModel) (r : Remembers s) (going : s.finished ≡ false) (sta
         ends_tells s r going stamp later call s.next s.puts accepted end batch s.handles s.finished answer (going ∙ sym other)
         (told ∙ sym (ap (λ o. first_end o (end_of answer None)) untold)) on
         (held_same s.transcript s.handles call answer (held_idle none) no_note fetches_none)
+        (record { kind = kind; known = known; again = λ heeds. rw (r.told ∙ untold) tt }) first
+
+    -- a unit is granted
+    granted_tells : (note : UnitNote) → is_granted note.id s.transcript ≡ false → is_fetched note.id s.transcript ≡ false
+        → answers_call call (answers.Granted note) ≡ true → IsAnswer s.transcript call (answers.Granted note)
+        → ((on : Bool) → on ≡ goes_on call (answers.Granted note) on)
+        → Goes call (ends (record heard { handles = s.handles ++ note ∷ [] }) [] call (answers.Granted note))
+    granted_tells note ungranted unfetched kind known on first =
+        let absent = not_held s note.id r.first ungranted in
+        ends_tells s r going stamp later call s.next s.puts s.accepted s.end s.batch (s.handles ++ note ∷ []) s.finished
+        (answers.Granted note) (going ∙ sym other) (first_none s.end) (on (is_some s.batch))
+        (held_granted s.transcript s.handles call note (held_idle none) absent unfetched fetches_none)
         (record { kind = kind; known = known; again = λ heeds. rw (r.told ∙ untold) tt }) first
 
     -- the next server is asked
@@ -106,13 +118,37 @@ module _ (s : ClientModel) (r : Remembers s) (going : s.finished ≡ false) (sta
   reserve_tells request types (tells.Grant to note) z untold none is =
       let gave = if_both _ _ z is in
       let new = (note_is heard note).0 (and_parts _ _ gave.0).1 in
-      let absent = not_held s note.id r.first new.ungranted in
       subst (Goes (calls_to.Reserve types)) gave.1
-      (λ first. ends_tells s r going stamp later (calls_to.Reserve types) s.next s.puts s.accepted s.end s.batch (s.handles ++ note ∷ [])
-      s.finished (answers.Granted note) going (first_none s.end) refl
-      (held_granted s.transcript s.handles (calls_to.Reserve types) note (held_idle none) absent new.unfetched (λ id. refl))
-      (record { kind = refl; known = (new.ungranted, new.unfetched); again = λ heeds. rw (r.told ∙ untold) tt }) first)
+      (granted_tells (calls_to.Reserve types) refl untold none (λ id. refl) note new.ungranted new.unfetched refl (new.ungranted, new.unfetched)
+      (λ on. refl))
   reserve_tells request types _ z untold none is = absurd (cc)
+
+  -- A unit is granted, or the next server is asked, or each has looked; or an end is told.
+
+  looked_tells : (request : ℕ) (types : Option (List WorkType)) (tried : ℕ) (more : Bool) → s.end ≡ None → fetched_by s.pending ≡ []
+      → Goes (calls_to.Try types) (looked heard request types tried more)
+  looked_tells request types tried true untold none granted =
+      next_tells (calls_to.Try types) refl untold none (λ id. refl) (waits_for.Try request types (tried + 1)) refl refl granted tt
+  looked_tells request types tried false untold none granted =
+      plain (calls_to.Try types) refl untold none (λ id. refl) s.accepted s.end s.batch answers.NoCurrent untold refl refl tt
+      (λ note e. absurd (cc)) granted
+
+  look_tells : (request : ℕ) (types : Option (List WorkType)) (tried : ℕ) (m : Message) (z : ClientResponse) → s.end ≡ None
+      → fetched_by s.pending ≡ [] → answer_call heard (waits_for.Try request types tried) from m ≡ Some z → Goes (calls_to.Try types) z
+  look_tells request types tried (tells.Nothing to) z untold none is =
+      subst (Goes (calls_to.Try types)) (if_both _ _ z is).1
+      (looked_tells request types tried (nat_lt (tried + 1) s.config.servers) untold none)
+  look_tells request types tried (tells.Ended to end) z untold none is =
+      subst (Goes (calls_to.Try types)) (if_both _ _ z is).1
+      (plain (calls_to.Try types) refl untold none (λ id. refl) s.accepted (Some end) s.batch (answers.Ended end) refl refl refl tt
+      (λ note e. absurd (cc)))
+  look_tells request types tried (tells.Grant to note) z untold none is =
+      let gave = if_both _ _ z is in
+      let new = (note_is heard note).0 (and_parts _ _ gave.0).1 in
+      subst (Goes (calls_to.Try types)) gave.1
+      (granted_tells (calls_to.Try types) refl untold none (λ id. refl) note new.ungranted new.unfetched refl (new.ungranted, new.unfetched)
+      (λ on. refl))
+  look_tells request types tried _ z untold none is = absurd (cc)
 
   -- The common part is kept, or refused; or an end is told.
 
@@ -221,6 +257,10 @@ module _ (s : ClientModel) (r : Remembers s) (going : s.finished ≡ false) (sta
       let same : calls_to.Reserve types ≡ call = some_is pending in
       subst (λ (k : Call). Goes k z) same
       (reserve_tells request types m z (untold (ap heeds_end (sym same))) (ap fetched_by waits) is)
+  answer_tells (waits_for.Try request types tried) m z call waits fits pending untold is =
+      let same : calls_to.Try types ≡ call = some_is pending in
+      subst (λ (k : Call). Goes k z) same
+      (look_tells request types tried m z (untold (ap heeds_end (sym same))) (ap fetched_by waits) is)
   answer_tells (waits_for.Fetch request note) m z call waits fits pending untold is =
       subst (λ (k : Call). Goes k z) (some_is pending) (fetch_tells request note m z (ap fetched_by waits) fits is)
   answer_tells (waits_for.Common request note common own) m z call waits fits pending untold is =

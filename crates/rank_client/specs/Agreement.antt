@@ -1,6 +1,7 @@
 -- For which rank of the bag a client stands.
 use Rattle.std.specs.Prelude.{ℕ, ◌+◌, ◌≡◌, Bool, true, false, List, [], ◌∷◌, ◌++◌, map, Option, None, Some, IfSome, IsTrue, All}
 use Rattle.std.specs.List.{range_with_len}
+use Rattle.adlb_unit.specs.Targets.{home}
 use Rattle.adlb_unit.specs.declared.configs.Config.{Config}
 use Rattle.adlb_unit.specs.declared.messages.Message.{Message}
 use Rattle.adlb_unit.specs.declared.messages.Message.TheVariants as tells
@@ -54,6 +55,16 @@ in_reserve s request types None = record (running s) { status = does.Asking requ
 in_reserve s request types (Some (tells.Ended to end)) = record (running s) { end = Some end }
 in_reserve s request types (Some _) = running s
 
+abbrev pub trying : ClientModel → ℕ → Option (List WorkType) → ℕ → RankState
+trying s request types tried =
+    record (running s) { status = does.Trying request types; declined = ring_from s.config (home s.config s.me) tried }
+
+abbrev pub in_try : ClientModel → ℕ → Option (List WorkType) → ℕ → Option Message → RankState
+in_try s request types tried None = trying s request types tried
+in_try s request types tried (Some (tells.Nothing to)) = trying s request types (tried + 1)
+in_try s request types tried (Some (tells.Ended to end)) = record (running s) { end = Some end }
+in_try s request types tried (Some _) = running s
+
 -- where the own bytes come: the fetch goes on if the unit has a common part
 abbrev pub own_fetched : ClientModel → ℕ → UnitNote → Option CommonRef → RankState
 own_fetched s request note None = running s
@@ -90,6 +101,7 @@ abbrev pub in_call : ClientModel → Pending → Option Message → RankState
 in_call s waits_for.Nothing coming = running s
 in_call s (waits_for.Put unit first tried) coming = in_put s unit first tried coming
 in_call s (waits_for.Reserve request types) coming = in_reserve s request types coming
+in_call s (waits_for.Try request types tried) coming = in_try s request types tried coming
 in_call s (waits_for.Fetch request note) coming = in_fetch s request note coming
 in_call s (waits_for.Common request note common own) coming = in_common s request note coming
 in_call s (waits_for.Keep request common first tried) coming = in_keep s request common first tried coming
@@ -107,6 +119,7 @@ put_coming (tells.Accepted to) = Some answers.Fine
 put_coming (tells.Ended to end) = Some (answers.Ended end)
 put_coming _ = None
 
+-- of a reserve and of a try
 abbrev pub reserve_coming : Message → Option Answer
 reserve_coming (tells.Grant to note) = Some (answers.Granted note)
 reserve_coming (tells.Ended to end) = Some (answers.Ended end)
@@ -135,6 +148,7 @@ said s pending None = s.transcript
 said s waits_for.Nothing (Some m) = s.transcript
 said s (waits_for.Put unit first tried) (Some m) = plus s.transcript (call_of unit) (put_coming m)
 said s (waits_for.Reserve request types) (Some m) = plus s.transcript (calls_to.Reserve types) (reserve_coming m)
+said s (waits_for.Try request types tried) (Some m) = plus s.transcript (calls_to.Try types) (reserve_coming m)
 said s (waits_for.Fetch request note) (Some m) = plus s.transcript (calls_to.Fetch note.id) (fetch_coming note.common m)
 said s (waits_for.Common request note common own) (Some m) = plus s.transcript (calls_to.Fetch note.id) (common_coming own m)
 said s (waits_for.Keep request common first tried) (Some m) = plus s.transcript (calls_to.BeginBatch common) (put_coming m)
@@ -145,6 +159,7 @@ said s (waits_for.Count request kind) (Some m) = plus s.transcript (calls_to.Cou
 
 abbrev pub note_coming : Pending → Option Message → List UnitNote
 note_coming (waits_for.Reserve request types) (Some (tells.Grant to note)) = note ∷ []
+note_coming (waits_for.Try request types tried) (Some (tells.Grant to note)) = note ∷ []
 note_coming (waits_for.Fetch request note) None = note ∷ []
 note_coming pending coming = []
 

@@ -21,7 +21,8 @@ abbrev pub troubled : Result Answer Trouble → Option Trouble
 troubled (Ok answer) = None
 troubled (Err trouble) = Some trouble
 
--- what a put and the beginning of a batch can be answered, what a reserve, what a fetch, what the end of a batch and Finish, and what a count
+-- what a put and the beginning of a batch can be answered, what a reserve, what a try, what a fetch, what the end of a batch and
+-- Finish, and what a count
 abbrev pub answers_put : Answer → Bool
 answers_put answers.Fine = true
 answers_put answers.Rejected = true
@@ -32,6 +33,12 @@ abbrev pub answers_reserve : Answer → Bool
 answers_reserve (answers.Granted note) = true
 answers_reserve (answers.Ended end) = true
 answers_reserve _ = false
+
+abbrev pub answers_try : Answer → Bool
+answers_try (answers.Granted note) = true
+answers_try answers.NoCurrent = true
+answers_try (answers.Ended end) = true
+answers_try _ = false
 
 abbrev pub answers_fetch : Answer → Bool
 answers_fetch (answers.Body body) = true
@@ -48,6 +55,7 @@ answers_count _ = false
 abbrev pub answers_call : Call → Answer → Bool
 answers_call (calls_to.Put kind prio target answer body) = answers_put
 answers_call (calls_to.Reserve types) = answers_reserve
+answers_call (calls_to.Try types) = answers_try
 answers_call (calls_to.Fetch id) = answers_fetch
 answers_call (calls_to.BeginBatch common) = answers_put
 answers_call calls_to.EndBatch = answers_done
@@ -55,19 +63,21 @@ answers_call (calls_to.Count kind) = answers_count
 answers_call calls_to.Finish = answers_done
 answers_call _ = λ a. false
 
--- after an end was told, a put, a reserve and the beginning of a batch are answered by it
+-- after an end was told, a put, a reserve, a try and the beginning of a batch are answered by it
 abbrev pub heeds_end : Call → Bool
 heeds_end (calls_to.Put kind prio target answer body) = true
 heeds_end (calls_to.Reserve types) = true
+heeds_end (calls_to.Try types) = true
 heeds_end (calls_to.BeginBatch common) = true
 heeds_end _ = false
 
 -- The rank can make the call, in a run of so many ranks and servers: a put with a body of at most 2^20 bytes for a rank of the run; a
--- reserve, where there is one server; a fetch of a unit that was granted and not fetched; the end of the batch that is going on; a count; or,
--- while none is, the beginning of one with a common part of at most 2^20 bytes, or Finish.
+-- reserve, where there is one server; a try; a fetch of a unit that was granted and not fetched; the end of the batch that is going
+-- on; a count; or, while none is, the beginning of one with a common part of at most 2^20 bytes, or Finish.
 abbrev pub CanCall : ℕ → ℕ → List Said → Call → Type 0
 CanCall ranks servers said (calls_to.Put kind prio target answer body) = (length body ≤ body_limit) × Aims target ranks
 CanCall ranks servers said (calls_to.Reserve types) = servers ≡ 1
+CanCall ranks servers said (calls_to.Try types) = Unit {0}
 CanCall ranks servers said (calls_to.Fetch id) =
     (note : UnitNote) × granted note said × (note.id ≡ id) × (is_fetched id said ≡ false)
 CanCall ranks servers said (calls_to.BeginBatch common) = (length common ≤ body_limit) × (is_open said ≡ false)
@@ -79,6 +89,7 @@ CanCall ranks servers said _ = ⊥
 -- what is known of an answer: a unit is granted that was not granted and not fetched before, and as many bytes come as the note says
 abbrev pub IsAnswer : List Said → Call → Answer → Type 0
 IsAnswer said (calls_to.Reserve types) (answers.Granted note) = (is_granted note.id said ≡ false) × (is_fetched note.id said ≡ false)
+IsAnswer said (calls_to.Try types) (answers.Granted note) = (is_granted note.id said ≡ false) × (is_fetched note.id said ≡ false)
 IsAnswer said (calls_to.Fetch id) (answers.Body body) =
     (note : UnitNote) → granted note said → note.id ≡ id → length body ≡ total_of note
 IsAnswer said call answer = Unit {0}

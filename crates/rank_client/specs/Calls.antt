@@ -18,6 +18,8 @@ use Rattle.rank_client.specs.declared.faults.PutFault.{PutFault}
 use Rattle.rank_client.specs.declared.faults.PutFault.TheVariants as put_faults
 use Rattle.rank_client.specs.declared.faults.EndFault.{EndFault}
 use Rattle.rank_client.specs.declared.faults.EndFault.TheVariants as end_faults
+use Rattle.rank_client.specs.declared.faults.TryFault.{TryFault}
+use Rattle.rank_client.specs.declared.faults.TryFault.TheVariants as try_faults
 
 -- a call that has an answer is added with it; one that has none is not
 abbrev pub plus : List Said → Call → Option Answer → List Said
@@ -50,6 +52,19 @@ abbrev pub end_trouble : Result UnitNote EndFault → Option Trouble
 end_trouble (Err end_faults.Memory) = Some troubles.Memory
 end_trouble (Err (end_faults.TooLong stamp)) = Some (troubles.TooLong stamp)
 end_trouble _ = None
+
+abbrev pub try_answer : Result UnitNote TryFault → Option Answer
+try_answer (Ok note) = Some (answers.Granted note)
+try_answer (Err try_faults.NoCurrentWork) = Some answers.NoCurrent
+try_answer (Err try_faults.NoMoreWork) = Some (answers.Ended ends_by.NoMoreWork)
+try_answer (Err try_faults.Exhausted) = Some (answers.Ended ends_by.Exhausted)
+try_answer (Err try_faults.Memory) = None
+try_answer (Err (try_faults.TooLong stamp)) = None
+
+abbrev pub try_trouble : Result UnitNote TryFault → Option Trouble
+try_trouble (Err try_faults.Memory) = Some troubles.Memory
+try_trouble (Err (try_faults.TooLong stamp)) = Some (troubles.TooLong stamp)
+try_trouble _ = None
 
 abbrev pub fetch_answer : Result (List ℕ) (UnitNote × Trouble) → Option Answer
 fetch_answer (Ok body) = Some (answers.Body body)

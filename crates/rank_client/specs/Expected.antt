@@ -11,7 +11,7 @@ use Rattle.adlb_unit.specs.declared.notes.UnitNote.{UnitNote}
 use Rattle.rank_client.specs.declared.pendings.Pending.{Pending}
 use Rattle.rank_client.specs.declared.pendings.Pending.TheVariants as waits_for
 use Rattle.rank_client.specs.Calls.{is_fetched, is_granted}
-use Rattle.rank_client.specs.Rules.{asked}
+use Rattle.rank_client.specs.Rules.{asked, looks_at}
 use Rattle.rank_client.specs.State.{ClientModel}
 use Rattle.rank_client.specs.Step.{hear}
 
@@ -45,6 +45,13 @@ AnswersReserve s request from (tells.Grant to note) = IsFor request (home s.conf
 AnswersReserve s request from (tells.Ended to end) = IsFor request (home s.config s.me) from to
 AnswersReserve s request from _ = ⊥
 
+-- a try, for which a server was asked: a unit is granted, it found none, or an end is told
+abbrev pub AnswersTry : ClientModel → ℕ → ℕ → Server → Message → Type 0
+AnswersTry s request tried from (tells.Grant to note) = IsFor request (looks_at s tried) from to × IsNewNote s note
+AnswersTry s request tried from (tells.Nothing to) = IsFor request (looks_at s tried) from to
+AnswersTry s request tried from (tells.Ended to end) = IsFor request (looks_at s tried) from to
+AnswersTry s request tried from _ = ⊥
+
 -- a fetch, which the unit's server was asked: as many bytes as the note says
 abbrev pub AnswersFetch : ℕ → UnitNote → Server → Message → Type 0
 AnswersFetch request note from (tells.Bytes to body) = IsFor request note.server from to × (length body ≡ note.length)
@@ -70,6 +77,7 @@ abbrev pub IsAwaited : ClientModel → Pending → Server → Message → Type 0
 IsAwaited s waits_for.Nothing from message = ⊥
 IsAwaited s (waits_for.Put unit first tried) from message = AnswersPut unit.id.number (asked s first tried) from message
 IsAwaited s (waits_for.Reserve request types) from message = AnswersReserve s request from message
+IsAwaited s (waits_for.Try request types tried) from message = AnswersTry s request tried from message
 IsAwaited s (waits_for.Fetch request note) from message = AnswersFetch request note from message
 IsAwaited s (waits_for.Common request note common own) from message = AnswersCommon request common from message
 -- a batch's beginning is answered as a put is

@@ -7,6 +7,7 @@ use Rattle.std.specs.Vec.{vec_len, vec_capacity}
 use Rattle.adlb_unit.specs.Limits.{body_limit, stamp_limit}
 use Rattle.adlb_unit.specs.declared.configs.Config.{Config}
 use Rattle.adlb_unit.specs.declared.names.Server.{Server}
+use Rattle.adlb_unit.specs.declared.names.WorkType.{WorkType}
 use Rattle.adlb_unit.specs.declared.units.Unit.{Unit}
 use Rattle.rank_client.specs.declared.clients.ClientCore.TheInside.{Inside}
 use Rattle.rank_client.specs.declared.pendings.Pending.{Pending}
@@ -67,6 +68,9 @@ HasRoom config notes space room (waits_for.Put unit first tried) =
     (vec_len room.tries + tried + 1 ≡ config.servers) × All (λ body. body ≡ unit.body) room.tries.items × (first.0 < config.servers)
     × (1 ≤ vec_capacity room.entries) × (room.entries.items ≡ [])
 HasRoom config notes space room (waits_for.Reserve request types) = notes < space
+HasRoom config notes space room (waits_for.Try request types tried) =
+    (notes < space) × (vec_len room.tries + tried + 1 ≡ config.servers) × (1 ≤ vec_capacity room.entries)
+    × (room.entries.items ≡ [])
 HasRoom config notes space room (waits_for.Fetch request note) =
     (note.length ≤ vec_capacity room.own) × (room.own.items ≡ [])
     × (common_length note.common ≤ vec_capacity room.common) × (room.common.items ≡ [])
@@ -119,6 +123,19 @@ is_put _ = false
 abbrev pub is_reserve : Pending → Bool
 is_reserve (waits_for.Reserve request types) = true
 is_reserve _ = false
+
+-- a try that is pending
+pub record Look : Type 0 where
+  pub request : ℕ
+  pub types : Option (List WorkType)
+  pub tried : ℕ
+
+abbrev pub look_of : Look → Pending
+look_of p = waits_for.Try p.request p.types p.tried
+
+abbrev pub is_try : Pending → Bool
+is_try (waits_for.Try request types tried) = true
+is_try _ = false
 
 abbrev pub is_fetch : Pending → Bool
 is_fetch (waits_for.Fetch request note) = true

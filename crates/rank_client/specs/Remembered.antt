@@ -19,6 +19,7 @@ abbrev pub pending_call : Pending → Option Call
 pending_call waits_for.Nothing = None
 pending_call (waits_for.Put unit first tried) = Some (call_of unit)
 pending_call (waits_for.Reserve request types) = Some (calls_to.Reserve types)
+pending_call (waits_for.Try request types tried) = Some (calls_to.Try types)
 pending_call (waits_for.Fetch request note) = Some (calls_to.Fetch note.id)
 pending_call (waits_for.Common request note common own) = Some (calls_to.Fetch note.id)
 pending_call (waits_for.Keep request common first tried) = Some (calls_to.BeginBatch common)

@@ -109,6 +109,16 @@ reserve s types (Some end) = over s (enters.Asked s.me s.next types) (calls_to.R
 reserve s types None =
     asks s (enters.Asked s.me s.next types) (home s.config s.me) (tells.Reserve s.next types) (waits_for.Reserve s.next types)
 
+-- Try.
+
+-- the server that looks after so many have, of which the home is the first
+abbrev pub looks_at : ClientModel → ℕ → Server
+looks_at s tried = behind s.config (home s.config s.me) tried
+
+abbrev pub look : ClientModel → Option (List WorkType) → Option End → ClientResponse
+look s types (Some end) = over s (enters.Tried s.me s.next types) (calls_to.Try types) end
+look s types None = asks s (enters.Tried s.me s.next types) (looks_at s 0) (tells.Try s.next types) (waits_for.Try s.next types 0)
+
 -- Fetch.
 
 -- the note of this unit, where the rank holds it
@@ -182,6 +192,7 @@ open_call s (calls_to.Put kind prio target answer body) =
     if nat_le (length body) body_limit && in_ranks s.config target
     then Some (put s (unit_put s kind prio target answer body) s.end) else None
 open_call s (calls_to.Reserve types) = if s.config.servers == 1 then Some (reserve s types s.end) else None
+open_call s (calls_to.Try types) = Some (look s types s.end)
 open_call s (calls_to.Fetch id) = fetch s id (held s id)
 open_call s (calls_to.BeginBatch common) =
     if is_none s.batch && nat_le (length common) body_limit then Some (keep s common s.end) else None
@@ -241,6 +252,31 @@ hear_reserve s request types from (tells.Ended to end) =
     then Some (ends (record s { end = Some end }) [] (calls_to.Reserve types) (answers.Ended end))
     else None
 hear_reserve s request types from _ = None
+
+-- where a server found nothing the next one is asked, and after each has looked there is no unit now
+abbrev pub looked : ClientModel → ℕ → Option (List WorkType) → ℕ → Bool → ClientResponse
+looked s request types tried true = record {
+  state = record s { pending = waits_for.Try request types (tried + 1) };
+  says = record { to = looks_at s (tried + 1); message = tells.Try request types } ∷ [];
+  entries = [];
+  answer = None;
+}
+looked s request types tried false = ends s (enters.NoCurrent s.me request ∷ []) (calls_to.Try types) answers.NoCurrent
+
+abbrev pub hear_look : ClientModel → ℕ → Option (List WorkType) → ℕ → Server → Message → Option ClientResponse
+hear_look s request types tried from (tells.Grant to note) =
+    if is_for request (looks_at s tried) from to && expects_note s note
+    then Some (ends (record s { handles = s.handles ++ note ∷ [] }) [] (calls_to.Try types) (answers.Granted note))
+    else None
+hear_look s request types tried from (tells.Nothing to) =
+    if is_for request (looks_at s tried) from to
+    then Some (looked s request types tried (nat_lt (tried + 1) s.config.servers))
+    else None
+hear_look s request types tried from (tells.Ended to end) =
+    if is_for request (looks_at s tried) from to
+    then Some (ends (record s { end = Some end }) [] (calls_to.Try types) (answers.Ended end))
+    else None
+hear_look s request types tried from _ = None
 
 -- the bytes of the unit have come: all of them, or its common part is asked for
 abbrev pub own_came : ClientModel → ℕ → UnitNote → List ℕ → Option CommonRef → ClientResponse
@@ -310,6 +346,7 @@ abbrev pub answer_call : ClientModel → Pending → Server → Message → Opti
 answer_call s waits_for.Nothing from message = None
 answer_call s (waits_for.Put unit first tried) from message = hear_put s unit first tried from message
 answer_call s (waits_for.Reserve request types) from message = hear_reserve s request types from message
+answer_call s (waits_for.Try request types tried) from message = hear_look s request types tried from message
 answer_call s (waits_for.Fetch request note) from message = hear_fetch s request note from message
 answer_call s (waits_for.Common request note common own) from message = hear_common s request note common own from message
 answer_call s (waits_for.Keep request common first tried) from message = hear_keep s request common first tried from message

@@ -1,10 +1,10 @@
 //! The answers of a rank's calls, as each call of a link tells them.
 
 ghost use Rattle.std.specs.Prelude.{◌≡◌, None, Some, Err, IfOk, IfErr, true};
-ghost use Rattle.rank_client.specs.Answers.{answered, answers_count, answers_done, answers_fetch, answers_put, answers_reserve, troubled};
-ghost use Rattle.rank_client.specs.Calls.{count_answer, count_trouble, done_answer, done_trouble, end_answer, end_trouble, fetch_answer, fetch_trouble, put_answer, put_trouble};
+ghost use Rattle.rank_client.specs.Answers.{answered, answers_count, answers_done, answers_fetch, answers_put, answers_reserve, answers_try, troubled};
+ghost use Rattle.rank_client.specs.Calls.{count_answer, count_trouble, done_answer, done_trouble, end_answer, end_trouble, fetch_answer, fetch_trouble, put_answer, put_trouble, try_answer, try_trouble};
 
-use crate::faults::{EndFault, PutFault};
+use crate::faults::{EndFault, PutFault, TryFault};
 use adlb_unit::{End, Handle, Info, Trouble};
 use bag_ledger::{Answer, Body};
 
@@ -38,6 +38,23 @@ pub fn reserve_result(answer: Result<Answer, Trouble>) -> Result<Handle, EndFaul
         Ok(_) => unreachable!(),
         Err(Trouble::Memory) => Err(EndFault::Memory),
         Err(Trouble::TooLong { stamp }) => Err(EndFault::TooLong { stamp }),
+    }
+}
+
+/// What a try tells, if it had this answer, or failed with this trouble.
+pub fn try_result(answer: Result<Answer, Trouble>) -> Result<Handle, TryFault>
+    requires { IfOk answer (λ a. answers_try a ≡ true) }
+    ensures answer { try_answer result ≡ answered answer }
+    ensures trouble { try_trouble result ≡ troubled answer }
+{
+    match answer {
+        Ok(Answer::Granted(note)) => Ok(Handle::of(note)),
+        Ok(Answer::NoCurrent) => Err(TryFault::NoCurrentWork),
+        Ok(Answer::Ended(End::NoMoreWork)) => Err(TryFault::NoMoreWork),
+        Ok(Answer::Ended(End::Exhausted)) => Err(TryFault::Exhausted),
+        Ok(_) => unreachable!(),
+        Err(Trouble::Memory) => Err(TryFault::Memory),
+        Err(Trouble::TooLong { stamp }) => Err(TryFault::TooLong { stamp }),
     }
 }
 

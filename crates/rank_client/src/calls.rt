@@ -64,6 +64,7 @@ impl ClientCore {
             Call::Put { target, body, .. } => body.len() <= BODY_LIMIT
                 && self.config.has_target(*target),
             Call::Reserve { .. } => self.config.servers == 1,
+            Call::Try { .. } => true,
             Call::Fetch { id } => self.held(*id).is_some(),
             Call::BeginBatch { common } => self.batch.is_none() && common.len() <= BODY_LIMIT,
             Call::EndBatch => self.batch.is_some(),
@@ -268,6 +269,7 @@ impl ClientCore {
                 self.put(unit)
             }
             Call::Reserve { types } => self.reserve(types),
+            Call::Try { types } => self.look(types),
             Call::Fetch { id } => match self.held(id) {
                 Some(note) => self.fetch(id, note),
                 None => unreachable!(),

@@ -17,6 +17,7 @@ enum Makes {
     // A put of four bytes for this target.
     Put(Target),
     Reserve,
+    Try,
     // A fetch of rank 1's unit of this number.
     Fetch(u64),
     // A batch with a common part of four bytes.
@@ -66,6 +67,11 @@ const GRANTED: &str =
     "3 Granted(UnitNote { id: UnitId { rank: Rank(1), number: 7 }, kind: WorkType(1), \
     prio: 0, answer: None, server: Server(0), common: None, length: 4 })";
 
+// Rank 1's unit of number 7, which is at server 1, is granted in the rank's third event.
+const GRANTED_ELSEWHERE: &str =
+    "5 Granted(UnitNote { id: UnitId { rank: Rank(1), number: 7 }, kind: WorkType(1), \
+    prio: 0, answer: None, server: Server(1), common: None, length: 4 })";
+
 // Rank 1's first unit is granted, which has a common part.
 const GRANTED_IN_BATCH: &str =
     "3 Granted(UnitNote { id: UnitId { rank: Rank(1), number: 0 }, kind: WorkType(1), \
@@ -82,6 +88,9 @@ fn call(alloc: Global, makes: Makes) -> Result<Call, Fail> {
             body: Payload::copy(alloc, b"unit")?,
         },
         Makes::Reserve => Call::Reserve {
+            types: Types::any(),
+        },
+        Makes::Try => Call::Try {
             types: Types::any(),
         },
         Makes::Fetch(number) => Call::Fetch {
@@ -255,6 +264,8 @@ fn name(entry: &Entry) -> (&'static str, u64) {
         Entry::Putting { call, .. } => ("putting", *call),
         Entry::Rejected { call, .. } => ("rejected", *call),
         Entry::Asked { call, .. } => ("asked", *call),
+        Entry::Tried { call, .. } => ("tried", *call),
+        Entry::NoCurrent { call, .. } => ("no current", *call),
         Entry::Fetching { call, .. } => ("fetching", *call),
         Entry::Keeping { call, .. } => ("keeping", *call),
         Entry::Closing { call, .. } => ("closing", *call),
@@ -486,6 +497,65 @@ fn the_common_bytes_stand_before_the_units_own(rt: HostRuntime) -> Result<(), Fa
         (Line::Hears(0, Says::Bytes(1, b"part")), "8 bytes part|unit"),
     ];
     play(&rt, rt.alloc(), 1, &scene)
+}
+
+#[test]
+fn a_try_goes_round_the_servers(rt: HostRuntime) -> Result<(), Fail> {
+    let scene = [
+        (Line::Begins(Makes::Try), "1 to 0 tried 0"),
+        (Line::IsReady(Makes::Try), "no"),
+        (Line::Hears(0, Says::Nothing(0)), "3 to 1"),
+        (Line::Expects(0, 1, Says::Nothing(0)), "no"),
+        (Line::Hears(1, Says::Nothing(0)), "5 to 2"),
+        (Line::Hears(2, Says::Nothing(0)), "7 no current 0 NoCurrent"),
+        (Line::Answered, "1"),
+        // The next try begins at the home again.
+        (Line::Begins(Makes::Try), "8 to 0 tried 1"),
+    ];
+    play(&rt, rt.alloc(), 3, &scene)
+}
+
+#[test]
+fn a_try_is_granted_a_unit_of_the_second_server(rt: HostRuntime) -> Result<(), Fail> {
+    let scene = [
+        (Line::Begins(Makes::Try), "1 to 0 tried 0"),
+        (Line::Hears(0, Says::Nothing(0)), "3 to 1"),
+        (Line::Hears(1, Says::Grant(0, 7, 1)), GRANTED_ELSEWHERE),
+        (Line::Begins(Makes::Fetch(7)), "6 to 1 fetching 1"),
+    ];
+    play(&rt, rt.alloc(), 2, &scene)
+}
+
+#[test]
+fn a_try_awaits_its_answers(rt: HostRuntime) -> Result<(), Fail> {
+    let scene = [
+        (Line::Begins(Makes::Try), "1 to 0 tried 0"),
+        (Line::Expects(0, 1, Says::Nothing(0)), "yes"),
+        (Line::Expects(0, 1, Says::Nothing(1)), "no"),
+        (Line::Expects(1, 1, Says::Nothing(0)), "no"),
+        (Line::Expects(0, 1, Says::Grant(0, 7, 0)), "yes"),
+        (Line::Expects(1, 1, Says::Grant(0, 7, 0)), "no"),
+        (Line::Expects(0, 1, Says::Grant(0, 7, 2)), "no"),
+        (Line::Expects(0, 1, Says::Ended(0, End::NoMoreWork)), "yes"),
+        (Line::Expects(0, 1, Says::Full(0, 64)), "no"),
+    ];
+    play(&rt, rt.alloc(), 2, &scene)
+}
+
+#[test]
+fn after_an_end_a_try_is_told_it_again(rt: HostRuntime) -> Result<(), Fail> {
+    let scene = [
+        (Line::Begins(Makes::Try), "1 to 0 tried 0"),
+        (
+            Line::Hears(0, Says::Ended(0, End::NoMoreWork)),
+            "3 Ended(NoMoreWork)",
+        ),
+        (
+            Line::Begins(Makes::Try),
+            "4 tried 1 over 1 Ended(NoMoreWork)",
+        ),
+    ];
+    play(&rt, rt.alloc(), 2, &scene)
 }
 
 #[test]

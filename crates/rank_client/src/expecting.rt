@@ -2,7 +2,7 @@
 
 ghost use Rattle.std.specs.Prelude.{◌≡◌, ◌<◌, ◌↔◌, ◌&&◌, IsTrue, IsSome};
 ghost use Rattle.adlb_unit.specs.declared.messages.Message.{Message};
-ghost use Rattle.rank_client.specs.Expected.{AnswersClose, AnswersCommon, AnswersCount, AnswersFetch, AnswersPut, AnswersReserve, IsAwaited, IsExpected};
+ghost use Rattle.rank_client.specs.Expected.{AnswersClose, AnswersCommon, AnswersCount, AnswersFetch, AnswersPut, AnswersReserve, AnswersTry, IsAwaited, IsExpected};
 ghost use Rattle.rank_client.specs.Rules.{expects_note, is_at_server, is_for};
 ghost use Rattle.rank_client.specs.Step.{hear};
 
@@ -31,6 +31,9 @@ impl ClientCore {
                 answers_put(unit.id.number, at, from, message)
             }
             Pending::Reserve { request, .. } => self.answers_reserve(*request, from, message),
+            Pending::Try { request, tried, .. } => {
+                self.answers_try(*request, *tried, from, message)
+            }
             Pending::Fetch { request, note } => answers_fetch(*request, note, from, message),
             Pending::Common {
                 request,
@@ -63,6 +66,20 @@ impl ClientCore {
                 is_for(request, home, from, *to) && self.expects_note(note)
             }
             Message::Ended { request: to, .. } => is_for(request, home, from, *to),
+            _ => false,
+        }
+    }
+
+    fn answers_try(&self, request: u64, tried: u32, from: Server, message: &Message) -> bool
+        ensures { IsTrue result ↔ AnswersTry self.now request tried from message.now }
+    {
+        let at = behind(&self.config, self.config.home(self.me), tried as u64);
+        match message {
+            Message::Grant { request: to, note } => {
+                is_for(request, at, from, *to) && self.expects_note(note)
+            }
+            Message::Nothing { request: to } => is_for(request, at, from, *to),
+            Message::Ended { request: to, .. } => is_for(request, at, from, *to),
             _ => false,
         }
     }

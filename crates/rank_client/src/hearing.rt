@@ -57,6 +57,7 @@ impl ClientCore {
         match self.pending {
             Pending::Put { .. } => self.hear_put(from, message),
             Pending::Reserve { .. } => self.hear_reserve(from, message),
+            Pending::Try { .. } => self.hear_look(from, message),
             Pending::Fetch { .. } => self.hear_fetch(from, message),
             Pending::Common { .. } => self.hear_common(from, message),
             Pending::Keep { .. } => self.hear_keep(from, message),

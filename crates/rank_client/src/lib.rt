@@ -21,6 +21,7 @@ mod fetches;
 mod hearing;
 mod laws;
 mod links;
+mod looks;
 mod pendings;
 mod programs;
 mod puts;
@@ -28,9 +29,11 @@ mod rooms;
 mod said;
 mod steps;
 
-pub use answers::{count_result, done_result, fetch_result, put_result, reserve_result};
+pub use answers::{
+    count_result, done_result, fetch_result, put_result, reserve_result, try_result,
+};
 pub use clients::ClientCore;
-pub use faults::{EndFault, PutFault};
+pub use faults::{EndFault, PutFault, TryFault};
 pub use laws::{client_laws, says_laws};
 pub use links::Adlb;
 pub use pendings::Pending;

@@ -6,10 +6,10 @@ ghost use Rattle.adlb_unit.specs.Totals.{total_of};
 ghost use Rattle.adlb_unit.specs.declared.notes.Trouble.{Trouble};
 ghost use Rattle.bag_ledger.specs.declared.entries.Call.{Call};
 ghost use Rattle.bag_ledger.specs.declared.entries.Said.{Said};
-ghost use Rattle.rank_client.specs.Calls.{Began, Repeats, TellsAgain, count_answer, count_trouble, done_answer, done_trouble, end_answer, end_told, end_trouble, fetch_answer, fetch_trouble, granted, has_finished, is_granted, is_fetched, plus, put_answer, put_trouble};
+ghost use Rattle.rank_client.specs.Calls.{Began, Repeats, TellsAgain, count_answer, count_trouble, done_answer, done_trouble, end_answer, end_told, end_trouble, fetch_answer, fetch_trouble, granted, has_finished, is_granted, is_fetched, plus, put_answer, put_trouble, try_answer, try_trouble};
 ghost use Rattle.rank_client.specs.Seat.{Seat};
 
-use crate::faults::{EndFault, PutFault};
+use crate::faults::{EndFault, PutFault, TryFault};
 use adlb_unit::{Handle, Info, Payload, Rank, Target, Trouble, Types, WorkType};
 use bag_ledger::{Body, Call, Said};
 
@@ -66,6 +66,21 @@ pub trait Adlb {
         ensures failed { failed self.new ≡ end_trouble result }
         ensures repeats { Repeats (failed self.old) (end_trouble result) }
         ensures began { Began (failed self.old) (begun self.old) (Call.Reserve types.now) (failed self.new) (begun self.new) };
+
+    /// Asks the rank's home for a free unit of these types, and then the other servers in ring order, and waits for none: it
+    /// answers `NoCurrentWork` only after each server found none in this call. A unit is granted once. After an end was told it
+    /// gives that end again.
+    fn ireserve(&mut self, types: &Types) -> Result<Handle, TryFault>
+        requires running { has_finished (transcript self.old) ≡ false }
+        ensures says { transcript self.new ≡ plus (transcript self.old) (Call.Try types.now) (try_answer result) }
+        ensures told { TellsAgain (end_told (transcript self.old)) (try_answer result) }
+        ensures once { IfOk result (λ note. is_granted note.id (transcript self.old) ≡ false) }
+        ensures unfetched { IfOk result (λ note. is_fetched note.id (transcript self.old) ≡ false) }
+        ensures seat { seat self.new ≡ seat self.old }
+        ensures batch { batch self.new ≡ (batch self.old && is_none (try_trouble result)) }
+        ensures failed { failed self.new ≡ try_trouble result }
+        ensures repeats { Repeats (failed self.old) (try_trouble result) }
+        ensures began { Began (failed self.old) (begun self.old) (Call.Try types.now) (failed self.new) (begun self.new) };
 
     /// Gives the bytes of a unit that was granted and not fetched before: those of the common part, if there is one, and then
     /// its own, shared with whoever else has them. A refusal hands the handle back.

@@ -3,7 +3,7 @@
 use adlb_unit::{CommonRef, Payload, Server, Types, Unit, UnitNote, WorkType};
 
 /// The pending call. A put or a common part has gone to its first server and, after so many of them refused it, to the next in
-/// ring order.
+/// ring order. A try has gone to the home and, after so many servers looked in vain, to the next.
 #[derive(Debug, Drop)]
 pub enum Pending {
     /// No call is pending.
@@ -18,6 +18,12 @@ pub enum Pending {
     Reserve {
         request: u64,
         types: Types,
+    },
+    /// One server after the other looks for a unit of these types.
+    Try {
+        request: u64,
+        types: Types,
+        tried: u32,
     },
     /// The unit's server is asked for its bytes.
     Fetch {

@@ -1,6 +1,7 @@
 //! Memory that a client keeps, so that a letter that answers a call takes none.
 
-ghost use Rattle.std.specs.Prelude.{◌≡◌, IfOk};
+ghost use Rattle.std.specs.Prelude.{◌≡◌, ◌≤◌, [], IfOk};
+ghost use Rattle.std.specs.Vec.{vec_capacity};
 
 use adlb_unit::{NoMemory, Payload, Sending, or_no_memory};
 use bag_ledger::Entry;
@@ -8,6 +9,7 @@ use std::alloc::Global;
 use std::marker::Model;
 
 // What it takes to offer a unit or a common part to one more server: its bytes, and room for the letter. It is seen as the bytes.
+// A try offers no bytes.
 #[derive(Drop)]
 pub(crate) struct Offer {
     pub(crate) body: Payload,
@@ -32,6 +34,15 @@ impl Offer {
         let body = body.twin(alloc)?;
         let sends = or_no_memory(Vec::with_capacity(alloc, 1))?;
         Ok(Offer { body, sends })
+    }
+
+    // The room for the letter alone.
+    pub(crate) fn into_sends(self) -> Vec<Sending>
+        ensures room { 1 ≤ vec_capacity result }
+        ensures none { result.items ≡ [] }
+    {
+        let Offer { sends, .. } = self;
+        sends
     }
 }
 

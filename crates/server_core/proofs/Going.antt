@@ -1,17 +1,22 @@
 -- Acts after acts, with what was sent and entered before.
-use Rattle.std.proofs.Common.{◌≡◌, List, [], ◌∷◌, ◌++◌, refl, sym, ap, ◌∙◌}
+use Rattle.std.proofs.Common.{◌≡◌, Bool, true, false, cond, List, [], ◌∷◌, ◌++◌, append-nil, None, Some, refl, sym, ap, ◌∙◌, subst}
 use Rattle.adlb_unit.specs.declared.actors.Actor.TheVariants as by
+use Rattle.adlb_unit.specs.declared.messages.Message.{Message}
 use Rattle.adlb_unit.specs.declared.messages.Message.TheVariants as tells
+use Rattle.adlb_unit.specs.declared.names.Rank.{Rank}
 use Rattle.adlb_unit.specs.declared.names.Server.{Server}
 use Rattle.adlb_unit.specs.declared.notes.End.{End}
 use Rattle.adlb_unit.specs.declared.units.Unit.{Unit as Work}
 use Rattle.bag_ledger.specs.declared.entries.Entry.TheVariants as enters
-use Rattle.server_law.specs.Acts.{Gives, Grants, to_rank}
+use Rattle.bag_ledger.proofs.Tests.{some_is}
+use Rattle.server_law.specs.Acts.{Act, Gives, Grants, to_rank}
 use Rattle.server_law.specs.Carried.{Served, counted, done, posted}
 use Rattle.server_law.specs.Endings.{tells_all}
 use Rattle.server_law.specs.Finding.{Place}
-use Rattle.server_law.specs.Plan.{Decider, Plan, decided, in_order}
+use Rattle.server_law.specs.Plan.{Decider, Plan, decided, in_order, plan}
+use Rattle.server_law.specs.Puts.{expects_put, put_now, settles}
 use Rattle.server_law.specs.State.{ServerModel, Waiting, Wish, idle}
+use Rattle.server_law.specs.Step.{rule}
 use Rattle.server_law.proofs.Carrying.{decided_carried, followed, followed_by, followed_more, followed_none, with_act}
 use Rattle.server_law.proofs.Endings.{tells_next}
 use Rattle.server_core.specs.Out.{Out, going_on, made, with_answer}
@@ -40,6 +45,25 @@ goes_on last p s t u out mid end first then =
     ∙ sym (followed_by-append p.follow (last ∷ []) y)
     ∙ sym (decided_carried follow y)
     ∙ sym (followed_more x p.first (decided follow y.state))
+
+-- what a put makes is its plan
+pub put_goes : (s t : ServerModel) (out end : Out) (from : Rank) (m : Message) (unit : Work) → m ≡ tells.Put unit
+    → made t end ≡ going_on out (put_now s.kept unit ∷ settles unit.id (done (put_now s.kept unit) s)) s
+    → (p : Plan) → rule s (by.Rank from) m ≡ Some p → made t end ≡ going_on out (p.first ∷ decided p.follow (done p.first s)) s
+put_goes s t out end from m unit m_is made_is p is =
+    by_test (expects_put s from unit) (ap (rule s (by.Rank from)) (sym m_is) ∙ is)
+  where
+    first : Act
+    first = put_now s.kept unit
+
+    Goes : Plan → Type 0
+    Goes q = made t end ≡ going_on out (q.first ∷ decided q.follow (done q.first s)) s
+
+    by_test : (b : Bool) → cond b (plan first (settles unit.id ∷ [])) None ≡ Some p → Goes p
+    by_test true is =
+        subst Goes (some_is is)
+        (made_is ∙ ap (λ l. going_on out (first ∷ l) s) (sym (append-nil (settles unit.id (done first s)))))
+    by_test false is = absurd (cc)
 
 -- A rank that waits.
 

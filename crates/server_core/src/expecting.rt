@@ -36,6 +36,7 @@ impl ServerState {
         match message {
             Message::Put { unit } => self.is_new(from, unit),
             Message::Reserve { .. } => self.runs_at_home(from),
+            Message::Try { .. } => true,
             Message::Fetch { id, .. } => self.is_pinned(*id, from),
             Message::KeepCommon { request, common } => {
                 self.keeps_none(from, *request) && common.len() <= BODY_LIMIT

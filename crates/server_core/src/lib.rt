@@ -13,6 +13,7 @@ mod ending;
 mod expecting;
 mod fetches;
 mod finishing;
+mod looks;
 mod outgoing;
 mod puts;
 mod reserves;

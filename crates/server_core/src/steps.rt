@@ -99,6 +99,7 @@ impl ServerState {
                 };
                 Ok(self.reserve(asks, out))
             }
+            Message::Try { request, types } => Ok(self.look(from, request, &types, out)),
             Message::Fetch { request, id } => Ok(self.fetch(from, request, id, out)),
             Message::KeepCommon { request, common } => self.keep(from, request, common, out),
             Message::CloseBatch {

@@ -20,6 +20,8 @@ enum Says {
     Put(u32, u64, usize, Target),
     // A reserve of this request, of any type.
     Reserve(u64),
+    // A try of this request, for this type.
+    Try(u64, u32),
     // A fetch of this request, of rank 0's first unit.
     Fetch(u64),
     // The batch that begins in this request has a common part of so many bytes, each 7.
@@ -64,6 +66,11 @@ const GRANTS_SECOND: &str = "2 [Sending { to: Rank(Rank(0)), letter: Letter { st
     kind: WorkType(5), prio: 3, answer: None, server: Server(0), common: None, length: 2 } } } }] \
     [Granted { server: Server(0), rank: Rank(0), call: 1, id: UnitId { rank: Rank(0), number: 0 } }]";
 
+// Rank 0 looks in vain as the first thing that happens.
+const LOOKS_FIRST: &str = "1 [Sending { to: Rank(Rank(0)), letter: Letter { stamp: 1, place: 0, \
+    message: Nothing { request: 0 } } }] \
+    [Looked { server: Server(0), rank: Rank(0), call: 0 }]";
+
 // Rank 0 counts, in its call 2, a type of which no unit is free, as the third thing that happens.
 const COUNTS_NONE_THIRD: &str =
     "3 [Sending { to: Rank(Rank(0)), letter: Letter { stamp: 3, place: 2, \
@@ -83,6 +90,10 @@ fn message(alloc: Global, says: Says) -> Result<Message, Fail> {
         Says::Reserve(request) => Message::Reserve {
             request,
             types: Types::any(),
+        },
+        Says::Try(request, kind) => Message::Try {
+            request,
+            types: Types::list(&[WorkType(kind)])?,
         },
         Says::Fetch(request) => Message::Fetch {
             request,
@@ -307,6 +318,47 @@ fn expects_a_count_of_a_rank_that_runs_at_its_home(rt: HostRuntime) -> Result<()
     play(&rt, rt.alloc(), 1, 2, 0, &home)?;
     let other = [(Line::Expects(RANK, Says::Count(0, 5)), "no")];
     play(&rt, rt.alloc(), 1, 2, 1, &other)
+}
+
+#[test]
+fn looks_for_a_unit_that_is_free(rt: HostRuntime) -> Result<(), Fail> {
+    let scene = [
+        (Line::Hears(0, Says::Try(0, 5)), LOOKS_FIRST),
+        (
+            Line::Hears(0, Says::Put(0, 1, 2, Target::Any)),
+            "2 [Sending { to: Rank(Rank(0)), letter: Letter { stamp: 2, place: 1, \
+                message: Accepted { request: 1 } } }] \
+                [Accepted { server: Server(0), id: UnitId { rank: Rank(0), number: 1 } }]",
+        ),
+        // It is of another type.
+        (
+            Line::Hears(0, Says::Try(2, 6)),
+            "3 [Sending { to: Rank(Rank(0)), letter: Letter { stamp: 3, place: 2, \
+                message: Nothing { request: 2 } } }] \
+                [Looked { server: Server(0), rank: Rank(0), call: 2 }]",
+        ),
+        (
+            Line::Hears(0, Says::Try(3, 5)),
+            "4 [Sending { to: Rank(Rank(0)), letter: Letter { stamp: 4, place: 3, \
+                message: Grant { request: 3, note: UnitNote { id: UnitId { rank: Rank(0), number: 1 }, \
+                kind: WorkType(5), prio: 3, answer: None, server: Server(0), common: None, length: 2 } } } }] \
+                [Granted { server: Server(0), rank: Rank(0), call: 3, id: UnitId { rank: Rank(0), number: 1 } }]",
+        ),
+    ];
+    play(&rt, rt.alloc(), 1, 1, 0, &scene)
+}
+
+#[test]
+fn looks_for_each_rank_at_each_server(rt: HostRuntime) -> Result<(), Fail> {
+    let scene = [
+        (Line::Expects(RANK, Says::Try(0, 5)), "yes"),
+        (Line::Expects(Actor::Rank(Rank(1)), Says::Try(0, 5)), "no"),
+        (
+            Line::Expects(Actor::Server(Server(0)), Says::Try(0, 5)),
+            "no",
+        ),
+    ];
+    play(&rt, rt.alloc(), 1, 2, 1, &scene)
 }
 
 #[test]

@@ -363,6 +363,55 @@ free_units_of_the_type_are_counted :
     ≡ counted 2 2 (Some (pos 7)) 1 ∷ counted 3 0 None 0 ∷ enters.Granted (server 0) (rank 0) 4 (id 1) ∷ counted 5 1 (Some (pos 3)) 1 ∷ []
 free_units_of_the_type_are_counted = refl
 
+-- Tries. A rank that finds nothing does not wait; one for which there is a unit gets it, as by a reserve.
+
+abbrev tries : ℕ → ℕ → Option (List WorkType) → Said
+tries from request types = says from (tells.Try request types)
+
+abbrev looked : ℕ → ℕ → Entry
+looked from request = enters.Looked (server 0) (rank from) request
+
+abbrev nothing : ℕ → Message
+nothing request = tells.Nothing request
+
+a_rank_looks_twice_and_is_granted_a_unit_between :
+    events (begun one_rank) (tries 0 0 None ∷ puts 0 (unit 1 targets.Any) ∷ tries 0 2 None ∷ tries 0 3 None ∷ [])
+    ≡ record { sends = tells_to 1 0 0 (nothing 0) ∷ []; entries = looked 0 0 ∷ []; waits = [] }
+    ∷ record { sends = tells_to 2 1 0 (tells.Accepted 1) ∷ []; entries = accepts 1 ∷ []; waits = [] }
+    ∷ record { sends = tells_to 3 2 0 (grant 2 (unit 1 targets.Any)) ∷ []; entries = grants 0 2 1 ∷ []; waits = [] }
+    ∷ record { sends = tells_to 4 3 0 (nothing 3) ∷ []; entries = looked 0 3 ∷ []; waits = [] }
+    ∷ []
+a_rank_looks_twice_and_is_granted_a_unit_between = refl
+
+-- what rank 1 is told that tries for these types where rank 0 has put a unit of type 2 with this target
+abbrev tried_after : Target → Option (List WorkType) → List Entry
+tried_after target types = drop 1 (entered (begun two_ranks) (puts 0 (unit 0 target) ∷ tries 1 0 types ∷ []))
+
+a_unit_for_another_is_not_granted : tried_after (targets.Only (rank 0)) None ≡ looked 1 0 ∷ []
+a_unit_for_another_is_not_granted = refl
+
+a_unit_of_another_type_is_not_granted : tried_after targets.Any (Some (record { 0 = 3 } ∷ [])) ≡ looked 1 0 ∷ []
+a_unit_of_another_type_is_not_granted = refl
+
+a_unit_for_another_before_others_is_granted : tried_after (targets.Soft (rank 0)) (Some (record { 0 = 2 } ∷ [])) ≡ grants 1 0 0 ∷ []
+a_unit_for_another_before_others_is_granted = refl
+
+-- the best one is granted
+the_unit_of_the_highest_priority_is_granted :
+    drop 2 (entered (begun one_rank) (puts 0 (sized_unit 4 0 (pos 3) targets.Any) ∷ puts 0 (sized_unit 4 1 (pos 7) targets.Any)
+    ∷ tries 0 2 None ∷ [])) ≡ grants 0 2 1 ∷ []
+the_unit_of_the_highest_priority_is_granted = refl
+
+-- the end is told to a rank that tries where the problem is done, and to none where all work was found used up
+abbrev tries_at : Kept → List Entry
+tries_at k = entered (record (begun one_rank) { kept = k }) (tries 0 0 None ∷ [])
+
+where_the_problem_is_done_the_end_is_told : tries_at (record empty { done = true }) ≡ enters.Over (rank 0) 0 ends_by.NoMoreWork ∷ []
+where_the_problem_is_done_the_end_is_told = refl
+
+where_all_work_is_used_up_it_is_not : tries_at (record empty { exhausted = true }) ≡ looked 0 0 ∷ []
+where_all_work_is_used_up_it_is_not = refl
+
 -- Which letters are expected, with three ranks, after some letters.
 
 abbrev is_expected_after : List Said → Said → Option Bool
@@ -397,6 +446,9 @@ a_rank_reserves_at_its_home_alone = refl
 
 a_rank_counts_at_its_home_alone : is_some (heard (start two_servers (server 1)) (counts 0 2)) ≡ false
 a_rank_counts_at_its_home_alone = refl
+
+a_rank_tries_at_each_server : is_some (heard (start two_servers (server 1)) (tries 0 0 None)) ≡ true
+a_rank_tries_at_each_server = refl
 
 a_rank_that_waits_does_not_count : is_expected_after (reserves 0 0 ∷ []) (counts 1 2) ≡ Some false
 a_rank_that_waits_does_not_count = refl

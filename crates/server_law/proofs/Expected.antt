@@ -65,6 +65,7 @@ share_some from request batch (Some p) there = there
 pub rule_awaited : (s : ServerModel) (from : Rank) (message : Message) → IsSome (rule s (by.Rank from) message) ↔ IsAwaited s from message
 rule_awaited s from (tells.Put unit) = if_some (expects_put s from unit) _ (expects_put_says s from unit)
 rule_awaited s from (tells.Reserve request types) = if_some (runs_at_home s from) _ (runs_at_home_says s from)
+rule_awaited s from (tells.Try request types) = (λ some. tt, λ is. refl)
 rule_awaited s from (tells.Fetch request id) =
     fetch_some from request id (find (is_pinned_as id from) s.kept.queue.units) (pinned_says id from s.kept.queue.units)
 rule_awaited s from (tells.KeepCommon request common) = if_some (expects_keep s from request common) _ (keep_says s from request common)

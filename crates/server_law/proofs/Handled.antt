@@ -27,6 +27,7 @@ use Rattle.server_law.specs.Carried.{all_done, done}
 use Rattle.server_law.specs.Endings.{ends_event, exhausts, fits, is_quiet, tells_all, tells_one, verdict}
 use Rattle.server_law.specs.Fetches.{fetch}
 use Rattle.server_law.specs.Finding.{Place, best_for, exceeds, is_free_as, is_pinned_as, taker}
+use Rattle.server_law.specs.Looks.{look}
 use Rattle.server_law.specs.Plan.{Decider, Plan, decided, in_order, plan}
 use Rattle.server_law.specs.Puts.{expects_put, gives, is_over, put, put_now, settles, settles_as}
 use Rattle.server_law.specs.Reserves.{reserve}
@@ -178,6 +179,12 @@ reserve_plan s wish expected false true best done exhausted found = made refl (e
 reserve_plan s wish expected false false (Some p) done exhausted found = made refl (expected, (p, found, refl)) refl tt
 reserve_plan s wish expected false false None done exhausted found = made refl (expected, found) refl tt
 
+look_plan : (s : ServerModel) (wish : Wish) (is_done : Bool) (best : Option Placed) → s.kept.done ≡ is_done → best_for s.kept wish ≡ best
+    → IsPlan s (by.Rank wish.rank) (tells.Try wish.request wish.types) (record { first = look is_done best wish; follow = [] })
+look_plan s wish true best done found = made refl done refl tt
+look_plan s wish false (Some p) done found = made refl (p, found, refl) refl tt
+look_plan s wish false None done found = made refl found refl tt
+
 fetch_plan : (s : ServerModel) (from : Rank) (request : ℕ) (id : UnitId) (o : Option Placed)
     → find (is_pinned_as id from) s.kept.queue.units ≡ o
     → IfSome (fetch from request id o) (IsPlan s (by.Rank from) (tells.Fetch request id))
@@ -230,6 +237,9 @@ planned s (by.Rank from) (tells.Reserve request types) =
     let wish : Wish = record { rank = from; request = request; types = types } in
     if_plan s (by.Rank from) (tells.Reserve request types) (runs_at_home s from) _ (λ expected.
     reserve_plan s wish expected s.kept.done s.kept.exhausted (best_for s.kept wish) refl refl refl)
+planned s (by.Rank from) (tells.Try request types) =
+    let wish : Wish = record { rank = from; request = request; types = types } in
+    look_plan s wish s.kept.done (best_for s.kept wish) refl refl
 planned s (by.Rank from) (tells.Fetch request id) = fetch_plan s from request id (find (is_pinned_as id from) s.kept.queue.units) refl
 planned s (by.Rank from) (tells.KeepCommon request common) =
     if_plan s (by.Rank from) (tells.KeepCommon request common) (expects_keep s from request common) _ (λ expected.

@@ -1,5 +1,5 @@
 -- The entries of a server's acts are steps of the bag that agrees with it, and the bag agrees afterwards.
-use Rattle.std.proofs.Common.{◌≡◌, ℕ, ◌+◌, ◌≤◌, ◌<◌, ◌==◌, Bool, true, false, cond, List, [], ◌∷◌, ◌++◌, length, map, filter, Option, Some, None, refl, sym, ap, ◌∙◌, subst, sum_by, arith}
+use Rattle.std.proofs.Common.{◌≡◌, ℕ, ◌+◌, ◌≤◌, ◌<◌, ◌==◌, Bool, true, false, cond, ◌&&◌, is_some, List, [], ◌∷◌, ◌++◌, length, map, filter, Option, Some, None, refl, sym, ap, ◌∙◌, subst, sum_by, arith}
 use Rattle.std.specs.Prelude.{IsTrue, option_and_then}
 use Rattle.std.proofs.lemmas.Bool.{false_from_ne_true, ltb-false, ltb-true}
 use Rattle.adlb_unit.specs.Permit.{permitted}
@@ -11,7 +11,7 @@ use Rattle.adlb_unit.specs.declared.names.WorkType.{WorkType}
 use Rattle.adlb_unit.specs.declared.notes.End.{End}
 use Rattle.adlb_unit.specs.declared.notes.End.TheVariants as ends_by
 use Rattle.adlb_unit.specs.declared.units.Unit.{Unit as Work}
-use Rattle.bag_ledger.specs.Bag.{Bag, charge, has_due, is_due, offer, open_call, putting, rank_at, settled, unit_charge, unit_of, wish}
+use Rattle.bag_ledger.specs.Bag.{Bag, charge, has_due, has_fit_at, is_due, is_free_at, offer, open_call, putting, rank_at, settled, unit_charge, unit_of, wish}
 use Rattle.bag_ledger.specs.Runs.{IsRun}
 use Rattle.bag_ledger.specs.Steps.{Steps, after, has_cause, shared, taken}
 use Rattle.bag_ledger.specs.declared.entries.Entry.{Entry}
@@ -22,16 +22,17 @@ use Rattle.bag_ledger.specs.declared.states.Status.TheVariants as is_at
 use Rattle.bag_ledger.specs.declared.states.UnitPlace.{UnitPlace}
 use Rattle.bag_ledger.specs.declared.states.UnitPlace.TheVariants.{Free, Travelling, Pinned, Spent}
 use Rattle.bag_ledger.proofs.Charge.{unit_put}
+use Rattle.bag_law.specs.Counts.{one}
 use Rattle.bag_law.proofs.Turn.{sum_same}
 use Rattle.work_queue.specs.Counts.{counts_of}
 use Rattle.work_queue.specs.Queue.{charge_of, has_other_id, pinned_by, size_of, with_unit}
 use Rattle.work_queue.specs.declared.placing.Placed.{Placed}
-use Rattle.server_law.specs.Acts.{Accepts, Closes, Counts, Ends_keep, Ends_put, Ends_reserve, Fetches, Fetches_part, Finds, Gives, Grants, Keeps, Notes_finish, Parks, Refuses, Refuses_part, Shuts, Tells, entries}
+use Rattle.server_law.specs.Acts.{Accepts, Closes, Counts, Ends_keep, Ends_put, Ends_reserve, Ends_try, Fetches, Fetches_part, Finds, Gives, Grants, Grants_try, Keeps, Looks, Notes_finish, Parks, Refuses, Refuses_part, Shuts, Tells, entries}
 use Rattle.adlb_unit.specs.declared.names.CommonRef.{CommonRef}
 use Rattle.server_law.specs.Agreement.{ServerAgrees, UnitWeight, of_batch, pinned_weight, weight_at}
 use Rattle.server_law.specs.Carried.{done}
-use Rattle.server_law.specs.Finding.{unit_with}
-use Rattle.server_law.specs.Legal.{ActsAreLegal, AsksFor, Does, IsOpen, Offers}
+use Rattle.server_law.specs.Finding.{best_for, unit_with}
+use Rattle.server_law.specs.Legal.{ActsAreLegal, AsksFor, Does, IsOpen, Offers, TriesFor}
 use Rattle.server_law.specs.Puts.{is_over}
 use Rattle.server_law.specs.State.{ServerModel, Wish, runs_at_home}
 use Rattle.server_law.specs.Sure.{HasCause, IsExhausted}
@@ -42,6 +43,7 @@ use Rattle.server_law.proofs.Counting.{info_agrees}
 use Rattle.server_law.proofs.Entering.{AreSteps, charge_agrees, is_step, none_changed}
 use Rattle.server_law.proofs.PartEntries.{closes, fetches_part, keeps, refuses_part}
 use Rattle.server_law.proofs.Lodging.{holds_added, holds_pinned, holds_taken, lodged, place_is}
+use Rattle.server_law.proofs.Resting.{fit, none_counted}
 use Rattle.server_law.proofs.Tests.{runs_at_home_says}
 
 -- Puts.
@@ -98,8 +100,18 @@ ends b s rank call end r m rests at pending cause =
 
 -- Grants.
 
+-- the rank wants a unit of these types in this call, by a reserve or a try
+abbrev Wants : Bag → Wish → Type 0
+Wants b w = (r : RankState) × (rank_at b w.rank ≡ Some r) × (wish r.status ≡ Some (w.request, w.types))
+
+wants_by_reserve : (b : Bag) (w : Wish) → AsksFor b w → Wants b w
+wants_by_reserve b w asks = (asks.0, asks.1, ap wish asks.2)
+
+wants_by_try : (b : Bag) (w : Wish) → TriesFor b w → Wants b w
+wants_by_try b w tries = (tries.0, tries.1, ap wish tries.2)
+
 -- a unit that fits is pinned to the rank
-grants : (b : Bag) (s : ServerModel) (wish : Wish) (p : Placed) → ServerAgrees b s → has_due b ≡ false → AsksFor b wish
+grants : (b : Bag) (s : ServerModel) (wish : Wish) (p : Placed) → ServerAgrees b s → has_due b ≡ false → Wants b wish
     → IsFit wish s.kept.queue.units p
     → AreSteps b (enters.Granted s.me wish.rank wish.request p.unit.id ∷ [])
     (with_units (map (pinned_by p.unit.id wish.rank) s.kept.queue.units) s.kept.queue.arrivals s)
@@ -110,8 +122,38 @@ grants b s w p m rests asks fit =
     let now = map (pinned_by p.unit.id w.rank) s.kept.queue.units in
     let holds = holds_pinned b.units s.me s.kept.queue.units p.unit.id w.rank p u.0 m.units fit.found u.1 in
     is_step b (enters.Granted s.me w.rank w.request p.unit.id) (with_units now s.kept.queue.arrivals s)
-    (rw rests refl, (asks.0, w.types, u.0, asks.1, ap wish asks.2, rw m.servers m.within, (u.1.found, place), permits), refl)
+    (rw rests refl, (asks.0, w.types, u.0, asks.1, asks.2, rw m.servers m.within, (u.1.found, place), permits), refl)
     (units_agree b s _ now s.kept.queue.arrivals m holds) rests
+
+-- Looks.
+
+-- a unit is free here and permitted in the bag where it is so in the queue
+counted_at : (me : Server) (rank : Rank) (types : Option (List WorkType)) (unit : Work) (place : UnitPlace)
+    → one (is_free_at me place && permitted rank types unit.kind unit.target)
+    ≡ weight_at me (fit rank types) (record { unit = unit; place = place })
+counted_at me rank types unit (Free at) = by_test (at.0 == me.0)
+  where
+    by_test : (t : Bool)
+        → one (t && permitted rank types unit.kind unit.target) ≡ pinned_weight (fit rank types) unit (cond t (Some None) None)
+    by_test true = refl
+    by_test false = refl
+counted_at me rank types unit (Pinned at to) = by_test (at.0 == me.0)
+  where
+    by_test : (t : Bool) → 0 ≡ pinned_weight (fit rank types) unit (cond t (Some (Some to)) None)
+    by_test true = refl
+    by_test false = refl
+counted_at me rank types unit (Travelling to) = refl
+counted_at me rank types unit Spent = refl
+
+looks : (b : Bag) (s : ServerModel) (wish : Wish) → ServerAgrees b s → has_due b ≡ false → TriesFor b wish
+    → best_for s.kept wish ≡ None → AreSteps b (entries (Looks wish) s) (done (Looks wish) s)
+looks b s wish m rests tries none =
+    let unfit : has_fit_at b s.me wish.rank wish.types ≡ false =
+    none_counted b.units s.me s.kept wish
+    (λ (u : Lodged). is_free_at s.me u.place && permitted wish.rank wish.types u.unit.kind u.unit.target) m.units
+    (λ i u at. counted_at s.me wish.rank wish.types u.unit u.place) (ap is_some none) in
+    is_step b (enters.Looked s.me wish.rank wish.request) (done (Looks wish) s)
+    (rw rests refl, (tries.0, wish.types, tries.1, tries.2, rw m.servers m.within, unfit), refl) m rests
 
 -- Fetches.
 
@@ -164,10 +206,17 @@ acts_are_legal b s (Grants wish unit) m rests sits sure needs =
     let found = sure.1 in
     let fit = best_is_fit s.kept wish found.0 m.units.distinct found.1 in
     subst (λ (u : Work). AreSteps b (entries (Grants wish u) s) (done (Grants wish u) s)) found.2
-    (grants b s wish found.0 m rests needs fit)
+    (grants b s wish found.0 m rests (wants_by_reserve b wish needs) fit)
 acts_are_legal b s (Ends_reserve wish end) m rests sits sure needs =
     ends b s wish.rank wish.request end needs.0 m rests needs.1 (ap open_call needs.2) sure.1
 acts_are_legal b s (Parks wish) m rests sits sure needs = (b, refl, m, rests)
+acts_are_legal b s (Grants_try wish unit) m rests sits sure needs =
+    let fit = best_is_fit s.kept wish sure.0 m.units.distinct sure.1 in
+    subst (λ (u : Work). AreSteps b (entries (Grants_try wish u) s) (done (Grants_try wish u) s)) sure.2
+    (grants b s wish sure.0 m rests (wants_by_try b wish needs) fit)
+acts_are_legal b s (Ends_try wish end) m rests sits sure needs =
+    ends b s wish.rank wish.request end needs.0 m rests needs.1 (ap open_call needs.2) sure
+acts_are_legal b s (Looks wish) m rests sits sure needs = looks b s wish m rests needs sure
 acts_are_legal b s (Fetches rank request id unit) m rests sits sure needs =
     let at = pinned_is_found s.kept.queue.units id rank sure.0 m.units.distinct sure.1 in
     fetches b s rank request id sure.0 m rests needs at.0 at.1
@@ -182,7 +231,7 @@ acts_are_legal b s (Gives at wish rest unit) m rests sits sure needs =
       permits = rw found.2 sure.1;
     } in
     subst (λ (u : Work). AreSteps b (entries (Gives at wish rest u) s) (done (Gives at wish rest u) s)) found.2
-    (grants b s wish found.0 m rests needs fit)
+    (grants b s wish found.0 m rests (wants_by_reserve b wish needs) fit)
 acts_are_legal b s (Tells at wish rest end) m rests sits sure needs =
     ends b s wish.rank wish.request end needs.0 m rests needs.1 (ap open_call needs.2) sure
 acts_are_legal b s Finds m rests sits sure needs = finds b s m rests sure needs

@@ -40,7 +40,7 @@ none_travels me (Travelling to) here = absurd here
 none_travels me Spent here = refl
 
 -- the units that fit are counted alike by the bag and by the server
-abbrev fit : Rank → Option (List WorkType) → UnitWeight
+abbrev pub fit : Rank → Option (List WorkType) → UnitWeight
 fit rank types unit free = one (free && permitted rank types unit.kind unit.target)
 
 abbrev fits_rank : Rank → Option (List WorkType) → Lodged → Bool
@@ -54,21 +54,26 @@ counted_here me rank types unit (Pinned at to) here = rw (here, same_number me.0
 counted_here me rank types unit (Travelling to) here = absurd here
 counted_here me rank types unit Spent here = refl
 
-none_fits_rank : (all : List Lodged) (me : Server) (k : Kept) (wish : Wish) → HoldsUnits all me k.queue.units
-    → All (IsKeptAt me) all → is_some (best_for k wish) ≡ false → list_any (fits_rank wish.rank wish.types) all ≡ false
-none_fits_rank all me k wish holds here none =
-    let test = fits_rank wish.rank wish.types in
+-- no unit passes a test by which as many are counted as fit
+pub none_counted : (all : List Lodged) (me : Server) (k : Kept) (wish : Wish) (test : Lodged → Bool) → HoldsUnits all me k.queue.units
+    → ((i : ℕ) (u : Lodged) → slice_get all i ≡ Some u → one (test u) ≡ weight_at me (fit wish.rank wish.types) u)
+    → is_some (best_for k wish) ≡ false → list_any test all ≡ false
+none_counted all me k wish test holds alike none =
     let f = fit wish.rank wish.types in
     let units = k.queue.units in
-    let counted : sum_by (λ u. one (test u)) all ≡ sum_by (weight_at me f) all =
-    sum_same (λ u. one (test u)) (weight_at me f) all
-    (λ i u at. counted_here me wish.rank wish.types u.unit u.place (all_at (IsKeptAt me) all i u here at)) in
+    let counted : sum_by (λ u. one (test u)) all ≡ sum_by (weight_at me f) all = sum_same (λ u. one (test u)) (weight_at me f) all alike in
     let zero : sum_by (weight_in f) units ≤ length units * 0 =
     sum_by-le (weight_in f) 0 units
     (All-weaker (λ p. offered wish.rank wish.types p ≡ false) (λ p. weight_in f p ≤ 0) (λ p no. rw no (omega arith)) units
     (nothing_fits k wish none)) in
     let same = holds.weighs f in
     list_any_none test all (find_none test all (none_found test all (omega arith)))
+
+none_fits_rank : (all : List Lodged) (me : Server) (k : Kept) (wish : Wish) → HoldsUnits all me k.queue.units
+    → All (IsKeptAt me) all → is_some (best_for k wish) ≡ false → list_any (fits_rank wish.rank wish.types) all ≡ false
+none_fits_rank all me k wish holds here none =
+    none_counted all me k wish (fits_rank wish.rank wish.types) holds
+    (λ i u at. counted_here me wish.rank wish.types u.unit u.place (all_at (IsKeptAt me) all i u here at)) none
 
 -- no unit fits a rank that waits
 none_fits_waiting : (b : Bag) (s : ServerModel) → RestsAt b s → (rank : Rank) (r : RankState) → WaitsFor s.kept.parked.waiting rank r

@@ -46,6 +46,10 @@ pub data Act : Type 0 where
   Grants : Wish → Work → Act
   Ends_reserve : Wish → End → Act
   Parks : Wish → Act
+  -- a try: a unit is pinned to the rank, the call is ended, or there is none
+  Grants_try : Wish → Work → Act
+  Ends_try : Wish → End → Act
+  Looks : Wish → Act
   -- a fetch of the unit of this id, in the call of this number
   Fetches : Rank → ℕ → UnitId → Work → Act
   -- a count of the free units of a type, in the call of this number
@@ -87,6 +91,9 @@ takes (Ends_put unit end) = of_rank unit.id.rank (tells.Put unit) ∷ []
 takes (Grants wish unit) = of_rank wish.rank (tells.Reserve wish.request wish.types) ∷ []
 takes (Ends_reserve wish end) = of_rank wish.rank (tells.Reserve wish.request wish.types) ∷ []
 takes (Parks wish) = of_rank wish.rank (tells.Reserve wish.request wish.types) ∷ []
+takes (Grants_try wish unit) = of_rank wish.rank (tells.Try wish.request wish.types) ∷ []
+takes (Ends_try wish end) = of_rank wish.rank (tells.Try wish.request wish.types) ∷ []
+takes (Looks wish) = of_rank wish.rank (tells.Try wish.request wish.types) ∷ []
 takes (Fetches rank request id unit) = of_rank rank (tells.Fetch request id) ∷ []
 takes (Counts rank request kind) = of_rank rank (tells.Count request kind) ∷ []
 takes (Notes_finish rank) = of_rank rank tells.Finish ∷ []
@@ -131,6 +138,7 @@ given_back part q = if is_due part then without_common q (length part.bytes) els
 abbrev pub queue_after : Act → Queue → Queue
 queue_after (Accepts unit) q = with_unit q unit
 queue_after (Grants wish unit) q = with_pin q unit.id wish.rank
+queue_after (Grants_try wish unit) q = with_pin q unit.id wish.rank
 queue_after (Fetches rank request id unit) q = without q id
 queue_after (Gives at wish rest unit) q = with_pin q unit.id wish.rank
 queue_after (Keeps rank request common) q = with_common q (length common)
@@ -178,6 +186,9 @@ says (Refuses unit) s = to_rank unit.id.rank (tells.Full unit.id.number (charge_
 says (Ends_put unit end) s = to_rank unit.id.rank (tells.Ended unit.id.number end) ∷ []
 says (Grants wish unit) s = to_rank wish.rank (tells.Grant wish.request (note_of s.me unit)) ∷ []
 says (Ends_reserve wish end) s = to_rank wish.rank (tells.Ended wish.request end) ∷ []
+says (Grants_try wish unit) s = to_rank wish.rank (tells.Grant wish.request (note_of s.me unit)) ∷ []
+says (Ends_try wish end) s = to_rank wish.rank (tells.Ended wish.request end) ∷ []
+says (Looks wish) s = to_rank wish.rank (tells.Nothing wish.request) ∷ []
 says (Fetches rank request id unit) s = to_rank rank (tells.Bytes request unit.body) ∷ []
 says (Counts rank request kind) s = to_rank rank (tells.Counted request (counts_of kind s.kept.queue.units)) ∷ []
 says (Gives at wish rest unit) s = to_rank wish.rank (tells.Grant wish.request (note_of s.me unit)) ∷ []
@@ -199,6 +210,9 @@ entries (Refuses unit) s = enters.Refused s.me unit.id (charge_of s.kept.queue) 
 entries (Ends_put unit end) s = enters.Over unit.id.rank unit.id.number end ∷ []
 entries (Grants wish unit) s = enters.Granted s.me wish.rank wish.request unit.id ∷ []
 entries (Ends_reserve wish end) s = enters.Over wish.rank wish.request end ∷ []
+entries (Grants_try wish unit) s = enters.Granted s.me wish.rank wish.request unit.id ∷ []
+entries (Ends_try wish end) s = enters.Over wish.rank wish.request end ∷ []
+entries (Looks wish) s = enters.Looked s.me wish.rank wish.request ∷ []
 entries (Fetches rank request id unit) s = enters.Fetched s.me rank id ∷ []
 entries (Counts rank request kind) s = enters.Counted s.me rank request (counts_of kind s.kept.queue.units) ∷ []
 entries (Gives at wish rest unit) s = enters.Granted s.me wish.rank wish.request unit.id ∷ []

@@ -39,6 +39,8 @@ abbrev pub IsAwaited : ServerModel → Rank → Message → Type 0
 IsAwaited s from (tells.Put unit) = IsNew s from unit
 -- the sender's home is here, and it runs
 IsAwaited s from (tells.Reserve request types) = IsHome s from × Runs s from
+-- each rank may look at each server
+IsAwaited s from (tells.Try request types) = Prim.Unit {0}
 -- the unit is here and pinned to the sender
 IsAwaited s from (tells.Fetch request id) = HasPinned id from s.kept.queue.units
 -- nothing is kept of the batch, and its common part is no longer than it may be

@@ -17,7 +17,7 @@ use Rattle.bag_ledger.specs.declared.states.RankState.{RankState}
 use Rattle.bag_ledger.specs.declared.states.Status.{Status}
 use Rattle.bag_ledger.specs.declared.states.Status.TheVariants as is_at
 use Rattle.bag_law.specs.Sound.{IsSoundBag}
-use Rattle.server_law.specs.Acts.{Act, Accepts, Closes, Counts, Ends_keep, Ends_put, Ends_reserve, Fetches, Fetches_part, Finds, Gives, Grants, Keeps, Refuses, Refuses_part, Tells, batch_of, entries}
+use Rattle.server_law.specs.Acts.{Act, Accepts, Closes, Counts, Ends_keep, Ends_put, Ends_reserve, Ends_try, Fetches, Fetches_part, Finds, Gives, Grants, Grants_try, Keeps, Looks, Refuses, Refuses_part, Tells, batch_of, entries}
 use Rattle.server_law.specs.Agreement.{ServerAgrees}
 use Rattle.server_law.specs.Carried.{done}
 use Rattle.server_law.specs.State.{ServerModel, Wish}
@@ -34,6 +34,9 @@ Does b rank status = (r : RankState) × (rank_at b rank ≡ Some r) × (r.status
 
 abbrev pub AsksFor : Bag → Wish → Type 0
 AsksFor b wish = Does b wish.rank (is_at.Asking wish.request wish.types)
+
+abbrev pub TriesFor : Bag → Wish → Type 0
+TriesFor b wish = Does b wish.rank (is_at.Trying wish.request wish.types)
 
 -- the rank puts the unit, and this server has not refused it
 abbrev pub Offers : Bag → Server → Work → Type 0
@@ -67,6 +70,9 @@ Needs (Refuses unit) b me = Offers b me unit
 Needs (Ends_put unit end) b me = Does b unit.id.rank (is_at.Putting unit)
 Needs (Grants wish unit) b me = AsksFor b wish
 Needs (Ends_reserve wish end) b me = AsksFor b wish
+Needs (Grants_try wish unit) b me = TriesFor b wish
+Needs (Ends_try wish end) b me = TriesFor b wish
+Needs (Looks wish) b me = TriesFor b wish
 Needs (Fetches rank request id unit) b me = Does b rank (is_at.Fetching request id false)
 Needs (Counts rank request kind) b me = Does b rank (is_at.Counting request kind)
 Needs (Gives at wish rest unit) b me = AsksFor b wish

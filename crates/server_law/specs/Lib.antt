@@ -9,6 +9,7 @@ pub mod Fetches
 pub mod Finding
 pub mod Finishes
 pub mod Legal
+pub mod Looks
 pub mod Plan
 pub mod Puts
 pub mod Quiet

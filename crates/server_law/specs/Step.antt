@@ -15,6 +15,7 @@ use Rattle.server_law.specs.Counts.{count_rule}
 use Rattle.server_law.specs.Endings.{ends_event}
 use Rattle.server_law.specs.Fetches.{fetch_rule}
 use Rattle.server_law.specs.Finishes.{finish_rule}
+use Rattle.server_law.specs.Looks.{look_rule}
 use Rattle.server_law.specs.Plan.{Plan, in_order}
 use Rattle.server_law.specs.Puts.{put_rule}
 use Rattle.server_law.specs.Reserves.{reserve_rule}
@@ -24,6 +25,7 @@ use Rattle.server_law.specs.State.{ServerModel}
 abbrev pub rule : ServerModel → Actor → Message → Option Plan
 rule s (by.Rank from) (tells.Put unit) = put_rule s from unit
 rule s (by.Rank from) (tells.Reserve request types) = reserve_rule s (record { rank = from; request = request; types = types })
+rule s (by.Rank from) (tells.Try request types) = look_rule s (record { rank = from; request = request; types = types })
 rule s (by.Rank from) (tells.Fetch request id) = fetch_rule s from request id
 rule s (by.Rank from) (tells.KeepCommon request common) = keep_rule s from request common
 rule s (by.Rank from) (tells.CloseBatch request batch accepted) = close_rule s from request batch accepted

@@ -7,7 +7,7 @@ use Rattle.adlb_unit.specs.declared.notes.End.{End}
 use Rattle.adlb_unit.specs.declared.notes.End.TheVariants as ends_by
 use Rattle.adlb_unit.specs.declared.units.Unit.{Unit as Work}
 use Rattle.work_queue.specs.declared.placing.Placed.{Placed}
-use Rattle.server_law.specs.Acts.{Act, Accepts, Around, Closes, Counts, Ends_keep, Ends_put, Ends_reserve, Fetches, Fetches_part, Finds, Gives, Grants, Heard, Keeps, Notes_finish, Parks, Refuses, Refuses_part, Shuts, Tells, around, goes, takes}
+use Rattle.server_law.specs.Acts.{Act, Accepts, Around, Closes, Counts, Ends_keep, Ends_put, Ends_reserve, Ends_try, Fetches, Fetches_part, Finds, Gives, Grants, Grants_try, Heard, Keeps, Looks, Notes_finish, Parks, Refuses, Refuses_part, Shuts, Tells, around, goes, takes}
 use Rattle.batch_store.specs.Store.{part_in}
 use Rattle.server_law.specs.Batches.{can_close, can_fetch, expects_keep}
 use Rattle.server_law.specs.Carried.{done}
@@ -52,6 +52,9 @@ Sure (Ends_put unit end) s = (expects_put s unit.id.rank unit ≡ true) × HasCa
 Sure (Grants wish unit) s = (runs_at_home s wish.rank ≡ true) × IsFound (best_for s.kept wish) unit
 Sure (Ends_reserve wish end) s = (runs_at_home s wish.rank ≡ true) × HasCause s.kept end
 Sure (Parks wish) s = (runs_at_home s wish.rank ≡ true) × (best_for s.kept wish ≡ None)
+Sure (Grants_try wish unit) s = IsFound (best_for s.kept wish) unit
+Sure (Ends_try wish end) s = HasCause s.kept end
+Sure (Looks wish) s = best_for s.kept wish ≡ None
 Sure (Fetches rank request id unit) s = IsFound (find (is_pinned_as id rank) s.kept.queue.units) unit
 Sure (Counts rank request kind) s = runs_at_home s rank ≡ true
 Sure (Notes_finish rank) s = runs s.kept rank ≡ true

@@ -2,7 +2,7 @@
 //!
 //! A server's step is a list of acts. `specs/State.antt` says what a server keeps, `specs/Acts.antt` what each act takes,
 //! changes, says and enters, and `specs/Carried.antt` how acts follow each other. The rule of each letter stands in a file
-//! of its own (`specs/Puts.antt`, `specs/Reserves.antt`, `specs/Fetches.antt`, `specs/Counts.antt`, `specs/Finishes.antt`), what follows each
+//! of its own (`specs/Puts.antt`, `specs/Reserves.antt`, `specs/Looks.antt`, `specs/Fetches.antt`, `specs/Counts.antt`, `specs/Finishes.antt`), what follows each
 //! event in `specs/Endings.antt`, and the step of a letter in `specs/Step.antt`. `specs/Expected.antt` says which letters
 //! have a step, `specs/Agreement.antt` which part of the bag of units a server stands for. The code of a server,
 //! `server_core`, and the laws of runs both stand on it.

@@ -18,7 +18,7 @@ use Rattle.bag_ledger.specs.declared.entries.Call.TheVariants as calls_to
 use Rattle.rank_client.specs.declared.pendings.Pending.{Pending}
 use Rattle.rank_client.specs.declared.pendings.Pending.TheVariants as waits_for
 use Rattle.rank_client.specs.Rules.{ClientResponse, ClientSaying, answer_call, close, fetch, held, is_free}
-use Rattle.rank_client.specs.Rules.{keep, open_call, own_came, part_refused, put, refused, reserve, unit_put}
+use Rattle.rank_client.specs.Rules.{keep, look, looked, open_call, own_came, part_refused, put, refused, reserve, unit_put}
 use Rattle.rank_client.specs.State.{ClientModel}
 use Rattle.rank_client.specs.Step.{Made, begin, call_stamp, hear, letter_stamp, made, post, ticked}
 use Rattle.rank_client.proofs.Granted.{if_is, if_there, map_is}
@@ -43,6 +43,10 @@ reserve_few : (s : ClientModel) (types : Option (List WorkType)) (end : Option E
 reserve_few s types (Some end) = omega arith
 reserve_few s types None = omega arith
 
+look_few : (s : ClientModel) (types : Option (List WorkType)) (end : Option End) → Few (look s types end)
+look_few s types (Some end) = omega arith
+look_few s types None = omega arith
+
 keep_few : (s : ClientModel) (common : List ℕ) (end : Option End) → Few (keep s common end)
 keep_few s common (Some end) = omega arith
 keep_few s common None = omega arith
@@ -59,6 +63,7 @@ open_few : (s : ClientModel) (call : Call) (z : ClientResponse) → open_call s 
 open_few s (calls_to.Put kind prio target answer body) z is =
     subst Few (if_is _ _ z is) (put_few s (unit_put s kind prio target answer body) s.end)
 open_few s (calls_to.Reserve types) z is = subst Few (if_is _ _ z is) (reserve_few s types s.end)
+open_few s (calls_to.Try types) z is = subst Few (if_is true _ z is) (look_few s types s.end)
 open_few s (calls_to.Fetch id) z is = fetch_few s id (held s id) z is
 open_few s (calls_to.BeginBatch common) z is = subst Few (if_is _ _ z is) (keep_few s common s.end)
 open_few s calls_to.EndBatch z is = close_few s s.batch z is
@@ -82,6 +87,10 @@ part_refused_few : (s : ClientModel) (request : ℕ) (common : List ℕ) (first 
 part_refused_few s request common first tried true = omega arith
 part_refused_few s request common first tried false = omega arith
 
+looked_few : (s : ClientModel) (request : ℕ) (types : Option (List WorkType)) (tried : ℕ) (more : Bool) → Few (looked s request types tried more)
+looked_few s request types tried true = omega arith
+looked_few s request types tried false = omega arith
+
 own_few : (s : ClientModel) (request : ℕ) (note : UnitNote) (own : List ℕ) (common : Option CommonRef)
     → Few (own_came s request note own common)
 own_few s request note own None = omega arith
@@ -96,6 +105,11 @@ answer_few s (waits_for.Put unit first tried) from _ z is = absurd (cc)
 answer_few s (waits_for.Reserve request types) from (tells.Grant to note) z is = subst Few (if_is _ _ z is) (omega arith)
 answer_few s (waits_for.Reserve request types) from (tells.Ended to end) z is = subst Few (if_is _ _ z is) (omega arith)
 answer_few s (waits_for.Reserve request types) from _ z is = absurd (cc)
+answer_few s (waits_for.Try request types tried) from (tells.Grant to note) z is = subst Few (if_is _ _ z is) (omega arith)
+answer_few s (waits_for.Try request types tried) from (tells.Nothing to) z is =
+    subst Few (if_is _ _ z is) (looked_few s request types tried (nat_lt (tried + 1) s.config.servers))
+answer_few s (waits_for.Try request types tried) from (tells.Ended to end) z is = subst Few (if_is _ _ z is) (omega arith)
+answer_few s (waits_for.Try request types tried) from _ z is = absurd (cc)
 answer_few s (waits_for.Fetch request note) from (tells.Bytes to body) z is =
     subst Few (if_is _ _ z is) (own_few s request note body note.common)
 answer_few s (waits_for.Fetch request note) from _ z is = absurd (cc)

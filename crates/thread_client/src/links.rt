@@ -14,7 +14,8 @@ use adlb_io::{Gate, GatePoint};
 use adlb_unit::{Config, Handle, Info, NoMemory, Payload, Rank, Target, Trouble, Types, WorkType};
 use bag_ledger::{Answer, Body, Call, Said};
 use rank_client::{
-    Adlb, EndFault, PutFault, count_result, done_result, fetch_result, put_result, reserve_result,
+    Adlb, EndFault, PutFault, TryFault, count_result, done_result, fetch_result, put_result,
+    reserve_result, try_result,
 };
 use rank_mail::{Inbox, Post};
 use std::alloc::Global;
@@ -128,6 +129,15 @@ impl<R: Wait + Copy, G: Gate + Drop> Adlb for ThreadedLink<R, G> {
         });
         self.pass(call, &answer);
         reserve_result(answer)
+    }
+
+    fn ireserve(&mut self, types: &Types) -> Result<Handle, TryFault> {
+        let call = self.run.next_call();
+        let answer = self.run.call(Call::Try {
+            types: types.twin(),
+        });
+        self.pass(call, &answer);
+        try_result(answer)
     }
 
     fn get_reserved(&mut self, handle: Handle) -> Result<Body, (Handle, Trouble)> {

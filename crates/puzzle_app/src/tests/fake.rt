@@ -4,14 +4,14 @@ ghost use Rattle.std.specs.Prelude.{◌≡◌, ◌<◌, ◌≤◌, ◌^◌, ◌+
 ghost use Rattle.adlb_unit.specs.Ids.{same_unit};
 ghost use Rattle.adlb_unit.specs.declared.notes.End.{End};
 ghost use Rattle.adlb_unit.specs.declared.notes.Trouble.{Trouble};
-ghost use Rattle.rank_client.specs.Calls.{Repeats, TellsAgain, end_answer, end_of, end_told, end_trouble, fetches, grants, is_fetched, is_granted, plus, put_answer, put_trouble};
+ghost use Rattle.rank_client.specs.Calls.{Repeats, TellsAgain, end_answer, end_of, end_told, end_trouble, fetches, grants, is_fetched, is_granted, plus, put_answer, put_trouble, try_answer, try_trouble};
 
 use adlb_unit::{
     BatchId, CommonRef, End, Handle, Info, NoMemory, Payload, Rank, Server, Target, Trouble, Types,
     UnitId, UnitNote, WorkType,
 };
 use bag_ledger::{Answer, Body, Call, Said};
-use rank_client::{Adlb, EndFault, PutFault};
+use rank_client::{Adlb, EndFault, PutFault, TryFault};
 use std::alloc::Global;
 use std::collections::VecDeque;
 
@@ -289,6 +289,26 @@ fn end_end(end: End) -> EndFault
     }
 }
 
+fn try_fault(trouble: Trouble) -> TryFault
+    ensures trouble { try_trouble (Err result) ≡ Some trouble }
+    ensures answer { try_answer (Err result) ≡ None }
+{
+    match trouble {
+        Trouble::Memory => TryFault::Memory,
+        Trouble::TooLong { stamp } => TryFault::TooLong { stamp },
+    }
+}
+
+fn try_end(end: End) -> TryFault
+    ensures trouble { try_trouble (Err result) ≡ None }
+    ensures answer { try_answer (Err result) ≡ Some (Answer.Ended end) }
+{
+    match end {
+        End::NoMoreWork => TryFault::NoMoreWork,
+        End::Exhausted => TryFault::Exhausted,
+    }
+}
+
 // The answer of a reserve that ends so, or the trouble with which it fails.
 fn of_reserve(told: Result<UnitNote, EndFault>) -> Result<Answer, Trouble>
     ensures answer { IfOk result (λ a. end_answer told ≡ Some a) }
@@ -435,6 +455,29 @@ impl Fake {
         }
     }
 
+    // Finds no unit now, or tells the end again.
+    fn try_in_vain(&mut self, types: Types) -> TryFault
+        ensures says { self.new.said.items ≡ plus self.old.said.items (Call.Try types) (try_answer (Err result)) }
+        ensures told { TellsAgain (end_told self.old.said.items) (try_answer (Err result)) }
+        ensures failed { self.new.trouble ≡ try_trouble (Err result) }
+        ensures repeats { Repeats self.old.trouble (try_trouble (Err result)) }
+        ensures going { self.new.going ≡ self.old.going }
+    {
+        if let Some(trouble) = self.trouble {
+            return try_fault(trouble);
+        }
+        if let Some(end) = self.end() {
+            return match self.say(Call::Try { types }, Answer::Ended(end)) {
+                Ok(()) => try_end(end),
+                Err(trouble) => try_fault(trouble),
+            };
+        }
+        match self.say(Call::Try { types }, Answer::NoCurrent) {
+            Ok(()) => TryFault::NoCurrentWork,
+            Err(trouble) => try_fault(trouble),
+        }
+    }
+
     // The bytes of the next unit twice, if they are as many.
     fn next_bodies(&mut self, total: u64) -> Result<(Body, Body), Trouble>
         ensures said { self.new.said ≡ self.old.said }
@@ -550,6 +593,12 @@ impl Adlb for Fake {
             Ok(note) => Ok(Handle::of(note)),
             Err(fault) => Err(fault),
         }
+    }
+
+    fn ireserve(&mut self, types: &Types) -> Result<Handle, TryFault> {
+        let fault = self.try_in_vain(types.twin());
+        self.shut();
+        Err(fault)
     }
 
     fn get_reserved(&mut self, handle: Handle) -> Result<Body, (Handle, Trouble)> {

@@ -1,4 +1,5 @@
 use Rattle.std.proofs.Common.{refl}
+use Rattle.rank_client.specs.Calls.{end_answer}
 use Rattle.core_inline.proofs.Scripts.{granted_result, still_running, unfetched_result}
 use Rattle.core_inline.proofs.tests.reserve.Goals as goal
 
@@ -8,9 +9,9 @@ returns-clause-running c =
 
 pub returns-clause-granted : goal.returns-clause-granted
 returns-clause-granted c =
-    granted_result c.args.world.now.run.transcript c.reserve.new.self.run.transcript _ c.reserve.result c.reserve.ensures.says
+    granted_result end_answer (λ note. refl) c.args.world.now.run.transcript c.reserve.new.self.run.transcript _ c.reserve.result c.reserve.ensures.says
 
 pub returns-clause-once : goal.returns-clause-once
 returns-clause-once c =
-    unfetched_result c.args.world.now.run.transcript c.reserve.new.self.run.transcript _ c.reserve.result c.reserve.ensures.says
+    unfetched_result end_answer (λ note. refl) c.args.world.now.run.transcript c.reserve.new.self.run.transcript _ c.reserve.result c.reserve.ensures.says
     (λ id. refl) c.reserve.ensures.unfetched

@@ -1,5 +1,6 @@
 use Rattle.std.proofs.Common.{◌≡◌, ◌∷◌, [], sym, ap, ◌∙◌, subst}
 use Rattle.std.proofs.lemmas.List.Elements.{All-contains}
+use Rattle.std.proofs.lemmas.Result.{on_ok_weaker}
 use Rattle.adlb_unit.specs.declared.actors.Actor.TheVariants as by
 use Rattle.bag_ledger.proofs.Tests.{some_is}
 use Rattle.work_queue.specs.Queue.{id_of}
@@ -13,7 +14,13 @@ use Rattle.server_law.specs.Step.{rule}
 use Rattle.server_law.proofs.Expected.{rule_awaited}
 use Rattle.server_law.proofs.Found.{pinned_is, pinned_there}
 use Rattle.server_core.specs.Out.{going_on, made}
+use Rattle.server_core.proofs.Going.{put_goes}
 use Rattle.server_core.proofs.states.ServerState.follow.Goals as goal
+
+pub returns-in-Put-clause-ok : goal.returns-in-Put-clause-ok
+returns-in-Put-clause-ok c =
+    on_ok_weaker c.put.result
+    (put_goes c.args.self.now c.put.new.self c.args.out.now c.put.new.out c.args.from c.args.message c.in-Put.unit c.in-Put.is) c.put.ensures.ok
 
 pub fetch-requires-clause-pinned : goal.fetch-requires-clause-pinned
 fetch-requires-clause-pinned c =
