@@ -1,1 +1,3 @@
+pub mod Confirmed
+pub mod Inside
 pub mod Reports

@@ -1,3 +1,3 @@
 mod Ends
-mod Lists
+pub mod Lists
 mod Steps
