@@ -25,8 +25,8 @@ use Rattle.clap.specs.declared.builder.value_parser.Reading.{Reading}
 use Rattle.clap.specs.declared.builder.value_parser.Reading.TheVariants.{AsWritten}
 use Rattle.clap.specs.declared.parser.matches.ArgMatches.{ArgMatches}
 use Rattle.clap.specs.declared.parser.matches.MatchedArg.{MatchedArg}
-use Rattle.command_words.specs.Inside.{HoldsIn, HoldsMade, HoldsRun}
-use Rattle.command_words.specs.Ranges.{budgets, counts, grains, limits, seeds}
+use Rattle.command_words.specs.Inside.{HoldsActors, HoldsIn, HoldsMade, HoldsRun}
+use Rattle.command_words.specs.Ranges.{budgets, counts, grains, limits, rank_counts, seeds, server_counts}
 
 abbrev pub is_parser : ℕ → ℕ → Option ValueParser → Bool
 is_parser low high (Some (Unsigned a b)) = a == low && b == high
@@ -200,9 +200,19 @@ module _ (app : App) (old : Command) (m : ArgMatches) (p : IsParsedFrom old m) (
     seed = number_holds app old m p same_app (codes "seed") seeds.low seeds.high (named app _ _ _ seed);
   }
 
-  pub run_holds : names app (codes "limit") limits.low limits.high ≡ true → names app (codes "budget") budgets.low budgets.high ≡ true
+  actors_hold : names app (codes "ranks") rank_counts.low rank_counts.high ≡ true
+      → names app (codes "servers") server_counts.low server_counts.high ≡ true → HoldsActors (rows_of (found_of m))
+  actors_hold ranks servers = record {
+    ranks = number_holds app old m p same_app (codes "ranks") rank_counts.low rank_counts.high (named app _ _ _ ranks);
+    servers = number_holds app old m p same_app (codes "servers") server_counts.low server_counts.high (named app _ _ _ servers);
+  }
+
+  pub run_holds : names app (codes "ranks") rank_counts.low rank_counts.high ≡ true
+      → names app (codes "servers") server_counts.low server_counts.high ≡ true
+      → names app (codes "limit") limits.low limits.high ≡ true → names app (codes "budget") budgets.low budgets.high ≡ true
       → names app (codes "grain") grains.low grains.high ≡ true → HoldsRun (rows_of (found_of m))
-  run_holds limit budget grain = record {
+  run_holds ranks servers limit budget grain = record {
+    actors = actors_hold ranks servers;
     limit = number_holds app old m p same_app (codes "limit") limits.low limits.high (named app _ _ _ limit);
     budget = number_holds app old m p same_app (codes "budget") budgets.low budgets.high (named app _ _ _ budget);
     grain = number_holds app old m p same_app (codes "grain") grains.low grains.high (named app _ _ _ grain);

@@ -19,6 +19,19 @@ each_option : command_of (codes "solve" ∷ codes "--limit" ∷ codes "64" ∷ c
 unfolding clap_on_literals
 each_option = refl
 
+one_rank : command_of (codes "solve" ∷ codes "--ranks" ∷ codes "1" ∷ codes "--servers=1" ∷ [])
+    ≡ Some (Solve (record { options = record default_run { ranks = 1 }; stats = false; ledger = false }))
+unfolding clap_on_literals
+one_rank = refl
+
+many_ranks : command_of (codes "solve" ∷ codes "--ranks=33" ∷ []) ≡ None
+unfolding clap_on_literals
+many_ranks = refl
+
+two_servers : command_of (codes "solve" ∷ codes "--servers=2" ∷ []) ≡ None
+unfolding clap_on_literals
+two_servers = refl
+
 below : command_of (codes "solve" ∷ codes "--limit=63" ∷ []) ≡ None
 unfolding clap_on_literals
 below = refl

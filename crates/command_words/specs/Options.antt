@@ -3,7 +3,7 @@ use Rattle.std.specs.Prelude.{ℕ, Some, codes, true}
 use Rattle.clap.specs.Words.{App, Rule, Text, new_app, new_rule, with_rule}
 use Rattle.clap.specs.declared.builder.ArgAction.TheVariants.{Set, SetTrue}
 use Rattle.clap.specs.declared.builder.ValueParser.TheVariants.{Bool, Unsigned}
-use Rattle.command_words.specs.Ranges.{budgets, counts, grains, limits, seeds}
+use Rattle.command_words.specs.Ranges.{budgets, counts, grains, limits, rank_counts, seeds, server_counts}
 
 -- a number from `low` to `high` that stands alone, and has to be given
 abbrev pub number_rule : Text → ℕ → ℕ → Rule
@@ -37,7 +37,13 @@ with_made a = with_rule
     (with_rule a (number_rule (codes "count") counts.low counts.high))
     (number_rule (codes "seed") seeds.low seeds.high)
 
--- a command that takes the options of a run as well
+-- a command that takes the numbers of ranks and of servers as well
+abbrev pub with_actors : App → App
+with_actors a = with_rule
+    (with_rule a (option_rule (codes "ranks") rank_counts.low rank_counts.high))
+    (option_rule (codes "servers") server_counts.low server_counts.high)
+
+-- a command that takes the limit, the budget and the grain as well
 abbrev pub with_numbers : App → App
 with_numbers a = with_rule
     (with_rule
@@ -45,8 +51,9 @@ with_numbers a = with_rule
     (option_rule (codes "budget") budgets.low budgets.high))
     (option_rule (codes "grain") grains.low grains.high)
 
+-- a command that takes the options of a run as well
 abbrev pub with_run : App → App
-with_run a = with_rule (with_numbers a) (flag_rule (codes "inline"))
+with_run a = with_rule (with_numbers (with_actors a)) (flag_rule (codes "inline"))
 
 abbrev pub solve_app : App
 solve_app = with_rule

@@ -7,6 +7,13 @@ pub record Range : Type 0 where
   pub high : ℕ
   pub default : ℕ
 
+-- how many ranks and servers there are
+abbrev pub rank_counts : Range
+rank_counts = record { low = 1; high = 32; default = 4 }
+
+abbrev pub server_counts : Range
+server_counts = record { low = 1; high = 1; default = 1 }
+
 abbrev pub limits : Range
 limits = record { low = 64; high = 2 ^ 30; default = 2 ^ 26 }
 

@@ -6,7 +6,7 @@ use Rattle.std.specs.Str.Parse.{digits_value, without_leading_plus}
 use Rattle.adlb_unit.specs.Limits.{InLimit}
 use Rattle.clap.specs.Words.{App, Kinds, Row, Text, fault_of, matches_of, one_of}
 use Rattle.command_words.specs.Options.{check_app, drill_app, make_app, solve_app}
-use Rattle.command_words.specs.Ranges.{IsIn, budgets, counts, grains, limits, seeds}
+use Rattle.command_words.specs.Ranges.{IsIn, budgets, counts, grains, limits, rank_counts, seeds, server_counts}
 use Rattle.command_words.specs.declared.commands.Command.{Command}
 use Rattle.command_words.specs.declared.commands.Command.TheVariants.{Solve, Check, Make, Drill}
 use Rattle.command_words.specs.declared.commands.RunOptions.{RunOptions}
@@ -22,6 +22,8 @@ flag_of name rows = option_map_or (λ t. bytes_eq t (codes "true")) (one_of name
 -- the options of a run
 abbrev pub run_of : List Row → RunOptions
 run_of rows = record {
+  ranks = number_of (codes "ranks") rank_counts.default rows;
+  servers = number_of (codes "servers") server_counts.default rows;
   limit = number_of (codes "limit") limits.default rows;
   budget = number_of (codes "budget") budgets.default rows;
   grain = number_of (codes "grain") grains.default rows;
@@ -73,6 +75,8 @@ command_of (word ∷ words) =
 
 -- the numbers of a run are within their limits
 pub record IsRunWithin (run : RunOptions) : Type 0 where
+  pub ranks : IsIn rank_counts run.ranks
+  pub servers : IsIn server_counts run.servers
   pub limit : InLimit run.limit
   pub budget : IsIn budgets run.budget
   pub grain : IsIn grains run.grain

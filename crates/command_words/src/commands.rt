@@ -8,13 +8,17 @@ use thiserror::Error;
 /// How a run is done.
 #[derive(Clone, Copy, Debug, PartialEq, Eq)]
 pub struct RunOptions {
+    /// How many ranks there are: 1 to 32.
+    pub ranks: u32,
+    /// How many servers there are: 1.
+    pub servers: u32,
     /// The bytes that a server takes at most: 64 to 2^30.
     pub limit: u64,
     /// The budget of a puzzle: 1 to 2^32.
     pub budget: u64,
     /// The grain of a puzzle: 1 to 2^32.
     pub grain: u64,
-    /// The run has one rank and one server, and no thread.
+    /// The run has one rank and one server, whatever `ranks` and `servers` say, and no thread.
     pub inline: bool,
 }
 

@@ -3,7 +3,7 @@
 ghost use Rattle.std.specs.Prelude.{◌≡◌, IfOk, false};
 ghost use Rattle.clap.specs.Words.{app_of, rule_of};
 ghost use Rattle.command_words.specs.Options.{bare, check_app, drill_app, flag_rule, make_app, number_rule};
-ghost use Rattle.command_words.specs.Options.{option_rule, solve_app, with_made, with_numbers, with_run};
+ghost use Rattle.command_words.specs.Options.{option_rule, solve_app, with_actors, with_made, with_numbers, with_run};
 
 use clap::builder::ValueParser;
 use clap::{Arg, ArgAction, Command};
@@ -57,6 +57,13 @@ fn with_made<'a>(alloc: Global, command: Command<'a>) -> Result<Command<'a>, All
     command.arg(number(alloc, "seed", 0, u64::MAX))
 }
 
+fn with_actors<'a>(alloc: Global, command: Command<'a>) -> Result<Command<'a>, AllocError>
+    ensures { IfOk result (λ c. app_of c ≡ with_actors (app_of command.entry)) }
+{
+    let command = command.arg(option(alloc, "ranks", 1, 32))?;
+    command.arg(option(alloc, "servers", 1, 1))
+}
+
 fn with_numbers<'a>(alloc: Global, command: Command<'a>) -> Result<Command<'a>, AllocError>
     ensures { IfOk result (λ c. app_of c ≡ with_numbers (app_of command.entry)) }
 {
@@ -68,7 +75,8 @@ fn with_numbers<'a>(alloc: Global, command: Command<'a>) -> Result<Command<'a>, 
 fn with_run<'a>(alloc: Global, command: Command<'a>) -> Result<Command<'a>, AllocError>
     ensures { IfOk result (λ c. app_of c ≡ with_run (app_of command.entry)) }
 {
-    with_numbers(alloc, command)?.arg(flag(alloc, "inline"))
+    let command = with_numbers(alloc, with_actors(alloc, command)?)?;
+    command.arg(flag(alloc, "inline"))
 }
 
 /// `solve` (`solve_app`).

@@ -1,7 +1,9 @@
-use Rattle.std.proofs.Common.{map, rules, refl}
+use Rattle.std.proofs.Common.{◌∙◌, Some, ap, map, rules, subst, refl}
 use Rattle.std.specs.String.{string_bytes}
+use Rattle.clap.specs.Words.{App, found_of, rows_of}
 use Rattle.command_words.proofs.Holding.{made_holds, run_holds}
-use Rattle.command_words.proofs.Saying.{refused_says_nothing}
+use Rattle.command_words.proofs.Saying.{drill_is, found_says, refused_says_nothing}
+use Rattle.command_words.specs.Inside.{IsFound}
 use Rattle.command_words.specs.Options.{drill_app}
 use Rattle.command_words.specs.Said.{drill_of}
 use Rattle.command_words.proofs.reading.read_drill.Goals as goal
@@ -15,4 +17,14 @@ pub made_of-count-requires : goal.made_of-count-requires
 made_of-count-requires c = record { holds = made_holds drill_app _ _ c.in_ok-matches.ensures.parsed c.in_ok-drill_command.ensures refl refl }
 
 pub run_of-requires : goal.run_of-requires
-run_of-requires c = record { holds = run_holds drill_app _ _ c.in_ok-matches.ensures.parsed c.in_ok-drill_command.ensures refl refl refl }
+run_of-requires c = record {
+  holds = run_holds drill_app _ _ c.in_ok-matches.ensures.parsed c.in_ok-drill_command.ensures refl refl refl refl refl;
+}
+
+pub returns-clause-said : goal.returns-clause-said
+returns-clause-said c =
+    let rows = rows_of (found_of c.in_ok-matches.matches) in
+    let words = map string_bytes c.args.words.now in
+    let found = subst (λ (a : App). IsFound a words rows) c.in_ok-drill_command.ensures c.in_ok-matches.ensures.found in
+    let made = c.made_of-count.ensures in
+    found_says drill_app drill_of words rows found ∙ ap Some (drill_is rows _ _ _ made.count made.seed c.run_of.ensures.said)

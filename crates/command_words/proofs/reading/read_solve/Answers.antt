@@ -14,7 +14,9 @@ returns-in_err-matches-clause-refused c =
     search rules
 
 pub run_of-requires : goal.run_of-requires
-run_of-requires c = record { holds = run_holds solve_app _ _ c.in_ok-matches.ensures.parsed c.in_ok-solve_command.ensures refl refl refl }
+run_of-requires c = record {
+  holds = run_holds solve_app _ _ c.in_ok-matches.ensures.parsed c.in_ok-solve_command.ensures refl refl refl refl refl;
+}
 
 pub returns-clause-said : goal.returns-clause-said
 returns-clause-said c =
