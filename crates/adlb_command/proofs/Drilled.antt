@@ -1,19 +1,18 @@
 -- The run of `drill`: over the made text, of which no read fails.
-use Rattle.std.proofs.Common.{◌≡◌, ◌⊎◌, ◌<◌, ◌≤◌, ◌+◌, ◌^◌, ℕ, List, length, Option, Some, None, Result, Ok, Err, IfErr, IfOk, arith, inl, inr, refl, ap, sym, ◌∙◌, subst}
+use Rattle.std.proofs.Common.{◌≡◌, ◌⊎◌, ◌≤◌, ℕ, List, length, Option, Some, None, arith, inl, inr, refl, ap, sym, ◌∙◌, subst}
 use Rattle.adlb_io.specs.Outside.{Rises}
 use Rattle.job_text.specs.Jobs.{input_refused}
-use Rattle.adlb_io.specs.Inputs.{Seen}
 use Rattle.adlb_threads.specs.Reports.{Reported}
 use Rattle.command_words.specs.declared.commands.Command.TheVariants.{Drill}
 use Rattle.command_words.specs.declared.commands.RunOptions.{RunOptions}
 use Rattle.job_report.specs.declared.outcomes.Outcome.{Outcome}
 use Rattle.puzzle_app.specs.declared.outcomes.Settings.{Settings}
 use Rattle.adlb_command.specs.Input.{input_limit}
-use Rattle.adlb_command.specs.Top.{EndsAsDrilled}
+use Rattle.adlb_command.specs.Top.{EndsAsDrilled, Scene}
 use Rattle.adlb_command.specs.Words.{Say}
 use Rattle.adlb_command.specs.Inside.{Refuses, RefusesBytes}
 use Rattle.adlb_command.specs.declared.ends.RunFault.{RunFault}
-use Rattle.adlb_command.specs.declared.ends.RunFault.TheVariants.{Input, Usage, Read, Write, Memory, TooLong, TooLarge, Entry}
+use Rattle.adlb_command.specs.declared.ends.RunFault.TheVariants.{Input, Usage, Read, Write, NoThread, Memory, TooLong, TooLarge, NotConfirmed, Entry}
 
 -- no read failed
 pub no_more : Rises 0 0 → ⊥
@@ -31,12 +30,14 @@ text_refuses text short Memory is = tt
 text_refuses text short Usage is = absurd is
 text_refuses text short Read is = absurd is
 text_refuses text short Write is = absurd is
+text_refuses text short NoThread is = absurd is
+text_refuses text short (NotConfirmed found) is = absurd is
 text_refuses text short (TooLong stamp) is = absurd is
 text_refuses text short (TooLarge taken) is = absurd is
 text_refuses text short (Entry line) is = absurd is
 
 -- it never ends as refused words do
-pub never_usage_drilled : (settings : Settings) (count seed : ℕ) (before after : Seen) (fault : Option RunFault) (report : Option (Reported Outcome)) →
+pub never_usage_drilled : (settings : Settings) (count seed : ℕ) (before after : Scene) (fault : Option RunFault) (report : Option (Reported Outcome)) →
     EndsAsDrilled settings count seed before after fault report → fault ≡ Some Usage → ⊥
 never_usage_drilled settings count seed before after fault report ends is =
     subst (λ f. EndsAsDrilled settings count seed before after f report) is ends

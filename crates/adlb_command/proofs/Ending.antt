@@ -2,7 +2,7 @@
 use Rattle.std.proofs.Common.{◌≡◌, ◌⊎◌, ◌<◌, ◌≤◌, ◌+◌, ◌==◌, ℕ, List, ◌++◌, length, take, Option, Some, None, refl, sym, ap, ◌∙◌, subst, inl, inr, arith, length-append, append-nil}
 use Rattle.std.proofs.lemmas.List.{length-take-le}
 use Rattle.std.proofs.lemmas.Bool.{cases_eq, cond-false, ne_eqb}
-use Rattle.adlb_io.specs.Inputs.{IsAtEnd, Seen}
+use Rattle.adlb_io.specs.Inputs.{IsAtEnd}
 use Rattle.adlb_io.specs.Outside.{Rises, Takes}
 use Rattle.adlb_io.specs.Whole.{TakesPrefix}
 use Rattle.adlb_io.specs.declared.sinks.SinkFault.{SinkFault}
@@ -11,14 +11,15 @@ use Rattle.adlb_threads.specs.Reports.{Reported}
 use Rattle.job_report.specs.declared.outcomes.Outcome.{Outcome}
 use Rattle.puzzle_app.specs.declared.outcomes.Settings.{Settings}
 use Rattle.adlb_command.specs.declared.ends.RunFault.{RunFault}
-use Rattle.adlb_command.specs.declared.ends.RunFault.TheVariants.{Input, Usage, Read, Write, Memory, TooLong, TooLarge, Entry}
-use Rattle.adlb_command.specs.Ends.{IsFine, fault_of}
+use Rattle.adlb_command.specs.declared.ends.RunFault.TheVariants.{Input, Usage, Read, Write, NoThread, Memory, TooLong, TooLarge, NotConfirmed, Entry}
+use Rattle.adlb_threads.specs.declared.faults.Unconfirmed.{Unconfirmed}
+use Rattle.adlb_command.specs.Ends.{IsFine, fault_of, found_by, found_in}
 use Rattle.job_text.specs.Jobs.{input_refused}
 use Rattle.job_text.specs.declared.faults.LineWhy.{LineWhy}
 use Rattle.adlb_command.specs.Input.{HasAccepted, IsAccepted, input_limit}
-use Rattle.adlb_command.specs.Inside.{Refuses, Writes, kept_of}
+use Rattle.adlb_command.specs.Inside.{Refuses, Stops, Writes, kept_of}
 use Rattle.adlb_command.specs.declared.wanted.Wanted.{Wanted}
-use Rattle.adlb_command.specs.Top.{EndsBy, IsAnswered, IsKeptWhereBegun, Keeps}
+use Rattle.adlb_command.specs.Top.{EndsBy, IsAnswered, IsKeptWhereBegun, Keeps, Scene}
 
 -- no byte was taken
 none_begun : (taken after : Option (List ℕ)) → after ≡ taken → IsKeptWhereBegun taken after None
@@ -28,16 +29,51 @@ none_begun taken after same before now was is =
     let long : length now ≡ length before = ap length n in (λ some. absurd (cc), λ more. absurd (omega arith))
 
 -- a run that answers nothing ends by the fault for which it does
-pub ends_early : (settings : Settings) (wanted : Wanted) (before after : Seen) (fault : RunFault) → Refuses before.left before.reads after.reads fault → after.taken ≡ before.taken → EndsBy settings wanted before after (Some fault) None
+pub ends_early : (settings : Settings) (wanted : Wanted) (before after : Scene) (fault : RunFault) → Refuses before.left before.reads after.reads fault → after.taken ≡ before.taken → EndsBy settings wanted before after (Some fault) None
 ends_early settings wanted before after (Input line why) is same = (is.0, is.1, record { nothing = same; none_kept = refl })
 ends_early settings wanted before after Usage is same = is
 ends_early settings wanted before after Read is same = (is, record { nothing = same; none_kept = refl })
 ends_early settings wanted before after Write is same = absurd is
 ends_early settings wanted before after (Entry line) is same = absurd is
+ends_early settings wanted before after NoThread is same = absurd is
+ends_early settings wanted before after (NotConfirmed found) is same = absurd is
 ends_early settings wanted before after Memory is same =
     record { nothing = λ e. same; front = λ some. absurd (cc); kept = none_begun before.taken after.taken same }
 ends_early settings wanted before after (TooLong stamp) is same = (is.0, is.1, record { nothing = same; none_kept = refl })
 ends_early settings wanted before after (TooLarge taken) is same = (is.0, is.1, is.2, record { nothing = same; none_kept = refl })
+
+-- and it is none that a run with threads alone ends by
+pub plain_refusal : (left : Option (List ℕ)) (reads now : ℕ) (fault : RunFault) → Refuses left reads now fault → found_by (Some fault) ≡ None
+plain_refusal left reads now (Input line why) is = refl
+plain_refusal left reads now Usage is = refl
+plain_refusal left reads now (Entry line) is = refl
+plain_refusal left reads now Read is = refl
+plain_refusal left reads now Write is = refl
+plain_refusal left reads now NoThread is = refl
+plain_refusal left reads now Memory is = refl
+plain_refusal left reads now (TooLong stamp) is = refl
+plain_refusal left reads now (TooLarge taken) is = refl
+plain_refusal left reads now (NotConfirmed found) is = absurd is
+
+-- nothing was found, and none is left
+pub none_shown : (unconfirmed : Option Unconfirmed) (fault : Option RunFault) → unconfirmed ≡ None → found_by fault ≡ None →
+    found_in unconfirmed ≡ found_by fault
+none_shown unconfirmed fault none plain = ap found_in none ∙ sym plain
+
+-- and where threads were to run
+pub ends_stopped : (settings : Settings) (wanted : Wanted) (before after : Scene) (fault : RunFault) →
+    Stops before.left before.reads after.reads before.refused after.refused fault → after.taken ≡ before.taken →
+    EndsBy settings wanted before after (Some fault) None
+ends_stopped settings wanted before after NoThread is same = (is.0, is.1, record { nothing = same; none_kept = refl })
+ends_stopped settings wanted before after (NotConfirmed found) is same = (is, record { nothing = same; none_kept = refl })
+ends_stopped settings wanted before after (Input line why) is same = ends_early settings wanted before after (Input line why) is same
+ends_stopped settings wanted before after Usage is same = ends_early settings wanted before after Usage is same
+ends_stopped settings wanted before after (Entry line) is same = ends_early settings wanted before after (Entry line) is same
+ends_stopped settings wanted before after Read is same = ends_early settings wanted before after Read is same
+ends_stopped settings wanted before after Write is same = ends_early settings wanted before after Write is same
+ends_stopped settings wanted before after Memory is same = ends_early settings wanted before after Memory is same
+ends_stopped settings wanted before after (TooLong stamp) is same = ends_early settings wanted before after (TooLong stamp) is same
+ends_stopped settings wanted before after (TooLarge taken) is same = ends_early settings wanted before after (TooLarge taken) is same
 
 -- so much of the front of the text was taken
 prefix_of : (before after : Option (List ℕ)) (text : List ℕ) (n : ℕ) → n ≤ length text → Takes before after (take n text) → TakesPrefix before after text
@@ -58,7 +94,7 @@ took_long (Some before) after text b a n part took was is =
     ap length same ∙ omega (arith, length-append before (take n text), count, ap length first)
 
 -- a report was made, of an input that was read to its end
-module _ (settings : Settings) (wanted : Wanted) (before after : Seen) (report : Reported Outcome) (text : List ℕ) (answers : IsAnswered settings wanted before.left report text) (at_end : IsAtEnd after.left)
+module _ (settings : Settings) (wanted : Wanted) (before after : Scene) (report : Reported Outcome) (text : List ℕ) (answers : IsAnswered settings wanted before.left report text) (at_end : IsAtEnd after.left)
   where
     cut_memory : (n : ℕ) → n ≤ length text → Takes before.taken after.taken (take n text) → EndsBy settings wanted before after (Some Memory) (kept_of sinks.Memory n report)
     cut_memory n part took = elim (cases_eq n 0) [
@@ -101,21 +137,23 @@ answered_accepts settings wanted left IsWritten (Some r) keeps = λ bytes told. 
 
 -- What follows from how a run ended, where no read failed.
 
-module _ (settings : Settings) (wanted : Wanted) (before after : Seen) (report : Option (Reported Outcome)) (bytes : List ℕ) (told : before.left ≡ Some bytes)
+module _ (settings : Settings) (wanted : Wanted) (before after : Scene) (report : Option (Reported Outcome)) (bytes : List ℕ) (told : before.left ≡ Some bytes)
     (no_read : Rises before.reads after.reads → ⊥) where
   -- an accepted input is answered
-  pub accepted_fine : (Rises before.writes after.writes → ⊥) → (fault : Option RunFault) → EndsBy settings wanted before after fault report
+  pub accepted_fine : (Rises before.writes after.writes → ⊥) → (Rises before.refused after.refused → ⊥) → (fault : Option RunFault) → EndsBy settings wanted before after fault report
       → IsAccepted bytes → IsFine fault
-  accepted_fine no_write None ends accepted = tt
-  accepted_fine no_write (Some (Input line why)) ends accepted =
+  accepted_fine no_write no_refusal None ends accepted = tt
+  accepted_fine no_write no_refusal (Some (Input line why)) ends accepted =
       absurd (not_both (input_refused bytes) (line, why) (ends.0 bytes told).1 accepted.fine)
-  accepted_fine no_write (Some Usage) ends accepted = ends
-  accepted_fine no_write (Some (Entry line)) ends accepted = ends
-  accepted_fine no_write (Some Read) ends accepted = absurd (no_read ends.0)
-  accepted_fine no_write (Some Write) ends accepted = absurd (no_write ends.0)
-  accepted_fine no_write (Some Memory) ends accepted = tt
-  accepted_fine no_write (Some (TooLong stamp)) ends accepted = tt
-  accepted_fine no_write (Some (TooLarge taken)) ends accepted = absurd (omega (arith, ends.1 bytes told, accepted.short))
+  accepted_fine no_write no_refusal (Some Usage) ends accepted = ends
+  accepted_fine no_write no_refusal (Some (Entry line)) ends accepted = ends
+  accepted_fine no_write no_refusal (Some Read) ends accepted = absurd (no_read ends.0)
+  accepted_fine no_write no_refusal (Some Write) ends accepted = absurd (no_write ends.0)
+  accepted_fine no_write no_refusal (Some NoThread) ends accepted = absurd (no_refusal ends.0)
+  accepted_fine no_write no_refusal (Some (NotConfirmed found)) ends accepted = tt
+  accepted_fine no_write no_refusal (Some Memory) ends accepted = tt
+  accepted_fine no_write no_refusal (Some (TooLong stamp)) ends accepted = tt
+  accepted_fine no_write no_refusal (Some (TooLarge taken)) ends accepted = absurd (omega (arith, ends.1 bytes told, accepted.short))
 
   -- a refused one is refused at its line
   pub refused_there : (fault : Option RunFault) → EndsBy settings wanted before after fault report → (line : ℕ) (why : LineWhy)
@@ -137,6 +175,10 @@ module _ (settings : Settings) (wanted : Wanted) (before after : Seen) (report :
   refused_there (Some Write) ends line why short is =
       let accepts = answered_accepts settings wanted before.left _ report ends.1 bytes told in
       absurd (not_both (input_refused bytes) (line, why) is accepts.fine)
+  refused_there (Some NoThread) ends line why short is =
+      absurd (not_both (input_refused bytes) (line, why) is (ends.1 bytes told).fine)
+  refused_there (Some (NotConfirmed found)) ends line why short is =
+      absurd (not_both (input_refused bytes) (line, why) is (ends.0 bytes told).fine)
   refused_there (Some Memory) ends line why short is = inr refl
   refused_there (Some (TooLong stamp)) ends line why short is =
       absurd (not_both (input_refused bytes) (line, why) is (ends.1 bytes told).fine)
@@ -153,6 +195,8 @@ module _ (settings : Settings) (wanted : Wanted) (before after : Seen) (report :
   overlong_told (Some Read) ends long = absurd (no_read ends.0)
   overlong_told (Some Write) ends long =
       let accepts = answered_accepts settings wanted before.left _ report ends.1 bytes told in absurd (omega (arith, long, accepts.short))
+  overlong_told (Some NoThread) ends long = absurd (omega (arith, long, (ends.1 bytes told).short))
+  overlong_told (Some (NotConfirmed found)) ends long = absurd (omega (arith, long, (ends.0 bytes told).short))
   overlong_told (Some Memory) ends long = inr refl
   overlong_told (Some (TooLong stamp)) ends long = absurd (omega (arith, long, (ends.1 bytes told).short))
   overlong_told (Some (TooLarge taken)) ends long = inl (ap (λ n. Some (TooLarge n)) ends.0)

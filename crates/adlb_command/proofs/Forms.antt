@@ -1,7 +1,6 @@
 -- The jobs of an input that was read from a source, and why there are none.
 use Rattle.std.proofs.Common.{◌≡◌, ℕ, ◌+◌, ◌≤◌, List, length, Option, Some, Result, Ok, Err, IfOk, IfErr, sym, ap, ◌∙◌, subst, arith}
 use Rattle.adlb_io.proofs.Inputs.{read_whole}
-use Rattle.adlb_io.specs.Outside.{Rises}
 use Rattle.adlb_io.specs.Whole.{IsCut, Reads}
 use Rattle.adlb_io.specs.declared.sources.SourceFault.{SourceFault}
 use Rattle.adlb_io.specs.declared.sources.SourceFault.TheVariants as sources
@@ -9,13 +8,13 @@ use Rattle.job_text.specs.declared.faults.JobsFault.{JobsFault}
 use Rattle.job_text.specs.declared.faults.JobsFault.TheVariants as refusals
 use Rattle.job_text.specs.declared.faults.LineWhy.{LineWhy}
 use Rattle.job_text.specs.declared.jobs.Job.{Job}
-use Rattle.job_text.specs.Jobs.{input_jobs, input_refused}
+use Rattle.job_text.specs.Jobs.{input_refused}
 use Rattle.adlb_command.specs.Ends.{fault_at, fault_in}
 use Rattle.adlb_command.specs.Input.{AreJobs, input_limit}
 use Rattle.adlb_command.specs.Inside.{Refuses, RefusesBytes}
 use Rattle.adlb_command.specs.declared.reading.Asked.{Asked}
 use Rattle.adlb_command.specs.declared.ends.RunFault.{RunFault}
-use Rattle.adlb_command.specs.declared.ends.RunFault.TheVariants.{Input, Usage, Read, Write, Memory, TooLong, TooLarge, Entry}
+use Rattle.adlb_command.specs.declared.ends.RunFault.TheVariants.{Input, Usage, Read, Write, NoThread, Memory, TooLong, TooLarge, NotConfirmed, Entry}
 
 module _ (before after : Option (List ℕ)) (read : List ℕ) (reads : Reads before after (input_limit + 1) read) where
   whole : (all : List ℕ) → length read ≤ input_limit → before ≡ Some all → read ≡ all
@@ -38,6 +37,8 @@ module _ (before after : Option (List ℕ)) (read : List ℕ) (reads : Reads bef
   read_refuses short faults now same Usage is = absurd is
   read_refuses short faults now same Read is = absurd is
   read_refuses short faults now same Write is = absurd is
+  read_refuses short faults now same NoThread is = absurd is
+  read_refuses short faults now same (NotConfirmed found) is = absurd is
   read_refuses short faults now same (TooLong stamp) is = absurd is
   read_refuses short faults now same (TooLarge taken) is = absurd is
   read_refuses short faults now same (Entry line) is = absurd is

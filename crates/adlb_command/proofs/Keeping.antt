@@ -1,5 +1,6 @@
 -- What is kept of a run of one rank over one server.
-use Rattle.std.proofs.Common.{◌≡◌, ◌||◌, true, false, ◌<◌, ◌≤◌, ◌^◌, ◌+◌, ℕ, zero, suc, List, [], ◌∷◌, ◌++◌, length, Option, Some, None, Result, Ok, Err, IfOk, All, map, refl, sym, ap, ◌∙◌, subst, arith, slice_get, slice_index}
+use Rattle.std.proofs.Common.{◌≡◌, ◌||◌, true, false, ◌<◌, ◌≤◌, ◌^◌, ◌+◌, ◌*◌, ℕ, zero, suc, List, [], ◌∷◌, ◌++◌, length, Option, Some, None, Result, Ok, Err, IfOk, All, map, refl, sym, ap, ◌∙◌, subst, arith, slice_get, slice_index}
+use Rattle.std.proofs.lemmas.Option.{slice_get_within}
 use Rattle.std.proofs.lemmas.Result.{IfOk-at_ok}
 use Rattle.std.proofs.lemmas.List.Elements.{All-cons, All-head, All-nil, All-tail}
 use Rattle.std.proofs.lemmas.List.Sums.{sum_by-cons}
@@ -142,20 +143,24 @@ numbers_of config limit first mid last one_rank one_server is start same kept = 
 pub finishes : (before last : Run) (transcript : List Said) → last.transcript ≡ plus before.transcript calls_to.Finish (finish_answer last.failed) → last.failed ≡ None → transcript ≡ last.transcript → transcript ≡ before.transcript ++ finish ∷ []
 finishes before last transcript says whole same = same ∙ says ∙ ap (λ (t : Option Trouble). plus before.transcript calls_to.Finish (finish_answer t)) whole
 
--- a list of one element
-one_of : {X : Type 0} (xs : List X) (x : X) → slice_get xs 0 ≡ Some x → length xs ≡ 1 → xs ≡ x ∷ []
-one_of [] x there one = absurd (omega arith)
-one_of (y ∷ []) x there one = let same : y ≡ x = cc in ap (λ z. z ∷ []) same
-one_of (y ∷ z ∷ xs) x there one = absurd (omega arith)
+-- numbers that are each below a bound sum up to less than as many times it
+few_sum : (k : ℕ) (os : List Outcome) → ((n : ℕ) (o : Outcome) → slice_get os n ≡ Some o → slice_index o.made k < 2 ^ 113) →
+    made_in k os ≤ length os * 2 ^ 113
+few_sum k [] few = omega arith
+few_sum k (o ∷ os) few =
+    let sum : made_in k (o ∷ os) ≡ slice_index o.made k + made_in k os = sum_by-cons (λ (p : Outcome). slice_index p.made k) o os in
+    omega (arith, sum, few 0 o refl, few_sum k os (λ n p at. few (suc n) p at))
 
--- one rank made fewer units than a number of 128 bits counts
-pub few_made : (settings : Settings) (jobs : List Job) (r : Reported Outcome) → r.config.ranks ≡ 1 → IsKept settings jobs r → (k : ℕ) → made_in k r.outcomes < 2 ^ 128
-few_made settings jobs r one kept k =
-    let run = kept.ranks.each zeroth (omega (arith, one)) in
-    let same : r.outcomes ≡ run.outcome ∷ [] = one_of r.outcomes run.outcome run.there (kept.ranks.all ∙ one) in
-    let few : slice_index run.outcome.made k < 2 ^ 113 = run.follows.few k in
-    let sum : made_in k (run.outcome ∷ []) ≡ slice_index run.outcome.made k + 0 = sum_by-cons (λ (o : Outcome). slice_index o.made k) run.outcome [] in
-    rw same (omega (arith, sum, few))
+-- the ranks of a run made fewer units together than a number of 128 bits counts
+pub few_made : (settings : Settings) (jobs : List Job) (r : Reported Outcome) → IsKept settings jobs r → (k : ℕ) → made_in k r.outcomes < 2 ^ 128
+few_made settings jobs r kept k =
+    let all : length r.outcomes ≡ r.config.ranks = kept.ranks.all in
+    let each : (n : ℕ) (o : Outcome) → slice_get r.outcomes n ≡ Some o → slice_index o.made k < 2 ^ 113 = λ n o at.
+    let run = kept.ranks.each (record { 0 = n }) (omega (arith, all, slice_get_within r.outcomes n o at)) in
+    let e : Some run.outcome ≡ Some o = sym run.there ∙ at in
+    let same : run.outcome ≡ o = cc in
+    subst (λ (x : Outcome). slice_index x.made k < 2 ^ 113) same (run.follows.few k) in
+    omega (arith, few_sum k r.outcomes each, all, r.config.ranks_within.1)
 
 -- where each puzzle of the jobs is a grid, all of them are grids
 pub all_grids : (jobs : List Job) → All HasGrid jobs → All IsSudoku (puzzles jobs)
@@ -166,9 +171,9 @@ all_grids (Puzzle g ∷ jobs) grids =
 all_grids (Batch common items ∷ jobs) grids = all_grids jobs (All-tail HasGrid (Batch common items) jobs grids)
 
 -- the outcomes that are kept hold what the jobs are to give
-pub kept_whole : (settings : Settings) (jobs : List Job) (r : Reported Outcome) → r.config.ranks ≡ 1 → All HasGrid jobs → IsKept settings jobs r → AreWhole settings.budget settings.grain jobs r.outcomes
-kept_whole settings jobs r one grids kept =
-    joined_whole balanced r.config r.ledger kept.last settings jobs r.outcomes (omega (arith, one)) kept.legal (all_grids jobs grids) kept.ranks
+pub kept_whole : (settings : Settings) (jobs : List Job) (r : Reported Outcome) → All HasGrid jobs → IsKept settings jobs r → AreWhole settings.budget settings.grain jobs r.outcomes
+kept_whole settings jobs r grids kept =
+    joined_whole balanced r.config r.ledger kept.last settings jobs r.outcomes (omega (arith, r.config.ranks_within.0)) kept.legal (all_grids jobs grids) kept.ranks
 
 -- a link of the same seat has the same numbers
 pub seat_numbers : (before after : Run) → seat_of after ≡ seat_of before → HasNumbers before.config after

@@ -1,9 +1,13 @@
 -- How a command ends: what it wrote, what it keeps, and why.
-use Rattle.std.specs.Prelude.{◌≡◌, ◌↔◌, ◌≤◌, ◌<◌, ◌+◌, ◌^◌, ◌++◌, ℕ, Bool, true, List, [], length, Option, Some, None, IsSome, Result, Err, if◌then◌else◌, codes, decimal}
-use Rattle.adlb_io.specs.Inputs.{IsAtEnd, Seen, seen}
+use Rattle.std.specs.Prelude.{◌≡◌, ◌↔◌, ◌≤◌, ◌<◌, ◌+◌, ◌^◌, ◌++◌, ℕ, Bool, true, false, List, [], length, map, Option, Some, None, IsSome, IfSome, Result, if◌then◌else◌, codes, decimal}
+use Rattle.adlb_io.specs.Inputs.{IsAtEnd, Seen}
 use Rattle.adlb_io.specs.Outside.{Rises, Takes}
 use Rattle.adlb_io.specs.Whole.{TakesPrefix}
+use Rattle.adlb_threads.specs.Confirmed.{IsFound, RisesBy}
 use Rattle.adlb_threads.specs.Reports.{Reported}
+use Rattle.adlb_threads.specs.declared.faults.Unconfirmed.{Unconfirmed}
+use Rattle.adlb_unit.specs.declared.configs.Config.{Config}
+use Rattle.command_words.specs.declared.commands.RunOptions.{RunOptions}
 use Rattle.job_text.specs.declared.jobs.Job.{Job}
 use Rattle.job_report.specs.declared.outcomes.Outcome.{Outcome}
 use Rattle.puzzle_app.specs.declared.outcomes.Settings.{Settings}
@@ -19,12 +23,35 @@ use Rattle.made_jobs.specs.Made.{made_text}
 use Rattle.made_jobs.specs.declared.faults.MadeFault.{MadeFault}
 use Rattle.adlb_command.specs.Ends.{fault_made, fault_told}
 use Rattle.adlb_command.specs.Kept.{IsKept}
+use Rattle.adlb_command.specs.Words.{IsConfigOf}
 use Rattle.adlb_command.specs.declared.extras.Extras.{Extras}
 use Rattle.adlb_command.specs.declared.wanted.Wanted.{Wanted}
 use Rattle.adlb_command.specs.declared.wanted.Wanted.TheVariants.{Report, Summary}
 use Rattle.job_report.specs.Summary.{summary}
 use Rattle.adlb_command.specs.declared.ends.RunFault.{RunFault}
-use Rattle.adlb_command.specs.declared.ends.RunFault.TheVariants.{Input, Usage, Read, Write, Memory, TooLong, TooLarge, Entry}
+use Rattle.adlb_command.specs.declared.ends.RunFault.TheVariants.{Input, Usage, Read, Write, NoThread, Memory, TooLong, TooLarge, NotConfirmed, Entry}
+
+-- what is seen of the outside: what the source has left and the sink took, their counts of faults, that all is flushed, and how many
+-- starts of threads were refused and how many were not
+pub record Scene : Type 0 where
+  pub left : Option (List ℕ)
+  pub reads : ℕ
+  pub taken : Option (List ℕ)
+  pub writes : ℕ
+  pub flushed : Bool
+  pub refused : ℕ
+  pub started : ℕ
+
+abbrev pub scene : Option (List ℕ) → ℕ → Option (List ℕ) → ℕ → Bool → ℕ → ℕ → Scene
+scene left reads taken writes flushed refused started = record {
+  left = left;
+  reads = reads;
+  taken = taken;
+  writes = writes;
+  flushed = flushed;
+  refused = refused;
+  started = started;
+}
 
 -- the counts of the kept ledger, and its text, if they are asked for
 abbrev pub stats_behind : Bool → Reported Outcome → List ℕ
@@ -47,7 +74,7 @@ IsTold settings (Report extras) jobs r told =
     (report : List ℕ) × IsReport settings.budget settings.grain jobs report × (told ≡ report ++ behind extras r)
 IsTold settings (Summary count seed) jobs r told = told ≡ drill_line count seed ++ summary settings.budget settings.grain jobs
 
--- the input's jobs were run in line with these settings: this is the text, and this is kept, with no history of events
+-- the input's jobs were run with these settings: this is the text, and this is kept, with no history of events
 pub record IsAnswered (settings : Settings) (wanted : Wanted) (left : Option (List ℕ)) (r : Reported Outcome) (told : List ℕ) : Type 0 where
   pub jobs : List Job
   pub read : (bytes : List ℕ) → left ≡ Some bytes → AreJobs bytes jobs
@@ -66,18 +93,18 @@ IsKeptWhereBegun taken after report =
     (before now : List ℕ) → taken ≡ Some before → after ≡ Some now → IsSome report ↔ (length before < length now)
 
 -- nothing was written, and no report is kept
-pub record IsSilent (before after : Seen) (report : Option (Reported Outcome)) : Type 0 where
+pub record IsSilent (before after : Scene) (report : Option (Reported Outcome)) : Type 0 where
   pub nothing : after.taken ≡ before.taken
   pub none_kept : report ≡ None
 
 -- an allocation failed: no report is kept and nothing was written, or one is, and a part of the front of its text was
-pub record IsCutOff (settings : Settings) (wanted : Wanted) (before after : Seen) (report : Option (Reported Outcome)) : Type 0 where
+pub record IsCutOff (settings : Settings) (wanted : Wanted) (before after : Scene) (report : Option (Reported Outcome)) : Type 0 where
   pub nothing : report ≡ None → after.taken ≡ before.taken
   pub front : IsSome report → Keeps settings wanted before.left (λ text. TakesPrefix before.taken after.taken text) report
   pub kept : IsKeptWhereBegun before.taken after.taken report
 
 -- the ends of a run whose words are accepted, by its fault
-abbrev pub EndsBy : Settings → Wanted → Seen → Seen → Option RunFault → Option (Reported Outcome) → Type 0
+abbrev pub EndsBy : Settings → Wanted → Scene → Scene → Option RunFault → Option (Reported Outcome) → Type 0
 EndsBy settings wanted before after None report =
     IsAtEnd after.left × Keeps settings wanted before.left (λ text. Takes before.taken after.taken text) report × (after.flushed ≡ true)
 EndsBy settings wanted before after (Some (Input line why)) report =
@@ -87,11 +114,14 @@ EndsBy settings wanted before after (Some (Entry line)) report = ⊥
 EndsBy settings wanted before after (Some Read) report = Rises before.reads after.reads × IsSilent before after report
 EndsBy settings wanted before after (Some Write) report =
     Rises before.writes after.writes × Keeps settings wanted before.left (λ text. TakesPrefix before.taken after.taken text) report
+EndsBy settings wanted before after (Some NoThread) report =
+    Rises before.refused after.refused × HasAccepted before.left × IsSilent before after report
 EndsBy settings wanted before after (Some Memory) report = IsCutOff settings wanted before after report
 EndsBy settings wanted before after (Some (TooLong stamp)) report =
     (2 ^ 48 ≤ stamp) × HasAccepted before.left × IsSilent before after report
 EndsBy settings wanted before after (Some (TooLarge taken)) report =
     (taken ≡ input_limit + 1) × IsTooLong before.left × (after.reads ≡ before.reads) × IsSilent before after report
+EndsBy settings wanted before after (Some (NotConfirmed found)) report = HasAccepted before.left × IsSilent before after report
 
 -- the ends of `check`: it ends as the check of the ledger did, and keeps no report
 pub record EndsAsChecked (before after : Seen) (fault : Option RunFault) (report : Option (Reported Outcome)) : Type 0 where
@@ -110,8 +140,30 @@ pub record EndsAsMade (count seed : ℕ) (before after : Seen) (fault : Option R
   pub none_kept : report ≡ None
 
 -- the ends of `drill`: those of a run over the made text, as if a source of which no read fails had it and nothing else
-abbrev pub EndsAsDrilled : Settings → ℕ → ℕ → Seen → Seen → Option RunFault → Option (Reported Outcome) → Type 0
+abbrev pub EndsAsDrilled : Settings → ℕ → ℕ → Scene → Scene → Option RunFault → Option (Reported Outcome) → Type 0
 EndsAsDrilled settings count seed before after fault report =
     EndsBy settings (Summary count seed)
-    (seen (Some (made_text count seed)) 0 before.taken before.writes before.flushed)
-    (seen (Some []) 0 after.taken after.writes after.flushed) fault report
+    (scene (Some (made_text count seed)) 0 before.taken before.writes before.flushed before.refused before.started)
+    (scene (Some []) 0 after.taken after.writes after.flushed after.refused after.started) fault report
+
+-- What a run with threads starts, and what it leaves if it was not confirmed.
+
+-- a thread for each rank and for each server was started, or the count stands at its last value
+abbrev pub HasStarted : Config → ℕ → ℕ → Type 0
+HasStarted config before now = RisesBy (config.ranks + config.servers) before now
+
+-- this was found of its ledger, of what its ranks were told, and of the units that are left
+abbrev pub IsFoundOf : Config → Unconfirmed → Type 0
+IsFoundOf config u = IsFound config u.ledger (map (λ said. said.items) u.transcripts.items) u.left.items u.found
+
+-- that of a run with the numbers that these options say
+abbrev pub IsFoundAs : RunOptions → Unconfirmed → Type 0
+IsFoundAs options u = (config : Config) × IsConfigOf options config × IsFoundOf config u
+
+-- a run with these options: what it keeps or leaves is of the numbers that they say; one that is reported started its threads, unless
+-- it was in line, which leaves the spawner alone
+pub record IsRunOf (options : RunOptions) (before after : Scene) (report : Option (Reported Outcome)) (unconfirmed : Option Unconfirmed) : Type 0 where
+  pub kept : IfSome report (λ r. IsConfigOf options r.config)
+  pub left : IfSome unconfirmed (IsFoundAs options)
+  pub started : options.inline ≡ false → IfSome report (λ r. HasStarted r.config before.started after.started)
+  pub untouched : options.inline ≡ true → (after.refused ≡ before.refused) × (after.started ≡ before.started)

@@ -1,5 +1,5 @@
 -- Which command lines are accepted, and what they say.
-use Rattle.std.specs.Prelude.{◌≡◌, List, ℕ, Some}
+use Rattle.std.specs.Prelude.{◌≡◌, List, ℕ, Some, if◌then◌else◌}
 use Rattle.adlb_unit.specs.declared.configs.Config.{Config}
 use Rattle.command_words.specs.Said.{command_of}
 use Rattle.command_words.specs.declared.commands.Command.{Command}
@@ -23,14 +23,15 @@ IsCarriedOut (Drill count seed run) = Unit {0}
 abbrev pub AreAccepted : List (List ℕ) → Type 0
 AreAccepted words = (command : Command) × Say words command × IsCarriedOut command
 
--- the settings of the puzzles, what follows the report, and the numbers of the run: one rank, one server, and its limit
+-- the settings of the puzzles, and what follows the report
 abbrev pub settings_of : RunOptions → Settings
 settings_of options = record { budget = options.budget; grain = options.grain }
 
 abbrev pub extras_of : SolveWords → Extras
 extras_of words = record { stats = words.stats; ledger = words.ledger }
 
+-- the numbers of the run: ranks, servers and their limit as the options say, but one rank and one server in line
 pub record IsConfigOf (options : RunOptions) (config : Config) : Type 0 where
-  pub ranks : config.ranks ≡ 1
-  pub servers : config.servers ≡ 1
+  pub ranks : config.ranks ≡ (if options.inline then 1 else options.ranks)
+  pub servers : config.servers ≡ (if options.inline then 1 else options.servers)
   pub limit : config.limit ≡ options.limit

@@ -1,6 +1,7 @@
-//! The worked rows of the top call, bad input, faults outside, and lists of solutions made by another solver.
+//! The worked rows of the top call, in line and with threads, bad input, faults outside, and lists of solutions made by another solver.
 
 mod solved;
+mod threaded;
 
 ghost use Rattle.std.specs.Prelude.{◌<◌};
 
@@ -8,7 +9,9 @@ use crate::ends::RunEnd;
 use crate::extras::Extras;
 use crate::inline::solve_inline;
 use crate::top::run_adlb;
-use adlb_io::{MemorySink, MemorySource, SteadySink, SteadySource};
+use adlb_io::{
+    FreeGate, Gate, MemorySink, MemorySource, RealThreads, Spawner, SteadySink, SteadySource,
+};
 use adlb_unit::Config;
 use bag_ledger::Entry;
 use puzzle_app::Settings;
@@ -27,6 +30,9 @@ const NO_EXTRAS: Extras = Extras {
     stats: false,
     ledger: false,
 };
+
+/// Each way to run: in line, and with two and four ranks in threads.
+const WAYS: [&str; 3] = ["solve --inline", "solve --ranks 2", "solve"];
 
 /// A puzzle in which every cell is forced.
 const FORCED: &str =
@@ -102,38 +108,75 @@ fn words(alloc: Global, line: &str) -> Result<Vec<String>, Fail> {
 }
 
 // A run with these words on these bytes.
-fn run_words(alloc: Global, line: &str, bytes: &[u8]) -> Result<Ran, Fail> {
+fn run_words<T: Spawner>(
+    alloc: Global,
+    threads: &mut T,
+    line: &str,
+    bytes: &[u8],
+) -> Result<Ran, Fail> {
+    run_gated(alloc, threads, FreeGate {}, line, bytes)
+}
+
+// A run with these words on these bytes, whose ranks pass this gate.
+fn run_gated<T: Spawner, G: Gate + Send + Drop + 'static>(
+    alloc: Global,
+    threads: &mut T,
+    gate: G,
+    line: &str,
+    bytes: &[u8],
+) -> Result<Ran, Fail> {
     let words = words(alloc, line)?;
     let mut input = SteadySource::new(bytes.to_vec(alloc)?);
     let mut output = SteadySink::new(alloc);
-    let end = run_adlb(alloc, words.as_slice(), &mut input, &mut output);
+    let end = run_adlb(
+        alloc,
+        words.as_slice(),
+        &mut input,
+        &mut output,
+        threads,
+        gate,
+    );
     seen(alloc, end, output.taken())
 }
 
-fn run_on(alloc: Global, bytes: &[u8]) -> Result<Ran, Fail> {
-    run_words(alloc, "solve", bytes)
+fn run_on<T: Spawner>(alloc: Global, threads: &mut T, bytes: &[u8]) -> Result<Ran, Fail> {
+    run_words(alloc, threads, "solve", bytes)
 }
 
-// A run on the forced puzzle that reads and writes so many bytes at a time, of which the calls of these numbers fail.
-fn run_failing(
-    alloc: Global,
+/// Which calls of a source and of a sink fail, and how many bytes they take at most.
+#[derive(Clone, Copy)]
+struct Failing {
     per_read: usize,
     read: u64,
     per_write: usize,
     write: u64,
-) -> Result<Ran, Fail>
-    requires reads { 0 < per_read }
-    requires writes { 0 < per_write }
-{
-    let words = words(alloc, "solve")?;
+    ghost reads: { 0 < per_read },
+    ghost writes: { 0 < per_write },
+}
+
+// A run on the forced puzzle that reads and writes so many bytes at a time, of which the calls of these numbers fail.
+fn run_failing<T: Spawner>(
+    alloc: Global,
+    threads: &mut T,
+    line: &str,
+    failing: Failing,
+) -> Result<Ran, Fail> {
+    let words = words(alloc, line)?;
     let bytes = FORCED.as_bytes().to_vec(alloc)?;
-    let mut input = MemorySource::new(bytes, per_read, [read].to_vec(alloc)?);
-    let mut output = MemorySink::new(alloc, per_write, [write].to_vec(alloc)?);
-    let end = run_adlb(alloc, words.as_slice(), &mut input, &mut output);
+    let mut input = MemorySource::new(bytes, failing.per_read, [failing.read].to_vec(alloc)?);
+    let mut output = MemorySink::new(alloc, failing.per_write, [failing.write].to_vec(alloc)?);
+    let end = run_adlb(
+        alloc,
+        words.as_slice(),
+        &mut input,
+        &mut output,
+        threads,
+        FreeGate {},
+    );
     seen(alloc, end, output.taken())
 }
 
-// The same in line with these settings, over a server that takes so many bytes.
+// A run in line with these settings, over a server that takes `limit` bytes.
 fn solve_on(alloc: Global, puzzle: &str, settings: Settings, limit: u64) -> Result<Ran, Fail> {
     let config = Config::new(1, 1, limit).ok().ok_or("no such limit")?;
     let mut input = SteadySource::new(puzzle.as_bytes().to_vec(alloc)?);
@@ -179,6 +222,7 @@ fn report(alloc: Global, solutions: &str, count: u64, boards: u64) -> Result<Str
 
 #[test]
 fn writes_the_report_of_each_worked_row(rt: HostRuntime) -> Result<(), Fail> {
+    let mut threads = RealThreads::new(rt);
     let full = format!(in rt.alloc(); "{FULL}\n")?;
     let both = format!(in rt.alloc(); "{FULL}\n{OTHER}\n")?;
     let rows = [
@@ -190,13 +234,18 @@ fn writes_the_report_of_each_worked_row(rt: HostRuntime) -> Result<(), Fail> {
     ];
     for (puzzle, solutions, count, boards) in rows {
         let wanted = report(rt.alloc(), solutions, count, boards)?;
-        for ending in ["\n", ""] {
+        for (line, ending) in [
+            (WAYS[0], "\n"),
+            (WAYS[0], ""),
+            (WAYS[1], "\n"),
+            (WAYS[2], ""),
+        ] {
             let input = format!(in rt.alloc(); "{puzzle}{ending}")?;
-            let ran = run_on(rt.alloc(), input.as_bytes())?;
+            let ran = run_words(rt.alloc(), &mut threads, line, input.as_bytes())?;
             assert_eq!(rt;
                 (ran.status, ran.written.as_str()),
                 (0, wanted.as_str()),
-                "{puzzle}"
+                "{line} {puzzle}"
             );
         }
     }
@@ -205,22 +254,31 @@ fn writes_the_report_of_each_worked_row(rt: HostRuntime) -> Result<(), Fail> {
 
 #[test]
 fn lists_what_another_solver_lists(rt: HostRuntime) -> Result<(), Fail> {
+    let mut threads = RealThreads::new(rt);
     for (puzzle, solutions) in SOLVED {
-        let ran = run_on(rt.alloc(), puzzle.as_bytes())?;
         let count = solutions.lines().count();
         let wanted = format!(in rt.alloc(); "puzzle 1 solutions {count}\n{solutions}totals\n")?;
-        assert!(rt;
-            ran.status == 0 && ran.written.as_str().starts_with(wanted.as_str()),
-            "{puzzle}"
-        );
+        for line in WAYS {
+            let ran = run_words(rt.alloc(), &mut threads, line, puzzle.as_bytes())?;
+            assert!(rt;
+                ran.status == 0 && ran.written.as_str().starts_with(wanted.as_str()),
+                "{line} {puzzle}"
+            );
+        }
     }
     Ok(())
 }
 
 // The input of these two pieces is refused with this text, and nothing is written or kept.
-fn is_refused(alloc: Global, front: &str, end: &str, fault: &str) -> Result<bool, Fail> {
+fn is_refused<T: Spawner>(
+    alloc: Global,
+    threads: &mut T,
+    front: &str,
+    end: &str,
+    fault: &str,
+) -> Result<bool, Fail> {
     let input = format!(in alloc; "{front}{end}")?;
-    let ran = run_on(alloc, input.as_bytes())?;
+    let ran = run_on(alloc, threads, input.as_bytes())?;
     Ok(
         ran.status == 1
             && ran.fault.as_str() == fault
@@ -231,6 +289,7 @@ fn is_refused(alloc: Global, front: &str, end: &str, fault: &str) -> Result<bool
 
 #[test]
 fn refuses_each_bad_input_and_writes_nothing(rt: HostRuntime) -> Result<(), Fail> {
+    let mut threads = RealThreads::new(rt);
     let rows = [
         (SHORT, "", "line 1: length"),
         (SHORT, "x", "line 1: character"),
@@ -248,7 +307,7 @@ fn refuses_each_bad_input_and_writes_nothing(rt: HostRuntime) -> Result<(), Fail
     ];
     for (front, end, fault) in rows {
         assert!(rt;
-            is_refused(rt.alloc(), front, end, fault)?,
+            is_refused(rt.alloc(), &mut threads, front, end, fault)?,
             "{front:?} {end:?}"
         );
     }
@@ -257,22 +316,24 @@ fn refuses_each_bad_input_and_writes_nothing(rt: HostRuntime) -> Result<(), Fail
 
 #[test]
 fn a_line_has_at_most_two_to_the_20_bytes(rt: HostRuntime) -> Result<(), Fail> {
+    let mut threads = RealThreads::new(rt);
     let mut line = vec![in rt.alloc(); b'#'; 0x10_0000]?;
-    let ran = run_on(rt.alloc(), line.as_slice())?;
+    let ran = run_on(rt.alloc(), &mut threads, line.as_slice())?;
     assert_eq!(rt; (ran.status, ran.written.as_str()), (0, NOTHING));
     line.push(b'#')?;
-    let ran = run_on(rt.alloc(), line.as_slice())?;
+    let ran = run_on(rt.alloc(), &mut threads, line.as_slice())?;
     assert_eq!(rt; (ran.status, ran.fault.as_str()), (1, "line 1: long"));
     Ok(())
 }
 
 #[test]
 fn an_input_has_at_most_two_to_the_24_bytes(rt: HostRuntime) -> Result<(), Fail> {
+    let mut threads = RealThreads::new(rt);
     let mut input = vec![in rt.alloc(); b'\n'; 0x100_0000]?;
-    let ran = run_on(rt.alloc(), input.as_slice())?;
+    let ran = run_on(rt.alloc(), &mut threads, input.as_slice())?;
     assert_eq!(rt; (ran.status, ran.written.as_str()), (0, NOTHING));
     input.push(b'\n')?;
-    let ran = run_on(rt.alloc(), input.as_slice())?;
+    let ran = run_on(rt.alloc(), &mut threads, input.as_slice())?;
     assert_eq!(rt; (ran.status, ran.fault.as_str()), (8, "input too large"));
     Ok(())
 }
@@ -310,6 +371,7 @@ const EMPTY_BATCH: &str = "batch 1 bytes 3 items 0\ntotals\nboard 0\nsolution 0\
 
 #[test]
 fn reads_puzzles_and_batches(rt: HostRuntime) -> Result<(), Fail> {
+    let mut threads = RealThreads::new(rt);
     let rows = [
         ("", NOTHING),
         ("\r\n\r", NOTHING),
@@ -319,23 +381,58 @@ fn reads_puzzles_and_batches(rt: HostRuntime) -> Result<(), Fail> {
         ("batch xyz", EMPTY_BATCH),
     ];
     for (input, wanted) in rows {
-        let ran = run_on(rt.alloc(), input.as_bytes())?;
-        assert_eq!(rt;
-            (ran.status, ran.written.as_str()),
-            (0, wanted),
-            "{input:?}"
-        );
+        for line in WAYS {
+            let ran = run_words(rt.alloc(), &mut threads, line, input.as_bytes())?;
+            assert_eq!(rt;
+                (ran.status, ran.written.as_str()),
+                (0, wanted),
+                "{line} {input:?}"
+            );
+        }
+    }
+    Ok(())
+}
+
+/// A puzzle in which every cell is blank.
+const BLANK: &str =
+    ".................................................................................";
+
+/// The report on a puzzle that is over.
+const OVER: &str = "puzzle 1 over\ntotals\nboard 1\nsolution 0\njob 0\nanswer 0\n";
+
+const FORCED_SOLVED: &str = "puzzle 1 solutions 1\n\
+    534678912672195348198342567859761423426853791713924856961537284287419635345286179\n\
+    totals\nboard 1\nsolution 1\njob 0\nanswer 0\n";
+
+#[test]
+fn options_of_runs_with_threads(rt: HostRuntime) -> Result<(), Fail> {
+    let mut threads = RealThreads::new(rt);
+    let rows = [
+        ("solve --budget 100", BLANK, OVER),
+        ("solve --budget 1 --ranks 2", TWO, OVER),
+        ("solve --limit 64", FORCED, FORCED_SOLVED),
+        (
+            "solve --limit 64 --grain 1 --ranks 32",
+            FORCED,
+            FORCED_SOLVED,
+        ),
+    ];
+    for (line, input, wanted) in rows {
+        let ran = run_words(rt.alloc(), &mut threads, line, input.as_bytes())?;
+        assert_eq!(rt; (ran.status, ran.written.as_str()), (0, wanted), "{line}");
     }
     Ok(())
 }
 
 #[test]
 fn refuses_other_words(rt: HostRuntime) -> Result<(), Fail> {
+    let mut threads = RealThreads::new(rt);
     let lines = [
         "",
         "frob",
         "solve --ranks 33",
-        "solve --ranks 2",
+        "solve --ranks 0",
+        "solve --servers 2",
         "solve --stats --stats",
         "solve --limit 63",
         "solve --grain 0",
@@ -349,7 +446,7 @@ fn refuses_other_words(rt: HostRuntime) -> Result<(), Fail> {
         "Solve",
     ];
     for line in lines {
-        let ran = run_words(rt.alloc(), line, FORCED.as_bytes())?;
+        let ran = run_words(rt.alloc(), &mut threads, line, FORCED.as_bytes())?;
         assert_eq!(rt;
             (ran.status, ran.fault.as_str()),
             (
@@ -365,17 +462,25 @@ fn refuses_other_words(rt: HostRuntime) -> Result<(), Fail> {
 
 #[test]
 fn the_words_give_limit_budget_and_grain(rt: HostRuntime) -> Result<(), Fail> {
+    let mut threads = RealThreads::new(rt);
     let over = "puzzle 1 over\ntotals\nboard 1\nsolution 0\njob 0\nanswer 0\n";
     let rows = [
-        ("solve --budget 1", TWO, over, "paqgfFqxo."),
-        ("solve --budget=1 --limit 64 --inline", TWO, over, "prRqxo."),
+        ("solve --budget 1 --inline --ranks 32", "paqgfFqxo."),
+        ("solve --budget=1 --limit 64 --inline", "prRqxo."),
+        ("solve --budget 1 --ranks=1", "paqgfFqxo."),
+        ("solve --budget 1 --limit 64 --ranks 1", "prRqxo."),
     ];
-    for (line, puzzle, wanted, ledger) in rows {
-        let ran = run_words(rt.alloc(), line, puzzle.as_bytes())?;
-        assert_eq!(rt; (ran.status, ran.written.as_str()), (0, wanted), "{line}");
+    for (line, ledger) in rows {
+        let ran = run_words(rt.alloc(), &mut threads, line, TWO.as_bytes())?;
+        assert_eq!(rt; (ran.status, ran.written.as_str()), (0, over), "{line}");
         assert_eq!(rt; ran.ledger.as_str(), ledger, "{line}");
     }
-    let one = run_words(rt.alloc(), "solve --grain 16777216", TWO.as_bytes())?;
+    let one = run_words(
+        rt.alloc(),
+        &mut threads,
+        "solve --grain 16777216",
+        TWO.as_bytes(),
+    )?;
     assert!(rt;
         one.written
             .as_str()
@@ -394,9 +499,10 @@ const BOTH_EXTRAS: &str = "totals\nboard 0\nsolution 0\njob 0\nanswer 0\n\
 
 #[test]
 fn counts_and_the_ledger_follow_the_report(rt: HostRuntime) -> Result<(), Fail> {
+    let mut threads = RealThreads::new(rt);
     let rows = [
         ("solve --ledger --inline", "", NO_JOBS),
-        ("solve --ledger --stats", "", BOTH_EXTRAS),
+        ("solve --ledger --stats --ranks 1", "", BOTH_EXTRAS),
         (
             "solve --stats",
             FORCED,
@@ -414,7 +520,7 @@ fn counts_and_the_ledger_follow_the_report(rt: HostRuntime) -> Result<(), Fail> 
         ),
     ];
     for (line, input, end) in rows {
-        let ran = run_words(rt.alloc(), line, input.as_bytes())?;
+        let ran = run_words(rt.alloc(), &mut threads, line, input.as_bytes())?;
         assert!(rt;
             ran.status == 0 && ran.written.as_str().ends_with(end),
             "{line} {input:?}"
@@ -424,44 +530,53 @@ fn counts_and_the_ledger_follow_the_report(rt: HostRuntime) -> Result<(), Fail> 
 }
 
 // What `check` writes of the ledger that `solve` wrote with these words on this input.
-fn checked(alloc: Global, line: &str, input: &str) -> Result<String, Fail> {
-    let solved = run_words(alloc, line, input.as_bytes())?;
+fn checked<T: Spawner>(
+    alloc: Global,
+    threads: &mut T,
+    line: &str,
+    input: &str,
+) -> Result<String, Fail> {
+    let solved = run_words(alloc, threads, line, input.as_bytes())?;
     let (_, text) = solved
         .written
         .as_str()
         .split_once("\nledger ")
         .ok_or("no ledger")?;
     let text = format!(in alloc; "ledger {text}")?;
-    let ran = run_words(alloc, "check", text.as_bytes())?;
+    let ran = run_words(alloc, threads, "check", text.as_bytes())?;
     Ok(ran.written)
 }
 
 #[test]
 fn a_written_ledger_is_legal(rt: HostRuntime) -> Result<(), Fail> {
+    let mut threads = RealThreads::new(rt);
     let rows = [
-        ("solve --ledger", "", "legal 4\n"),
-        ("solve --ledger", FORCED, "legal 16\n"),
-        ("solve --ledger --limit 64", FORCED, "legal 10\n"),
+        ("solve --ledger --inline", "", "legal 4\n"),
+        ("solve --ledger --inline", FORCED, "legal 16\n"),
+        ("solve --ledger --inline --limit 64", FORCED, "legal 10\n"),
+        ("solve --ledger --ranks 1", FORCED, "legal 16\n"),
+        ("solve --ledger", FORCED, "legal 25\n"),
     ];
     for (line, input, wanted) in rows {
-        let told = checked(rt.alloc(), line, input)?;
+        let told = checked(rt.alloc(), &mut threads, line, input)?;
         assert_eq!(rt; told.as_str(), wanted, "{line} {input:?}");
     }
-    let mixed = checked(rt.alloc(), "solve --ledger --stats", MIXED)?;
+    let mixed = checked(rt.alloc(), &mut threads, "solve --ledger --stats", MIXED)?;
     assert!(rt; mixed.as_str().starts_with("legal "));
     Ok(())
 }
 
 #[test]
 fn makes_an_input_that_it_solves(rt: HostRuntime) -> Result<(), Fail> {
-    let none = run_words(rt.alloc(), "make 0 7", b"x")?;
+    let mut threads = RealThreads::new(rt);
+    let none = run_words(rt.alloc(), &mut threads, "make 0 7", b"x")?;
     assert_eq!(rt; (none.status, none.written.as_str()), (0, ""));
-    let made = run_words(rt.alloc(), "make 8 1", b"")?;
+    let made = run_words(rt.alloc(), &mut threads, "make 8 1", b"")?;
     assert_eq!(rt;
         (made.status, made.written.as_str().lines().count()),
         (0, 12)
     );
-    let solved = run_on(rt.alloc(), made.written.as_str().as_bytes())?;
+    let solved = run_on(rt.alloc(), &mut threads, made.written.as_str().as_bytes())?;
     assert!(rt; solved.status == 0 && solved.written.as_str().ends_with("job 3\nanswer 3\n"));
     Ok(())
 }
@@ -472,6 +587,7 @@ const NO_DRILL: &str = "drill 0 7\npuzzles 0 over 0 solutions 0\nbatches 0 items
 
 #[test]
 fn drills_made_inputs(rt: HostRuntime) -> Result<(), Fail> {
+    let mut threads = RealThreads::new(rt);
     let rows = [
         (
             "drill 0 7",
@@ -490,7 +606,7 @@ fn drills_made_inputs(rt: HostRuntime) -> Result<(), Fail> {
         ),
     ];
     for (line, begin, end) in rows {
-        let ran = run_words(rt.alloc(), line, b"x")?;
+        let ran = run_words(rt.alloc(), &mut threads, line, b"x")?;
         assert!(rt;
             ran.status == 0
                 && ran.written.as_str().starts_with(begin)
@@ -503,13 +619,14 @@ fn drills_made_inputs(rt: HostRuntime) -> Result<(), Fail> {
 
 #[test]
 fn a_text_of_no_ledger_is_refused(rt: HostRuntime) -> Result<(), Fail> {
+    let mut threads = RealThreads::new(rt);
     let rows = [
         ("", 1, "line 1: entry", ""),
         ("ledger 1 1 64\nend 1\n", 1, "line 2: entry", ""),
         ("ledger 1 1 64\nexhausted\nend 1\n", 0, "", "illegal 0\n"),
     ];
     for (text, status, fault, written) in rows {
-        let ran = run_words(rt.alloc(), "check", text.as_bytes())?;
+        let ran = run_words(rt.alloc(), &mut threads, "check", text.as_bytes())?;
         assert_eq!(rt;
             (ran.status, ran.fault.as_str(), ran.written.as_str()),
             (status, fault, written),
@@ -521,9 +638,16 @@ fn a_text_of_no_ledger_is_refused(rt: HostRuntime) -> Result<(), Fail> {
 
 #[test]
 fn a_read_that_fails_writes_nothing(rt: HostRuntime) -> Result<(), Fail> {
+    let mut threads = RealThreads::new(rt);
     // The second of the reads of 40 bytes fails, or the first of one that would give all.
     for (per_read, fails) in [(100, 1), (40, 2)] {
-        let ran = run_failing(rt.alloc(), per_read, fails, 1000, 1000)?;
+        let failing = Failing {
+            per_read,
+            read: fails,
+            per_write: 1000,
+            write: 1000,
+        };
+        let ran = run_failing(rt.alloc(), &mut threads, "solve", failing)?;
         assert_eq!(rt; (ran.status, ran.fault.as_str()), (3, "read failed"));
         assert!(rt; ran.written.is_empty() && ran.ledger.is_empty());
     }
@@ -532,11 +656,25 @@ fn a_read_that_fails_writes_nothing(rt: HostRuntime) -> Result<(), Fail> {
 
 #[test]
 fn a_write_that_fails_leaves_the_front_of_the_report(rt: HostRuntime) -> Result<(), Fail> {
+    let mut threads = RealThreads::new(rt);
     let solution = format!(in rt.alloc(); "{FULL}\n")?;
     let whole = report(rt.alloc(), solution.as_str(), 1, 1)?;
     // The report has 144 bytes, so it goes in 15 writes of 10 bytes at most; the flush is the call after them.
-    for (fails, taken) in [(1, 0), (2, 10), (15, 140), (16, 144)] {
-        let ran = run_failing(rt.alloc(), 100, 1000, 10, fails)?;
+    let rows = [
+        ("solve", 1, 0),
+        ("solve", 2, 10),
+        ("solve --inline", 2, 10),
+        ("solve --inline", 15, 140),
+        ("solve", 16, 144),
+    ];
+    for (line, fails, taken) in rows {
+        let failing = Failing {
+            per_read: 100,
+            read: 1000,
+            per_write: 10,
+            write: fails,
+        };
+        let ran = run_failing(rt.alloc(), &mut threads, line, failing)?;
         assert_eq!(rt;
             (ran.status, ran.fault.as_str()),
             (4, "write failed"),

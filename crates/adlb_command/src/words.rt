@@ -72,14 +72,22 @@ pub fn extras(words: &SolveWords) -> Extras
     }
 }
 
-/// The numbers of the run: one rank and one server, which takes as many bytes as the options say.
+/// The numbers of the run (`IsConfigOf`): as the options say, but one rank and one server in line.
 pub fn config(options: &RunOptions) -> Config
     requires { IsRunWithin options.now }
     ensures { IsConfigOf options.now result }
 {
-    Config {
-        ranks: 1,
-        servers: 1,
-        limit: options.limit,
+    if options.inline {
+        Config {
+            ranks: 1,
+            servers: 1,
+            limit: options.limit,
+        }
+    } else {
+        Config {
+            ranks: options.ranks,
+            servers: options.servers,
+            limit: options.limit,
+        }
     }
 }

@@ -1,14 +1,14 @@
 //! The program `adlbrun`: reads puzzles and batches of items, works them, and writes their solutions and answers.
 //!
-//! It hands the words of its command line, standard input and standard output to `run_adlb` of `adlb_command`, tells the fault on
-//! standard error, if there is one, and ends with the status. Nothing is proved of `main`; `unread` says which fault it is if the
-//! words cannot be read.
+//! It hands the words of its command line, standard input and output, threads of the system and a gate that is always open to
+//! `run_adlb` of `adlb_command`, tells the fault on standard error, if there is one, and ends with the status. Nothing is proved of
+//! `main`; `unread` says which fault it is if the words cannot be read.
 #![tactic(auto)]
 
 ghost use Rattle.std.specs.Prelude.{◌≡◌};
 
 use adlb_command::{RunEnd, RunFault, run_adlb};
-use adlb_io::{StdinSource, StdoutSink};
+use adlb_io::{FreeGate, RealThreads, StdinSource, StdoutSink};
 use std::env;
 use std::io::ErrorKind;
 use std::process::ExitCode;
@@ -18,7 +18,15 @@ fn main(rt: HostRuntime) -> ExitCode {
         Ok(words) => {
             let mut input = StdinSource::new(rt.clone().unwrap());
             let mut output = StdoutSink::new(rt.clone().unwrap());
-            run_adlb(rt.alloc(), words.as_slice(), &mut input, &mut output)
+            let mut threads = RealThreads::new(rt);
+            run_adlb(
+                rt.alloc(),
+                words.as_slice(),
+                &mut input,
+                &mut output,
+                &mut threads,
+                FreeGate {},
+            )
         }
         Err(fault) => RunEnd::new(Some(fault), None),
     };

@@ -1,15 +1,30 @@
-use Rattle.std.proofs.Common.{[], Some, refl}
-use Rattle.adlb_io.specs.Inputs.{seen}
+use Rattle.std.proofs.Common.{[], Some, refl, ap, ◌∙◌}
 use Rattle.made_jobs.specs.Made.{made_text}
-use Rattle.adlb_command.proofs.Ending.{ends_answered}
+use Rattle.adlb_command.proofs.Ending.{ends_answered, plain_refusal}
+use Rattle.adlb_command.proofs.Stopping.{ends_as_refused}
+use Rattle.adlb_command.specs.Ends.{found_by}
+use Rattle.adlb_command.specs.Top.{scene}
 use Rattle.adlb_command.specs.declared.wanted.Wanted.TheVariants.{Summary}
 use Rattle.adlb_command.proofs.drilling.drill_inline.Goals as goal
 
 pub returns-in-Ok-clause-ends : goal.returns-in-Ok-clause-ends
-returns-in-Ok-clause-ends g c = λ left reads.
+returns-in-Ok-clause-ends g c = λ left reads refused started refused' started'.
     ends_answered c.args.settings (Summary c.args.count c.args.seed)
-    (seen (Some (made_text c.args.count c.args.seed)) 0 (g.K.Sink.taken c.args.output.now) (g.K.Sink.faults c.args.output.now)
-    (g.K.Sink.all_flushed c.args.output.now))
-    (seen (Some []) 0 (g.K.Sink.taken c.write_answer.new.output) (g.K.Sink.faults c.write_answer.new.output)
-    (g.K.Sink.all_flushed c.write_answer.new.output))
+    (scene (Some (made_text c.args.count c.args.seed)) 0 (g.K.Sink.taken c.args.output.now) (g.K.Sink.faults c.args.output.now)
+    (g.K.Sink.all_flushed c.args.output.now) refused started)
+    (scene (Some []) 0 (g.K.Sink.taken c.write_answer.new.output) (g.K.Sink.faults c.write_answer.new.output)
+    (g.K.Sink.all_flushed c.write_answer.new.output) refused' started')
     c.in-Ok.answer.report c.in-Ok.answer.text.items c.in-Ok.ensures.answered refl _ _ c.write_answer.ensures.written
+
+pub returns-in-Err-clause-ends : goal.returns-in-Err-clause-ends
+returns-in-Err-clause-ends g c = λ left reads refused started refused' started'.
+    ends_as_refused c.args.settings (Summary c.args.count c.args.seed)
+    (scene (Some (made_text c.args.count c.args.seed)) 0 (g.K.Sink.taken c.args.output.now) (g.K.Sink.faults c.args.output.now)
+    (g.K.Sink.all_flushed c.args.output.now) refused started)
+    (scene (Some []) 0 (g.K.Sink.taken c.args.output.now) (g.K.Sink.faults c.args.output.now) (g.K.Sink.all_flushed c.args.output.now)
+    refused' started')
+    c.in-Err.fault c.new.result.fault c.new.result.report c.new.ensures.fault c.new.ensures.report c.in-Err.ensures.faults refl
+
+pub returns-in-Err-clause-confirmed : goal.returns-in-Err-clause-confirmed
+returns-in-Err-clause-confirmed g c =
+    (c.new.ensures.unconfirmed, ap found_by c.new.ensures.fault ∙ plain_refusal _ _ _ c.in-Err.fault c.in-Err.ensures.faults)

@@ -1,5 +1,29 @@
-use Rattle.adlb_command.proofs.Ending.{ends_answered}
+use Rattle.std.proofs.Common.{◌∙◌, ap, refl}
+use Rattle.adlb_command.specs.Ends.{found_by}
+use Rattle.adlb_command.specs.Top.{scene}
+use Rattle.adlb_command.specs.declared.wanted.Wanted.TheVariants.{Report}
+use Rattle.adlb_command.proofs.Ending.{ends_answered, plain_refusal}
+use Rattle.adlb_command.proofs.Stopping.{ends_as_refused}
 use Rattle.adlb_command.proofs.inline.solve_inline.Goals as goal
 
 pub returns-in-Ok-clause-ends : goal.returns-in-Ok-clause-ends
-returns-in-Ok-clause-ends g c = ends_answered _ _ _ _ c.in-Ok.answer.report c.in-Ok.answer.text.items c.in-Ok.ensures.answered c.in-Ok.ensures.end _ _ c.write_answer.ensures.written
+returns-in-Ok-clause-ends g c = λ refused started refused' started'.
+    ends_answered c.args.settings (Report c.args.extras)
+    (scene (g.S.Source.left c.args.input.now) (g.S.Source.faults c.args.input.now) (g.K.Sink.taken c.args.output.now)
+    (g.K.Sink.faults c.args.output.now) (g.K.Sink.all_flushed c.args.output.now) refused started)
+    (scene (g.S.Source.left c.answer_input.new.input) (g.S.Source.faults c.answer_input.new.input) (g.K.Sink.taken c.write_answer.new.output)
+    (g.K.Sink.faults c.write_answer.new.output) (g.K.Sink.all_flushed c.write_answer.new.output) refused' started')
+    c.in-Ok.answer.report c.in-Ok.answer.text.items c.in-Ok.ensures.answered c.in-Ok.ensures.end _ _ c.write_answer.ensures.written
+
+pub returns-in-Err-clause-ends : goal.returns-in-Err-clause-ends
+returns-in-Err-clause-ends g c = λ refused started refused' started'.
+    ends_as_refused c.args.settings (Report c.args.extras)
+    (scene (g.S.Source.left c.args.input.now) (g.S.Source.faults c.args.input.now) (g.K.Sink.taken c.args.output.now)
+    (g.K.Sink.faults c.args.output.now) (g.K.Sink.all_flushed c.args.output.now) refused started)
+    (scene (g.S.Source.left c.answer_input.new.input) (g.S.Source.faults c.answer_input.new.input) (g.K.Sink.taken c.args.output.now)
+    (g.K.Sink.faults c.args.output.now) (g.K.Sink.all_flushed c.args.output.now) refused' started')
+    c.in-Err.fault c.new.result.fault c.new.result.report c.new.ensures.fault c.new.ensures.report c.in-Err.ensures.refused refl
+
+pub returns-in-Err-clause-confirmed : goal.returns-in-Err-clause-confirmed
+returns-in-Err-clause-confirmed g c =
+    (c.new.ensures.unconfirmed, ap found_by c.new.ensures.fault ∙ plain_refusal _ _ _ c.in-Err.fault c.in-Err.ensures.refused)

@@ -1,16 +1,16 @@
 use Rattle.std.proofs.Common.{[], Some, refl}
-use Rattle.adlb_io.specs.Inputs.{seen}
 use Rattle.adlb_command.proofs.Checked.{bad_checked, long_checked, text_checked}
 use Rattle.adlb_command.proofs.Ending.{accepted_fine, overlong_told, refused_there}
 use Rattle.adlb_command.proofs.Made.{made_whole}
 use Rattle.made_jobs.specs.Made.{made_text}
 use Rattle.adlb_command.proofs.Drilled.{no_more}
+use Rattle.adlb_command.specs.Top.{scene}
 use Rattle.adlb_command.specs.declared.wanted.Wanted.TheVariants.{Summary}
 use Rattle.adlb_command.proofs.laws.end_laws.Goals as goal
 
 pub returns-clause-complete : goal.returns-clause-complete
-returns-clause-complete c = λ settings wanted before after fault report bytes ends told no_read accepted no_write.
-    accepted_fine settings wanted before after report bytes told no_read no_write fault ends accepted
+returns-clause-complete c = λ settings wanted before after fault report bytes ends told no_read accepted no_write no_refusal.
+    accepted_fine settings wanted before after report bytes told no_read no_write no_refusal fault ends accepted
 
 pub returns-clause-refused : goal.returns-clause-refused
 returns-clause-refused c = λ settings wanted before after fault report bytes ends told no_read line why short is.
@@ -39,9 +39,11 @@ returns-clause-made c = λ count seed before after fault report ends no_write.
     made_whole count seed before after fault report ends no_write
 
 pub returns-clause-drilled : goal.returns-clause-drilled
-returns-clause-drilled c = λ settings count seed before after fault report ends few no_write.
-    accepted_fine settings (Summary count seed) (seen (Some (made_text count seed)) 0 before.taken before.writes before.flushed)
-    (seen (Some []) 0 after.taken after.writes after.flushed) report (made_text count seed) refl no_more no_write fault ends (record {
+returns-clause-drilled c = λ settings count seed before after fault report ends few no_write no_refusal.
+    accepted_fine settings (Summary count seed)
+    (scene (Some (made_text count seed)) 0 before.taken before.writes before.flushed before.refused before.started)
+    (scene (Some []) 0 after.taken after.writes after.flushed after.refused after.started) report (made_text count seed) refl no_more
+    no_write no_refusal fault ends (record {
       short = c.made_laws.ensures.short count seed few;
       fine = c.made_is_accepted.ensures.accepted count seed;
     })

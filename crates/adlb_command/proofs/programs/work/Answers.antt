@@ -1,4 +1,4 @@
-use Rattle.adlb_command.proofs.Keeping.{numbers_again, seat_numbers, trouble_fault}
+use Rattle.adlb_command.proofs.Keeping.{numbers_again, seat_numbers}
 use Rattle.adlb_command.proofs.programs.work.Goals as goal
 
 pub returns-clause-config : goal.returns-clause-config

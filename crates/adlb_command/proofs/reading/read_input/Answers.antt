@@ -1,9 +1,9 @@
 use Rattle.std.proofs.Common.{◌≤◌, ◌+◌, ap, sym, subst, arith, length}
-use Rattle.std.proofs.lemmas.Result.{IfOk-weaker, err_from_is_err_and}
+use Rattle.std.proofs.lemmas.Result.{IfOk-weaker}
 use Rattle.adlb_io.proofs.Inputs.{read_end, read_too_long}
 use Rattle.adlb_io.specs.Whole.{Reads}
 use Rattle.adlb_command.specs.Input.{input_limit}
-use Rattle.adlb_command.proofs.Forms.{fault_weaker, read_jobs_are, read_refuses, read_same}
+use Rattle.adlb_command.proofs.Forms.{fault_weaker, read_jobs_are, read_refuses}
 use Rattle.adlb_command.proofs.reading.read_input.Goals as goal
 
 pub returns-then-len-gt-INPUT_LIMIT-clause-refused : goal.returns-then-len-gt-INPUT_LIMIT-clause-refused
