@@ -16,8 +16,6 @@ mod laws;
 mod programs;
 mod reading;
 mod stops;
-#[cfg(test)]
-mod tests;
 mod threads;
 mod top;
 mod wanted;

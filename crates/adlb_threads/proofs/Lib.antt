@@ -1,4 +1,3 @@
 mod Counts
 mod Kept
 mod Reporting
-mod Transcripts

@@ -1,4 +1,4 @@
--- What private contracts cite.
+-- What contracts beneath a run of ranks cite.
 use Rattle.std.specs.Prelude.{◌≡◌, List, [], IfSome, Some, map}
 use Rattle.adlb_unit.specs.declared.configs.Config.{Config}
 use Rattle.bag_ledger.specs.declared.entries.Said.{Said}

@@ -14,9 +14,9 @@ mod reports;
 mod runs;
 mod servers;
 mod starts;
-#[cfg(test)]
-mod tests;
 
+pub use confirming::report;
 pub use faults::{Found, RanFault, Unconfirmed};
 pub use reports::Report;
 pub use runs::run_ranks;
+pub use servers::{ServerEnd, ServerJob};

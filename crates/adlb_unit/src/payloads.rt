@@ -98,30 +98,3 @@ impl Payload {
         }
     }
 }
-
-#[cfg(test)]
-mod tests {
-    use super::*;
-    use std::test::Fail;
-
-    #[test]
-    fn copies_and_twins_have_the_bytes(rt: HostRuntime) -> Result<(), Fail> {
-        let copy = Payload::copy(rt.alloc(), b"ab")?;
-        let twin = copy.twin(rt.alloc())?;
-        assert_eq!(rt; copy.bytes(), b"ab".as_slice());
-        assert_eq!(rt; twin.bytes(), b"ab".as_slice());
-        assert_eq!(rt; twin.len(), 2);
-        Ok(())
-    }
-
-    #[test]
-    fn an_owned_payload_can_be_shared(rt: HostRuntime) -> Result<(), Fail> {
-        let owned = Payload::from_vec(b"xyz".to_vec(rt.alloc())?);
-        let copied = owned.twin(rt.alloc())?;
-        let shared = owned.share(rt.alloc())?.share(rt.alloc())?;
-        assert_eq!(rt; copied.bytes(), shared.bytes());
-        assert!(rt; !shared.is_empty());
-        assert!(rt; Payload::from_vec(Vec::new(rt.alloc())).is_empty());
-        Ok(())
-    }
-}

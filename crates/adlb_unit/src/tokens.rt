@@ -95,25 +95,3 @@ impl Token {
         })
     }
 }
-
-#[cfg(test)]
-mod tests {
-    use super::*;
-    use crate::names::WorkType;
-    use std::test::Fail;
-
-    #[test]
-    fn asked_ranks_stand_in_order(rt: HostRuntime) -> Result<(), Fail> {
-        let mut asked = AskedList::new(rt.alloc())?;
-        asked.push(Rank(4), Types::list(&[WorkType(2)])?);
-        asked.push(Rank(1), Types::any());
-        let twin = asked.twin(rt.alloc())?;
-        assert_eq!(rt; twin.pairs().len(), 2);
-        assert_eq!(rt; twin.pairs()[0].0, Rank(4));
-        assert!(rt; !twin.pairs()[0].1.has(WorkType(1)));
-        assert!(rt; twin.pairs()[1].1.has(WorkType(1)));
-        asked.clear();
-        assert_eq!(rt; asked.pairs().len(), 0);
-        Ok(())
-    }
-}

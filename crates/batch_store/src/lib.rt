@@ -10,8 +10,6 @@ mod laws;
 mod parts;
 mod stores;
 mod tables;
-#[cfg(test)]
-mod tests;
 
 pub use laws::batch_laws;
 pub use parts::Part;

@@ -13,8 +13,6 @@ mod outcomes;
 mod puzzles;
 mod reports;
 mod summaries;
-#[cfg(test)]
-mod tests;
 mod texts;
 mod totals;
 

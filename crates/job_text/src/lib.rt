@@ -11,8 +11,6 @@ mod jobs;
 mod kinds;
 mod lines;
 mod reading;
-#[cfg(test)]
-mod tests;
 mod words;
 
 pub use faults::{JobsFault, LineWhy};

@@ -15,8 +15,6 @@ mod laws;
 mod pieces;
 mod puts;
 mod solutions;
-#[cfg(test)]
-mod tests;
 mod units;
 
 pub use answers::Answer;

@@ -9,8 +9,6 @@ mod counting;
 mod greatest;
 mod joining;
 mod summing;
-#[cfg(test)]
-mod tests;
 
 pub use counting::count_range;
 pub use greatest::max_byte;

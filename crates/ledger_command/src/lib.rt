@@ -7,8 +7,6 @@
 mod checking;
 mod faults;
 mod reading;
-#[cfg(test)]
-mod tests;
 mod verdicts;
 mod writing;
 

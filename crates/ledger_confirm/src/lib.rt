@@ -9,8 +9,6 @@ mod confirming;
 mod findings;
 mod sameness;
 mod saying;
-#[cfg(test)]
-mod tests;
 
 pub use confirming::confirm;
 pub use findings::Finding;

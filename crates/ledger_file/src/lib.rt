@@ -17,8 +17,6 @@ mod names;
 mod numbers;
 mod reading;
 mod rows;
-#[cfg(test)]
-mod tests;
 mod texts;
 mod words;
 mod writing;

@@ -5,8 +5,6 @@
 #![tactic(auto)]
 
 mod stats;
-#[cfg(test)]
-mod tests;
 mod texts;
 
 pub use stats::append_stats;

@@ -7,8 +7,6 @@
 mod faults;
 mod laws;
 mod makers;
-#[cfg(test)]
-mod tests;
 mod texts;
 mod writing;
 

@@ -12,8 +12,6 @@ mod desk;
 mod laws;
 mod outcomes;
 mod program;
-#[cfg(test)]
-mod tests;
 
 pub use laws::{calls_add_up, calls_in_order};
 pub use outcomes::Settings;

@@ -140,8 +140,8 @@ impl Grid {
         &self.form
     }
 
-    // The cells by rows.
-    pub(crate) fn cells(&self) -> &[u8]
+    /// The cells by rows, each its digit, or 0 if it is blank: what tells whether `candidates` may be asked.
+    pub fn cells(&self) -> &[u8]
         ensures same { result.now ≡ self.now }
         ensures grid { IsSudoku self.now }
         ensures few { length self.now ≤ 256 }

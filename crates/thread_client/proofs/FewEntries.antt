@@ -62,7 +62,7 @@ close_few s (Some batch) z is = subst Few (if_is true _ z is) (omega arith)
 open_few : (s : ClientModel) (call : Call) (z : ClientResponse) → open_call s call ≡ Some z → Few z
 open_few s (calls_to.Put kind prio target answer body) z is =
     subst Few (if_is _ _ z is) (put_few s (unit_put s kind prio target answer body) s.end)
-open_few s (calls_to.Reserve types) z is = subst Few (if_is _ _ z is) (reserve_few s types s.end)
+open_few s (calls_to.Reserve types) z is = subst Few (if_is true _ z is) (reserve_few s types s.end)
 open_few s (calls_to.Try types) z is = subst Few (if_is true _ z is) (look_few s types s.end)
 open_few s (calls_to.Fetch id) z is = fetch_few s id (held s id) z is
 open_few s (calls_to.BeginBatch common) z is = subst Few (if_is _ _ z is) (keep_few s common s.end)

@@ -1,5 +1,4 @@
 mod Called
 mod Exchanges
 mod FewEntries
-mod Scripts
 mod Steps

@@ -10,8 +10,6 @@ mod entered;
 mod jobs;
 mod links;
 mod runs;
-#[cfg(test)]
-mod tests;
 mod troubles;
 mod wires;
 

@@ -1,0 +1,11 @@
+//! Ledgers that are checked, counted and confirmed, by example.
+//!
+//! It holds tests alone, in a crate of their own so that what they test is not proved again with them.
+#![tactic(auto)]
+
+#[cfg(test)]
+mod command;
+#[cfg(test)]
+mod confirmed;
+#[cfg(test)]
+mod counts;

@@ -1,0 +1,118 @@
+//! The kernels against plain loops, and against worked rows.
+
+ghost use Rattle.std.specs.Prelude.{◌≤◌, length};
+
+use lane_bytes::{count_range, max_byte, sum_bytes, used_masks};
+use std::process::Abort;
+
+// The greatest length of the table.
+const MOST: usize = 130;
+
+fn plain_count(bytes: &[u8], lo: u8, hi: u8) -> u64 {
+    let mut count = 0u64;
+    for byte in bytes {
+        if lo <= *byte && *byte <= hi {
+            count = count.wrapping_add(1);
+        }
+    }
+    count
+}
+
+fn plain_sum(bytes: &[u8]) -> u64 {
+    let mut sum = 0u64;
+    for byte in bytes {
+        sum = sum.wrapping_add(u64::from(*byte));
+    }
+    sum
+}
+
+fn plain_max(bytes: &[u8]) -> u8 {
+    let mut most = 0;
+    for byte in bytes {
+        if *byte > most {
+            most = *byte;
+        }
+    }
+    most
+}
+
+fn rising() -> [u8; MOST] {
+    let mut bytes = [0; MOST];
+    for k in 0..MOST {
+        bytes[k] = k as u8;
+    }
+    bytes
+}
+
+fn answers_are_plain(rt: &impl Abort, bytes: &[u8])
+    requires { length bytes.now ≤ 130 }
+{
+    let length = bytes.len();
+    for (lo, hi) in [(0, 255), (0, 0), (1, 254), (255, 255), (31, 97), (97, 31)] {
+        assert_eq!(rt;
+            count_range(bytes, lo, hi),
+            plain_count(bytes, lo, hi),
+            "{length} bytes, {lo} to {hi}"
+        );
+    }
+    assert_eq!(rt;
+        sum_bytes(bytes),
+        plain_sum(bytes),
+        "the sum of {length} bytes"
+    );
+    assert_eq!(rt;
+        max_byte(bytes),
+        plain_max(bytes),
+        "the greatest of {length} bytes"
+    );
+}
+
+// Masks of these bytes, of bits of their own, and of one bit of each, joined at the first `length` places.
+fn masks_are_plain(rt: &impl Abort, bytes: &[u8; MOST], length: usize)
+    requires { length ≤ 130 }
+{
+    let mut rows = [0; MOST];
+    let mut cols = [0; MOST];
+    for k in 0..MOST {
+        rows[k] = u16::from(bytes[k]);
+        cols[k] = 0x5a3c ^ u16::from(bytes[k]);
+    }
+    let boxes = [0x8001; MOST];
+    let mut out = [7; MOST];
+    used_masks(
+        &rows[..length],
+        &cols[..length],
+        &boxes[..length],
+        &mut out[..length],
+    );
+    for k in 0..MOST {
+        let want = if k < length {
+            rows[k] | cols[k] | boxes[k]
+        } else {
+            7
+        };
+        assert_eq!(rt; out[k], want, "mask {k} of {length}");
+    }
+}
+
+#[test]
+fn answers_as_plain_loops_at_each_length(rt: HostRuntime) {
+    for bytes in [[0; MOST], [255; MOST], rising()] {
+        for length in 0..=MOST {
+            answers_are_plain(&rt, &bytes[..length]);
+            masks_are_plain(&rt, &bytes, length);
+        }
+    }
+}
+
+#[test]
+fn answers_worked_rows(rt: HostRuntime) {
+    let letters = b"abcabc";
+    assert_eq!(rt; count_range(letters, 97, 98), 4);
+    assert_eq!(rt; sum_bytes(letters), 588);
+    assert_eq!(rt; max_byte(letters), 99);
+    let many = [255; 20_000];
+    assert_eq!(rt; count_range(&many, 255, 255), 20_000);
+    assert_eq!(rt; sum_bytes(&many), 5_100_000);
+    assert_eq!(rt; max_byte(&many), 255);
+}

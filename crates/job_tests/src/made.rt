@@ -1,0 +1,75 @@
+//! Texts that are made, by the values of another program.
+
+use adlb_io::MemorySink;
+use made_jobs::{MadeFault, made, write_made};
+use std::alloc::Global;
+use std::test::Fail;
+
+/// Seeds, and the first two lines that are made of them.
+const FIRST_LINES: [(u64, &str); 3] = [
+    (
+        1,
+        "6273..5893498...7..5.27963..6.4387927931..4.8..2..7.6..386..9...14785326.7.91..4.\n\
+         149..5..76378...95.25497.63..23689.4976.14.2....2.95.6.6......9753.82.41491..6..2\n",
+    ),
+    (
+        2,
+        "9756321..6.8419..2.1..58....9.3645.7.862...14347..52.6..4973.25.2.5416.97..826.3.\n\
+         52.1..6...9.3...8...7.84.19.56913842..1.529..93.64875161.5.94.8.79.3.1.5..54.1.9.\n",
+    ),
+    (
+        u64::MAX,
+        "4..613.8961..54.7.8.3..9.61.4.1.87927963421.8.825..3.656..2.9.793.7.56.42..93.8.5\n\
+         86...4723.13..8.94.746.3..14.71.2936..5.86.72.2.7.9...752.6..49..1.27568698..5..7\n",
+    ),
+];
+
+/// What stands behind the seventh line of the seed 1.
+const EIGHTH: &str =
+    "5..83..168.6.....2172.965.32.73.1..496..543713..7.9.587..543.296..91.8.54..62813.\n\
+     batch 5..83..168.6.....2172.965.32.73.1..496..543713..7.9.587..543.296..91.8.54..62813.\n\
+     count 49 53\nsum\nmax\n";
+
+// What is made of this many puzzles and a seed.
+fn text(alloc: Global, count: u32, seed: u64) -> Result<String, Fail> {
+    let bytes = made(alloc, count, seed)?;
+    Ok(String::from_utf8(bytes).unwrap_or(String::new(alloc)))
+}
+
+#[test]
+fn makes_what_another_program_makes(rt: HostRuntime) -> Result<(), Fail> {
+    assert_eq!(rt; made(rt.alloc(), 0, 7)?.len(), 0);
+    for (seed, lines) in FIRST_LINES {
+        assert_eq!(rt; text(rt.alloc(), 2, seed)?.as_str(), lines);
+    }
+    Ok(())
+}
+
+#[test]
+fn puts_a_batch_behind_the_eighth_puzzle(rt: HostRuntime) -> Result<(), Fail> {
+    let all = text(rt.alloc(), 8, 1)?;
+    assert_eq!(rt; all.len(), 8 * 82 + 108);
+    assert!(rt; all.as_str().ends_with(EIGHTH));
+    for line in all.as_str().lines().take(8) {
+        assert_eq!(rt; line.len(), 81);
+        assert!(rt; line.bytes().filter(|byte| *byte != b'.').count() >= 41);
+    }
+    assert_eq!(rt; all.as_str().lines().count(), 12);
+    Ok(())
+}
+
+#[test]
+fn writes_up_to_a_fault_of_the_sink(rt: HostRuntime) -> Result<(), Fail> {
+    // Two lines of 82 bytes go in two writes of 100 at most; the third call is the flush.
+    for (fails, taken, answer) in [
+        (0, 164, Ok(())),
+        (2, 100, Err(MadeFault::Write)),
+        (3, 164, Err(MadeFault::Write)),
+    ] {
+        let mut sink = MemorySink::new(rt.alloc(), 100, [fails].to_vec(rt.alloc())?);
+        assert_eq!(rt; write_made(rt.alloc(), 2, 1, &mut sink), answer);
+        assert_eq!(rt; sink.taken().len(), taken);
+        assert!(rt; FIRST_LINES[0].1.as_bytes().starts_with(sink.taken()));
+    }
+    Ok(())
+}

@@ -1,0 +1,215 @@
+//! Tests of values that were found by hand or are known.
+
+use std::alloc::Global;
+use std::process::Abort;
+use std::test::Fail;
+use sudoku_rules::{Grid, GridFault, expand, in_text_order, parse_grid};
+
+// Of side 4: a full grid, and a puzzle with two solutions, which differ in four cells. That grid is one of them.
+const SMALL: &str = "1234341221434321";
+
+const SMALL_TWO: &str = ".2.4.4.221434321";
+
+const SMALL_OTHER: &str = "3214143221434321";
+
+// Of side 9: a puzzle with one solution, and one with two, which differ in four cells. That one is the first of them.
+const ONE: &str =
+    "530070000600195000098000060800060003400803001700020006060000280000419005000080079";
+
+const TWO: &str =
+    "534678912672195348198342567859760420426850790713924856961537284287419635345286179";
+
+const FULL: &str =
+    "534678912672195348198342567859761423426853791713924856961537284287419635345286179";
+
+const OTHER: &str =
+    "534678912672195348198342567859763421426851793713924856961537284287419635345286179";
+
+const EMPTY: &str =
+    ".................................................................................";
+
+const BLANK: &str =
+    "000000000000000000000000000000000000000000000000000000000000000000000000000000000";
+
+// Of side 16: a full grid, and the same without its first row.
+const WIDE: &str = "123456789ABCDEFG56789ABCDEFG12349ABCDEFG12345678DEFG123456789ABC\
+                    23456789ABCDEFG16789ABCDEFG12345ABCDEFG123456789EFG123456789ABCD\
+                    3456789ABCDEFG12789ABCDEFG123456BCDEFG123456789AFG123456789ABCDE\
+                    456789ABCDEFG12389ABCDEFG1234567CDEFG123456789ABG123456789ABCDEF";
+
+const WIDE_ONE: &str = "000000000000000056789ABCDEFG12349ABCDEFG12345678DEFG123456789ABC\
+                        23456789ABCDEFG16789ABCDEFG12345ABCDEFG123456789EFG123456789ABCD\
+                        3456789ABCDEFG12789ABCDEFG123456BCDEFG123456789AFG123456789ABCDE\
+                        456789ABCDEFG12389ABCDEFG1234567CDEFG123456789ABG123456789ABCDEF";
+
+#[test]
+fn refuses_texts(rt: HostRuntime) -> Result<(), Fail> {
+    let letter =
+        "0000000A0.......0................................................................";
+    let slash = "................................................................................/";
+    let table: [(&[u8], GridFault); 11] = [
+        (b"", GridFault::Length { got: 0 }),
+        (b"ABCD", GridFault::Length { got: 4 }),
+        (&[b'.'; 80], GridFault::Length { got: 80 }),
+        (&[b'1'; 100], GridFault::Length { got: 100 }),
+        (&[b'.'; 257], GridFault::Length { got: 257 }),
+        (b"5...............", GridFault::Character { place: 0 }),
+        (b"4.......-......5", GridFault::Character { place: 8 }),
+        (letter.as_bytes(), GridFault::Character { place: 7 }),
+        (slash.as_bytes(), GridFault::Character { place: 80 }),
+        (&blank_but(255, b'H'), GridFault::Character { place: 255 }),
+        (&blank_but(9, b'a'), GridFault::Character { place: 9 }),
+    ];
+    for (text, fault) in table {
+        assert_eq!(rt; parse_grid(text), Err(fault));
+    }
+    Ok(())
+}
+
+// Blank cells, and this byte at one place.
+fn blank_but(place: u8, byte: u8) -> [u8; 256] {
+    let mut text = [b'0'; 256];
+    text[place as usize] = byte;
+    text
+}
+
+#[test]
+fn says_why(rt: HostRuntime) -> Result<(), Fail> {
+    let length = format!(in rt.alloc(); "{}", GridFault::Length { got: 80 })?;
+    assert_eq!(rt; length.as_str(), "80 bytes in place of 16, 81 or 256");
+    let character = format!(in rt.alloc(); "{}", GridFault::Character { place: 7 })?;
+    assert_eq!(rt;
+        character.as_str(),
+        "byte 7 is neither a dot nor the sign of a digit up to the side"
+    );
+    Ok(())
+}
+
+#[test]
+fn reads_cells(rt: HostRuntime) -> Result<(), Fail> {
+    let table: [(&str, &str, u32, bool); 8] = [
+        (SMALL, SMALL, 16, false),
+        (SMALL_TWO, "0204040221434321", 12, false),
+        ("1....1..........", "1000010000000000", 2, true),
+        (FULL, FULL, 81, false),
+        (ONE, ONE, 30, false),
+        (EMPTY, BLANK, 0, false),
+        (WIDE, WIDE, 256, false),
+        (WIDE_ONE, WIDE_ONE, 240, false),
+    ];
+    for (text, written, filled, conflict) in table {
+        let grid = parse_grid(text.as_bytes())?;
+        assert_eq!(rt; grid.text().as_slice(), written.as_bytes());
+        assert_eq!(rt; grid.filled(), filled, "{text}");
+        assert_eq!(rt; grid.conflict(), conflict, "{text}");
+    }
+    Ok(())
+}
+
+#[test]
+fn finds_candidates(rt: HostRuntime) -> Result<(), Fail> {
+    let table: [(&str, u32, u16); 5] = [
+        (SMALL_TWO, 6, 0b101),
+        (ONE, 2, 0b1011),
+        (EMPTY, 80, 0x1ff),
+        (WIDE_ONE, 0, 1),
+        (WIDE_ONE, 15, 1 << 15),
+    ];
+    for (text, cell, candidates) in table {
+        assert_eq!(rt; candidates_of(&rt, text, cell)?, candidates, "{text}");
+    }
+    Ok(())
+}
+
+fn candidates_of(rt: &impl Abort, text: &str, cell: u32) -> Result<u16, Fail> {
+    let grid = parse_grid(text.as_bytes())?;
+    let cells = grid.cells();
+    assert!(rt; (cell as usize) < cells.len());
+    assert_eq!(rt; cells[cell as usize], 0);
+    Ok(grid.candidates(cell))
+}
+
+// A budget, a grid, and what the expansion with the grain 65536 meets: solutions, children with their budgets,
+// and whether a node is over.
+type Row = (
+    u64,
+    &'static str,
+    &'static [&'static str],
+    &'static [(u64, &'static str)],
+    bool,
+);
+
+const SMALL_CHILDREN: [(u64, &str); 2] = [
+    (8388607, "1204040221434321"),
+    (8388607, "3204040221434321"),
+];
+
+const CHILDREN: [(u64, &str); 2] = [
+    (
+        8388607,
+        "534678912672195348198342567859761420426850790713924856961537284287419635345286179",
+    ),
+    (
+        8388607,
+        "534678912672195348198342567859763420426850790713924856961537284287419635345286179",
+    ),
+];
+
+const ROWS: [Row; 13] = [
+    (0, SMALL, &[SMALL], &[], false),
+    (16777216, SMALL_TWO, &[], &SMALL_CHILDREN, false),
+    (65536, SMALL_TWO, &[SMALL, SMALL_OTHER], &[], false),
+    (6, SMALL_TWO, &[], &[], true),
+    (9, "1....1..........", &[], &[], false),
+    (16777216, ONE, &[FULL], &[], false),
+    (16777216, TWO, &[], &CHILDREN, false),
+    (65536, TWO, &[FULL, OTHER], &[], false),
+    (1, TWO, &[], &[], true),
+    (100, EMPTY, &[], &[], true),
+    (0, WIDE, &[WIDE], &[], false),
+    (16, WIDE_ONE, &[WIDE], &[], false),
+    (15, WIDE_ONE, &[], &[], true),
+];
+
+#[test]
+fn expands(rt: HostRuntime) -> Result<(), Fail> {
+    for row in &ROWS {
+        expands_as(&rt, rt.alloc(), row)?;
+    }
+    Ok(())
+}
+
+fn expands_as(rt: &impl Abort, alloc: Global, row: &Row) -> Result<(), Fail> {
+    let (budget, text, solutions, children, over) = *row;
+    let grid = parse_grid(text.as_bytes())?;
+    let mut met = expand(alloc, budget, &grid, 65536)?;
+    in_text_order(&mut met.solutions)?;
+    assert_eq!(rt; met.over, over, "{text} by {budget}");
+    assert_eq!(rt; met.solutions.len(), solutions.len(), "{text} by {budget}");
+    assert_eq!(rt; met.children.len(), children.len(), "{text} by {budget}");
+    has_solutions(rt, &met.solutions, solutions);
+    has_children(rt, &met.children, children);
+    Ok(())
+}
+
+fn has_solutions(rt: &impl Abort, found: &[Grid], texts: &[&str]) {
+    for (grid, text) in found.iter().zip(texts) {
+        assert_eq!(rt; grid.text().as_slice(), text.as_bytes());
+    }
+}
+
+fn has_children(rt: &impl Abort, found: &[(u64, Grid)], children: &[(u64, &str)]) {
+    for ((budget, grid), (share, text)) in found.iter().zip(children) {
+        assert_eq!(rt; budget, share);
+        assert_eq!(rt; grid.text().as_slice(), text.as_bytes());
+    }
+}
+
+// How many full grids of side 4 there are is known.
+#[test]
+fn finds_all_small_grids(rt: HostRuntime) -> Result<(), Fail> {
+    let grid = parse_grid(&[b'.'; 16])?;
+    let met = expand(rt.alloc(), 1 << 40, &grid, 1 << 40)?;
+    assert_eq!(rt; met.solutions.len(), 288);
+    Ok(())
+}

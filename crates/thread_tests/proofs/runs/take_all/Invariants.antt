@@ -1,0 +1,10 @@
+use Rattle.std.proofs.Common.{◌≡◌, false}
+use Rattle.rank_client.specs.Calls.{has_finished}
+use Rattle.thread_tests.proofs.runs.take_all.Given as goal
+
+abbrev pub invariant-loop-taken : goal.invariant-loop-taken
+invariant-loop-taken g l = record {
+  running : has_finished (g.A.Adlb.transcript l.link) ≡ false;
+  closed : g.A.Adlb.batch l.link ≡ false;
+  seat : g.A.Adlb.seat l.link ≡ g.A.Adlb.seat l.fn.link;
+}

@@ -1,0 +1,563 @@
+//! Calls of a rank whose server's letters stand in its mailbox beforehand.
+
+ghost use Rattle.std.specs.Prelude.{◌≡◌, false, IfOk};
+ghost use Rattle.rank_client.specs.Calls.{granted, has_finished, is_fetched};
+
+use crate::mail::{Ends, first_and_third};
+use adlb_io::{Gate, GatePoint};
+use adlb_unit::{
+    BatchId, CommonRef, Config, End, Handle, Letter, Message, NoMemory, Payload, Rank, Server,
+    Target, Trouble, Types, UnitId, UnitNote, WorkType, or_no_memory,
+};
+use bag_ledger::Body;
+use crossbeam_channel::{Receiver, Sender, bounded};
+use rank_client::{Adlb, EndFault, PutFault};
+use std::alloc::Global;
+use std::sync::Wait;
+use std::test::Fail;
+use thread_client::{LinkEnd, ThreadedLink};
+
+// A gate that tells which points were passed, by which rank.
+#[derive(Drop)]
+struct SeenGate<R: Wait> {
+    rt: R,
+    seen: Sender<(u32, GatePoint), Global>,
+}
+
+impl<R: Wait + Copy> Gate for SeenGate<R> {
+    fn pass(&self, rank: Rank, point: GatePoint) {
+        let _ = self.seen.try_send(&self.rt, (rank.0, point));
+    }
+
+    fn twin(&self) -> Result<SeenGate<R>, NoMemory> {
+        Ok(SeenGate {
+            rt: self.rt,
+            seen: or_no_memory(self.seen.clone())?,
+        })
+    }
+}
+
+type Link<R> = ThreadedLink<R, SeenGate<R>>;
+
+// What the server of a run of two ranks has said to rank 0.
+#[derive(Clone, Copy)]
+enum Says {
+    Accepted { request: u64 },
+    // A unit of rank 1, of one byte.
+    Granted { request: u64 },
+    // That unit, with a common part of two bytes.
+    GrantedInBatch { request: u64 },
+    // The unit's own byte, `c`.
+    Own { request: u64 },
+    // The common part, `ab`.
+    Common { request: u64 },
+    Exhausted { request: u64 },
+    Broken { stamp: u64 },
+}
+
+fn message(alloc: Global, says: Says) -> Result<Message, NoMemory> {
+    Ok(match says {
+        Says::Accepted { request } => Message::Accepted { request },
+        Says::Granted { request } => grant(request, None),
+        Says::GrantedInBatch { request } => grant(request, Some(COMMON)),
+        Says::Own { request } => bytes(request, Payload::copy(alloc, b"c".as_slice())?),
+        Says::Common { request } => bytes(request, Payload::copy(alloc, b"ab".as_slice())?),
+        Says::Exhausted { request } => Message::Ended {
+            request,
+            end: End::Exhausted,
+        },
+        Says::Broken { stamp } => Message::Broken {
+            trouble: Trouble::TooLong { stamp },
+        },
+    })
+}
+
+const COMMON: CommonRef = CommonRef {
+    batch: BatchId {
+        rank: Rank(1),
+        number: 2,
+    },
+    server: Server(0),
+    length: 2,
+};
+
+fn grant(request: u64, common: Option<CommonRef>) -> Message {
+    let note = UnitNote {
+        id: UnitId {
+            rank: Rank(1),
+            number: 3,
+        },
+        kind: WorkType(1),
+        prio: 0,
+        answer: None,
+        server: Server(0),
+        common,
+        length: 1,
+    };
+    Message::Grant { request, note }
+}
+
+fn bytes(request: u64, body: Payload) -> Message {
+    Message::Bytes { request, body }
+}
+
+/// What the server hears of rank 0.
+#[derive(Clone, Copy, PartialEq, Eq)]
+pub enum Heard {
+    Put,
+    KeepCommon,
+    Finish,
+    Gone(Trouble),
+    Other,
+}
+
+fn heard_of(from: u32, message: &Message) -> Heard {
+    match message {
+        _ if from != 0 => Heard::Other,
+        Message::Put { .. } => Heard::Put,
+        Message::KeepCommon { .. } => Heard::KeepCommon,
+        Message::Finish => Heard::Finish,
+        Message::Gone { trouble } => Heard::Gone(*trouble),
+        _ => Heard::Other,
+    }
+}
+
+// The server of the run, actor 2.
+#[derive(Drop)]
+pub struct Host {
+    pub ends: Ends,
+}
+
+impl Host {
+    // Puts letters into the mailbox of rank 0.
+    fn say_all<R: Wait + Copy>(
+        &mut self,
+        rt: &R,
+        alloc: Global,
+        says: &[Says],
+    ) -> Result<(), NoMemory> {
+        for said in says {
+            self.ends.send(rt, 0, 7, message(alloc, *said)?);
+        }
+        Ok(())
+    }
+
+    // The next letter is of rank 0 and says this.
+    pub fn is_told<R: Wait + Copy>(&mut self, rt: &R, wanted: Heard) -> bool {
+        let (from, letter) = self.ends.inbox.receive(rt);
+        heard_of(from, &letter.message) == wanted
+    }
+
+    // The next letters are of rank 0 and say this.
+    fn are_told<R: Wait + Copy>(&mut self, rt: &R, wanted: &[Heard]) -> bool {
+        for wanted in wanted {
+            if !self.is_told(rt, *wanted) {
+                return false;
+            }
+        }
+        true
+    }
+}
+
+pub fn two_ranks() -> Result<Config, Fail>
+    ensures { IfOk result (λ c. (c.servers ≡ 1) × (c.ranks ≡ 2)) }
+{
+    Ok(Config::new(2, 1, 64)?)
+}
+
+// The link of rank 0 at the start, the server's mailboxes, and the points that the rank passes.
+#[derive(Drop)]
+struct Scene<R: Wait + Copy> {
+    link: Link<R>,
+    host: Host,
+    points: Receiver<(u32, GatePoint), Global>,
+}
+
+fn make_scene<R: Wait + Copy>(rt: R, alloc: Global) -> Result<Scene<R>, Fail>
+    ensures { IfOk result (λ s. has_finished s.link.run.core.transcript ≡ false) }
+{
+    let config = two_ranks()?;
+    let (rank, server) = first_and_third(alloc)?;
+    let (seen, points) = bounded(alloc, 16)?;
+    let Ends { post, inbox } = rank;
+    let gate = SeenGate { rt, seen };
+    let link = ThreadedLink::new(alloc, rt, config, Rank(0), post, inbox, gate)?;
+    Ok(Scene {
+        link,
+        host: Host { ends: server },
+        points,
+    })
+}
+
+// A call of rank 0.
+#[derive(Clone, Copy)]
+enum Does {
+    // Puts a unit of one byte.
+    Put,
+    // Reserves a unit and spends its handle.
+    Reserve,
+    // Reserves a unit and fetches its bytes.
+    Work,
+    BeginBatch,
+}
+
+// What the rank is told.
+#[derive(Clone, Copy, PartialEq, Eq)]
+enum Told {
+    Fine,
+    // The bytes `c` with the common part `ab`.
+    Bytes,
+    Exhausted,
+    Memory,
+    TooLong { stamp: u64 },
+    Other,
+}
+
+fn told_of_put(put: Result<(), PutFault>) -> Told {
+    match put {
+        Ok(()) => Told::Fine,
+        Err(PutFault::Exhausted) => Told::Exhausted,
+        Err(PutFault::Memory) => Told::Memory,
+        Err(PutFault::TooLong { stamp }) => Told::TooLong { stamp },
+        Err(_) => Told::Other,
+    }
+}
+
+fn told_of_end(fault: EndFault) -> Told {
+    match fault {
+        EndFault::Exhausted => Told::Exhausted,
+        EndFault::Memory => Told::Memory,
+        EndFault::TooLong { stamp } => Told::TooLong { stamp },
+        EndFault::NoMoreWork => Told::Other,
+    }
+}
+
+fn put<A: Adlb>(link: &mut A, alloc: Global) -> Result<(), PutFault>
+    requires { has_finished (A.transcript link.old) ≡ false }
+    ensures { has_finished (A.transcript link.new) ≡ false }
+{
+    match Payload::copy(alloc, b"a".as_slice()) {
+        Ok(body) => link.put(WorkType(1), 0, Target::Any, None, body),
+        Err(NoMemory) => Err(PutFault::Memory),
+    }
+}
+
+fn reserve<A: Adlb>(link: &mut A) -> Result<Handle, EndFault>
+    requires { has_finished (A.transcript link.old) ≡ false }
+    ensures running { has_finished (A.transcript link.new) ≡ false }
+    ensures granted { IfOk result (λ note. granted note (A.transcript link.new)) }
+    ensures once { IfOk result (λ note. is_fetched note.id (A.transcript link.new) ≡ false) }
+{
+    link.reserve(&Types::any())
+}
+
+fn reserve_and_spend<A: Adlb>(link: &mut A) -> Told
+    requires { has_finished (A.transcript link.old) ≡ false }
+    ensures { has_finished (A.transcript link.new) ≡ false }
+{
+    match reserve(link) {
+        Ok(handle) => {
+            let _ = handle.spend();
+            Told::Fine
+        }
+        Err(fault) => told_of_end(fault),
+    }
+}
+
+fn work<A: Adlb>(link: &mut A) -> Told
+    requires { has_finished (A.transcript link.old) ≡ false }
+    ensures { has_finished (A.transcript link.new) ≡ false }
+{
+    match reserve(link) {
+        Ok(handle) => fetch(link, handle),
+        Err(fault) => told_of_end(fault),
+    }
+}
+
+fn fetch<A: Adlb>(link: &mut A, handle: Handle) -> Told
+    requires running { has_finished (A.transcript link.old) ≡ false }
+    requires granted { granted handle (A.transcript link.old) }
+    requires once { is_fetched handle.id (A.transcript link.old) ≡ false }
+    ensures { has_finished (A.transcript link.new) ≡ false }
+{
+    match link.get_reserved(handle) {
+        Ok(body) => told_of_body(&body),
+        Err((handle, _)) => {
+            let _ = handle.spend();
+            Told::Other
+        }
+    }
+}
+
+fn told_of_body(body: &Body) -> Told {
+    if body.runs() == (b"ab".as_slice(), b"c".as_slice()) {
+        return Told::Bytes;
+    }
+    Told::Other
+}
+
+fn begin_batch<A: Adlb>(link: &mut A, alloc: Global) -> Result<(), PutFault>
+    requires { has_finished (A.transcript link.old) ≡ false }
+    ensures { has_finished (A.transcript link.new) ≡ false }
+{
+    if link.batch_open() {
+        return Err(PutFault::Rejected);
+    }
+    match Payload::copy(alloc, b"xy".as_slice()) {
+        Ok(common) => link.begin_batch(common),
+        Err(NoMemory) => Err(PutFault::Memory),
+    }
+}
+
+fn told_of_call<A: Adlb>(link: &mut A, alloc: Global, does: Does) -> Told
+    requires { has_finished (A.transcript link.old) ≡ false }
+    ensures { has_finished (A.transcript link.new) ≡ false }
+{
+    match does {
+        Does::Put => told_of_put(put(link, alloc)),
+        Does::Reserve => reserve_and_spend(link),
+        Does::Work => work(link),
+        Does::BeginBatch => told_of_put(begin_batch(link, alloc)),
+    }
+}
+
+// Each call is told what stands beside it.
+fn are_told<A: Adlb>(link: &mut A, alloc: Global, calls: &[(Does, Told)]) -> bool
+    requires { has_finished (A.transcript link.old) ≡ false }
+    ensures { has_finished (A.transcript link.new) ≡ false }
+{
+    for (does, wanted) in calls {
+        if told_of_call(link, alloc, *does) != *wanted {
+            return false;
+        }
+    }
+    true
+}
+
+// Rank 0 passes these points in its next calls, and no others.
+fn passed<R: Wait + Copy>(
+    rt: &R,
+    points: &Receiver<(u32, GatePoint), Global>,
+    wanted: &[GatePoint],
+) -> bool {
+    for wanted in wanted {
+        match points.try_recv(rt) {
+            Ok((0, point)) if point == *wanted => {}
+            _ => return false,
+        }
+    }
+    points.try_recv(rt).is_err()
+}
+
+// A rank's calls, and all that is seen of them.
+#[derive(Clone, Copy)]
+struct Play<'a> {
+    shows: &'static str,
+    says: &'a [Says],
+    calls: &'a [(Does, Told)],
+    passes: &'a [GatePoint],
+    heard: &'a [Heard],
+    // What the link leaves at its end; none, if a batch is going on, in which it has no end.
+    leaves: Option<Leaves>,
+}
+
+// The letter of the server that a link did not expect.
+#[derive(Clone, Copy)]
+enum Strange {
+    Nothing,
+    Accepted { request: u64 },
+    Grant { request: u64 },
+}
+
+// What a link leaves: its trouble, the letter that it did not expect, how many calls it keeps, and the stamps of its journal, if
+// they are looked at.
+#[derive(Clone, Copy)]
+struct Leaves {
+    trouble: Option<Trouble>,
+    strange: Strange,
+    said: usize,
+    stamps: Option<[u64; 2]>,
+}
+
+fn is_left(end: &LinkEnd, leaves: &Leaves) -> bool {
+    end.trouble == leaves.trouble
+        && is_strange(&end.strange, leaves.strange)
+        && end.said.len() == leaves.said
+        && is_stamped(end, leaves.stamps)
+}
+
+fn is_strange(kept: &Option<(u32, Letter)>, wanted: Strange) -> bool {
+    match (kept, wanted) {
+        (None, Strange::Nothing) => true,
+        (Some((2, letter)), _) => is_of(&letter.message, wanted),
+        _ => false,
+    }
+}
+
+fn is_of(message: &Message, wanted: Strange) -> bool {
+    match (message, wanted) {
+        (Message::Accepted { request }, Strange::Accepted { request: wanted }) => *request
+            == wanted,
+        (Message::Grant { request, .. }, Strange::Grant { request: wanted }) => *request == wanted,
+        _ => false,
+    }
+}
+
+fn is_stamped(end: &LinkEnd, stamps: Option<[u64; 2]>) -> bool {
+    match stamps {
+        None => true,
+        Some(stamps) => {
+            let alike = end
+                .journal
+                .iter()
+                .zip(stamps)
+                .all(|(e, stamp)| e.stamp == stamp);
+            alike && end.journal.len() == 2
+        }
+    }
+}
+
+// The link leaves this at its end; if nothing, a batch is going on.
+fn is_end<R: Wait + Copy>(link: Link<R>, wanted: &Option<Leaves>) -> bool
+    requires { has_finished link.run.core.transcript ≡ false }
+{
+    let open = link.batch_open();
+    match wanted {
+        Some(wanted) if !open => is_left(&link.end(), wanted),
+        _ => open && wanted.is_none(),
+    }
+}
+
+// The calls are told and the points are passed as the play says.
+fn are_played<R: Wait + Copy>(
+    rt: R,
+    alloc: Global,
+    scene: &mut Scene<R>,
+    play: &Play,
+) -> Result<bool, NoMemory>
+    requires { has_finished scene.old.link.run.core.transcript ≡ false }
+    ensures { has_finished scene.new.link.run.core.transcript ≡ false }
+{
+    scene.host.say_all(&rt, alloc, play.says)?;
+    Ok(are_told(&mut scene.link, alloc, play.calls) && passed(&rt, &scene.points, play.passes))
+}
+
+fn is_played<R: Wait + Copy>(rt: R, alloc: Global, play: &Play) -> Result<bool, Fail> {
+    let mut scene = make_scene(rt, alloc)?;
+    if !are_played(rt, alloc, &mut scene, play)? {
+        return Ok(false);
+    }
+    let Scene { link, mut host, .. } = scene;
+    Ok(is_end(link, &play.leaves) && host.are_told(&rt, play.heard))
+}
+
+// A link that ends well, after this many calls.
+const fn well(said: usize, stamps: Option<[u64; 2]>) -> Option<Leaves> {
+    Some(Leaves {
+        trouble: None,
+        strange: Strange::Nothing,
+        said,
+        stamps,
+    })
+}
+
+// A link that fails after this many calls.
+const fn failed(trouble: Trouble, strange: Strange, said: usize) -> Option<Leaves> {
+    Some(Leaves {
+        trouble: Some(trouble),
+        strange,
+        said,
+        stamps: None,
+    })
+}
+
+const LATE: u64 = 1 << 48;
+
+#[test]
+fn calls_are_told_what_their_server_said(rt: HostRuntime) -> Result<(), Fail> {
+    let too_long = Trouble::TooLong { stamp: LATE };
+    let plays = [
+        Play {
+            shows: "a put is accepted, and each server hears of Finish",
+            says: &[Says::Accepted { request: 0 }],
+            calls: &[(Does::Put, Told::Fine)],
+            passes: &[],
+            heard: &[Heard::Put, Heard::Finish],
+            leaves: well(2, Some([1, 9])),
+        },
+        Play {
+            shows: "a unit is granted and fetched, and the gate is passed",
+            says: &[
+                Says::GrantedInBatch { request: 0 },
+                Says::Own { request: 1 },
+                Says::Common { request: 1 },
+            ],
+            calls: &[(Does::Work, Told::Bytes)],
+            passes: &[
+                GatePoint::Granted { call: 0 },
+                GatePoint::Fetched { call: 1 },
+            ],
+            heard: &[],
+            leaves: well(3, None),
+        },
+        Play {
+            shows: "an end is told again without a letter",
+            says: &[Says::Exhausted { request: 0 }],
+            calls: &[
+                (Does::Reserve, Told::Exhausted),
+                (Does::Reserve, Told::Exhausted),
+                (Does::Put, Told::Exhausted),
+            ],
+            passes: &[],
+            heard: &[Heard::Other, Heard::Finish],
+            leaves: well(4, None),
+        },
+        Play {
+            shows: "a failed server is told once, and the rank is gone",
+            says: &[Says::Broken { stamp: LATE }],
+            calls: &[
+                (Does::Put, Told::TooLong { stamp: LATE }),
+                (Does::Put, Told::TooLong { stamp: LATE }),
+            ],
+            passes: &[],
+            heard: &[Heard::Put, Heard::Gone(too_long)],
+            leaves: failed(too_long, Strange::Nothing, 0),
+        },
+        Play {
+            shows: "a stamp that is not too long is not told",
+            says: &[Says::Broken { stamp: 5 }],
+            calls: &[(Does::Put, Told::Memory)],
+            passes: &[],
+            heard: &[],
+            leaves: failed(Trouble::Memory, Strange::Nothing, 0),
+        },
+        Play {
+            shows: "a letter that is not expected is kept",
+            says: &[Says::Accepted { request: 4 }],
+            calls: &[(Does::Put, Told::Memory)],
+            passes: &[],
+            heard: &[],
+            leaves: failed(Trouble::Memory, Strange::Accepted { request: 4 }, 0),
+        },
+        Play {
+            shows: "a unit is not granted twice",
+            says: &[Says::Granted { request: 0 }, Says::Granted { request: 1 }],
+            calls: &[(Does::Reserve, Told::Fine), (Does::Reserve, Told::Memory)],
+            passes: &[GatePoint::Granted { call: 0 }],
+            heard: &[],
+            leaves: failed(Trouble::Memory, Strange::Grant { request: 1 }, 1),
+        },
+        Play {
+            shows: "a batch is going on after its beginning",
+            says: &[Says::Accepted { request: 0 }],
+            calls: &[(Does::BeginBatch, Told::Fine)],
+            passes: &[],
+            heard: &[Heard::KeepCommon],
+            leaves: None,
+        },
+    ];
+    for play in &plays {
+        assert!(rt; is_played(rt, rt.alloc(), play)?, "{}", play.shows);
+    }
+    Ok(())
+}

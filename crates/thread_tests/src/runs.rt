@@ -1,0 +1,221 @@
+//! Runs in threads, of a small program.
+
+ghost use Rattle.std.specs.Prelude.{◌≡◌, Err, Some, false};
+ghost use Rattle.rank_client.specs.Calls.{has_finished};
+
+use adlb_io::{FreeGate, ListedThreads, RealThreads, Spawner};
+use adlb_threads::{RanFault, Report, run_ranks};
+use adlb_unit::{Config, Payload, Rank, Target, Trouble, Types, WorkType};
+use rank_client::{Adlb, EndFault, PutFault, RankProgram};
+use std::alloc::Global;
+use std::sync::Wait;
+use std::test::Fail;
+use std::thread::Threads;
+
+// What a rank of a test does: it puts some units and then takes units until an end is told, or it fails at once. Its outcome
+// is how many it took.
+#[derive(Drop)]
+struct Worker {
+    alloc: Global,
+    puts: u32,
+    fails: bool,
+}
+
+impl RankProgram for Worker {
+    type Outcome = u32;
+
+    ghost fits = { λ p ranks. Unit {0} };
+
+    ghost so_far = { λ p rank said begun. Unit {0} };
+
+    ghost follows = { λ p rank said taken. Unit {0} };
+
+    fn run<A: Adlb>(&self, _rank: Rank, link: &mut A) -> Result<u32, Trouble> {
+        if self.fails {
+            return Err(Trouble::Memory);
+        }
+        put_all(self.alloc, link, self.puts)?;
+        take_all(link)
+    }
+}
+
+// Puts this many units of three bytes.
+fn put_all<A: Adlb>(alloc: Global, link: &mut A, count: u32) -> Result<(), Trouble>
+    requires running { has_finished (A.transcript link.old) ≡ false }
+    requires closed { A.batch link.old ≡ false }
+    ensures running { has_finished (A.transcript link.new) ≡ false }
+    ensures closed { A.batch link.new ≡ false }
+    ensures seat { A.seat link.new ≡ A.seat link.old }
+    ensures failed { (stamp : _) → result ≡ Err (Trouble.TooLong stamp) → A.failed link.new ≡ Some (Trouble.TooLong stamp) }
+{
+    for _ in 0..count {
+        put_one(alloc, link)?;
+    }
+    Ok(())
+}
+
+// Puts a unit of three bytes.
+fn put_one<A: Adlb>(alloc: Global, link: &mut A) -> Result<(), Trouble>
+    requires running { has_finished (A.transcript link.old) ≡ false }
+    requires closed { A.batch link.old ≡ false }
+    ensures running { has_finished (A.transcript link.new) ≡ false }
+    ensures closed { A.batch link.new ≡ false }
+    ensures seat { A.seat link.new ≡ A.seat link.old }
+    ensures failed { (stamp : _) → result ≡ Err (Trouble.TooLong stamp) → A.failed link.new ≡ Some (Trouble.TooLong stamp) }
+{
+    let Ok(body) = Payload::copy(alloc, b"abc") else {
+        return Err(Trouble::Memory);
+    };
+    match link.put(WorkType(1), 0, Target::Any, None, body) {
+        Err(PutFault::Memory) => Err(Trouble::Memory),
+        Err(PutFault::TooLong { stamp }) => Err(Trouble::TooLong { stamp }),
+        _ => Ok(()),
+    }
+}
+
+// Takes units until an end is told, and counts them.
+fn take_all<A: Adlb>(link: &mut A) -> Result<u32, Trouble>
+    requires running { has_finished (A.transcript link.old) ≡ false }
+    requires closed { A.batch link.old ≡ false }
+    ensures running { has_finished (A.transcript link.new) ≡ false }
+    ensures closed { A.batch link.new ≡ false }
+    ensures seat { A.seat link.new ≡ A.seat link.old }
+    ensures failed { (stamp : _) → result ≡ Err (Trouble.TooLong stamp) → A.failed link.new ≡ Some (Trouble.TooLong stamp) }
+{
+    for taken in 0..1000 {
+        if !take_one(link)? {
+            return Ok(taken);
+        }
+    }
+    Ok(1000)
+}
+
+// Takes a unit, if no end is told.
+fn take_one<A: Adlb>(link: &mut A) -> Result<bool, Trouble>
+    requires running { has_finished (A.transcript link.old) ≡ false }
+    requires closed { A.batch link.old ≡ false }
+    ensures running { has_finished (A.transcript link.new) ≡ false }
+    ensures closed { A.batch link.new ≡ false }
+    ensures seat { A.seat link.new ≡ A.seat link.old }
+    ensures failed { (stamp : _) → result ≡ Err (Trouble.TooLong stamp) → A.failed link.new ≡ Some (Trouble.TooLong stamp) }
+{
+    let handle = match link.reserve(&Types::any()) {
+        Ok(handle) => handle,
+        Err(EndFault::Memory) => return Err(Trouble::Memory),
+        Err(EndFault::TooLong { stamp }) => return Err(Trouble::TooLong { stamp }),
+        Err(_) => return Ok(false),
+    };
+    match link.get_reserved(handle) {
+        Ok(_) => Ok(true),
+        Err((handle, trouble)) => {
+            let _ = handle.spend();
+            Err(trouble)
+        }
+    }
+}
+
+// How a run of workers ends.
+#[derive(Clone, Copy, Debug, PartialEq, Eq)]
+enum RunEnd {
+    // The ranks took this many units together, and this many are left.
+    Took(u64, usize),
+    NoThread,
+    Memory,
+    TooLong,
+    Unconfirmed,
+}
+
+impl RunEnd {
+    fn of(report: Result<Report<u32>, RanFault>) -> RunEnd {
+        match report {
+            Ok(report) => RunEnd::Took(total(report.outcomes.as_slice()), report.left.len()),
+            Err(RanFault::NoThread) => RunEnd::NoThread,
+            Err(RanFault::Memory) => RunEnd::Memory,
+            Err(RanFault::TooLong { .. }) => RunEnd::TooLong,
+            Err(RanFault::Unconfirmed(_)) => RunEnd::Unconfirmed,
+        }
+    }
+}
+
+fn total(outcomes: &[u32]) -> u64 {
+    let mut taken = 0u64;
+    for outcome in outcomes {
+        taken = taken.saturating_add(u64::from(*outcome));
+    }
+    taken
+}
+
+// The programs of this many ranks, of which the one of the number `failing` fails.
+fn workers(alloc: Global, ranks: u32, puts: u32, failing: u32) -> Result<Vec<Worker>, Fail> {
+    let mut programs = Vec::new(alloc);
+    for number in 0..ranks {
+        programs.push(Worker {
+            alloc,
+            puts,
+            fails: number == failing,
+        })?;
+    }
+    Ok(programs)
+}
+
+// How a run of these workers ends.
+fn run<T: Spawner>(
+    alloc: Global,
+    threads: &mut T,
+    ranks: u32,
+    puts: u32,
+    failing: u32,
+) -> Result<RunEnd, Fail> {
+    let config = Config::new(ranks, 1, 1 << 20)?;
+    let programs = workers(alloc, ranks, puts, failing)?;
+    if programs.len() != ranks as usize {
+        return Err("programs".into());
+    }
+    Ok(RunEnd::of(run_ranks(alloc, config, programs, threads, FreeGate {})))
+}
+
+const NONE: u32 = 99;
+
+#[test]
+fn all_that_is_put_is_taken(rt: HostRuntime) -> Result<(), Fail> {
+    for ranks in [1u32, 2, 5, 32] {
+        let mut threads = RealThreads::new(rt);
+        let ran = run(rt.alloc(), &mut threads, ranks, 3, NONE)?;
+        assert_eq!(rt; ran, RunEnd::Took(3 * u64::from(ranks), 0));
+    }
+    Ok(())
+}
+
+// How a run ends in which the start of this number, from 1, is refused.
+fn refused<R: Threads + Wait + Send + Copy + 'static>(
+    rt: R,
+    alloc: Global,
+    ranks: u32,
+    start: u32,
+) -> Result<RunEnd, Fail> {
+    let fails = vec![in alloc; u64::from(start); 1]?;
+    let mut threads = ListedThreads::new(rt, fails);
+    run(alloc, &mut threads, ranks, 3, NONE)
+}
+
+#[test]
+fn a_refused_start_ends_the_run(rt: HostRuntime) -> Result<(), Fail> {
+    for ranks in [2u32, 32] {
+        for start in 1..ranks + 2 {
+            assert_eq!(rt; refused(rt, rt.alloc(), ranks, start)?, RunEnd::NoThread);
+        }
+    }
+    Ok(())
+}
+
+#[test]
+fn a_rank_that_fails_ends_the_run(rt: HostRuntime) -> Result<(), Fail> {
+    for (ranks, failing) in [(1, 0), (2, 1), (5, 4), (32, 31)] {
+        for puts in [0, 3] {
+            let mut threads = RealThreads::new(rt);
+            let ran = run(rt.alloc(), &mut threads, ranks, puts, failing)?;
+            assert_eq!(rt; ran, RunEnd::Memory);
+        }
+    }
+    Ok(())
+}
