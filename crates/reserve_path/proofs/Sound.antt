@@ -61,7 +61,7 @@ waiting_few m sound some =
     let Q : Waiting → Type 0 = λ e. number e < m.config.ranks in
     at_most number m.config.ranks some m.parked.waiting (All-weaker P Q (λ e is. is.here.0) m.parked.waiting sound.each) sound.once
 
-wishes_few : (m : ParkedModel) → IsParked m → (some : Wish) → length m.parked.wishes ≤ m.config.ranks
+pub wishes_few : (m : ParkedModel) → IsParked m → (some : Wish) → length m.parked.wishes ≤ m.config.ranks
 wishes_few m sound some =
     let P : Wish → Type 0 = λ w. IsAway m.config m.me w.rank in
     let Q : Wish → Type 0 = λ w. wish_number w < m.config.ranks in

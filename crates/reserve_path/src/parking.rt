@@ -79,6 +79,28 @@ impl Parked {
         }
     }
 
+    /// The types that the rank wants, which waits here. `None` exactly if it does not wait here.
+    pub fn types_of(&self, rank: Rank) -> Option<Types>
+        ensures { result ≡ option_map (λ (e : Entry). e.wish.types) (entry_of self.now rank) }
+    {
+        let waits = self
+            .waiting
+            .iter()
+            .find(|waits| waits.wish.rank.0 == rank.0);
+        match waits {
+            Some(waits) => Some(waits.wish.types.twin()),
+            None => None,
+        }
+    }
+
+    /// How many ranks wait here, and how many that wait elsewhere have a wish.
+    pub fn counts(&self) -> (usize, usize)
+        ensures waiting { result.0 ≡ length self.now.parked.waiting }
+        ensures wishes { result.1 ≡ length self.now.parked.wishes }
+    {
+        (self.waiting.len(), self.wishes.len())
+    }
+
     /// Copies the ranks that wait, each with the types that it wants, to the front of the room, in the order in which
     /// they came, and tells how many they are. The rest of the room stays as it was.
     pub fn asked(&self, room: &mut [(Rank, Types); RANK_LIMIT as usize]) -> u32
