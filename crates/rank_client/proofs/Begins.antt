@@ -1,6 +1,6 @@
 -- What a step does with a call.
 use Rattle.std.proofs.Common.{◌≡◌, ℕ, ◌+◌, ◌^◌, List, [], ◌∷◌, ◌++◌, length, Option, Some, None, Bool, true, false, ◌&&◌, not, refl, ap, sym, ◌∙◌, append-nil, subst, find, filter, ℤ}
-use Rattle.std.specs.Prelude.{if◌then◌else◌, ◌==◌, IsFalse, All, is_none, nat_le}
+use Rattle.std.specs.Prelude.{if◌then◌else◌, IsFalse, All, is_none, nat_le}
 use Rattle.std.specs.Option.{option_map}
 use Rattle.std.proofs.lemmas.Bool.{and_parts, not-true}
 use Rattle.std.proofs.lemmas.List.Elements.{All-push, All-filter, All-same, All-head, All-tail}
@@ -344,11 +344,7 @@ opens s b (calls_to.Put kind prio target answer body) free = by_test (nat_le (le
     by_test : (t : Bool) → LawOf s.transcript s.me b (if t then Some (put s (unit_put s kind prio target answer body) s.end) else None)
     by_test true = put_follows s b kind prio target answer body s.end free refl
     by_test false = tt
-opens s b (calls_to.Reserve types) free = by_test (s.config.servers == 1)
-  where
-    by_test : (t : Bool) → LawOf s.transcript s.me b (if t then Some (reserve s types s.end) else None)
-    by_test true = reserve_follows s b types s.end free refl
-    by_test false = tt
+opens s b (calls_to.Reserve types) free = reserve_follows s b types s.end free refl
 opens s b (calls_to.Try types) free = look_follows s b types s.end free refl
 opens s b (calls_to.Fetch id) free = fetch_follows s b id (held s id) free refl
 opens s b (calls_to.BeginBatch common) free = by_test (is_none s.batch && nat_le (length common) (2 ^ 20)) refl

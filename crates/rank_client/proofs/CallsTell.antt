@@ -3,7 +3,7 @@ use Rattle.std.proofs.Common.{◌≡◌, ℕ, ◌+◌, ◌≤◌, ◌&&◌, not,
 use Rattle.std.proofs.Common.{is_none, is_some, refl, sym, ap, ◌∙◌, subst, arith}
 use Rattle.std.specs.Prelude.{IsSome}
 use Rattle.std.specs.Option.{option_map}
-use Rattle.std.proofs.lemmas.Bool.{and_from, and_parts, eq-eqb, le-leb, lt-ltb, not-true, not_from_false}
+use Rattle.std.proofs.lemmas.Bool.{and_from, and_parts, le-leb, lt-ltb, not-true, not_from_false}
 use Rattle.adlb_unit.specs.declared.configs.Config.{Config}
 use Rattle.adlb_unit.specs.declared.names.CommonRef.{CommonRef}
 use Rattle.adlb_unit.specs.declared.names.Target.{Target}
@@ -138,7 +138,7 @@ module _ (s : ClientModel) (r : Remembers s) (idle : s.pending ≡ waits_for.Not
   open_tells (calls_to.Put kind prio target answer body) z is =
       subst (Goes (calls_to.Put kind prio target answer body)) (if_is _ _ z is)
       (put_tells (unit_put t kind prio target answer body) s.end refl)
-  open_tells (calls_to.Reserve types) z is = subst (Goes (calls_to.Reserve types)) (if_is _ _ z is) (reserve_tells types s.end refl)
+  open_tells (calls_to.Reserve types) z is = subst (Goes (calls_to.Reserve types)) (some_is is) (reserve_tells types s.end refl)
   open_tells (calls_to.Try types) z is = subst (Goes (calls_to.Try types)) (some_is is) (look_tells types s.end refl)
   open_tells (calls_to.Fetch id) z is = fetch_tells id (held t id) z refl is
   open_tells (calls_to.BeginBatch common) z is =
@@ -187,7 +187,7 @@ module _ (s : ClientModel) (r : Remembers s) (idle : s.pending ≡ waits_for.Not
   opens : (call : Call) → CanCall s.config.ranks s.config.servers s.transcript call → IsSome (open_call later_s call)
   opens (calls_to.Put kind prio target answer body) can =
       some_when _ _ (and_from _ _ (le-leb (length body) body_limit can.0) (aims_in s.config target can.1))
-  opens (calls_to.Reserve types) can = some_when _ _ (eq-eqb s.config.servers 1 can)
+  opens (calls_to.Reserve types) can = refl
   opens (calls_to.Try types) can = refl
   opens (calls_to.Fetch id) can =
       let note : UnitNote = can.0 in

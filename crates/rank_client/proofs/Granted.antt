@@ -126,7 +126,7 @@ count_keeps s kind g = record { held = g.held; fetching = tt; fetched = g.fetche
 
 pub open_keeps : (s : ClientModel) (call : Call) (y : ClientResponse) → open_call s call ≡ Some y → IsGrantedFirst s → Keeps y
 open_keeps s (calls_to.Put kind prio target answer body) y is g = subst Keeps (if_is _ _ y is) (put_keeps s (unit_put s kind prio target answer body) s.end g)
-open_keeps s (calls_to.Reserve types) y is g = subst Keeps (if_is _ _ y is) (reserve_keeps s types s.end g)
+open_keeps s (calls_to.Reserve types) y is g = subst Keeps (some_is is) (reserve_keeps s types s.end g)
 open_keeps s (calls_to.Try types) y is g = subst Keeps (some_is is) (look_keeps s types s.end g)
 open_keeps s (calls_to.Fetch id) y is g = fetch_keeps s id (held s id) y refl is g
 open_keeps s (calls_to.BeginBatch common) y is g = subst Keeps (if_is _ _ y is) (keep_keeps s common s.end g)

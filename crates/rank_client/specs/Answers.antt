@@ -72,11 +72,11 @@ heeds_end (calls_to.BeginBatch common) = true
 heeds_end _ = false
 
 -- The rank can make the call, in a run of so many ranks and servers: a put with a body of at most 2^20 bytes for a rank of the run; a
--- reserve, where there is one server; a try; a fetch of a unit that was granted and not fetched; the end of the batch that is going
--- on; a count; or, while none is, the beginning of one with a common part of at most 2^20 bytes, or Finish.
+-- reserve; a try; a fetch of a unit that was granted and not fetched; the end of the batch that is going on; a count; or, while none
+-- is, the beginning of one with a common part of at most 2^20 bytes, or Finish.
 abbrev pub CanCall : ℕ → ℕ → List Said → Call → Type 0
 CanCall ranks servers said (calls_to.Put kind prio target answer body) = (length body ≤ body_limit) × Aims target ranks
-CanCall ranks servers said (calls_to.Reserve types) = servers ≡ 1
+CanCall ranks servers said (calls_to.Reserve types) = Unit {0}
 CanCall ranks servers said (calls_to.Try types) = Unit {0}
 CanCall ranks servers said (calls_to.Fetch id) =
     (note : UnitNote) × granted note said × (note.id ≡ id) × (is_fetched id said ≡ false)

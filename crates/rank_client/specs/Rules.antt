@@ -186,12 +186,12 @@ is_idle _ = false
 abbrev pub is_free : ClientModel → Bool
 is_free s = is_idle s.pending && not s.finished
 
--- the rule of a call; nothing if the rank is not ready for it. A rank reserves only if there is one server.
+-- the rule of a call; nothing if the rank is not ready for it
 abbrev pub open_call : ClientModel → Call → Option ClientResponse
 open_call s (calls_to.Put kind prio target answer body) =
     if nat_le (length body) body_limit && in_ranks s.config target
     then Some (put s (unit_put s kind prio target answer body) s.end) else None
-open_call s (calls_to.Reserve types) = if s.config.servers == 1 then Some (reserve s types s.end) else None
+open_call s (calls_to.Reserve types) = Some (reserve s types s.end)
 open_call s (calls_to.Try types) = Some (look s types s.end)
 open_call s (calls_to.Fetch id) = fetch s id (held s id)
 open_call s (calls_to.BeginBatch common) =

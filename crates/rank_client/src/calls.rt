@@ -51,9 +51,9 @@ fn farewells(sent: &mut Vec<u64>, stamp: u64, servers: u32, sends: Vec<Sending>)
 
 impl ClientCore {
     /// The rank is ready for this call: no call is pending, it has not finished, and the call's own conditions hold. The body of
-    /// a put has at most `2^20` bytes, and a rank that its target names is one of the run; there is one server at a reserve; a unit that is fetched
-    /// is held; no batch is going on when one begins, whose common part has at most `2^20` bytes, nor at Finish; and one is when
-    /// it ends.
+    /// a put has at most `2^20` bytes, and a rank that its target names is one of the run; a unit that is fetched is held; no batch
+    /// is going on when one begins, whose common part has at most `2^20` bytes, nor at Finish; and one is when it ends. A reserve, a
+    /// try and a count have none.
     pub fn ready(&self, call: &Call) -> bool
         ensures { IsTrue result ↔ IsSome (begin self.now call.now) }
     {
@@ -63,12 +63,10 @@ impl ClientCore {
         match call {
             Call::Put { target, body, .. } => body.len() <= BODY_LIMIT
                 && self.config.has_target(*target),
-            Call::Reserve { .. } => self.config.servers == 1,
-            Call::Try { .. } => true,
+            Call::Reserve { .. } | Call::Try { .. } | Call::Count { .. } => true,
             Call::Fetch { id } => self.held(*id).is_some(),
             Call::BeginBatch { common } => self.batch.is_none() && common.len() <= BODY_LIMIT,
             Call::EndBatch => self.batch.is_some(),
-            Call::Count { .. } => true,
             Call::Finish => self.batch.is_none(),
             _ => false,
         }

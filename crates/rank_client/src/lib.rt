@@ -13,8 +13,6 @@ mod batches;
 mod calls;
 mod clients;
 mod counts;
-#[cfg(test)]
-mod driven;
 mod expecting;
 mod faults;
 mod fetches;

@@ -7,7 +7,7 @@ ghost use Rattle.adlb_unit.specs.declared.names.UnitId.{UnitId};
 ghost use Rattle.rank_client.specs.Calls.{fetches, grants, is_fetched, is_granted};
 ghost use Rattle.rank_client.specs.Names.{has_id};
 
-use adlb_unit::{NoMemory, UnitId};
+use adlb_unit::{NoMemory, UnitId, or_no_memory};
 use bag_ledger::{Answer, Call, Said};
 use std::alloc::Global;
 use std::collections::HashSet;
@@ -80,10 +80,8 @@ impl Transcript {
         ensures no_fewer_places { self.old.places ≤ self.new.places }
         ensures no_fewer_ids { self.old.ids ≤ self.new.ids }
     {
-        if self.said.reserve(2).is_err() || self.ids.reserve(4).is_err() {
-            return Err(NoMemory);
-        }
-        Ok(())
+        or_no_memory(self.said.reserve(2))?;
+        more_ids(&mut self.ids)
     }
 
     // Adds a call with its answer.
@@ -98,6 +96,15 @@ impl Transcript {
         add_fetched(&mut self.ids, &said.call);
         self.said.push_reserved(said);
     }
+}
+
+// Makes room for four more ids.
+fn more_ids(ids: &mut HashSet<(u32, u64)>) -> Result<(), NoMemory>
+    ensures same { (id : UnitId) → has_id ids.new id ≡ has_id ids.old id }
+    ensures room { OnOk result (4 ≤ spare ids.new) }
+    ensures no_fewer { spare ids.old ≤ spare ids.new }
+{
+    or_no_memory(ids.reserve(4))
 }
 
 // Adds the id of a unit that was granted, if one was.

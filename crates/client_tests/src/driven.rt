@@ -1,12 +1,11 @@
 //! Clients driven by hand, a call or a letter at a time, with letters, entries and answers that were found by hand.
 
-use crate::clients::ClientCore;
-use crate::steps::ClientStep;
 use adlb_unit::{
     Actor, BatchId, CommonRef, Config, End, Info, Letter, Message, Payload, Rank, Sending, Server,
     Target, Types, UnitId, UnitNote, WorkType,
 };
 use bag_ledger::{Answer, Call, Entry};
+use rank_client::{ClientCore, ClientStep};
 use std::alloc::Global;
 use std::process::Abort;
 use std::test::Fail;
@@ -52,8 +51,8 @@ enum Says {
 enum Line {
     // The rank makes a call: the stamp, to whom letters go, the entries with their calls, and the answer if there is one.
     Begins(Makes),
-    // It hears a letter of this server, stamped by one more than its clock: what it gives, shown in the same way.
-    Hears(u32, Says),
+    // It hears a letter of this server with this stamp: what it gives, shown in the same way.
+    Hears(u32, u64, Says),
     // Whether it is ready for the call.
     IsReady(Makes),
     // Whether it expects a letter of this server with this stamp.
@@ -70,6 +69,11 @@ const GRANTED: &str =
 // Rank 1's unit of number 7, which is at server 1, is granted in the rank's third event.
 const GRANTED_ELSEWHERE: &str =
     "5 Granted(UnitNote { id: UnitId { rank: Rank(1), number: 7 }, kind: WorkType(1), \
+    prio: 0, answer: None, server: Server(1), common: None, length: 4 })";
+
+// This unit is granted in the rank's second event.
+const RESERVED_ELSEWHERE: &str =
+    "3 Granted(UnitNote { id: UnitId { rank: Rank(1), number: 7 }, kind: WorkType(1), \
     prio: 0, answer: None, server: Server(1), common: None, length: 4 })";
 
 // Rank 1's first unit is granted, which has a common part.
@@ -191,8 +195,14 @@ fn begin(alloc: Global, client: &mut ClientCore, makes: Makes) -> Result<ClientS
 }
 
 // The client hears a letter that it expects.
-fn hear(alloc: Global, client: &mut ClientCore, from: u32, says: Says) -> Result<ClientStep, Fail> {
-    let letter = letter(alloc, client.clock + 1, says)?;
+fn hear(
+    alloc: Global,
+    client: &mut ClientCore,
+    from: u32,
+    stamp: u64,
+    says: Says,
+) -> Result<ClientStep, Fail> {
+    let letter = letter(alloc, stamp, says)?;
     if !client.expects(Server(from), &letter) {
         return Err("not expected".into());
     }
@@ -304,7 +314,7 @@ fn given(alloc: Global, step: &ClientStep) -> Result<String, Fail> {
 fn shown(alloc: Global, client: &mut ClientCore, line: Line) -> Result<String, Fail> {
     match line {
         Line::Begins(makes) => given(alloc, &begin(alloc, client, makes)?),
-        Line::Hears(from, says) => given(alloc, &hear(alloc, client, from, says)?),
+        Line::Hears(from, stamp, says) => given(alloc, &hear(alloc, client, from, stamp, says)?),
         Line::IsReady(makes) => is_ready(alloc, client, makes),
         Line::Expects(from, stamp, says) => expects(alloc, client, from, stamp, says),
         Line::Answered => {
@@ -333,7 +343,7 @@ fn a_put_is_accepted_by_its_targets_home(rt: HostRuntime) -> Result<(), Fail> {
             "1 to 1 putting 0",
         ),
         (Line::IsReady(Makes::Reserve), "no"),
-        (Line::Hears(1, Says::Accepted(0)), "3 Fine"),
+        (Line::Hears(1, 2, Says::Accepted(0)), "3 Fine"),
         (Line::Answered, "1"),
     ];
     play(&rt, rt.alloc(), 2, &scene)
@@ -343,13 +353,15 @@ fn a_put_is_accepted_by_its_targets_home(rt: HostRuntime) -> Result<(), Fail> {
 fn a_put_is_rejected_after_each_server_refused(rt: HostRuntime) -> Result<(), Fail> {
     let scene = [
         (Line::Begins(Makes::Put(Target::Any)), "1 to 0 putting 0"),
-        (Line::Hears(0, Says::Full(0, 64)), "3 to 1"),
-        (Line::Hears(1, Says::Full(0, 61)), "5 rejected 0 Rejected"),
+        (Line::Hears(0, 2, Says::Full(0, 64)), "3 to 1"),
+        (
+            Line::Hears(1, 4, Says::Full(0, 61)),
+            "5 rejected 0 Rejected",
+        ),
         // The next put begins one server further on.
         (Line::Begins(Makes::Put(Target::Any)), "6 to 1 putting 1"),
-        (Line::Hears(1, Says::Accepted(1)), "8 Fine"),
-        // A rank reserves only if there is one server.
-        (Line::IsReady(Makes::Reserve), "no"),
+        (Line::Hears(1, 7, Says::Accepted(1)), "8 Fine"),
+        (Line::IsReady(Makes::Reserve), "yes"),
     ];
     play(&rt, rt.alloc(), 2, &scene)
 }
@@ -359,9 +371,9 @@ fn a_reserved_unit_is_fetched(rt: HostRuntime) -> Result<(), Fail> {
     let scene = [
         (Line::IsReady(Makes::Fetch(7)), "no"),
         (Line::Begins(Makes::Reserve), "1 to 0 asked 0"),
-        (Line::Hears(0, Says::Grant(0, 7, 0)), GRANTED),
+        (Line::Hears(0, 2, Says::Grant(0, 7, 0)), GRANTED),
         (Line::Begins(Makes::Fetch(7)), "4 to 0 fetching 1"),
-        (Line::Hears(0, Says::Bytes(1, b"unit")), "6 bytes |unit"),
+        (Line::Hears(0, 5, Says::Bytes(1, b"unit")), "6 bytes |unit"),
         (Line::IsReady(Makes::Fetch(7)), "no"),
         (Line::Begins(Makes::Finish), "7 to 0 finished 2 Fine"),
         (Line::IsReady(Makes::Reserve), "no"),
@@ -371,11 +383,22 @@ fn a_reserved_unit_is_fetched(rt: HostRuntime) -> Result<(), Fail> {
 }
 
 #[test]
+fn a_reserve_is_granted_a_unit_of_another_server_by_the_home(rt: HostRuntime) -> Result<(), Fail> {
+    let scene = [
+        (Line::Begins(Makes::Reserve), "1 to 0 asked 0"),
+        (Line::Expects(1, 1, Says::Grant(0, 7, 1)), "no"),
+        (Line::Hears(0, 2, Says::Grant(0, 7, 1)), RESERVED_ELSEWHERE),
+        (Line::Begins(Makes::Fetch(7)), "4 to 1 fetching 1"),
+    ];
+    play(&rt, rt.alloc(), 2, &scene)
+}
+
+#[test]
 fn an_end_is_told_again_without_a_letter(rt: HostRuntime) -> Result<(), Fail> {
     let scene = [
         (Line::Begins(Makes::Reserve), "1 to 0 asked 0"),
         (
-            Line::Hears(0, Says::Ended(0, End::Exhausted)),
+            Line::Hears(0, 2, Says::Ended(0, End::Exhausted)),
             "3 Ended(Exhausted)",
         ),
         (
@@ -439,7 +462,7 @@ fn a_reserve_awaits_its_answers(rt: HostRuntime) -> Result<(), Fail> {
 fn a_fetch_awaits_as_many_bytes_as_its_note_says(rt: HostRuntime) -> Result<(), Fail> {
     let scene = [
         (Line::Begins(Makes::Reserve), "1 to 0 asked 0"),
-        (Line::Hears(0, Says::Grant(0, 7, 0)), GRANTED),
+        (Line::Hears(0, 2, Says::Grant(0, 7, 0)), GRANTED),
         (Line::Begins(Makes::Fetch(7)), "4 to 0 fetching 1"),
         (Line::Expects(0, 1, Says::Bytes(1, b"unit")), "yes"),
         (Line::Expects(0, 1, Says::Bytes(1, b"uni")), "no"),
@@ -451,9 +474,9 @@ fn a_fetch_awaits_as_many_bytes_as_its_note_says(rt: HostRuntime) -> Result<(), 
 fn a_unit_that_was_fetched_is_not_granted_again(rt: HostRuntime) -> Result<(), Fail> {
     let scene = [
         (Line::Begins(Makes::Reserve), "1 to 0 asked 0"),
-        (Line::Hears(0, Says::Grant(0, 7, 0)), GRANTED),
+        (Line::Hears(0, 2, Says::Grant(0, 7, 0)), GRANTED),
         (Line::Begins(Makes::Fetch(7)), "4 to 0 fetching 1"),
-        (Line::Hears(0, Says::Bytes(1, b"unit")), "6 bytes |unit"),
+        (Line::Hears(0, 5, Says::Bytes(1, b"unit")), "6 bytes |unit"),
         (Line::Begins(Makes::Reserve), "7 to 0 asked 2"),
         (Line::Expects(0, 1, Says::Grant(2, 7, 0)), "no"),
         (Line::Expects(0, 1, Says::Grant(2, 8, 0)), "yes"),
@@ -466,18 +489,18 @@ fn a_batch_is_kept_by_one_server_until_it_ends(rt: HostRuntime) -> Result<(), Fa
     let scene = [
         (Line::IsReady(Makes::EndBatch), "no"),
         (Line::Begins(Makes::BeginBatch), "1 to 0 keeping 0"),
-        (Line::Hears(0, Says::Full(0, 64)), "3 to 1"),
-        (Line::Hears(1, Says::Accepted(0)), "5 Fine"),
+        (Line::Hears(0, 2, Says::Full(0, 64)), "3 to 1"),
+        (Line::Hears(1, 4, Says::Accepted(0)), "5 Fine"),
         (Line::IsReady(Makes::BeginBatch), "no"),
         (Line::IsReady(Makes::Finish), "no"),
         (
             Line::Begins(Makes::Put(Target::Only(Rank(0)))),
             "6 to 0 in batch 0 at 1 putting 1",
         ),
-        (Line::Hears(0, Says::Accepted(1)), "8 Fine"),
+        (Line::Hears(0, 7, Says::Accepted(1)), "8 Fine"),
         (Line::Begins(Makes::EndBatch), "9 to 1 after 1 closing 2"),
         (Line::Expects(0, 1, Says::Closed(2)), "no"),
-        (Line::Hears(1, Says::Closed(2)), "11 Fine"),
+        (Line::Hears(1, 10, Says::Closed(2)), "11 Fine"),
         (
             Line::Begins(Makes::Put(Target::Only(Rank(0)))),
             "12 to 0 putting 3",
@@ -490,11 +513,17 @@ fn a_batch_is_kept_by_one_server_until_it_ends(rt: HostRuntime) -> Result<(), Fa
 fn the_common_bytes_stand_before_the_units_own(rt: HostRuntime) -> Result<(), Fail> {
     let scene = [
         (Line::Begins(Makes::Reserve), "1 to 0 asked 0"),
-        (Line::Hears(0, Says::GrantInBatch(0, 0)), GRANTED_IN_BATCH),
+        (
+            Line::Hears(0, 2, Says::GrantInBatch(0, 0)),
+            GRANTED_IN_BATCH,
+        ),
         (Line::Begins(Makes::Fetch(0)), "4 to 0 fetching 1"),
-        (Line::Hears(0, Says::Bytes(1, b"unit")), "6 to 0"),
+        (Line::Hears(0, 5, Says::Bytes(1, b"unit")), "6 to 0"),
         (Line::Expects(0, 1, Says::Bytes(1, b"par")), "no"),
-        (Line::Hears(0, Says::Bytes(1, b"part")), "8 bytes part|unit"),
+        (
+            Line::Hears(0, 7, Says::Bytes(1, b"part")),
+            "8 bytes part|unit",
+        ),
     ];
     play(&rt, rt.alloc(), 1, &scene)
 }
@@ -504,10 +533,13 @@ fn a_try_goes_round_the_servers(rt: HostRuntime) -> Result<(), Fail> {
     let scene = [
         (Line::Begins(Makes::Try), "1 to 0 tried 0"),
         (Line::IsReady(Makes::Try), "no"),
-        (Line::Hears(0, Says::Nothing(0)), "3 to 1"),
+        (Line::Hears(0, 2, Says::Nothing(0)), "3 to 1"),
         (Line::Expects(0, 1, Says::Nothing(0)), "no"),
-        (Line::Hears(1, Says::Nothing(0)), "5 to 2"),
-        (Line::Hears(2, Says::Nothing(0)), "7 no current 0 NoCurrent"),
+        (Line::Hears(1, 4, Says::Nothing(0)), "5 to 2"),
+        (
+            Line::Hears(2, 6, Says::Nothing(0)),
+            "7 no current 0 NoCurrent",
+        ),
         (Line::Answered, "1"),
         // The next try begins at the home again.
         (Line::Begins(Makes::Try), "8 to 0 tried 1"),
@@ -519,8 +551,8 @@ fn a_try_goes_round_the_servers(rt: HostRuntime) -> Result<(), Fail> {
 fn a_try_is_granted_a_unit_of_the_second_server(rt: HostRuntime) -> Result<(), Fail> {
     let scene = [
         (Line::Begins(Makes::Try), "1 to 0 tried 0"),
-        (Line::Hears(0, Says::Nothing(0)), "3 to 1"),
-        (Line::Hears(1, Says::Grant(0, 7, 1)), GRANTED_ELSEWHERE),
+        (Line::Hears(0, 2, Says::Nothing(0)), "3 to 1"),
+        (Line::Hears(1, 4, Says::Grant(0, 7, 1)), GRANTED_ELSEWHERE),
         (Line::Begins(Makes::Fetch(7)), "6 to 1 fetching 1"),
     ];
     play(&rt, rt.alloc(), 2, &scene)
@@ -547,7 +579,7 @@ fn after_an_end_a_try_is_told_it_again(rt: HostRuntime) -> Result<(), Fail> {
     let scene = [
         (Line::Begins(Makes::Try), "1 to 0 tried 0"),
         (
-            Line::Hears(0, Says::Ended(0, End::NoMoreWork)),
+            Line::Hears(0, 2, Says::Ended(0, End::NoMoreWork)),
             "3 Ended(NoMoreWork)",
         ),
         (
@@ -567,7 +599,7 @@ fn a_count_is_told_by_the_home(rt: HostRuntime) -> Result<(), Fail> {
         (Line::Expects(0, 1, Says::Counted(1, 2)), "no"),
         (Line::Expects(0, 1, Says::Nothing(0)), "no"),
         (
-            Line::Hears(0, Says::Counted(0, 2)),
+            Line::Hears(0, 2, Says::Counted(0, 2)),
             "3 Info(Info { free: 2, top: Some(7), at_top: 1 })",
         ),
         (Line::Answered, "1"),
@@ -580,7 +612,7 @@ fn after_an_end_the_home_is_asked_for_a_count(rt: HostRuntime) -> Result<(), Fai
     let scene = [
         (Line::Begins(Makes::Reserve), "1 to 0 asked 0"),
         (
-            Line::Hears(0, Says::Ended(0, End::Exhausted)),
+            Line::Hears(0, 2, Says::Ended(0, End::Exhausted)),
             "3 Ended(Exhausted)",
         ),
         (Line::Begins(Makes::Count), "4 to 0 counting 1"),
