@@ -1,26 +1,28 @@
 -- Acts after acts, with what was sent and entered before.
-use Rattle.std.proofs.Common.{◌≡◌, Bool, true, false, cond, List, [], ◌∷◌, ◌++◌, append-nil, None, Some, refl, sym, ap, ◌∙◌, subst}
+use Rattle.std.proofs.Common.{◌≡◌, ◌≤◌, ◌+◌, ◌==◌, ℕ, Bool, true, false, cond, List, [], ◌∷◌, ◌++◌, append-nil, length, Option, None, Some, IsSome, refl, sym, ap, ◌∙◌, subst, arith}
+use Rattle.std.specs.Option.{option_map}
+use Rattle.adlb_unit.specs.declared.actors.Actor.{Actor}
 use Rattle.adlb_unit.specs.declared.actors.Actor.TheVariants as by
 use Rattle.adlb_unit.specs.declared.messages.Message.{Message}
-use Rattle.adlb_unit.specs.declared.messages.Message.TheVariants as tells
+use Rattle.adlb_unit.specs.declared.names.BatchId.{BatchId}
 use Rattle.adlb_unit.specs.declared.names.Rank.{Rank}
 use Rattle.adlb_unit.specs.declared.names.Server.{Server}
-use Rattle.adlb_unit.specs.declared.notes.End.{End}
-use Rattle.adlb_unit.specs.declared.units.Unit.{Unit as Work}
-use Rattle.bag_ledger.specs.declared.entries.Entry.TheVariants as enters
+use Rattle.batch_store.specs.Store.{part_in}
+use Rattle.batch_store.specs.declared.parts.Part.{Part}
+use Rattle.bag_ledger.specs.declared.entries.Entry.{Entry}
 use Rattle.bag_ledger.proofs.Tests.{some_is}
-use Rattle.server_law.specs.Acts.{Act, Gives, Grants, to_rank}
+use Rattle.work_queue.specs.Queue.{Queue}
+use Rattle.reserve_path.specs.Parked.{Parked}
+use Rattle.server_law.specs.Acts.{Act, Closes, ServerSaying, does, entries, says}
+use Rattle.server_law.specs.Batches.{can_close, close, close_rule, part_if}
+use Rattle.server_law.specs.Endings.{ends_event}
+use Rattle.server_law.specs.Step.{acts, rule, server_rule}
 use Rattle.server_law.specs.Carried.{Served, counted, done, posted}
-use Rattle.server_law.specs.Endings.{tells_all}
-use Rattle.server_law.specs.Finding.{Place}
 use Rattle.server_law.specs.Plan.{Decider, Plan, decided, in_order, plan}
-use Rattle.server_law.specs.Puts.{expects_put, put_now, settles}
-use Rattle.server_law.specs.State.{ServerModel, Waiting, Wish, idle}
-use Rattle.server_law.specs.Step.{rule}
+use Rattle.server_law.specs.State.{ServerModel}
 use Rattle.server_law.proofs.Carrying.{decided_carried, followed, followed_by, followed_more, followed_none, with_act}
-use Rattle.server_law.proofs.Endings.{tells_next}
-use Rattle.server_core.specs.Out.{Out, going_on, made, with_answer}
-use Rattle.server_core.specs.Places.{with_waiting}
+use Rattle.server_core.specs.Out.{HasRoom, Out, going_on, made, planned, with_answer, with_letter}
+use Rattle.server_core.proofs.Sounds.{with_parked}
 
 -- no act
 pub goes_nowhere : (out : Out) (s : ServerModel) → made s out ≡ going_on out [] s
@@ -33,7 +35,7 @@ followed_by-append (d ∷ ds) es x = followed_by-append ds es (followed x (d x.s
 
 -- what the plan says, and then what comes last
 pub goes_on : (last : Decider) (p : Plan) (s t u : ServerModel) (out mid end : Out)
-    → made t mid ≡ going_on out (p.first ∷ decided p.follow (done p.first s)) s → made u end ≡ going_on mid (last t) t
+    → made t mid ≡ planned out p s → made u end ≡ going_on mid (last t) t
     → made u end ≡ going_on out (in_order last s p) s
 goes_on last p s t u out mid end first then =
     let x = made s out in
@@ -46,43 +48,107 @@ goes_on last p s t u out mid end first then =
     ∙ sym (decided_carried follow y)
     ∙ sym (followed_more x p.first (decided follow y.state))
 
--- what a put makes is its plan
-pub put_goes : (s t : ServerModel) (out end : Out) (from : Rank) (m : Message) (unit : Work) → m ≡ tells.Put unit
-    → made t end ≡ going_on out (put_now s.kept unit ∷ settles unit.id (done (put_now s.kept unit) s)) s
-    → (p : Plan) → rule s (by.Rank from) m ≡ Some p → made t end ≡ going_on out (p.first ∷ decided p.follow (done p.first s)) s
-put_goes s t out end from m unit m_is made_is p is =
-    by_test (expects_put s from unit) (ap (rule s (by.Rank from)) (sym m_is) ∙ is)
+-- so a letter is handled
+pub handled_goes : (s t u : ServerModel) (out mid end : Out) (from : Actor) (message : Message) (p : Plan) → rule s from message ≡ Some p
+    → made t mid ≡ planned out p s → made u end ≡ going_on mid (ends_event t) t
+    → option_map (λ list. going_on out list s) (acts s from message) ≡ Some (made u end)
+handled_goes s t u out mid end from message p is first then =
+    ap (λ r. option_map (λ list. going_on out list s) (option_map (in_order ends_event s) r)) is
+    ∙ ap (λ x. Some x) (sym (goes_on ends_event p s t u out mid end first then))
+
+-- the rule of another server's letter
+pub server_rule_is : (s : ServerModel) (from : Server) (message : Message) (p : Plan) → rule s (by.Server from) message ≡ Some p
+    → server_rule s from message ≡ Some p
+server_rule_is s from message p is = by_test (from.0 == s.me.0) is
   where
-    first : Act
-    first = put_now s.kept unit
+    by_test : (t : Bool) → cond t None (server_rule s from message) ≡ Some p → server_rule s from message ≡ Some p
+    by_test true is = absurd (cc)
+    by_test false is = is
 
-    Goes : Plan → Type 0
-    Goes q = made t end ≡ going_on out (q.first ∷ decided q.follow (done q.first s)) s
+-- what a rule with a test does
+pub plan_if : (b : Bool) (first : Act) (follow : List Decider) (s : ServerModel) (out : Out) (x : Served)
+    → x ≡ planned out (record { first = first; follow = follow }) s
+    → (p : Plan) → cond b (plan first follow) None ≡ Some p → x ≡ planned out p s
+plan_if true first follow s out x made_is p is = subst (λ q. x ≡ planned out q s) (some_is is) made_is
+plan_if false first follow s out x made_is p is = absurd (cc)
 
-    by_test : (b : Bool) → cond b (plan first (settles unit.id ∷ [])) None ≡ Some p → Goes p
-    by_test true is =
-        subst Goes (some_is is)
-        (made_is ∙ ap (λ l. going_on out (first ∷ l) s) (sym (append-nil (settles unit.id (done first s)))))
-    by_test false is = absurd (cc)
+pub tested : {X : Type 0} (b : Bool) (x : X) → IsSome (cond b (Some x) None) → b ≡ true
+tested true x some = refl
+tested false x some = absurd (cc)
 
--- A rank that waits.
+-- likewise with one decider
+pub plan_one : (first : Act) (d : Decider) (s : ServerModel) (out : Out)
+    → planned out (record { first = first; follow = d ∷ [] }) s ≡ going_on out (first ∷ d (done first s)) s
+plan_one first d s out = ap (λ l. going_on out (first ∷ l) s) (append-nil (d (done first s)))
 
--- it gets a unit
-pub given : (s : ServerModel) (out : Out) (p : Place) (unit : Work)
-    → going_on out (Grants p.here.wish unit ∷ []) (with_waiting s (p.at.before ++ p.at.behind))
-    ≡ going_on out (Gives p.at p.here.wish p.here.to_ask unit ∷ []) s
-given s out p unit = refl
+-- what a batch that ends makes is its plan
+pub close_goes : (s : ServerModel) (out : Out) (from : Rank) (request : ℕ) (batch : BatchId) (accepted : ℕ) (x : Served)
+    → ((p : Part) → part_in s.kept.parts batch ≡ Some p → x ≡ going_on out (Closes request batch accepted p ∷ []) s)
+    → (q : Plan) → close_rule s from request batch accepted ≡ Some q → x ≡ planned out q s
+close_goes s out from request batch accepted x goes = by_part (part_in s.kept.parts batch) goes
+  where
+    by_part : (o : Option Part) → ((p : Part) → o ≡ Some p → x ≡ going_on out (Closes request batch accepted p ∷ []) s)
+        → (q : Plan) → close request batch accepted (part_if (can_close from batch accepted s.kept.queue.common) o) ≡ Some q → x ≡ planned out q s
+    by_part None goes q is = absurd (cc)
+    by_part (Some p) goes q is = by_test (can_close from batch accepted s.kept.queue.common p) (goes p refl) q is
+      where
+        by_test : (t : Bool) → x ≡ going_on out (Closes request batch accepted p ∷ []) s
+            → (q : Plan) → close request batch accepted (cond t (Some p) None) ≡ Some q → x ≡ planned out q s
+        by_test true goes q is = subst (λ r. x ≡ planned out r s) (some_is is) goes
+        by_test false goes q is = absurd (cc)
 
--- what was sent and entered, where it is told an end
-abbrev told : Out → ServerModel → Wish → End → Out
-told out s wish end =
-    with_answer out (posted s (to_rank wish.rank (tells.Ended wish.request end))) (enters.Over wish.rank wish.request end)
+-- Acts that say one thing at most.
 
--- it is told the end, and then those behind it are
-pub told_first : (s : ServerModel) (out : Out) (end : End) (wish : Wish) (rest : List Server) (behind : List Waiting)
-    → s.kept.parked.waiting ≡ idle wish rest ∷ behind
-    → let now = with_waiting s behind in
-    going_on (told out now wish end) (tells_all end [] behind) (counted now (by.Rank wish.rank))
-    ≡ going_on out (tells_all end [] s.kept.parked.waiting) s
-told_first s out end wish rest behind waits =
-    sym (tells_next (made s out) end (idle wish rest) behind refl) ∙ ap (λ l. going_on out (tells_all end [] l) s) (sym waits)
+module _ (a : Act) (more : List Act) (s : ServerModel) (out : Out) where
+  pub silent : says a s ≡ [] → entries a s ≡ [] → going_on out (a ∷ more) s ≡ going_on out more (does a s)
+  silent nothing none =
+      let one : with_act (made s out) a ≡ made (does a s) out = rw (nothing, none, append-nil out.sends, append-nil out.entries) refl in
+      followed_more (made s out) a more ∙ ap (λ x. followed x more) one
+
+  pub says_one : (x : ServerSaying) → says a s ≡ x ∷ [] → entries a s ≡ []
+      → going_on out (a ∷ more) s ≡ going_on (with_letter out (posted (does a s) x)) more (counted (does a s) x.to)
+  says_one x one none =
+      let letter = with_letter out (posted (does a s) x) in
+      let act : with_act (made s out) a ≡ made (counted (does a s) x.to) letter = rw (one, none, append-nil out.entries) refl in
+      followed_more (made s out) a more ∙ ap (λ y. followed y more) act
+
+  pub answers_one : (x : ServerSaying) (e : Entry) → says a s ≡ x ∷ [] → entries a s ≡ e ∷ []
+      → going_on out (a ∷ more) s ≡ going_on (with_answer out (posted (does a s) x) e) more (counted (does a s) x.to)
+  answers_one x e one entry =
+      let letter = with_answer out (posted (does a s) x) e in
+      let act : with_act (made s out) a ≡ made (counted (does a s) x.to) letter = rw (one, entry) refl in
+      followed_more (made s out) a more ∙ ap (λ y. followed y more) act
+
+-- a plan whose decider decides nothing after it, or that has none
+module _ (a : Act) (s : ServerModel) (out : Out) where
+  pub answers_plan : (d : Decider) (x : ServerSaying) (e : Entry) → says a s ≡ x ∷ [] → entries a s ≡ e ∷ [] → d (done a s) ≡ []
+      → made (counted (does a s) x.to) (with_answer out (posted (does a s) x) e)
+      ≡ planned out (record { first = a; follow = d ∷ [] }) s
+  answers_plan d x e one entry none =
+      let t = counted (does a s) x.to in
+      let end = with_answer out (posted (does a s) x) e in
+      goes_nowhere end t
+      ∙ sym (plan_one a d s out ∙ ap (λ l. going_on out (a ∷ l) s) none ∙ answers_one a [] s out x e one entry)
+
+  pub answers_only : (x : ServerSaying) (e : Entry) → says a s ≡ x ∷ [] → entries a s ≡ e ∷ []
+      → made (counted (does a s) x.to) (with_answer out (posted (does a s) x) e) ≡ planned out (record { first = a; follow = [] }) s
+  answers_only x e one entry =
+      goes_nowhere (with_answer out (posted (does a s) x) e) (counted (does a s) x.to) ∙ sym (answers_one a [] s out x e one entry)
+
+  pub says_only : (x : ServerSaying) → says a s ≡ x ∷ [] → entries a s ≡ []
+      → made (counted (does a s) x.to) (with_letter out (posted (does a s) x)) ≡ planned out (record { first = a; follow = [] }) s
+  says_only x one none =
+      goes_nowhere (with_letter out (posted (does a s) x)) (counted (does a s) x.to) ∙ sym (says_one a [] s out x one none)
+
+-- Room.
+
+-- as many wait and are wished for, or fewer
+pub room_left : (s : ServerModel) (queue : Queue) (parked : Parked) (out : Out) (n k : ℕ)
+    → length parked.waiting + length parked.wishes + k ≤ length s.kept.parked.waiting + length s.kept.parked.wishes + n
+    → HasRoom s out n → HasRoom (with_parked s queue parked) out k
+room_left s queue parked out n k fewer room =
+    let was = room.tells in
+    record { tells = omega (arith, fewer, was); places = room.places }
+
+pub room_less : (s : ServerModel) (out : Out) (n k : ℕ) → k ≤ n → HasRoom s out n → HasRoom s out k
+room_less s out n k fewer room = let was = room.tells in record { tells = omega (arith, fewer, was); places = room.places }

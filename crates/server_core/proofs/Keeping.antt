@@ -15,23 +15,28 @@ use Rattle.server_law.specs.Batches.{keep_now}
 use Rattle.server_law.specs.Carried.{counted, posted}
 use Rattle.server_law.specs.Finding.{exceeds}
 use Rattle.server_law.specs.State.{ServerModel}
-use Rattle.server_core.specs.Inside.{IsSound, bytes_in}
+use Rattle.server_core.specs.Inside.{IsInside, IsSound, bytes_in, state_of}
 use Rattle.server_core.specs.Out.{Out, going_on, made, with_answer}
+use Rattle.server_core.specs.declared.states.ServerState.TheInside.{Inside}
 use Rattle.server_core.proofs.Parts.{changed_within, kept_within}
 
 -- the server with this queue and these parts
 abbrev pub with_parts : ServerModel → Queue → Store → ServerModel
 with_parts s queue parts = record s { kept = record s.kept { queue = queue; parts = parts } }
 
+-- where it is sound, its fields are as they are to be
+pub parts_inside : (i : Inside) → IsInside i → (queue : Queue) (parts : Store) → IsSound (with_parts (state_of i) queue parts)
+    → IsInside (record i { queue = queue; parts = parts })
+parts_inside i inside queue parts sound =
+    record { sound = sound; config = inside.config; me = inside.me; push_config = inside.push_config; push_me = inside.push_me }
+
 -- where no unit came and the bytes of parts are charged, it is sound
 stays_sound : (s : ServerModel) (queue : Queue) (parts : Store) → IsSound s → queue.arrivals ≡ s.kept.queue.arrivals
     → bytes_in parts ≤ queue.common → IsSound (with_parts s queue parts)
 stays_sound s queue parts sound same charged = record {
-  there = sound.there;
   finished = sound.finished;
   actors = sound.actors;
-  seated = sound.seated;
-  once = sound.once;
+  parked = sound.parked;
   arrivals = subst (λ n. n ≤ s.clock) (sym same) sound.arrivals;
   charged = charged;
   activity = sound.activity;

@@ -1,109 +1,191 @@
--- Ranks of the run wait, each once.
-use Rattle.std.proofs.Common.{◌≡◌, ◌≢◌, ◌<◌, ◌≤◌, ℕ, suc, false, true, List, [], ◌∷◌, ◌++◌, length, map, take, drop, get_or, eqb, None, All, sym, ap, ◌∙◌, subst, arith}
-use Rattle.std.specs.List.{AllPairs, list_any, remove}
-use Rattle.std.proofs.lemmas.Bool.{eqb-true}
-use Rattle.std.proofs.lemmas.Bool.Decides.{Decides-eqb}
-use Rattle.std.proofs.lemmas.List.{get_or-map, length-append, length-map}
-use Rattle.std.proofs.lemmas.List.Elements.{All-append, All-drop, All-push, All-take}
-use Rattle.std.proofs.lemmas.List.Folds.{Any-from_list_any}
-use Rattle.std.proofs.lemmas.List.Quantifiers.{all_pairs_push, all_pairs_remove}
-use Rattle.std.proofs.lemmas.Map.Made.{IsDistinct-from_AllPairs}
-use Rattle.std.proofs.lemmas.Map.Steps.{length-le_from_distinct_below}
+-- One rank among those that wait at a server, each once.
+use Rattle.std.proofs.Common.{◌≡◌, ◌↔◌, ◌==◌, ℕ, suc, Bool, true, false, ◌&&◌, not, List, ◌∷◌, ◌++◌, length, map, filter, find, Option, None, Some, IsTrue, All, refl, sym, ap, ◌∙◌, subst}
+use Rattle.std.specs.Prelude.{is_none, is_some}
+use Rattle.std.specs.List.{AllPairs, list_any}
+use Rattle.std.specs.Option.{IfSome, option_map}
+use Rattle.std.proofs.lemmas.Bool.{and_parts, eqb-true}
+use Rattle.std.proofs.lemmas.List.{map-append}
+use Rattle.std.proofs.lemmas.List.Elements.{All-weaker}
 use Rattle.adlb_unit.specs.declared.names.Rank.{Rank}
-use Rattle.server_law.specs.State.{ServerModel, Waiting, idle, is_of, is_waiting}
-use Rattle.server_law.proofs.Tests.{is_of_says, none_says}
-use Rattle.server_core.specs.Inside.{IsSound}
-use Rattle.server_core.specs.Places.{with_waiting}
-use Rattle.server_core.proofs.Places.{any-map}
+use Rattle.adlb_unit.specs.declared.names.Server.{Server}
+use Rattle.bag_ledger.proofs.Tests.{some_is}
+use Rattle.work_queue.proofs.Searched.{find_first, find_none}
+use Rattle.reserve_path.proofs.Places.{AreApart, none_any, none_turned}
+use Rattle.reserve_path.specs.Calls.{is_since, request_of, turned}
+use Rattle.reserve_path.specs.Parked.{is_idle, is_of}
+use Rattle.reserve_path.specs.declared.waits.Waiting.{Waiting}
+use Rattle.server_law.specs.Expected.{IsUnanswered}
+use Rattle.server_law.specs.Finding.{Place, has_asked, place_in}
+use Rattle.server_law.specs.State.{ServerModel}
+use Rattle.server_law.proofs.Places.{IsPlace, place, place_found, place_says}
+use Rattle.server_law.proofs.Found.{some_there}
+use Rattle.server_law.proofs.Tests.{found_any, has_asked_says, unanswered_says}
+use Rattle.server_core.proofs.Alone.{NonePasses, any_one, before_others, behind_others, find_there, found_split, gone_one, one_fewer}
 
-abbrev number : Waiting → ℕ
-number e = e.wish.rank.0
+-- the rank waits here, and nowhere else
+pub record IsAlone (rank : Rank) (waiting : List Waiting) (p : Place) : Type 0 where
+  pub stands : waiting ≡ p.at.before ++ p.here ∷ p.at.behind
+  pub own : is_of rank p.here ≡ true
+  pub before : NonePasses (is_of rank) p.at.before
+  pub behind : NonePasses (is_of rank) p.at.behind
 
-abbrev IsSeated : ℕ → Waiting → Type 0
-IsSeated ranks e = e.wish.rank.0 < ranks
+pub same_rank : (a b : Rank) → a.0 ≡ b.0 → a ≡ b
+same_rank a b same = ap (λ n. let r : Rank = record { 0 = n } in r) same
 
-abbrev AreApart : Waiting → Waiting → Type 0
-AreApart e f = e.wish.rank.0 ≢ f.wish.rank.0
+-- who stands here does so alone
+pub alone_where : (rank : Rank) (waiting before : List Waiting) (e : Waiting) (behind : List Waiting) → AllPairs AreApart waiting
+    → waiting ≡ before ++ e ∷ behind → is_of rank e ≡ true → IsAlone rank waiting (place before e behind)
+alone_where rank waiting before e behind once stands own =
+    let apart = subst (AllPairs AreApart) stands once in
+    let number : Waiting → ℕ = λ x. x.wish.rank.0 in
+    let is = eqb-true e.wish.rank.0 rank.0 own in
+    let F : ℕ → Waiting → Type 0 = λ n x. (x.wish.rank.0 == n) ≡ false in
+    record {
+      stands = stands;
+      own = own;
+      before = subst (λ n. All (F n) before) is (before_others number before e behind apart);
+      behind = subst (λ n. All (F n) behind) is (behind_others number before e behind apart);
+    }
 
--- Their numbers are below the number of ranks, and no two are the same; so no more wait than there are ranks.
+-- so who is found by a test that tells of the rank
+pub alone_at : (rank : Rank) (test : Waiting → Bool) → ((e : Waiting) → test e ≡ true → is_of rank e ≡ true) → (waiting : List Waiting)
+    → AllPairs AreApart waiting → (p : Place) → place_in test waiting ≡ Some p → IsAlone rank waiting p × (test p.here ≡ true)
+alone_at rank test tells waiting once p found =
+    let is : IsPlace test waiting p = subst (λ o. IfSome o (IsPlace test waiting)) found (place_found test waiting) in
+    (alone_where rank waiting p.at.before p.here p.at.behind once is.stands (tells p.here is.passes), is.passes)
 
-numbers_apart : (waiting : List Waiting) → AllPairs AreApart waiting → AllPairs (λ m n. m ≢ n) (map number waiting)
-numbers_apart waiting once i j d before within same =
-    let some : Waiting = idle (record { rank = record { 0 = 0 }; request = 0; types = None }) [] in
-    let last : j < length waiting = omega (arith, within, length-map waiting number) in
-    let first : i < length waiting = omega arith in
-    once i j some before last (sym (get_or-map number waiting i some d first) ∙ same ∙ get_or-map number waiting j some d last)
+pub alone_found : (rank : Rank) (waiting : List Waiting) → AllPairs AreApart waiting → (e : Waiting) → find (is_of rank) waiting ≡ Some e
+    → (p : Place) × IsAlone rank waiting p × (p.here ≡ e)
+alone_found rank waiting once e found =
+    let at = found_split (is_of rank) waiting e found in
+    (place at.before e at.behind, alone_where rank waiting at.before e at.behind once at.stands at.passes, refl)
 
-numbers_below : (ranks : ℕ) (waiting : List Waiting) → All (IsSeated ranks) waiting → (q : ℕ)
-    → list_any (eqb q) (map number waiting) ≡ true → q < ranks
-numbers_below ranks waiting seated q has =
-    let at = Any-from_list_any (λ e. eqb q (number e)) waiting (sym (any-map (eqb q) number waiting) ∙ has) in
-    let is : q ≡ number at.1 = eqb-true q (number at.1) at.4 in
-    let seat : number at.1 < ranks = subst (IsSeated ranks) at.3 (seated at.0 at.1 at.2) in
-    omega (arith, is, seat)
+-- a test that tells of the rank fails for others
+pub fails_for : (rank : Rank) (test : Waiting → Bool) → ((e : Waiting) → is_of rank e ≡ false → test e ≡ false) → (xs : List Waiting)
+    → NonePasses (is_of rank) xs → NonePasses test xs
+fails_for rank test tells xs none =
+    let F : Waiting → Type 0 = λ e. is_of rank e ≡ false in
+    All-weaker F (λ e. test e ≡ false) tells xs none
 
-pub seats_within : (ranks : ℕ) (waiting : List Waiting) → All (IsSeated ranks) waiting → AllPairs AreApart waiting
-    → length waiting ≤ ranks
-seats_within ranks waiting seated once =
-    let distinct = IsDistinct-from_AllPairs Decides-eqb (map number waiting) (numbers_apart waiting once) in
-    let few = length-le_from_distinct_below (map number waiting) ranks distinct (numbers_below ranks waiting seated) in
-    omega (arith, few, length-map waiting number)
+module _ (rank : Rank) (waiting : List Waiting) (p : Place) (alone : IsAlone rank waiting p) where
+  pub gone_is : filter (λ e. not (is_of rank e)) waiting ≡ p.at.before ++ p.at.behind
+  gone_is =
+      ap (filter (λ e. not (is_of rank e))) alone.stands
+      ∙ gone_one (is_of rank) p.at.before p.here p.at.behind alone.before alone.own alone.behind
 
--- a rank that does not wait is apart from those that do
-apart : (s : ServerModel) (e : Waiting) → is_waiting s.kept e.wish.rank ≡ false → (k : ℕ) (d : Waiting)
-    → k < length s.kept.parked.waiting → AreApart (get_or s.kept.parked.waiting k d) e
-apart s e new k d within same =
-    let IsIt : Waiting → Type 0 = λ f. f.wish.rank ≡ e.wish.rank in
-    let none = (none_says (is_of e.wish.rank) IsIt (is_of_says e.wish.rank) s.kept.parked.waiting).0 new in
-    none k d within (ap (λ n. let r : Rank = record { 0 = n } in r) same)
+  pub turned_is : (test : Waiting → Bool) (f : Waiting → Waiting) → ((e : Waiting) → is_of rank e ≡ false → test e ≡ false)
+      → test p.here ≡ true → map (turned test f) waiting ≡ p.at.before ++ f p.here ∷ p.at.behind
+  turned_is test f tells passes =
+      let first = none_turned test f p.at.before (fails_for rank test tells p.at.before alone.before) in
+      let last = none_turned test f p.at.behind (fails_for rank test tells p.at.behind alone.behind) in
+      ap (map (turned test f)) alone.stands ∙ map-append (turned test f) p.at.before (p.here ∷ p.at.behind)
+      ∙ rw (first, last, passes) refl
 
--- one more waits
-module _ (s : ServerModel) (e : Waiting) (within : e.wish.rank.0 < s.config.ranks) (new : is_waiting s.kept e.wish.rank ≡ false)
-    (sound : IsSound s) where
-  seated_more : All (IsSeated s.config.ranks) (s.kept.parked.waiting ++ e ∷ [])
-  seated_more = All-push (IsSeated s.config.ranks) s.kept.parked.waiting e sound.seated within
+  pub found_is : find (is_of rank) waiting ≡ Some p.here
+  found_is = ap (find (is_of rank)) alone.stands ∙ find_there (is_of rank) p.at.before p.here p.at.behind alone.before alone.own
 
-  once_more : AllPairs AreApart (s.kept.parked.waiting ++ e ∷ [])
-  once_more = all_pairs_push AreApart s.kept.parked.waiting e sound.once (apart s e new)
+  pub any_is : (q : Waiting → Bool) → list_any (λ e. is_of rank e && q e) waiting ≡ q p.here
+  any_is q =
+      ap (list_any (λ e. is_of rank e && q e)) alone.stands
+      ∙ any_one (is_of rank) q p.at.before p.here p.at.behind alone.before alone.own alone.behind
 
-  -- there was room
-  pub seat_left : length s.kept.parked.waiting < s.config.ranks
-  seat_left =
-      let most = seats_within s.config.ranks (s.kept.parked.waiting ++ e ∷ []) seated_more once_more in
-      omega (arith, most, length-append s.kept.parked.waiting (e ∷ []))
+  pub one_more : length waiting ≡ suc (length (p.at.before ++ p.at.behind))
+  one_more = ap (λ (l : List Waiting). length l) alone.stands ∙ one_fewer p.at.before p.here p.at.behind
 
-  pub parked_sound : IsSound (with_waiting s (s.kept.parked.waiting ++ e ∷ []))
-  parked_sound = record {
-    there = sound.there;
-    finished = sound.finished;
-    actors = sound.actors;
-    seated = seated_more;
-    once = once_more;
-    arrivals = sound.arrivals;
-    charged = sound.charged;
-    activity = sound.activity;
-    sent = sound.sent;
-    clock = sound.clock;
-  }
+-- What is told of a rank.
 
--- one waits no longer
-others_seated : (ranks n : ℕ) (waiting : List Waiting) → All (IsSeated ranks) waiting → All (IsSeated ranks) (remove waiting n)
-others_seated ranks n waiting seated =
-    let before = All-take (IsSeated ranks) n waiting seated in
-    let behind = All-drop (IsSeated ranks) (suc n) waiting seated in
-    All-append (IsSeated ranks) (take n waiting) (drop (suc n) waiting) before behind
+abbrev pub told_of : List Waiting → Rank → Option (ℕ × Option Server)
+told_of waiting rank = option_map request_of (find (is_of rank) waiting)
 
-pub left_sound : (s : ServerModel) (n : ℕ) → n < length s.kept.parked.waiting → IsSound s
-    → IsSound (with_waiting s (remove s.kept.parked.waiting n))
-left_sound s n within sound = record {
-  there = sound.there;
-  finished = sound.finished;
-  actors = sound.actors;
-  seated = others_seated s.config.ranks n s.kept.parked.waiting sound.seated;
-  once = all_pairs_remove AreApart s.kept.parked.waiting n within sound.once;
-  arrivals = sound.arrivals;
-  charged = sound.charged;
-  activity = sound.activity;
-  sent = sound.sent;
-  clock = sound.clock;
-}
+pub waits_told : (waiting : List Waiting) (rank : Rank) → is_some (told_of waiting rank) ≡ list_any (is_of rank) waiting
+waits_told waiting rank = by_found (find (is_of rank) waiting) ∙ found_any (is_of rank) waiting
+  where
+    by_found : (o : Option Waiting) → is_some (option_map request_of o) ≡ is_some o
+    by_found None = refl
+    by_found (Some e) = refl
+
+-- as it waits, if it does
+abbrev pub idle_if : Option (ℕ × Option Server) → Bool
+idle_if None = false
+idle_if (Some told) = is_none told.1
+
+pub idle_told : (waiting : List Waiting) → AllPairs AreApart waiting → (rank : Rank)
+    → list_any (λ e. is_of rank e && is_idle e) waiting ≡ idle_if (told_of waiting rank)
+idle_told waiting once rank = by_found (find (is_of rank) waiting) refl
+  where
+    by_found : (o : Option Waiting) → find (is_of rank) waiting ≡ o
+        → list_any (λ e. is_of rank e && is_idle e) waiting ≡ idle_if (option_map request_of o)
+    by_found None found = none_any (is_of rank) is_idle waiting (find_none (is_of rank) waiting found)
+    by_found (Some e) found =
+        let p = alone_found rank waiting once e found in
+        any_is rank waiting p.0 p.1 is_idle ∙ ap is_idle p.2
+
+-- who is asked for
+pub record IsAskedFor (s : ServerModel) (from : Server) (rank : Rank) (request : ℕ) (p : Place) : Type 0 where
+  pub found : place_in (has_asked from rank request) s.kept.parked.waiting ≡ Some p
+  pub alone : IsAlone rank s.kept.parked.waiting p
+  pub rank_is : p.here.wish.rank ≡ rank
+  pub request_is : p.here.wish.request ≡ request
+  pub asked : p.here.asked ≡ Some from
+
+tells_rank : (from : Server) (rank : Rank) (request : ℕ) (e : Waiting) → has_asked from rank request e ≡ true → is_of rank e ≡ true
+tells_rank from rank request e is = (and_parts _ _ (and_parts (is_since rank request e) _ is).0).0
+
+pub asked_for : (s : ServerModel) → AllPairs AreApart s.kept.parked.waiting → (from : Server) (rank : Rank) (request : ℕ)
+    → IsUnanswered s from rank request → (p : Place) × IsAskedFor s from rank request p
+asked_for s once from rank request is =
+    let waiting = s.kept.parked.waiting in
+    let some = place_says (has_asked from rank request) waiting ∙ (unanswered_says s from rank request).1 is in
+    let p = some_there (place_in (has_asked from rank request) waiting) some in
+    let alone = alone_at rank (has_asked from rank request) (tells_rank from rank request) waiting once p.0 p.1 in
+    let says = (has_asked_says from rank request p.0.here).0 alone.1 in
+    (p.0, record { found = p.1; alone = alone.0; rank_is = says.0; request_is = says.1; asked = says.2 })
+
+pub unanswered_told : (s : ServerModel) → AllPairs AreApart s.kept.parked.waiting → (from : Server) (rank : Rank) (request : ℕ)
+    → (told_of s.kept.parked.waiting rank ≡ Some (request, Some from)) ↔ IsUnanswered s from rank request
+unanswered_told s once from rank request = (forth (find (is_of rank) s.kept.parked.waiting) refl, back)
+  where
+    forth : (o : Option Waiting) → find (is_of rank) s.kept.parked.waiting ≡ o → option_map request_of o ≡ Some (request, Some from)
+        → IsUnanswered s from rank request
+    forth None found told = absurd (cc)
+    forth (Some e) found told =
+        let at = find_first (is_of rank) s.kept.parked.waiting e found in
+        let is = some_is told in
+        let own = same_rank e.wish.rank rank (eqb-true e.wish.rank.0 rank.0 at.passes) in
+        (at.place, e, at.within, at.read, (own, ap (λ (t : ℕ × Option Server). t.0) is, ap (λ (t : ℕ × Option Server). t.1) is))
+
+    back : IsUnanswered s from rank request → told_of s.kept.parked.waiting rank ≡ Some (request, Some from)
+    back is =
+        let p = asked_for s once from rank request is in
+        ap (option_map request_of) (found_is rank s.kept.parked.waiting p.0 p.1.alone)
+        ∙ ap (λ q. Some (q, p.0.here.asked)) p.1.request_is ∙ ap (λ a. Some (request, a)) p.1.asked
+
+-- as it is told: since which request, and which server is unanswered
+module _ (s : ServerModel) (once : AllPairs AreApart s.kept.parked.waiting) (from : Server) (rank : Rank) (request since : ℕ)
+    (asked : Option Server) (told : told_of s.kept.parked.waiting rank ≡ Some (since, asked)) where
+  says : IsUnanswered s from rank request ↔ ((since ≡ request) × (asked ≡ Some from))
+  says =
+      let is = unanswered_told s once from rank request in (
+        λ unanswered.
+            let same = some_is (sym told ∙ is.1 unanswered) in
+            (ap (λ (t : ℕ × Option Server). t.0) same, ap (λ (t : ℕ × Option Server). t.1) same),
+        λ both. is.0 (told ∙ ap (λ n. Some (n, asked)) both.0 ∙ ap (λ a. Some (request, a)) both.1),
+      )
+
+  pub unanswered_then : since ≡ request → (b : Bool) → IsTrue b ↔ (asked ≡ Some from) → IsTrue b ↔ IsUnanswered s from rank request
+  unanswered_then same b is = (λ yes. says.1 (same, is.0 yes), λ unanswered. is.1 (says.0 unanswered).1)
+
+  pub unanswered_else : (since ≡ request → ⊥) → IsTrue (since == request) ↔ IsUnanswered s from rank request
+  unanswered_else differs = (λ yes. absurd (differs (eqb-true since request yes)), λ unanswered. absurd (differs (says.0 unanswered).0))
+
+pub unanswered_none : (s : ServerModel) → AllPairs AreApart s.kept.parked.waiting → (from : Server) (rank : Rank) (request : ℕ)
+    → told_of s.kept.parked.waiting rank ≡ None → IsTrue false ↔ IsUnanswered s from rank request
+unanswered_none s once from rank request none =
+    let is = unanswered_told s once from rank request in
+    (λ yes. absurd (cc), λ unanswered. let told = sym none ∙ is.1 unanswered in absurd (cc))
+
+pub none_tells : {X : Type 0} (o : Option X) (b : Bool) → is_some o ≡ not b → b ≡ is_none o
+none_tells None true is = refl
+none_tells None false is = absurd (cc)
+none_tells (Some x) true is = absurd (cc)
+none_tells (Some x) false is = refl

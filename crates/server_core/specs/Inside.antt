@@ -1,23 +1,15 @@
 -- The fields of a server.
-use Rattle.std.specs.Prelude.{◌≢◌, ◌≡◌, ◌+◌, ◌*◌, ◌<◌, ◌≤◌, ℕ, [], length, map, sum_by, All}
-use Rattle.std.specs.List.{AllPairs}
-use Rattle.std.specs.Vec.{vec_capacity}
+use Rattle.std.specs.Prelude.{◌≡◌, ◌+◌, ◌*◌, ◌<◌, ◌≤◌, ℕ, None, length, sum_by, All}
 use Rattle.adlb_unit.specs.Limits.{stamp_limit}
-use Rattle.adlb_unit.specs.Ring.{others}
-use Rattle.adlb_unit.specs.declared.configs.Config.{Config}
 use Rattle.adlb_unit.specs.declared.names.BatchId.{BatchId}
-use Rattle.adlb_unit.specs.declared.names.Server.{Server}
 use Rattle.batch_store.specs.Store.{Store}
 use Rattle.batch_store.specs.declared.parts.Part.{Part}
+use Rattle.reserve_path.specs.Parked.{IsParked, ParkedModel}
 use Rattle.server_core.specs.Out.{event_letters}
 use Rattle.server_core.specs.declared.states.ServerState.TheInside.{Inside}
-use Rattle.server_core.specs.declared.waiting.Waiting.{Waiting as Seat}
-use Rattle.server_law.specs.State.{ServerModel, Waiting, idle}
+use Rattle.server_law.specs.State.{ServerModel}
 
--- a rank that waits: no server is asked for it, and all others are still to be asked
-abbrev pub idle_of : Config → Server → Seat → Waiting
-idle_of config me w = idle (record { rank = w.rank; request = w.request; types = w.types }) (others config me)
-
+-- no acknowledgement is owed: an event says it before it ends, and the code at once
 abbrev pub state_of : Inside → ServerModel
 state_of i = record {
   config = i.config;
@@ -29,13 +21,19 @@ state_of i = record {
   kept = record {
     queue = i.queue;
     parts = i.parts;
-    parked = record { waiting = map (idle_of i.config i.me) i.waiting.items; wishes = [] };
+    parked = i.parked.parked;
+    pushing = i.pushes.pushing;
+    owed = None;
     finished = i.finished.items;
     done = i.done;
     exhausted = i.exhausted;
     shut = i.shut;
   };
 }
+
+-- what waits at the server
+abbrev pub parked_of : ServerModel → ParkedModel
+parked_of s = record { config = s.config; me = s.me; parked = s.kept.parked }
 
 -- how many bytes the parts have together
 abbrev pub bytes_of : BatchId × Part → ℕ
@@ -45,12 +43,10 @@ abbrev pub bytes_in : Store → ℕ
 bytes_in parts = sum_by bytes_of parts
 
 pub record IsSound (s : ServerModel) : Type 0 where
-  pub there : s.me.0 < s.config.servers
   pub finished : length s.kept.finished ≡ s.config.ranks
   pub actors : length s.sent ≡ s.config.ranks + s.config.servers
-  -- ranks of the run wait, each once
-  pub seated : All (λ (e : Waiting). e.wish.rank.0 < s.config.ranks) s.kept.parked.waiting
-  pub once : AllPairs (λ (e f : Waiting). e.wish.rank.0 ≢ f.wish.rank.0) s.kept.parked.waiting
+  -- each rank waits once and at its home, and has one wish at most elsewhere
+  pub parked : IsParked (parked_of s)
   -- an event brings at most one unit, and sends fewer letters than `event_letters`
   pub arrivals : s.kept.queue.arrivals ≤ s.clock
   -- the bytes of the parts that are kept are charged to the queue
@@ -61,5 +57,8 @@ pub record IsSound (s : ServerModel) : Type 0 where
 
 pub record IsInside (i : Inside) : Type 0 where
   pub sound : IsSound (state_of i)
-  -- each rank of the run finds room to wait
-  pub room : i.config.ranks ≤ vec_capacity i.waiting
+  -- what waits is seen as at this server, and so is its push
+  pub config : i.parked.config ≡ i.config
+  pub me : i.parked.me ≡ i.me
+  pub push_config : i.pushes.config ≡ i.config
+  pub push_me : i.pushes.me ≡ i.me

@@ -1,4 +1,4 @@
+pub mod Failing
 pub mod Inside
 pub mod Left
 pub mod Out
-pub mod Places

@@ -10,7 +10,7 @@ ghost use Rattle.server_law.specs.State.{Kept, ServerModel};
 
 use crate::outgoing::Outgoing;
 use crate::states::ServerState;
-use adlb_unit::{BatchId, End, Message, NoMemory, Payload, Rank, UnitId};
+use adlb_unit::{Actor, BatchId, End, Message, NoMemory, Payload, Rank, UnitId};
 use bag_ledger::Entry;
 use work_queue::AddFault;
 
@@ -27,7 +27,8 @@ impl ServerState {
         requires expected { expects_keep self.old from request common ≡ true }
         requires room { HasRoom self.old out.old 2 }
 
-        ensures ok { OnOk result (made self.new out.new ≡ going_on out.old (keep_now self.old.kept from request common ∷ []) self.old) }
+        ensures ok { OnOk result (made self.new out.new ≡
+            going_on out.old (keep_now self.old.kept from request common ∷ []) self.old) }
         ensures room { OnOk result (HasRoom self.new out.new 1) }
         ensures err { OnErr result (self.new ≡ self.old) }
     {
@@ -41,7 +42,7 @@ impl ServerState {
         match self.parts.keep(&mut self.queue, batch, common) {
             Ok(()) => {
                 let kept = Entry::Kept { server, batch };
-                self.answer(from, Message::Accepted { request }, kept, out);
+                self.answer(Actor::Rank(from), Message::Accepted { request }, kept, out);
                 Ok(())
             }
             Err(AddFault::Full { charge }) => {
@@ -50,7 +51,12 @@ impl ServerState {
                     id: UnitId { rank: from, number },
                     used: charge,
                 };
-                self.answer(from, Message::Full { request, charge }, refused, out);
+                self.answer(
+                    Actor::Rank(from),
+                    Message::Full { request, charge },
+                    refused,
+                    out,
+                );
                 Ok(())
             }
             Err(AddFault::Memory) => Err(NoMemory),
@@ -63,7 +69,8 @@ impl ServerState {
         requires kept { Keeps self.old.kept.parts batch self.old.kept.queue.common (CanClose accepted) }
         requires room { HasRoom self.old out.old 3 }
 
-        ensures made { (p : Part) → part_in self.old.kept.parts batch ≡ Some p → made self.new out.new ≡ going_on out.old (Closes request batch accepted p ∷ []) self.old }
+        ensures made { (p : Part) → part_in self.old.kept.parts batch ≡ Some p →
+            made self.new out.new ≡ going_on out.old (Closes request batch accepted p ∷ []) self.old }
         ensures room { HasRoom self.new out.new 1 }
     {
         let freed = self.parts.close(&mut self.queue, batch, accepted);
@@ -71,7 +78,12 @@ impl ServerState {
             server: self.me,
             batch,
         };
-        self.answer(batch.rank, Message::Closed { request }, closed, out);
+        self.answer(
+            Actor::Rank(batch.rank),
+            Message::Closed { request },
+            closed,
+            out,
+        );
         self.tell_freed(freed, batch, out);
     }
 
@@ -87,7 +99,8 @@ impl ServerState {
         requires kept { Keeps self.old.kept.parts batch self.old.kept.queue.common CanFetch }
         requires room { HasRoom self.old out.old 3 }
 
-        ensures made { OnOk result ((p : Part) → part_in self.old.kept.parts batch ≡ Some p → made self.new out.new ≡ going_on out.old (Fetches_part from request batch p ∷ []) self.old) }
+        ensures made { OnOk result ((p : Part) → part_in self.old.kept.parts batch ≡ Some p →
+            made self.new out.new ≡ going_on out.old (Fetches_part from request batch p ∷ []) self.old) }
         ensures room { OnOk result (HasRoom self.new out.new 1) }
         ensures err { OnErr result (self.new ≡ self.old) }
     {
@@ -97,7 +110,12 @@ impl ServerState {
             rank: from,
             batch,
         };
-        self.answer(from, Message::Bytes { request, body }, fetched, out);
+        self.answer(
+            Actor::Rank(from),
+            Message::Bytes { request, body },
+            fetched,
+            out,
+        );
         self.tell_freed(freed, batch, out);
         Ok(())
     }

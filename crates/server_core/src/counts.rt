@@ -7,7 +7,7 @@ ghost use Rattle.server_law.specs.State.{ServerModel};
 
 use crate::outgoing::Outgoing;
 use crate::states::ServerState;
-use adlb_unit::{Message, Rank, WorkType};
+use adlb_unit::{Actor, Message, Rank, WorkType};
 use bag_ledger::Entry;
 
 impl ServerState {
@@ -26,6 +26,11 @@ impl ServerState {
             call: request,
             info,
         };
-        self.answer(from, Message::Counted { request, info }, counted, out);
+        self.answer(
+            Actor::Rank(from),
+            Message::Counted { request, info },
+            counted,
+            out,
+        );
     }
 }

@@ -1,6 +1,6 @@
 //! What follows each event, with one server.
 
-ghost use Rattle.std.specs.Prelude.{◌≡◌, ◌<◌, ◌+◌, ℕ, ◌∷◌, [], ◌↔◌, IsTrue, is_some, length};
+ghost use Rattle.std.specs.Prelude.{◌≡◌, ◌<◌, ◌∷◌, [], ◌↔◌, IsTrue, MatchBool, is_some, length, true, false};
 ghost use Rattle.std.specs.List.{list_any};
 ghost use Rattle.server_core.specs.Out.{HasRoom, Out, going_on, made};
 ghost use Rattle.server_law.specs.Acts.{Act, Finds};
@@ -11,8 +11,7 @@ ghost use Rattle.work_queue.specs.Best.{best_of};
 
 use crate::outgoing::Outgoing;
 use crate::states::ServerState;
-use crate::waiting::Waiting;
-use adlb_unit::{End, Rank};
+use adlb_unit::{End, Rank, Types};
 use bag_ledger::Entry;
 use work_queue::WorkQueue;
 
@@ -30,12 +29,12 @@ impl ServerState {
         true
     }
 
-    // The rank's home is elsewhere, or it has finished, or it waits.
+    // The rank's home is elsewhere, or it has finished, or it waits and is idle.
     fn rests(&self, rank: Rank) -> bool
         requires { rank.0 < self.now.config.ranks }
         ensures { result ≡ rests self.now rank }
     {
-        !self.is_home(rank) || self.finished[rank.0 as usize] || self.is_waiting(rank)
+        !self.is_home(rank) || self.finished[rank.0 as usize] || self.is_idle(rank)
     }
 
     // If all is quiet at the only server, no unit can come. If then nobody waits, the server is shut; otherwise, if no free
@@ -54,51 +53,65 @@ impl ServerState {
         }
     }
 
+    // No rank waits.
+    fn nobody_waits(&self) -> bool
+        ensures { MatchBool result (self.now.kept.parked.waiting ≡ []) (0 < length self.now.kept.parked.waiting) }
+    {
+        self.parked.counts().0 == 0
+    }
+
     // A free unit is permitted to a rank that waits.
     fn fits_some(&self) -> bool
         ensures { result ≡ list_any (fits self.now.kept) self.now.kept.parked.waiting }
     {
-        has_fit(&self.queue, &self.waiting)
+        let mut room = std::array::from_fn(|_| (Rank(0), Types::any()));
+        let count = self.parked.asked(&mut room);
+        has_fit(&self.queue, &room[..count as usize])
     }
 
     // All work is used up: it is entered once, and all who wait are told.
     fn exhaust(&mut self, out: &mut Outgoing)
         requires { HasRoom self.old out.old 1 }
-        ensures { made self.new out.new ≡ going_on out.old (Finds ∷ tells_all End.Exhausted [] self.old.kept.parked.waiting) self.old }
+        ensures { made self.new out.new ≡
+            going_on out.old (Finds ∷ tells_all End.Exhausted [] self.old.kept.parked.waiting) self.old }
     {
         out.enter(Entry::Exhausted);
         self.exhausted = true;
         self.tell_all(End::Exhausted, out);
     }
 
-    // All who wait are told the end, in the order in which they came.
+    // All idle ranks are told the end, in the order in which they came.
     fn tell_all(&mut self, end: End, out: &mut Outgoing)
         requires { HasRoom self.old out.old 0 }
         ensures { made self.new out.new ≡ going_on out.old (tells_all end [] self.old.kept.parked.waiting) self.old }
     {
-        while !self.nobody_waits() {
-            self.tell_first(end, out);
-        }
+        while self.tell_next(end, out) {}
     }
 
-    // The first who waits is told the end; those behind it are still to be told.
-    fn tell_first(&mut self, end: End, out: &mut Outgoing)
-        requires some { 0 < length self.old.kept.parked.waiting }
-        requires room { HasRoom self.old out.old 0 }
-        ensures told { going_on out.new (tells_all end [] self.new.kept.parked.waiting) self.new ≡ going_on out.old (tells_all end [] self.old.kept.parked.waiting) self.old }
-        ensures fewer { length self.new.kept.parked.waiting < length self.old.kept.parked.waiting }
+    // The first idle rank, if there is one, is told the end; the others are still to be told.
+    fn tell_next(&mut self, end: End, out: &mut Outgoing) -> bool
+        requires { HasRoom self.old out.old 0 }
+        ensures told { going_on out.new (tells_all end [] self.new.kept.parked.waiting) self.new ≡
+            going_on out.old (tells_all end [] self.old.kept.parked.waiting) self.old }
+        ensures fewer { result ≡ true → length self.new.kept.parked.waiting < length self.old.kept.parked.waiting }
+        ensures last { result ≡ false → tells_all end [] self.new.kept.parked.waiting ≡ [] }
         ensures room { HasRoom self.new out.new 0 }
     {
-        let first = self.leave(0);
-        self.end_call(first.rank, first.request, end, out);
+        match self.parked.end_idle() {
+            Some((rank, request)) => {
+                self.end_call(rank, request, end, out);
+                true
+            }
+            None => false,
+        }
     }
 }
 
-// A free unit is permitted to one of those that wait.
-fn has_fit(queue: &WorkQueue, waiting: &[Waiting]) -> bool
-    ensures { result ≡ list_any (λ waits. is_some (best_of waits.rank waits.types queue.now.units)) waiting.now }
+// A free unit is permitted to one of these, each with the types that it wants.
+fn has_fit(queue: &WorkQueue, asked: &[(Rank, Types)]) -> bool
+    ensures { result ≡ list_any (λ waits. is_some (best_of waits.0 waits.1 queue.now.units)) asked.now }
 {
-    waiting
+    asked
         .iter()
-        .any(|waits| queue.best(waits.rank, &waits.types).is_some())
+        .any(|(rank, types)| queue.best(*rank, types).is_some())
 }

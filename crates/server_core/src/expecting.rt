@@ -1,22 +1,31 @@
 //! Which letters a server expects.
 
-ghost use Rattle.std.specs.Prelude.{◌≡◌, ◌<◌, ◌↔◌, IsTrue, IsSome, None};
+ghost use Rattle.std.specs.Prelude.{◌≡◌, ◌<◌, ◌↔◌, IsTrue, IsSome, None, length};
 ghost use Rattle.batch_store.specs.Store.{CanClose, CanFetch, Keeps, part_in};
 ghost use Rattle.server_law.specs.Acts.{batch_of};
-ghost use Rattle.server_law.specs.Expected.{IsAwaited, IsExpected, IsNew};
+ghost use Rattle.server_law.specs.Expected.{IsAwaited, IsAwaitedFrom, IsExpected, IsNew};
 ghost use Rattle.server_law.specs.State.{Kept, ServerModel, runs_at_home};
 ghost use Rattle.server_law.specs.Step.{serve};
-ghost use Rattle.work_queue.specs.Queue.{HasNoPromise, HasNoUnit, HasPinned};
+ghost use Rattle.work_queue.specs.Queue.{HasNoPromise, HasNoUnit, HasPinned, HasPromise, HasRoom};
 
 use crate::states::ServerState;
-use adlb_unit::{Actor, BODY_LIMIT, BatchId, Letter, Message, Rank, STAMP_LIMIT, Unit, UnitId};
+use adlb_unit::{
+    Actor, BODY_LIMIT, BatchId, Letter, Message, Rank, STAMP_LIMIT, Server, Unit, UnitId,
+};
 
 impl ServerState {
-    /// The letter is expected (`IsExpected`): it comes from a rank of the run, its stamp is below `2^48`, and the row of
-    /// what it says holds here. Exactly such a letter has a step (`serve`). It takes no memory.
+    /// The letter is expected (`IsExpected`): it comes from a rank or another server of the run, its stamp is below
+    /// `2^48`, and the row of what it says holds here. Exactly such a letter has a step (`serve`). It takes no memory.
     pub fn expects(&self, from: Actor, letter: &Letter) -> bool
         ensures expected { IsTrue result ↔ IsExpected self.now from letter.now }
         ensures served { IsTrue result ↔ IsSome (serve self.now from letter.now) }
+    {
+        self.is_expected(from, letter)
+    }
+
+    // The letter is expected.
+    fn is_expected(&self, from: Actor, letter: &Letter) -> bool
+        ensures { IsTrue result ↔ IsExpected self.now from letter.now }
     {
         match from {
             Actor::Rank(from) => {
@@ -24,7 +33,33 @@ impl ServerState {
                     && letter.stamp < STAMP_LIMIT
                     && self.awaits(from, &letter.message)
             }
-            Actor::Server(_) => false,
+            Actor::Server(from) => {
+                from.0 < self.config.servers
+                    && from.0 != self.me.0
+                    && letter.stamp < STAMP_LIMIT
+                    && self.awaits_from(from, &letter.message)
+            }
+        }
+    }
+
+    // A letter of the other server that says this is awaited.
+    fn awaits_from(&self, from: Server, message: &Message) -> bool
+        ensures { IsTrue result ↔ IsAwaitedFrom self.now from message.now }
+    {
+        match message {
+            Message::Ask { rank, .. } => {
+                rank.0 < self.config.ranks && self.config.home(*rank).0 == from.0
+            }
+            Message::AskGrant { rank, request, .. } => self.is_unanswered(from, *rank, *request),
+            Message::AskNone { rank, request } => self.is_unanswered(from, *rank, *request),
+            Message::Hint { rank, .. } => rank.0 < self.config.ranks && self.is_home(*rank),
+            Message::PushQuery { id, .. } => self.is_unknown(*id),
+            Message::PushYes { id } => self.pushes.asks(from, *id),
+            Message::PushNo { id } => self.pushes.asks(from, *id),
+            Message::PushUnit { unit } => self.has_room_for(unit),
+            Message::PushCancel { id } => self.has_promised(*id),
+            Message::PushAck { id } => self.pushes.has_sent(from, *id),
+            _ => false,
         }
     }
 
@@ -76,6 +111,24 @@ impl ServerState {
         ensures { IsTrue result ↔ (HasNoUnit id self.now.kept.queue.units × HasNoPromise id self.now.kept.queue.promises) }
     {
         !self.queue.has_unit(id) && self.queue.promised(id).is_none()
+    }
+
+    // Room was promised to the unit of this id.
+    fn has_promised(&self, id: UnitId) -> bool
+        ensures { IsTrue result ↔ HasPromise id self.now.kept.queue.promises }
+    {
+        self.queue.promised(id).is_some()
+    }
+
+    // The unit is not here, and room of its length was promised to it.
+    fn has_room_for(&self, unit: &Unit) -> bool
+        ensures { IsTrue result ↔ (HasNoUnit unit.now.id self.now.kept.queue.units
+            × HasRoom unit.now.id (length unit.now.body) self.now.kept.queue.promises × (self.now.kept.owed ≡ None)) }
+    {
+        match self.queue.promised(unit.id) {
+            Some(length) => !self.queue.has_unit(unit.id) && length as usize == unit.body.len(),
+            None => false,
+        }
     }
 
     // The unit is here and pinned to the rank.

@@ -8,7 +8,7 @@ ghost use Rattle.work_queue.specs.Queue.{HasPinned, id_of};
 
 use crate::outgoing::Outgoing;
 use crate::states::ServerState;
-use adlb_unit::{Message, Rank, UnitId};
+use adlb_unit::{Actor, Message, Rank, UnitId};
 use bag_ledger::Entry;
 
 impl ServerState {
@@ -18,7 +18,9 @@ impl ServerState {
         requires pinned { HasPinned id from self.old.kept.queue.units }
         requires room { HasRoom self.old out.old 2 }
 
-        ensures made { All (λ p. id_of p ≡ id → made self.new out.new ≡ going_on out.old (Fetches from request id p.unit ∷ []) self.old) self.old.kept.queue.units }
+        ensures made { All (λ p. id_of p ≡ id →
+            made self.new out.new ≡
+            going_on out.old (Fetches from request id p.unit ∷ []) self.old) self.old.kept.queue.units }
         ensures room { HasRoom self.new out.new 1 }
     {
         let body = self.queue.take_pinned(id, from);
@@ -27,6 +29,11 @@ impl ServerState {
             rank: from,
             id,
         };
-        self.answer(from, Message::Bytes { request, body }, fetched, out);
+        self.answer(
+            Actor::Rank(from),
+            Message::Bytes { request, body },
+            fetched,
+            out,
+        );
     }
 }

@@ -1,30 +1,32 @@
 //! What an event sends and enters.
 
 ghost use Rattle.std.specs.Prelude.{◌≡◌, ◌<◌, IfOk};
-ghost use Rattle.server_core.specs.Out.{Out, nothing, with_answer, with_entry};
+ghost use Rattle.server_core.specs.Out.{Out, nothing, with_answer, with_entry, with_letter};
 
 use adlb_unit::{NoMemory, Sending};
 use bag_ledger::Entry;
 use std::alloc::Global;
 use std::marker::Model;
 
-// The letters and the entries of one event. There is room for as many as it may have from its making.
+// The letters and the entries of one event. There is room for as many as it may have from its making; `room` is how
+// many more of each.
 #[derive(Drop)]
 pub(crate) struct Outgoing {
     sends: Vec<Sending>,
     entries: Vec<Entry>,
+    room: usize,
 }
 
 impl Model for Outgoing {
-    ghost use Rattle.std.specs.Prelude.{◌≤◌, ◌+◌, ◌-◌, length};
+    ghost use Rattle.std.specs.Prelude.{◌≤◌, ◌+◌, length};
     ghost use Rattle.std.specs.Vec.{vec_capacity};
     ghost use Rattle.server_core.specs.Out.{Out};
 
     ghost Value = { Out };
 
-    ghost view = { λ o. record { sends = o.sends.items; entries = o.entries.items; room = vec_capacity o.entries - length o.entries.items } };
+    ghost view = { λ o. record { sends = o.sends.items; entries = o.entries.items; room = o.room } };
 
-    ghost invariant = { λ o. vec_capacity o.entries + length o.sends.items ≤ vec_capacity o.sends + length o.entries.items };
+    ghost invariant = { λ o. (length o.sends.items + o.room ≤ vec_capacity o.sends) × (length o.entries.items + o.room ≤ vec_capacity o.entries) };
 }
 
 impl Outgoing {
@@ -37,7 +39,11 @@ impl Outgoing {
         let Ok(entries) = Vec::with_capacity(alloc, room) else {
             return Err(NoMemory);
         };
-        Ok(Outgoing { sends, entries })
+        Ok(Outgoing {
+            sends,
+            entries,
+            room,
+        })
     }
 
     // An entry that no letter tells of.
@@ -45,7 +51,17 @@ impl Outgoing {
         requires { 0 < self.old.room }
         ensures { self.new ≡ with_entry self.old entry }
     {
+        self.room -= 1;
         self.entries.push_reserved(entry);
+    }
+
+    // A letter that tells of no entry.
+    pub(crate) fn say(&mut self, sending: Sending)
+        requires { 0 < self.old.room }
+        ensures { self.new ≡ with_letter self.old sending }
+    {
+        self.room -= 1;
+        self.sends.push_reserved(sending);
     }
 
     // A letter, and the entry that it tells of.
@@ -53,6 +69,7 @@ impl Outgoing {
         requires { 0 < self.old.room }
         ensures { self.new ≡ with_answer self.old sending entry }
     {
+        self.room -= 1;
         self.sends.push_reserved(sending);
         self.entries.push_reserved(entry);
     }
@@ -62,7 +79,7 @@ impl Outgoing {
         ensures sends { result.0.items ≡ self.sends }
         ensures entries { result.1.items ≡ self.entries }
     {
-        let Outgoing { sends, entries } = self;
+        let Outgoing { sends, entries, .. } = self;
         (sends, entries)
     }
 }

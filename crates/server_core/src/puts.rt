@@ -1,48 +1,49 @@
 //! The letter Put, and what comes of a free unit.
 
-ghost use Rattle.std.specs.Prelude.{◌≡◌, ◌<◌, ℕ, ◌∷◌, [], true, All, OnOk, OnErr, Some, length};
-ghost use Rattle.server_core.specs.Out.{HasRoom, Out, going_on, made};
-ghost use Rattle.server_core.specs.Places.{place_at};
-ghost use Rattle.server_law.specs.Acts.{Act, Gives};
-ghost use Rattle.server_law.specs.Carried.{done};
-ghost use Rattle.server_law.specs.Finding.{Place};
-ghost use Rattle.server_law.specs.Puts.{expects_put, put_now, settles};
+ghost use Rattle.std.specs.Prelude.{◌≡◌, ◌<◌, ◌∷◌, [], true, IfOk, OnErr, OnOk, Some};
+ghost use Rattle.server_core.specs.Out.{HasRoom, Out, going_on, made, planned};
+ghost use Rattle.server_law.specs.Plan.{Plan};
+ghost use Rattle.server_law.specs.Puts.{expects_put, is_taken, put_now, put_rule, settles};
 ghost use Rattle.server_law.specs.State.{Kept, ServerModel};
-ghost use Rattle.work_queue.specs.Queue.{HasFree, id_of};
 
 use crate::outgoing::Outgoing;
 use crate::states::ServerState;
-use adlb_unit::{End, Message, NoMemory, Rank, Unit, UnitId};
+use adlb_unit::{Actor, End, Message, NoMemory, Rank, Unit, UnitId};
 use bag_ledger::Entry;
 use put_path::{PutStep, put};
 
 impl ServerState {
-    // The unit is taken, if there is room, and then goes to a rank that waits for it.
+    // The unit is taken, if there is room, and goes to a rank that waits for it; and then a push may begin.
     pub(crate) fn put(&mut self, from: Rank, unit: Unit, out: &mut Outgoing) -> Result<(), NoMemory>
         requires rank { from.0 < self.old.config.ranks }
         requires expected { expects_put self.old from unit ≡ true }
         requires fresh { self.old.kept.queue.arrivals < self.old.clock }
-        requires room { HasRoom self.old out.old 2 }
+        requires room { HasRoom self.old out.old 3 }
 
-        ensures ok { OnOk result (made self.new out.new ≡ going_on out.old (put_now self.old.kept unit ∷ settles unit.id (done (put_now self.old.kept unit) self.old)) self.old) }
+        ensures ok { OnOk result ((p : Plan) → put_rule self.old from unit ≡ Some p →
+            made self.new out.new ≡ planned out.old p self.old) }
         ensures room { OnOk result (HasRoom self.new out.new 1) }
         ensures err { OnErr result (self.new ≡ self.old) }
     {
         let id = unit.id;
-        self.answer_put(from, unit, out)?;
+        let taken = self.answer_put(from, unit, out)?;
         self.settle(id, out);
+        if taken {
+            self.press(out);
+        }
         Ok(())
     }
 
-    // The put is answered.
-    fn answer_put(&mut self, from: Rank, unit: Unit, out: &mut Outgoing) -> Result<(), NoMemory>
+    // The put is answered: whether it is accepted.
+    fn answer_put(&mut self, from: Rank, unit: Unit, out: &mut Outgoing) -> Result<bool, NoMemory>
         requires rank { from.0 < self.old.config.ranks }
         requires expected { expects_put self.old from unit ≡ true }
         requires fresh { self.old.kept.queue.arrivals < self.old.clock }
-        requires room { HasRoom self.old out.old 2 }
+        requires room { HasRoom self.old out.old 3 }
 
+        ensures taken { IfOk result (λ taken. taken ≡ is_taken self.old.kept unit) }
         ensures ok { OnOk result (made self.new out.new ≡ going_on out.old (put_now self.old.kept unit ∷ []) self.old) }
-        ensures room { OnOk result (HasRoom self.new out.new 1) }
+        ensures room { OnOk result (HasRoom self.new out.new 2) }
         ensures err { OnErr result (self.new ≡ self.old) }
     {
         let id = unit.id;
@@ -50,12 +51,18 @@ impl ServerState {
         let server = self.me;
         if self.done {
             self.end_call(from, request, End::NoMoreWork, out);
-            return Ok(());
+            return Ok(false);
         }
         match put(&mut self.queue, unit)? {
             PutStep::Accepted => {
                 let accepted = Entry::Accepted { server, id };
-                self.answer(from, Message::Accepted { request }, accepted, out);
+                self.answer(
+                    Actor::Rank(from),
+                    Message::Accepted { request },
+                    accepted,
+                    out,
+                );
+                Ok(true)
             }
             PutStep::Full { charge } => {
                 let refused = Entry::Refused {
@@ -63,40 +70,31 @@ impl ServerState {
                     id,
                     used: charge,
                 };
-                self.answer(from, Message::Full { request, charge }, refused, out);
+                self.answer(
+                    Actor::Rank(from),
+                    Message::Full { request, charge },
+                    refused,
+                    out,
+                );
+                Ok(false)
             }
         }
-        Ok(())
     }
 
-    // A free unit of this id, if one is here, goes to a rank that waits for it. The queue is not walked for nobody.
-    fn settle(&mut self, id: UnitId, out: &mut Outgoing)
-        requires { HasRoom self.old out.old 1 }
+    // A free unit of this id, if one is here, goes to a rank that waits for it; if there is none, the homes of ranks
+    // that wait elsewhere are told.
+    pub(crate) fn settle(&mut self, id: UnitId, out: &mut Outgoing)
+        requires { HasRoom self.old out.old 2 }
         ensures made { made self.new out.new ≡ going_on out.old (settles id self.old) self.old }
-        ensures room { HasRoom self.new out.new 1 }
+        ensures room { HasRoom self.new out.new 2 }
     {
-        if self.nobody_waits() {
-            return;
-        }
         if !self.queue.is_free(id) {
             return;
         }
         let (facts, target) = self.queue.facts(id);
-        if let Some(place) = self.taker(facts.kind, target) {
-            self.give(place, id, out);
+        match self.parked.offer(&mut self.queue, id) {
+            Some((rank, request, note)) => self.grant(rank, request, note, out),
+            None => self.hint_homes(facts.kind, target, out),
         }
-    }
-
-    // The free unit of this id is the rank's that waits at this place.
-    fn give(&mut self, place: usize, id: UnitId, out: &mut Outgoing)
-        requires place { place < length self.old.kept.parked.waiting }
-        requires free { HasFree id self.old.kept.queue.units }
-        requires room { HasRoom self.old out.old 1 }
-
-        ensures made { (p : Place) → place_at place self.old.kept.parked.waiting ≡ Some p → All (λ u. id_of u ≡ id → made self.new out.new ≡ going_on out.old (Gives p.at p.here.wish p.here.to_ask u.unit ∷ []) self.old) self.old.kept.queue.units }
-        ensures room { HasRoom self.new out.new 1 }
-    {
-        let taker = self.leave(place);
-        self.grant(taker.rank, taker.request, id, out);
     }
 }

@@ -1,69 +1,67 @@
-//! The letter Reserve.
+//! The letter Reserve, and how calls are answered by a unit or an end.
 
-ghost use Rattle.std.specs.Prelude.{◌≡◌, ◌<◌, ◌+◌, ℕ, ◌∷◌, [], true, All, List, Option};
-ghost use Rattle.adlb_unit.specs.declared.names.WorkType.{WorkType};
-ghost use Rattle.server_core.specs.Out.{HasPlaces, HasRoom, Out, going_on, made, with_answer};
-ghost use Rattle.server_law.specs.Acts.{Act, Grants, to_rank};
+ghost use Rattle.std.specs.Prelude.{◌≡◌, ◌<◌, ◌+◌, ℕ, Some, IsSome};
+ghost use Rattle.reserve_path.specs.declared.wishes.Wish.{Wish};
+ghost use Rattle.server_core.specs.Out.{HasPlaces, HasRoom, Out, made, planned, with_answer};
+ghost use Rattle.server_law.specs.Acts.{to_rank};
 ghost use Rattle.server_law.specs.Carried.{counted, posted};
-ghost use Rattle.server_law.specs.Reserves.{reserve_now};
-ghost use Rattle.server_law.specs.State.{Kept, ServerModel, runs_at_home};
-ghost use Rattle.work_queue.specs.Queue.{HasFree, id_of};
+ghost use Rattle.server_law.specs.Plan.{Plan};
+ghost use Rattle.server_law.specs.Reserves.{reserve_rule};
+ghost use Rattle.server_law.specs.State.{ServerModel};
 
 use crate::outgoing::Outgoing;
 use crate::states::ServerState;
-use crate::waiting::Waiting;
-use adlb_unit::{Actor, End, Message, Rank, UnitId, UnitNote};
+use adlb_unit::{Actor, End, Message, Rank, Types, UnitNote};
 use bag_ledger::Entry;
+use reserve_path::ReserveStep;
 
 impl ServerState {
-    // The rank gets the best free unit; if there is none, it waits.
-    pub(crate) fn reserve(&mut self, asks: Waiting, out: &mut Outgoing)
-        requires rank { asks.rank.0 < self.old.config.ranks }
-        requires expected { runs_at_home self.old asks.rank ≡ true }
-        requires room { HasRoom self.old out.old 2 }
+    // The rank gets the best free unit; if there is none, it waits, and the first of the other servers is asked.
+    pub(crate) fn reserve(&mut self, from: Rank, request: u64, types: &Types, out: &mut Outgoing)
+        requires rank { from.0 < self.old.config.ranks }
+        requires expected { IsSome (reserve_rule self.old (record { rank = from; request = request; types = types.now })) }
+        requires room { HasRoom self.old out.old 3 }
 
-        ensures made { made self.new out.new ≡ going_on out.old (reserve_now self.old.kept (record { rank = asks.rank; request = asks.request; types = asks.types }) ∷ []) self.old }
+        ensures made { (p : Plan) →
+            reserve_rule self.old (record { rank = from; request = request; types = types.now }) ≡ Some p →
+            made self.new out.new ≡ planned out.old p self.old }
         ensures room { HasRoom self.new out.new 1 }
     {
         if self.done {
-            self.end_call(asks.rank, asks.request, End::NoMoreWork, out);
-        } else if self.exhausted {
-            self.end_call(asks.rank, asks.request, End::Exhausted, out);
-        } else {
-            match self.queue.best(asks.rank, &asks.types) {
-                Some(id) => self.grant(asks.rank, asks.request, id, out),
-                None => self.park(asks),
-            }
+            return self.end_call(from, request, End::NoMoreWork, out);
+        }
+        if self.exhausted {
+            return self.end_call(from, request, End::Exhausted, out);
+        }
+        match self.parked.reserve(&mut self.queue, from, request, types) {
+            ReserveStep::Granted(note) => self.grant(from, request, note, out),
+            ReserveStep::Ask(to) => self.ask(to, from, request, out),
+            ReserveStep::Idle => {}
         }
     }
 
-    // The unit is the rank's.
-    pub(crate) fn grant(&mut self, rank: Rank, request: u64, id: UnitId, out: &mut Outgoing)
+    // The rank is told of the unit that was pinned to it here.
+    pub(crate) fn grant(&mut self, rank: Rank, request: u64, note: UnitNote, out: &mut Outgoing)
         requires rank { rank.0 < self.old.config.ranks }
-        requires free { HasFree id self.old.kept.queue.units }
         requires room { 0 < out.old.room }
         requires places { HasPlaces self.old out.old }
 
-        ensures made { (types : Option (List WorkType)) → All (λ p. id_of p ≡ id → made self.new out.new ≡ going_on out.old (Grants (record { rank = rank; request = request; types = types }) p.unit ∷ []) self.old) self.old.kept.queue.units }
+        ensures counted { self.new ≡ counted self.old (Actor.Rank rank) }
+        ensures told { out.new ≡ with_answer out.old (posted self.old (to_rank rank (Message.Grant request note))) (Entry.Granted self.old.me rank request note.id) }
         ensures room { (more : ℕ) → HasRoom self.old out.old (more + 1) → HasRoom self.new out.new more }
     {
-        let facts = self.queue.pin(id, rank);
-        let note = UnitNote {
-            id,
-            kind: facts.kind,
-            prio: facts.prio,
-            answer: facts.answer,
-            server: self.me,
-            common: facts.common,
-            length: facts.length,
-        };
         let granted = Entry::Granted {
             server: self.me,
             rank,
             call: request,
-            id,
+            id: note.id,
         };
-        self.answer(rank, Message::Grant { request, note }, granted, out);
+        self.answer(
+            Actor::Rank(rank),
+            Message::Grant { request, note },
+            granted,
+            out,
+        );
     }
 
     // The rank's call is answered by an end.
@@ -81,6 +79,11 @@ impl ServerState {
             call: request,
             end,
         };
-        self.answer(rank, Message::Ended { request, end }, over, out);
+        self.answer(
+            Actor::Rank(rank),
+            Message::Ended { request, end },
+            over,
+            out,
+        );
     }
 }

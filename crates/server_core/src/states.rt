@@ -3,17 +3,19 @@
 ghost use Rattle.std.specs.Prelude.{◌≡◌, ◌<◌, ◌+◌, ◌*◌, ◌≤◌, ℕ, ◌↔◌, length, map, All, IfOk, IsTrue};
 ghost use Rattle.adlb_unit.specs.Limits.{stamp_limit};
 ghost use Rattle.server_core.specs.Left.{left_of};
-ghost use Rattle.server_core.specs.Out.{event_letters, HasPlaces, HasRoom, Out, with_answer};
-ghost use Rattle.server_law.specs.Acts.{ServerSaying, to_rank};
+ghost use Rattle.server_core.specs.Out.{event_letters, HasPlaces, HasRoom, IsWithin, Out, with_answer, with_letter};
+ghost use Rattle.adlb_unit.specs.Links.{place_of};
+ghost use Rattle.server_law.specs.Acts.{ServerSaying};
 ghost use Rattle.server_law.specs.Carried.{counted, posted};
 ghost use Rattle.server_law.specs.State.{Kept, ServerModel, is_home, start};
 ghost use Rattle.server_law.specs.Step.{ticked};
 
 use crate::outgoing::Outgoing;
-use crate::waiting::Waiting;
 use adlb_unit::{Actor, Config, Letter, Message, NoMemory, Rank, Sending, Server, Trouble, UnitId};
 use bag_ledger::Entry;
 use batch_store::BatchStore;
+use put_path::PushState;
+use reserve_path::Parked;
 use std::alloc::Global;
 use std::marker::Model;
 use work_queue::WorkQueue;
@@ -34,8 +36,10 @@ pub struct ServerState {
     pub(crate) queue: WorkQueue,
     // The common parts of batches. Their bytes are charged to the queue.
     pub(crate) parts: BatchStore,
-    // The ranks that wait, in the order in which they came.
-    pub(crate) waiting: Vec<Waiting>,
+    // The ranks that wait, and what was not here for ranks that wait elsewhere.
+    pub(crate) parked: Parked,
+    // The push of this server.
+    pub(crate) pushes: PushState,
     pub(crate) finished: Vec<bool>,
     pub(crate) done: bool,
     pub(crate) exhausted: bool,
@@ -67,8 +71,8 @@ impl ServerState {
     {
         let ranks = config.ranks as usize;
         let actors = ranks + config.servers as usize;
-        let (Ok(waiting), Ok(finished), Ok(sent)) = (
-            Vec::with_capacity(alloc, ranks),
+        let (Ok(parked), Ok(finished), Ok(sent)) = (
+            Parked::new(alloc, config, me),
             vec![in alloc; false; ranks],
             vec![in alloc; 0; actors],
         ) else {
@@ -79,7 +83,8 @@ impl ServerState {
             me,
             queue: WorkQueue::new(alloc, config.limit),
             parts: BatchStore::new(alloc),
-            waiting,
+            parked,
+            pushes: PushState::new(config, me),
             finished,
             done: false,
             exhausted: false,
@@ -145,17 +150,25 @@ impl ServerState {
         self.activity += 1;
     }
 
-    // Sends the rank a letter, and enters what it tells of.
-    pub(crate) fn answer(&mut self, to: Rank, message: Message, entry: Entry, out: &mut Outgoing)
-        requires rank { to.0 < self.old.config.ranks }
-        requires room { 0 < out.old.room }
-        requires places { HasPlaces self.old out.old }
-
-        ensures counted { self.new ≡ counted self.old (Actor.Rank to) }
-        ensures told { out.new ≡ with_answer out.old (posted self.old (to_rank to message)) entry }
-        ensures room { (more : ℕ) → HasRoom self.old out.old (more + 1) → HasRoom self.new out.new more }
+    // The place of an actor among all: the ranks before the servers.
+    fn place_of(&self, actor: Actor) -> usize
+        ensures { result ≡ place_of self.now.config actor }
     {
-        let at = to.0 as usize;
+        match actor {
+            Actor::Rank(rank) => rank.0 as usize,
+            Actor::Server(server) => self.config.ranks as usize + server.0 as usize,
+        }
+    }
+
+    // The next letter to the actor.
+    fn post(&mut self, to: Actor, message: Message) -> Sending
+        requires actor { IsWithin self.old.config to }
+        requires places { All (λ n. n + 1 ≤ event_letters * self.old.clock) self.old.sent }
+
+        ensures counted { self.new ≡ counted self.old to }
+        ensures posted { result ≡ posted self.old (record { to = to; message = message }) }
+    {
+        let at = self.place_of(to);
         let place = self.sent[at];
         self.sent[at] = place + 1;
         let letter = Letter {
@@ -163,12 +176,34 @@ impl ServerState {
             place,
             message,
         };
-        out.answer(
-            Sending {
-                to: Actor::Rank(to),
-                letter,
-            },
-            entry,
-        );
+        Sending { to, letter }
+    }
+
+    // Sends the actor a letter that tells of no entry.
+    pub(crate) fn say(&mut self, to: Actor, message: Message, out: &mut Outgoing)
+        requires actor { IsWithin self.old.config to }
+        requires room { 0 < out.old.room }
+        requires places { HasPlaces self.old out.old }
+
+        ensures counted { self.new ≡ counted self.old to }
+        ensures told { out.new ≡ with_letter out.old (posted self.old (record { to = to; message = message })) }
+        ensures room { (more : ℕ) → HasRoom self.old out.old (more + 1) → HasRoom self.new out.new more }
+    {
+        let sending = self.post(to, message);
+        out.say(sending);
+    }
+
+    // Sends the actor a letter, and enters what it tells of.
+    pub(crate) fn answer(&mut self, to: Actor, message: Message, entry: Entry, out: &mut Outgoing)
+        requires actor { IsWithin self.old.config to }
+        requires room { 0 < out.old.room }
+        requires places { HasPlaces self.old out.old }
+
+        ensures counted { self.new ≡ counted self.old to }
+        ensures told { out.new ≡ with_answer out.old (posted self.old (record { to = to; message = message })) entry }
+        ensures room { (more : ℕ) → HasRoom self.old out.old (more + 1) → HasRoom self.new out.new more }
+    {
+        let sending = self.post(to, message);
+        out.answer(sending, entry);
     }
 }

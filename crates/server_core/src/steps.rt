@@ -1,18 +1,17 @@
 //! One step of a server.
 
-ghost use Rattle.std.specs.Prelude.{◌≡◌, ◌≤◌, ◌<◌, ℕ, ◌↔◌, ◌∷◌, None, Some, Err, IsSome, IfOk, IfErr, OnOk, OnErr, slice_set, true, if◌then◌else◌};
+ghost use Rattle.std.specs.Prelude.{◌≡◌, ◌≢◌, ◌≤◌, ◌<◌, ℕ, ◌↔◌, None, Some, Err, IsSome, IfOk, IfErr, IfSome, OnOk, OnErr};
 ghost use Rattle.std.specs.Option.{option_map};
 ghost use Rattle.adlb_unit.specs.Limits.{stamp_limit};
-ghost use Rattle.server_core.specs.Out.{HasRoom, Out, going_on, made};
-ghost use Rattle.server_law.specs.Carried.{done};
-ghost use Rattle.server_law.specs.Plan.{Plan, decided};
+ghost use Rattle.server_core.specs.Failing.{finishing, with_finished};
+ghost use Rattle.server_core.specs.Out.{HasRoom, IsWithin, Out, going_on, made, planned};
+ghost use Rattle.server_law.specs.Plan.{Plan};
 ghost use Rattle.server_law.specs.State.{Kept, ServerModel};
-ghost use Rattle.server_law.specs.Step.{acts, heard_finish, next_stamp, rule, serve};
+ghost use Rattle.server_law.specs.Step.{acts, heard_finish, next_stamp, rank_rule, rule, serve, server_rule};
 
 use crate::outgoing::Outgoing;
 use crate::states::ServerState;
-use crate::waiting::Waiting;
-use adlb_unit::{Actor, Letter, Message, NoMemory, Rank, STAMP_LIMIT, Sending, Trouble};
+use adlb_unit::{Actor, Letter, Message, NoMemory, Rank, STAMP_LIMIT, Sending, Server, Trouble};
 use bag_ledger::Entry;
 
 /// What a step gave: its stamp, the letters that go out, and the entries for the ledger, each in order.
@@ -31,29 +30,31 @@ impl ServerState {
         requires whole { self.old.trouble ≡ None }
         requires expected { IsSome (serve self.old from letter) }
 
-        ensures served { IfOk result (λ step. serve self.old from letter ≡ Some (record { state = self.new; sends = step.sends.items; entries = step.entries.items })) }
+        ensures served { IfOk result (λ step. serve self.old from letter ≡
+            Some (record { state = self.new; sends = step.sends.items; entries = step.entries.items })) }
         ensures stamp { IfOk result (λ step. step.stamp ≡ next_stamp self.old letter) }
-        ensures too_long { (n : ℕ) → (result ≡ Err (Trouble.TooLong n)) ↔ ((stamp_limit ≤ next_stamp self.old letter) × (n ≡ next_stamp self.old letter)) }
+        ensures too_long { (n : ℕ) → (result ≡ Err (Trouble.TooLong n)) ↔
+            ((stamp_limit ≤ next_stamp self.old letter) × (n ≡ next_stamp self.old letter)) }
 
         // What stands after a failure.
         ensures broken { IfErr result (λ trouble. self.new.trouble ≡ Some trouble) }
-        ensures heard { IfErr result (λ trouble. self.new.kept.finished ≡ heard_finish self.old.kept.finished from letter.message) }
+        ensures heard { IfErr result (λ trouble. self.new.kept.finished ≡
+            heard_finish self.old.kept.finished from letter.message) }
     {
-        let Actor::Rank(from) = from else {
-            unreachable!()
-        };
-        let finishes = matches!(letter.message, Message::Finish);
+        let finishes = finishing(from, &letter.message);
         let stamp = self.clock.max(letter.stamp) + 1;
         if stamp >= STAMP_LIMIT {
-            return Err(self.fail(from, finishes, Trouble::TooLong { stamp }));
+            return Err(self.fail(finishes, Trouble::TooLong { stamp }));
         }
-        // An event answers its letter, frees a part, finds exhaustion, and answers each rank that waits.
-        let Ok(mut out) = Outgoing::new(self.alloc, self.waiting.len() + 3) else {
-            return Err(self.fail(from, finishes, Trouble::Memory));
+        // An event answers its letter, or enters that a unit has come; asks a server, frees a part, or says what a push
+        // needs; and finds exhaustion. It answers each rank that waits, or hints for each wish.
+        let (waiting, wishes) = self.parked.counts();
+        let Ok(mut out) = Outgoing::new(self.alloc, waiting + wishes + 3) else {
+            return Err(self.fail(finishes, Trouble::Memory));
         };
         self.tick(stamp);
         if self.handle(from, letter.message, &mut out).is_err() {
-            return Err(self.fail(from, finishes, Trouble::Memory));
+            return Err(self.fail(finishes, Trouble::Memory));
         }
         let (sends, entries) = out.parts();
         Ok(Step {
@@ -64,41 +65,45 @@ impl ServerState {
     }
 
     // Handles what a letter says, and then what follows the event.
-    fn handle(&mut self, from: Rank, message: Message, out: &mut Outgoing) -> Result<(), NoMemory>
-        requires rank { from.0 < self.old.config.ranks }
-        requires expected { IsSome (rule self.old (Actor.Rank from) message) }
+    fn handle(&mut self, from: Actor, message: Message, out: &mut Outgoing) -> Result<(), NoMemory>
+        requires actor { IsWithin self.old.config from }
+        requires expected { IsSome (rule self.old from message) }
         requires fresh { self.old.kept.queue.arrivals < self.old.clock }
         requires room { HasRoom self.old out.old 3 }
 
-        ensures ok { OnOk result (option_map (λ list. going_on out.old list self.old) (acts self.old (Actor.Rank from) message) ≡ Some (made self.new out.new)) }
+        ensures ok { OnOk result (option_map (λ list. going_on out.old list self.old) (acts self.old from message) ≡
+            Some (made self.new out.new)) }
         ensures err { OnErr result (self.new ≡ self.old) }
     {
-        self.follow(from, message, out)?;
-        self.end_event(out);
-        Ok(())
+        match from {
+            Actor::Rank(from) => {
+                self.follow(from, message, out)?;
+                self.end_event(out);
+                Ok(())
+            }
+            Actor::Server(from) => {
+                self.follow_server(from, message, out)?;
+                self.end_event(out);
+                Ok(())
+            }
+        }
     }
 
-    // Does what the rule of the letter says.
+    // Does what the rule of a rank's letter says.
     fn follow(&mut self, from: Rank, message: Message, out: &mut Outgoing) -> Result<(), NoMemory>
         requires rank { from.0 < self.old.config.ranks }
-        requires expected { IsSome (rule self.old (Actor.Rank from) message) }
+        requires expected { IsSome (rank_rule self.old from message) }
         requires fresh { self.old.kept.queue.arrivals < self.old.clock }
         requires room { HasRoom self.old out.old 3 }
 
-        ensures ok { OnOk result ((p : Plan) → rule self.old (Actor.Rank from) message ≡ Some p → made self.new out.new ≡ going_on out.old (p.first ∷ decided p.follow (done p.first self.old)) self.old) }
+        ensures ok { OnOk result ((p : Plan) → rank_rule self.old from message ≡ Some p →
+            made self.new out.new ≡ planned out.old p self.old) }
         ensures room { OnOk result (HasRoom self.new out.new 1) }
         ensures err { OnErr result (self.new ≡ self.old) }
     {
         match message {
             Message::Put { unit } => self.put(from, unit, out),
-            Message::Reserve { request, types } => {
-                let asks = Waiting {
-                    rank: from,
-                    request,
-                    types,
-                };
-                Ok(self.reserve(asks, out))
-            }
+            Message::Reserve { request, types } => Ok(self.reserve(from, request, &types, out)),
             Message::Try { request, types } => Ok(self.look(from, request, &types, out)),
             Message::Fetch { request, id } => Ok(self.fetch(from, request, id, out)),
             Message::KeepCommon { request, common } => self.keep(from, request, common, out),
@@ -114,17 +119,68 @@ impl ServerState {
         }
     }
 
+    // Does what the rule of another server's letter says.
+    fn follow_server(
+        &mut self,
+        from: Server,
+        message: Message,
+        out: &mut Outgoing,
+    ) -> Result<(), NoMemory>
+        requires server { from.0 < self.old.config.servers }
+        requires other { from ≢ self.old.me }
+        requires expected { IsSome (server_rule self.old from message) }
+        requires fresh { self.old.kept.queue.arrivals < self.old.clock }
+        requires room { HasRoom self.old out.old 3 }
+
+        ensures ok { OnOk result ((p : Plan) → server_rule self.old from message ≡ Some p →
+            made self.new out.new ≡ planned out.old p self.old) }
+        ensures room { OnOk result (HasRoom self.new out.new 1) }
+        ensures err { OnErr result (self.new ≡ self.old) }
+    {
+        match message {
+            Message::Ask {
+                rank,
+                request,
+                types,
+            } => Ok(self.ask_here(from, rank, request, &types, out)),
+            Message::AskGrant {
+                rank,
+                request,
+                note,
+            } => Ok(self.pass_on(from, rank, request, note, out)),
+            Message::AskNone { rank, request } => Ok(self.ask_again(from, rank, request, out)),
+            Message::Hint { rank, request } => Ok(self.hear_hint(from, rank, request, out)),
+            Message::PushQuery { id, length } => self.hear_query(from, id, length, out),
+            Message::PushYes { id } => Ok(self.hear_yes(from, id, out)),
+            Message::PushNo { .. } => Ok(self.hear_no()),
+            Message::PushUnit { unit } => Ok(self.hear_unit(from, unit, out)),
+            Message::PushCancel { id } => Ok(self.hear_cancel(from, id, out)),
+            Message::PushAck { .. } => Ok(self.hear_ack()),
+            _ => unreachable!(),
+        }
+    }
+
     // The server is broken. A Finish letter counts as handled.
-    fn fail(&mut self, from: Rank, finishes: bool, trouble: Trouble) -> Trouble
-        requires { from.0 < self.old.config.ranks }
+    fn fail(&mut self, finishes: Option<Rank>, trouble: Trouble) -> Trouble
+        requires { IfSome finishes (λ rank. rank.0 < self.old.config.ranks) }
         ensures trouble { self.new.trouble ≡ Some trouble }
-        ensures heard { self.new.kept.finished ≡ (if finishes then slice_set self.old.kept.finished from.0 true else self.old.kept.finished) }
+        ensures heard { self.new.kept.finished ≡ with_finished self.old.kept.finished finishes }
         ensures result { result ≡ trouble }
     {
-        if finishes {
-            self.finished[from.0 as usize] = true;
+        if let Some(rank) = finishes {
+            self.finished[rank.0 as usize] = true;
         }
         self.trouble = Some(trouble);
         trouble
+    }
+}
+
+// The rank of which this is the Finish letter.
+fn finishing(from: Actor, message: &Message) -> Option<Rank>
+    ensures { result ≡ finishing from message.now }
+{
+    match (from, message) {
+        (Actor::Rank(rank), Message::Finish) => Some(rank),
+        _ => None,
     }
 }

@@ -1,5 +1,5 @@
 -- The best unit for a wish: what it is, and what it says that there is none.
-use Rattle.std.proofs.Common.{◌≡◌, true, false, List, get_or, Option, Some, None, is_some, refl, sym, ap, ◌∙◌, All, Contains}
+use Rattle.std.proofs.Common.{◌≡◌, ◌⊎◌, inl, inr, true, false, List, get_or, Option, Some, None, is_some, refl, sym, ap, ◌∙◌, All, Contains}
 use Rattle.std.specs.Prelude.{option_and_then, is_none}
 use Rattle.std.proofs.lemmas.Bool.{and_parts, false_from_ne_true}
 use Rattle.std.proofs.lemmas.List.{get_or_default}
@@ -8,6 +8,7 @@ use Rattle.adlb_unit.specs.declared.names.Rank.{Rank}
 use Rattle.adlb_unit.specs.declared.names.UnitId.{UnitId}
 use Rattle.adlb_unit.specs.declared.names.WorkType.{WorkType}
 use Rattle.adlb_unit.specs.Permit.{permitted}
+use Rattle.adlb_unit.specs.declared.units.Unit.{Unit as Work}
 use Rattle.bag_ledger.proofs.Tests.{some_is}
 use Rattle.work_queue.proofs.Firsts.{best_is, none_offered}
 use Rattle.work_queue.proofs.Named.{find_listed, find_nothing}
@@ -16,9 +17,12 @@ use Rattle.work_queue.specs.Best.{best_from, best_of, offered, rated_id}
 use Rattle.work_queue.specs.Queue.{HasDistinctIds, id_of}
 use Rattle.work_queue.specs.declared.placing.Placed.{Placed}
 use Rattle.work_queue.specs.declared.rating.Rated.{Rated}
-use Rattle.server_law.specs.Finding.{best_for, unit_with}
-use Rattle.server_law.specs.State.{Kept, Wish}
-use Rattle.server_law.proofs.ByIds.{listed_is_found}
+use Rattle.reserve_path.specs.Grants.{unit_with}
+use Rattle.server_law.specs.Finding.{best_for}
+use Rattle.reserve_path.specs.declared.wishes.Wish.{Wish}
+use Rattle.server_law.specs.State.{Kept}
+use Rattle.server_law.specs.Sure.{IsFound, IsFreeFor}
+use Rattle.server_law.proofs.ByIds.{free_is_found, listed_is_found}
 
 -- the best unit stands in the list, and is free and permitted
 best_stands : (rank : Rank) (types : Option (List WorkType)) (units : List Placed) (id : UnitId) → best_of rank types units ≡ Some id
@@ -55,6 +59,23 @@ best_is_fit k wish p distinct is = by_id (best_of wish.rank wish.types k.queue.u
         let may : offered wish.rank wish.types p ≡ true = rw (← same) q.3 in
         let parts = and_parts (is_none p.pin) (permitted wish.rank wish.types p.unit.kind p.unit.target) may in
         record { found = ap (λ k. unit_with k units) at.1 ∙ is; free = free_is p.pin parts.0; permits = parts.1 }
+
+-- so is one that is given to a rank that waits
+pub given_fits : (k : Kept) (wish : Wish) (unit : Work) → HasDistinctIds k.queue.units
+    → IsFreeFor k unit wish ⊎ IsFound (best_for k wish) unit
+    → (p : Placed) × IsFit wish k.queue.units p × (p.unit ≡ unit)
+given_fits k wish unit distinct (inl free) =
+    let found = free.0 in
+    let at = free_is_found k.queue.units unit.id found.0 distinct found.1 in (
+      found.0,
+      record {
+        found = ap (λ (u : Work). unit_with u.id k.queue.units) found.2 ∙ at.0;
+        free = at.1;
+        permits = rw found.2 free.1;
+      },
+      found.2,
+    )
+given_fits k wish unit distinct (inr best) = (best.0, best_is_fit k wish best.0 distinct best.1, best.2)
 
 -- where there is none, no unit is free and permitted
 pub nothing_fits : (k : Kept) (wish : Wish) → is_some (best_for k wish) ≡ false

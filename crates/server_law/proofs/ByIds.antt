@@ -11,7 +11,8 @@ use Rattle.work_queue.proofs.Offers.{free_is}
 use Rattle.work_queue.proofs.Searched.{find_first}
 use Rattle.work_queue.specs.Queue.{HasDistinctIds, id_of}
 use Rattle.work_queue.specs.declared.placing.Placed.{Placed}
-use Rattle.server_law.specs.Finding.{is_free_as, is_pin, is_pinned_as, unit_with}
+use Rattle.reserve_path.specs.Grants.{unit_with}
+use Rattle.server_law.specs.Finding.{is_free_as, is_pin, is_pinned_as}
 
 -- a unit that stands in the list is the one that its id finds
 pub listed_is_found : (units : List Placed) (p : Placed) (id : UnitId) → HasDistinctIds units → Contains units p → id_of p ≡ id

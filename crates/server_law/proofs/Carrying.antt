@@ -1,5 +1,5 @@
 -- What acts make of a server, one after the other.
-use Rattle.std.proofs.Common.{◌≡◌, ◌<◌, ℕ, true, List, [], ◌∷◌, ◌++◌, find, Option, Some, refl, sym, ap, ◌∙◌, append_assoc}
+use Rattle.std.proofs.Common.{◌≡◌, ◌<◌, ◌==◌, ℕ, true, false, List, [], ◌∷◌, ◌++◌, find, Option, Some, None, refl, sym, ap, ◌∙◌, append_assoc}
 use Rattle.std.specs.Option.{option_map}
 use Rattle.std.proofs.lemmas.Bool.{lt-ltb}
 use Rattle.std.proofs.lemmas.List.{append-nil}
@@ -11,18 +11,29 @@ use Rattle.adlb_unit.specs.declared.letters.Letter.{Letter}
 use Rattle.adlb_unit.specs.declared.messages.Message.{Message}
 use Rattle.adlb_unit.specs.declared.messages.Message.TheVariants as tells
 use Rattle.adlb_unit.specs.declared.names.Rank.{Rank}
+use Rattle.adlb_unit.specs.declared.names.Server.{Server}
 use Rattle.adlb_unit.specs.declared.names.UnitId.{UnitId}
+use Rattle.adlb_unit.specs.declared.notes.UnitNote.{UnitNote}
 use Rattle.adlb_unit.specs.declared.units.Unit.{Unit as Work}
 use Rattle.work_queue.specs.declared.placing.Placed.{Placed}
-use Rattle.server_law.specs.Acts.{Act, Fetches, Notes_finish, ServerSaying, entries}
+use Rattle.server_law.specs.Acts.{Act, Arrives, Drops_hint, Ends_push, Fetches, Is_hinted, Notes_finish, Passes_on, ServerSaying, Stops_push, Wakes, Withdraws, entries}
+use Rattle.server_law.specs.Asks.{answer_now, expects_ask}
 use Rattle.server_law.specs.Carried.{Served, all_counted, all_done, carried, counted, done, joined, posted, sends, stamped}
 use Rattle.server_law.specs.Endings.{ends_event}
-use Rattle.server_law.specs.Finding.{is_pinned_as}
+use Rattle.server_law.specs.Finding.{Place, exceeds, has_asked, has_promise, is_free_as, is_pinned_as, place_in}
+use Rattle.server_law.specs.Hints.{expects_hint}
 use Rattle.server_law.specs.Plan.{Decider, Plan, decided, in_order, plan}
-use Rattle.server_law.specs.Puts.{expects_put, put_now, settles}
+use Rattle.put_path.specs.Pushes.{asks_room, has_sent}
+use Rattle.put_path.proofs.StandingPushes.{push_from}
+use Rattle.server_law.specs.Presses.{presses}
+use Rattle.server_law.specs.Pushes.{acks, answer_query, expects_query, expects_unit, sends as sends_on}
+use Rattle.server_law.specs.Puts.{expects_put, is_taken, put_now, settles}
 use Rattle.server_law.specs.Reserves.{reserve_now}
-use Rattle.server_law.specs.State.{ServerModel, Wish, runs, runs_at_home}
+use Rattle.reserve_path.specs.Calls.{is_since}
+use Rattle.reserve_path.specs.declared.wishes.Wish.{Wish}
+use Rattle.server_law.specs.State.{ServerModel, runs, runs_at_home}
 use Rattle.server_law.specs.Step.{acts, next_stamp, rule, serve, ticked}
+use Rattle.server_law.specs.Waits.{asks_on, looks_again}
 
 -- Letters.
 
@@ -110,15 +121,17 @@ handled_by s from message first follow is =
 
 pub put_handled : (s : ServerModel) (from : Rank) (unit : Work) → expects_put s from unit ≡ true
     → handled s (by.Rank from) (tells.Put unit)
-    ≡ Some (followed_by (performed (put_now s.kept unit) s) (settles unit.id ∷ ends_event ∷ []))
+    ≡ Some (followed_by (performed (put_now s.kept unit) s) (settles unit.id ∷ presses (is_taken s.kept unit) ∷ ends_event ∷ []))
 put_handled s from unit expected =
-    handled_by s (by.Rank from) (tells.Put unit) (put_now s.kept unit) (settles unit.id ∷ []) (rw expected refl)
+    handled_by s (by.Rank from) (tells.Put unit) (put_now s.kept unit)
+    (settles unit.id ∷ presses (is_taken s.kept unit) ∷ []) (rw expected refl)
 
 pub reserve_handled : (s : ServerModel) (wish : Wish) → runs_at_home s wish.rank ≡ true
     → handled s (by.Rank wish.rank) (tells.Reserve wish.request wish.types)
-    ≡ Some (followed_by (performed (reserve_now s.kept wish) s) (ends_event ∷ []))
+    ≡ Some (followed_by (performed (reserve_now s.kept wish) s) (asks_on wish.rank ∷ ends_event ∷ []))
 reserve_handled s wish expected =
-    handled_by s (by.Rank wish.rank) (tells.Reserve wish.request wish.types) (reserve_now s.kept wish) [] (rw expected refl)
+    handled_by s (by.Rank wish.rank) (tells.Reserve wish.request wish.types) (reserve_now s.kept wish) (asks_on wish.rank ∷ [])
+    (rw expected refl)
 
 pub fetch_handled : (s : ServerModel) (from : Rank) (request : ℕ) (id : UnitId) (p : Placed)
     → find (is_pinned_as id from) s.kept.queue.units ≡ Some p
@@ -130,3 +143,82 @@ fetch_handled s from request id p found =
 pub finish_handled : (s : ServerModel) (from : Rank) → runs s.kept from ≡ true
     → handled s (by.Rank from) tells.Finish ≡ Some (followed_by (performed (Notes_finish from) s) (ends_event ∷ []))
 finish_handled s from expected = handled_by s (by.Rank from) tells.Finish (Notes_finish from) [] (rw expected refl)
+
+-- Letters of another server.
+
+pub ask_handled : (s : ServerModel) (from : Server) (wish : Wish) → (from.0 == s.me.0) ≡ false → expects_ask s from wish.rank ≡ true
+    → handled s (by.Server from) (tells.Ask wish.rank wish.request wish.types)
+    ≡ Some (followed_by (performed (answer_now s.kept from wish) s) (ends_event ∷ []))
+ask_handled s from wish other expected =
+    handled_by s (by.Server from) (tells.Ask wish.rank wish.request wish.types) (answer_now s.kept from wish) []
+    (rw (other, expected) refl)
+
+-- where the sender was asked for the rank that waits here since this call
+module _ (s : ServerModel) (from : Server) (rank : Rank) (request : ℕ) (p : Place) (other : (from.0 == s.me.0) ≡ false)
+    (found : place_in (has_asked from rank request) s.kept.parked.waiting ≡ Some p) (asked : p.here.asked ≡ Some from) where
+  pub grant_handled : (note : UnitNote) → handled s (by.Server from) (tells.AskGrant rank request note)
+      ≡ Some (followed_by (performed (Passes_on p.at p.here.wish from p.here.to_ask note) s) (ends_event ∷ []))
+  grant_handled note =
+      handled_by s (by.Server from) (tells.AskGrant rank request note) (Passes_on p.at p.here.wish from p.here.to_ask note) []
+      (rw (other, found, asked) refl)
+
+  pub none_handled : handled s (by.Server from) (tells.AskNone rank request)
+      ≡ Some (followed_by (performed (Wakes p.at p.here.wish from p.here.to_ask) s)
+      (looks_again p.here.wish.rank ∷ asks_on p.here.wish.rank ∷ ends_event ∷ []))
+  none_handled =
+      handled_by s (by.Server from) (tells.AskNone rank request) (Wakes p.at p.here.wish from p.here.to_ask)
+      (looks_again p.here.wish.rank ∷ asks_on p.here.wish.rank ∷ []) (rw (other, found, asked) refl)
+
+module _ (s : ServerModel) (from : Server) (rank : Rank) (request : ℕ) (other : (from.0 == s.me.0) ≡ false)
+    (expected : expects_hint s rank ≡ true) where
+  pub hint_handled : (p : Place) → place_in (is_since rank request) s.kept.parked.waiting ≡ Some p
+      → handled s (by.Server from) (tells.Hint rank request)
+      ≡ Some (followed_by (performed (Is_hinted p.at p.here from) s) (asks_on p.here.wish.rank ∷ ends_event ∷ []))
+  hint_handled p found =
+      handled_by s (by.Server from) (tells.Hint rank request) (Is_hinted p.at p.here from) (asks_on p.here.wish.rank ∷ [])
+      (rw (other, expected, found) refl)
+
+  pub late_hint_handled : place_in (is_since rank request) s.kept.parked.waiting ≡ None
+      → handled s (by.Server from) (tells.Hint rank request)
+      ≡ Some (followed_by (performed (Drops_hint from rank request) s) (ends_event ∷ []))
+  late_hint_handled found =
+      handled_by s (by.Server from) (tells.Hint rank request) (Drops_hint from rank request) [] (rw (other, expected, found) refl)
+
+-- Pushes.
+
+module _ (s : ServerModel) (from : Server) (id : UnitId) (other : (from.0 == s.me.0) ≡ false) where
+  pub query_handled : (n : ℕ) → expects_query s.kept id ≡ true
+      → handled s (by.Server from) (tells.PushQuery id n)
+      ≡ Some (followed_by (performed (answer_query (exceeds s.kept.queue n) from id n) s) (ends_event ∷ []))
+  query_handled n expected =
+      handled_by s (by.Server from) (tells.PushQuery id n) (answer_query (exceeds s.kept.queue n) from id n) [] (rw (other, expected) refl)
+
+  -- where this server's push stands
+  pub yes_handled : (n : ℕ) → s.kept.pushing.push ≡ Some (asks_room from id n)
+      → handled s (by.Server from) (tells.PushYes id)
+      ≡ Some (followed_by (performed (sends_on from id n (find (is_free_as id) s.kept.queue.units)) s) (ends_event ∷ []))
+  yes_handled n stands =
+      handled_by s (by.Server from) (tells.PushYes id) (sends_on from id n (find (is_free_as id) s.kept.queue.units)) []
+      (rw (other, stands, push_from from id n false) refl)
+
+  pub no_handled : (n : ℕ) → s.kept.pushing.push ≡ Some (asks_room from id n)
+      → handled s (by.Server from) (tells.PushNo id) ≡ Some (followed_by (performed (Stops_push from id n) s) (ends_event ∷ []))
+  no_handled n stands =
+      handled_by s (by.Server from) (tells.PushNo id) (Stops_push from id n) [] (rw (other, stands, push_from from id n false) refl)
+
+  pub ack_handled : (n : ℕ) → s.kept.pushing.push ≡ Some (has_sent from id n)
+      → handled s (by.Server from) (tells.PushAck id) ≡ Some (followed_by (performed (Ends_push from id n) s) (ends_event ∷ []))
+  ack_handled n stands =
+      handled_by s (by.Server from) (tells.PushAck id) (Ends_push from id n) [] (rw (other, stands, push_from from id n true) refl)
+
+  -- where room was promised here
+  pub cancel_handled : has_promise id s.kept.queue.promises ≡ true
+      → handled s (by.Server from) (tells.PushCancel id) ≡ Some (followed_by (performed (Withdraws from id) s) (ends_event ∷ []))
+  cancel_handled expected =
+      handled_by s (by.Server from) (tells.PushCancel id) (Withdraws from id) [] (rw (other, expected) refl)
+
+pub unit_handled : (s : ServerModel) (from : Server) (unit : Work) → (from.0 == s.me.0) ≡ false → expects_unit s.kept unit ≡ true
+    → handled s (by.Server from) (tells.PushUnit unit)
+    ≡ Some (followed_by (performed (Arrives from unit) s) (settles unit.id ∷ acks ∷ ends_event ∷ []))
+unit_handled s from unit other expected =
+    handled_by s (by.Server from) (tells.PushUnit unit) (Arrives from unit) (settles unit.id ∷ acks ∷ []) (rw (other, expected) refl)

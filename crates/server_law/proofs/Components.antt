@@ -6,7 +6,7 @@ use Rattle.std.proofs.lemmas.List.Folds.{find-append}
 use Rattle.adlb_unit.proofs.Same.{same_batch_from, same_batch_is}
 use Rattle.bag_ledger.proofs.Lookups.{find_changed, find_other}
 use Rattle.batch_store.specs.Store.{Store, part_in}
-use Rattle.adlb_unit.specs.Ids.{same_batch, same_unit}
+use Rattle.adlb_unit.specs.Ids.{same_batch}
 use Rattle.adlb_unit.specs.declared.names.BatchId.{BatchId}
 use Rattle.adlb_unit.specs.declared.names.CommonRef.{CommonRef}
 use Rattle.adlb_unit.specs.declared.names.Server.{Server}
@@ -16,12 +16,13 @@ use Rattle.bag_ledger.specs.Bag.{Bag, part_charge, promise_charge}
 use Rattle.bag_ledger.specs.declared.states.Part.{Part}
 use Rattle.bag_ledger.specs.declared.states.Placed.{Placed as Lodged}
 use Rattle.bag_ledger.specs.declared.states.Promise.{Promise as Room}
-use Rattle.adlb_unit.specs.declared.names.UnitId.{UnitId}
 use Rattle.std.specs.Prelude.{find, option_and_then}
 use Rattle.work_queue.specs.declared.placing.Placed.{Placed}
-use Rattle.server_law.specs.Agreement.{HoldsUnits, ServerAgrees, StartAgrees, of_batch, part_at, room_at, room_for}
+use Rattle.server_law.specs.Agreement.{HoldsUnits, ServerAgrees, StartAgrees, of_batch, part_at}
+use Rattle.work_queue.specs.Queue.{HasDistinctPromises, Promise, promised}
 use Rattle.server_law.specs.Legal.{IsOpen}
 use Rattle.server_law.specs.State.{ServerModel}
+use Rattle.server_law.proofs.Rooms.{AreRooms}
 
 -- the units of both
 abbrev pub with_units : List Placed → ℕ → ServerModel → ServerModel
@@ -166,28 +167,32 @@ shared_agrees b s (Some c) is_open m =
     g : Part → Part
     g p = record p { accepted = p.accepted + 1 }
 
--- the promises of the bag
+-- the promises of both
+abbrev pub with_rooms : List Promise → ServerModel → ServerModel
+with_rooms promises s = record s { kept = record s.kept { queue = record s.kept.queue { promises = promises } } }
 
-abbrev pub HoldsRooms : List Room → ServerModel → Type 0
-HoldsRooms rooms s =
-    (id : UnitId) → room_for id s.kept.queue.promises ≡ option_and_then (room_at s.me) (find (λ (p : Room). same_unit p.id id) rooms)
-
-pub promises_agree : (b : Bag) (s : ServerModel) (rooms : List Room) → ServerAgrees b s → HoldsRooms rooms s
-    → sum_by (promise_charge s.me) rooms ≡ sum_by (promise_charge s.me) b.promises → ServerAgrees (record b { promises = rooms }) s
-promises_agree b s rooms m holds same = record {
+pub rooms_agree : (b : Bag) (s : ServerModel) (rooms : List Room) (promises : List Promise) → ServerAgrees b s
+    → AreRooms rooms s.me promises → sum_by (promise_charge s.me) rooms ≡ sum_by promised promises → HasDistinctPromises promises
+    → ServerAgrees (record b { promises = rooms }) (with_rooms promises s)
+rooms_agree b s rooms promises m are sum single = record {
   servers = m.servers;
   within = m.within;
   limit = m.limit;
   units = m.units;
-  promises = holds;
-  room = same ∙ m.room;
-  single = m.single;
+  promises = are;
+  room = sum;
+  single = single;
   parts = m.parts;
   common = m.common;
   done = m.done;
   exhausted = m.exhausted;
   found = m.found;
 }
+
+-- where those of the server stay
+pub promises_agree : (b : Bag) (s : ServerModel) (rooms : List Room) → ServerAgrees b s → AreRooms rooms s.me s.kept.queue.promises
+    → sum_by (promise_charge s.me) rooms ≡ sum_by (promise_charge s.me) b.promises → ServerAgrees (record b { promises = rooms }) s
+promises_agree b s rooms m are same = rooms_agree b s rooms s.kept.queue.promises m are (same ∙ m.room) m.single
 
 -- what is known: whether the problem was called done, and whether all work was found used up
 pub known_agrees : (b : Bag) (s : ServerModel) (is_done is_exhausted knows : Bool) → ServerAgrees b s

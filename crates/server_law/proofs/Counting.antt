@@ -1,6 +1,6 @@
 -- What a count tells: a bag and a server that agree count alike.
 use Rattle.std.proofs.Common.{◌≡◌, ◌⊎◌, inl, inr, ◌≤ℤ◌, ◌<◌, ◌+◌, ◌==◌, ◌&&◌, ℕ, ℤ, Bool, true, false, cond, List, [], ◌∷◌, length, map, filter, fold, sum_by, count_by, Contains, All, refl, sym, ap, ◌∙◌, arith, add-one}
-use Rattle.std.specs.Prelude.{int_le, is_none}
+use Rattle.std.specs.Prelude.{int_le}
 use Rattle.std.specs.Int.{int_max}
 use Rattle.std.proofs.lemmas.Int.{fold-int_max_bounds, fold-int_max_reached, ints}
 use Rattle.std.proofs.lemmas.List.Elements.{All-cons, All-head, All-tail}
@@ -17,7 +17,7 @@ use Rattle.bag_law.proofs.Turn.{sum_same}
 use Rattle.work_queue.specs.Counts.{counts_of, is_counted}
 use Rattle.work_queue.specs.declared.placing.Placed.{Placed}
 use Rattle.work_queue.proofs.Counted.{same_told}
-use Rattle.server_law.specs.Agreement.{ServerAgrees, UnitWeight, pinned_weight, weight_at, weight_in}
+use Rattle.server_law.specs.Agreement.{ServerAgrees, UnitWeight, weight_at}
 use Rattle.server_law.specs.State.{ServerModel}
 
 -- Priorities.

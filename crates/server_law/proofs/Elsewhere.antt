@@ -1,10 +1,10 @@
 -- A step of the bag leaves its agreement with each server that is not the entry's keeper.
-use Rattle.std.proofs.Common.{◌≡◌, ◌≢◌, ℕ, ◌+◌, ◌==◌, Bool, true, false, cond, not, List, [], ◌∷◌, ◌++◌, find, filter, sum_by, Option, Some, None, refl, sym, ap, ◌∙◌, subst, arith}
+use Rattle.std.proofs.Common.{◌≡◌, ◌≢◌, ℕ, ◌+◌, ◌==◌, Bool, true, false, cond, List, [], ◌∷◌, ◌++◌, find, Option, Some, None, refl, sym, ap, ◌∙◌, subst, arith}
 use Rattle.std.specs.Prelude.{option_and_then}
 use Rattle.std.specs.Option.{option_or}
 use Rattle.std.proofs.lemmas.Bool.{eqb-true, false_from_ne_true}
 use Rattle.std.proofs.lemmas.List.Folds.{find-append}
-use Rattle.std.proofs.lemmas.List.Sums.{sum_by-cons, sum_by_push}
+use Rattle.std.proofs.lemmas.List.Sums.{sum_by_push}
 use Rattle.adlb_unit.specs.Ids.{same_unit}
 use Rattle.adlb_unit.specs.declared.names.Rank.{Rank}
 use Rattle.adlb_unit.specs.declared.names.Server.{Server}
@@ -24,7 +24,6 @@ use Rattle.bag_ledger.specs.declared.states.UnitPlace.TheVariants.{Free, Travell
 use Rattle.bag_ledger.proofs.Charge.{unit_put}
 use Rattle.bag_ledger.proofs.Lookups.{find_filtered, sum_changed}
 use Rattle.bag_ledger.proofs.Moves.{unpromised_other}
-use Rattle.bag_law.specs.Counts.{if_so}
 use Rattle.bag_law.specs.Sound.{IsSoundBag, PromisesAreSingle}
 use Rattle.bag_law.proofs.Batches.{put_is_open}
 use Rattle.bag_law.proofs.Ids.{begun_part_is_new}
@@ -38,8 +37,9 @@ use Rattle.server_law.specs.Agreement.{ServerAgrees, of_batch, part_at, pin_at, 
 use Rattle.server_law.specs.Legal.{IsOpen, ServersStay, keeper}
 use Rattle.batch_store.specs.Store.{part_in}
 use Rattle.server_law.specs.State.{ServerModel}
-use Rattle.server_law.proofs.Components.{HoldsRooms, holds_more, known_agrees, parts_agree, promises_agree, seen_kept, shared_agrees, units_agree}
+use Rattle.server_law.proofs.Components.{holds_more, known_agrees, parts_agree, promises_agree, seen_kept, shared_agrees, units_agree}
 use Rattle.server_law.proofs.Lodging.{holds_beside, holds_passing}
+use Rattle.server_law.proofs.Rooms.{AreRooms, sum_off}
 
 abbrev server_of : ℕ → Server
 server_of n = record { 0 = n }
@@ -85,7 +85,7 @@ promises b s p away m =
     let none = no_charge s.me p away in
     promises_agree b s (b.promises ++ p ∷ []) m rooms (omega arith)
   where
-    rooms : HoldsRooms (b.promises ++ p ∷ []) s
+    rooms : AreRooms (b.promises ++ p ∷ []) s.me s.kept.queue.promises
     rooms id = rw (find-append test b.promises (p ∷ [])) (by_found (find test b.promises) (m.promises id))
       where
         test : Room → Bool
@@ -100,19 +100,6 @@ promises b s p away m =
             by_test true = sym (no_room s.me p away)
             by_test false = refl
 
--- a sum is that of what is filtered off and what stays
-sum_off : {X : Type 0} (f : X → ℕ) (test : X → Bool) (xs : List X)
-    → sum_by f (filter (λ x. not (test x)) xs) + sum_by (λ x. if_so (test x) (f x)) xs ≡ sum_by f xs
-sum_off f test [] = refl
-sum_off f test (x ∷ xs) = by_test (sum_off f test xs) (test x) refl
-  where
-    by_test : sum_by f (filter (λ y. not (test y)) xs) + sum_by (λ y. if_so (test y) (f y)) xs ≡ sum_by f xs → (t : Bool) → test x ≡ t
-        → sum_by f (filter (λ y. not (test y)) (x ∷ xs)) + sum_by (λ y. if_so (test y) (f y)) (x ∷ xs) ≡ sum_by f (x ∷ xs)
-    by_test rest true is = rw (sum_by-cons (λ y. if_so (test y) (f y)) x xs, sum_by-cons f x xs, is) (omega arith)
-    by_test rest false is =
-        rw (sum_by-cons (λ y. if_so (test y) (f y)) x xs, sum_by-cons f x xs, is, sum_by-cons f x (filter (λ y. not (test y)) xs))
-        (omega arith)
-
 unpromises : (b : Bag) (s : ServerModel) (id : UnitId) (p : Room) → PromisesAreSingle b.promises → promise_of b id ≡ Some p
     → (p.server.0 == s.me.0) ≡ false → ServerAgrees b s → ServerAgrees (unpromised id b) s
 unpromises b s id p single found away m =
@@ -124,7 +111,7 @@ unpromises b s id p single found away m =
     test : Room → Bool
     test q = same_unit q.id id
 
-    rooms : HoldsRooms (unpromised id b).promises s
+    rooms : AreRooms (unpromised id b).promises s.me s.kept.queue.promises
     rooms other = by_id (same_unit id other) refl
       where
         here : room_for id s.kept.queue.promises ≡ option_and_then (room_at s.me) (promise_of (unpromised id b) id)

@@ -12,7 +12,8 @@ use Rattle.server_law.specs.Acts.{Act, ServerSaying, Tells, to_rank}
 use Rattle.server_law.specs.Carried.{Served, all_counted, carried, done, joined, sends, stamped}
 use Rattle.server_law.specs.Endings.{ends_event, exhausts, fits, is_quiet, tells_all, tells_one, verdict}
 use Rattle.server_law.specs.Expected.{IsHome, Runs}
-use Rattle.server_law.specs.State.{Kept, ServerModel, Waiting, is_finished}
+use Rattle.reserve_path.specs.declared.waits.Waiting.{Waiting}
+use Rattle.server_law.specs.State.{Kept, ServerModel, is_finished}
 use Rattle.server_law.proofs.Carrying.{followed, followed_more, with_act}
 use Rattle.server_law.proofs.Tests.{quiet_is_tested}
 

@@ -1,5 +1,5 @@
 -- What an act's entries are shown to be, and the charge, by which a server's room is the bag's.
-use Rattle.std.proofs.Common.{◌≡◌, ℕ, ◌+◌, ◌==◌, Bool, true, false, cond, ◌||◌, find, List, [], ◌∷◌, length, Option, Some, None, refl, ◌∙◌, sum_by, arith}
+use Rattle.std.proofs.Common.{◌≡◌, ◌==◌, Bool, true, false, cond, find, List, [], ◌∷◌, length, Option, Some, None, refl, ◌∙◌, sum_by, arith}
 use Rattle.std.specs.List.{list_any}
 use Rattle.std.proofs.lemmas.Bool.{or_parts}
 use Rattle.adlb_unit.specs.declared.names.Rank.{Rank}

@@ -27,12 +27,14 @@ use Rattle.server_law.specs.Acts.{Act, Around, Finds, Tells}
 use Rattle.server_law.specs.Carried.{Served}
 use Rattle.server_law.specs.Endings.{ends_event, tells_all}
 use Rattle.server_law.specs.Finding.{taker}
-use Rattle.server_law.specs.State.{Kept, ServerModel, Waiting, Wish, idle, start}
+use Rattle.reserve_path.specs.declared.waits.Waiting.{Waiting}
+use Rattle.reserve_path.specs.declared.wishes.Wish.{Wish}
+use Rattle.server_law.specs.State.{Kept, ServerModel, awaiting, idle, start}
 use Rattle.server_law.specs.Step.{serve}
 
 -- Runs, of servers with a limit of 64 bytes.
 
-abbrev run_of : (ranks servers : ℕ) → InRanks ranks → InServers servers → Config
+abbrev pub run_of : (ranks servers : ℕ) → InRanks ranks → InServers servers → Config
 run_of ranks servers many several = record {
   ranks = ranks;
   servers = servers;
@@ -45,7 +47,7 @@ run_of ranks servers many several = record {
 abbrev one_rank : Config
 one_rank = run_of 1 1 (omega arith, omega arith) (omega arith, omega arith)
 
-abbrev two_ranks : Config
+abbrev pub two_ranks : Config
 two_ranks = run_of 2 1 (omega arith, omega arith) (omega arith, omega arith)
 
 abbrev three_ranks : Config
@@ -54,10 +56,10 @@ three_ranks = run_of 3 1 (omega arith, omega arith) (omega arith, omega arith)
 abbrev two_servers : Config
 two_servers = run_of 1 2 (omega arith, omega arith) (omega arith, omega arith)
 
-abbrev rank : ℕ → Rank
+abbrev pub rank : ℕ → Rank
 rank number = record { 0 = number }
 
-abbrev server : ℕ → Server
+abbrev pub server : ℕ → Server
 server number = record { 0 = number }
 
 -- server 0 at its start
@@ -66,34 +68,34 @@ begun config = start config (server 0)
 
 -- Units of rank 0.
 
-abbrev id : ℕ → UnitId
+abbrev pub id : ℕ → UnitId
 id number = record { rank = rank 0; number = number }
 
-abbrev sized_unit : ℕ → ℕ → ℤ → Target → Work
+abbrev pub sized_unit : ℕ → ℕ → ℤ → Target → Work
 sized_unit size number prio target =
     record { id = id number; kind = record { 0 = 2 }; prio = prio; target = target; answer = None; common = None; body = replicate size 7 }
 
-abbrev unit : ℕ → Target → Work
+abbrev pub unit : ℕ → Target → Work
 unit number target = sized_unit 4 number (pos 0) target
 
 -- Letters, and what is seen of the events that handle them.
 
-record Said : Type 0 where
-  from : Actor
-  stamp : ℕ
-  message : Message
+pub record Said : Type 0 where
+  pub from : Actor
+  pub stamp : ℕ
+  pub message : Message
 
 -- of rank 0, with a stamp
 abbrev stamped : ℕ → Message → Said
 stamped stamp message = record { from = by.Rank (rank 0); stamp = stamp; message = message }
 
-abbrev says : ℕ → Message → Said
+abbrev pub says : ℕ → Message → Said
 says from message = record { from = by.Rank (rank from); stamp = 0; message = message }
 
-abbrev puts : ℕ → Work → Said
+abbrev pub puts : ℕ → Work → Said
 puts from unit = says from (tells.Put unit)
 
-abbrev reserves : ℕ → ℕ → Said
+abbrev pub reserves : ℕ → ℕ → Said
 reserves from request = says from (tells.Reserve request None)
 
 record Seen : Type 0 where
@@ -101,7 +103,7 @@ record Seen : Type 0 where
   entries : List Entry
   waits : List ℕ
 
-abbrev heard : ServerModel → Said → Option Served
+abbrev pub heard : ServerModel → Said → Option Served
 heard s x = serve s x.from (record { stamp = x.stamp; place = 0; message = x.message })
 
 abbrev seen : Served → Seen
@@ -132,20 +134,20 @@ abbrev is_shut : Config → List Said → Option Bool
 is_shut config letters = option_map (λ (s : ServerModel). s.kept.shut) (after (Some (begun config)) letters)
 
 -- what server 0 says to a rank: by the event's stamp, and the place among its letters to the rank
-abbrev tells_to : ℕ → ℕ → ℕ → Message → Sending
+abbrev pub tells_to : ℕ → ℕ → ℕ → Message → Sending
 tells_to stamp place to message = sending stamp place (by.Rank (rank to)) message
 
-abbrev grant : ℕ → Work → Message
+abbrev pub grant : ℕ → Work → Message
 grant request unit = tells.Grant request (note_of (server 0) unit)
 
 abbrev used_up : ℕ → Message
 used_up request = tells.Ended request ends_by.Exhausted
 
 -- what it enters
-abbrev accepts : ℕ → Entry
+abbrev pub accepts : ℕ → Entry
 accepts number = enters.Accepted (server 0) (id number)
 
-abbrev grants : ℕ → ℕ → ℕ → Entry
+abbrev pub grants : ℕ → ℕ → ℕ → Entry
 grants to request number = enters.Granted (server 0) (rank to) request (id number)
 
 abbrev gives_bytes : ℕ → ℕ → Entry
@@ -285,15 +287,22 @@ rank_zero_gets_them_by_target = refl
 rank_one_gets_none_of_another_alone : granted_of_four 1 (0 ∷ 1 ∷ 2 ∷ 3 ∷ []) ≡ grants 1 0 1 ∷ grants 1 1 0 ∷ grants 1 2 3 ∷ []
 rank_one_gets_none_of_another_alone = refl
 
--- Two servers: a rank that reserves waits, the other server is to be asked for it, and nothing follows.
+-- Two servers: a rank that reserves waits, and the other server is asked for it.
 
-nothing_follows : events (begun two_servers) (reserves 0 0 ∷ []) ≡ record { sends = []; entries = []; waits = 0 ∷ [] } ∷ []
-nothing_follows = refl
+the_other_is_asked :
+    events (begun two_servers) (reserves 0 0 ∷ [])
+    ≡ record {
+      sends = sending 1 0 (by.Server (server 1)) (tells.Ask (rank 0) 0 None) ∷ [];
+      entries = [];
+      waits = 0 ∷ [];
+    }
+    ∷ []
+the_other_is_asked = refl
 
-the_other_is_to_be_asked :
+its_answer_is_awaited :
     option_map (λ (s : ServerModel). s.kept.parked.waiting) (after (Some (begun two_servers)) (reserves 0 0 ∷ []))
-    ≡ Some (idle (record { rank = rank 0; request = 0; types = None }) (server 1 ∷ []) ∷ [])
-the_other_is_to_be_asked = refl
+    ≡ Some (awaiting (record { rank = rank 0; request = 0; types = None }) (server 1) [] ∷ [])
+its_answer_is_awaited = refl
 
 one_of_two_servers_is_not_shut : is_shut two_servers (says 0 tells.Finish ∷ []) ≡ Some false
 one_of_two_servers_is_not_shut = refl
@@ -478,5 +487,5 @@ a_stamp_beyond_may_not = refl
 a_rank_beyond_is_not_expected : is_expected (begun one_rank) (says 1 tells.Finish) ≡ false
 a_rank_beyond_is_not_expected = refl
 
-a_server_says_nothing_yet : is_expected (begun one_rank) (record { from = by.Server (server 0); stamp = 0; message = tells.Finish }) ≡ false
-a_server_says_nothing_yet = refl
+no_server_finishes : is_expected (begun two_servers) (record { from = by.Server (server 1); stamp = 0; message = tells.Finish }) ≡ false
+no_server_finishes = refl

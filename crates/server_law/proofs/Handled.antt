@@ -1,9 +1,6 @@
 -- A letter is handled by the acts of its rule.
-use Rattle.std.proofs.Common.{◌≡◌, ℕ, ◌==◌, Bool, true, false, cond, ◌&&◌, ◌||◌, List, [], ◌∷◌, ◌++◌, length, find, Option, None, Some, refl, sym, ap, ◌∙◌, subst, append_assoc}
-use Rattle.std.specs.Prelude.{is_none}
-use Rattle.std.specs.List.{list_any}
+use Rattle.std.proofs.Common.{◌≡◌, ℕ, ◌==◌, Bool, true, false, cond, List, [], ◌∷◌, ◌++◌, length, find, Option, None, Some, refl, sym, ap, ◌∙◌, subst}
 use Rattle.std.specs.Option.{IfSome, option_map}
-use Rattle.std.proofs.lemmas.Bool.{and_parts, eqb-true, or_parts}
 use Rattle.adlb_unit.specs.declared.actors.Actor.{Actor}
 use Rattle.adlb_unit.specs.declared.actors.Actor.TheVariants as by
 use Rattle.adlb_unit.specs.declared.messages.Message.{Message}
@@ -11,192 +8,97 @@ use Rattle.adlb_unit.specs.declared.messages.Message.TheVariants as tells
 use Rattle.adlb_unit.specs.declared.names.Rank.{Rank}
 use Rattle.adlb_unit.specs.declared.names.Server.{Server}
 use Rattle.adlb_unit.specs.declared.names.UnitId.{UnitId}
-use Rattle.adlb_unit.specs.declared.notes.End.{End}
 use Rattle.adlb_unit.specs.declared.notes.End.TheVariants as ends_by
+use Rattle.adlb_unit.specs.declared.notes.UnitNote.{UnitNote}
 use Rattle.adlb_unit.specs.declared.units.Unit.{Unit as Work}
-use Rattle.bag_law.proofs.Turn.{found_passes}
 use Rattle.bag_ledger.proofs.Tests.{some_is}
-use Rattle.work_queue.specs.Queue.{id_of}
 use Rattle.work_queue.specs.declared.placing.Placed.{Placed}
-use Rattle.server_law.specs.Acts.{Act, Around, Closes, Finds, Tells, takes}
+use Rattle.server_law.specs.Acts.{Act, Accepts, Closes, Ends_put, Ends_reserve, Grants, Heard, Hints, Parks, Refuses, of_rank, takes}
 use Rattle.adlb_unit.specs.declared.names.BatchId.{BatchId}
 use Rattle.batch_store.specs.Store.{part_in}
 use Rattle.batch_store.specs.declared.parts.Part.{Part}
+use Rattle.reserve_path.specs.Calls.{is_since}
+use Rattle.server_law.specs.Asks.{answer, expects_ask, pass_at, wake_at}
 use Rattle.server_law.specs.Batches.{can_close, can_fetch, close, expects_keep, keep, part_if, share}
-use Rattle.server_law.specs.Carried.{all_done, done}
-use Rattle.server_law.specs.Endings.{ends_event, exhausts, fits, is_quiet, tells_all, tells_one, verdict}
+use Rattle.server_law.specs.Carried.{done}
+use Rattle.server_law.specs.Endings.{ends_event}
 use Rattle.server_law.specs.Fetches.{fetch}
-use Rattle.server_law.specs.Finding.{Place, best_for, exceeds, is_free_as, is_pinned_as, taker}
+use Rattle.server_law.specs.Finding.{Place, best_for, exceeds, has_asked, has_promise, is_free_as, is_pinned_as, place_in}
+use Rattle.server_law.specs.Hints.{expects_hint, hint_at}
 use Rattle.server_law.specs.Looks.{look}
-use Rattle.server_law.specs.Plan.{Decider, Plan, decided, in_order, plan}
-use Rattle.server_law.specs.Puts.{expects_put, gives, is_over, put, put_now, settles, settles_as}
+use Rattle.server_law.specs.Plan.{Plan, decided, in_order, plan}
+use Rattle.server_law.specs.Presses.{presses}
+use Rattle.server_law.specs.Pushes.{expects_query, expects_unit}
+use Rattle.server_law.specs.Puts.{expects_put, is_over, is_taken, put, put_now, settles}
 use Rattle.server_law.specs.Reserves.{reserve}
-use Rattle.server_law.specs.State.{ServerModel, Waiting, Wish, runs, runs_at_home}
-use Rattle.server_law.specs.Step.{rule}
-use Rattle.server_law.specs.Sure.{ActsHandle, AreSure, HandledBy, HasCause, IsExhausted, SitsIn, Sure, TakeNone}
-use Rattle.server_law.proofs.Places.{Takes, idle_is, taker_found}
-use Rattle.server_law.proofs.Tests.{can_close_says, expects_put_says, is_free_says}
-
--- Acts that follow a first one.
-
--- each is sure where it is carried out, and none takes a letter
-abbrev pub Follow : List Act → ServerModel → Type 0
-Follow list s = AreSure list s × TakeNone list
-
-abbrev pub Decides : Decider → Type 0
-Decides d = (s : ServerModel) → Follow (d s) s
-
-abbrev pub EachDecides : List Decider → Type 0
-EachDecides [] = Unit {0}
-EachDecides (d ∷ ds) = Decides d × EachDecides ds
-
-pub are_sure_joined : (xs ys : List Act) (s : ServerModel) → AreSure xs s → AreSure ys (all_done xs s) → AreSure (xs ++ ys) s
-are_sure_joined [] ys s a b = b
-are_sure_joined (x ∷ xs) ys s a b = (a.0, a.1, are_sure_joined xs ys (done x s) a.2 b)
-
-pub take_none_joined : (xs ys : List Act) → TakeNone xs → TakeNone ys → TakeNone (xs ++ ys)
-take_none_joined [] ys a b = b
-take_none_joined (x ∷ xs) ys a b = (a.0, take_none_joined xs ys a.1 b)
-
-decided_follow : (ds : List Decider) (s : ServerModel) → EachDecides ds → Follow (decided ds s) s
-decided_follow [] s each = (tt, tt)
-decided_follow (d ∷ ds) s each =
-    let first = each.0 s in
-    let then = all_done (d s) s in
-    let rest = decided_follow ds then each.1 in
-    (are_sure_joined (d s) (decided ds then) s first.0 rest.0, take_none_joined (d s) (decided ds then) first.1 rest.1)
-
-each_and_last : (ds : List Decider) (d : Decider) → EachDecides ds → Decides d → EachDecides (ds ++ d ∷ [])
-each_and_last [] d each last = (last, tt)
-each_and_last (e ∷ ds) d each last = (each.0, each_and_last ds d each.1 last)
-
--- Where a unit is settled.
-
-pub settles_decides : (id : UnitId) → Decides (settles id)
-settles_decides id s = by_unit (find (is_free_as id) s.kept.queue.units) refl
-  where
-    by_taker : (p : Placed) → find (is_free_as id) s.kept.queue.units ≡ Some p
-        → (o : Option Place) → IfSome o (Takes p.unit s.kept.parked.waiting) → Follow (gives p.unit o) s
-    by_taker p found None takes = (tt, tt)
-    by_taker p found (Some at) takes =
-        let has : id_of p ≡ id = ((is_free_says id p).0 (found_passes (is_free_as id) s.kept.queue.units p found)).0 in
-        let again = ap (λ i. find (is_free_as i) s.kept.queue.units) has ∙ found in
-        ((takes.stands, ((p, again, refl), takes.permitted), tt), (refl, tt))
-
-    by_unit : (o : Option Placed) → find (is_free_as id) s.kept.queue.units ≡ o → Follow (settles_as s.kept o) s
-    by_unit None found = (tt, tt)
-    by_unit (Some p) found = by_taker p found (taker p.unit s.kept.parked.waiting) (taker_found p.unit s.kept.parked.waiting)
-
--- Where the end is told.
-
-cause_stays : (end : End) (at : Around) (wish : Wish) (rest : List Server) (told : End) (s : ServerModel)
-    → HasCause s.kept end → HasCause (done (Tells at wish rest told) s).kept end
-cause_stays ends_by.NoMoreWork at wish rest told s cause = cause
-cause_stays ends_by.Exhausted at wish rest told s cause = cause
-
-pub told_follow : (end : End) (behind before : List Waiting) (s : ServerModel) → s.kept.parked.waiting ≡ before ++ behind
-    → HasCause s.kept end → Follow (tells_all end before behind) s
-told_follow end [] before s stands cause = (tt, tt)
-told_follow end (e ∷ behind) before s stands cause = by_asked e.asked refl (told_follow end behind)
-  where
-    at : Around
-    at = record { before = before; behind = behind }
-
-    by_asked : (o : Option Server) → e.asked ≡ o
-        → ((ahead : List Waiting) (t : ServerModel) → t.kept.parked.waiting ≡ ahead ++ behind → HasCause t.kept end
-        → Follow (tells_all end ahead behind) t)
-        → Follow (tells_one end at e o (tells_all end before behind) (tells_all end (before ++ e ∷ []) behind)) s
-    by_asked None asked later =
-        let rest = later before (done (Tells at e.wish e.to_ask end) s) refl (cause_stays end at e.wish e.to_ask end s cause) in
-        ((stands ∙ ap (λ x. before ++ x ∷ behind) (idle_is e (ap is_none asked)), cause, rest.0), (refl, rest.1))
-    by_asked (Some t) asked later = later (before ++ e ∷ []) s (stands ∙ sym (append_assoc before (e ∷ []) behind)) cause
-
--- What follows each event.
-
-pub ends_event_decides : Decides ends_event
-ends_event_decides s = by_test ((s.config.servers == 1) && is_quiet s) refl
-  where
-    waiting : List Waiting
-    waiting = s.kept.parked.waiting
-
-    by_fits : ((s.config.servers == 1) && is_quiet s) ≡ true → (e : Waiting) (behind : List Waiting) → waiting ≡ e ∷ behind
-        → (t : Bool) → (s.kept.exhausted || list_any (fits s.kept) (e ∷ behind)) ≡ t → Follow (exhausts t (e ∷ behind)) s
-    by_fits only e behind is true none = (tt, tt)
-    by_fits only e behind is false none =
-        let quiet = and_parts (s.config.servers == 1) (is_quiet s) only in
-        let new = or_parts s.kept.exhausted (list_any (fits s.kept) (e ∷ behind)) none in
-        let found : IsExhausted s = record {
-          alone = eqb-true s.config.servers 1 quiet.0;
-          quiet = quiet.1;
-          new = new.0;
-          first = e;
-          behind = behind;
-          waits = is;
-          unfit = ap (list_any (fits s.kept)) is ∙ new.1;
-        } in
-        let rest = told_follow ends_by.Exhausted (e ∷ behind) [] (done Finds s) is refl in
-        ((refl, found, rest.0), (refl, rest.1))
-
-    by_waiting : ((s.config.servers == 1) && is_quiet s) ≡ true → (xs : List Waiting) → waiting ≡ xs → Follow (verdict s.kept xs) s
-    by_waiting only [] is = ((refl, tt, tt), (refl, tt))
-    by_waiting only (e ∷ behind) is = by_fits only e behind is (s.kept.exhausted || list_any (fits s.kept) (e ∷ behind)) refl
-
-    by_test : (t : Bool) → ((s.config.servers == 1) && is_quiet s) ≡ t → Follow (cond t (verdict s.kept waiting) []) s
-    by_test true only = by_waiting only waiting refl
-    by_test false only = (tt, tt)
+use Rattle.reserve_path.specs.declared.wishes.Wish.{Wish}
+use Rattle.server_law.specs.State.{ServerModel, awaiting, runs, runs_at_home}
+use Rattle.server_law.specs.Step.{rule, server_rule}
+use Rattle.server_law.specs.Sure.{ActsHandle, HandledBy, IsHintOf, SitsIn, Sure}
+use Rattle.server_law.specs.Waits.{asks_on}
+use Rattle.server_law.proofs.Places.{IsPlace, place_found}
+use Rattle.server_law.proofs.Plans.{IsPlan, if_plan, made, settled}
+use Rattle.server_law.proofs.PushPlans.{ack_plan, cancel_plan, no_plan, query_plan, unit_plan, yes_plan}
+use Rattle.server_law.proofs.Tests.{can_close_says, expects_put_says, has_asked_says, is_since_says}
+use Rattle.server_law.proofs.Decided.{asks_on_decides, asks_on_hints_none, presses_decides, presses_hints_none, decided_follow, each_and_last, ends_event_decides, looks_again_decides, looks_again_hints_none}
 
 -- The rules.
 
--- the first act takes the letter and is sure, and what follows it is decided
-record IsPlan (s : ServerModel) (from : Actor) (message : Message) (p : Plan) : Type 0 where
-  sits : SitsIn p.first s
-  sure : Sure p.first s
-  takes : takes p.first ≡ record { from = from; message = message } ∷ []
-  follow : EachDecides p.follow
+pub put_plan : (s : ServerModel) (unit : Work) → expects_put s unit.id.rank unit ≡ true
+    → (is_done over : Bool) → s.kept.done ≡ is_done → is_over s.kept.queue unit ≡ over → (taken : Bool)
+    → IsPlan s (by.Rank unit.id.rank) (tells.Put unit)
+    (record { first = put is_done over unit; follow = settles unit.id ∷ presses taken ∷ [] })
+put_plan s unit expected is_done over ended is taken = by_tests is_done over ended is
+  where
+    made_so : (first : Act) → SitsIn first s → Sure first s → takes first ≡ of_rank unit.id.rank (tells.Put unit) ∷ []
+        → (done first s).kept.parked.wishes ≡ s.kept.parked.wishes
+        → IsPlan s (by.Rank unit.id.rank) (tells.Put unit) (record { first = first; follow = settles unit.id ∷ presses taken ∷ [] })
+    made_so first sits sure heard same =
+        settled unit.id first (presses taken ∷ []) sits sure heard same (presses_decides taken, tt) (presses_hints_none taken, tt)
 
-if_plan : (s : ServerModel) (from : Actor) (message : Message) (test : Bool) (p : Plan) → (test ≡ true → IsPlan s from message p)
-    → IfSome (cond test (Some p) None) (IsPlan s from message)
-if_plan s from message true p is = is refl
-if_plan s from message false p is = tt
-
-made : {s : ServerModel} {from : Actor} {message : Message} {p : Plan} → SitsIn p.first s → Sure p.first s
-    → takes p.first ≡ record { from = from; message = message } ∷ [] → EachDecides p.follow → IsPlan s from message p
-made sits sure takes follow = record { sits = sits; sure = sure; takes = takes; follow = follow }
-
-put_plan : (s : ServerModel) (unit : Work) → expects_put s unit.id.rank unit ≡ true
-    → (is_done over : Bool) → s.kept.done ≡ is_done → is_over s.kept.queue unit ≡ over
-    → IsPlan s (by.Rank unit.id.rank) (tells.Put unit) (record { first = put is_done over unit; follow = settles unit.id ∷ [] })
-put_plan s unit expected true over done is = made refl (expected, done) refl (settles_decides unit.id, tt)
-put_plan s unit expected false true done is = made refl (expected, done, is) refl (settles_decides unit.id, tt)
-put_plan s unit expected false false done is = made refl (expected, done, is) refl (settles_decides unit.id, tt)
+    by_tests : (d o : Bool) → s.kept.done ≡ d → is_over s.kept.queue unit ≡ o
+        → IsPlan s (by.Rank unit.id.rank) (tells.Put unit) (record { first = put d o unit; follow = settles unit.id ∷ presses taken ∷ [] })
+    by_tests true o ended is = made_so (Ends_put unit ends_by.NoMoreWork) refl (expected, ended) refl refl
+    by_tests false true ended is = made_so (Refuses unit) refl (expected, ended, is) refl refl
+    by_tests false false ended is = made_so (Accepts unit) refl (expected, ended, is) refl refl
 
 reserve_plan : (s : ServerModel) (wish : Wish) → runs_at_home s wish.rank ≡ true
     → (is_done used_up : Bool) (best : Option Placed) → s.kept.done ≡ is_done → s.kept.exhausted ≡ used_up → best_for s.kept wish ≡ best
     → IsPlan s (by.Rank wish.rank) (tells.Reserve wish.request wish.types)
-    (record { first = reserve is_done used_up best wish; follow = [] })
-reserve_plan s wish expected true used_up best done exhausted found = made refl (expected, done) refl tt
-reserve_plan s wish expected false true best done exhausted found = made refl (expected, exhausted) refl tt
-reserve_plan s wish expected false false (Some p) done exhausted found = made refl (expected, (p, found, refl)) refl tt
-reserve_plan s wish expected false false None done exhausted found = made refl (expected, found) refl tt
+    (record { first = reserve is_done used_up best wish; follow = asks_on wish.rank ∷ [] })
+reserve_plan s wish expected is_done used_up best done exhausted found = by_tests is_done used_up best done exhausted found
+  where
+    made_so : (first : Act) → SitsIn first s → Sure first s
+        → takes first ≡ record { from = by.Rank wish.rank; message = tells.Reserve wish.request wish.types } ∷ []
+        → IsPlan s (by.Rank wish.rank) (tells.Reserve wish.request wish.types) (record { first = first; follow = asks_on wish.rank ∷ [] })
+    made_so first sits sure takes = made sits sure takes (asks_on_decides wish.rank, tt) (asks_on_hints_none wish.rank, tt)
+
+    by_tests : (d u : Bool) (o : Option Placed) → s.kept.done ≡ d → s.kept.exhausted ≡ u → best_for s.kept wish ≡ o
+        → IsPlan s (by.Rank wish.rank) (tells.Reserve wish.request wish.types)
+        (record { first = reserve d u o wish; follow = asks_on wish.rank ∷ [] })
+    by_tests true u o done exhausted found = made_so (Ends_reserve wish ends_by.NoMoreWork) refl (expected, done) refl
+    by_tests false true o done exhausted found = made_so (Ends_reserve wish ends_by.Exhausted) refl (expected, exhausted) refl
+    by_tests false false (Some p) done exhausted found = made_so (Grants wish p.unit) refl (expected, (p, found, refl)) refl
+    by_tests false false None done exhausted found = made_so (Parks wish) refl (expected, found) refl
 
 look_plan : (s : ServerModel) (wish : Wish) (is_done : Bool) (best : Option Placed) → s.kept.done ≡ is_done → best_for s.kept wish ≡ best
     → IsPlan s (by.Rank wish.rank) (tells.Try wish.request wish.types) (record { first = look is_done best wish; follow = [] })
-look_plan s wish true best done found = made refl done refl tt
-look_plan s wish false (Some p) done found = made refl (p, found, refl) refl tt
-look_plan s wish false None done found = made refl found refl tt
+look_plan s wish true best done found = made refl done refl tt tt
+look_plan s wish false (Some p) done found = made refl (p, found, refl) refl tt tt
+look_plan s wish false None done found = made refl found refl tt tt
 
 fetch_plan : (s : ServerModel) (from : Rank) (request : ℕ) (id : UnitId) (o : Option Placed)
     → find (is_pinned_as id from) s.kept.queue.units ≡ o
     → IfSome (fetch from request id o) (IsPlan s (by.Rank from) (tells.Fetch request id))
 fetch_plan s from request id None found = tt
-fetch_plan s from request id (Some p) found = made refl (p, found, refl) refl tt
+fetch_plan s from request id (Some p) found = made refl (p, found, refl) refl tt tt
 
 keep_plan : (s : ServerModel) (from : Rank) (request : ℕ) (common : List ℕ) → expects_keep s from request common ≡ true
     → (is_done over : Bool) → s.kept.done ≡ is_done → exceeds s.kept.queue (length common) ≡ over
     → IsPlan s (by.Rank from) (tells.KeepCommon request common) (record { first = keep is_done over from request common; follow = [] })
-keep_plan s from request common expected true over done is = made refl (expected, done) refl tt
-keep_plan s from request common expected false true done is = made refl (expected, done, is) refl tt
-keep_plan s from request common expected false false done is = made refl (expected, done, is) refl tt
+keep_plan s from request common expected true over done is = made refl (expected, done) refl tt tt
+keep_plan s from request common expected false true done is = made refl (expected, done, is) refl tt tt
+keep_plan s from request common expected false false done is = made refl (expected, done, is) refl tt tt
 
 close_plan : (s : ServerModel) (from : Rank) (request : ℕ) (batch : BatchId) (accepted : ℕ) (o : Option Part) → part_in s.kept.parts batch ≡ o
     → IfSome (close request batch accepted (part_if (can_close from batch accepted s.kept.queue.common) o))
@@ -213,7 +115,7 @@ close_plan s from request batch accepted (Some p) found = by_test (can_close fro
         ap (λ r. can_close r batch accepted s.kept.queue.common p) own ∙ is in
         let P : Rank → Type 0 = λ r.
         IsPlan s (by.Rank r) (tells.CloseBatch request batch accepted) (record { first = Closes request batch accepted p; follow = [] }) in
-        subst P own (made refl (found, so) refl tt)
+        subst P own (made refl (found, so) refl tt tt)
 
 share_plan : (s : ServerModel) (from : Rank) (request : ℕ) (batch : BatchId) (o : Option Part) → part_in s.kept.parts batch ≡ o
     → IfSome (share from request batch (part_if (can_fetch s.kept.queue.common) o))
@@ -223,16 +125,107 @@ share_plan s from request batch (Some p) found = by_test (can_fetch s.kept.queue
   where
     by_test : (t : Bool) → can_fetch s.kept.queue.common p ≡ t
         → IfSome (share from request batch (cond t (Some p) None)) (IsPlan s (by.Rank from) (tells.FetchCommon request batch))
-    by_test true is = made refl (found, is) refl tt
+    by_test true is = made refl (found, is) refl tt tt
     by_test false is = tt
 
-planned : (s : ServerModel) (from : Actor) (message : Message) → IfSome (rule s from message) (IsPlan s from message)
+-- Letters of other servers.
+
+answer_plan : (s : ServerModel) (from : Server) (wish : Wish) → expects_ask s from wish.rank ≡ true
+    → (is_done : Bool) (best : Option Placed) → s.kept.done ≡ is_done → best_for s.kept wish ≡ best
+    → IsPlan s (by.Server from) (tells.Ask wish.rank wish.request wish.types)
+    (record { first = answer is_done best from wish; follow = [] })
+answer_plan s from wish expected true best done found =
+    made refl (expected, λ new. let a : true ≡ false = sym done ∙ new in absurd (cc)) refl tt tt
+answer_plan s from wish expected false (Some p) done found = made refl (expected, (p, found, refl)) refl tt tt
+answer_plan s from wish expected false None done found = made refl (expected, λ new. found) refl tt tt
+
+-- a rank that waits here since this call, for which the sender was asked
+pub record IsAskedAt (s : ServerModel) (from : Server) (rank : Rank) (request : ℕ) (p : Place) : Type 0 where
+  pub asked : p.here.asked ≡ Some from
+  pub stands : s.kept.parked.waiting ≡ p.at.before ++ awaiting p.here.wish from p.here.to_ask ∷ p.at.behind
+  pub own : p.here.wish.rank ≡ rank
+  pub since : p.here.wish.request ≡ request
+
+pub asked_at_place : (s : ServerModel) (from : Server) (rank : Rank) (request : ℕ) (p : Place)
+    → IsPlace (has_asked from rank request) s.kept.parked.waiting p → IsAskedAt s from rank request p
+asked_at_place s from rank request p is =
+    let so = (has_asked_says from rank request p.here).0 is.passes in
+    let here : p.here ≡ awaiting p.here.wish from p.here.to_ask =
+    ap (λ (o : Option Server). record { wish = p.here.wish; asked = o; to_ask = p.here.to_ask }) so.2 in
+    record {
+      asked = so.2;
+      stands = is.stands ∙ ap (λ e. p.at.before ++ e ∷ p.at.behind) here;
+      own = so.0;
+      since = so.1;
+    }
+
+pass_plan : (s : ServerModel) (from : Server) (rank : Rank) (request : ℕ) (note : UnitNote) (o : Option Place)
+    → IfSome o (IsPlace (has_asked from rank request) s.kept.parked.waiting)
+    → IfSome (pass_at o note) (IsPlan s (by.Server from) (tells.AskGrant rank request note))
+pass_plan s from rank request note None is = tt
+pass_plan s from rank request note (Some p) is =
+    let at = asked_at_place s from rank request p is in
+    rw at.asked (made at.stands tt (rw (at.own, at.since) refl) tt tt)
+
+wake_plan : (s : ServerModel) (from : Server) (rank : Rank) (request : ℕ) (o : Option Place)
+    → IfSome o (IsPlace (has_asked from rank request) s.kept.parked.waiting)
+    → IfSome (wake_at o) (IsPlan s (by.Server from) (tells.AskNone rank request))
+wake_plan s from rank request None is = tt
+wake_plan s from rank request (Some p) is =
+    let at = asked_at_place s from rank request p is in
+    let own = p.here.wish.rank in
+    rw at.asked (made at.stands tt (rw (at.own, at.since) refl) (looks_again_decides own, (asks_on_decides own, tt))
+    (looks_again_hints_none own, (asks_on_hints_none own, tt)))
+
+hint_plan : (s : ServerModel) (from : Server) (rank : Rank) (request : ℕ) (o : Option Place)
+    → IfSome o (IsPlace (is_since rank request) s.kept.parked.waiting)
+    → IfSome (hint_at from rank request o) (IsPlan s (by.Server from) (tells.Hint rank request))
+hint_plan s from rank request None is = made refl tt refl tt tt
+hint_plan s from rank request (Some p) is =
+    let who = (is_since_says rank request p.here).0 is.passes in
+    let own = p.here.wish.rank in
+    made is.stands tt (rw (who.0, who.1) refl) (asks_on_decides own, tt) (asks_on_hints_none own, tt)
+
+planned_by_server : (s : ServerModel) (from : Server) (message : Message)
+    → IfSome (server_rule s from message) (IsPlan s (by.Server from) message)
+planned_by_server s from (tells.Ask rank request types) =
+    let wish : Wish = record { rank = rank; request = request; types = types } in
+    if_plan s (by.Server from) (tells.Ask rank request types) (expects_ask s from rank) _ (λ expected.
+    answer_plan s from wish expected s.kept.done (best_for s.kept wish) refl refl)
+planned_by_server s from (tells.AskGrant rank request note) =
+    pass_plan s from rank request note (place_in (has_asked from rank request) s.kept.parked.waiting)
+    (place_found (has_asked from rank request) s.kept.parked.waiting)
+planned_by_server s from (tells.AskNone rank request) =
+    wake_plan s from rank request (place_in (has_asked from rank request) s.kept.parked.waiting)
+    (place_found (has_asked from rank request) s.kept.parked.waiting)
+planned_by_server s from (tells.Hint rank request) =
+    if_expected (expects_hint s rank) (hint_at from rank request (place_in (is_since rank request) s.kept.parked.waiting))
+    (hint_plan s from rank request (place_in (is_since rank request) s.kept.parked.waiting)
+    (place_found (is_since rank request) s.kept.parked.waiting))
+  where
+    if_expected : (t : Bool) (o : Option Plan) → IfSome o (IsPlan s (by.Server from) (tells.Hint rank request))
+        → IfSome (cond t o None) (IsPlan s (by.Server from) (tells.Hint rank request))
+    if_expected true o is = is
+    if_expected false o is = tt
+planned_by_server s from (tells.PushQuery id length) =
+    if_plan s (by.Server from) (tells.PushQuery id length) (expects_query s.kept id) _ (λ expected.
+    query_plan s from id length expected (exceeds s.kept.queue length) refl)
+planned_by_server s from (tells.PushYes id) = yes_plan s from id s.kept.pushing.push (find (is_free_as id) s.kept.queue.units) refl refl
+planned_by_server s from (tells.PushNo id) = no_plan s from id s.kept.pushing.push refl
+planned_by_server s from (tells.PushAck id) = ack_plan s from id s.kept.pushing.push refl
+planned_by_server s from (tells.PushUnit unit) =
+    if_plan s (by.Server from) (tells.PushUnit unit) (expects_unit s.kept unit) _ (unit_plan s from unit)
+planned_by_server s from (tells.PushCancel id) =
+    if_plan s (by.Server from) (tells.PushCancel id) (has_promise id s.kept.queue.promises) _ (cancel_plan s from id)
+planned_by_server s from _ = tt
+
+pub planned : (s : ServerModel) (from : Actor) (message : Message) → IfSome (rule s from message) (IsPlan s from message)
 planned s (by.Rank from) (tells.Put unit) = if_plan s (by.Rank from) (tells.Put unit) (expects_put s from unit) _ (λ expected.
     let is : unit.id.rank ≡ from = ((expects_put_says s from unit).0 expected).sender in
-    let p : Plan = record { first = put_now s.kept unit; follow = settles unit.id ∷ [] } in
+    let p : Plan = record { first = put_now s.kept unit; follow = settles unit.id ∷ presses (is_taken s.kept unit) ∷ [] } in
     let P : Rank → Type 0 = λ r. IsPlan s (by.Rank r) (tells.Put unit) p in
     let own : expects_put s unit.id.rank unit ≡ true = ap (λ r. expects_put s r unit) is ∙ expected in
-    subst P is (put_plan s unit own s.kept.done (is_over s.kept.queue unit) refl refl))
+    subst P is (put_plan s unit own s.kept.done (is_over s.kept.queue unit) refl refl (is_taken s.kept unit)))
 planned s (by.Rank from) (tells.Reserve request types) =
     let wish : Wish = record { rank = from; request = request; types = types } in
     if_plan s (by.Rank from) (tells.Reserve request types) (runs_at_home s from) _ (λ expected.
@@ -247,11 +240,21 @@ planned s (by.Rank from) (tells.KeepCommon request common) =
 planned s (by.Rank from) (tells.CloseBatch request batch accepted) = close_plan s from request batch accepted (part_in s.kept.parts batch) refl
 planned s (by.Rank from) (tells.FetchCommon request batch) = share_plan s from request batch (part_in s.kept.parts batch) refl
 planned s (by.Rank from) (tells.Count request kind) =
-    if_plan s (by.Rank from) (tells.Count request kind) (runs_at_home s from) _ (λ expected. made refl expected refl tt)
+    if_plan s (by.Rank from) (tells.Count request kind) (runs_at_home s from) _ (λ expected. made refl expected refl tt tt)
 planned s (by.Rank from) tells.Finish =
-    if_plan s (by.Rank from) tells.Finish (runs s.kept from) _ (λ runs. made refl runs refl tt)
+    if_plan s (by.Rank from) tells.Finish (runs s.kept from) _ (λ runs. made refl runs refl tt tt)
 planned s (by.Rank from) _ = tt
-planned s (by.Server from) _ = tt
+planned s (by.Server from) message = by_self (from.0 == s.me.0) (planned_by_server s from message)
+  where
+    by_self : (t : Bool) → IfSome (server_rule s from message) (IsPlan s (by.Server from) message)
+        → IfSome (cond t None (server_rule s from message)) (IsPlan s (by.Server from) message)
+    by_self true is = tt
+    by_self false is = is
+
+-- an act that takes a letter is no hint
+first_is_no_hint : (wishes : List Wish) (a : Act) (heard : Heard) → takes a ≡ heard ∷ [] → IsHintOf wishes a
+first_is_no_hint wishes (Hints wish) heard is = absurd (cc)
+first_is_no_hint wishes _ heard is = tt
 
 pub acts_handle : ActsHandle
 acts_handle s from message list is = by_plan (rule s from message) (planned s from message) is
@@ -269,4 +272,5 @@ acts_handle s from message list is = by_plan (rule s from message) (planned s fr
           takes = plan.takes;
           follow = follow.1;
           sure = (plan.sits, plan.sure, follow.0);
+          hints = (first_is_no_hint s.kept.parked.wishes p.first _ plan.takes, plan.hints);
         }

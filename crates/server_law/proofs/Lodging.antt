@@ -9,7 +9,7 @@ use Rattle.adlb_unit.specs.declared.names.Rank.{Rank}
 use Rattle.adlb_unit.specs.declared.names.Server.{Server}
 use Rattle.adlb_unit.specs.declared.names.UnitId.{UnitId}
 use Rattle.adlb_unit.specs.declared.units.Unit.{Unit as Work}
-use Rattle.adlb_unit.proofs.Same.{same_unit_is}
+use Rattle.adlb_unit.proofs.Same.{same_unit_from, same_unit_is}
 use Rattle.bag_ledger.specs.Steps.{change_first}
 use Rattle.bag_ledger.specs.declared.states.Placed.{Placed as Lodged}
 use Rattle.bag_ledger.specs.declared.states.UnitPlace.{UnitPlace}
@@ -24,7 +24,7 @@ use Rattle.work_queue.proofs.Named.{find_listed, find_nothing}
 use Rattle.work_queue.specs.Queue.{HasDistinctIds, has_other_id, id_of, pinned_by}
 use Rattle.work_queue.specs.declared.placing.Placed.{Placed}
 use Rattle.server_law.specs.Agreement.{HoldsUnits, UnitWeight, of_id, pin_at, pinned_weight, slot_of, weight_at, weight_in}
-use Rattle.server_law.specs.Finding.{unit_with}
+use Rattle.reserve_path.specs.Grants.{unit_with}
 
 -- What a unit in this place is at the server.
 
@@ -171,6 +171,38 @@ holds_passing all me units id place u holds found was is =
     let absent : unit_with id units ≡ None = holds.each id ∙ ap (λ o. option_and_then (slot_of me) o) found ∙ no_slot me u was in
     holds_moved all me units units id place u holds found (absent ∙ sym (no_slot me now is)) (λ other differs. refl) holds.distinct
     (λ f. let before = no_weight me f u was in let after = no_weight me f now is in omega arith)
+
+-- from elsewhere to the server, where it is free
+pub holds_arrived : (all : List Lodged) (me : Server) (units : List Placed) (u : Lodged) → HoldsUnits all me units
+    → find (of_id u.unit.id) all ≡ Some u → pin_at me u.place ≡ None
+    → HoldsUnits (change_first (to_place (Free me)) (of_id u.unit.id) all) me (units ++ record { unit = u.unit; pin = None } ∷ [])
+holds_arrived all me units u holds found away =
+    holds_moved all me units (units ++ p ∷ []) u.unit.id (Free me) u holds found here others
+    (distinct_added units p holds.distinct (find_nothing id_of units u.unit.id absent))
+    (λ f.
+    let more = sum_by_push (weight_in f) units p in
+    let was = no_weight me f u away in
+    let will = weight_there me f (record u { place = Free me }) p refl (free_here me) in
+    omega arith)
+  where
+    p : Placed
+    p = record { unit = u.unit; pin = None }
+
+    absent : unit_with u.unit.id units ≡ None
+    absent = holds.each u.unit.id ∙ ap (λ o. option_and_then (slot_of me) o) found ∙ no_slot me u away
+
+    here : unit_with u.unit.id (units ++ record { unit = u.unit; pin = None } ∷ []) ≡ slot_of me (record u { place = Free me })
+    here =
+        rw (find-append (λ q. same_unit (id_of q) u.unit.id) units (p ∷ []), absent, same_unit_from u.unit.id u.unit.id refl)
+        (sym (slot_there me (record u { place = Free me }) (record { unit = u.unit; pin = None }) refl (free_here me)))
+
+    alone : (o : Option Placed) → option_or o None ≡ o
+    alone None = refl
+    alone (Some q) = refl
+
+    others : (other : UnitId) → same_unit u.unit.id other ≡ false
+        → unit_with other (units ++ record { unit = u.unit; pin = None } ∷ []) ≡ unit_with other units
+    others other differs = rw (find-append (λ q. same_unit (id_of q) other) units (p ∷ []), differs) (alone (unit_with other units))
 
 -- A unit that is there.
 

@@ -1,5 +1,5 @@
 -- The entries of a server's acts are steps of the bag that agrees with it, and the bag agrees afterwards.
-use Rattle.std.proofs.Common.{◌≡◌, ℕ, ◌+◌, ◌≤◌, ◌<◌, ◌==◌, Bool, true, false, cond, ◌&&◌, is_some, List, [], ◌∷◌, ◌++◌, length, map, filter, Option, Some, None, refl, sym, ap, ◌∙◌, subst, sum_by, arith}
+use Rattle.std.proofs.Common.{◌≡◌, ℕ, ◌+◌, ◌≤◌, ◌<◌, ◌==◌, Bool, true, false, cond, ◌&&◌, is_some, find, List, [], ◌∷◌, ◌++◌, length, map, filter, Option, Some, None, refl, sym, ap, ◌∙◌, subst, arith}
 use Rattle.std.specs.Prelude.{IsTrue, option_and_then}
 use Rattle.std.proofs.lemmas.Bool.{false_from_ne_true, ltb-false, ltb-true}
 use Rattle.adlb_unit.specs.Permit.{permitted}
@@ -11,10 +11,8 @@ use Rattle.adlb_unit.specs.declared.names.WorkType.{WorkType}
 use Rattle.adlb_unit.specs.declared.notes.End.{End}
 use Rattle.adlb_unit.specs.declared.notes.End.TheVariants as ends_by
 use Rattle.adlb_unit.specs.declared.units.Unit.{Unit as Work}
-use Rattle.bag_ledger.specs.Bag.{Bag, charge, has_due, has_fit_at, is_due, is_free_at, offer, open_call, putting, rank_at, settled, unit_charge, unit_of, wish}
-use Rattle.bag_ledger.specs.Runs.{IsRun}
-use Rattle.bag_ledger.specs.Steps.{Steps, after, has_cause, shared, taken}
-use Rattle.bag_ledger.specs.declared.entries.Entry.{Entry}
+use Rattle.bag_ledger.specs.Bag.{Bag, has_due, has_fit_at, is_due, is_free_at, offer, open_call, putting, rank_at, settled, unit_of, wish}
+use Rattle.bag_ledger.specs.Steps.{has_cause, shared, taken}
 use Rattle.bag_ledger.specs.declared.entries.Entry.TheVariants as enters
 use Rattle.bag_ledger.specs.declared.states.Placed.{Placed as Lodged}
 use Rattle.bag_ledger.specs.declared.states.RankState.{RankState}
@@ -23,24 +21,27 @@ use Rattle.bag_ledger.specs.declared.states.UnitPlace.{UnitPlace}
 use Rattle.bag_ledger.specs.declared.states.UnitPlace.TheVariants.{Free, Travelling, Pinned, Spent}
 use Rattle.bag_ledger.proofs.Charge.{unit_put}
 use Rattle.bag_law.specs.Counts.{one}
-use Rattle.bag_law.proofs.Turn.{sum_same}
 use Rattle.work_queue.specs.Counts.{counts_of}
-use Rattle.work_queue.specs.Queue.{charge_of, has_other_id, pinned_by, size_of, with_unit}
+use Rattle.work_queue.specs.Queue.{charge_of, has_other_id, pinned_by, with_unit}
 use Rattle.work_queue.specs.declared.placing.Placed.{Placed}
-use Rattle.server_law.specs.Acts.{Accepts, Closes, Counts, Ends_keep, Ends_put, Ends_reserve, Ends_try, Fetches, Fetches_part, Finds, Gives, Grants, Grants_try, Keeps, Looks, Notes_finish, Parks, Refuses, Refuses_part, Shuts, Tells, entries}
+use Rattle.server_law.specs.Acts.{Accepts, Answers, Arrives, Closes, Counts, Ends_keep, Ends_put, Ends_reserve, Ends_try, Fetches, Fetches_part, Finds, Gives, Grants, Grants_try, Keeps, Looks, Promises, Refuses, Refuses_part, Sends_unit, Tells, Withdraws, entries}
 use Rattle.adlb_unit.specs.declared.names.CommonRef.{CommonRef}
-use Rattle.server_law.specs.Agreement.{ServerAgrees, UnitWeight, of_batch, pinned_weight, weight_at}
+use Rattle.server_law.specs.Agreement.{ServerAgrees, of_batch, pinned_weight, weight_at}
 use Rattle.server_law.specs.Carried.{done}
-use Rattle.server_law.specs.Finding.{best_for, unit_with}
+use Rattle.reserve_path.specs.Grants.{unit_with}
+use Rattle.server_law.specs.Finding.{best_for, is_free_as}
 use Rattle.server_law.specs.Legal.{ActsAreLegal, AsksFor, Does, IsOpen, Offers, TriesFor}
+use Rattle.server_law.specs.Moving.{IsPromisedAt}
 use Rattle.server_law.specs.Puts.{is_over}
-use Rattle.server_law.specs.State.{ServerModel, Wish, runs_at_home}
+use Rattle.reserve_path.specs.declared.wishes.Wish.{Wish}
+use Rattle.server_law.specs.State.{ServerModel, runs_at_home}
 use Rattle.server_law.specs.Sure.{HasCause, IsExhausted}
-use Rattle.server_law.proofs.BestFits.{IsFit, best_is_fit}
+use Rattle.server_law.proofs.BestFits.{IsFit, best_is_fit, given_fits}
 use Rattle.server_law.proofs.ByIds.{free_is_found, pinned_is_found}
 use Rattle.server_law.proofs.Components.{known_agrees, shared_agrees, units_agree, with_units}
 use Rattle.server_law.proofs.Counting.{info_agrees}
 use Rattle.server_law.proofs.Entering.{AreSteps, charge_agrees, is_step, none_changed}
+use Rattle.server_law.proofs.PushEntries.{arrives, leaves, promises, withdraws}
 use Rattle.server_law.proofs.PartEntries.{closes, fetches_part, keeps, refuses_part}
 use Rattle.server_law.proofs.Lodging.{holds_added, holds_pinned, holds_taken, lodged, place_is}
 use Rattle.server_law.proofs.Resting.{fit, none_counted}
@@ -209,7 +210,6 @@ acts_are_legal b s (Grants wish unit) m rests sits sure needs =
     (grants b s wish found.0 m rests (wants_by_reserve b wish needs) fit)
 acts_are_legal b s (Ends_reserve wish end) m rests sits sure needs =
     ends b s wish.rank wish.request end needs.0 m rests needs.1 (ap open_call needs.2) sure.1
-acts_are_legal b s (Parks wish) m rests sits sure needs = (b, refl, m, rests)
 acts_are_legal b s (Grants_try wish unit) m rests sits sure needs =
     let fit = best_is_fit s.kept wish sure.0 m.units.distinct sure.1 in
     subst (λ (u : Work). AreSteps b (entries (Grants_try wish u) s) (done (Grants_try wish u) s)) sure.2
@@ -221,17 +221,10 @@ acts_are_legal b s (Fetches rank request id unit) m rests sits sure needs =
     let at = pinned_is_found s.kept.queue.units id rank sure.0 m.units.distinct sure.1 in
     fetches b s rank request id sure.0 m rests needs at.0 at.1
 acts_are_legal b s (Counts rank request kind) m rests sits sure needs = counts b s rank request kind m rests needs sure
-acts_are_legal b s (Notes_finish rank) m rests sits sure needs = (b, refl, m, rests)
 acts_are_legal b s (Gives at wish rest unit) m rests sits sure needs =
-    let found = sure.0 in
-    let free = free_is_found s.kept.queue.units unit.id found.0 m.units.distinct found.1 in
-    let fit : IsFit wish s.kept.queue.units found.0 = record {
-      found = ap (λ (u : Work). unit_with u.id s.kept.queue.units) found.2 ∙ free.0;
-      free = free.1;
-      permits = rw found.2 sure.1;
-    } in
-    subst (λ (u : Work). AreSteps b (entries (Gives at wish rest u) s) (done (Gives at wish rest u) s)) found.2
-    (grants b s wish found.0 m rests (wants_by_reserve b wish needs) fit)
+    let fit = given_fits s.kept wish unit m.units.distinct sure in
+    subst (λ (u : Work). AreSteps b (entries (Gives at wish rest u) s) (done (Gives at wish rest u) s)) fit.2
+    (grants b s wish fit.0 m rests (wants_by_reserve b wish needs) fit.1)
 acts_are_legal b s (Tells at wish rest end) m rests sits sure needs =
     ends b s wish.rank wish.request end needs.0 m rests needs.1 (ap open_call needs.2) sure
 acts_are_legal b s Finds m rests sits sure needs = finds b s m rests sure needs
@@ -243,4 +236,21 @@ acts_are_legal b s (Closes request batch accepted part) m rests sits sure needs 
     closes b s request batch accepted part m rests needs.0 needs.1 sure.0
 acts_are_legal b s (Fetches_part rank request batch part) m rests sits sure needs =
     fetches_part b s rank request batch part m rests needs sure.0
-acts_are_legal b s Shuts m rests sits sure needs = (b, refl, m, rests)
+acts_are_legal b s (Answers from wish unit) m rests sits sure needs =
+    let found = sure.1 in
+    let fit = best_is_fit s.kept wish found.0 m.units.distinct found.1 in
+    subst (λ (u : Work). AreSteps b (entries (Answers from wish u) s) (done (Answers from wish u) s)) found.2
+    (grants b s wish found.0 m rests (wants_by_reserve b wish needs) fit)
+acts_are_legal b s (Promises from id length) m rests sits sure needs =
+    promises b s from id length m rests sure.0 sure.1 needs.0 needs.1 needs.2 needs.3
+acts_are_legal b s (Sends_unit to length unit) m rests sits sure needs =
+    let found = sure.1 in
+    let P : Work → Type 0 = λ u. IsPromisedAt b to u.id → find (is_free_as u.id) s.kept.queue.units ≡ Some found.0
+    → AreSteps b (entries (Sends_unit to length u) s) (done (Sends_unit to length u) s) in
+    subst P found.2 (λ room there.
+    let at = free_is_found s.kept.queue.units found.0.unit.id found.0 m.units.distinct there in
+    leaves b s to found.0 m rests needs.0 room at.0 at.1) needs.1 found.1
+acts_are_legal b s (Arrives from unit) m rests sits sure needs = arrives b s from unit m rests sure needs.0 needs.1
+acts_are_legal b s (Withdraws from id) m rests sits sure needs = withdraws b s from id m rests sure needs.0 needs.1
+-- the others enter nothing
+acts_are_legal b s _ m rests sits sure needs = (b, refl, m, rests)

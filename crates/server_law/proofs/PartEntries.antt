@@ -1,16 +1,16 @@
 -- The entries of the acts on common parts are steps of the bag, and the bag agrees afterwards.
-use Rattle.std.proofs.Common.{◌≡◌, ℕ, ◌+◌, ◌-◌, ◌≤◌, ◌<◌, ◌==◌, Bool, true, false, ◌&&◌, ◌||◌, cond, not, List, [], ◌∷◌, ◌++◌, length, find, Option, Some, None, refl, sym, ap, ◌∙◌, subst, sum_by, arith}
+use Rattle.std.proofs.Common.{◌≡◌, ℕ, ◌+◌, ◌≤◌, ◌<◌, ◌==◌, Bool, true, false, ◌&&◌, ◌||◌, cond, not, List, [], ◌∷◌, ◌++◌, length, Option, Some, None, refl, sym, ap, ◌∙◌, subst, sum_by, arith}
 use Rattle.std.specs.Prelude.{option_and_then}
 use Rattle.std.specs.List.{list_any}
 use Rattle.std.proofs.lemmas.List.Folds.{list_any-append}
-use Rattle.std.proofs.lemmas.Bool.{and_parts, false_from_ne_true, ltb-false, ltb-true}
+use Rattle.std.proofs.lemmas.Bool.{ltb-false, ltb-true}
 use Rattle.std.proofs.lemmas.List.Sums.{sum_by_push}
 use Rattle.adlb_unit.specs.Ids.{same_batch}
 use Rattle.adlb_unit.specs.declared.names.BatchId.{BatchId}
 use Rattle.adlb_unit.specs.declared.names.Rank.{Rank}
 use Rattle.adlb_unit.specs.declared.names.Server.{Server}
 use Rattle.adlb_unit.proofs.Same.{same_batch_from}
-use Rattle.bag_ledger.specs.Bag.{Bag, charge, has_due, is_due as is_lot_due, offer, part_charge, part_of, rank_at}
+use Rattle.bag_ledger.specs.Bag.{Bag, has_due, is_due as is_lot_due, offer, part_charge, part_of}
 use Rattle.bag_ledger.specs.Steps.{Legal, Steps, after, change_at, change_first, ended, kept as with_kept, new_part}
 use Rattle.bag_ledger.specs.declared.entries.Entry.{Entry}
 use Rattle.bag_ledger.specs.declared.entries.Entry.TheVariants as enters
@@ -29,7 +29,7 @@ use Rattle.server_law.specs.Carried.{done}
 use Rattle.server_law.specs.Finding.{exceeds}
 use Rattle.server_law.specs.Legal.{Begins, EndsBatch, HasAccepted, IsOwed}
 use Rattle.server_law.specs.State.{ServerModel}
-use Rattle.server_law.proofs.Components.{HoldsParts, holds_changed, holds_more, parts_agree, with_parts}
+use Rattle.server_law.proofs.Components.{HoldsParts, holds_changed, holds_more, parts_agree}
 use Rattle.server_law.proofs.Entering.{AreSteps, charge_agrees, is_step, none_changed}
 
 -- The bag's part of which the server has one.

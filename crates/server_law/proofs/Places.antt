@@ -1,13 +1,17 @@
 -- Where a rank that waits is found.
-use Rattle.std.proofs.Common.{◌≡◌, Bool, true, false, cond, List, [], ◌∷◌, ◌++◌, Option, None, Some, refl, ap, ◌∙◌, All}
-use Rattle.std.specs.Prelude.{is_none}
+use Rattle.std.proofs.Common.{◌≡◌, Bool, true, false, ◌||◌, cond, List, [], ◌∷◌, ◌++◌, Option, None, Some, refl, ap, ◌∙◌, All}
+use Rattle.std.specs.Prelude.{is_none, is_some}
+use Rattle.std.specs.List.{list_any}
 use Rattle.std.specs.Option.{IfSome}
 use Rattle.std.proofs.lemmas.Bool.{and_left, and_parts}
 use Rattle.std.proofs.lemmas.List.Elements.{All-cons, All-head, All-nil, All-tail, All-weaker}
 use Rattle.adlb_unit.specs.declared.names.Server.{Server}
 use Rattle.adlb_unit.specs.declared.units.Unit.{Unit as Work}
-use Rattle.server_law.specs.Finding.{Place, behind_one, is_idle, is_idle_first, is_idle_for, or_else, permits, place_in, taker}
-use Rattle.server_law.specs.State.{Waiting, idle}
+use Rattle.reserve_path.specs.Calls.{or_else}
+use Rattle.reserve_path.specs.Parked.{is_idle}
+use Rattle.server_law.specs.Finding.{Place, behind_one, is_idle_first, is_idle_for, permits, place_in, taker}
+use Rattle.reserve_path.specs.declared.waits.Waiting.{Waiting}
+use Rattle.server_law.specs.State.{idle}
 
 -- with those round about
 abbrev pub place : List Waiting → Waiting → List Waiting → Place
@@ -38,6 +42,20 @@ module _ (test : Waiting → Bool) where
           → IfSome (cond t (Some (place [] e waiting)) (behind_one e (place_in test waiting))) (IsPlace test (e ∷ waiting))
       by_test true is rest = record { stands = refl; passes = is; fails = All-nil (λ x. test x ≡ false) }
       by_test false is rest = place_behind e waiting (place_in test waiting) is rest
+
+  -- something is found where the test is true of some
+  pub place_says : (waiting : List Waiting) → is_some (place_in test waiting) ≡ list_any test waiting
+  place_says [] = refl
+  place_says (e ∷ waiting) = by_test (test e) (place_says waiting)
+    where
+      behind : (o : Option Place) → is_some (behind_one e o) ≡ is_some o
+      behind None = refl
+      behind (Some p) = refl
+
+      by_test : (t : Bool) → is_some (place_in test waiting) ≡ list_any test waiting
+          → is_some (cond t (Some (place [] e waiting)) (behind_one e (place_in test waiting))) ≡ (t || list_any test waiting)
+      by_test true rest = refl
+      by_test false rest = behind (place_in test waiting) ∙ rest
 
   behind_none : (e : Waiting) (o : Option Place) → behind_one e o ≡ None → o ≡ None
   behind_none e None none = refl

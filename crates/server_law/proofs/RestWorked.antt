@@ -13,7 +13,8 @@ use Rattle.server_law.specs.Acts.{Finds, Parks}
 use Rattle.server_law.specs.Agreement.{ServerAgrees}
 use Rattle.server_law.specs.Carried.{done}
 use Rattle.server_law.specs.Rest.{RestsAt, WaitsFor}
-use Rattle.server_law.specs.State.{ServerModel, Wish, idle, start}
+use Rattle.reserve_path.specs.declared.wishes.Wish.{Wish}
+use Rattle.server_law.specs.State.{ServerModel, idle, start}
 use Rattle.server_law.proofs.OneServer.{one_has_all}
 use Rattle.server_law.proofs.OwnEntries.{acts_are_legal}
 use Rattle.server_law.proofs.Resting.{rest_is_settled}

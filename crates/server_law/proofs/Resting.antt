@@ -27,7 +27,8 @@ use Rattle.server_law.specs.Agreement.{HoldsUnits, UnitWeight, weight_at, weight
 use Rattle.server_law.specs.Endings.{fits}
 use Rattle.server_law.specs.Finding.{best_for}
 use Rattle.server_law.specs.Rest.{IsHereOrSpent, IsKeptAt, RestIsSettled, RestsAt, WaitsFor}
-use Rattle.server_law.specs.State.{Kept, ServerModel, Wish}
+use Rattle.reserve_path.specs.declared.wishes.Wish.{Wish}
+use Rattle.server_law.specs.State.{Kept, ServerModel}
 use Rattle.server_law.proofs.BestFits.{nothing_fits}
 
 all_at : {X : Type 0} (P : X → Type 0) (xs : List X) (k : ℕ) (x : X) → All P xs → slice_get xs k ≡ Some x → P x

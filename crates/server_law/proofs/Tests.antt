@@ -12,25 +12,33 @@ use Rattle.adlb_unit.specs.Limits.{body_limit}
 use Rattle.adlb_unit.specs.Targets.{Aims, home_of, in_ranks}
 use Rattle.adlb_unit.specs.declared.configs.Config.{Config}
 use Rattle.adlb_unit.specs.declared.names.Rank.{Rank}
+use Rattle.adlb_unit.specs.declared.names.Server.{Server}
 use Rattle.adlb_unit.specs.declared.names.Target.{Target}
 use Rattle.adlb_unit.specs.declared.names.Target.TheVariants.{Any as Anyone, Only, Soft}
 use Rattle.adlb_unit.specs.declared.names.UnitId.{UnitId}
 use Rattle.adlb_unit.specs.declared.units.Unit.{Unit as Work}
 use Rattle.adlb_unit.proofs.Same.{same_unit_from, same_unit_is}
 use Rattle.bag_ledger.proofs.Tests.{same_rank_is, some_is}
-use Rattle.work_queue.specs.Queue.{HasFree, HasNoPromise, HasNoUnit, HasPinned, Promise, id_of}
+use Rattle.work_queue.specs.Queue.{HasFree, HasNoPromise, HasNoUnit, HasPinned, HasPromise, HasRoom, Promise, id_of}
 use Rattle.work_queue.specs.declared.placing.Placed.{Placed}
 use Rattle.adlb_unit.specs.declared.names.BatchId.{BatchId}
 use Rattle.batch_store.specs.Store.{CanClose, CanFetch, Keeps as PartKept, part_in}
 use Rattle.batch_store.specs.declared.parts.Part.{Part}
+use Rattle.reserve_path.specs.Calls.{is_since}
 use Rattle.server_law.specs.Acts.{batch_of}
+use Rattle.server_law.specs.Asks.{expects_ask}
 use Rattle.server_law.specs.Batches.{can_close, can_fetch, expects_keep, is_fewer, part_if}
 use Rattle.server_law.specs.Endings.{rests}
-use Rattle.server_law.specs.Expected.{IsHome, IsNew, Runs, WaitsIdle}
-use Rattle.server_law.specs.Finding.{has_promise, has_unit, is_free_as, is_idle, is_pin, is_pinned_as}
+use Rattle.server_law.specs.Expected.{IsHome, IsNew, IsUnanswered, Runs, WaitsIdle}
+use Rattle.reserve_path.specs.Parked.{is_idle}
+use Rattle.server_law.specs.Finding.{has_asked, has_promise, has_unit, is_asked_at, is_free_as, is_pin, is_pinned_as}
+use Rattle.server_law.specs.Hints.{expects_hint}
+use Rattle.server_law.specs.Pushes.{expects_query, expects_unit, is_room_for}
 use Rattle.server_law.specs.Puts.{expects_put}
 use Rattle.server_law.specs.Quiet.{QuietIsTested}
-use Rattle.server_law.specs.State.{Kept, ServerModel, Waiting, is_finished, is_home, is_of, is_waiting, runs, runs_at_home}
+use Rattle.reserve_path.specs.Parked.{is_of}
+use Rattle.reserve_path.specs.declared.waits.Waiting.{Waiting}
+use Rattle.server_law.specs.State.{Kept, ServerModel, is_finished, is_home, is_waiting, runs, runs_at_home}
 
 -- Tests in general.
 
@@ -129,6 +137,31 @@ pinned_says id rank units = find_says (is_pinned_as id rank) (λ p. (id_of p ≡
 pub free_says : (id : UnitId) (units : List Placed) → IsSome (find (is_free_as id) units) ↔ HasFree id units
 free_says id units = find_says (is_free_as id) (λ p. (id_of p ≡ id) × (p.pin ≡ None)) (is_free_says id) units
 
+pub promise_says : (id : UnitId) (promises : List Promise) → Says (has_promise id promises) (HasPromise id promises)
+promise_says id promises = any_says (λ p. same_unit p.id id) (λ (p : Promise). p.id ≡ id) (λ p. unit_says p.id id) promises
+
+pub room_says : (id : UnitId) (n : ℕ) (promises : List Promise) → Says (list_any (is_room_for id n) promises) (HasRoom id n promises)
+room_says id n promises =
+    any_says (is_room_for id n) (λ (p : Promise). (p.id ≡ id) × (p.length ≡ n))
+    (λ p. both_say (same_unit p.id id) (p.length == n) (unit_says p.id id) (same_says p.length n)) promises
+
+-- Pushes.
+
+pub query_says : (k : Kept) (id : UnitId) → Says (expects_query k id) (HasNoUnit id k.queue.units × HasNoPromise id k.queue.promises)
+query_says k id =
+    both_say (not (has_unit id k.queue.units)) (not (has_promise id k.queue.promises))
+    (not_says (has_unit id k.queue.units) (has_unit_says id k.queue.units))
+    (not_says (has_promise id k.queue.promises) (has_promise_says id k.queue.promises))
+
+pub unit_comes_says : (k : Kept) (unit : Work) → Says (expects_unit k unit)
+    (HasNoUnit unit.id k.queue.units × HasRoom unit.id (length unit.body) k.queue.promises × (k.owed ≡ None))
+unit_comes_says k unit =
+    let room = list_any (is_room_for unit.id (length unit.body)) k.queue.promises in
+    let says = both_say (not (has_unit unit.id k.queue.units)) (room && is_none k.owed)
+    (not_says (has_unit unit.id k.queue.units) (has_unit_says unit.id k.queue.units))
+    (both_say room (is_none k.owed) (room_says unit.id (length unit.body) k.queue.promises) (is_none_says k.owed)) in
+    (λ is. let all = says.0 is in (all.0, all.1.0, all.1.1), λ is. says.1 (is.0, (is.1, is.2)))
+
 -- Common parts.
 
 -- something is there and passes
@@ -189,6 +222,42 @@ is_home_says s rank = same_says (home_of s.config.servers rank) s.me.0
 
 pub is_of_says : (rank : Rank) (e : Waiting) → Says (is_of rank e) (e.wish.rank ≡ rank)
 is_of_says rank e = rank_says e.wish.rank rank
+
+pub server_says : (a b : Server) → Says (a.0 == b.0) (a ≡ b)
+server_says a b =
+    let named : ℕ → Server = λ n. record { 0 = n } in
+    (λ is. ap named (eqb-true a.0 b.0 is), λ same. eq-eqb a.0 b.0 (ap (λ (x : Server). x.0) same))
+
+pub is_asked_at_says : (asked : Option Server) (from : Server) → Says (is_asked_at asked from) (asked ≡ Some from)
+is_asked_at_says None from = (λ no. absurd (cc), λ is. absurd (cc))
+is_asked_at_says (Some t) from = (λ is. ap (λ (x : Server). Some x) ((server_says t from).0 is), λ is. (server_says t from).1 (some_is is))
+
+pub is_since_says : (rank : Rank) (request : ℕ) (e : Waiting)
+    → Says (is_since rank request e) ((e.wish.rank ≡ rank) × (e.wish.request ≡ request))
+is_since_says rank request e = both_say (is_of rank e) (e.wish.request == request) (is_of_says rank e) (same_says e.wish.request request)
+
+pub has_asked_says : (from : Server) (rank : Rank) (request : ℕ) (e : Waiting)
+    → Says (has_asked from rank request e) ((e.wish.rank ≡ rank) × (e.wish.request ≡ request) × (e.asked ≡ Some from))
+has_asked_says from rank request e =
+    let both = both_say _ _ (is_since_says rank request e) (is_asked_at_says e.asked from) in
+    (λ is. let all = both.0 is in (all.0.0, all.0.1, all.1), λ is. both.1 ((is.0, is.1), is.2))
+
+pub unanswered_says : (s : ServerModel) (from : Server) (rank : Rank) (request : ℕ)
+    → Says (list_any (has_asked from rank request) s.kept.parked.waiting) (IsUnanswered s from rank request)
+unanswered_says s from rank request =
+    any_says (has_asked from rank request)
+    (λ (e : Waiting). (e.wish.rank ≡ rank) × (e.wish.request ≡ request) × (e.asked ≡ Some from)) (has_asked_says from rank request)
+    s.kept.parked.waiting
+
+pub expects_ask_says : (s : ServerModel) (from : Server) (rank : Rank)
+    → Says (expects_ask s from rank) ((rank.0 < s.config.ranks) × (home_of s.config.servers rank ≡ from.0))
+expects_ask_says s from rank =
+    both_say (nat_lt rank.0 s.config.ranks) (is_home s.config from rank) (below_says rank.0 s.config.ranks)
+    (same_says (home_of s.config.servers rank) from.0)
+
+pub expects_hint_says : (s : ServerModel) (rank : Rank) → Says (expects_hint s rank) ((rank.0 < s.config.ranks) × IsHome s rank)
+expects_hint_says s rank =
+    both_say (nat_lt rank.0 s.config.ranks) (is_home s.config s.me rank) (below_says rank.0 s.config.ranks) (is_home_says s rank)
 
 pub waits_not_says : (k : Kept) (rank : Rank)
     → (is_waiting k rank ≡ false) ↔ All (λ (e : Waiting). e.wish.rank ≢ rank) k.parked.waiting

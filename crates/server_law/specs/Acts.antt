@@ -1,7 +1,8 @@
 -- What a server does, one act after the other: the letter that an act takes, what it changes, says and enters in the ledger. Each
 -- act tells of at most one rank.
-use Rattle.std.specs.Prelude.{ℕ, Bool, true, List, [], ◌∷◌, ◌++◌, length, Option, None, Some, slice_set, if◌then◌else◌}
+use Rattle.std.specs.Prelude.{ℕ, Bool, true, not, List, [], ◌∷◌, ◌++◌, filter, length, Option, None, Some, slice_set, if◌then◌else◌}
 use Rattle.adlb_unit.specs.Ring.{others}
+use Rattle.adlb_unit.specs.Targets.{home}
 use Rattle.adlb_unit.specs.declared.actors.Actor.{Actor}
 use Rattle.adlb_unit.specs.declared.actors.Actor.TheVariants as by
 use Rattle.adlb_unit.specs.declared.messages.Message.{Message}
@@ -12,15 +13,22 @@ use Rattle.adlb_unit.specs.declared.names.Server.{Server}
 use Rattle.adlb_unit.specs.declared.names.UnitId.{UnitId}
 use Rattle.adlb_unit.specs.declared.names.WorkType.{WorkType}
 use Rattle.adlb_unit.specs.declared.notes.End.{End}
+use Rattle.adlb_unit.specs.declared.notes.UnitNote.{UnitNote}
 use Rattle.adlb_unit.specs.declared.units.Unit.{Unit as Work}
 use Rattle.bag_ledger.specs.declared.entries.Entry.{Entry}
 use Rattle.bag_ledger.specs.declared.entries.Entry.TheVariants as enters
 use Rattle.bag_ledger.specs.Runs.{note_of}
 use Rattle.work_queue.specs.Counts.{counts_of}
-use Rattle.work_queue.specs.Queue.{Queue, charge_of, with_common, with_pin, with_unit, without, without_common}
+use Rattle.work_queue.specs.Queue.{Queue, charge_of, with_arrival, with_common, with_pin, with_promise, with_unit, without, without_common, without_promise}
 use Rattle.batch_store.specs.Store.{Store, changed, closed, fetched, is_due, with_fresh}
 use Rattle.batch_store.specs.declared.parts.Part.{Part}
-use Rattle.server_law.specs.State.{Kept, ServerModel, Waiting, Wish, idle}
+use Rattle.reserve_path.specs.Calls.{with_server}
+use Rattle.reserve_path.specs.Parked.{is_by}
+use Rattle.reserve_path.specs.declared.waits.Waiting.{Waiting}
+use Rattle.reserve_path.specs.declared.wishes.Wish.{Wish}
+use Rattle.put_path.specs.Pushes.{asks_room, has_sent, one_more}
+use Rattle.put_path.specs.declared.standing.StandingPush.{StandingPush}
+use Rattle.server_law.specs.State.{Debt, ServerModel, awaiting, debt, idle}
 
 -- a message to an actor
 pub record ServerSaying : Type 0 where
@@ -65,6 +73,30 @@ pub data Act : Type 0 where
   -- a rank that waits and is idle gets a unit, or is told an end
   Gives : Around → Wish → List Server → Work → Act
   Tells : Around → Wish → List Server → End → Act
+  -- of a rank that waits the next server is asked; that server has pinned a unit to it, of which it is told, or had none, so that it is
+  -- idle; another server has a unit for it by now, and is among those still to be asked; and a hint that comes too late
+  Asks_on : Around → Wish → Server → List Server → Act
+  Passes_on : Around → Wish → Server → List Server → UnitNote → Act
+  Wakes : Around → Wish → Server → List Server → Act
+  Is_hinted : Around → Waiting → Server → Act
+  Drops_hint : Server → Rank → ℕ → Act
+  -- the home of a rank asks for it: a unit is pinned to the rank, or its wish is kept; and its home is told that there is a unit by now
+  Answers : Server → Wish → Work → Act
+  Declines : Server → Wish → Act
+  Hints : Wish → Act
+  -- a unit is to move to a server where there is room: that server is asked for room; it promises it, or has none; the unit goes, or it
+  -- is no longer free and the push is taken back; the push has ended, since there was no room or by its acknowledgement
+  Queries : Server → UnitId → ℕ → Act
+  Promises : Server → UnitId → ℕ → Act
+  Refuses_push : Server → UnitId → ℕ → Act
+  Sends_unit : Server → ℕ → Work → Act
+  Cancels : Server → UnitId → ℕ → Act
+  Stops_push : Server → UnitId → ℕ → Act
+  Ends_push : Server → UnitId → ℕ → Act
+  -- a unit has come into its room, and its coming is acknowledged; and a promise is taken back
+  Arrives : Server → Work → Act
+  Acks : Server → UnitId → Act
+  Withdraws : Server → UnitId → Act
   -- all work is used up; and no rank waits or runs any more
   Finds : Act
   Shuts : Act
@@ -72,8 +104,14 @@ pub data Act : Type 0 where
 abbrev pub to_rank : Rank → Message → ServerSaying
 to_rank rank message = record { to = by.Rank rank; message = message }
 
+abbrev pub to_server : Server → Message → ServerSaying
+to_server server message = record { to = by.Server server; message = message }
+
 abbrev pub of_rank : Rank → Message → Heard
 of_rank rank message = record { from = by.Rank rank; message = message }
+
+abbrev pub of_server : Server → Message → Heard
+of_server server message = record { from = by.Server server; message = message }
 
 -- the batch that begins in the rank's call of this number, and the unit that is put in it
 abbrev pub batch_of : Rank → ℕ → BatchId
@@ -102,24 +140,53 @@ takes (Refuses_part rank request common) = of_rank rank (tells.KeepCommon reques
 takes (Ends_keep rank request common end) = of_rank rank (tells.KeepCommon request common) ∷ []
 takes (Closes request batch accepted part) = of_rank batch.rank (tells.CloseBatch request batch accepted) ∷ []
 takes (Fetches_part rank request batch part) = of_rank rank (tells.FetchCommon request batch) ∷ []
+takes (Passes_on at wish from rest note) = of_server from (tells.AskGrant wish.rank wish.request note) ∷ []
+takes (Wakes at wish from rest) = of_server from (tells.AskNone wish.rank wish.request) ∷ []
+takes (Is_hinted at e from) = of_server from (tells.Hint e.wish.rank e.wish.request) ∷ []
+takes (Drops_hint from rank request) = of_server from (tells.Hint rank request) ∷ []
+takes (Answers from wish unit) = of_server from (tells.Ask wish.rank wish.request wish.types) ∷ []
+takes (Declines from wish) = of_server from (tells.Ask wish.rank wish.request wish.types) ∷ []
+takes (Promises from id length) = of_server from (tells.PushQuery id length) ∷ []
+takes (Refuses_push from id length) = of_server from (tells.PushQuery id length) ∷ []
+takes (Sends_unit to length unit) = of_server to (tells.PushYes unit.id) ∷ []
+takes (Cancels to id length) = of_server to (tells.PushYes id) ∷ []
+takes (Stops_push to id length) = of_server to (tells.PushNo id) ∷ []
+takes (Ends_push to id length) = of_server to (tells.PushAck id) ∷ []
+takes (Arrives from unit) = of_server from (tells.PushUnit unit) ∷ []
+takes (Withdraws from id) = of_server from (tells.PushCancel id) ∷ []
 takes _ = []
 
 -- What it changes, component by component.
 
+-- a rank that waits, for which this server is among those still to be asked, in ring order
+abbrev pub hinted : ServerModel → Waiting → Server → Waiting
+hinted s e from = record e { to_ask = with_server s.config s.me e.to_ask from }
+
 -- who comes to wait
 abbrev pub comes : Act → ServerModel → List Waiting
 comes (Parks wish) s = idle wish (others s.config s.me) ∷ []
+comes (Asks_on at wish to rest) s = awaiting wish to rest ∷ []
+comes (Wakes at wish from rest) s = idle wish rest ∷ []
+comes (Is_hinted at e from) s = hinted s e from ∷ []
 comes _ s = []
 
 -- who waits no longer, and those round about
 abbrev pub goes : Act → List Waiting
 goes (Gives at wish rest unit) = idle wish rest ∷ []
 goes (Tells at wish rest end) = idle wish rest ∷ []
+goes (Asks_on at wish to rest) = idle wish (to ∷ rest) ∷ []
+goes (Passes_on at wish from rest note) = awaiting wish from rest ∷ []
+goes (Wakes at wish from rest) = awaiting wish from rest ∷ []
+goes (Is_hinted at e from) = e ∷ []
 goes _ = []
 
 abbrev pub around : Act → Option Around
 around (Gives at wish rest unit) = Some at
 around (Tells at wish rest end) = Some at
+around (Asks_on at wish to rest) = Some at
+around (Passes_on at wish from rest note) = Some at
+around (Wakes at wish from rest) = Some at
+around (Is_hinted at e from) = Some at
 around _ = None
 
 -- where nobody goes, who comes is last
@@ -130,6 +197,16 @@ waiting_with (Some at) waiting come = at.before ++ (come ++ at.behind)
 
 abbrev pub waiting_after : Act → ServerModel → List Waiting
 waiting_after a s = waiting_with (around a) s.kept.parked.waiting (comes a s)
+
+-- the wishes without that of the rank
+abbrev pub unwished : Rank → List Wish → List Wish
+unwished rank wishes = filter (λ w. not (is_by rank w)) wishes
+
+abbrev pub wishes_after : Act → List Wish → List Wish
+wishes_after (Answers from wish unit) wishes = unwished wish.rank wishes
+wishes_after (Declines from wish) wishes = unwished wish.rank wishes ++ wish ∷ []
+wishes_after (Hints wish) wishes = unwished wish.rank wishes
+wishes_after _ wishes = wishes
 
 -- the bytes of a part that is due are given back
 abbrev pub given_back : Part → Queue → Queue
@@ -144,7 +221,34 @@ queue_after (Gives at wish rest unit) q = with_pin q unit.id wish.rank
 queue_after (Keeps rank request common) q = with_common q (length common)
 queue_after (Closes request batch accepted part) q = given_back (closed accepted part) q
 queue_after (Fetches_part rank request batch part) q = given_back (fetched part) q
+queue_after (Answers from wish unit) q = with_pin q unit.id wish.rank
+queue_after (Promises from id length) q = with_promise q id length
+queue_after (Sends_unit to length unit) q = without q unit.id
+queue_after (Arrives from unit) q = with_arrival q unit
+queue_after (Withdraws from id) q = without_promise q id
 queue_after _ q = q
+
+-- the push that stands, and the acknowledgement that is owed: as they were before the act and are after it, where the act changes them
+abbrev pub turns : Act → Option (Option StandingPush × Option StandingPush)
+turns (Queries to id length) = Some (None, Some (asks_room to id length))
+turns (Sends_unit to length unit) = Some (Some (asks_room to unit.id length), Some (has_sent to unit.id length))
+turns (Cancels to id length) = Some (Some (asks_room to id length), Some (has_sent to id length))
+turns (Stops_push to id length) = Some (Some (asks_room to id length), None)
+turns (Ends_push to id length) = Some (Some (has_sent to id length), None)
+turns _ = None
+
+abbrev pub debts : Act → Option (Option Debt × Option Debt)
+debts (Arrives from unit) = Some (None, Some (debt from unit.id))
+debts (Acks to id) = Some (Some (debt to id), None)
+debts _ = None
+
+abbrev pub turned : {X : Type 0} → Option (Option X × Option X) → Option X → Option X
+turned None x = x
+turned (Some change) x = change.1
+
+abbrev pub pushes_after : Act → ℕ → ℕ
+pushes_after (Queries to id length) n = one_more n
+pushes_after _ n = n
 
 abbrev pub parts_after : Act → Store → Store
 parts_after (Keeps rank request common) parts = with_fresh parts (batch_of rank request) common
@@ -170,7 +274,9 @@ does a s = record s {
   kept = record {
     queue = queue_after a s.kept.queue;
     parts = parts_after a s.kept.parts;
-    parked = record { waiting = waiting_after a s; wishes = s.kept.parked.wishes };
+    parked = record { waiting = waiting_after a s; wishes = wishes_after a s.kept.parked.wishes };
+    pushing = record { push = turned (turns a) s.kept.pushing.push; pushes = pushes_after a s.kept.pushing.pushes };
+    owed = turned (debts a) s.kept.owed;
     finished = finished_after a s.kept.finished;
     done = s.kept.done;
     exhausted = exhausted_after a s.kept.exhausted;
@@ -198,6 +304,18 @@ says (Refuses_part rank request common) s = to_rank rank (tells.Full request (ch
 says (Ends_keep rank request common end) s = to_rank rank (tells.Ended request end) ∷ []
 says (Closes request batch accepted part) s = to_rank batch.rank (tells.Closed request) ∷ []
 says (Fetches_part rank request batch part) s = to_rank rank (tells.Bytes request part.bytes) ∷ []
+says (Asks_on at wish to rest) s = to_server to (tells.Ask wish.rank wish.request wish.types) ∷ []
+says (Passes_on at wish from rest note) s = to_rank wish.rank (tells.Grant wish.request note) ∷ []
+says (Answers from wish unit) s = to_server from (tells.AskGrant wish.rank wish.request (note_of s.me unit)) ∷ []
+says (Declines from wish) s = to_server from (tells.AskNone wish.rank wish.request) ∷ []
+says (Hints wish) s = to_server (home s.config wish.rank) (tells.Hint wish.rank wish.request) ∷ []
+says (Queries to id length) s = to_server to (tells.PushQuery id length) ∷ []
+says (Promises from id length) s = to_server from (tells.PushYes id) ∷ []
+says (Refuses_push from id length) s = to_server from (tells.PushNo id) ∷ []
+says (Sends_unit to length unit) s = to_server to (tells.PushUnit unit) ∷ []
+says (Cancels to id length) s = to_server to (tells.PushCancel id) ∷ []
+says (Acks to id) s = to_server to (tells.PushAck id) ∷ []
+says (Withdraws from id) s = to_server from (tells.PushAck id) ∷ []
 says _ s = []
 
 -- a part that is due is freed
@@ -223,4 +341,9 @@ entries (Refuses_part rank request common) s = enters.Refused s.me (unit_of rank
 entries (Ends_keep rank request common end) s = enters.Over rank request end ∷ []
 entries (Closes request batch accepted part) s = enters.Closed s.me batch ∷ frees s.me batch (closed accepted part)
 entries (Fetches_part rank request batch part) s = enters.CommonFetched s.me rank batch ∷ frees s.me batch (fetched part)
+entries (Answers from wish unit) s = enters.Granted s.me wish.rank wish.request unit.id ∷ []
+entries (Promises from id length) s = enters.Promised s.me id length ∷ []
+entries (Sends_unit to length unit) s = enters.Left s.me to unit.id ∷ []
+entries (Arrives from unit) s = enters.Arrived s.me unit.id ∷ []
+entries (Withdraws from id) s = enters.Withdrawn s.me id ∷ []
 entries _ s = []

@@ -1,5 +1,5 @@
 -- Which part of the bag a server stands for: its own units, promises and parts, and what it knows. Of ranks it says nothing.
-use Rattle.std.specs.Prelude.{◌≡◌, ◌<◌, ◌==◌, ℕ, Bool, true, ◌&&◌, not, List, [], ◌∷◌, find, Option, None, Some, is_none, sum_by, option_and_then, if◌then◌else◌}
+use Rattle.std.specs.Prelude.{◌≡◌, ◌<◌, ◌==◌, ℕ, Bool, true, ◌&&◌, not, List, find, Option, None, Some, is_none, sum_by, option_and_then, if◌then◌else◌}
 use Rattle.std.specs.Option.{option_map}
 use Rattle.adlb_unit.specs.Ids.{same_batch, same_unit}
 use Rattle.adlb_unit.specs.declared.configs.Config.{Config}
@@ -18,7 +18,7 @@ use Rattle.work_queue.specs.Queue.{HasDistinctIds, HasDistinctPromises, Promise,
 use Rattle.work_queue.specs.declared.placing.Placed.{Placed}
 use Rattle.batch_store.specs.Store.{Store, part_in}
 use Rattle.batch_store.specs.declared.parts.Part.{Part as PartKept}
-use Rattle.server_law.specs.Finding.{unit_with}
+use Rattle.reserve_path.specs.Grants.{unit_with}
 use Rattle.server_law.specs.State.{ServerModel, start}
 
 -- the pin of a unit in this place, where it is at the server

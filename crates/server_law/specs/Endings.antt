@@ -1,14 +1,16 @@
 -- What follows each event, with one server: exhaustion is found, or the server is shut.
-use Rattle.std.specs.Prelude.{ℕ, ◌==◌, Bool, true, false, ◌&&◌, ◌||◌, not, List, [], ◌∷◌, ◌++◌, Option, None, Some, is_some, if◌then◌else◌}
+use Rattle.std.specs.Prelude.{◌==◌, Bool, true, false, ◌&&◌, ◌||◌, not, List, [], ◌∷◌, ◌++◌, Option, None, Some, is_some, if◌then◌else◌}
 use Rattle.std.specs.List.{list_all, list_any, range_with_len}
 use Rattle.adlb_unit.specs.declared.names.Rank.{Rank}
 use Rattle.adlb_unit.specs.declared.names.Server.{Server}
 use Rattle.adlb_unit.specs.declared.notes.End.{End}
 use Rattle.adlb_unit.specs.declared.notes.End.TheVariants as ends_by
+use Rattle.reserve_path.specs.Parked.{is_idle, is_of}
+use Rattle.reserve_path.specs.declared.waits.Waiting.{Waiting}
 use Rattle.server_law.specs.Acts.{Act, Around, Finds, Shuts, Tells}
-use Rattle.server_law.specs.Finding.{best_for, is_idle}
+use Rattle.server_law.specs.Finding.{best_for}
 use Rattle.server_law.specs.Plan.{Decider}
-use Rattle.server_law.specs.State.{Kept, ServerModel, Waiting, is_finished, is_home, is_of}
+use Rattle.server_law.specs.State.{Kept, ServerModel, is_finished, is_home}
 
 -- the rank's home is elsewhere, or it has finished, or it waits and is idle
 abbrev pub rests : ServerModel → Rank → Bool

@@ -1,7 +1,6 @@
 -- Which letters a server expects.
-use Rattle.std.specs.Prelude.{◌≡◌, ◌≢◌, ◌⊎◌, ◌<◌, ◌≤◌, ◌↔◌, true, false, length, All, Any, IsSome, IsTrue, None}
+use Rattle.std.specs.Prelude.{◌≡◌, ◌≢◌, ◌⊎◌, ◌<◌, ◌≤◌, ◌↔◌, true, false, length, All, Any, ℕ, IsSome, None, Some}
 use Rattle.adlb_unit.specs.Limits.{body_limit, stamp_limit}
-use Rattle.adlb_unit.specs.Links.{is_within}
 use Rattle.adlb_unit.specs.Targets.{Aims, home_of}
 use Rattle.adlb_unit.specs.declared.actors.Actor.{Actor}
 use Rattle.adlb_unit.specs.declared.actors.Actor.TheVariants as by
@@ -9,11 +8,14 @@ use Rattle.adlb_unit.specs.declared.letters.Letter.{Letter}
 use Rattle.adlb_unit.specs.declared.messages.Message.{Message}
 use Rattle.adlb_unit.specs.declared.messages.Message.TheVariants as tells
 use Rattle.adlb_unit.specs.declared.names.Rank.{Rank}
+use Rattle.adlb_unit.specs.declared.names.Server.{Server}
 use Rattle.adlb_unit.specs.declared.units.Unit.{Unit}
-use Rattle.work_queue.specs.Queue.{HasNoPromise, HasNoUnit, HasPinned}
+use Rattle.work_queue.specs.Queue.{HasNoPromise, HasNoUnit, HasPinned, HasPromise, HasRoom}
 use Rattle.batch_store.specs.Store.{CanClose, CanFetch, Keeps as PartKept, part_in}
+use Rattle.reserve_path.specs.declared.waits.Waiting.{Waiting}
+use Rattle.put_path.specs.Pushes.{Asks, HasSent}
 use Rattle.server_law.specs.Acts.{batch_of}
-use Rattle.server_law.specs.State.{ServerModel, Waiting, is_finished}
+use Rattle.server_law.specs.State.{ServerModel, is_finished}
 use Rattle.server_law.specs.Step.{serve}
 
 -- the unit is the sender's; no unit and no promise of its id is here; its body is no longer than it may be; a rank that its target
@@ -56,10 +58,38 @@ IsAwaited s from (tells.Count request kind) = IsHome s from × Runs s from
 IsAwaited s from tells.Finish = Runs s from
 IsAwaited s from _ = ⊥
 
--- beside each row: the sender is a rank of the run, and the stamp one that is given
+-- the rank waits here since this call, and the server that was asked for it and has not answered is this one
+abbrev pub IsUnanswered : ServerModel → Server → Rank → ℕ → Type 0
+IsUnanswered s from rank request =
+    Any (λ (e : Waiting). (e.wish.rank ≡ rank) × (e.wish.request ≡ request) × (e.asked ≡ Some from)) s.kept.parked.waiting
+
+-- another server's letter that says this is awaited, one row a letter; no other letter is
+abbrev pub IsAwaitedFrom : ServerModel → Server → Message → Type 0
+-- the sender is the rank's home
+IsAwaitedFrom s from (tells.Ask rank request types) = (rank.0 < s.config.ranks) × (home_of s.config.servers rank ≡ from.0)
+IsAwaitedFrom s from (tells.AskGrant rank request note) = IsUnanswered s from rank request
+IsAwaitedFrom s from (tells.AskNone rank request) = IsUnanswered s from rank request
+-- the rank's home is here
+IsAwaitedFrom s from (tells.Hint rank request) = (rank.0 < s.config.ranks) × IsHome s rank
+-- no unit and no promise of the id is here
+IsAwaitedFrom s from (tells.PushQuery id length) = HasNoUnit id s.kept.queue.units × HasNoPromise id s.kept.queue.promises
+-- the push of this server asks the sender for room for this unit
+IsAwaitedFrom s from (tells.PushYes id) = Asks s.kept.pushing from id
+IsAwaitedFrom s from (tells.PushNo id) = Asks s.kept.pushing from id
+-- no unit of the id is here, room of the unit's length was promised, and no acknowledgement is owed, as none is between events
+IsAwaitedFrom s from (tells.PushUnit unit) =
+    HasNoUnit unit.id s.kept.queue.units × HasRoom unit.id (length unit.body) s.kept.queue.promises × (s.kept.owed ≡ None)
+-- room was promised
+IsAwaitedFrom s from (tells.PushCancel id) = HasPromise id s.kept.queue.promises
+-- the push of this server has sent the unit or a cancel of it to the sender
+IsAwaitedFrom s from (tells.PushAck id) = HasSent s.kept.pushing from id
+IsAwaitedFrom s from _ = ⊥
+
+-- beside each row: the sender is a rank of the run, or another server of it, and the stamp one that is given
 abbrev pub IsExpected : ServerModel → Actor → Letter → Type 0
 IsExpected s (by.Rank from) letter = (from.0 < s.config.ranks) × (letter.stamp < stamp_limit) × IsAwaited s from letter.message
-IsExpected s (by.Server from) letter = ⊥
+IsExpected s (by.Server from) letter =
+    (from.0 < s.config.servers) × (from ≢ s.me) × (letter.stamp < stamp_limit) × IsAwaitedFrom s from letter.message
 
 -- the law: exactly the letters that are expected have a step
 abbrev pub ExpectedHaveSteps : Type 0

@@ -1,5 +1,5 @@
 -- The rule of Fetch.
-use Rattle.std.specs.Prelude.{ℕ, List, [], find, Option, None, Some}
+use Rattle.std.specs.Prelude.{ℕ, [], find, Option, None, Some}
 use Rattle.adlb_unit.specs.declared.names.Rank.{Rank}
 use Rattle.adlb_unit.specs.declared.names.UnitId.{UnitId}
 use Rattle.work_queue.specs.declared.placing.Placed.{Placed}

@@ -1,18 +1,20 @@
 -- What rules look up: units of the queue, and ranks that wait.
-use Rattle.std.specs.Prelude.{ℕ, ◌+◌, ◌==◌, nat_lt, Bool, true, false, ◌&&◌, List, [], ◌∷◌, find, Option, None, Some, is_none, if◌then◌else◌, option_and_then}
+use Rattle.std.specs.Prelude.{ℕ, ◌+◌, ◌==◌, nat_lt, Bool, false, ◌&&◌, List, [], ◌∷◌, Option, None, Some, is_none, if◌then◌else◌}
 use Rattle.std.specs.List.{list_any}
 use Rattle.adlb_unit.specs.Ids.{same_unit}
-use Rattle.adlb_unit.specs.Permit.{permitted}
 use Rattle.adlb_unit.specs.declared.names.Rank.{Rank}
-use Rattle.adlb_unit.specs.declared.names.Target.{Target}
-use Rattle.adlb_unit.specs.declared.names.Target.TheVariants.{Any, Only, Soft}
+use Rattle.adlb_unit.specs.declared.names.Server.{Server}
 use Rattle.adlb_unit.specs.declared.names.UnitId.{UnitId}
 use Rattle.adlb_unit.specs.declared.units.Unit.{Unit as Work}
-use Rattle.work_queue.specs.Best.{best_of}
 use Rattle.work_queue.specs.Queue.{Promise, Queue, charge_of, id_of}
 use Rattle.work_queue.specs.declared.placing.Placed.{Placed}
 use Rattle.server_law.specs.Acts.{Around}
-use Rattle.server_law.specs.State.{Kept, Waiting, Wish}
+use Rattle.reserve_path.specs.Calls.{is_since, is_soft_for, or_else, suits}
+use Rattle.reserve_path.specs.Grants.{best_for as best_at}
+use Rattle.reserve_path.specs.Parked.{is_idle}
+use Rattle.reserve_path.specs.declared.waits.Waiting.{Waiting}
+use Rattle.reserve_path.specs.declared.wishes.Wish.{Wish}
+use Rattle.server_law.specs.State.{Kept}
 
 -- Units.
 
@@ -21,9 +23,6 @@ has_unit id units = list_any (λ p. same_unit (id_of p) id) units
 
 abbrev pub has_promise : UnitId → List Promise → Bool
 has_promise id promises = list_any (λ p. same_unit p.id id) promises
-
-abbrev pub unit_with : UnitId → List Placed → Option Placed
-unit_with id units = find (λ p. same_unit (id_of p) id) units
 
 abbrev pub is_pin : Option Rank → Rank → Bool
 is_pin None rank = false
@@ -37,14 +36,14 @@ is_free_as id p = same_unit (id_of p) id && is_none p.pin
 
 -- the best free unit for the wish
 abbrev pub best_for : Kept → Wish → Option Placed
-best_for k wish = option_and_then (λ id. unit_with id k.queue.units) (best_of wish.rank wish.types k.queue.units)
+best_for k wish = best_at k.queue wish.rank wish.types
 
 -- so many bytes more would go beyond the limit
 abbrev pub exceeds : Queue → ℕ → Bool
 exceeds queue n = nat_lt queue.limit (charge_of queue + n)
 
 abbrev pub permits : Work → Wish → Bool
-permits unit wish = permitted wish.rank wish.types unit.kind unit.target
+permits unit wish = suits unit.kind unit.target wish
 
 -- Ranks that wait.
 
@@ -63,25 +62,21 @@ place_in test [] = None
 place_in test (e ∷ waiting) =
     if test e then Some (record { at = record { before = []; behind = waiting }; here = e }) else behind_one e (place_in test waiting)
 
-abbrev pub is_idle : Waiting → Bool
-is_idle e = is_none e.asked
-
 abbrev pub is_idle_for : Work → Waiting → Bool
 is_idle_for unit e = is_idle e && permits unit e.wish
-
--- the target names this rank before others
-abbrev pub is_soft_for : Target → Rank → Bool
-is_soft_for (Soft first) rank = first.0 == rank.0
-is_soft_for (Only rank) to = false
-is_soft_for Any rank = false
 
 abbrev pub is_idle_first : Work → Waiting → Bool
 is_idle_first unit e = is_idle_for unit e && is_soft_for unit.target e.wish.rank
 
-abbrev pub or_else : Option Place → Option Place → Option Place
-or_else (Some p) other = Some p
-or_else None other = other
-
 -- the idle rank that gets the unit: the one that its target names before others, else the first of those that it is permitted to
 abbrev pub taker : Work → List Waiting → Option Place
 taker unit waiting = or_else (place_in (is_idle_first unit) waiting) (place_in (is_idle_for unit) waiting)
+
+-- the server that was asked and has not answered is this one
+abbrev pub is_asked_at : Option Server → Server → Bool
+is_asked_at None from = false
+is_asked_at (Some asked) from = asked.0 == from.0
+
+-- it was asked for the rank in the call of this number
+abbrev pub has_asked : Server → Rank → ℕ → Waiting → Bool
+has_asked from rank request e = is_since rank request e && is_asked_at e.asked from

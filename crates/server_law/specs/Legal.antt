@@ -1,12 +1,12 @@
 -- What an act asks of the bag, so that its entries are steps of the bag; and what steps of others leave.
-use Rattle.std.specs.Prelude.{◌≡◌, ◌≢◌, ℕ, Bool, true, false, List, Option, None, Some, IsTrue}
+use Rattle.std.specs.Prelude.{◌≡◌, ◌≢◌, ◌<◌, ℕ, true, false, List, Option, None, Some, IsTrue}
 use Rattle.adlb_unit.specs.declared.names.BatchId.{BatchId}
 use Rattle.adlb_unit.specs.declared.names.CommonRef.{CommonRef}
 use Rattle.adlb_unit.specs.declared.names.Rank.{Rank}
 use Rattle.adlb_unit.specs.declared.names.Server.{Server}
 use Rattle.adlb_unit.specs.declared.names.UnitId.{UnitId}
 use Rattle.adlb_unit.specs.declared.units.Unit.{Unit as Work}
-use Rattle.bag_ledger.specs.Bag.{Bag, has_declined, has_due, part_of, rank_at, settled, unit_of}
+use Rattle.bag_ledger.specs.Bag.{Bag, has_declined, has_due, part_of, promise_of, rank_at, settled, unit_of}
 use Rattle.bag_ledger.specs.Runs.{IsRun}
 use Rattle.bag_ledger.specs.Steps.{Steps}
 use Rattle.bag_ledger.specs.declared.entries.Entry.{Entry}
@@ -16,11 +16,14 @@ use Rattle.bag_ledger.specs.declared.states.Placed.{Placed}
 use Rattle.bag_ledger.specs.declared.states.RankState.{RankState}
 use Rattle.bag_ledger.specs.declared.states.Status.{Status}
 use Rattle.bag_ledger.specs.declared.states.Status.TheVariants as is_at
-use Rattle.bag_law.specs.Sound.{IsSoundBag}
-use Rattle.server_law.specs.Acts.{Act, Accepts, Closes, Counts, Ends_keep, Ends_put, Ends_reserve, Ends_try, Fetches, Fetches_part, Finds, Gives, Grants, Grants_try, Keeps, Looks, Refuses, Refuses_part, Tells, batch_of, entries}
+use Rattle.bag_ledger.specs.declared.states.UnitPlace.TheVariants.{Travelling}
+use Rattle.bag_law.specs.Sound.{IsSoundBag, PromisesAreSingle}
+use Rattle.reserve_path.specs.declared.wishes.Wish.{Wish}
+use Rattle.server_law.specs.Acts.{Accepts, Act, Answers, Arrives, Closes, Counts, Ends_keep, Ends_put, Ends_reserve, Ends_try, Fetches, Fetches_part, Finds, Gives, Grants, Grants_try, Keeps, Looks, Promises, Refuses, Refuses_part, Sends_unit, Tells, Withdraws, batch_of, entries}
 use Rattle.server_law.specs.Agreement.{ServerAgrees}
 use Rattle.server_law.specs.Carried.{done}
-use Rattle.server_law.specs.State.{ServerModel, Wish}
+use Rattle.server_law.specs.Moving.{IsHeldAt, IsMeasured, IsPromisedAt}
+use Rattle.server_law.specs.State.{ServerModel}
 use Rattle.server_law.specs.Sure.{SitsIn, Sure}
 
 -- the part of the batch, if there is one, is not closed
@@ -83,6 +86,11 @@ Needs (Refuses_part rank request common) b me = Begins b me rank request common
 Needs (Ends_keep rank request common end) b me = Does b rank (is_at.Keeping request common)
 Needs (Closes request batch accepted part) b me = EndsBatch b request batch × HasAccepted b batch accepted
 Needs (Fetches_part rank request batch part) b me = IsOwed b rank request batch
+Needs (Answers from wish unit) b me = AsksFor b wish
+Needs (Promises from id length) b me = (from ≢ me) × IsHeldAt b from id × IsMeasured b id length × (promise_of b id ≡ None)
+Needs (Sends_unit to length unit) b me = (to.0 < b.servers) × IsPromisedAt b to unit.id
+Needs (Arrives from unit) b me = (unit_of b unit.id ≡ Some (record { unit = unit; place = Travelling me })) × PromisesAreSingle b.promises
+Needs (Withdraws from id) b me = IsHeldAt b from id × PromisesAreSingle b.promises
 Needs a b me = Unit {0}
 
 -- the law: from a bag that agrees with the server and in which no common part is due, the entries of an act that is sure are steps of

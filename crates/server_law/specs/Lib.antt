@@ -1,6 +1,8 @@
 pub mod Acts
 pub mod Agreement
+pub mod Asks
 pub mod Batches
+pub mod Calm
 pub mod Carried
 pub mod Counts
 pub mod Endings
@@ -8,9 +10,13 @@ pub mod Expected
 pub mod Fetches
 pub mod Finding
 pub mod Finishes
+pub mod Hints
 pub mod Legal
 pub mod Looks
+pub mod Moving
 pub mod Plan
+pub mod Presses
+pub mod Pushes
 pub mod Puts
 pub mod Quiet
 pub mod Reserves
@@ -18,3 +24,4 @@ pub mod Rest
 pub mod State
 pub mod Step
 pub mod Sure
+pub mod Waits

@@ -1,11 +1,12 @@
 -- The rule of Try.
 use Rattle.std.specs.Prelude.{Bool, true, false, [], Option, None, Some}
 use Rattle.adlb_unit.specs.declared.notes.End.TheVariants as ends_by
+use Rattle.reserve_path.specs.declared.wishes.Wish.{Wish}
 use Rattle.work_queue.specs.declared.placing.Placed.{Placed}
 use Rattle.server_law.specs.Acts.{Act, Ends_try, Grants_try, Looks}
 use Rattle.server_law.specs.Finding.{best_for}
 use Rattle.server_law.specs.Plan.{Plan, plan}
-use Rattle.server_law.specs.State.{Kept, ServerModel, Wish}
+use Rattle.server_law.specs.State.{Kept, ServerModel}
 
 -- where the problem is done; where there is a unit; else
 abbrev pub look : Bool → Option Placed → Wish → Act

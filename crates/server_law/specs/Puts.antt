@@ -10,7 +10,9 @@ use Rattle.work_queue.specs.Queue.{Queue}
 use Rattle.work_queue.specs.declared.placing.Placed.{Placed}
 use Rattle.server_law.specs.Acts.{Act, Accepts, Ends_put, Gives, Refuses}
 use Rattle.server_law.specs.Finding.{Place, exceeds, has_promise, has_unit, is_free_as, taker}
+use Rattle.server_law.specs.Hints.{hint_all}
 use Rattle.server_law.specs.Plan.{Decider, Plan, plan}
+use Rattle.server_law.specs.Presses.{presses}
 use Rattle.server_law.specs.State.{Kept, ServerModel}
 
 -- the unit is the sender's; no unit and no promise of its id is here; its body is no longer than it may be; a rank that its target
@@ -34,18 +36,24 @@ put false false unit = Accepts unit
 abbrev pub put_now : Kept → Work → Act
 put_now k unit = put k.done (is_over k.queue unit) unit
 
--- A unit that has become free is settled: the rank that it goes to gets it.
+-- A unit that has become free is settled: the rank that it goes to gets it; where there is none, the wishes that it takes off go.
 
-abbrev pub gives : Work → Option Place → List Act
-gives unit None = []
-gives unit (Some p) = Gives p.at p.here.wish p.here.to_ask unit ∷ []
+abbrev pub gives : Kept → Work → Option Place → List Act
+gives k unit None = hint_all unit k.parked.wishes
+gives k unit (Some p) = Gives p.at p.here.wish p.here.to_ask unit ∷ []
 
 abbrev pub settles_as : Kept → Option Placed → List Act
 settles_as k None = []
-settles_as k (Some p) = gives p.unit (taker p.unit k.parked.waiting)
+settles_as k (Some p) = gives k p.unit (taker p.unit k.parked.waiting)
 
 abbrev pub settles : UnitId → Decider
 settles id s = settles_as s.kept (find (is_free_as id) s.kept.queue.units)
 
+-- the put is accepted
+abbrev pub is_taken : Kept → Work → Bool
+is_taken k unit = not k.done && not (is_over k.queue unit)
+
+-- then a push begins, where the queue is pressed
 abbrev pub put_rule : ServerModel → Rank → Work → Option Plan
-put_rule s from unit = if expects_put s from unit then plan (put_now s.kept unit) (settles unit.id ∷ []) else None
+put_rule s from unit =
+    if expects_put s from unit then plan (put_now s.kept unit) (settles unit.id ∷ presses (is_taken s.kept unit) ∷ []) else None

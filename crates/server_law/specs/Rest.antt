@@ -13,10 +13,12 @@ use Rattle.bag_ledger.specs.declared.states.RankState.{RankState}
 use Rattle.bag_ledger.specs.declared.states.Status.TheVariants as is_at
 use Rattle.bag_ledger.specs.declared.states.UnitPlace.{UnitPlace}
 use Rattle.bag_ledger.specs.declared.states.UnitPlace.TheVariants.{Free, Pinned, Spent, Travelling}
+use Rattle.reserve_path.specs.declared.waits.Waiting.{Waiting}
+use Rattle.reserve_path.specs.declared.wishes.Wish.{Wish}
 use Rattle.server_law.specs.Agreement.{ServerAgrees}
 use Rattle.server_law.specs.Endings.{fits}
 use Rattle.server_law.specs.Legal.{AsksFor}
-use Rattle.server_law.specs.State.{ServerModel, Waiting, Wish}
+use Rattle.server_law.specs.State.{ServerModel}
 
 -- the place is at the server, or the unit is spent
 abbrev pub IsHereOrSpent : Server → UnitPlace → Type 0

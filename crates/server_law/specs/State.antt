@@ -5,38 +5,40 @@ use Rattle.adlb_unit.specs.Targets.{home_of}
 use Rattle.adlb_unit.specs.declared.configs.Config.{Config}
 use Rattle.adlb_unit.specs.declared.names.Rank.{Rank}
 use Rattle.adlb_unit.specs.declared.names.Server.{Server}
-use Rattle.adlb_unit.specs.declared.names.WorkType.{WorkType}
+use Rattle.adlb_unit.specs.declared.names.UnitId.{UnitId}
 use Rattle.adlb_unit.specs.declared.notes.Trouble.{Trouble}
 use Rattle.work_queue.specs.Queue.{Queue}
 use Rattle.batch_store.specs.Store.{Store}
+use Rattle.put_path.specs.Pushes.{Pushing}
+use Rattle.reserve_path.specs.Parked.{Parked, is_of}
+use Rattle.reserve_path.specs.declared.waits.Waiting.{Waiting}
+use Rattle.reserve_path.specs.declared.wishes.Wish.{Wish}
 
--- what a rank wants: in its call of this number a unit of these types
-pub record Wish : Type 0 where
-  pub rank : Rank
-  pub request : ℕ
-  pub types : Option (List WorkType)
-
--- a rank that waits at its home: the server that was asked for it and has not answered, and those that are still to be asked
-pub record Waiting : Type 0 where
-  pub wish : Wish
-  pub asked : Option Server
-  pub to_ask : List Server
-
--- a rank that waits, for which no server that was asked is unanswered
+-- a rank that waits, for which no server that was asked is unanswered; and one for which this server is
 abbrev pub idle : Wish → List Server → Waiting
 idle wish to_ask = record { wish = wish; asked = None; to_ask = to_ask }
 
--- the ranks that wait here, in the order in which they came; and of ranks that wait elsewhere, what was not here for them
-pub record Parked : Type 0 where
-  pub waiting : List Waiting
-  pub wishes : List Wish
+abbrev pub awaiting : Wish → Server → List Server → Waiting
+awaiting wish asked to_ask = record { wish = wish; asked = Some asked; to_ask = to_ask }
+
+-- an acknowledgement that a server is owed, of the push of this unit
+pub record Debt : Type 0 where
+  pub to : Server
+  pub id : UnitId
+
+abbrev pub debt : Server → UnitId → Debt
+debt to id = record { to = to; id = id }
 
 -- what acts change
 pub record Kept : Type 0 where
   pub queue : Queue
   -- the common parts of batches
   pub parts : Store
+  -- the ranks that wait here, in the order in which they came; and of ranks that wait elsewhere, what was not here for them
   pub parked : Parked
+  -- the push of this server, if one stands, and how many it began; and the acknowledgement that the event has still to say
+  pub pushing : Pushing
+  pub owed : Option Debt
   -- of each rank, by its number, whether its Finish letter was handled
   pub finished : List Bool
   -- the problem was called done; all work was found used up; no rank waits or runs any more
@@ -70,6 +72,8 @@ start config me = record {
     queue = record { units = []; promises = []; common = 0; arrivals = 0; limit = config.limit };
     parts = [];
     parked = record { waiting = []; wishes = [] };
+    pushing = record { push = None; pushes = 0 };
+    owed = None;
     finished = replicate config.ranks false;
     done = false;
     exhausted = false;
@@ -82,10 +86,6 @@ start config me = record {
 -- the server is the rank's home
 abbrev pub is_home : Config → Server → Rank → Bool
 is_home config me rank = home_of config.servers rank == me.0
-
--- it is this rank that waits
-abbrev pub is_of : Rank → Waiting → Bool
-is_of rank e = e.wish.rank.0 == rank.0
 
 abbrev pub is_waiting : Kept → Rank → Bool
 is_waiting k rank = list_any (is_of rank) k.parked.waiting

@@ -1,5 +1,5 @@
 -- One step of a server: the rule of its letter, and what follows each event.
-use Rattle.std.specs.Prelude.{ℕ, ◌+◌, nat_lt, Bool, true, ◌&&◌, List, Option, None, slice_set, if◌then◌else◌}
+use Rattle.std.specs.Prelude.{ℕ, ◌+◌, ◌==◌, nat_lt, Bool, true, ◌&&◌, List, Option, None, slice_set, if◌then◌else◌}
 use Rattle.std.specs.Option.{option_map}
 use Rattle.adlb_unit.specs.Limits.{stamp_limit}
 use Rattle.adlb_unit.specs.Links.{is_within, stamp_after}
@@ -8,31 +8,54 @@ use Rattle.adlb_unit.specs.declared.actors.Actor.TheVariants as by
 use Rattle.adlb_unit.specs.declared.letters.Letter.{Letter}
 use Rattle.adlb_unit.specs.declared.messages.Message.{Message}
 use Rattle.adlb_unit.specs.declared.messages.Message.TheVariants as tells
+use Rattle.adlb_unit.specs.declared.names.Rank.{Rank}
+use Rattle.adlb_unit.specs.declared.names.Server.{Server}
 use Rattle.server_law.specs.Acts.{Act}
+use Rattle.server_law.specs.Asks.{ask_rule, grant_rule, none_rule}
 use Rattle.server_law.specs.Batches.{close_rule, keep_rule, share_rule}
 use Rattle.server_law.specs.Carried.{Served, carried}
 use Rattle.server_law.specs.Counts.{count_rule}
 use Rattle.server_law.specs.Endings.{ends_event}
 use Rattle.server_law.specs.Fetches.{fetch_rule}
 use Rattle.server_law.specs.Finishes.{finish_rule}
+use Rattle.server_law.specs.Hints.{hint_rule}
 use Rattle.server_law.specs.Looks.{look_rule}
 use Rattle.server_law.specs.Plan.{Plan, in_order}
+use Rattle.server_law.specs.Pushes.{ack_rule, cancel_rule, no_rule, query_rule, unit_rule, yes_rule}
 use Rattle.server_law.specs.Puts.{put_rule}
 use Rattle.server_law.specs.Reserves.{reserve_rule}
 use Rattle.server_law.specs.State.{ServerModel}
 
--- the rule of each letter; none where the letter is not expected
+-- the rule of each letter of a rank, and of each of another server; none where the letter is not expected
+abbrev pub rank_rule : ServerModel → Rank → Message → Option Plan
+rank_rule s from (tells.Put unit) = put_rule s from unit
+rank_rule s from (tells.Reserve request types) = reserve_rule s (record { rank = from; request = request; types = types })
+rank_rule s from (tells.Try request types) = look_rule s (record { rank = from; request = request; types = types })
+rank_rule s from (tells.Fetch request id) = fetch_rule s from request id
+rank_rule s from (tells.KeepCommon request common) = keep_rule s from request common
+rank_rule s from (tells.CloseBatch request batch accepted) = close_rule s from request batch accepted
+rank_rule s from (tells.FetchCommon request batch) = share_rule s from request batch
+rank_rule s from (tells.Count request kind) = count_rule s from request kind
+rank_rule s from tells.Finish = finish_rule s from
+rank_rule s from _ = None
+
+abbrev pub server_rule : ServerModel → Server → Message → Option Plan
+server_rule s from (tells.Ask rank request types) = ask_rule s from (record { rank = rank; request = request; types = types })
+server_rule s from (tells.AskGrant rank request note) = grant_rule s from rank request note
+server_rule s from (tells.AskNone rank request) = none_rule s from rank request
+server_rule s from (tells.Hint rank request) = hint_rule s from rank request
+server_rule s from (tells.PushQuery id length) = query_rule s from id length
+server_rule s from (tells.PushYes id) = yes_rule s from id
+server_rule s from (tells.PushNo id) = no_rule s from id
+server_rule s from (tells.PushUnit unit) = unit_rule s from unit
+server_rule s from (tells.PushCancel id) = cancel_rule s from id
+server_rule s from (tells.PushAck id) = ack_rule s from id
+server_rule s from _ = None
+
+-- no server writes to itself
 abbrev pub rule : ServerModel → Actor → Message → Option Plan
-rule s (by.Rank from) (tells.Put unit) = put_rule s from unit
-rule s (by.Rank from) (tells.Reserve request types) = reserve_rule s (record { rank = from; request = request; types = types })
-rule s (by.Rank from) (tells.Try request types) = look_rule s (record { rank = from; request = request; types = types })
-rule s (by.Rank from) (tells.Fetch request id) = fetch_rule s from request id
-rule s (by.Rank from) (tells.KeepCommon request common) = keep_rule s from request common
-rule s (by.Rank from) (tells.CloseBatch request batch accepted) = close_rule s from request batch accepted
-rule s (by.Rank from) (tells.FetchCommon request batch) = share_rule s from request batch
-rule s (by.Rank from) (tells.Count request kind) = count_rule s from request kind
-rule s (by.Rank from) tells.Finish = finish_rule s from
-rule s from _ = None
+rule s (by.Rank from) message = rank_rule s from message
+rule s (by.Server from) message = if from.0 == s.me.0 then None else server_rule s from message
 
 -- what is done with what the actor says, act by act
 abbrev pub acts : ServerModel → Actor → Message → Option (List Act)

@@ -1,5 +1,5 @@
 -- What is so of a server where it carries out an act: what its rule has found.
-use Rattle.std.specs.Prelude.{◌≡◌, ◌⊎◌, Bool, true, false, List, [], ◌∷◌, ◌++◌, length, find, Option, None, Some}
+use Rattle.std.specs.Prelude.{◌≡◌, ◌⊎◌, true, false, List, [], ◌∷◌, ◌++◌, length, Any, find, Option, None, Some}
 use Rattle.std.specs.List.{list_any}
 use Rattle.adlb_unit.specs.declared.actors.Actor.{Actor}
 use Rattle.adlb_unit.specs.declared.messages.Message.{Message}
@@ -7,14 +7,19 @@ use Rattle.adlb_unit.specs.declared.notes.End.{End}
 use Rattle.adlb_unit.specs.declared.notes.End.TheVariants as ends_by
 use Rattle.adlb_unit.specs.declared.units.Unit.{Unit as Work}
 use Rattle.work_queue.specs.declared.placing.Placed.{Placed}
-use Rattle.server_law.specs.Acts.{Act, Accepts, Around, Closes, Counts, Ends_keep, Ends_put, Ends_reserve, Ends_try, Fetches, Fetches_part, Finds, Gives, Grants, Grants_try, Heard, Keeps, Looks, Notes_finish, Parks, Refuses, Refuses_part, Shuts, Tells, around, goes, takes}
+use Rattle.reserve_path.specs.declared.waits.Waiting.{Waiting}
+use Rattle.reserve_path.specs.declared.wishes.Wish.{Wish}
+use Rattle.server_law.specs.Acts.{Accepts, Acks, Act, Answers, Around, Arrives, Asks_on, Cancels, Closes, Counts, Declines, Drops_hint, Ends_keep, Ends_push, Ends_put, Ends_reserve, Ends_try, Fetches, Fetches_part, Finds, Gives, Grants, Grants_try, Hints, Is_hinted, Keeps, Looks, Notes_finish, Parks, Passes_on, Promises, Queries, Refuses, Refuses_part, Refuses_push, Sends_unit, Shuts, Stops_push, Tells, Wakes, Withdraws, around, goes, takes}
 use Rattle.batch_store.specs.Store.{part_in}
+use Rattle.server_law.specs.Asks.{expects_ask}
 use Rattle.server_law.specs.Batches.{can_close, can_fetch, expects_keep}
 use Rattle.server_law.specs.Carried.{done}
 use Rattle.server_law.specs.Endings.{fits, is_quiet}
-use Rattle.server_law.specs.Finding.{best_for, exceeds, is_free_as, is_pinned_as, permits}
+use Rattle.server_law.specs.Finding.{best_for, exceeds, has_promise, is_free_as, is_pinned_as, permits}
+use Rattle.put_path.specs.Pushes.{asks_room, has_sent, query_of}
+use Rattle.server_law.specs.Pushes.{expects_query, expects_unit}
 use Rattle.server_law.specs.Puts.{expects_put, is_over}
-use Rattle.server_law.specs.State.{Kept, ServerModel, Waiting, runs, runs_at_home}
+use Rattle.server_law.specs.State.{Kept, ServerModel, debt, runs, runs_at_home}
 use Rattle.server_law.specs.Step.{acts}
 
 -- who goes waits where the act says
@@ -33,6 +38,10 @@ HasCause k ends_by.Exhausted = k.exhausted ≡ true
 -- the unit is what was found
 abbrev pub IsFound : Option Placed → Work → Type 0
 IsFound found unit = (p : Placed) × (found ≡ Some p) × (p.unit ≡ unit)
+
+-- the unit is free here and permitted to the rank: it has just become free
+abbrev pub IsFreeFor : Kept → Work → Wish → Type 0
+IsFreeFor k unit wish = IsFound (find (is_free_as unit.id) k.queue.units) unit × (permits unit wish ≡ true)
 
 -- all ranks of the only server wait or have finished, one of them waits, and no free unit is permitted to one that does
 pub record IsExhausted (s : ServerModel) : Type 0 where
@@ -58,7 +67,7 @@ Sure (Looks wish) s = best_for s.kept wish ≡ None
 Sure (Fetches rank request id unit) s = IsFound (find (is_pinned_as id rank) s.kept.queue.units) unit
 Sure (Counts rank request kind) s = runs_at_home s rank ≡ true
 Sure (Notes_finish rank) s = runs s.kept rank ≡ true
-Sure (Gives at wish rest unit) s = IsFound (find (is_free_as unit.id) s.kept.queue.units) unit × (permits unit wish ≡ true)
+Sure (Gives at wish rest unit) s = IsFreeFor s.kept unit wish ⊎ IsFound (best_for s.kept wish) unit
 Sure (Tells at wish rest end) s = HasCause s.kept end
 Sure Finds s = IsExhausted s
 Sure (Keeps rank request common) s =
@@ -69,7 +78,26 @@ Sure (Ends_keep rank request common end) s = (expects_keep s rank request common
 Sure (Closes request batch accepted part) s =
     (part_in s.kept.parts batch ≡ Some part) × (can_close batch.rank batch accepted s.kept.queue.common part ≡ true)
 Sure (Fetches_part rank request batch part) s = (part_in s.kept.parts batch ≡ Some part) × (can_fetch s.kept.queue.common part ≡ true)
-Sure Shuts s = Unit {0}
+Sure (Asks_on at wish to rest) s = Unit {0}
+Sure (Passes_on at wish from rest note) s = Unit {0}
+Sure (Wakes at wish from rest) s = Unit {0}
+Sure (Is_hinted at e from) s = Unit {0}
+Sure (Drops_hint from rank request) s = Unit {0}
+Sure (Answers from wish unit) s = (expects_ask s from wish.rank ≡ true) × IsFound (best_for s.kept wish) unit
+Sure (Declines from wish) s = (expects_ask s from wish.rank ≡ true) × (s.kept.done ≡ false → best_for s.kept wish ≡ None)
+Sure (Hints wish) s = (unit : Work) × IsFreeFor s.kept unit wish
+Sure (Queries to id length) s = query_of s.config s.me s.kept.pushing s.kept.queue ≡ Some (record { to = to; id = id; length = length })
+Sure (Promises from id length) s = (expects_query s.kept id ≡ true) × (exceeds s.kept.queue length ≡ false)
+Sure (Refuses_push from id length) s = expects_query s.kept id ≡ true
+Sure (Sends_unit to length unit) s =
+    (s.kept.pushing.push ≡ Some (asks_room to unit.id length)) × IsFound (find (is_free_as unit.id) s.kept.queue.units) unit
+Sure (Cancels to id length) s = s.kept.pushing.push ≡ Some (asks_room to id length)
+Sure (Stops_push to id length) s = s.kept.pushing.push ≡ Some (asks_room to id length)
+Sure (Ends_push to id length) s = s.kept.pushing.push ≡ Some (has_sent to id length)
+Sure (Arrives from unit) s = expects_unit s.kept unit ≡ true
+Sure (Acks to id) s = s.kept.owed ≡ Some (debt to id)
+Sure (Withdraws from id) s = has_promise id s.kept.queue.promises ≡ true
+Sure Shuts s = s.config.servers ≡ 1
 
 -- acts of which each is sure where it is carried out
 abbrev pub AreSure : List Act → ServerModel → Type 0
@@ -81,7 +109,17 @@ abbrev pub TakeNone : List Act → Type 0
 TakeNone [] = Unit {0}
 TakeNone (a ∷ more) = (takes a ≡ []) × TakeNone more
 
--- acts by which a letter is handled: the first takes it, the others follow, and each is sure
+-- if the act is a hint, it is of one of these wishes
+abbrev pub IsHintOf : List Wish → Act → Type 0
+IsHintOf wishes (Hints wish) = Any (λ (w : Wish). w ≡ wish) wishes
+IsHintOf wishes _ = Unit {0}
+
+-- acts of which each is
+abbrev pub AreHintsOf : List Wish → List Act → Type 0
+AreHintsOf wishes [] = Unit {0}
+AreHintsOf wishes (a ∷ more) = IsHintOf wishes a × AreHintsOf wishes more
+
+-- acts by which a letter is handled: the first takes it, the others follow, and each is sure; hints are of wishes that were kept before
 pub record HandledBy (from : Actor) (message : Message) (list : List Act) (s : ServerModel) : Type 0 where
   pub first : Act
   pub more : List Act
@@ -89,6 +127,7 @@ pub record HandledBy (from : Actor) (message : Message) (list : List Act) (s : S
   pub takes : takes first ≡ record { from = from; message = message } ∷ []
   pub follow : TakeNone more
   pub sure : AreSure (first ∷ more) s
+  pub hints : AreHintsOf s.kept.parked.wishes (first ∷ more)
 
 -- the law: a letter is handled by the acts of its rule
 abbrev pub ActsHandle : Type 0

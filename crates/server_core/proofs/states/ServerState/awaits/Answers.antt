@@ -1,4 +1,4 @@
-use Rattle.std.proofs.Common.{◌≡◌, ◌↔◌, Bool, true, IsTrue, sym, subst}
+use Rattle.std.proofs.Common.{◌↔◌, Bool, IsTrue, sym, subst}
 use Rattle.adlb_unit.specs.declared.messages.Message.{Message}
 use Rattle.server_law.specs.Expected.{IsAwaited, IsHome, Runs}
 use Rattle.server_law.proofs.Tests.{runs_at_home_says, runs_says}

@@ -1,26 +1,18 @@
 use Rattle.std.proofs.Common.{◌≡◌, ◌∷◌, [], sym, ap, ◌∙◌, subst}
 use Rattle.std.proofs.lemmas.List.Elements.{All-contains}
-use Rattle.std.proofs.lemmas.Result.{on_ok_weaker}
-use Rattle.adlb_unit.specs.declared.actors.Actor.TheVariants as by
 use Rattle.bag_ledger.proofs.Tests.{some_is}
 use Rattle.work_queue.specs.Queue.{id_of}
 use Rattle.work_queue.specs.declared.placing.Placed.{Placed}
 use Rattle.server_law.specs.Acts.{Fetches}
-use Rattle.server_law.specs.Carried.{done}
 use Rattle.server_law.specs.Expected.{IsAwaited}
 use Rattle.server_law.specs.Fetches.{fetch}
-use Rattle.server_law.specs.Plan.{Plan, decided}
-use Rattle.server_law.specs.Step.{rule}
+use Rattle.server_law.specs.Plan.{Plan}
+use Rattle.server_law.specs.Step.{rank_rule}
 use Rattle.server_law.proofs.Expected.{rule_awaited}
 use Rattle.server_law.proofs.Found.{pinned_is, pinned_there}
-use Rattle.server_core.specs.Out.{going_on, made}
-use Rattle.server_core.proofs.Going.{put_goes}
+use Rattle.server_core.specs.Out.{going_on, made, planned}
+use Rattle.server_core.proofs.Going.{close_goes}
 use Rattle.server_core.proofs.states.ServerState.follow.Goals as goal
-
-pub returns-in-Put-clause-ok : goal.returns-in-Put-clause-ok
-returns-in-Put-clause-ok c =
-    on_ok_weaker c.put.result
-    (put_goes c.args.self.now c.put.new.self c.args.out.now c.put.new.out c.args.from c.args.message c.in-Put.unit c.in-Put.is) c.put.ensures.ok
 
 pub fetch-requires-clause-pinned : goal.fetch-requires-clause-pinned
 fetch-requires-clause-pinned c =
@@ -37,10 +29,16 @@ returns-in-Fetch-clause-ok c plan is =
     let p = pinned_there c.in-Fetch.id c.args.from units pinned in
     let u = pinned_is c.in-Fetch.id c.args.from units p.0 p.1 in
     let fetched = ap (λ o. fetch c.args.from c.in-Fetch.request c.in-Fetch.id o) p.1 in
-    let same = some_is (sym fetched ∙ ap (λ m. rule s (by.Rank c.args.from) m) (sym c.in-Fetch.is) ∙ is) in
-    let Q : Plan → Type 0 = λ q. made c.fetch.new.self c.fetch.new.out
-    ≡ going_on c.args.out.now (q.first ∷ decided q.follow (done q.first s)) s in
+    let same = some_is (sym fetched ∙ ap (λ m. rank_rule s c.args.from m) (sym c.in-Fetch.is) ∙ is) in
+    let Q : Plan → Type 0 = λ q. made c.fetch.new.self c.fetch.new.out ≡ planned c.args.out.now q s in
     let G : Placed → Type 0 = λ q. id_of q ≡ c.in-Fetch.id
     → made c.fetch.new.self c.fetch.new.out
     ≡ going_on c.args.out.now (Fetches c.args.from c.in-Fetch.request c.in-Fetch.id q.unit ∷ []) s in
     subst Q same (All-contains G units p.0 c.fetch.ensures.made u.2 u.0)
+
+pub returns-in-CloseBatch-clause-ok : goal.returns-in-CloseBatch-clause-ok
+returns-in-CloseBatch-clause-ok c p is =
+    let s = c.args.self.now in
+    let close = c.in-CloseBatch in
+    close_goes s c.args.out.now c.args.from close.request close.batch close.accepted (made c.close.new.self c.close.new.out)
+    c.close.ensures.made p (ap (λ m. rank_rule s c.args.from m) (sym close.is) ∙ is)

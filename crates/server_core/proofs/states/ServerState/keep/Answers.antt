@@ -5,7 +5,7 @@ use Rattle.server_law.specs.Batches.{keep_now}
 use Rattle.server_law.specs.State.{ServerModel}
 use Rattle.server_core.specs.Inside.{state_of}
 use Rattle.server_core.specs.Out.{going_on, made}
-use Rattle.server_core.proofs.Keeping.{keep_sound, keeps_now, refuses_now}
+use Rattle.server_core.proofs.Keeping.{keep_sound, keeps_now, parts_inside, refuses_now}
 use Rattle.server_core.proofs.states.ServerState.keep.Goals as goal
 
 pub invariant_of-self : goal.invariant_of-self
@@ -14,10 +14,8 @@ invariant_of-self c =
     let now = c.keep.new in
     let told = c.in-Ok.ensures in
     let batch = batch_of c.args.from c.args.request in
-    record {
-      sound = keep_sound s now.queue now.self batch c.args.common c.self.invariant.sound told.kept told.charged;
-      room = c.self.invariant.room;
-    }
+    parts_inside c.self.inside c.self.invariant now.queue now.self
+    (keep_sound s now.queue now.self batch c.args.common c.self.invariant.sound told.kept told.charged)
 
 pub returns-in-Ok-clause-ok : goal.returns-in-Ok-clause-ok
 returns-in-Ok-clause-ok c =

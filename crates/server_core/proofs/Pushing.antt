@@ -1,0 +1,163 @@
+-- The letters of pushes: what a server makes of them.
+use Rattle.std.proofs.Common.{◌≡◌, ◌≤◌, ℕ, true, false, cond, [], ◌∷◌, find, IsSome, Option, None, Some, All, refl, sym, ap, ◌∙◌, subst}
+use Rattle.std.proofs.lemmas.List.Elements.{All-contains}
+use Rattle.adlb_unit.specs.declared.actors.Actor.TheVariants as by
+use Rattle.adlb_unit.specs.declared.messages.Message.TheVariants as tells
+use Rattle.adlb_unit.specs.declared.names.Rank.{Rank}
+use Rattle.adlb_unit.specs.declared.names.Server.{Server}
+use Rattle.adlb_unit.specs.declared.names.UnitId.{UnitId}
+use Rattle.adlb_unit.specs.declared.units.Unit.{Unit as Work}
+use Rattle.bag_ledger.specs.declared.entries.Entry.TheVariants as enters
+use Rattle.bag_ledger.proofs.Tests.{some_is}
+use Rattle.work_queue.specs.Queue.{HasFree, HasPromise, Queue, id_of, without, without_promise}
+use Rattle.work_queue.specs.declared.placing.Placed.{Placed}
+use Rattle.put_path.specs.Pushes.{PushModel, Pushing, asks_room, has_sent, with_push, with_pushing}
+use Rattle.put_path.proofs.StandingPushes.{push_from}
+use Rattle.server_law.specs.Acts.{Cancels, Ends_push, Sends_unit, Withdraws, does, to_server}
+use Rattle.server_law.specs.Carried.{counted, done, posted}
+use Rattle.server_law.specs.Finding.{has_promise, is_free_as}
+use Rattle.server_law.specs.Plan.{Plan, plan}
+use Rattle.server_law.specs.Presses.{presses}
+use Rattle.server_law.specs.Pushes.{ack_at, ack_rule, cancel_rule, sends as sends_on, yes_at, yes_rule}
+use Rattle.server_law.specs.Puts.{expects_put, is_taken, put_now, put_rule, settles}
+use Rattle.server_law.specs.State.{ServerModel}
+use Rattle.server_law.proofs.Expected.{server_rule_awaited}
+use Rattle.server_law.proofs.Found.{free_is, free_there, none_free}
+use Rattle.server_core.specs.Inside.{IsInside, IsSound, bytes_in, state_of}
+use Rattle.server_core.specs.Out.{HasRoom, Out, going_on, made, planned, with_answer, with_letter}
+use Rattle.server_core.specs.declared.states.ServerState.TheInside.{Inside}
+use Rattle.server_core.proofs.Going.{answers_only, goes_nowhere, goes_on, plan_if, says_only, silent}
+
+-- the server with this queue and this push
+abbrev pub moved : ServerModel → Queue → Pushing → ServerModel
+moved s queue pushing = record s { kept = record s.kept { queue = queue; pushing = pushing } }
+
+pub room_moved : (s : ServerModel) (queue : Queue) (pushing : Pushing) (out : Out) (n : ℕ) → HasRoom s out n
+    → HasRoom (moved s queue pushing) out n
+room_moved s queue pushing out n room = record { tells = room.tells; places = room.places }
+
+-- A put: it is answered, the unit is settled, and a push begins where it may.
+pub puts_goes : (s t u v : ServerModel) (out mid end last : Out) (from : Rank) (unit : Work)
+    → made t mid ≡ going_on out (put_now s.kept unit ∷ []) s → made u end ≡ going_on mid (settles unit.id t) t
+    → made v last ≡ going_on end (presses (is_taken s.kept unit) u) u
+    → (p : Plan) → put_rule s from unit ≡ Some p → made v last ≡ planned out p s
+puts_goes s t u v out mid end last from unit answered settled pressed p is =
+    let first : Plan = record { first = put_now s.kept unit; follow = [] } in
+    let next : Plan = record { first = put_now s.kept unit; follow = settles unit.id ∷ [] } in
+    let press = presses (is_taken s.kept unit) in
+    let then = goes_on (settles unit.id) first s t u out mid end answered settled in
+    let all = goes_on press next s u v out end last then pressed in
+    plan_if (expects_put s from unit) (put_now s.kept unit) (settles unit.id ∷ press ∷ []) s out (made v last) all p is
+
+-- What is so of the server stays so.
+
+moved_sound : (s : ServerModel) (queue : Queue) (pushing : Pushing) → IsSound s → queue.arrivals ≤ s.clock
+    → queue.common ≡ s.kept.queue.common → IsSound (moved s queue pushing)
+moved_sound s queue pushing sound arrivals same = record {
+  finished = sound.finished;
+  actors = sound.actors;
+  parked = sound.parked;
+  arrivals = arrivals;
+  charged = subst (λ n. bytes_in s.kept.parts ≤ n) (sym same) sound.charged;
+  activity = sound.activity;
+  sent = sound.sent;
+  clock = sound.clock;
+}
+
+pub moved_inside : (i : Inside) → IsInside i → (n : PushModel) (pushing : Pushing) (queue : Queue) → n ≡ with_pushing i.pushes pushing
+    → queue.arrivals ≤ i.clock → queue.common ≡ i.queue.common → IsInside (record i { queue = queue; pushes = n })
+moved_inside i inside n pushing queue is arrivals same = record {
+  sound = moved_sound (state_of i) queue n.pushing inside.sound arrivals same;
+  config = inside.config;
+  me = inside.me;
+  push_config = ap (λ (m : PushModel). m.config) is ∙ inside.push_config;
+  push_me = ap (λ (m : PushModel). m.me) is ∙ inside.push_me;
+}
+
+-- The push that a letter is about.
+
+module _ (s : ServerModel) (from : Server) (id : UnitId) where
+  pub yes_stands : IsSome (yes_rule s from id) → (n : ℕ) × (s.kept.pushing.push ≡ Some (asks_room from id n))
+  yes_stands some = (server_rule_awaited s from (tells.PushYes id)).0 some
+
+  pub ack_stands : IsSome (ack_rule s from id) → (n : ℕ) × (s.kept.pushing.push ≡ Some (has_sent from id n))
+  ack_stands some = (server_rule_awaited s from (tells.PushAck id)).0 some
+
+  pub promise_stands : IsSome (cancel_rule s from id) → HasPromise id s.kept.queue.promises
+  promise_stands some = (server_rule_awaited s from (tells.PushCancel id)).0 some
+
+-- The unit goes, or a cancel.
+
+module _ (s : ServerModel) (out : Out) (from : Server) (id : UnitId) (n : ℕ)
+    (stands : s.kept.pushing.push ≡ Some (asks_room from id n)) where
+  yes_is : (o : Option Placed) → find (is_free_as id) s.kept.queue.units ≡ o → yes_rule s from id ≡ plan (sends_on from id n o) []
+  yes_is o found =
+      ap (λ push. yes_at from id push (find (is_free_as id) s.kept.queue.units)) stands
+      ∙ ap (λ t. cond t (plan (sends_on from id n (find (is_free_as id) s.kept.queue.units)) []) None) (push_from from id n false)
+      ∙ ap (λ q. plan (sends_on from id n q) []) found
+
+  pub sends_goes : (unit : Work) (queue : Queue) (pushing : Pushing) → HasFree id s.kept.queue.units
+      → All (λ p. id_of p ≡ id → unit ≡ p.unit) s.kept.queue.units → queue ≡ without s.kept.queue id
+      → pushing ≡ with_push s.kept.pushing (Some (has_sent from id n)) → (t : ServerModel) (last : Out)
+      → t ≡ counted (moved s queue pushing) (by.Server from)
+      → last ≡ with_answer out (posted (moved s queue pushing) (to_server from (tells.PushUnit unit))) (enters.Left s.me from unit.id)
+      → (p : Plan) → yes_rule s from id ≡ Some p → made t last ≡ planned out p s
+  sends_goes unit queue pushing free own gone sent t last after told p is =
+      let u = free_there id s.kept.queue.units free in
+      let at = free_is id s.kept.queue.units u.0 u.1 in
+      let P : Placed → Type 0 = λ q. id_of q ≡ id → unit ≡ q.unit in
+      let same : unit ≡ u.0.unit = All-contains P s.kept.queue.units u.0 own at.2 at.0 in
+      let named : unit.id ≡ id = ap (λ (w : Work). w.id) same ∙ at.0 in
+      let a = Sends_unit from n unit in
+      let x = to_server from (tells.PushUnit unit) in
+      let left = enters.Left s.me from unit.id in
+      let D : UnitId → ServerModel = λ k. moved s (without s.kept.queue k) (with_push s.kept.pushing (Some (has_sent from k n))) in
+      let seat : moved s queue pushing ≡ does a s =
+      ap (λ q. moved s q pushing) gone ∙ ap (λ r. moved s (without s.kept.queue id) r) sent ∙ ap D (sym named) in
+      let now = after ∙ ap (λ v. counted v (by.Server from)) seat in
+      let letter = told ∙ ap (λ v. with_answer out (posted v x) left) seat in
+      let goes = answers_only a s out x left refl refl in
+      let rule = yes_is (Some u.0) u.1 ∙ ap (λ w. plan (Sends_unit from n w) []) (sym same) in
+      subst (λ r. made t last ≡ planned out r s) (some_is (sym rule ∙ is)) (rw (now, letter) goes)
+
+  pub cancels_goes : (queue : Queue) (pushing : Pushing) → (HasFree id s.kept.queue.units → ⊥) → queue ≡ s.kept.queue
+      → pushing ≡ with_push s.kept.pushing (Some (has_sent from id n)) → (t : ServerModel) (last : Out)
+      → t ≡ counted (moved s queue pushing) (by.Server from)
+      → last ≡ with_letter out (posted (moved s queue pushing) (to_server from (tells.PushCancel id)))
+      → (p : Plan) → yes_rule s from id ≡ Some p → made t last ≡ planned out p s
+  cancels_goes queue pushing unfree same sent t last after told p is =
+      let a = Cancels from id n in
+      let x = to_server from (tells.PushCancel id) in
+      let seat : moved s queue pushing ≡ does a s =
+      ap (λ q. moved s q pushing) same ∙ ap (λ r. moved s s.kept.queue r) sent in
+      let now = after ∙ ap (λ v. counted v (by.Server from)) seat in
+      let letter = told ∙ ap (λ v. with_letter out (posted v x)) seat in
+      let goes = says_only a s out x refl refl in
+      let rule = yes_is None (none_free id s.kept.queue.units unfree) in
+      subst (λ r. made t last ≡ planned out r s) (some_is (sym rule ∙ is)) (rw (now, letter) goes)
+
+-- The push has ended.
+pub ends_goes : (s : ServerModel) (out : Out) (from : Server) (id : UnitId) (n : ℕ) → s.kept.pushing.push ≡ Some (has_sent from id n)
+    → (t : ServerModel) → t ≡ done (Ends_push from id n) s
+    → (p : Plan) → ack_rule s from id ≡ Some p → made t out ≡ planned out p s
+ends_goes s out from id n stands t after p is =
+    let a = Ends_push from id n in
+    let rule = ap (ack_at from id) stands
+    ∙ ap (λ b. cond b (plan (Ends_push from id n) []) None) (push_from from id n true) in
+    let goes = goes_nowhere out (does a s) ∙ sym (silent a [] s out refl refl) in
+    subst (λ r. made t out ≡ planned out r s) (some_is (sym rule ∙ is)) (rw after goes)
+
+-- The promise is taken back.
+pub withdraws_goes : (s : ServerModel) (out : Out) (from : Server) (id : UnitId) (queue : Queue)
+    → queue ≡ without_promise s.kept.queue id → (t : ServerModel) (last : Out)
+    → t ≡ counted (moved s queue s.kept.pushing) (by.Server from)
+    → last ≡ with_answer out (posted (moved s queue s.kept.pushing) (to_server from (tells.PushAck id))) (enters.Withdrawn s.me id)
+    → (p : Plan) → cancel_rule s from id ≡ Some p → made t last ≡ planned out p s
+withdraws_goes s out from id queue gone t last after told p is =
+    let a = Withdraws from id in
+    let x = to_server from (tells.PushAck id) in
+    let seat : moved s queue s.kept.pushing ≡ does a s = ap (λ q. moved s q s.kept.pushing) gone in
+    let now = after ∙ ap (λ v. counted v (by.Server from)) seat in
+    let letter = told ∙ ap (λ v. with_answer out (posted v x) (enters.Withdrawn s.me id)) seat in
+    let goes = answers_only a s out x (enters.Withdrawn s.me id) refl refl in
+    plan_if (has_promise id s.kept.queue.promises) a [] s out (made t last) (rw (now, letter) goes) p is

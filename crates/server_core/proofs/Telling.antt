@@ -1,0 +1,157 @@
+-- How the end is told to idle ranks, one after the other.
+use Rattle.std.proofs.Common.{◌≡◌, ◌<◌, ◌+◌, ℕ, true, false, List, [], ◌∷◌, ◌++◌, append-nil, append_assoc, length, find, Option, None, Some, refl, sym, ap, ◌∙◌, subst, arith}
+use Rattle.std.specs.Prelude.{is_none}
+use Rattle.std.specs.List.{AllPairs}
+use Rattle.std.specs.Option.{option_map}
+use Rattle.std.proofs.lemmas.Bool.{eq-eqb}
+use Rattle.std.proofs.lemmas.List.Elements.{All-head, All-tail}
+use Rattle.adlb_unit.specs.declared.actors.Actor.TheVariants as by
+use Rattle.adlb_unit.specs.declared.messages.Message.TheVariants as tells
+use Rattle.adlb_unit.specs.declared.names.Rank.{Rank}
+use Rattle.adlb_unit.specs.declared.names.Server.{Server}
+use Rattle.adlb_unit.specs.declared.notes.End.{End}
+use Rattle.bag_ledger.specs.declared.entries.Entry.TheVariants as enters
+use Rattle.bag_ledger.proofs.Tests.{some_is}
+use Rattle.work_queue.proofs.Searched.{find_none}
+use Rattle.reserve_path.proofs.Places.{AreApart}
+use Rattle.reserve_path.specs.Calls.{call_of, gone, gone_if}
+use Rattle.reserve_path.specs.Parked.{IsParked, Parked, is_idle, is_of}
+use Rattle.reserve_path.specs.declared.waits.Waiting.{Waiting}
+use Rattle.server_law.specs.Acts.{Act, Around, Tells, to_rank}
+use Rattle.server_law.specs.Carried.{counted, posted}
+use Rattle.server_law.specs.Endings.{tells_all, tells_one}
+use Rattle.server_law.specs.State.{ServerModel}
+use Rattle.server_core.specs.Inside.{parked_of}
+use Rattle.server_core.specs.Out.{HasRoom, Out, going_on, with_answer}
+use Rattle.server_core.proofs.Alone.{IsSplit, NonePasses, before_others, behind_others, found_split, gone_one, one_fewer}
+use Rattle.server_core.proofs.Going.{answers_one, room_left}
+use Rattle.server_core.proofs.Sounds.{waits_within, with_parked}
+
+-- Those that are not idle are passed.
+
+passed_one : (end : End) (at : Around) (e : Waiting) (told passed : List Act) → is_idle e ≡ false → tells_one end at e e.asked told passed ≡ passed
+passed_one end at e told passed asked = by_asked e.asked asked
+  where
+    by_asked : (o : Option Server) → is_none o ≡ false → tells_one end at e o told passed ≡ passed
+    by_asked None asked = absurd (cc)
+    by_asked (Some t) asked = refl
+
+told_one : (end : End) (at : Around) (e : Waiting) (told passed : List Act) → is_idle e ≡ true
+    → tells_one end at e e.asked told passed ≡ Tells at e.wish e.to_ask end ∷ told
+told_one end at e told passed idle = by_asked e.asked idle
+  where
+    by_asked : (o : Option Server) → is_none o ≡ true → tells_one end at e o told passed ≡ Tells at e.wish e.to_ask end ∷ told
+    by_asked None idle = refl
+    by_asked (Some t) idle = absurd (cc)
+
+passed : (end : End) (front before xs : List Waiting) → NonePasses is_idle before
+    → tells_all end front (before ++ xs) ≡ tells_all end (front ++ before) xs
+passed end front [] xs none = ap (λ l. tells_all end l xs) (sym (append-nil front))
+passed end front (e ∷ before) xs none =
+    let F : Waiting → Type 0 = λ x. is_idle x ≡ false in
+    passed_one end (record { before = front; behind = before ++ xs }) e (tells_all end front (before ++ xs))
+    (tells_all end (front ++ e ∷ []) (before ++ xs)) (All-head F e before none)
+    ∙ passed end (front ++ e ∷ []) before xs (All-tail F e before none)
+    ∙ ap (λ l. tells_all end l xs) (append_assoc front (e ∷ []) before)
+
+-- where none is idle, nobody is told
+pub none_told : (end : End) (waiting : List Waiting) → NonePasses is_idle waiting → tells_all end [] waiting ≡ []
+none_told end waiting none =
+    ap (tells_all end []) (sym (append-nil waiting)) ∙ passed end [] waiting [] none
+
+-- The first idle rank is told, and then the others.
+
+abbrev around : List Waiting → List Waiting → Around
+around before behind = record { before = before; behind = behind }
+
+next_told : (end : End) (before : List Waiting) (e : Waiting) (behind : List Waiting) → NonePasses is_idle before → is_idle e ≡ true
+    → tells_all end [] (before ++ e ∷ behind) ≡ Tells (around before behind) e.wish e.to_ask end ∷ tells_all end [] (before ++ behind)
+next_told end before e behind none idle =
+    passed end [] before (e ∷ behind) none
+    ∙ told_one end (around before behind) e (tells_all end before behind) (tells_all end (before ++ e ∷ []) behind) idle
+    ∙ ap (λ l. Tells (around before behind) e.wish e.to_ask end ∷ l) (sym (passed end [] before behind none))
+
+waits_told : (o : Option Waiting) (rank : Rank) (request : ℕ) → Some (rank, request) ≡ option_map (λ (e : Waiting). call_of e.wish) o
+    → (e : Waiting) × (o ≡ Some e) × (call_of e.wish ≡ (rank, request))
+waits_told None rank request told = absurd (cc)
+waits_told (Some e) rank request told = (e, refl, some_is (sym told))
+
+none_waits : (o : Option Waiting) → None ≡ option_map (λ (e : Waiting). call_of e.wish) o → o ≡ None
+none_waits None told = refl
+none_waits (Some e) told = absurd (cc)
+
+module _ (s : ServerModel) (once : AllPairs AreApart s.kept.parked.waiting) (n : Parked)
+    (left : n ≡ (gone_if (parked_of s) (find is_idle s.kept.parked.waiting)).parked) where
+  abbrev v : ServerModel
+  v = with_parked s s.kept.queue n
+
+  abbrev first : Option Waiting
+  first = find is_idle s.kept.parked.waiting
+
+  module _ (e : Waiting) (found : find is_idle s.kept.parked.waiting ≡ Some e) where
+    abbrev at : IsSplit is_idle s.kept.parked.waiting e
+    at = found_split is_idle s.kept.parked.waiting e found
+
+    others : n ≡ record { waiting = at.before ++ at.behind; wishes = s.kept.parked.wishes }
+    others =
+        let apart = subst (AllPairs AreApart) at.stands once in
+        let number : Waiting → ℕ = λ x. x.wish.rank.0 in
+        left ∙ ap (λ o. (gone_if (parked_of s) o).parked) found
+        ∙ ap (λ (l : List Waiting). (gone (record (parked_of s) { parked = record { waiting = l; wishes = s.kept.parked.wishes } }) e.wish.rank).parked) at.stands
+        ∙ ap (λ l. let p : Parked = record { waiting = l; wishes = s.kept.parked.wishes } in p)
+        (gone_one (is_of e.wish.rank) at.before e at.behind (before_others number at.before e at.behind apart)
+        (eq-eqb e.wish.rank.0 e.wish.rank.0 refl) (behind_others number at.before e at.behind apart))
+
+    fewer : length s.kept.parked.waiting ≡ length n.waiting + 1
+    fewer =
+        let now = ap (λ (p : Parked). length p.waiting) others in
+        let was = ap (λ (l : List Waiting). length l) at.stands ∙ one_fewer at.before e at.behind in
+        omega (arith, now, was)
+
+    told_end : (end : End) (out : Out)
+        → going_on (with_answer out (posted v (to_rank e.wish.rank (tells.Ended e.wish.request end))) (enters.Over e.wish.rank e.wish.request end))
+        (tells_all end [] n.waiting) (counted v (by.Rank e.wish.rank))
+        ≡ going_on out (tells_all end [] s.kept.parked.waiting) s
+    told_end end out =
+        let x = to_rank e.wish.rank (tells.Ended e.wish.request end) in
+        let over = enters.Over e.wish.rank e.wish.request end in
+        let tell : Act = Tells (around at.before at.behind) e.wish e.to_ask end in
+        let more = tells_all end [] (at.before ++ at.behind) in
+        let acts = ap (tells_all end []) at.stands ∙ next_told end at.before e at.behind at.fails at.passes in
+        rw others (sym (ap (λ l. going_on out l s) acts ∙ answers_one tell more s out x over refl refl))
+
+  module _ (rank : Rank) (request : ℕ) (told : Some (rank, request) ≡ option_map (λ (e : Waiting). call_of e.wish) first) where
+    pub end_within : IsParked (parked_of s) → rank.0 < s.config.ranks
+    end_within sound =
+        let e = waits_told first rank request told in
+        subst (λ (k : Rank × ℕ). k.0.0 < s.config.ranks) e.2 (waits_within (parked_of s) sound is_idle e.0 e.1)
+
+    pub fewer_wait : length n.waiting < length s.kept.parked.waiting
+    fewer_wait = let e = waits_told first rank request told in omega (arith, fewer e.0 e.1)
+
+    pub end_room : (out : Out) → HasRoom s out 0 → HasRoom v out 1
+    end_room out room =
+        let e = waits_told first rank request told in
+        let wishes = ap (λ (p : Parked). length p.wishes) (others e.0 e.1) in
+        room_left s s.kept.queue n out 0 1 (omega (arith, wishes, fewer e.0 e.1)) room
+
+    pub end_goes : (end : End) (out last : Out) (t : ServerModel) → t ≡ counted v (by.Rank rank)
+        → last ≡ with_answer out (posted v (to_rank rank (tells.Ended request end))) (enters.Over rank request end)
+        → going_on last (tells_all end [] t.kept.parked.waiting) t ≡ going_on out (tells_all end [] s.kept.parked.waiting) s
+    end_goes end out last t after sent =
+        let e = waits_told first rank request told in
+        let Goes : Rank × ℕ → Type 0 = λ k.
+        going_on (with_answer out (posted v (to_rank k.0 (tells.Ended k.1 end))) (enters.Over k.0 k.1 end)) (tells_all end [] n.waiting)
+        (counted v (by.Rank k.0))
+        ≡ going_on out (tells_all end [] s.kept.parked.waiting) s in
+        let one : Goes (call_of e.0.wish) = told_end e.0 e.1 end out in
+        let all : Goes (rank, request) = subst Goes e.2 one in
+        rw (after, sent) all
+
+  -- or none is idle
+  pub nobody_idle : None ≡ option_map (λ (e : Waiting). call_of e.wish) first → (end : End) → tells_all end [] n.waiting ≡ []
+  nobody_idle told end =
+      let none = none_waits first told in
+      let same = left ∙ ap (λ o. (gone_if (parked_of s) o).parked) none in
+      ap (λ (p : Parked). tells_all end [] p.waiting) same
+      ∙ none_told end s.kept.parked.waiting (find_none is_idle s.kept.parked.waiting none)

@@ -1,0 +1,61 @@
+-- The plan of a rule, and what is so of it.
+use Rattle.std.proofs.Common.{◌≡◌, Bool, true, false, cond, List, [], ◌∷◌, ◌++◌, None, Some, refl, subst}
+use Rattle.std.specs.Option.{IfSome}
+use Rattle.adlb_unit.specs.declared.actors.Actor.{Actor}
+use Rattle.adlb_unit.specs.declared.messages.Message.{Message}
+use Rattle.adlb_unit.specs.declared.names.UnitId.{UnitId}
+use Rattle.server_law.specs.Acts.{Act, takes}
+use Rattle.server_law.specs.Carried.{all_done, done}
+use Rattle.server_law.specs.Endings.{ends_event}
+use Rattle.server_law.specs.Plan.{Decider, Plan, decided}
+use Rattle.server_law.specs.Puts.{settles}
+use Rattle.server_law.specs.State.{ServerModel}
+use Rattle.server_law.specs.Sure.{AreHintsOf, SitsIn, Sure}
+use Rattle.server_law.proofs.Decided.{EachDecides, EachHintsNone, decided_hints_none, each_none_and_last, ends_event_hints_none, hints_joined, settles_decides, settles_hints}
+
+-- the first act takes the letter and is sure, and what follows it is decided
+pub record IsPlan (s : ServerModel) (from : Actor) (message : Message) (p : Plan) : Type 0 where
+  pub sits : SitsIn p.first s
+  pub sure : Sure p.first s
+  pub takes : takes p.first ≡ record { from = from; message = message } ∷ []
+  pub follow : EachDecides p.follow
+  pub hints : AreHintsOf s.kept.parked.wishes (decided (p.follow ++ ends_event ∷ []) (done p.first s))
+
+pub if_plan : (s : ServerModel) (from : Actor) (message : Message) (test : Bool) (p : Plan) → (test ≡ true → IsPlan s from message p)
+    → IfSome (cond test (Some p) None) (IsPlan s from message)
+if_plan s from message true p is = is refl
+if_plan s from message false p is = tt
+
+-- without hints
+pub made : {s : ServerModel} {from : Actor} {message : Message} {p : Plan} → SitsIn p.first s → Sure p.first s
+    → takes p.first ≡ record { from = from; message = message } ∷ [] → EachDecides p.follow → EachHintsNone p.follow
+    → IsPlan s from message p
+made {s} {from} {message} {p} sits sure takes follow none = record {
+  sits = sits;
+  sure = sure;
+  takes = takes;
+  follow = follow;
+  hints = decided_hints_none (p.follow ++ ends_event ∷ []) s.kept.parked.wishes (done p.first s)
+      (each_none_and_last p.follow ends_event none ends_event_hints_none);
+}
+
+-- a unit is settled, and the wishes are as before until then
+pub settled : {s : ServerModel} {from : Actor} {message : Message} (id : UnitId) (first : Act) (follow : List Decider) → SitsIn first s
+    → Sure first s → takes first ≡ record { from = from; message = message } ∷ []
+    → (done first s).kept.parked.wishes ≡ s.kept.parked.wishes → EachDecides follow → EachHintsNone follow
+    → IsPlan s from message (record { first = first; follow = settles id ∷ follow })
+settled {s} id first follow sits sure takes same each none =
+    let t = done first s in
+    let u = all_done (settles id t) t in
+    let later = decided (follow ++ ends_event ∷ []) u in
+    let hints : AreHintsOf t.kept.parked.wishes (settles id t ++ later) =
+    hints_joined t.kept.parked.wishes (settles id t) later (settles_hints id t)
+    (decided_hints_none (follow ++ ends_event ∷ []) t.kept.parked.wishes u
+    (each_none_and_last follow ends_event none ends_event_hints_none)) in
+    record {
+      sits = sits;
+      sure = sure;
+      takes = takes;
+      follow = (settles_decides id, each);
+      hints = subst (λ wishes. AreHintsOf wishes (settles id t ++ later)) same hints;
+    }
