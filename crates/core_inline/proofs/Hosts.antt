@@ -4,17 +4,23 @@ use Rattle.std.proofs.Common.{nat_lt, get_or-set_same, append-nil, Any}
 use Rattle.std.specs.Option.{option_map}
 use Rattle.bag_ledger.proofs.Tests.{some_is}
 use Rattle.work_queue.specs.declared.placing.Placed.{Placed}
-use Rattle.server_law.specs.Acts.{Act, Notes_finish, Parks, comes, does, says, takes, waiting_after, ServerSaying, Shuts}
+use Rattle.server_law.specs.Acts.{Act, Around, Asks_on, Is_hinted, Notes_finish, Parks, Wakes, comes, does, says, takes, waiting_after, ServerSaying, Shuts}
 use Rattle.server_law.specs.Acts.{Finds, Heard, Ends_reserve, of_rank, Grants}
 use Rattle.server_law.specs.Carried.{Served, all_counted, all_done, carried, done, counted}
 use Rattle.server_law.proofs.Carrying.{carried_state}
 use Rattle.server_law.proofs.Endings.{ends_quiet}
-use Rattle.server_law.proofs.Handled.{acts_handle, ends_event_decides}
-use Rattle.server_law.specs.State.{ServerModel, Waiting, Kept, Wish, is_finished, idle, runs, runs_at_home}
+use Rattle.server_law.proofs.Decided.{ends_event_decides}
+use Rattle.server_law.proofs.Handled.{acts_handle}
+use Rattle.reserve_path.specs.declared.waits.Waiting.{Waiting}
+use Rattle.reserve_path.specs.declared.wishes.Wish.{Wish}
+use Rattle.server_law.specs.State.{ServerModel, Kept, awaiting, is_finished, idle, runs, runs_at_home}
 use Rattle.server_law.specs.Sure.{SitsIn, AreSure, TakeNone}
 use Rattle.server_law.specs.Step.{acts, ticked, serve, next_stamp}
 use Rattle.server_law.specs.Endings.{ends_event, is_quiet, fits, tells_all, verdict, exhausts}
-use Rattle.server_law.specs.Finding.{best_for}
+use Rattle.server_law.specs.Finding.{best_for, place_in}
+use Rattle.server_law.specs.Waits.{ask_at, ask_next, asks_on}
+use Rattle.reserve_path.specs.Parked.{is_of}
+use Rattle.reserve_path.proofs.Others.{alone}
 use Rattle.server_law.specs.Reserves.{reserve, reserve_now}
 use Rattle.server_law.specs.Plan.{Decider, in_order, plan, decided}
 use Rattle.server_law.proofs.Tests.{quiet_is_tested}
@@ -91,14 +97,33 @@ nobody_comes a s sits none nobody =
     let come : weigh (λ (e : Waiting). 1) (comes a s) ≡ 0 = rw none refl in
     now ∙ none_there (waiting_after a s) (omega (arith, waits (λ e. 1) a s sits, before, come))
 
-takes_comes : (a : Act) (s : ServerModel) → takes a ≡ [] → comes a s ≡ []
-takes_comes (Parks wish) s none = absurd (cc)
-takes_comes _ s none = refl
+-- where nobody waits, nobody is asked for, wakes or is hinted of: only an act that parks a rank makes one come
+abbrev is_parking : Act → Bool
+is_parking (Parks wish) = true
+is_parking _ = false
+
+some_stands : (before behind : List Waiting) (e : Waiting) → [] ≡ before ++ e ∷ behind → ⊥
+some_stands [] behind e is = absurd (cc)
+some_stands (f ∷ before) behind e is = absurd (cc)
+
+others_come_not : (a : Act) (s : ServerModel) → SitsIn a s → waiting s ≡ [] → is_parking a ≡ false → comes a s ≡ []
+others_come_not (Parks wish) s sits nobody other = absurd (cc)
+others_come_not (Asks_on at wish to rest) s sits nobody other =
+    absurd (some_stands at.before at.behind (idle wish (to ∷ rest)) (sym nobody ∙ sits))
+others_come_not (Wakes at wish from rest) s sits nobody other =
+    absurd (some_stands at.before at.behind (awaiting wish from rest) (sym nobody ∙ sits))
+others_come_not (Is_hinted at e from) s sits nobody other = absurd (some_stands at.before at.behind e (sym nobody ∙ sits))
+others_come_not _ s sits nobody other = refl
+
+takes_none : (a : Act) → takes a ≡ [] → is_parking a ≡ false
+takes_none (Parks wish) none = absurd (cc)
+takes_none _ none = refl
 
 nobody_follows : (list : List Act) (s : ServerModel) → AreSure list s → TakeNone list → waiting s ≡ [] → waiting (all_done list s) ≡ []
 nobody_follows [] s sure none nobody = nobody
 nobody_follows (a ∷ list) s sure none nobody =
-    nobody_follows list (done a s) sure.2 none.1 (nobody_comes a s sure.0 (takes_comes a s none.0) nobody)
+    let come = others_come_not a s sure.0 nobody (takes_none a none.0) in
+    nobody_follows list (done a s) sure.2 none.1 (nobody_comes a s sure.0 come nobody)
 
 abbrev is_reserve : Message → Bool
 is_reserve (tells.Reserve request types) = true
@@ -107,13 +132,13 @@ is_reserve _ = false
 same_heard : (a b : Heard) → a ∷ [] ≡ b ∷ [] → a.message ≡ b.message
 same_heard a b is = let same : a ≡ b = cc in ap (λ (h : Heard). h.message) same
 
-other_comes : (a : Act) (s : ServerModel) (from : Actor) (m : Message) → takes a ≡ record { from = from; message = m } ∷ []
-    → is_reserve m ≡ false → comes a s ≡ []
-other_comes (Parks wish) s from m is other =
+takes_other : (a : Act) (from : Actor) (m : Message) → takes a ≡ record { from = from; message = m } ∷ []
+    → is_reserve m ≡ false → is_parking a ≡ false
+takes_other (Parks wish) from m is other =
     let one : true ≡ is_reserve m =
     ap is_reserve (same_heard (of_rank wish.rank (tells.Reserve wish.request wish.types)) (record { from = from; message = m }) is) in
     absurd (cc)
-other_comes _ s from m is other = refl
+takes_other _ from m is other = refl
 
 ruled : (t : ServerModel) (test : Bool) (first : Act) (follow : List Decider) (list : List Act)
     → option_map (in_order ends_event t) (cond test (plan first follow) None) ≡ Some list
@@ -124,9 +149,14 @@ ruled t false first follow list is = absurd (cc)
 abbrev wish : ℕ → Option (List WorkType) → Wish
 wish request types = record { rank = zeroth; request = request; types = types }
 
--- an act and what follows it
+-- an act and what follows it: the next server is asked, and then what follows each event
 abbrev ended_by : Act → ServerModel → List Act
-ended_by a t = a ∷ (ends_event (done a t) ++ [])
+ended_by a t = a ∷ decided (asks_on zeroth ∷ ends_event ∷ []) (done a t)
+
+-- where nobody is asked
+unasked : (s : ServerModel) → asks_on zeroth s ≡ [] → decided (asks_on zeroth ∷ ends_event ∷ []) s ≡ ends_event s
+unasked s none =
+    ap (λ (l : List Act). l ++ (ends_event (all_done l s) ++ [])) none ∙ append-nil (ends_event s)
 
 module _ (t : ServerModel) (one_rank : t.config.ranks ≡ 1) (one_server : t.config.servers ≡ 1) (nobody : waiting t ≡ []) where
   abbrev Leaves : List Act → Type 0
@@ -138,14 +168,15 @@ module _ (t : ServerModel) (one_rank : t.config.ranks ≡ 1) (one_server : t.con
       let h = acts_handle t by_rank m list is in
       ap (λ l. waiting (all_done l t)) h.are
       ∙ nobody_follows h.more (done h.first t) h.sure.2 h.follow
-      (nobody_comes h.first t h.sure.0 (other_comes h.first t by_rank m h.takes other) nobody)
+      (nobody_comes h.first t h.sure.0 (others_come_not h.first t h.sure.0 nobody (takes_other h.first by_rank m h.takes other)) nobody)
 
   -- a reserve that is answered
   answered_leaves : (a : Act) → waiting (done a t) ≡ [] → Leaves (ended_by a t)
   answered_leaves a none =
       let s = done a t in
       let follow = ends_event_decides s in
-      ap (λ l. waiting (all_done l s)) (append-nil (ends_event s)) ∙ nobody_follows (ends_event s) s follow.0 follow.1 none
+      let unasked_one = unasked s (ap (λ l. ask_at (place_in (is_of zeroth) l)) none) in
+      ap (λ l. waiting (all_done l s)) unasked_one ∙ nobody_follows (ends_event s) s follow.0 follow.1 none
 
   only_rank : (rank : Rank) → rank.0 < t.config.ranks → zeroth ≡ rank
   only_rank rank below = let first : 0 ≡ rank.0 = omega (arith, below, one_rank) in ap (λ n. record { 0 = n }) first
@@ -163,7 +194,10 @@ module _ (t : ServerModel) (one_rank : t.config.ranks ≡ 1) (one_server : t.con
       let unfit : (s.kept.exhausted || (fits s.kept e || false)) ≡ false = rw (fresh, none) refl in
       let told : ends_event s ≡ Finds ∷ tells_all ends_by.Exhausted [] (e ∷ []) =
       ends_quiet s one_server quiet ∙ ap (verdict s.kept) stands ∙ ap (λ b. exhausts b (e ∷ [])) unfit in
-      ap (λ list. waiting (all_done (list ++ []) s)) told
+      let at : Around = record { before = []; behind = [] } in
+      let unasked_one = unasked s (ap (λ l. ask_at (place_in (is_of zeroth) l)) stands
+      ∙ ap (ask_next at (wish request types) None) (alone t.config t.me one_server)) in
+      ap (λ list. waiting (all_done list s)) (unasked_one ∙ told)
 
   reserve_leaves : (request : ℕ) (types : Option (List WorkType)) (is_done used_up : Bool) (best : Option Placed)
       → t.kept.exhausted ≡ used_up → best_for t.kept (wish request types) ≡ best
@@ -178,7 +212,7 @@ module _ (t : ServerModel) (one_rank : t.config.ranks ≡ 1) (one_server : t.con
   acts_leave : (m : Message) (list : List Act) → acts t by_rank m ≡ Some list → Leaves list
   acts_leave (tells.Reserve request types) list is =
       let k = t.kept in
-      subst Leaves (ruled t (runs_at_home t zeroth) (reserve_now k (wish request types)) [] list is)
+      subst Leaves (ruled t (runs_at_home t zeroth) (reserve_now k (wish request types)) (asks_on zeroth ∷ []) list is)
       (reserve_leaves request types k.done k.exhausted (best_for k (wish request types)) refl refl)
   acts_leave m list is = other_leaves m list refl is
 

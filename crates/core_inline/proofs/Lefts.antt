@@ -19,7 +19,7 @@ use Rattle.work_queue.specs.Queue.{HasDistinctIds, id_of}
 use Rattle.work_queue.specs.declared.placing.Placed.{Placed}
 use Rattle.work_queue.proofs.Named.{find_listed}
 use Rattle.server_law.specs.Agreement.{ServerAgrees, of_id, slot_of}
-use Rattle.server_law.specs.Finding.{unit_with}
+use Rattle.reserve_path.specs.Grants.{unit_with}
 use Rattle.server_law.specs.Rest.{HasAll, IsHereOrSpent, IsKeptAt}
 use Rattle.server_law.specs.State.{ServerModel}
 use Rattle.server_core.specs.Left.{left_of as left_list, left_unit}

@@ -8,6 +8,5 @@ pub mod Kept
 pub mod Lefts
 pub mod Opened
 pub mod Reached
-pub mod Scripts
 pub mod Starts
 pub mod Told

@@ -1,5 +1,5 @@
 -- What holds of each world of one rank and one server to which a run leads: which letters are under way, and what an event leaves.
-use Rattle.std.proofs.Common.{◌≡◌, ℕ, ◌+◌, ◌<◌, ◌≤◌, Bool, true, false, ◌&&◌, ◌||◌, cond, not, List, [], ◌∷◌, ◌++◌, length, Option, None, Some, refl, sym, ap, ◌∙◌, subst, arith}
+use Rattle.std.proofs.Common.{◌≡◌, ℕ, ◌+◌, ◌==◌, ◌<◌, ◌≤◌, Bool, true, false, ◌&&◌, ◌||◌, cond, not, List, [], ◌∷◌, ◌++◌, length, Option, None, Some, refl, sym, ap, ◌∙◌, subst, arith}
 use Rattle.std.specs.Prelude.{option_and_then}
 use Rattle.std.specs.Option.{option_map}
 use Rattle.adlb_unit.specs.Limits.{stamp_limit, InRanks, InServers, InLimit}
@@ -25,7 +25,7 @@ use Rattle.core_run.specs.declared.events.Event.TheVariants as occurs
 use Rattle.core_run.specs.Runs.{Runs}
 use Rattle.core_run.specs.World.{Links, World, after_rank, after_server, client_of, handle, happens, has_ended, link, pool_of, start, taken}
 use Rattle.core_run.specs.World.{row}
-use Rattle.core_law.specs.Letters.{is_finish, is_request, misfit, one, call_waits}
+use Rattle.core_law.specs.Letters.{is_finish, is_request, misfit, one, call_waits, remote_letter}
 use Rattle.core_law.specs.Lines.{AreStamped}
 use Rattle.core_law.specs.Measures.{measure, weigh}
 use Rattle.core_law.specs.Own.{IsClient, IsPool}
@@ -132,11 +132,26 @@ one_kind : (m : Message) → one (is_request m && true) + one (is_finish m && tr
 one_kind tells.Finish = refl
 one_kind _ = refl
 
-each_kind : (letters : List Letter)
+each_kind : (config : Config) (letters : List Letter)
     → weigh (λ l. one (is_request l.message && true)) letters + weigh (λ l. one (is_finish l.message && true)) letters
-    + weigh (λ l. misfit by_rank by_server l.message) letters ≡ length letters
-each_kind [] = refl
-each_kind (l ∷ letters) = omega (arith, one_kind l.message, each_kind letters)
+    + weigh (λ l. misfit config by_rank by_server l.message) letters ≡ length letters
+each_kind config [] = refl
+each_kind config (l ∷ letters) = omega (arith, one_kind l.message, each_kind config letters)
+
+-- a letter of the server to itself is misplaced, and is of a rank's call at most once
+at_most_one : (t : Bool) → one t ≤ 1
+at_most_one true = omega arith
+at_most_one false = omega arith
+
+one_remote : (m : Message) → remote_letter zeroth m ≤ 1
+one_remote (tells.Ask rank request types) = at_most_one (rank.0 == 0)
+one_remote (tells.AskGrant rank request note) = at_most_one (rank.0 == 0)
+one_remote (tells.AskNone rank request) = at_most_one (rank.0 == 0)
+one_remote _ = omega arith
+
+few_remote : (letters : List Letter) → weigh (λ l. remote_letter zeroth l.message) letters ≤ length letters
+few_remote [] = omega arith
+few_remote (l ∷ letters) = omega (arith, one_remote l.message, few_remote letters)
 
 one_true : (t : Bool) → one (t && true) ≡ 1 → t ≡ true
 one_true true is = refl
@@ -236,17 +251,30 @@ facts w l = by_world (λ v. IsLone v → AreFacts v) (λ limit a b d c s rr rs s
     record {
       letters = λ nobody.
           let waits : weigh (call_waits zeroth 0) s.kept.parked.waiting ≡ 0 = rw nobody refl in
-          omega (arith, requests, finishes, kinds, each_kind rs, counted sr, waits, nothing rr, nothing sr, nothing ss);
+          omega (
+            arith,
+            requests,
+            finishes,
+            kinds,
+            each_kind g rs,
+            counted sr,
+            counted ss,
+            few_remote ss,
+            waits,
+            nothing rr,
+            nothing sr,
+            nothing ss,
+          );
       unhandled = λ going. one_false (is_finished s.kept zeroth)
           (omega (arith, finishes, nothing rr, nothing sr, nothing ss, ap one going));
       farewell = λ letter rest idle front.
           let busy : one (not (is_idle c.pending)) ≡ 0 = rw idle refl in
           let weights : weigh (λ x. one (is_request x.message && true)) rs ≡ one (is_request letter.message && true)
           + weigh (λ x. one (is_request x.message && true)) rest = ap (weigh (λ x. one (is_request x.message && true))) front in
-          let misfits : weigh (λ x. misfit by_rank by_server x.message) rs ≡ misfit by_rank by_server letter.message
-          + weigh (λ x. misfit by_rank by_server x.message) rest = ap (weigh (λ x. misfit by_rank by_server x.message)) front in
+          let misfits : weigh (λ x. misfit g by_rank by_server x.message) rs ≡ misfit g by_rank by_server letter.message
+          + weigh (λ x. misfit g by_rank by_server x.message) rest = ap (weigh (λ x. misfit g by_rank by_server x.message)) front in
           one_true (is_finish letter.message)
-          (omega (arith, requests, kinds, busy, weights, misfits, one_kind letter.message, nothing rr, nothing ss));
+          (omega (arith, requests, kinds, busy, weights, misfits, one_kind letter.message, nothing rr));
       asked_before = λ letter rest. sent_before rs rest letter c.clock (line by_rank by_server refl refl).stamps;
       told_before = λ letter rest. sent_before sr rest letter s.clock (line by_server by_rank refl refl).stamps;
       asked_goes = λ letter rest. stuck by_rank by_server letter rest refl refl;

@@ -9,8 +9,6 @@ mod inline;
 mod laws;
 mod pairs;
 mod runs;
-#[cfg(test)]
-mod tests;
 
 pub use inline::InlineWorld;
 pub use laws::left_laws;

@@ -1,6 +1,7 @@
 -- What is lawful stays lawful through each act of a server, for all ranks and servers, and so through its event.
 use Rattle.std.proofs.Common.{◌≡◌, ◌≢◌, ◌<◌, ℕ, ◌==◌, Bool, true, false, [], List, Option, None, Some, refl, sym, ap, ◌∙◌, subst}
 use Rattle.std.proofs.lemmas.Bool.{eqb-true}
+use Rattle.adlb_unit.specs.Targets.{home}
 use Rattle.adlb_unit.specs.declared.actors.Actor.{Actor}
 use Rattle.adlb_unit.specs.declared.letters.Letter.{Letter}
 use Rattle.adlb_unit.specs.declared.messages.Message.{Message}
@@ -9,31 +10,34 @@ use Rattle.adlb_unit.specs.declared.names.Server.{Server}
 use Rattle.bag_ledger.specs.Bag.{Bag, settled, start as empty_bag}
 use Rattle.bag_ledger.specs.Runs.{IsRun}
 use Rattle.bag_ledger.proofs.Legal.{run_joined}
+use Rattle.bag_ledger.proofs.Tests.{some_is}
 use Rattle.bag_law.proofs.Sound.{run_is_sound}
 use Rattle.rank_client.specs.Agreement.{holds}
-use Rattle.server_law.specs.Acts.{Accepts, Act, Closes, Counts, Ends_keep, Ends_put, Ends_reserve, Ends_try, Fetches, Fetches_part, Finds, Gives, Grants, Grants_try, Keeps, Looks, Notes_finish, Parks, Refuses, Refuses_part, Shuts, Tells, entries}
+use Rattle.server_law.specs.Acts.{Accepts, Act, Answers, Asks_on, Closes, Counts, Declines, Drops_hint, Ends_keep, Ends_put, Ends_reserve, Ends_try, Fetches, Fetches_part, Finds, Gives, Grants, Grants_try, Hints, Is_hinted, Keeps, Looks, Notes_finish, Parks, Passes_on, Refuses, Refuses_part, Shuts, Tells, Wakes, entries, Queries, Promises, Refuses_push, Sends_unit, Cancels, Stops_push, Ends_push, Arrives, Acks, Withdraws}
 use Rattle.server_law.specs.Agreement.{ServerAgrees}
 use Rattle.server_law.specs.Carried.{Served, done}
 use Rattle.server_law.specs.Legal.{Needs}
-use Rattle.server_law.specs.State.{ServerModel}
+use Rattle.server_law.specs.State.{ServerModel, awaiting}
 use Rattle.server_law.specs.Step.{ticked}
 use Rattle.server_law.proofs.Elsewhere.{servers_stay}
 use Rattle.server_law.proofs.OwnEntries.{acts_are_legal}
 use Rattle.core_run.specs.World.{World, client_of, pool_of, rank_named}
 use Rattle.core_law.specs.Acting.{IsAct, acted, ticks}
-use Rattle.core_law.specs.Lawful.{Each, IsLawful, IsSeat, IsWaiting}
+use Rattle.core_law.specs.Lawful.{IsLawful, IsSeat, IsWaiting}
+use Rattle.core_law.specs.OnLinks.{Each}
 use Rattle.core_law.specs.Others.{tells_of}
 use Rattle.core_law.specs.Well.{IsWell}
 use Rattle.core_law.proofs.Actors.{every_pool}
-use Rattle.core_law.proofs.ActSeats.{about, finish_stays, other_stays, parks_stays}
+use Rattle.core_law.proofs.ActSeats.{about, asks_stays, declines_stays, finish_stays, hinted_stays, other_stays, parks_stays, passes_stays, wakes_stays}
+use Rattle.core_law.proofs.Answering.{entry_here, home_here}
 use Rattle.core_law.proofs.Bags.{not_kept, of_act, run_facts, run_servers}
-use Rattle.core_law.proofs.Coming.{still_same}
-use Rattle.core_law.proofs.Deciding.{IsDone, Succeeds, accepts_succeeds, ends_put_succeeds, ends_reserve_succeeds, fetches_succeeds, gives_succeeds, grants_succeeds, refuses_succeeds, tells_succeeds, closes_succeeds, counts_succeeds, ends_keep_succeeds, ends_try_succeeds, fetches_part_succeeds, grants_try_succeeds, keeps_succeeds, looks_succeeds, refuses_part_succeeds}
+use Rattle.core_law.proofs.Deciding.{IsDone, Succeeds, accepts_succeeds, answers_succeeds, ends_put_succeeds, ends_reserve_succeeds, fetches_succeeds, gives_succeeds, grants_succeeds, refuses_succeeds, tells_succeeds, closes_succeeds, counts_succeeds, ends_keep_succeeds, ends_try_succeeds, fetches_part_succeeds, grants_try_succeeds, keeps_succeeds, looks_succeeds, refuses_part_succeeds}
 use Rattle.core_law.proofs.Events.{event_keeps}
 use Rattle.core_law.proofs.Resting.{bag_is_settled}
 use Rattle.core_law.proofs.Seats.{IsMade}
 use Rattle.core_law.proofs.Steps.{Serves}
 use Rattle.core_law.proofs.Well.{inside_servers, own_of}
+use Rattle.core_law.proofs.PushLawful.{act_pushed, arrives_needs, promises_needs, sends_needs, withdraws_needs}
 
 -- An act.
 
@@ -48,9 +52,15 @@ module _ (w : World) (k : Server) (b : Bag) (well : IsWell w) (l : IsLawful w b)
         let same : b ≡ n = subst (λ es. IsRun b es n) none m.step in
         let made = subst (λ (x : Bag). IsMade w k a b x) (sym same) m in
         subst (λ (x : Bag). IsDone w k a x) same (record {
-          still = l.still;
           seat = λ r told within. let its = l.seats r within in (its.0, stays r its.0 told made its.1);
         });
+  }
+
+  -- an act that tells of no rank
+  tells_nobody : (a : Act) → Needs a b (pool_of w k).me → about a ≡ None → Succeeds w k a b
+  tells_nobody a needs none = record {
+    needs = needs;
+    makes = λ n m. record { seat = λ r told within. let no_one : None ≡ Some r = sym none ∙ told in absurd (cc) };
   }
 
   succeeds : (a : Act) → IsAct w k a → Succeeds w k a b
@@ -68,21 +78,40 @@ module _ (w : World) (k : Server) (b : Bag) (well : IsWell w) (l : IsLawful w b)
   succeeds (Notes_finish rank) is = unchanged (Notes_finish rank) refl tt (λ r coming told m seat. finish_stays w k rank b r coming m seat)
   succeeds (Gives at wish rest unit) is = gives_succeeds w k b well l is.here at wish rest unit is
   succeeds (Tells at wish rest end) is = tells_succeeds w k b well l is.here at wish rest end is
-  succeeds Finds is = record {
-    needs = bag_is_settled w k b well l is;
-    makes = λ n m.
-        let made : n ≡ record b { exhausted = true } = sym m.step.2 ∙ m.step.1.2 in
-        record {
-          still = still_same b n (ap (λ (x : Bag). x.units) made) (ap (λ (x : Bag). x.promises) made) l.still;
-          seat = λ r told within. absurd (cc);
-        };
-  }
+  succeeds (Asks_on at wish to rest) is =
+      unchanged (Asks_on at wish to rest) refl tt (λ r coming told m seat. asks_stays w k at wish to rest b r coming m seat)
+  succeeds (Passes_on at wish from rest note) is =
+      let entry = entry_here w k at (awaiting wish from rest) well is.here is.sits in
+      let at_home = home_here w k wish.rank well entry.within entry.here in
+      unchanged (Passes_on at wish from rest note) refl tt (λ r coming told m seat.
+      let its = subst (λ (x : Rank). k ≡ home (client_of w x).config (client_of w x).me) (some_is told) at_home in
+      passes_stays w k at wish from rest note b r coming m its seat)
+  succeeds (Wakes at wish from rest) is =
+      unchanged (Wakes at wish from rest) refl tt (λ r coming told m seat. wakes_stays w k at wish from rest b r coming m seat)
+  succeeds (Is_hinted at e from) is =
+      unchanged (Is_hinted at e from) refl tt (λ r coming told m seat. hinted_stays w k at e from b r coming m seat)
+  succeeds (Drops_hint from rank request) is = tells_nobody (Drops_hint from rank request) tt refl
+  succeeds (Answers from wish unit) is = answers_succeeds w k b well l is.here from wish unit is
+  succeeds (Declines from wish) is =
+      unchanged (Declines from wish) refl tt (λ r coming told m seat. declines_stays w k from wish b r coming m seat)
+  succeeds (Hints wish) is = tells_nobody (Hints wish) tt refl
+  succeeds (Queries to id size) is = tells_nobody (Queries to id size) tt refl
+  succeeds (Promises from id size) is = tells_nobody (Promises from id size) (promises_needs w k b well l from id size is) refl
+  succeeds (Refuses_push from id size) is = tells_nobody (Refuses_push from id size) tt refl
+  succeeds (Sends_unit to size unit) is = tells_nobody (Sends_unit to size unit) (sends_needs w k b well l to size unit is) refl
+  succeeds (Cancels to id size) is = tells_nobody (Cancels to id size) tt refl
+  succeeds (Stops_push to id size) is = tells_nobody (Stops_push to id size) tt refl
+  succeeds (Ends_push to id size) is = tells_nobody (Ends_push to id size) tt refl
+  succeeds (Arrives from unit) is = tells_nobody (Arrives from unit) (arrives_needs w k b well l from unit is) refl
+  succeeds (Acks to id) is = tells_nobody (Acks to id) tt refl
+  succeeds (Withdraws from id) is = tells_nobody (Withdraws from id) (withdraws_needs w k b well l from id is) refl
+  succeeds Finds is = tells_nobody Finds (bag_is_settled w k b well l is) refl
   succeeds (Keeps rank request common) is = keeps_succeeds w k b well l is.here rank request common is
   succeeds (Refuses_part rank request common) is = refuses_part_succeeds w k b well l is.here rank request common is
   succeeds (Ends_keep rank request common end) is = ends_keep_succeeds w k b well l is.here rank request common end is
   succeeds (Closes request batch accepted part) is = closes_succeeds w k b well l is.here request batch accepted part is
   succeeds (Fetches_part rank request batch part) is = fetches_part_succeeds w k b well l is.here rank request batch part is
-  succeeds Shuts is = unchanged Shuts refl tt (λ r coming told m seat. absurd (cc))
+  succeeds Shuts is = tells_nobody Shuts tt refl
 
   -- the seats of all ranks after the act
   seats_next : (a : Act) (n : Bag) → IsMade w k a b n → IsDone w k a n → (r : Rank) → r.0 < w.config.ranks
@@ -124,13 +153,13 @@ module _ (w : World) (k : Server) (b : Bag) (well : IsWell w) (l : IsLawful w b)
         record {
           run = run_joined (empty_bag w.config) b n w.ledger (entries a s) l.run legal.1;
           rests = legal.3;
-          still = d.still;
           seats = seats_next a n m d;
           pools = every_pool (λ t x. ServerAgrees n x) w k (done a s) (inside_servers w k well is.here) legal.2 (λ t there differs.
               let yours = well.own.servers t there in
               let apart : s.me ≢ (pool_of w t).me = λ e. differs (ap (λ (x : Server). x.0) (sym yours.me ∙ sym e ∙ mine.me)) in
               let others = not_kept a s (pool_of w t).me is.sure agrees.within apart in
               run_servers servers_stay (entries a s) b n (pool_of w t) others sound legal.1 (l.pools t there));
+          pushed = act_pushed w k b well l a n m;
         },
       )
 
@@ -145,7 +174,12 @@ tick_lawful w k stamp b here well l =
     record {
       run = l.run;
       rests = l.rests;
-      still = l.still;
+      pushed = record {
+        opens = l.pushed.opens;
+        letters = l.pushed.letters;
+        rooms = l.pushed.rooms;
+        travels = l.pushed.travels;
+      };
       seats = λ r within.
           let its = l.seats r within in
           let seat = its.1 in

@@ -1,5 +1,5 @@
 -- Each act and the seat of a rank: of another rank, and of the rank of which it tells, where nothing of its call is decided.
-use Rattle.std.proofs.Common.{◌≡◌, ◌<◌, ℕ, Bool, true, false, cond, List, [], ◌∷◌, ◌++◌, Option, None, Some, refl, ap, ◌∙◌, subst}
+use Rattle.std.proofs.Common.{◌≡◌, ◌<◌, Bool, true, false, cond, List, [], ◌∷◌, ◌++◌, Option, None, Some, refl, sym, ap, ◌∙◌, subst}
 use Rattle.std.specs.Prelude.{All}
 use Rattle.std.proofs.lemmas.Bool.{eq-eqb, lt-ltb}
 use Rattle.adlb_unit.specs.declared.actors.Actor.TheVariants as by
@@ -7,28 +7,33 @@ use Rattle.adlb_unit.specs.declared.messages.Message.{Message}
 use Rattle.adlb_unit.specs.declared.messages.Message.TheVariants as tells
 use Rattle.adlb_unit.specs.declared.names.Rank.{Rank}
 use Rattle.adlb_unit.specs.declared.names.Server.{Server}
+use Rattle.adlb_unit.specs.declared.notes.UnitNote.{UnitNote}
 use Rattle.adlb_unit.specs.Targets.{home}
 use Rattle.bag_ledger.specs.Bag.{Bag}
 use Rattle.rank_client.specs.Agreement.{holds}
+use Rattle.rank_client.specs.Expected.{IsAwaited}
 use Rattle.rank_client.specs.declared.pendings.Pending.{Pending}
 use Rattle.rank_client.specs.declared.pendings.Pending.TheVariants as waits_for
 use Rattle.rank_client.specs.State.{ClientModel}
-use Rattle.server_law.specs.State.{ServerModel, Waiting, Wish}
+use Rattle.reserve_path.specs.declared.waits.Waiting.{Waiting}
+use Rattle.reserve_path.specs.declared.wishes.Wish.{Wish}
+use Rattle.server_law.specs.State.{ServerModel, awaiting, idle}
 use Rattle.adlb_unit.specs.declared.names.BatchId.{BatchId}
 use Rattle.bag_ledger.specs.declared.entries.Entry.TheVariants as enters
 use Rattle.batch_store.specs.Store.{closed, fetched, is_due}
 use Rattle.batch_store.specs.declared.parts.Part.{Part}
-use Rattle.server_law.specs.Acts.{Act, Accepts, Around, Closes, Counts, Ends_keep, Ends_put, Ends_reserve, Ends_try, Fetches, Fetches_part, Finds, Gives, Grants, Grants_try, Heard, Keeps, Looks, Notes_finish, Parks, Refuses, Refuses_part, ServerSaying, Shuts, Tells, comes, entries, frees, of_rank, says, takes}
+use Rattle.server_law.specs.Acts.{Act, Accepts, Answers, Around, Asks_on, Closes, Counts, Declines, Drops_hint, Ends_keep, Ends_put, Ends_reserve, Ends_try, Fetches, Fetches_part, Finds, Gives, Grants, Grants_try, Heard, Hints, Is_hinted, Keeps, Looks, Notes_finish, Parks, Passes_on, Refuses, Refuses_part, ServerSaying, Shuts, Tells, Wakes, comes, entries, frees, of_rank, of_server, says, takes, Queries, Promises, Refuses_push, Sends_unit, Cancels, Stops_push, Ends_push, Arrives, Acks, Withdraws}
 use Rattle.core_run.specs.World.{World, client_of, pool_of}
 use Rattle.core_law.specs.Acting.{AreFront, IsAct, acted}
-use Rattle.core_law.specs.Lawful.{Each, IsAsked, IsFact, IsOfCall, IsSeat, IsWaiting, OfCall}
+use Rattle.core_law.specs.Lawful.{IsAsked, IsFact, IsOfCall, IsSeat, IsWaiting, OfCall}
+use Rattle.core_law.specs.OnLinks.{Each}
 use Rattle.core_law.specs.Letters.{call_letter}
 use Rattle.core_law.specs.Others.{tells_of}
 use Rattle.core_law.proofs.RankSteps.{AreSilent, weighs_nothing}
 use Rattle.core_law.proofs.Seats.{IsMade, seat_stays}
 use Rattle.core_law.proofs.UnderWay.{at_front, each_parts}
 
--- the rank of which an act tells
+-- the rank of which an act tells; a hint changes nothing for its rank, and a push tells of none
 abbrev pub about : Act → Option Rank
 about (Accepts unit) = Some unit.id.rank
 about (Refuses unit) = Some unit.id.rank
@@ -44,11 +49,29 @@ about (Counts rank request kind) = Some rank
 about (Notes_finish rank) = Some rank
 about (Gives at wish rest unit) = Some wish.rank
 about (Tells at wish rest end) = Some wish.rank
+about (Asks_on at wish to rest) = Some wish.rank
+about (Passes_on at wish from rest note) = Some wish.rank
+about (Wakes at wish from rest) = Some wish.rank
+about (Is_hinted at e from) = Some e.wish.rank
+about (Answers from wish unit) = Some wish.rank
+about (Declines from wish) = Some wish.rank
 about (Keeps rank request common) = Some rank
 about (Refuses_part rank request common) = Some rank
 about (Ends_keep rank request common end) = Some rank
 about (Closes request batch accepted part) = Some batch.rank
 about (Fetches_part rank request batch part) = Some rank
+about (Drops_hint from rank request) = None
+about (Hints wish) = None
+about (Queries to id size) = None
+about (Promises from id size) = None
+about (Refuses_push from id size) = None
+about (Sends_unit to size unit) = None
+about (Cancels to id size) = None
+about (Stops_push to id size) = None
+about (Ends_push to id size) = None
+about (Arrives from unit) = None
+about (Acks to id) = None
+about (Withdraws from id) = None
 about Finds = None
 about Shuts = None
 
@@ -65,6 +88,23 @@ silent : (me : Rank) (a : Act) (s : ServerModel) → tells_of me (about a) ≡ f
 silent me (Parks wish) s is = tt
 silent me (Notes_finish rank) s is = tt
 silent me Shuts s is = tt
+silent me (Asks_on at wish to rest) s is = tt
+silent me (Passes_on at wish from rest note) s is = tt
+silent me (Wakes at wish from rest) s is = tt
+silent me (Is_hinted at e from) s is = tt
+silent me (Drops_hint from rank request) s is = tt
+silent me (Declines from wish) s is = tt
+silent me (Hints wish) s is = tt
+silent me (Queries to id size) s is = tt
+silent me (Refuses_push from id size) s is = tt
+silent me (Cancels to id size) s is = tt
+silent me (Stops_push to id size) s is = tt
+silent me (Ends_push to id size) s is = tt
+silent me (Acks to id) s is = tt
+silent me (Promises from id size) s is = (refl, tt)
+silent me (Sends_unit to size unit) s is = (refl, tt)
+silent me (Arrives from unit) s is = (refl, tt)
+silent me (Withdraws from id) s is = (refl, tt)
 silent me Finds s is = (refl, tt)
 silent me (Closes request batch accepted part) s is = (is, frees_silent me s.me batch (closed accepted part))
 silent me (Fetches_part rank request batch part) s is = (is, frees_silent me s.me batch (fetched part))
@@ -78,6 +118,20 @@ says_nothing me (Parks wish) s k is = tt
 says_nothing me (Notes_finish rank) s k is = tt
 says_nothing me Shuts s k is = tt
 says_nothing me Finds s k is = tt
+says_nothing me (Wakes at wish from rest) s k is = tt
+says_nothing me (Is_hinted at e from) s k is = tt
+says_nothing me (Drops_hint from rank request) s k is = tt
+says_nothing me (Hints wish) s k is = (refl, tt)
+says_nothing me (Stops_push to id size) s k is = tt
+says_nothing me (Ends_push to id size) s k is = tt
+says_nothing me (Arrives from unit) s k is = tt
+says_nothing me (Queries to id size) s k is = (refl, tt)
+says_nothing me (Promises from id size) s k is = (refl, tt)
+says_nothing me (Refuses_push from id size) s k is = (refl, tt)
+says_nothing me (Sends_unit to size unit) s k is = (refl, tt)
+says_nothing me (Cancels to id size) s k is = (refl, tt)
+says_nothing me (Acks to id) s k is = (refl, tt)
+says_nothing me (Withdraws from id) s k is = (refl, tt)
 says_nothing me _ s k is = (rw is refl, tt)
 
 ComeOf : Rank → List Waiting → Type 0
@@ -86,6 +140,9 @@ ComeOf me es = Each (λ (e : Waiting). tells_of me (Some e.wish.rank) ≡ false)
 nobody_comes : (me : Rank) (a : Act) (s : ServerModel) → tells_of me (about a) ≡ false → ComeOf me (comes a s)
 unfolding ComeOf
 nobody_comes me (Parks wish) s is = (is, tt)
+nobody_comes me (Asks_on at wish to rest) s is = (is, tt)
+nobody_comes me (Wakes at wish from rest) s is = (is, tt)
+nobody_comes me (Is_hinted at e from) s is = (is, tt)
 nobody_comes me _ s is = tt
 
 said_of_call : (c : ClientModel) (coming : Option Message) (me : Rank) (k : Server) (ys : List ServerSaying) → c.me ≡ me
@@ -160,3 +217,52 @@ pub finish_stays : (w : World) (k : Server) (rank : Rank) (b : Bag) (me : Rank) 
     → IsMade w k (Notes_finish rank) b b
     → IsSeat w b me coming → IsSeat (acted w k (Notes_finish rank)) b me coming
 finish_stays w k rank b me coming m seat = seat_stays w k (Notes_finish rank) b b me coming m tt tt tt seat.facts seat
+
+-- another server is asked for the rank
+pub asks_stays : (w : World) (k : Server) (at : Around) (wish : Wish) (to : Server) (rest : List Server) (b : Bag) (me : Rank)
+    (coming : Option Message)
+    → IsMade w k (Asks_on at wish to rest) b b → IsSeat w b me coming → IsSeat (acted w k (Asks_on at wish to rest)) b me coming
+asks_stays w k at wish to rest b me coming m seat =
+    let is = m.is in
+    let gone = gone_is w k at (idle wish (to ∷ rest)) b me coming is.here is.sits seat in
+    seat_stays w k (Asks_on at wish to rest) b b me coming m tt ((λ who. let l = gone who in (l.1 refl, l.0)), tt)
+    ((λ who. ((gone who).0, λ e. absurd (cc))), tt) seat.facts seat
+
+-- the server that was asked had none
+pub wakes_stays : (w : World) (k : Server) (at : Around) (wish : Wish) (from : Server) (rest : List Server) (b : Bag) (me : Rank)
+    (coming : Option Message)
+    → IsMade w k (Wakes at wish from rest) b b → IsSeat w b me coming → IsSeat (acted w k (Wakes at wish from rest)) b me coming
+wakes_stays w k at wish from rest b me coming m seat =
+    let is = m.is in
+    let gone = gone_is w k at (awaiting wish from rest) b me coming is.here is.sits seat in
+    let of = front_is w k (Wakes at wish from rest) me coming (of_server from (tells.AskNone wish.rank wish.request)) is refl b seat in
+    seat_stays w k (Wakes at wish from rest) b b me coming m tt tt ((λ who. ((gone who).0, λ e. of who)), tt) seat.facts seat
+
+-- another server has a unit for it by now
+pub hinted_stays : (w : World) (k : Server) (at : Around) (e : Waiting) (from : Server) (b : Bag) (me : Rank) (coming : Option Message)
+    → IsMade w k (Is_hinted at e from) b b → IsSeat w b me coming → IsSeat (acted w k (Is_hinted at e from)) b me coming
+hinted_stays w k at e from b me coming m seat =
+    let is = m.is in
+    let gone = gone_is w k at e b me coming is.here is.sits seat in
+    seat_stays w k (Is_hinted at e from) b b me coming m tt tt (gone, tt) seat.facts seat
+
+-- a server that is asked for it has none
+pub declines_stays : (w : World) (k : Server) (from : Server) (wish : Wish) (b : Bag) (me : Rank) (coming : Option Message)
+    → IsMade w k (Declines from wish) b b → IsSeat w b me coming → IsSeat (acted w k (Declines from wish)) b me coming
+declines_stays w k from wish b me coming m seat =
+    let asked = of_server from (tells.Ask wish.rank wish.request wish.types) in
+    let of = front_is w k (Declines from wish) me coming asked m.is refl b seat in
+    seat_stays w k (Declines from wish) b b me coming m tt ((λ who. (of who).0), tt) tt seat.facts seat
+
+-- its home passes on the grant of the server that was asked
+pub passes_stays : (w : World) (k : Server) (at : Around) (wish : Wish) (from : Server) (rest : List Server) (note : UnitNote) (b : Bag)
+    (me : Rank) (coming : Option Message)
+    → IsMade w k (Passes_on at wish from rest note) b b → k ≡ home (client_of w me).config (client_of w me).me → IsSeat w b me coming
+    → IsSeat (acted w k (Passes_on at wish from rest note)) b me coming
+passes_stays w k at wish from rest note b me coming m here seat =
+    let c = client_of w me in
+    let grant = tells.Grant wish.request note in
+    let brings = of_server from (tells.AskGrant wish.rank wish.request note) in
+    let of = front_is w k (Passes_on at wish from rest note) me coming brings m.is refl b seat in
+    seat_stays w k (Passes_on at wish from rest note) b b me coming m tt
+    ((λ who. let l = of who in (l.0, subst (λ (t : Server). IsAwaited c c.pending t grant) (sym here) l.1)), tt) tt seat.facts seat

@@ -15,7 +15,7 @@ use Rattle.server_law.specs.Carried.{all_counted, counted, done, sends, stamped}
 use Rattle.server_law.specs.State.{ServerModel, start as new_pool}
 use Rattle.core_run.specs.World.{Links, World, actors, link, pool_of, put_link}
 use Rattle.core_law.specs.Acting.{AreActs, AreFront, AreSaid, IsAct, IsOwn, acted, acted_all, behind_front, taken_off}
-use Rattle.core_law.specs.Lawful.{Each, OnLinks}
+use Rattle.core_law.specs.OnLinks.{Each, OnLinks}
 use Rattle.core_law.specs.Measures.{ActKeeps, IsBalanced, Weights, actor, due, heard_weight, links_weight, measure, said_weight, sends_weight, server_weight}
 use Rattle.core_law.specs.Well.{IsShaped, IsSquare}
 use Rattle.core_law.proofs.Sums.{AreWithin, front_goes, place_actor, place_below, post_weight, square_post, square_put, weigh_at-set}
@@ -31,7 +31,7 @@ pub counted_own : (s : ServerModel) (ys : List ServerSaying) → ((all_counted s
 counted_own s [] = (refl, refl)
 counted_own s (y ∷ ys) = counted_own (counted s y.to) ys
 
-sent_weight : (m : Weights) (me : Server) (s : ServerModel) (ys : List ServerSaying)
+pub sent_weight : (m : Weights) (me : Server) (s : ServerModel) (ys : List ServerSaying)
     → sends_weight m (by.Server me) (stamped s ys) ≡ said_weight m.letter me ys
 sent_weight m me s [] = refl
 sent_weight m me s (y ∷ ys) = ap (λ n. m.letter (by.Server me) y.to y.message + n) (sent_weight m me (counted s y.to) ys)

@@ -4,6 +4,7 @@ use Rattle.std.specs.Prelude.{All}
 use Rattle.std.proofs.lemmas.Bool.{eq-eqb, eqb-true, false_from_ne_true, ltb-true}
 use Rattle.std.proofs.lemmas.List.{get_or_at, length-append}
 use Rattle.adlb_unit.specs.Targets.{home, home_of}
+use Rattle.adlb_unit.specs.declared.actors.Actor.TheVariants as by
 use Rattle.adlb_unit.specs.declared.messages.Message.{Message}
 use Rattle.adlb_unit.specs.declared.messages.Message.TheVariants as tells
 use Rattle.adlb_unit.specs.declared.names.BatchId.{BatchId}
@@ -22,11 +23,14 @@ use Rattle.rank_client.specs.Agreement.{said}
 use Rattle.rank_client.specs.Expected.{IsAwaited}
 use Rattle.rank_client.specs.Rules.{asked, is_idle, looks_at}
 use Rattle.rank_client.specs.State.{ClientModel}
-use Rattle.server_law.specs.State.{Waiting, Wish, idle}
-use Rattle.server_law.specs.Acts.{Act, Around, Heard, comes, entries, goes, of_rank, says, takes, to_rank}
+use Rattle.reserve_path.specs.declared.waits.Waiting.{Waiting}
+use Rattle.reserve_path.specs.declared.wishes.Wish.{Wish}
+use Rattle.server_law.specs.State.{idle, is_home}
+use Rattle.server_law.specs.Acts.{Act, Around, Heard, comes, entries, goes, of_rank, of_server, says, takes, to_rank}
 use Rattle.core_run.specs.World.{World, client_of, pool_of, server_named}
 use Rattle.core_law.specs.Acting.{AreFront, IsAct, acted}
-use Rattle.core_law.specs.Lawful.{IsAsked, IsLawful, IsSeat, IsWaiting}
+use Rattle.core_law.specs.Lawful.{IsAsked, IsLawful, IsOfCall, IsSeat, IsWaiting}
+use Rattle.core_law.specs.OnLinks.{Each}
 use Rattle.core_law.specs.Letters.{call_letter, call_waits, is_request, one}
 use Rattle.core_law.specs.Measures.{heard_weight, weigh}
 use Rattle.core_law.specs.Own.{IsEntry}
@@ -58,28 +62,38 @@ waits_so w b me p well l is =
     let seat = is.seat in
     let own = well.own.ranks me is.within in
     let going = not_finished w me p well is.within is.call is.busy in
-    waits_of (client_of w me) p b is.call going seat.stands seat.facts own.call l.still
+    waits_of (client_of w me) p b is.call going seat.stands seat.facts own.call
 
--- what the act says, takes, and leaves of who waits
-pub record Replies (w : World) (k : Server) (a : Act) (me : Rank) (now : Message) : Type 0 where
-  pub said : says a (pool_of w k) ≡ to_rank me now ∷ []
+-- What the act says, takes, and leaves of who waits. The rank awaits the answer from this server: the act says it there, or its home
+-- is to pass it on.
+pub record Replies (w : World) (k : Server) (a : Act) (me : Rank) (now : Message) (from : Server) : Type 0 where
+  pub said : IsAwaited (client_of w me) (client_of w me).pending from now
+      → Each (λ y. IsOfCall (client_of w me) (Some now) (by.Server k) y.to y.message) (says a (pool_of w k))
   pub one_goes : heard_weight (call_letter me) k (takes a) + weigh (call_waits me k.0) (goes a) ≡ 1
   pub nobody : comes a (pool_of w k) ≡ []
 
-pub reply_passes : (w : World) (k : Server) (a : Act) (b n : Bag) (me : Rank) (p : Pending) (now : Message) → IsMade w k a b n → IsWell w
-    → IsCalling w b me p → Replies w k a me now → Comes (client_of w me) p now b n (entries a (pool_of w k))
-    → IsAwaited (client_of w me) p k now
+-- an act that tells the rank
+pub replies : (w : World) (k : Server) (a : Act) (me : Rank) (now : Message) → says a (pool_of w k) ≡ to_rank me now ∷ []
+    → heard_weight (call_letter me) k (takes a) + weigh (call_waits me k.0) (goes a) ≡ 1 → comes a (pool_of w k) ≡ []
+    → Replies w k a me now k
+replies w k a me now said one_goes nobody =
+    record { said = λ awaited. rw said ((λ who. (refl, awaited)), tt); one_goes = one_goes; nobody = nobody }
+
+pub reply_passes : (w : World) (k : Server) (a : Act) (b n : Bag) (me : Rank) (p : Pending) (now : Message) (from : Server)
+    → IsMade w k a b n → IsWell w
+    → IsCalling w b me p → Replies w k a me now from → Comes (client_of w me) p now b n (entries a (pool_of w k))
+    → IsAwaited (client_of w me) p from now
     → IsSeat (acted w k a) n me (Some now)
-reply_passes w k a b n me p now m well is r comes awaited =
+reply_passes w k a b n me p now from m well is r comes awaited =
     let c = client_of w me in
     let es = entries a (pool_of w k) in
     let seat = is.seat in
     let d = decided_of c p now b n es is.call (not_finished w me p well is.within is.call is.busy) comes in
     let told = subst (λ (r : Rank). said c c.pending (Some now) ≡ said c c.pending None ++ calls_from b es r) seat.named d.1 in
-    let it = subst (λ (q : Pending). IsAwaited c q k now) (sym is.call) awaited in
+    let it = subst (λ (q : Pending). IsAwaited c q from now) (sym is.call) awaited in
     seat_passes w k a b n me None (Some now) m
     (record { within = is.within; busy = ap is_idle is.call ∙ is.busy; even = well.one me; one_goes = r.one_goes; nobody = r.nobody })
-    (record { stands = d.0; told = told; facts = d.2 }) (rw (r.said) ((λ who. (refl, it)), tt)) is.seat
+    (record { stands = d.0; told = told; facts = d.2 }) (r.said it) is.seat
 
 -- The call of the letter that is taken.
 
@@ -235,25 +249,31 @@ fetch_here w k a b rank request id l is takes_it =
 
 -- The call of a rank that waits and is idle.
 
-pub waiting_call : (w : World) (k : Server) (b : Bag) (e : Waiting) → IsWell w → IsLawful w b → IsEntry w.config k e
+-- the home of the rank is here
+pub home_here : (w : World) (k : Server) (me : Rank) → IsWell w → me.0 < w.config.ranks → is_home w.config k me ≡ true
+    → k ≡ home (client_of w me).config (client_of w me).me
+home_here w k me well within is =
+    let own = well.own.ranks me within in
+    let place : home_of w.config.servers me ≡ k.0 = eqb-true _ _ is in
+    let home_is : home w.config me ≡ k = ap server_named place in
+    sym (rw (own.config, own.me) home_is)
+
+pub waiting_call : (w : World) (k : Server) (b : Bag) (e : Waiting) → IsWell w → IsLawful w b → IsEntry w.config k e → e.asked ≡ None
     → ((coming : Option Message) → IsSeat w b e.wish.rank coming → IsWaiting (client_of w e.wish.rank) coming e)
     → IsReserveHere w k b e.wish
-waiting_call w k b e well l entry waits =
+waiting_call w k b e well l entry none waits =
     let me = e.wish.rank in
     let its = l.seats me entry.within in
     let seat = its.1 in
-    let own = well.own.ranks me entry.within in
     let of = waits its.0 its.1 (sym seat.named) in
-    let place : home_of w.config.servers me ≡ k.0 = eqb-true _ _ entry.here in
-    let home_is : home w.config me ≡ k = ap server_named place in
     record {
       calling = record {
         within = entry.within;
         call = of.0;
         busy = refl;
-        seat = subst (λ (o : Option Message). IsSeat w b me o) (of.1 entry.idle) its.1;
+        seat = subst (λ (o : Option Message). IsSeat w b me o) (of.1 none) its.1;
       };
-      here = sym (rw (own.config, own.me) home_is);
+      here = home_here w k me well entry.within entry.here;
     }
 
 all_at : {X : Type 0} (P : X → Type 0) (before behind : List X) (x : X) → All P (before ++ x ∷ behind) → P x
@@ -262,15 +282,32 @@ all_at P before behind x all =
     subst P (get_or_at before x behind x (length before) refl) (all (length before) x (omega arith))
 
 -- who goes
+pub entry_here : (w : World) (k : Server) (at : Around) (e : Waiting) → IsWell w → k.0 < w.config.servers
+    → (pool_of w k).kept.parked.waiting ≡ at.before ++ (e ∷ at.behind) → IsEntry w.config k e
+entry_here w k at e well here sits =
+    let pool = well.own.servers k here in
+    let all = subst (λ (es : List Waiting). All (IsEntry w.config k) es) sits pool.waiting in
+    all_at (IsEntry w.config k) at.before at.behind e all
+
 pub idle_here : (w : World) (k : Server) (at : Around) (wish : Wish) (rest : List Server) (b : Bag) → IsWell w → IsLawful w b
     → k.0 < w.config.servers
     → (pool_of w k).kept.parked.waiting ≡ at.before ++ (idle wish rest ∷ at.behind) → IsReserveHere w k b wish
 idle_here w k at wish rest b well l here sits =
     let e = idle wish rest in
-    let pool = well.own.servers k here in
-    let all = subst (λ (es : List Waiting). All (IsEntry w.config k) es) sits pool.waiting in
-    let entry = all_at (IsEntry w.config k) at.before at.behind e all in
-    waiting_call w k b e well l entry (λ coming seat. gone_is w k at e b wish.rank coming here sits seat)
+    waiting_call w k b e well l (entry_here w k at e well here sits) refl
+    (λ coming seat. gone_is w k at e b wish.rank coming here sits seat)
+
+-- The call of a rank for which its home asks.
+
+pub ask_call : (w : World) (k from : Server) (a : Act) (b : Bag) (wish : Wish) → IsLawful w b → IsAct w k a
+    → takes a ≡ of_server from (tells.Ask wish.rank wish.request wish.types) ∷ [] → wish.rank.0 < w.config.ranks
+    → IsCalling w b wish.rank (waits_for.Reserve wish.request wish.types)
+ask_call w k from a b wish l is takes_it within =
+    let me = wish.rank in
+    let its = l.seats me within in
+    let seat = its.1 in
+    let of = front_is w k a me its.0 (of_server from (tells.Ask me wish.request wish.types)) is takes_it b its.1 (sym seat.named) in
+    record { within = within; call = of.1; busy = refl; seat = subst (λ (o : Option Message). IsSeat w b me o) of.0 its.1 }
 
 -- What is taken weighs 1.
 

@@ -3,25 +3,25 @@ use Rattle.std.proofs.Common.{◌≡◌, ◌≢◌, ◌<◌, Bool, true, false, 
 use Rattle.std.specs.Prelude.{All}
 use Rattle.adlb_unit.specs.declared.names.Server.{Server}
 use Rattle.adlb_unit.specs.declared.notes.UnitNote.{UnitNote}
-use Rattle.bag_ledger.specs.Bag.{Bag, settled}
+use Rattle.bag_ledger.specs.Bag.{Bag}
 use Rattle.bag_ledger.specs.Runs.{IsRun}
-use Rattle.bag_ledger.specs.Steps.{Steps, after, moved}
+use Rattle.bag_ledger.specs.Steps.{Steps, moved}
 use Rattle.bag_ledger.specs.declared.entries.Entry.{Entry}
 use Rattle.bag_ledger.specs.declared.entries.Entry.TheVariants as enters
-use Rattle.bag_ledger.specs.declared.states.UnitPlace.TheVariants.{Pinned, Spent}
+use Rattle.bag_ledger.specs.declared.states.UnitPlace.TheVariants.{Pinned, Spent, Free, Travelling}
 use Rattle.bag_ledger.proofs.Tests.{some_is}
 use Rattle.bag_law.proofs.Plain.{accepted_is, kept_is, lodged}
-use Rattle.bag_law.proofs.Sound.{step_keeps_sound}
 use Rattle.bag_law.specs.Sound.{IsSoundBag}
 use Rattle.adlb_unit.specs.declared.names.BatchId.{BatchId}
 use Rattle.batch_store.specs.Store.{closed, fetched, is_due}
 use Rattle.batch_store.specs.declared.parts.Part.{Part}
-use Rattle.server_law.specs.Acts.{Act, Accepts, Closes, Fetches, Fetches_part, Finds, Gives, Grants, Grants_try, Keeps, Notes_finish, Parks, Shuts, entries, frees}
+use Rattle.server_law.specs.Acts.{Act, Accepts, Answers, Asks_on, Closes, Declines, Drops_hint, Fetches, Fetches_part, Finds, Gives, Grants, Grants_try, Hints, Is_hinted, Keeps, Notes_finish, Parks, Passes_on, Shuts, Wakes, entries, frees, Queries, Promises, Refuses_push, Sends_unit, Cancels, Stops_push, Ends_push, Arrives, Acks, Withdraws}
 use Rattle.server_law.specs.Agreement.{ServerAgrees}
 use Rattle.server_law.specs.Legal.{ServersStay, keeper}
 use Rattle.server_law.specs.State.{ServerModel}
 use Rattle.server_law.specs.Sure.{Sure}
-use Rattle.core_law.specs.Lawful.{Each, IsFact}
+use Rattle.core_law.specs.Lawful.{IsFact}
+use Rattle.core_law.specs.OnLinks.{Each}
 use Rattle.core_law.proofs.RankSteps.{sound_after}
 use Rattle.core_law.proofs.Gone.{facts_added, facts_moved, facts_same}
 
@@ -36,6 +36,10 @@ is_of_act (enters.Kept server batch) = true
 is_of_act (enters.Closed server batch) = true
 is_of_act (enters.CommonFetched server rank batch) = true
 is_of_act (enters.Freed server batch) = true
+is_of_act (enters.Promised server id length) = true
+is_of_act (enters.Left server to id) = true
+is_of_act (enters.Arrived server id) = true
+is_of_act (enters.Withdrawn server id) = true
 is_of_act (enters.Counted server rank call info) = true
 is_of_act enters.Exhausted = true
 is_of_act (enters.Over rank call end) = true
@@ -55,6 +59,19 @@ pub of_act : (a : Act) (s : ServerModel) → AreOfActs (entries a s)
 of_act (Parks wish) s = tt
 of_act (Notes_finish rank) s = tt
 of_act Shuts s = tt
+of_act (Asks_on at wish to rest) s = tt
+of_act (Passes_on at wish from rest note) s = tt
+of_act (Wakes at wish from rest) s = tt
+of_act (Is_hinted at e from) s = tt
+of_act (Drops_hint from rank request) s = tt
+of_act (Declines from wish) s = tt
+of_act (Hints wish) s = tt
+of_act (Queries to id size) s = tt
+of_act (Refuses_push from id size) s = tt
+of_act (Cancels to id size) s = tt
+of_act (Stops_push to id size) s = tt
+of_act (Ends_push to id size) s = tt
+of_act (Acks to id) s = tt
 of_act (Closes request batch accepted part) s = (refl, frees_of_act s.me batch (closed accepted part))
 of_act (Fetches_part rank request batch part) s = (refl, frees_of_act s.me batch (fetched part))
 of_act _ s = (refl, tt)
@@ -74,6 +91,7 @@ not_kept (Grants wish unit) s other sure within differs = ((λ is. differs (some
 not_kept (Grants_try wish unit) s other sure within differs = ((λ is. differs (some_is is)), tt)
 not_kept (Fetches rank request id unit) s other sure within differs = ((λ is. differs (some_is is)), tt)
 not_kept (Gives at wish rest unit) s other sure within differs = ((λ is. differs (some_is is)), tt)
+not_kept (Answers from wish unit) s other sure within differs = ((λ is. differs (some_is is)), tt)
 not_kept Finds s other sure within differs =
     let alone = sure.alone in
     let zeroth : s.me.0 ≡ 0 = omega arith in
@@ -87,6 +105,23 @@ not_kept (Fetches_part rank request batch part) s other sure within differs =
 not_kept (Parks wish) s other sure within differs = tt
 not_kept (Notes_finish rank) s other sure within differs = tt
 not_kept Shuts s other sure within differs = tt
+not_kept (Asks_on at wish to rest) s other sure within differs = tt
+not_kept (Passes_on at wish from rest note) s other sure within differs = tt
+not_kept (Wakes at wish from rest) s other sure within differs = tt
+not_kept (Is_hinted at e from) s other sure within differs = tt
+not_kept (Drops_hint from rank request) s other sure within differs = tt
+not_kept (Declines from wish) s other sure within differs = tt
+not_kept (Hints wish) s other sure within differs = tt
+not_kept (Queries to id size) s other sure within differs = tt
+not_kept (Refuses_push from id size) s other sure within differs = tt
+not_kept (Cancels to id size) s other sure within differs = tt
+not_kept (Stops_push to id size) s other sure within differs = tt
+not_kept (Ends_push to id size) s other sure within differs = tt
+not_kept (Acks to id) s other sure within differs = tt
+not_kept (Promises from id size) s other sure within differs = ((λ is. differs (some_is is)), tt)
+not_kept (Sends_unit to size unit) s other sure within differs = ((λ is. differs (some_is is)), tt)
+not_kept (Arrives from unit) s other sure within differs = ((λ is. differs (some_is is)), tt)
+not_kept (Withdraws from id) s other sure within differs = ((λ is. differs (some_is is)), tt)
 not_kept _ s other sure within differs = ((λ is. absurd (cc)), tt)
 
 -- One entry.
@@ -113,6 +148,14 @@ facts_after b n (enters.Freed server batch) notes is step facts = facts_same b n
 facts_after b n (enters.Counted server rank call info) notes is step facts = facts_same b n notes (ap (λ (x : Bag). x.units) step.2) facts
 facts_after b n enters.Exhausted notes is step facts = facts_same b n notes (ap (λ (x : Bag). x.units) step.2) facts
 facts_after b n (enters.Over rank call end) notes is step facts = facts_same b n notes (ap (λ (x : Bag). x.units) step.2) facts
+facts_after b n (enters.Promised server id length) notes is step facts = facts_same b n notes (ap (λ (x : Bag). x.units) step.2) facts
+facts_after b n (enters.Left server to id) notes is step facts =
+    let on_way = Travelling to in
+    facts_same (moved id on_way b) n notes (ap (λ (x : Bag). x.units) step.2) (facts_moved b id on_way notes facts)
+facts_after b n (enters.Arrived server id) notes is step facts =
+    let free = Free server in
+    facts_same (moved id free b) n notes (ap (λ (x : Bag). x.units) step.2) (facts_moved b id free notes facts)
+facts_after b n (enters.Withdrawn server id) notes is step facts = facts_same b n notes (ap (λ (x : Bag). x.units) step.2) facts
 facts_after b n _ notes is step facts = absurd (cc)
 
 -- All entries of an act.

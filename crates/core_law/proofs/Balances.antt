@@ -1,5 +1,6 @@
--- Letters of a rank's calls, and the kinds of all letters, through each act of a server and each step of a rank.
-use Rattle.std.proofs.Common.{◌≡◌, ℕ, zero, suc, ◌+◌, Bool, true, false, cond, ◌&&◌, map, refl, arith, eqb}
+-- Letters of a rank's calls through each act of a server and each step of a rank, and the kinds of all letters through each step of a
+-- rank.
+use Rattle.std.proofs.Common.{◌≡◌, ℕ, zero, suc, ◌+◌, Bool, true, false, cond, ◌&&◌, List, [], ◌∷◌, map, refl, arith, eqb}
 use Rattle.std.specs.List.{range_with_len}
 use Rattle.adlb_unit.specs.declared.actors.Actor.{Actor}
 use Rattle.adlb_unit.specs.declared.actors.Actor.TheVariants as by
@@ -13,16 +14,12 @@ use Rattle.rank_client.specs.State.{ClientModel}
 use Rattle.rank_client.specs.Step.{Made}
 use Rattle.server_law.specs.Acts.{Act, Finds}
 use Rattle.server_law.specs.State.{ServerModel}
-use Rattle.core_law.specs.Letters.{call_letter, kinds, misfit, numbered, numbered_letter, one, one_letter}
-use Rattle.core_law.specs.Measures.{ActKeeps, IsEven, weigh, weights}
+use Rattle.core_law.specs.Letters.{any_remote, call_letter, kinds, misfit, numbered, numbered_letter, one, one_letter, remotes}
+use Rattle.core_law.specs.Measures.{IsEven, weigh, weights}
 use Rattle.core_law.proofs.Kept.{IsLaw, RankKeeps}
 use Rattle.core_law.proofs.RankShapes.{Began, Heard, It_asks, It_leaves, It_rests, Then}
 
 -- A server.
-
-pub kinds_act : (a : Act) (s : ServerModel) → ActKeeps kinds a s
-kinds_act Finds s = refl
-kinds_act _ s = refl
 
 pub calls_even : (rank : Rank) (a : Act) (s : ServerModel) → IsEven (one_letter rank) a s
 calls_even rank Finds s = omega arith
@@ -31,6 +28,15 @@ calls_even rank _ s = omega arith
 pub numbers_even : (rank : Rank) (next : ℕ) (a : Act) (s : ServerModel) → IsEven (numbered rank next) a s
 numbers_even rank next Finds s = omega arith
 numbers_even rank next _ s = omega arith
+
+pub remotes_even : (home asked : Server) (rank : Rank) (request : ℕ) (a : Act) (s : ServerModel)
+    → IsEven (remotes home asked rank request) a s
+remotes_even home asked rank request Finds s = omega arith
+remotes_even home asked rank request _ s = omega arith
+
+pub any_even : (rank : Rank) (a : Act) (s : ServerModel) → IsEven (any_remote rank) a s
+any_even rank Finds s = omega arith
+any_even rank _ s = omega arith
 
 -- A rank. Finish is no letter of a call.
 
@@ -42,20 +48,20 @@ none_each f from (suc n) none = let here = none (record { 0 = from }) in let lat
 -- Kinds.
 
 kinds_heard : (config : Config) (me : Rank) (s : ClientModel) (from : Server) (m : Message) (x : Made) → Heard config me s m x → Then s x
-    → RankKeeps kinds me s (misfit (by.Server from) (by.Rank me) m) x
+    → RankKeeps (kinds config) me s (misfit config (by.Server from) (by.Rank me) m) x
 kinds_heard config me s from m x h (It_rests r) = rw (r.sends, h.kind) refl
 kinds_heard config me s from m x h (It_asks a) = rw (a.sends, h.kind, a.request) refl
 kinds_heard config me s from m x h (It_leaves l) = absurd (cc (l.finished, h.stays))
 
-kinds_begun : (config : Config) (me : Rank) (s : ClientModel) (x : Made) → Began config me s x → Then s x → RankKeeps kinds me s 0 x
+kinds_begun : (config : Config) (me : Rank) (s : ClientModel) (x : Made) → Began config me s x → Then s x → RankKeeps (kinds config) me s 0 x
 kinds_begun config me s x b (It_rests r) = rw r.sends refl
 kinds_begun config me s x b (It_asks a) = rw (a.sends, a.request) refl
 kinds_begun config me s x b (It_leaves l) =
-    let none = none_each (misfit (by.Rank me)) 0 s.config.servers (λ to. refl) in
-    let sends = l.weight (misfit (by.Rank me)) in
+    let none = none_each (misfit config (by.Rank me)) 0 s.config.servers (λ to. refl) in
+    let sends = l.weight (misfit config (by.Rank me)) in
     omega arith
 
-pub kinds_law : (config : Config) → IsLaw config kinds
+pub kinds_law : (config : Config) → IsLaw config (kinds config)
 kinds_law config = record { heard = kinds_heard config; begun = kinds_begun config }
 
 -- Of one call: the last letter, one before the last, and the first.
@@ -123,3 +129,22 @@ number_begun config rank next me s x b (It_leaves l) =
 
 pub numbered_law : (config : Config) (rank : Rank) (next : ℕ) → IsLaw config (weights (numbered rank next))
 numbered_law config rank next = record { heard = number_heard config rank next; begun = number_begun config rank next }
+
+-- Remote letters: a rank neither hears nor sends one.
+
+pub weighs_none : {X : Type 0} (xs : List X) → weigh (λ (x : X). 0) xs ≡ 0
+weighs_none [] = refl
+weighs_none (x ∷ xs) = let later = weighs_none xs in omega arith
+
+pub remotes_law : (config : Config) (home asked : Server) (rank : Rank) (request : ℕ)
+    → IsLaw config (weights (remotes home asked rank request))
+remotes_law config home asked rank request = record {
+  heard = λ me s from m x h after. let none = weighs_none x.sends in omega arith;
+  begun = λ me s x b after. let none = weighs_none x.sends in omega arith;
+}
+
+pub any_law : (config : Config) (rank : Rank) → IsLaw config (weights (any_remote rank))
+any_law config rank = record {
+  heard = λ me s from m x h after. let none = weighs_none x.sends in omega arith;
+  begun = λ me s x b after. let none = weighs_none x.sends in omega arith;
+}

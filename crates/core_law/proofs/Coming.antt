@@ -1,10 +1,10 @@
 -- What the entries of a server make of the rank whose request it handled: its answer comes back.
 use Rattle.core_law.proofs.Notes.{notes_in}
 use Rattle.core_law.proofs.Gone.{facts_added, facts_moved, facts_of, facts_same}
-use Rattle.std.proofs.Common.{◌≡◌, ◌<◌, ℕ, ◌+◌, Bool, true, false, ◌⊎◌, inl, inr, List, [], ◌∷◌, ◌++◌, length, Option, Some, None, refl, sym, ap, ◌∙◌, subst, find, get_or, append-nil, arith}
-use Rattle.std.specs.Prelude.{All, option_and_then, Contains, if◌then◌else◌}
+use Rattle.std.proofs.Common.{◌≡◌, ◌<◌, ℕ, ◌+◌, Bool, true, false, List, [], ◌∷◌, ◌++◌, length, Option, Some, None, refl, sym, ap, ◌∙◌, subst, find, get_or, append-nil, arith}
+use Rattle.std.specs.Prelude.{All, option_and_then, Contains}
 use Rattle.std.proofs.lemmas.Bool.{eq-eqb}
-use Rattle.std.proofs.lemmas.List.Elements.{All-cons, All-head, All-push, All-same, All-tail, All-weaker, All-contains, Contains-push}
+use Rattle.std.proofs.lemmas.List.Elements.{All-push, All-same, All-weaker, All-contains, Contains-push}
 use Rattle.std.proofs.lemmas.List.{get_or_append_left, length-append}
 use Rattle.std.proofs.lemmas.List.FromFn.{map-range_with_len_more}
 use Rattle.adlb_unit.specs.Ids.{same_batch, same_unit}
@@ -38,9 +38,9 @@ use Rattle.bag_ledger.specs.declared.states.UnitPlace.TheVariants.{Free, Pinned,
 use Rattle.bag_ledger.specs.Bag.{Bag, putting, rank_at, unit_of}
 use Rattle.bag_ledger.specs.Runs.{IsRun, calls_from, note_of, said_by, says}
 use Rattle.bag_ledger.specs.Runs as runs
-use Rattle.bag_ledger.specs.Steps.{Legal, after, change_first, declined_by, ended, moved, own_fetched, shared, taken, with_rank}
-use Rattle.bag_ledger.proofs.Lookups.{find_appended, find_before, find_changed}
-use Rattle.bag_ledger.proofs.Moves.{moved_here, moved_is, moved_other}
+use Rattle.bag_ledger.specs.Steps.{Legal, after, declined_by, ended, moved, own_fetched, shared, taken, with_rank}
+use Rattle.bag_ledger.proofs.Lookups.{find_before, find_changed}
+use Rattle.bag_ledger.proofs.Moves.{moved_here, moved_other}
 use Rattle.bag_ledger.proofs.Tests.{some_is}
 use Rattle.bag_ledger.proofs.Turns.{changed_here}
 use Rattle.rank_client.specs.declared.pendings.Pending.{Pending}
@@ -51,21 +51,12 @@ use Rattle.rank_client.specs.State.{ClientModel}
 use Rattle.adlb_unit.specs.Ring.{behind}
 use Rattle.core_law.specs.Own.{IsCall}
 use Rattle.core_law.specs.Lawful.{IsFact}
-use Rattle.core_law.specs.Seats.{IsStill, travels}
 
 -- The counts of a rank's batch, where the parts are the same.
 
 pub accepted_same : (b c : Bag) (o : Option CommonRef) (n : ℕ) → c.parts ≡ b.parts → HasAccepted b o n → HasAccepted c o n
 accepted_same b c None n same has = tt
 accepted_same b c (Some batch) n same has = (has.0, ap (find (λ (p : Part). same_batch p.batch batch.batch)) same ∙ has.1, has.2)
-
--- Nothing is between servers.
-
-pub still_same : (b c : Bag) → c.units ≡ b.units → c.promises ≡ b.promises → IsStill b → IsStill c
-still_same b c units room still = record {
-  unpromised = room ∙ still.unpromised;
-  lodged = All-same (λ (u : Lodged). travels u.place ≡ false) c.units b.units units still.lodged;
-}
 
 -- A rank whose request is under way or that waits, and one whose answer is decided.
 
@@ -78,7 +69,6 @@ pub record Waits (c : ClientModel) (p : Pending) (b : Bag) : Type 0 where
   pub call : IsCall c p
   pub owed : IsOwedIn b p None
   pub accepted : HasAccepted b (in_call c p None).batch (accepted_by c p None)
-  pub still : IsStill b
 
 pub record Comes (c : ClientModel) (p : Pending) (a : Message) (b next : Bag) (es : List Entry) : Type 0 where
   pub rank : rank_at next c.me ≡ Some (in_call c p (Some a))
@@ -89,13 +79,12 @@ pub record Comes (c : ClientModel) (p : Pending) (a : Message) (b next : Bag) (e
   pub facts : All (IsFact next) (c.handles ++ note_coming p (Some a))
   pub owed : IsOwedIn next p (Some a)
   pub accepted : HasAccepted next (in_call c p (Some a)).batch (accepted_by c p (Some a))
-  pub still : IsStill next
 
 -- Both are seats.
 
 pub waits_of : (c : ClientModel) (p : Pending) (b : Bag) → c.pending ≡ p → c.finished ≡ false → ClientAgrees c None b
-    → All (IsFact b) (holds c None) → IsCall c c.pending → IsStill b → Waits c p b
-waits_of c p b is going a facts call still = subst (λ (q : Pending). Waits c q b) is (record {
+    → All (IsFact b) (holds c None) → IsCall c c.pending → Waits c p b
+waits_of c p b is going a facts call = subst (λ (q : Pending). Waits c q b) is (record {
   rank = rw going at a.rank;
   servers = a.servers;
   caused = rw going at a.caused;
@@ -104,7 +93,6 @@ waits_of c p b is going a facts call still = subst (λ (q : Pending). Waits c q 
   call = call;
   owed = a.owed;
   accepted = rw going at a.accepted;
-  still = still;
 })
 
 -- the client stands for its rank, its transcript and what comes are what the ledger says, and its notes are facts
@@ -170,7 +158,6 @@ over_comes c p b next request end w e run =
       owed = e.owed (with_rank c.me (overs end) b);
       accepted = rw (e.batch, e.accepted) (accepted_same b (with_rank c.me (overs end) b) (in_call c p None).batch (accepted_by c p None) refl w.accepted);
       facts = rw e.notes (facts_same b (with_rank c.me (overs end) b) (c.handles ++ note_coming p None) refl w.facts);
-      still = still_same b (with_rank c.me (overs end) b) refl refl w.still;
     })
 
 pub put_ended : (c : ClientModel) (unit : Unit) (first : Server) (tried request : ℕ) (end : End)
@@ -222,7 +209,6 @@ refused_comes c unit first tried me b next used w is run =
       owed = tt;
       accepted = accepted_same b (with_rank c.me (declined_by me) b) c.batch c.accepted refl w.accepted;
       facts = facts_same b (with_rank c.me (declined_by me) b) (c.handles ++ []) refl w.facts;
-      still = still_same b (with_rank c.me (declined_by me) b) refl refl w.still;
     })
 
 -- The unit is accepted.
@@ -277,10 +263,6 @@ accepted_comes c unit first tried me b next w run =
       owed = tt;
       accepted = one_more b d c.batch c.accepted (ap (λ o. shared_parts o b.parts) offer.batch) w.accepted;
       facts = facts_same more d (c.handles ++ []) refl (facts_added b u (c.handles ++ []) w.facts);
-      still = record {
-        unpromised = (w.still).unpromised;
-        lodged = All-push (λ (v : Lodged). travels v.place ≡ false) b.units u (w.still).lodged refl;
-      };
     })
 
 -- A unit is granted.
@@ -307,24 +289,6 @@ granted_facts : (handles : List UnitNote) (note : UnitNote) (d : Bag) → All (I
     → All (IsFact d) (handles ++ note ∷ [])
 granted_facts handles note d facts fact =
     All-push (IsFact d) handles note (All-same (IsFact d) handles (handles ++ []) (sym (append-nil handles)) facts) fact
-
-all_changed : {X : Type 0} (P : X → Type 0) (f : X → X) (test : X → Bool) (xs : List X) → ((x : X) → P (f x)) → All P xs
-    → All P (change_first f test xs)
-all_changed P f test [] now all = all
-all_changed {X} P f test (x ∷ xs) now all =
-    by_test (test x) (All-head P x xs all) (All-tail P x xs all) (all_changed P f test xs now (All-tail P x xs all))
-  where
-    by_test : (t : Bool) → P x → All P xs → All P (change_first f test xs)
-        → All P (if t then f x ∷ xs else x ∷ change_first f test xs)
-    by_test true here rest later = All-cons P (f x) xs (now x) rest
-    by_test false here rest later = All-cons P x (change_first f test xs) here later
-
-still_moved : (b : Bag) (id : UnitId) (place : UnitPlace) → travels place ≡ false → IsStill b → IsStill (moved id place b)
-still_moved b id place here still = record {
-  unpromised = still.unpromised;
-  lodged = all_changed (λ (u : Lodged). travels u.place ≡ false) (λ (u : Lodged). record u { place = place })
-      (λ (u : Lodged). same_unit u.unit.id id) b.units (λ u. here) still.lodged;
-}
 
 -- a call that a grant may answer
 pub record IsGranted (c : ClientModel) (p : Pending) (request : ℕ) (note : UnitNote) : Type 0 where
@@ -401,7 +365,6 @@ granted_comes c p request me work u b next g w there same free run =
           (granted_facts c.handles note d
           (facts_same moved_bag d (c.handles ++ []) refl (facts_moved b id (Pinned me c.me) (c.handles ++ []) facts))
           (record u { place = Pinned me c.me }, moved_here b id (Pinned me c.me) u there, ap (note_of me) (sym same)));
-      still = still_same moved_bag d refl refl (still_moved b id (Pinned me c.me) refl w.still);
     })
 
 -- A server has looked in vain.
@@ -425,7 +388,6 @@ looked_comes c request types tried me b next w is run =
       owed = tt;
       accepted = accepted_same b d c.batch c.accepted refl w.accepted;
       facts = facts_same b d (c.handles ++ []) refl w.facts;
-      still = still_same b d refl refl w.still;
     })
 
 -- A unit is fetched.
@@ -501,7 +463,6 @@ fetched_comes c request note me work u b next w there same run =
           owed = λ common is. let no : None ≡ Some common = sym none ∙ is in absurd (cc);
           accepted = rw none (accepted_same b d c.batch c.accepted refl w.accepted);
           facts = facts_in d refl;
-          still = still_same moved_bag d refl refl (still_moved b id Spent refl w.still);
         })
     by_common (Some common) has =
         let d : Bag = with_rank c.me (own_fetched (Some common)) moved_bag in
@@ -519,7 +480,6 @@ fetched_comes c request note me work u b next w there same run =
               (spent, moved_here b id Spent u there, has ∙ ap Some one, ap (λ (k : Unit). k.body) same);
           accepted = rw some (accepted_same b d c.batch c.accepted refl w.accepted);
           facts = facts_in d refl;
-          still = still_same moved_bag d refl refl (still_moved b id Spent refl w.still);
         })
 
 -- A count is told.
@@ -542,5 +502,4 @@ counted_comes c request kind me info b next w run =
       owed = tt;
       accepted = accepted_same b d c.batch c.accepted refl w.accepted;
       facts = facts_same b d (c.handles ++ []) refl w.facts;
-      still = still_same b d refl refl w.still;
     })

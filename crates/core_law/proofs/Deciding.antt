@@ -1,8 +1,9 @@
 -- Each act that decides a rank's pending call: what it needs of the bag is so, and what it makes of the bag and of the rank.
-use Rattle.std.proofs.Common.{◌≡◌, ◌<◌, ◌++◌, ℕ, Bool, true, false, ◌||◌, List, [], ◌∷◌, length, Option, None, Some, refl, sym, ap, ◌∙◌, subst, arith}
-use Rattle.std.specs.Prelude.{All}
-use Rattle.std.proofs.lemmas.Bool.{false_from_ne_true}
-use Rattle.std.proofs.lemmas.List.Elements.{All-contains, Contains-push}
+use Rattle.std.proofs.Common.{◌≡◌, ◌<◌, ℕ, Bool, true, false, ◌||◌, ◌⊎◌, inl, inr, List, [], ◌∷◌, length, Option, None, Some, refl, sym, ap, ◌∙◌, subst, arith}
+use Rattle.std.specs.Prelude.{All, nat_lt}
+use Rattle.std.proofs.lemmas.Bool.{and_parts, false_from_ne_true, ltb-true}
+use Rattle.adlb_unit.specs.Targets.{home}
+use Rattle.adlb_unit.specs.declared.configs.Config.{Config}
 use Rattle.adlb_unit.specs.declared.messages.Message.{Message}
 use Rattle.adlb_unit.specs.declared.messages.Message.TheVariants as tells
 use Rattle.adlb_unit.specs.declared.names.Rank.{Rank}
@@ -32,12 +33,14 @@ use Rattle.rank_client.specs.declared.pendings.Pending.{Pending}
 use Rattle.rank_client.specs.declared.pendings.Pending.TheVariants as waits_for
 use Rattle.rank_client.specs.Agreement.{HasAccepted as HasAcceptedOf, in_call}
 use Rattle.rank_client.specs.Expected.{IsAtServer, IsAwaited, IsNewNote}
-use Rattle.server_law.specs.State.{ServerModel, Wish}
-use Rattle.server_law.specs.Acts.{Act, Accepts, Around, Closes, Counts, Ends_keep, Ends_put, Ends_reserve, Ends_try, Fetches, Fetches_part, Gives, Grants, Grants_try, Keeps, Looks, Refuses, Refuses_part, Tells, batch_of, entries, frees, unit_of as unit_named}
+use Rattle.reserve_path.specs.declared.wishes.Wish.{Wish}
+use Rattle.server_law.specs.State.{ServerModel, is_home}
+use Rattle.server_law.specs.Acts.{Act, Accepts, Answers, Around, Closes, Counts, Ends_keep, Ends_put, Ends_reserve, Ends_try, Fetches, Fetches_part, Gives, Grants, Grants_try, Keeps, Looks, Refuses, Refuses_part, Tells, batch_of, entries, frees, unit_of as unit_named}
 use Rattle.server_law.specs.Agreement.{ServerAgrees}
-use Rattle.server_law.specs.Finding.{best_for, unit_with}
+use Rattle.reserve_path.specs.Grants.{unit_with}
+use Rattle.server_law.specs.Finding.{best_for}
 use Rattle.server_law.specs.Legal.{AsksFor, Begins, HasAccepted, Needs, Offers, TriesFor}
-use Rattle.server_law.specs.Sure.{IsFound}
+use Rattle.server_law.specs.Sure.{IsFound, IsFreeFor}
 use Rattle.server_law.proofs.Elsewhere.{begun_is_new, put_shares_open}
 use Rattle.server_law.proofs.PartEntries.{lodged_part}
 use Rattle.batch_store.specs.Store.{closed, fetched}
@@ -53,10 +56,9 @@ use Rattle.server_law.proofs.Lodging.{lodged, place_is}
 use Rattle.core_run.specs.World.{World, client_of, pool_of}
 use Rattle.core_law.specs.Acting.{IsAct, acted}
 use Rattle.core_law.specs.Lawful.{IsLawful, IsSeat}
-use Rattle.core_law.specs.Seats.{IsStill}
 use Rattle.core_law.specs.Well.{IsWell}
 use Rattle.core_law.proofs.ActSeats.{about}
-use Rattle.core_law.proofs.Answering.{IsCalling, IsPutHere, IsReserveHere, IsTryHere, Replies, fetch_here, idle_here, one_self, put_here, reply_passes, reserve_here, try_here, waits_so, IsKeepHere, close_here, common_here, count_here, keep_here}
+use Rattle.core_law.proofs.Answering.{IsCalling, IsPutHere, IsReserveHere, IsTryHere, Replies, ask_call, fetch_here, idle_here, one_self, put_here, replies, reply_passes, reserve_here, try_here, waits_so, IsKeepHere, close_here, common_here, count_here, keep_here}
 use Rattle.core_law.proofs.Coming.{Comes, IsEnded, IsGranted, Waits, accepted_comes, counted_comes, fetched_comes, granted_comes, looked_comes, over_comes, put_ended, refused_comes, reserve_ended, reserve_granted, try_ended, try_granted, fetched_shares, keep_ended}
 use Rattle.core_law.proofs.PartComing.{closed_comes, common_comes, kept_comes, part_refused_comes, with_frees}
 use Rattle.core_law.proofs.Gone.{is_taken, taken_gone}
@@ -65,7 +67,6 @@ use Rattle.core_law.proofs.Seats.{IsMade}
 
 -- what an act makes of the bag and of the rank of which it tells
 pub record IsDone (w : World) (k : Server) (a : Act) (n : Bag) : Type 0 where
-  pub still : IsStill n
   pub seat : (r : Rank) → about a ≡ Some r → r.0 < w.config.ranks → (now : Option Message) × IsSeat (acted w k a) n r now
 
 pub record Succeeds (w : World) (k : Server) (a : Act) (b : Bag) : Type 0 where
@@ -73,10 +74,10 @@ pub record Succeeds (w : World) (k : Server) (a : Act) (b : Bag) : Type 0 where
   pub makes : (n : Bag) → IsMade w k a b n → IsDone w k a n
 
 -- the unit is free in the bag, at the server
-abbrev IsFreeAt : Bag → Server → Work → Type 0
+abbrev pub IsFreeAt : Bag → Server → Work → Type 0
 IsFreeAt b me unit = (u : Lodged) × (unit_of b unit.id ≡ Some u) × (u.unit ≡ unit) × (u.place ≡ Free me)
 
-free_at : (b : Bag) (s : ServerModel) (p : Placed) (unit : Work) → ServerAgrees b s → p.unit ≡ unit
+pub free_at : (b : Bag) (s : ServerModel) (p : Placed) (unit : Work) → ServerAgrees b s → p.unit ≡ unit
     → unit_with p.unit.id s.kept.queue.units ≡ Some p → p.pin ≡ None → IsFreeAt b s.me unit
 free_at b s p unit m same found free =
     let u = lodged b.units s.me s.kept.queue.units p.unit.id p m.units found in
@@ -106,21 +107,26 @@ module _ (w : World) (k : Server) (b : Bag) (well : IsWell w) (l : IsLawful w b)
       let seat = is.seat in
       subst (λ (r : Rank). IsRun b (e r) n → Comes c p now b n (e r)) seat.named comes
 
-  -- an act that decides the call of the rank
-  decides : (a : Act) (rank : Rank) (p : Pending) (now : Message) → about a ≡ Some rank → IsCalling w b rank p → Replies w k a rank now
-      → IsAwaited (client_of w rank) p k now → Needs a b (pool_of w k).me
+  -- an act that decides the call of the rank, which awaits the answer from this server
+  decides_from : (from : Server) (a : Act) (rank : Rank) (p : Pending) (now : Message) → about a ≡ Some rank → IsCalling w b rank p
+      → Replies w k a rank now from → IsAwaited (client_of w rank) p from now → Needs a b (pool_of w k).me
       → ((n : Bag) → IsRun b (entries a (pool_of w k)) n → Comes (client_of w rank) p now b n (entries a (pool_of w k))) → Succeeds w k a b
-  decides a rank p now tells_of_it is r awaited needs comes = record {
+  decides_from from a rank p now tells_of_it is r awaited needs comes = record {
     needs = needs;
     makes = λ n m.
         let made = comes n m.step in
-        let seat = reply_passes w k a b n rank p now m well is r made awaited in
+        let seat = reply_passes w k a b n rank p now from m well is r made awaited in
         record {
-          still = made.still;
           seat = λ x told within.
               (Some now, subst (λ (y : Rank). IsSeat (acted w k a) n y (Some now)) (some_is (sym tells_of_it ∙ told)) seat);
         };
   }
+
+  -- from here
+  abbrev decides : (a : Act) (rank : Rank) (p : Pending) (now : Message) → about a ≡ Some rank → IsCalling w b rank p
+      → Replies w k a rank now k → IsAwaited (client_of w rank) p k now → Needs a b (pool_of w k).me
+      → ((n : Bag) → IsRun b (entries a (pool_of w k)) n → Comes (client_of w rank) p now b n (entries a (pool_of w k))) → Succeeds w k a b
+  decides = decides_from k
 
   -- Puts.
 
@@ -142,7 +148,7 @@ module _ (w : World) (k : Server) (b : Bag) (well : IsWell w) (l : IsLawful w b)
       let sound = run_is_sound settled w.config w.ledger b l.run in
       let new = put_is_new b sound unit.id.rank (in_call c p None) unit (rank_is unit.id.rank p h.calling) refl in
       decides (Accepts unit) unit.id.rank p (tells.Accepted unit.id.number) refl h.calling
-      (record { said = refl; one_goes = let e = one_self unit.id.rank in omega arith; nobody = refl }) (refl, h.here)
+      (replies w k _ _ _ refl (let e = one_self unit.id.rank in omega arith) refl) (refl, h.here)
       (offers_now unit h, new.1, put_shares_open b sound unit.id.rank (in_call c p None) unit (rank_is unit.id.rank p h.calling) refl)
       (λ n run. accepted_comes c unit h.first h.tried (pool_of w k).me b n waits run)
 
@@ -154,14 +160,14 @@ module _ (w : World) (k : Server) (b : Bag) (well : IsWell w) (l : IsLawful w b)
       let used = charge_of (pool_of w k).kept.queue in
       let waits = waits_so w b unit.id.rank p well l h.calling in
       decides (Refuses unit) unit.id.rank p (tells.Full unit.id.number used) refl h.calling
-      (record { said = refl; one_goes = let e = one_self unit.id.rank in omega arith; nobody = refl }) (refl, h.here) (offers_now unit h)
+      (replies w k _ _ _ refl (let e = one_self unit.id.rank in omega arith) refl) (refl, h.here) (offers_now unit h)
       (λ n run. refused_comes c unit h.first h.tried (pool_of w k).me b n used waits (me_is ∙ h.here) run)
 
   -- Ends.
 
   ends : (a : Act) (rank : Rank) (p : Pending) (request : ℕ) (end : End) → about a ≡ Some rank
       → entries a (pool_of w k) ≡ enters.Over rank request end ∷ [] → IsCalling w b rank p → IsEnded (client_of w rank) p request end
-      → Replies w k a rank (tells.Ended request end) → IsAwaited (client_of w rank) p k (tells.Ended request end)
+      → Replies w k a rank (tells.Ended request end) k → IsAwaited (client_of w rank) p k (tells.Ended request end)
       → Needs a b (pool_of w k).me → Succeeds w k a b
   ends a rank p request end tells_of_it entered is ended r awaited needs =
       let c = client_of w rank in
@@ -177,14 +183,14 @@ module _ (w : World) (k : Server) (b : Bag) (well : IsWell w) (l : IsLawful w b)
       let p = waits_for.Put unit h.first h.tried in
       ends (Ends_put unit end) unit.id.rank p unit.id.number end refl refl h.calling
       (put_ended (client_of w unit.id.rank) unit h.first h.tried unit.id.number end)
-      (record { said = refl; one_goes = let e = one_self unit.id.rank in omega arith; nobody = refl }) (refl, h.here)
+      (replies w k _ _ _ refl (let e = one_self unit.id.rank in omega arith) refl) (refl, h.here)
       (_, rank_is unit.id.rank p h.calling, refl)
 
-  pub asks_now : (wish : Wish) → IsReserveHere w k b wish → AsksFor b wish
-  asks_now wish h = (_, rank_is wish.rank (waits_for.Reserve wish.request wish.types) h.calling, refl)
+  pub asks_now : (wish : Wish) → IsCalling w b wish.rank (waits_for.Reserve wish.request wish.types) → AsksFor b wish
+  asks_now wish calling = (_, rank_is wish.rank (waits_for.Reserve wish.request wish.types) calling, refl)
 
   ends_wish : (a : Act) (wish : Wish) (end : End) → IsReserveHere w k b wish → about a ≡ Some wish.rank
-      → entries a (pool_of w k) ≡ enters.Over wish.rank wish.request end ∷ [] → Replies w k a wish.rank (tells.Ended wish.request end)
+      → entries a (pool_of w k) ≡ enters.Over wish.rank wish.request end ∷ [] → Replies w k a wish.rank (tells.Ended wish.request end) k
       → Needs a b (pool_of w k).me → Succeeds w k a b
   ends_wish a wish end h tells_of_it entered r needs =
       ends a wish.rank (waits_for.Reserve wish.request wish.types) wish.request end tells_of_it entered h.calling
@@ -194,14 +200,14 @@ module _ (w : World) (k : Server) (b : Bag) (well : IsWell w) (l : IsLawful w b)
   ends_reserve_succeeds wish end is =
       let h = reserve_here w k (Ends_reserve wish end) b wish l is refl in
       ends_wish (Ends_reserve wish end) wish end h refl refl
-      (record { said = refl; one_goes = let e = one_self wish.rank in omega arith; nobody = refl }) (asks_now wish h)
+      (replies w k _ _ _ refl (let e = one_self wish.rank in omega arith) refl) (asks_now wish h.calling)
 
   pub tells_succeeds : (at : Around) (wish : Wish) (rest : List Server) (end : End) → IsAct w k (Tells at wish rest end)
       → Succeeds w k (Tells at wish rest end) b
   tells_succeeds at wish rest end is =
       let h = idle_here w k at wish rest b well l here is.sits in
       ends_wish (Tells at wish rest end) wish end h refl refl
-      (record { said = refl; one_goes = let e = one_self wish.rank in omega arith; nobody = refl }) (asks_now wish h)
+      (replies w k _ _ _ refl (let e = one_self wish.rank in omega arith) refl) (asks_now wish h.calling)
 
   pub tries_now : (wish : Wish) → IsTryHere w k b wish → TriesFor b wish
   tries_now wish h = (_, rank_is wish.rank (waits_for.Try wish.request wish.types h.tried) h.calling, refl)
@@ -211,7 +217,7 @@ module _ (w : World) (k : Server) (b : Bag) (well : IsWell w) (l : IsLawful w b)
       let h = try_here w k (Ends_try wish end) b wish l is refl in
       ends (Ends_try wish end) wish.rank (waits_for.Try wish.request wish.types h.tried) wish.request end refl refl h.calling
       (try_ended (client_of w wish.rank) wish.request wish.types h.tried wish.request end)
-      (record { said = refl; one_goes = let e = one_self wish.rank in omega arith; nobody = refl }) (refl, h.here) (tries_now wish h)
+      (replies w k _ _ _ refl (let e = one_self wish.rank in omega arith) refl) (refl, h.here) (tries_now wish h)
 
   -- Grants.
 
@@ -261,29 +267,31 @@ module _ (w : World) (k : Server) (b : Bag) (well : IsWell w) (l : IsLawful w b)
   abbrev grant : Wish → Work → Message
   grant wish unit = tells.Grant wish.request (note_here unit)
 
-  -- a free unit is granted in a call that awaits it from here
-  grants : (a : Act) (wish : Wish) (unit : Work) (p : Pending) → about a ≡ Some wish.rank
+  -- a free unit is granted in a call that awaits the grant from this server
+  grants : (from : Server) (a : Act) (wish : Wish) (unit : Work) (p : Pending) → about a ≡ Some wish.rank
       → entries a (pool_of w k) ≡ enters.Granted (pool_of w k).me wish.rank wish.request unit.id ∷ [] → IsCalling w b wish.rank p
       → IsGranted (client_of w wish.rank) p wish.request (note_here unit)
-      → (IsNewNote (client_of w wish.rank) (note_here unit) → IsAwaited (client_of w wish.rank) p k (grant wish unit))
-      → IsFreeAt b (pool_of w k).me unit → Replies w k a wish.rank (grant wish unit) → Needs a b (pool_of w k).me → Succeeds w k a b
-  grants a wish unit p tells_of_it entered calling granted awaited u r needs =
+      → (IsNewNote (client_of w wish.rank) (note_here unit) → IsAwaited (client_of w wish.rank) p from (grant wish unit))
+      → IsFreeAt b (pool_of w k).me unit → Replies w k a wish.rank (grant wish unit) from → Needs a b (pool_of w k).me → Succeeds w k a b
+  grants from a wish unit p tells_of_it entered calling granted awaited u r needs =
       let me = (pool_of w k).me in
       let c = client_of w wish.rank in
       let now = grant wish unit in
       let waits = waits_so w b wish.rank p well l calling in
-      decides a wish.rank p now tells_of_it calling r (awaited (note_is_new wish.rank p unit calling u)) needs (λ n.
+      decides_from from a wish.rank p now tells_of_it calling r (awaited (note_is_new wish.rank p unit calling u)) needs (λ n.
       subst (λ (es : List Entry). IsRun b es n → Comes c p now b n es) (sym entered)
       (renamed wish.rank p now n (λ x. enters.Granted me x wish.request unit.id ∷ []) calling
       (granted_comes c p wish.request me unit u.0 b n granted waits u.1 u.2 u.3)))
 
-  -- in a reserve
-  grants_wish : (a : Act) (wish : Wish) (unit : Work) → about a ≡ Some wish.rank
-      → entries a (pool_of w k) ≡ enters.Granted (pool_of w k).me wish.rank wish.request unit.id ∷ [] → IsReserveHere w k b wish
-      → IsFreeAt b (pool_of w k).me unit → Replies w k a wish.rank (grant wish unit) → Needs a b (pool_of w k).me → Succeeds w k a b
-  grants_wish a wish unit tells_of_it entered h u r needs =
-      grants a wish unit (waits_for.Reserve wish.request wish.types) tells_of_it entered h.calling
-      (reserve_granted (client_of w wish.rank) wish.request wish.types wish.request (note_here unit)) (λ new. ((refl, h.here), new)) u r needs
+  -- in a reserve, from the rank's home
+  grants_wish : (from : Server) (a : Act) (wish : Wish) (unit : Work) → about a ≡ Some wish.rank
+      → entries a (pool_of w k) ≡ enters.Granted (pool_of w k).me wish.rank wish.request unit.id ∷ []
+      → IsCalling w b wish.rank (waits_for.Reserve wish.request wish.types)
+      → from ≡ home (client_of w wish.rank).config (client_of w wish.rank).me
+      → IsFreeAt b (pool_of w k).me unit → Replies w k a wish.rank (grant wish unit) from → Needs a b (pool_of w k).me → Succeeds w k a b
+  grants_wish from a wish unit tells_of_it entered calling at_home u r needs =
+      grants from a wish unit (waits_for.Reserve wish.request wish.types) tells_of_it entered calling
+      (reserve_granted (client_of w wish.rank) wish.request wish.types wish.request (note_here unit)) (λ new. ((refl, at_home), new)) u r needs
 
   -- the best unit is free in the bag
   best_at : (wish : Wish) (unit : Work) → IsFound (best_for (pool_of w k).kept wish) unit → IsFreeAt b (pool_of w k).me unit
@@ -295,29 +303,52 @@ module _ (w : World) (k : Server) (b : Bag) (well : IsWell w) (l : IsLawful w b)
   pub grants_succeeds : (wish : Wish) (unit : Work) → IsAct w k (Grants wish unit) → Succeeds w k (Grants wish unit) b
   grants_succeeds wish unit is =
       let h = reserve_here w k (Grants wish unit) b wish l is refl in
-      grants_wish (Grants wish unit) wish unit refl refl h (best_at wish unit is.sure.1)
-      (record { said = refl; one_goes = let e = one_self wish.rank in omega arith; nobody = refl }) (asks_now wish h)
+      grants_wish k (Grants wish unit) wish unit refl refl h.calling h.here (best_at wish unit is.sure.1)
+      (replies w k _ _ _ refl (let e = one_self wish.rank in omega arith) refl) (asks_now wish h.calling)
 
   pub grants_try_succeeds : (wish : Wish) (unit : Work) → IsAct w k (Grants_try wish unit) → Succeeds w k (Grants_try wish unit) b
   grants_try_succeeds wish unit is =
       let h = try_here w k (Grants_try wish unit) b wish l is refl in
-      grants (Grants_try wish unit) wish unit (waits_for.Try wish.request wish.types h.tried) refl refl h.calling
+      grants k (Grants_try wish unit) wish unit (waits_for.Try wish.request wish.types h.tried) refl refl h.calling
       (try_granted (client_of w wish.rank) wish.request wish.types h.tried wish.request (note_here unit)) (λ new. ((refl, h.here), new))
-      (best_at wish unit is.sure) (record { said = refl; one_goes = let e = one_self wish.rank in omega arith; nobody = refl })
+      (best_at wish unit is.sure) (replies w k _ _ _ refl (let e = one_self wish.rank in omega arith) refl)
       (tries_now wish h)
+
+  -- one that has just become free, or the best one, is free in the bag
+  given_at : (unit : Work) (wish : Wish) → IsFreeFor (pool_of w k).kept unit wish ⊎ IsFound (best_for (pool_of w k).kept wish) unit
+      → IsFreeAt b (pool_of w k).me unit
+  given_at unit wish (inl free) =
+      let agrees = l.pools k here in
+      let found = free.0 in
+      let units = (pool_of w k).kept.queue.units in
+      let there = free_is_found units unit.id found.0 agrees.units.distinct found.1 in
+      free_at b (pool_of w k) found.0 unit agrees found.2 (ap (λ (v : Work). unit_with v.id units) found.2 ∙ there.0) there.1
+  given_at unit wish (inr best) = best_at wish unit best
 
   pub gives_succeeds : (at : Around) (wish : Wish) (rest : List Server) (unit : Work) → IsAct w k (Gives at wish rest unit)
       → Succeeds w k (Gives at wish rest unit) b
   gives_succeeds at wish rest unit is =
       let h = idle_here w k at wish rest b well l here is.sits in
-      let agrees = l.pools k here in
-      let found = is.sure.0 in
-      let units = (pool_of w k).kept.queue.units in
-      let free = free_is_found units unit.id found.0 agrees.units.distinct found.1 in
-      let there = ap (λ (v : Work). unit_with v.id units) found.2 ∙ free.0 in
-      let u = free_at b (pool_of w k) found.0 unit agrees found.2 there free.1 in
-      grants_wish (Gives at wish rest unit) wish unit refl refl h u
-      (record { said = refl; one_goes = let e = one_self wish.rank in omega arith; nobody = refl }) (asks_now wish h)
+      grants_wish k (Gives at wish rest unit) wish unit refl refl h.calling h.here (given_at unit wish is.sure)
+      (replies w k _ _ _ refl (let e = one_self wish.rank in omega arith) refl) (asks_now wish h.calling)
+
+  -- a server that is asked for the rank grants, and the rank awaits the word of its home
+  pub answers_succeeds : (from : Server) (wish : Wish) (unit : Work) → IsAct w k (Answers from wish unit)
+      → Succeeds w k (Answers from wish unit) b
+  answers_succeeds from wish unit is =
+      let c = client_of w wish.rank in
+      let s = pool_of w k in
+      let own = well.own.servers k here in
+      let asked = and_parts (nat_lt wish.rank.0 s.config.ranks) (is_home s.config from wish.rank) is.sure.0 in
+      let alike = ap (λ (x : Config). x.ranks) own.config in
+      let low = ltb-true wish.rank.0 s.config.ranks asked.0 in
+      let calling = ask_call w k from (Answers from wish unit) b wish l is refl (omega arith) in
+      grants_wish (home c.config c.me) (Answers from wish unit) wish unit refl refl calling refl (best_at wish unit is.sure.1)
+      (record {
+        said = λ awaited. ((λ who. (refl, awaited)), tt);
+        one_goes = let e = one_self wish.rank in omega arith;
+        nobody = refl;
+      }) (asks_now wish calling)
 
   -- Looks.
 
@@ -330,7 +361,7 @@ module _ (w : World) (k : Server) (b : Bag) (well : IsWell w) (l : IsLawful w b)
       let now = tells.Nothing wish.request in
       let waits = waits_so w b wish.rank p well l h.calling in
       decides (Looks wish) wish.rank p now refl h.calling
-      (record { said = refl; one_goes = let e = one_self wish.rank in omega arith; nobody = refl }) (refl, h.here) (tries_now wish h) (λ n.
+      (replies w k _ _ _ refl (let e = one_self wish.rank in omega arith) refl) (refl, h.here) (tries_now wish h) (λ n.
       renamed wish.rank p now n (λ x. enters.Looked me x wish.request ∷ []) h.calling
       (looked_comes c wish.request wish.types h.tried me b n waits (me_is ∙ h.here)))
 
@@ -360,7 +391,7 @@ module _ (w : World) (k : Server) (b : Bag) (well : IsWell w) (l : IsLawful w b)
       let waits = waits_so w b rank p well l h.calling in
       let long = ap (λ (v : Work). length v.body) (sym same) ∙ bytes_are rank request h.note u.0 waits there in
       decides (Fetches rank request id unit) rank p now refl h.calling
-      (record { said = refl; one_goes = let e = one_self rank in omega arith; nobody = refl }) ((refl, h.here), long)
+      (replies w k _ _ _ refl (let e = one_self rank in omega arith) refl) ((refl, h.here), long)
       (_, rank_is rank p h.calling, ap (λ i. is_at.Fetching request i false) h.named) (λ n.
       subst (λ (i : UnitId). IsRun b (enters.Fetched me rank i ∷ []) n → Comes c p now b n (enters.Fetched me rank i ∷ [])) h.named
       (renamed rank p now n (λ x. enters.Fetched me x h.note.id ∷ []) h.calling
@@ -392,7 +423,7 @@ module _ (w : World) (k : Server) (b : Bag) (well : IsWell w) (l : IsLawful w b)
       let new = begun_is_new b sound (batch_of rank request) (in_call c p None) common (rank_is rank p h.calling) refl in
       let new_named : part_of b (batch_of c.me request) ≡ None = ap (λ x. part_of b (batch_of x request)) seat.named ∙ new in
       decides (Keeps rank request common) rank p now refl h.calling
-      (record { said = refl; one_goes = let e = one_self rank in omega arith; nobody = refl }) (refl, h.here)
+      (replies w k _ _ _ refl (let e = one_self rank in omega arith) refl) (refl, h.here)
       (begins_now rank request common h, new) (λ n.
       renamed rank p now n (λ x. enters.Kept me (batch_of x request) ∷ []) h.calling
       (kept_comes c request common h.first h.tried me b n waits (me_is ∙ h.here) new_named))
@@ -408,7 +439,7 @@ module _ (w : World) (k : Server) (b : Bag) (well : IsWell w) (l : IsLawful w b)
       let now = tells.Full request used in
       let waits = waits_so w b rank p well l h.calling in
       decides (Refuses_part rank request common) rank p now refl h.calling
-      (record { said = refl; one_goes = let e = one_self rank in omega arith; nobody = refl }) (refl, h.here)
+      (replies w k _ _ _ refl (let e = one_self rank in omega arith) refl) (refl, h.here)
       (begins_now rank request common h) (λ n.
       renamed rank p now n (λ x. enters.Refused me (unit_named x request) used ∷ []) h.calling
       (part_refused_comes c request common h.first h.tried me b n used waits (me_is ∙ h.here)))
@@ -420,7 +451,7 @@ module _ (w : World) (k : Server) (b : Bag) (well : IsWell w) (l : IsLawful w b)
       let p = waits_for.Keep request common h.first h.tried in
       ends (Ends_keep rank request common end) rank p request end refl refl h.calling
       (keep_ended (client_of w rank) request common h.first h.tried request end)
-      (record { said = refl; one_goes = let e = one_self rank in omega arith; nobody = refl }) (refl, h.here)
+      (replies w k _ _ _ refl (let e = one_self rank in omega arith) refl) (refl, h.here)
       (_, rank_is rank p h.calling, refl)
 
   -- so many units of the batch that ends were accepted
@@ -443,7 +474,7 @@ module _ (w : World) (k : Server) (b : Bag) (well : IsWell w) (l : IsLawful w b)
       let waits = waits_so w b rank p well l h.calling in
       let seat = h.calling.seat in
       decides (Closes request batch accepted part) rank p now refl h.calling
-      (record { said = refl; one_goes = let e = one_self rank in omega arith; nobody = refl }) (refl, h.here) (
+      (replies w k _ _ _ refl (let e = one_self rank in omega arith) refl) (refl, h.here) (
         (in_call c p None, h.common, rank_is rank p h.calling, refl, waits.call.1, h.named),
         accepted_now c h.common batch accepted waits.accepted waits.call.1 h.named h.count,
       ) (λ n.
@@ -470,7 +501,7 @@ module _ (w : World) (k : Server) (b : Bag) (well : IsWell w) (l : IsLawful w b)
       let long : length part.bytes ≡ h.common.length =
       ap length (sym bytes) ∙ ap (λ (x : Lot). length x.common) (sym one) ∙ has.3 in
       decides (Fetches_part rank request batch part) rank p now refl h.calling
-      (record { said = refl; one_goes = let e = one_self rank in omega arith; nobody = refl }) ((refl, h.here), long)
+      (replies w k _ _ _ refl (let e = one_self rank in omega arith) refl) ((refl, h.here), long)
       (h.note.id, owed.0, h.common, (_, rank_is rank p h.calling, refl), owed.1, owed.2, h.named) (λ n.
       renamed rank p now n (λ x. enters.CommonFetched me x batch ∷ frees me batch (fetched part)) h.calling
       (with_frees c p now b n (enters.CommonFetched me c.me batch) me batch (fetched part)
@@ -489,7 +520,7 @@ module _ (w : World) (k : Server) (b : Bag) (well : IsWell w) (l : IsLawful w b)
       let now = tells.Counted request info in
       let waits = waits_so w b rank p well l h.calling in
       decides (Counts rank request kind) rank p now refl h.calling
-      (record { said = refl; one_goes = let e = one_self rank in omega arith; nobody = refl }) (refl, h.here)
+      (replies w k _ _ _ refl (let e = one_self rank in omega arith) refl) (refl, h.here)
       (_, rank_is rank p h.calling, refl) (λ n.
       renamed rank p now n (λ x. enters.Counted me x request info ∷ []) h.calling
       (counted_comes (client_of w rank) request kind me info b n waits))

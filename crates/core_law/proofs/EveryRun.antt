@@ -19,16 +19,18 @@ use Rattle.server_law.specs.State.{start as new_pool}
 use Rattle.core_run.specs.declared.events.Event.{Event}
 use Rattle.core_run.specs.Runs.{Runs}
 use Rattle.core_run.specs.World.{Links, World, actors, after_rank, client_of, pool_of, rank_named, server_named, start, taken}
-use Rattle.core_law.specs.Lawful.{Each}
-use Rattle.core_law.specs.Letters.{finishes, kinds, numbered, one, one_letter}
-use Rattle.core_law.specs.Measures.{IsBalanced, Weights, due, link_weight, measure, row_weight, server_weight, weigh_at, weights}
-use Rattle.core_law.specs.Own.{AreOwn, IsClient, IsEntry, IsNote}
+use Rattle.core_law.specs.OnLinks.{Each}
+use Rattle.core_law.specs.Letters.{any_remote, finishes, kinds, numbered, one, one_letter, remotes}
+use Rattle.core_law.specs.Measures.{IsBalanced, Weights, due, link_weight, measure, push_weights, row_weight, server_weight, weigh_at, weights}
+use Rattle.core_law.specs.Own.{AreOwn, IsClient, IsEntry, IsNote, IsWish}
+use Rattle.core_law.specs.Pushes.{pushing, pushing_to}
 use Rattle.core_law.specs.Well.{IsShaped, IsWell}
 use Rattle.core_law.proofs.Actors.{every_client}
 use Rattle.core_law.proofs.Events.{event_well}
 use Rattle.core_law.proofs.Finishing.{finishes_law}
 use Rattle.core_law.proofs.Kept.{IsLaw, rank_balance}
-use Rattle.core_law.proofs.Balances.{kinds_law, numbered_law, one_letter_law}
+use Rattle.core_law.proofs.Balances.{any_law, kinds_law, numbered_law, one_letter_law, remotes_law}
+use Rattle.core_law.proofs.Pushing.{pushing_law, pushing_to_law}
 use Rattle.core_law.proofs.RankBegins.{begins}
 use Rattle.core_law.proofs.RankHears.{hears}
 use Rattle.core_law.proofs.RankShapes.{Began, Heard, It_asks, It_leaves, It_rests, IsFarewell, Then}
@@ -90,9 +92,14 @@ rank_well w me links x well here shape within client even = record {
         (λ other there differs. well.own.ranks other there);
     servers = well.own.servers;
   };
-  kind = even kinds (kinds_law w.config) well.kind;
+  kind = even (kinds w.config) (kinds_law w.config) well.kind;
   one = λ rank. even (weights (one_letter rank)) (one_letter_law w.config rank) (well.one rank);
   finish = λ rank server there. even (finishes rank server) (finishes_law w.config rank server there) (well.finish rank server there);
+  remote = λ home asked rank request. even (weights (remotes home asked rank request)) (remotes_law w.config home asked rank request)
+      (well.remote home asked rank request);
+  any = λ rank. even (weights (any_remote rank)) (any_law w.config rank) (well.any rank);
+  push = λ a. even (push_weights (pushing a)) (pushing_law w.config a) (well.push a);
+  push_to = λ a t id sent. even (push_weights (pushing_to a t id sent)) (pushing_to_law w.config a t id sent) (well.push_to a t id sent);
   number = λ rank n. even (weights (numbered rank n)) (numbered_law w.config rank n) (well.number rank n);
 }
 
@@ -195,9 +202,18 @@ begins_well config =
         ranks = λ me within. rw (client_at config me within)
             (record { config = refl; me = refl; call = tt; rests = λ is. refl; batch = tt; notes = All-nil (IsNote config) });
         servers = λ me within. rw (pool_at config me within)
-            (record { config = refl; me = refl; finished = length-replicate config.ranks false; waiting = All-nil (IsEntry config me) });
+            (record {
+              config = refl;
+              me = refl;
+              finished = length-replicate config.ranks false;
+              waiting = All-nil (IsEntry config me);
+              wishes = All-nil (IsWish config me);
+              pushing = tt;
+              owed = tt;
+              shut = λ is. absurd (cc);
+            });
       };
-      kind = begins_even config kinds (record {
+      kind = begins_even config (kinds config) (record {
         server = λ i k. refl;
         rank = λ i k. refl;
         server_due = λ i k. refl;
@@ -212,6 +228,14 @@ begins_well config =
             server_due = λ i k. refl;
             rank_due = λ i k. no_cond (eqb i rank.0);
           });
+      remote = λ home asked rank request. begins_even config (weights (remotes home asked rank request))
+          (record { server = λ i k. refl; rank = λ i k. refl; server_due = λ i k. refl; rank_due = λ i k. refl });
+      any = λ rank. begins_even config (weights (any_remote rank))
+          (record { server = λ i k. refl; rank = λ i k. refl; server_due = λ i k. refl; rank_due = λ i k. refl });
+      push = λ a. begins_even config (push_weights (pushing a))
+          (record { server = λ i k. refl; rank = λ i k. refl; server_due = λ i k. refl; rank_due = λ i k. refl });
+      push_to = λ a t id sent. begins_even config (push_weights (pushing_to a t id sent))
+          (record { server = λ i k. refl; rank = λ i k. refl; server_due = λ i k. refl; rank_due = λ i k. refl });
       number = λ rank next. begins_even config (weights (numbered rank next))
           (record { server = λ i k. refl; rank = λ i k. refl; server_due = λ i k. refl; rank_due = λ i k. no_cond (eqb i rank.0) });
     }

@@ -1,5 +1,5 @@
 -- Small runs, by computation.
-use Rattle.std.proofs.Common.{◌≡◌, ◌≤◌, ◌<◌, ℕ, ◌+◌, ◌-◌, ◌^◌, pos, Bool, true, false, List, map, [], ◌∷◌, Option, Some, None, refl, replicate, length, arith}
+use Rattle.std.proofs.Common.{◌≡◌, ◌≤◌, ◌<◌, ℕ, ◌+◌, ◌-◌, ◌^◌, pos, Bool, true, false, List, map, [], ◌∷◌, ◌++◌, Option, Some, None, refl, replicate, length, arith}
 use Rattle.std.specs.Prelude.{option_and_then, take}
 use Rattle.std.specs.List.{range_with_len}
 use Rattle.std.specs.Option.{option_map}
@@ -11,17 +11,21 @@ use Rattle.adlb_unit.specs.declared.names.Server.{Server}
 use Rattle.adlb_unit.specs.declared.names.Target.TheVariants.{Any}
 use Rattle.adlb_unit.specs.declared.names.UnitId.{UnitId}
 use Rattle.adlb_unit.specs.declared.notes.End.TheVariants as ends_by
-use Rattle.bag_ledger.specs.Runs.{calls}
+use Rattle.adlb_unit.specs.declared.units.Unit.{Unit}
+use Rattle.bag_ledger.specs.Bag.{start as empty_bag}
+use Rattle.bag_ledger.specs.Runs.{calls, first_illegal}
 use Rattle.bag_ledger.specs.declared.entries.Call.TheVariants as calls_to
 use Rattle.bag_ledger.specs.declared.entries.Entry.{Entry}
 use Rattle.bag_ledger.specs.declared.entries.Entry.TheVariants as enters
 use Rattle.rank_client.specs.Calls.{is_fetched, is_granted}
+use Rattle.server_law.specs.Acts.{Gives}
 use Rattle.server_law.specs.State.{ServerModel}
 use Rattle.core_run.specs.declared.events.Event.{Event}
 use Rattle.core_run.specs.declared.events.Event.TheVariants as occurs
 use Rattle.core_run.specs.Runs.{run, transcript}
 use Rattle.core_run.specs.World.{World, happens, has_ended, post, rank_named, server_named, start}
-use Rattle.core_law.specs.Letters.{one_letter}
+use Rattle.core_law.specs.Acting.{acted}
+use Rattle.core_law.specs.Letters.{one_letter, remotes}
 use Rattle.core_law.specs.Measures.{measure, weights}
 
 -- so many ranks and servers, each server with room for 64 bytes
@@ -44,27 +48,30 @@ two_servers = sized 1 2 (omega arith, omega arith) (omega arith, omega arith)
 abbrev three_servers : Config
 three_servers = sized 1 3 (omega arith, omega arith) (omega arith, omega arith)
 
+abbrev pub two_and_two : Config
+two_and_two = sized 2 2 (omega arith, omega arith) (omega arith, omega arith)
+
 abbrev two_ranks : Config
 two_ranks = sized 2 1 (omega arith, omega arith) (omega arith, omega arith)
 
 abbrev three_ranks : Config
 three_ranks = sized 3 1 (omega arith, omega arith) (omega arith, omega arith)
 
-abbrev rank : ℕ → Rank
+abbrev pub rank : ℕ → Rank
 rank number = rank_named number
 
-abbrev server : ℕ → Server
+abbrev pub server : ℕ → Server
 server number = server_named number
 
 -- of the put in this call of the rank
-abbrev unit : ℕ → ℕ → UnitId
+abbrev pub unit : ℕ → ℕ → UnitId
 unit number call = record { rank = rank_named number; number = call }
 
 -- the rank begins to put forty bytes of type 2, to reserve any type, to fetch the unit, to count type 2, to try for any type, to finish
 abbrev puts : ℕ → Event
 puts number = occurs.Call (rank number) (calls_to.Put (record { 0 = 2 }) (pos 0) Any None (replicate 40 7))
 
-abbrev reserves : ℕ → Event
+abbrev pub reserves : ℕ → Event
 reserves number = occurs.Call (rank number) (calls_to.Reserve None)
 
 abbrev fetches : ℕ → UnitId → Event
@@ -79,17 +86,20 @@ tries number = occurs.Call (rank number) (calls_to.Try None)
 abbrev finishes : ℕ → Event
 finishes number = occurs.Call (rank number) calls_to.Finish
 
--- the server handles the rank's letter, and the rank the server's
-abbrev asks : ℕ → ℕ → Event
+-- the server handles the rank's letter, the rank the server's, and a server that of another
+abbrev pub asks : ℕ → ℕ → Event
 asks number at = occurs.Deliver (by.Rank (rank number)) (by.Server (server at))
 
-abbrev hears : ℕ → ℕ → Event
+abbrev pub hears : ℕ → ℕ → Event
 hears number at = occurs.Deliver (by.Server (server at)) (by.Rank (rank number))
+
+abbrev pub brings : ℕ → ℕ → Event
+brings from to = occurs.Deliver (by.Server (server from)) (by.Server (server to))
 
 abbrev putting : ℕ → ℕ → Entry
 putting number call = enters.Putting (rank number) call (record { 0 = 2 }) (pos 0) Any None (replicate 40 7)
 
-abbrev ledger_after : Config → List Event → Option (List Entry)
+abbrev pub ledger_after : Config → List Event → Option (List Entry)
 ledger_after config events = option_map (λ (w : World). w.ledger) (run (start config) events)
 
 -- One rank.
@@ -145,7 +155,7 @@ one_server_alone : ledger_after one_server
 unfolding post is_granted is_fetched
 one_server_alone = refl
 
--- no event: a letter where none is under way, a call while one is pending, a reserve with two servers
+-- no event: a letter where none is under way, a call while one is pending
 no_letter : ledger_after two_servers (puts 0 ∷ asks 0 1 ∷ []) ≡ None
 unfolding post
 no_letter = refl
@@ -154,9 +164,9 @@ no_second_call : ledger_after two_servers (puts 0 ∷ puts 0 ∷ []) ≡ None
 unfolding post
 no_second_call = refl
 
-no_reserve_among_two : ledger_after two_servers (reserves 0 ∷ []) ≡ None
+no_letter_to_itself : ledger_after two_servers (reserves 0 ∷ asks 0 0 ∷ brings 0 0 ∷ []) ≡ None
 unfolding post
-no_reserve_among_two = refl
+no_letter_to_itself = refl
 
 -- Finish goes to each server, and each that handles it while the other has not has not ended
 finish_to_each : ledger_after two_servers (finishes 0 ∷ asks 0 1 ∷ asks 0 0 ∷ []) ≡ Some (enters.Finished (rank 0) 0 ∷ [])
@@ -293,3 +303,139 @@ nobody_is_left = refl
 other_is_told_once : calls_along two_ranks 1 finish_beside ≡ Some 0 ∷ Some 1 ∷ Some 1 ∷ Some 1 ∷ Some 1 ∷ Some 0 ∷ Some 0 ∷ Some 0 ∷ []
 unfolding post measure
 other_is_told_once = refl
+
+-- Several servers.
+
+-- at each server the ranks whose wishes are kept
+abbrev wished_after : Config → List Event → Option (List (List Rank))
+wished_after config events =
+    option_map (λ (w : World). map (λ (s : ServerModel). map (λ e. e.rank) s.kept.parked.wishes) w.servers) (run (start config) events)
+
+-- where the ledger is first illegal, if it is
+abbrev pub illegal_from : Config → List Entry → Option ℕ
+illegal_from config ledger = first_illegal (empty_bag config) 0 ledger
+
+abbrev illegal_at : World → Option ℕ
+illegal_at w = illegal_from w.config w.ledger
+
+-- Rank 1 reserves any type; its home asks server 0, which has none, and rank 1 waits there. Rank 0 puts `hello` of type 1 at server 0,
+-- which hints to the home. That asks again, server 0 grants, and the home passes the grant on.
+abbrev hello : List ℕ
+hello = 104 ∷ 101 ∷ 108 ∷ 108 ∷ 111 ∷ []
+
+abbrev asked_in_vain : List Event
+asked_in_vain = reserves 1 ∷ asks 1 1 ∷ brings 1 0 ∷ brings 0 1 ∷ []
+
+abbrev puts_hello : Event
+puts_hello = occurs.Call (rank 0) (calls_to.Put (record { 0 = 1 }) (pos 0) Any None hello)
+
+abbrev putting_hello : Entry
+putting_hello = enters.Putting (rank 0) 0 (record { 0 = 1 }) (pos 0) Any None hello
+
+abbrev hinted : List Event
+hinted = asked_in_vain ++ puts_hello ∷ asks 0 0 ∷ hears 0 0 ∷ brings 0 1 ∷ brings 1 0 ∷ brings 0 1 ∷ hears 1 1 ∷ []
+
+waits_at_home : waiting_after two_and_two asked_in_vain ≡ Some (([], false) ∷ (rank 1 ∷ [], false) ∷ [])
+unfolding post
+waits_at_home = refl
+
+wish_is_kept_elsewhere : wished_after two_and_two asked_in_vain ≡ Some ((rank 1 ∷ []) ∷ [] ∷ [])
+unfolding post
+wish_is_kept_elsewhere = refl
+
+other_server_has_it : ledger_after two_and_two hinted
+    ≡ Some (
+    enters.Asked (rank 1) 0 None ∷ putting_hello ∷ enters.Accepted (server 0) (unit 0 0)
+    ∷ enters.Granted (server 0) (rank 1) 0 (unit 0 0) ∷ [])
+unfolding post is_granted is_fetched
+other_server_has_it = refl
+
+none_waits_after_it : waiting_after two_and_two hinted ≡ Some (([], false) ∷ ([], false) ∷ [])
+unfolding post is_granted is_fetched
+none_waits_after_it = refl
+
+no_wish_is_left : wished_after two_and_two hinted ≡ Some ([] ∷ [] ∷ [])
+unfolding post is_granted is_fetched
+no_wish_is_left = refl
+
+-- one thing stands for the reserve throughout: the request, that the rank waits and is idle, or a letter between servers
+one_thing_stands_between : calls_along two_and_two 1 hinted
+    ≡ Some 0 ∷ Some 1 ∷ Some 1 ∷ Some 1 ∷ Some 1 ∷ Some 1 ∷ Some 1 ∷ Some 1 ∷ Some 1 ∷ Some 1 ∷ Some 1 ∷ Some 0 ∷ []
+unfolding post is_granted is_fetched measure
+one_thing_stands_between = refl
+
+-- the letters between server 1, the home, and server 0 about call 0 of rank 1, at each moment: one as long as server 0 is unanswered
+abbrev between_along : Config → List Event → List (Option ℕ)
+between_along config events =
+    map (λ n. option_map (measure (weights (remotes (server 1) (server 0) (rank 1) 0))) (run (start config) (take n events)))
+    (range_with_len 0 (length events + 1))
+
+one_letter_between : between_along two_and_two hinted
+    ≡ Some 0 ∷ Some 0 ∷ Some 1 ∷ Some 1 ∷ Some 0 ∷ Some 0 ∷ Some 0 ∷ Some 0 ∷ Some 1 ∷ Some 1 ∷ Some 0 ∷ Some 0 ∷ []
+unfolding post is_granted is_fetched measure
+one_letter_between = refl
+
+-- While the hint is under way a unit comes to the rank's home, which gives it to the rank. The hint comes too late, and `hello` stays.
+abbrev hinted_late : List Event
+hinted_late = asked_in_vain ++ puts_hello ∷ asks 0 0 ∷ hears 0 0 ∷ puts 0 ∷ asks 0 1 ∷ brings 0 1 ∷ hears 1 1 ∷ []
+
+home_was_first : ledger_after two_and_two hinted_late
+    ≡ Some (
+    enters.Asked (rank 1) 0 None ∷ putting_hello ∷ enters.Accepted (server 0) (unit 0 0) ∷ putting 0 1
+    ∷ enters.Accepted (server 1) (unit 0 1) ∷ enters.Granted (server 1) (rank 1) 0 (unit 0 1) ∷ [])
+unfolding post is_granted is_fetched
+home_was_first = refl
+
+nobody_is_asked_after_it : waiting_after two_and_two hinted_late ≡ Some (([], false) ∷ ([], false) ∷ [])
+unfolding post is_granted is_fetched
+nobody_is_asked_after_it = refl
+
+-- The first server that is asked has a unit: it is granted there, and fetched from there.
+abbrev asked_and_granted : List Event
+asked_and_granted =
+    puts_hello ∷ asks 0 0 ∷ hears 0 0 ∷ reserves 1 ∷ asks 1 1 ∷ brings 1 0 ∷ brings 0 1 ∷ hears 1 1 ∷ fetches 1 (unit 0 0) ∷ asks 1 0
+    ∷ hears 1 0 ∷ []
+
+fetched_where_granted : ledger_after two_and_two asked_and_granted
+    ≡ Some (
+    putting_hello ∷ enters.Accepted (server 0) (unit 0 0) ∷ enters.Asked (rank 1) 0 None
+    ∷ enters.Granted (server 0) (rank 1) 0 (unit 0 0) ∷ enters.Fetching (rank 1) 1 (unit 0 0)
+    ∷ enters.Fetched (server 0) (rank 1) (unit 0 0) ∷ [])
+unfolding post is_granted is_fetched
+fetched_where_granted = refl
+
+-- The other server has granted a unit to rank 1, and its grant is not yet back, when a unit comes to the rank's home.
+abbrev granted_elsewhere : List Event
+granted_elsewhere = puts 0 ∷ asks 0 0 ∷ hears 0 0 ∷ reserves 1 ∷ asks 1 1 ∷ brings 1 0 ∷ puts 0 ∷ asks 0 1 ∷ []
+
+abbrev forty_bytes : Unit
+forty_bytes = record {
+  id = unit 0 1;
+  kind = record { 0 = 2 };
+  prio = pos 0;
+  target = Any;
+  answer = None;
+  common = None;
+  body = replicate 40 7;
+}
+
+-- a home that gives it to the rank, though that is not idle
+abbrev gives_it_too : World → World
+gives_it_too w =
+    acted w (server 1)
+    (Gives (record { before = []; behind = [] }) (record { rank = rank 1; request = 0; types = None }) [] forty_bytes)
+
+asked_rank_gets_no_other : ledger_after two_and_two granted_elsewhere
+    ≡ Some (
+    putting 0 0 ∷ enters.Accepted (server 0) (unit 0 0) ∷ enters.Asked (rank 1) 0 None
+    ∷ enters.Granted (server 0) (rank 1) 0 (unit 0 0) ∷ putting 0 1 ∷ enters.Accepted (server 1) (unit 0 1) ∷ [])
+unfolding post
+asked_rank_gets_no_other = refl
+
+legal_without_it : option_map illegal_at (run (start two_and_two) granted_elsewhere) ≡ Some None
+unfolding post
+legal_without_it = refl
+
+illegal_with_it : option_map (λ w. illegal_at (gives_it_too w)) (run (start two_and_two) granted_elsewhere) ≡ Some (Some 6)
+unfolding post
+illegal_with_it = refl

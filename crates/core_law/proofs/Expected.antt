@@ -1,12 +1,12 @@
 -- Each letter that is under way is expected.
-use Rattle.std.proofs.Common.{◌≡◌, ◌≢◌, ◌<◌, ◌≤◌, ◌+◌, inl, inr, ℕ, Bool, true, false, ◌&&◌, not, cond, List, [], ◌∷◌, ◌++◌, length, find, Option, Some, None, refl, sym, ap, ◌∙◌, subst, arith}
-use Rattle.std.specs.Prelude.{All, IsSome, option_and_then}
+use Rattle.std.proofs.Common.{◌≡◌, ◌≢◌, ◌<◌, ◌≤◌, inl, inr, ℕ, ◌==◌, Bool, true, false, ◌&&◌, not, cond, List, [], ◌∷◌, ◌++◌, length, Option, Some, None, refl, sym, ap, ◌∙◌, subst, arith}
+use Rattle.std.specs.Prelude.{All, IsSome, nat_lt, option_and_then}
 use Rattle.std.specs.List.{list_all}
 use Rattle.std.specs.Option.{option_map}
-use Rattle.std.proofs.lemmas.Bool.{and_from, eq-eqb, false_from_ne_true, lt-ltb, ltb-true, or_cases}
-use Rattle.std.proofs.lemmas.List.Elements.{All-cons, All-contains, All-head, All-nil, All-tail, Contains-push}
+use Rattle.std.proofs.lemmas.Bool.{and_from, and_parts, eq-eqb, eqb-true, false_from_ne_true, lt-ltb, ltb-true, or_cases}
+use Rattle.std.proofs.lemmas.List.Elements.{All-contains, Contains-push}
 use Rattle.std.proofs.lemmas.List.Sums.{AllPass-from_list_all}
-use Rattle.adlb_unit.specs.Ids.{same_unit, same_batch}
+use Rattle.adlb_unit.specs.Ids.{same_batch}
 use Rattle.adlb_unit.specs.Limits.{stamp_limit}
 use Rattle.adlb_unit.specs.Links.{is_within, place_of}
 use Rattle.adlb_unit.specs.Targets.{Aims, home, home_of}
@@ -18,9 +18,11 @@ use Rattle.adlb_unit.specs.declared.messages.Message.{Message}
 use Rattle.adlb_unit.specs.declared.messages.Message.TheVariants as tells
 use Rattle.adlb_unit.specs.declared.names.Rank.{Rank}
 use Rattle.adlb_unit.specs.declared.names.Server.{Server}
+use Rattle.adlb_unit.specs.declared.names.UnitId.{UnitId}
 use Rattle.adlb_unit.specs.declared.notes.UnitNote.{UnitNote}
 use Rattle.adlb_unit.specs.declared.units.Unit.{Unit}
-use Rattle.bag_ledger.specs.Bag.{Bag, rank_at, settled, unit_of, part_charge, part_of}
+use Rattle.bag_ledger.specs.Bag.{Bag, part_charge, part_of, promise_of, rank_at, settled, unit_of}
+use Rattle.bag_ledger.specs.Words.{IsTracked}
 use Rattle.bag_ledger.specs.declared.states.Placed.{Placed as Lodged}
 use Rattle.bag_ledger.specs.declared.states.Promise.{Promise as Room}
 use Rattle.bag_ledger.specs.declared.states.UnitPlace.TheVariants.{Pinned}
@@ -43,9 +45,9 @@ use Rattle.rank_client.specs.Rules.{is_idle}
 use Rattle.rank_client.specs.State.{ClientModel}
 use Rattle.rank_client.specs.Step.{hear}
 use Rattle.server_law.specs.Agreement.{ServerAgrees, room_at, slot_of, part_at, part_seen}
-use Rattle.server_law.specs.Expected.{IsNew, Runs as RunsHere, IsAwaited as IsAwaitedHere}
-use Rattle.server_law.specs.Finding.{unit_with}
-use Rattle.server_law.specs.State.{ServerModel, Waiting, is_finished}
+use Rattle.server_law.specs.Expected.{IsNew, IsUnanswered, Runs as RunsHere, IsAwaited as IsAwaitedHere, IsAwaitedFrom}
+use Rattle.reserve_path.specs.Grants.{unit_with}
+use Rattle.server_law.specs.State.{ServerModel, is_finished, is_home}
 use Rattle.server_law.specs.Step.{serve}
 use Rattle.rank_client.proofs.Expected.{expected_are_heard}
 use Rattle.server_law.proofs.Expected.{expected_have_steps}
@@ -57,29 +59,41 @@ use Rattle.core_run.specs.declared.events.Event.{Event}
 use Rattle.core_run.specs.Runs.{NoneIsStuck, Runs}
 use Rattle.core_run.specs.World.{World, after_rank, after_server, client_of, handle, has_ended, link, pool_of, rank_named, start, taken}
 use Rattle.core_law.specs.Lawful.{IsAsked, IsFact, IsLawful, OfCall}
-use Rattle.core_law.specs.Letters.{call_letter, call_waits, finish_handled, finish_letter, finishes, fits_link, is_finish, is_request, kinds, one, one_letter}
-use Rattle.core_law.specs.Measures.{weigh, weights}
-use Rattle.core_law.specs.Own.{IsEntry, IsOffer}
-use Rattle.core_law.specs.Seats.{IsStill}
+use Rattle.core_law.specs.Letters.{about, call_letter, finish_handled, finish_letter, finishes, fits_between, fits_link, is_finish, is_request, one, one_letter, remotes_letter}
+use Rattle.core_law.specs.Measures.{measure, weights}
+use Rattle.core_law.specs.Own.{IsOffer, NoneOwes}
+use Rattle.core_law.specs.Pushed.{IsOfPush, OfPush}
 use Rattle.core_law.specs.Well.{IsWell}
 use Rattle.core_law.proofs.Coming.{Waits, waits_of}
+use Rattle.core_law.proofs.Debts.{every_run_paid}
 use Rattle.core_law.proofs.EveryRun.{every_run_well}
-use Rattle.core_law.proofs.Fifo.{front_beside, front_held}
+use Rattle.core_law.proofs.Fifo.{front_beside}
 use Rattle.core_law.proofs.Lawful.{every_run_lawful}
-use Rattle.core_law.proofs.Owed.{finishes_are, letters_are, no_kinds}
+use Rattle.core_law.proofs.Nowhere.{waits_nowhere_beside}
+use Rattle.core_law.proofs.Owed.{all_fit, finishes_are, letters_are}
+use Rattle.core_law.proofs.Own.{all_each, front_fits}
+use Rattle.core_law.proofs.PushRows.{IsOfPushes, push_awaited}
 use Rattle.core_law.proofs.RankShapes.{asked_busy}
+use Rattle.core_law.proofs.RankSteps.{IsNotOf}
+use Rattle.core_law.proofs.Remote.{remote_awaits}
 use Rattle.core_law.proofs.UnderWay.{at_front}
 
 -- What a request finds at its server.
 
+-- a promise is of a unit
+not_promised : (b : Bag) (id : UnitId) → IsTracked b → unit_of b id ≡ None → promise_of b id ≡ None
+not_promised b id tracked fresh = by_promise (promise_of b id) refl
+  where
+    by_promise : (o : Option Room) → promise_of b id ≡ o → o ≡ None
+    by_promise None is = refl
+    by_promise (Some p) is = let of = tracked.measured id p is in let found : None ≡ Some of.0 = sym fresh ∙ of.1 in absurd (cc)
+
 -- no unit of its id, and no promise
-put_awaited : (c : ClientModel) (unit : Unit) (first : Server) (tried : ℕ) (b : Bag) (s : ServerModel) → IsSoundBag b → IsStill b
-    → ServerAgrees b s
+put_awaited : (c : ClientModel) (unit : Unit) (first : Server) (tried : ℕ) (b : Bag) (s : ServerModel) → IsSoundBag b → ServerAgrees b s
     → rank_at b c.me ≡ Some (in_call c (waits_for.Put unit first tried) None) → IsOffer c unit → s.config ≡ c.config → IsNew s c.me unit
-put_awaited c unit first tried b s sound still a at offer same =
+put_awaited c unit first tried b s sound a at offer same =
     let fresh : unit_of b unit.id ≡ None = (put_is_new b sound c.me (in_call c (waits_for.Put unit first tried) None) unit at refl).1 in
-    let rooms : List Room → Option Room = λ all. find (λ (p : Room). same_unit p.id unit.id) all in
-    let unpromised : rooms b.promises ≡ None = ap rooms still.unpromised in
+    let unpromised = not_promised b unit.id sound.tracked fresh in
     record {
       sender = offer.rank;
       new = find_nothing id_of s.kept.queue.units unit.id (a.units.each unit.id ∙ ap (λ o. option_and_then (slot_of s.me) o) fresh);
@@ -182,7 +196,7 @@ request_awaited : (c : ClientModel) (p : Pending) (b : Bag) (s : ServerModel) (m
     → s.config ≡ c.config → IsAsked c p s.me m → RunsHere s c.me → IsAwaitedHere s c.me m
 request_awaited c waits_for.Nothing b s m w sound a same asked runs = absurd asked
 request_awaited c (waits_for.Put unit first tried) b s m w sound a same asked runs =
-    subst (IsAwaitedHere s c.me) (sym asked.0) (put_awaited c unit first tried b s sound w.still a w.rank w.call.0 same)
+    subst (IsAwaitedHere s c.me) (sym asked.0) (put_awaited c unit first tried b s sound a w.rank w.call.0 same)
 request_awaited c (waits_for.Reserve request types) b s m w sound a same asked runs =
     subst (IsAwaitedHere s c.me) (sym asked.0) (at_home c s same asked.1, runs)
 request_awaited c (waits_for.Try request types tried) b s m w sound a same asked runs = subst (IsAwaitedHere s c.me) (sym asked.0) tt
@@ -202,18 +216,6 @@ request_awaited c (waits_for.Count request kind) b s m w sound a same asked runs
     subst (IsAwaitedHere s c.me) (sym asked.0) (at_home c s same asked.1, runs)
 
 -- A rank whose request or Finish letter is under way runs at the server.
-
-idle_weighs : (from : Rank) (place : ℕ) (e : Waiting) → e.asked ≡ None → e.wish.rank ≡ from → call_waits from place e ≡ 1
-idle_weighs from place e idle of = rw (idle, of) (ap one (eq-eqb from.0 from.0 refl))
-
-waits_not : (config : Config) (t : Server) (from : Rank) (place : ℕ) (es : List Waiting) → All (IsEntry config t) es
-    → weigh (call_waits from place) es ≡ 0
-    → All (λ (e : Waiting). e.wish.rank ≢ from) es
-waits_not config t from place [] own none = All-nil (λ (e : Waiting). e.wish.rank ≢ from)
-waits_not config t from place (e ∷ es) own none =
-    let idle = (All-head (IsEntry config t) e es own).idle in
-    All-cons (λ (x : Waiting). x.wish.rank ≢ from) e es (λ of. let weight = idle_weighs from place e idle of in absurd (omega arith))
-    (waits_not config t from place es (All-tail (IsEntry config t) e es own) (omega arith))
 
 -- a server has not ended where it has not handled each Finish letter
 not_ended : (s : ServerModel) (rank : Rank) → rank.0 < length s.kept.finished → is_finished s.kept rank ≡ false → has_ended s ≡ false
@@ -239,18 +241,12 @@ finish_is : (m : Message) → is_finish m ≡ true → m ≡ tells.Finish
 finish_is tells.Finish e = refl
 finish_is _ e = absurd (cc)
 
-fits_of : (t : Bool) → one (not t) ≤ 0 → t ≡ true
-fits_of true few = refl
-fits_of false few = absurd (omega arith)
-
 -- the letter is of a kind that goes there
 fits : (w : World) (from to : Actor) (letter : Letter) (rest : List Letter) → IsWell w → is_within w.config from ≡ true
     → is_within w.config to ≡ true
-    → link w.links (place_of w.config from) (place_of w.config to) ≡ letter ∷ rest → fits_link from to letter.message ≡ true
+    → link w.links (place_of w.config from) (place_of w.config to) ≡ letter ∷ rest → fits_link w.config from to letter.message ≡ true
 fits w from to letter rest well f t front =
-    let held = front_held kinds w from to letter rest well.shape f t front in
-    let none = no_kinds w well.kind in
-    fits_of (fits_link from to letter.message) (omega arith)
+    front_fits w.config w.links from to letter rest (all_fit w well.shape well.kind) f t front
 
 some_of : {X : Type 0} (o : Option X) → IsSome o → (x : X) × (o ≡ Some x)
 some_of None some = absurd (cc)
@@ -261,13 +257,18 @@ never t on off = cc (on, off)
 
 -- a letter of a rank that neither waits there nor has finished there, awaited where the rank runs
 from_runner : (w : World) (from : Rank) (me : Server) (letter : Letter) (rest : List Letter) → IsWell w → from.0 < w.config.ranks
-    → me.0 < w.config.servers → letter.stamp < stamp_limit → weigh (call_waits from me.0) (pool_of w me).kept.parked.waiting ≡ 0
+    → me.0 < w.config.servers → letter.stamp < stamp_limit
+    → link w.links (place_of w.config (by.Rank from)) (place_of w.config (by.Server me)) ≡ letter ∷ rest
+    → measure (weights (one_letter from)) w ≡ call_letter from (by.Rank from) (by.Server me) letter.message
     → is_finished (pool_of w me).kept from ≡ false → (RunsHere (pool_of w me) from → IsAwaitedHere (pool_of w me) from letter.message)
     → (next : World) × (handle w (by.Rank from) (by.Server me) (letter ∷ rest) ≡ Some next)
-from_runner w from me letter rest well inside here small none fresh awaited =
+from_runner w from me letter rest well inside here small front all fresh awaited =
     let s = pool_of w me in
     let pool = well.own.servers me here in
-    let alone = waits_not w.config me from me.0 s.kept.parked.waiting pool.waiting none in
+    let rank = lt-ltb from.0 w.config.ranks inside in
+    let server = lt-ltb me.0 w.config.servers here in
+    let alone = all_each (IsNotOf from) s.kept.parked.waiting
+    (waits_nowhere_beside w from (by.Rank from) (by.Server me) letter rest well rank server front all refl me here) in
     let ranks : from.0 < s.config.ranks = let e = ap (λ (k : Config). k.ranks) pool.config in omega arith in
     let runs : RunsHere s from = record { waits_not = alone; finished_not = fresh } in
     let x = some_of (serve s (by.Rank from) letter) ((expected_have_steps s (by.Rank from) letter).1 (ranks, small, awaited runs)) in
@@ -292,7 +293,6 @@ to_server w b from me letter rest well l inside here small front =
     let server : is_within w.config (by.Server me) ≡ true = lt-ltb me.0 w.config.servers here in
     let there : from.0 < length w.ranks = let e = (well.shape).ranks in omega arith in
     let calls = letters_are w from there (well.one from) in
-    let call = front_beside (weights (one_letter from)) w (by.Rank from) (by.Server me) letter rest me well.shape rank server front here in
     let ends = finishes_are w from me there (well.finish from me here) in
     let end = front_beside (finishes from me) w (by.Rank from) (by.Server me) letter rest me well.shape rank server front here in
     let handled : finish_handled from me me.0 s.kept ≡ one (is_finished s.kept from) = rw (eq-eqb me.0 me.0 refl) refl in
@@ -308,13 +308,13 @@ to_server w b from me letter rest well l inside here small front =
           let weight : call_letter from (by.Rank from) (by.Server me) m ≡ 1 = rw (request, eq-eqb from.0 from.0 refl) refl in
           let stands : ClientAgrees c None b = subst (λ (o : Option Message). ClientAgrees c o b) sent.0 seat.stands in
           let facts = subst (λ (o : Option Message). All (IsFact b) (holds c o)) sent.0 seat.facts in
-          let waits = waits_of c c.pending b refl going stands facts own.call l.still in
+          let waits = waits_of c c.pending b refl going stands facts own.call in
           let sound = run_is_sound settled w.config w.ledger b l.run in
           let asked : IsAsked c c.pending s.me m = subst (λ (k : Server). IsAsked c c.pending k m) (sym pool.me) sent.1 in
           let agrees = l.pools me here in
           let same = pool.config ∙ sym own.config in
           let done : one c.finished ≡ 0 = ap one going in
-          from_runner w from me letter rest well inside here small (omega arith) (flag_off (is_finished s.kept from) (omega arith))
+          from_runner w from me letter rest well inside here small front (omega arith) (flag_off (is_finished s.kept from) (omega arith))
           (subst (λ (r : Rank). RunsHere s r → IsAwaitedHere s r m) seat.named
           (request_awaited c c.pending b s m waits sound agrees same asked))
       | inr leaves ↦
@@ -324,7 +324,9 @@ to_server w b from me letter rest well l inside here small front =
           let few = at_most_one c.finished in
           let gone : c.finished ≡ true = flag_on c.finished (omega arith) in
           let none : one (not (is_idle c.pending)) ≡ 0 = ap (λ p. one (not (is_idle p))) (own.rests gone) in
-          from_runner w from me letter rest well inside here small (omega arith) (flag_off (is_finished s.kept from) (omega arith))
+          let weighs_no_call : call_letter from (by.Rank from) (by.Server me) m ≡ 0 =
+          ap (λ (x : Message). call_letter from (by.Rank from) (by.Server me) x) is in
+          from_runner w from me letter rest well inside here small front (omega arith) (flag_off (is_finished s.kept from) (omega arith))
           (λ runs. subst (IsAwaitedHere s from) (sym is) runs)
     ]
   where
@@ -365,20 +367,104 @@ to_rank w b from me letter rest well l there here small front =
     let f = after_rank w me (taken w (by.Server from) (by.Rank me) rest) in
     (f x.0, ap (option_map f) x.1)
 
+-- A letter between servers.
+
+-- numbers that are told apart
+apart_is : (a b : ℕ) → not (a == b) ≡ true → a ≢ b
+apart_is a b apart same = let e = eq-eqb a b same in absurd (cc)
+
+-- the home asks; an answer comes where the rank waits with the sender unanswered; a hint comes to the home; and a letter of a push
+-- comes where that push stands, or as the bag has its unit
+between_awaited : (w : World) (b : Bag) (from me : Server) (letter : Letter) (rest : List Letter) (m : Message) → IsWell w → IsLawful w b
+    → NoneOwes w → from.0 < w.config.servers → me.0 < w.config.servers → from ≢ (pool_of w me).me
+    → link w.links (place_of w.config (by.Server from)) (place_of w.config (by.Server me)) ≡ letter ∷ rest → letter.message ≡ m
+    → fits_between w.config from me m ≡ true → IsAwaitedFrom (pool_of w me) from m
+between_awaited w b from me letter rest m well l paid there here differs front says fits = by_message m says fits
+  where
+    s : ServerModel
+    s = pool_of w me
+
+    -- the two tests say what they are meant to, as the server knows the run
+    home_says : (rank : Rank) (at : Server) → (nat_lt rank.0 w.config.ranks && is_home w.config at rank) ≡ true
+        → (rank.0 < s.config.ranks) × (home_of s.config.servers rank ≡ at.0)
+    home_says rank at is =
+        let parts = and_parts (nat_lt rank.0 w.config.ranks) (is_home w.config at rank) is in
+        let P : Config → Type 0 = λ k. (rank.0 < k.ranks) × (home_of k.servers rank ≡ at.0) in
+        subst P (sym (well.own.servers me here).config)
+        (ltb-true rank.0 w.config.ranks parts.0, eqb-true (home_of w.config.servers rank) at.0 parts.1)
+
+    -- an answer about this rank in this call
+    unanswered : (rank : Rank) (request : ℕ) → remotes_letter me from rank request (by.Server from) (by.Server me) letter.message ≡ 1
+        → IsUnanswered s from rank request
+    unanswered rank request weighs =
+        remote_awaits w me from rank request (by.Server from) (by.Server me) letter rest well here (lt-ltb from.0 w.config.servers there)
+        (lt-ltb me.0 w.config.servers here) front weighs
+
+    weighs_one : (rank : Rank) (request : ℕ) → about me from rank request me.0 from.0 rank request ≡ 1
+    weighs_one rank request =
+        rw (eq-eqb rank.0 rank.0 refl, eq-eqb request request refl, eq-eqb me.0 me.0 refl, eq-eqb from.0 from.0 refl) refl
+
+    pushed : (x : Message) → letter.message ≡ x → IsOfPushes x → IsAwaitedFrom s from x
+    pushed x is of =
+        let sound = run_is_sound settled w.config w.ledger b l.run in
+        let bag : OfPush b from me letter.message =
+        at_front (λ a t (y : Letter). IsOfPush b a t y.message) w.config w.links (by.Server from) (by.Server me) letter rest
+        (l.pushed).letters (lt-ltb from.0 w.config.servers there) (lt-ltb me.0 w.config.servers here) front in
+        push_awaited w b from me letter rest x well sound.tracked (l.pools me here) (paid me here) there here differs front is
+        (subst (OfPush b from me) is bag) of
+
+    by_message : (x : Message) → letter.message ≡ x → fits_between w.config from me x ≡ true → IsAwaitedFrom s from x
+    by_message (tells.Ask rank request types) is fits = home_says rank from fits
+    by_message (tells.AskGrant rank request note) is fits =
+        unanswered rank request (ap (remotes_letter me from rank request (by.Server from) (by.Server me)) is ∙ weighs_one rank request)
+    by_message (tells.AskNone rank request) is fits =
+        unanswered rank request (ap (remotes_letter me from rank request (by.Server from) (by.Server me)) is ∙ weighs_one rank request)
+    by_message (tells.Hint rank request) is fits =
+        let at = home_says rank me fits in (at.0, at.1 ∙ ap (λ (k : Server). k.0) (sym (well.own.servers me here).me))
+    by_message (tells.PushQuery id n) is fits = pushed (tells.PushQuery id n) is tt
+    by_message (tells.PushYes id) is fits = pushed (tells.PushYes id) is tt
+    by_message (tells.PushNo id) is fits = pushed (tells.PushNo id) is tt
+    by_message (tells.PushUnit unit) is fits = pushed (tells.PushUnit unit) is tt
+    by_message (tells.PushCancel id) is fits = pushed (tells.PushCancel id) is tt
+    by_message (tells.PushAck id) is fits = pushed (tells.PushAck id) is tt
+    by_message _ is fits = absurd (cc)
+
+between : (w : World) (b : Bag) (from me : Server) (letter : Letter) (rest : List Letter) → IsWell w → IsLawful w b → NoneOwes w
+    → from.0 < w.config.servers → me.0 < w.config.servers → letter.stamp < stamp_limit
+    → link w.links (place_of w.config (by.Server from)) (place_of w.config (by.Server me)) ≡ letter ∷ rest
+    → (next : World) × (handle w (by.Server from) (by.Server me) (letter ∷ rest) ≡ Some next)
+between w b from me letter rest well l paid there here small front =
+    let s = pool_of w me in
+    let pool = well.own.servers me here in
+    let f = lt-ltb from.0 w.config.servers there in
+    let t = lt-ltb me.0 w.config.servers here in
+    let kind = and_parts (not (from.0 == me.0)) (fits_between w.config from me letter.message)
+    (fits w (by.Server from) (by.Server me) letter rest well f t front) in
+    let apart = apart_is from.0 me.0 kind.0 in
+    let of_run : from.0 < s.config.servers = let e = ap (λ (k : Config). k.servers) pool.config in omega arith in
+    let other : from ≢ s.me = λ same. apart (ap (λ (k : Server). k.0) (same ∙ pool.me)) in
+    let awaited = between_awaited w b from me letter rest letter.message well l paid there here other front refl kind.1 in
+    let x = some_of (serve s (by.Server from) letter)
+    ((expected_have_steps s (by.Server from) letter).1 (of_run, other, small, awaited)) in
+    let open_still : s.kept.shut ≡ false = false_from_ne_true s.kept.shut (λ on. let one = pool.shut on in apart (omega arith)) in
+    let going : has_ended s ≡ false = ap (λ t. t && list_all (λ (finished : Bool). finished) s.kept.finished) open_still in
+    let f = after_server w me (taken w (by.Server from) (by.Server me) rest) in
+    (f x.0, ap (λ k. cond k None (option_map f (serve s (by.Server from) letter))) going ∙ ap (option_map f) x.1)
+
 -- Any letter.
 
 handled_here : (w : World) (b : Bag) (from to : Actor) (letter : Letter) (rest : List Letter)
-    → IsWell w → IsLawful w b
+    → IsWell w → IsLawful w b → NoneOwes w
     → is_within w.config from ≡ true → is_within w.config to ≡ true → letter.stamp < stamp_limit
     → link w.links (place_of w.config from) (place_of w.config to) ≡ letter ∷ rest
     → (next : World) × (handle w from to (letter ∷ rest) ≡ Some next)
-handled_here w b (by.Rank from) (by.Rank to) letter rest well l f t small front =
+handled_here w b (by.Rank from) (by.Rank to) letter rest well l paid f t small front =
     let kind : false ≡ true = fits w (by.Rank from) (by.Rank to) letter rest well f t front in absurd (cc)
-handled_here w b (by.Server from) (by.Server to) letter rest well l f t small front =
-    let kind : false ≡ true = fits w (by.Server from) (by.Server to) letter rest well f t front in absurd (cc)
-handled_here w b (by.Rank from) (by.Server to) letter rest well l f t small front =
+handled_here w b (by.Server from) (by.Server to) letter rest well l paid f t small front =
+    between w b from to letter rest well l paid (ltb-true from.0 w.config.servers f) (ltb-true to.0 w.config.servers t) small front
+handled_here w b (by.Rank from) (by.Server to) letter rest well l paid f t small front =
     to_server w b from to letter rest well l (ltb-true from.0 w.config.ranks f) (ltb-true to.0 w.config.servers t) small front
-handled_here w b (by.Server from) (by.Rank to) letter rest well l f t small front =
+handled_here w b (by.Server from) (by.Rank to) letter rest well l paid f t small front =
     to_rank w b from to letter rest well l (ltb-true from.0 w.config.servers f) (ltb-true to.0 w.config.ranks t) small front
 
 pub none_is_stuck : (config : Config) (events : List Event) (w : World)
@@ -388,5 +474,5 @@ none_is_stuck config events w run from to letter rest f t front small =
     let l = every_run_lawful config events w run in
     let well = every_run_well config events w run in
     let letters = link w.links (place_of w.config from) (place_of w.config to) in
-    let here = handled_here w l.0 from to letter rest well l.1 f t small front in
+    let here = handled_here w l.0 from to letter rest well l.1 (every_run_paid config events w run) f t small front in
     (here.0, ap (λ k. cond k (handle w from to letters) None) (and_from _ _ f t) ∙ ap (handle w from to) front ∙ here.1)

@@ -242,7 +242,7 @@ event_in_line w next from me letter rest x well line does =
     let stamp = next_stamp s letter in
     let later : s.clock < max s.clock letter.stamp + 1 = omega arith in
     let inside = inside_servers w me well does.here in
-    let chain = event_chain w next from me letter rest x inside does in
+    let chain = event_chain w next from me letter rest x inside (well.own.servers me does.here).wishes does in
     let clock : (pool_of (ticks w me stamp) me).clock ≡ stamp =
     ap (λ (t : ServerModel). t.clock) (pool_there w me (ticked s stamp) inside) in
     let first : IsTimely me (ticks w me stamp) = record { line = tick_in_line w me stamp well does.here later line; some = omega arith } in
@@ -269,7 +269,7 @@ kept_in_line w next well line (A_request {from = from} {me = me} {letter = lette
 
 -- At the start.
 
-empty_link : (n a b : ℕ) → a < n → link (replicate n (replicate n [])) a b ≡ []
+pub empty_link : (n a b : ℕ) → a < n → link (replicate n (replicate n [])) a b ≡ []
 empty_link n a b below =
     let none : List Letter = [] in
     ap (λ r. get_or r b none) (get_or-replicate n a (replicate n none) [] below) ∙ same_always n b none

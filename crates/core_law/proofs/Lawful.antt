@@ -1,5 +1,5 @@
 -- In every run the ledger is a legal run of the bag, in which each rank has its seat and with which each server agrees.
-use Rattle.std.proofs.Common.{◌≡◌, ◌<◌, ℕ, zero, suc, false, List, [], ◌∷◌, Option, Some, None, refl, sym, ap, ◌∙◌, subst, arith, append-nil, slice_get, replicate}
+use Rattle.std.proofs.Common.{◌≡◌, ◌<◌, ℕ, zero, suc, List, [], ◌∷◌, Option, Some, None, refl, sym, ap, ◌∙◌, subst, arith, append-nil, slice_get, replicate}
 use Rattle.std.specs.Prelude.{option_and_then}
 use Rattle.std.proofs.lemmas.List.Elements.{All-nil}
 use Rattle.adlb_unit.specs.declared.configs.Config.{Config}
@@ -27,7 +27,7 @@ use Rattle.core_run.specs.World.{World, client_of, happens, pool_of, start}
 use Rattle.core_law.specs.Lawful.{IsFact, IsLawful, IsSeat, OfCall}
 use Rattle.core_law.specs.Letters.{call_letter, one_letter}
 use Rattle.core_law.specs.Measures.{measure, weights}
-use Rattle.core_law.specs.Seats.{HasSeat, IsSeated, travels}
+use Rattle.core_law.specs.Seats.{AreMoving, HasSeat, IsSeated, AreBrought}
 use Rattle.core_law.specs.Well.{IsWell}
 use Rattle.core_law.proofs.ActLawful.{event_lawful}
 use Rattle.core_law.proofs.EveryRun.{begins_well, client_at, pool_at, run_config, well_kept}
@@ -36,6 +36,9 @@ use Rattle.core_law.proofs.Owed.{letters_are}
 use Rattle.core_law.proofs.RankSteps.{weighs_nothing}
 use Rattle.core_law.proofs.Steps.{A_call, A_request, An_answer, Does, happens_does}
 use Rattle.core_law.proofs.UnderWay.{weaker, zero_on}
+use Rattle.core_law.specs.Pushed.{IsPushed}
+use Rattle.core_law.proofs.RankPushes.{start_pushed}
+use Rattle.core_law.proofs.Brought.{are_brought}
 
 -- what is lawful, with some bag
 abbrev pub Lawful : World → Type 0
@@ -85,9 +88,9 @@ starts_lawful : (config : Config) → IsLawful (start config) (empty_bag config)
 starts_lawful config = record {
   run = refl;
   rests = refl;
-  still = record { unpromised = refl; lodged = All-nil (λ (u : _). travels u.place ≡ false) };
   seats = λ me within. (None, starts_seat config me within);
   pools = λ k there. rw (pool_at config k there) (start_agrees config k there);
+  pushed = start_pushed config;
 }
 
 -- Along every run.
@@ -150,11 +153,28 @@ ledger_tells config events w rank within run =
 
 pub actors_seated : (config : Config) (events : List Event) (w : World) → Runs (start config) events w → (b : Bag) × IsSeated w b
 actors_seated config events w run =
-    let l = every_run_lawful config events w run in
-    (l.0, record { run = l.1.run; ranks = λ me within. seat w l.0 me (l.1.seats me within); servers = l.1.pools; still = l.1.still })
+    let l = every_run_lawful config events w run in (
+      l.0,
+      record {
+        run = l.1.run;
+        ranks = λ me within. seat w l.0 me (l.1.seats me within);
+        servers = l.1.pools;
+        moving = moving w l.0 l.1.pushed;
+      },
+    )
   where
     seat : (w : World) (b : Bag) (me : Rank) → (coming : Option Message) × IsSeat w b me coming → HasSeat w b me
     seat w b me its = record { coming = its.0; stands = its.1.stands; says = its.1.said }
+
+    moving : (w : World) (b : Bag) → IsPushed w b → AreMoving w b
+    moving w b pushed = record { travels = pushed.travels; rooms = pushed.rooms }
+
+pub units_are_brought : (config : Config) (events : List Event) (w : World) → Runs (start config) events w
+    → (b : Bag) × IsRun (empty_bag config) w.ledger b × AreBrought w b
+units_are_brought config events w run =
+    let l = every_run_lawful config events w run in
+    let same = run_config (start config) w events run in
+    (l.0, subst (λ (c : Config). IsRun (empty_bag c) w.ledger l.0) same l.1.run, are_brought w l.0 l.1.pushed)
 
 -- A run as a relation and as a function.
 

@@ -21,15 +21,18 @@ use Rattle.rank_client.specs.Step.{Made}
 use Rattle.rank_client.proofs.Begins.{begins}
 use Rattle.rank_client.proofs.Hears.{hears}
 use Rattle.core_run.specs.World.{World, client_of, taken}
-use Rattle.core_law.specs.Lawful.{IsLawful, OfCall, OnLinks}
-use Rattle.core_law.specs.Letters.{call_letter, one_letter}
+use Rattle.core_law.specs.Lawful.{IsLawful, OfCall}
+use Rattle.core_law.specs.OnLinks.{OnLinks}
+use Rattle.core_law.specs.Letters.{any_remote, call_letter, one_letter}
 use Rattle.core_law.specs.Measures.{Weights, links_weight, measure, weights}
 use Rattle.core_law.specs.Well.{IsShaped, IsWell}
 use Rattle.core_law.proofs.EveryRun.{answer_heard, answer_within, call_began, call_within}
+use Rattle.core_law.proofs.Nowhere.{waits_nowhere}
 use Rattle.core_law.proofs.Owed.{letters_are}
 use Rattle.core_law.proofs.RankSteps.{IsRankStep, rank_lawful}
 use Rattle.core_law.proofs.Steps.{Begins, Hears, taken_shaped, taken_weight}
 use Rattle.core_law.proofs.UnderWay.{at_front, taken_on, zero_on}
+use Rattle.core_law.proofs.RankPushes.{heard_leaves}
 
 pub no_letters : (m : Weights) (w : World) → measure m w ≡ 0 → links_weight w.config m w.links ≡ 0
 unfolding measure
@@ -85,7 +88,8 @@ call_lawful w next me call x b well l does =
       here = does.here;
       square = square;
       none = zero_on (weights (one_letter me)) w.config w.links square (no_letters (weights (one_letter me)) w empty);
-      never = λ request types is none. let both : waits_for.Nothing ≡ waits_for.Reserve request types = sym shape.free ∙ is in absurd (cc);
+      servers = λ f is. refl;
+      nowhere = waits_nowhere w w.links me well empty refl;
       own = shape.own;
       entries = shape.entries;
       notes = notes_held c.handles (note_coming c.pending its.0) (holds x.state None) shape.notes;
@@ -124,12 +128,14 @@ answer_lawful w next from me letter rest x b well l does =
     let weight : call_letter me (by.Server from) (by.Rank me) m ≡ 1 = rw (eq-eqb me.0 me.0 refl) refl in
     let took = taken_weight one w (by.Server from) (by.Rank me) letter rest well.shape server rank does.front in
     omega arith in
+    let beside = taken_weight (weights (any_remote me)) w (by.Server from) (by.Rank me) letter rest well.shape server rank does.front in
     let shaped : IsShaped left = taken_shaped w (by.Server from) (by.Rank me) rest well.shape server rank in
     let step : IsRankStep w me links its.0 x b f.0 = record {
       here = does.here;
       square = shaped.square;
       none = zero_on one w.config links shaped.square (no_letters one left empty);
-      never = λ request types is none. let both : None ≡ Some m = sym none ∙ comes in absurd (cc);
+      servers = heard_leaves w from me letter rest well.shape server rank does.front;
+      nowhere = waits_nowhere w links me well empty (omega (arith, beside));
       own = shape.own;
       entries = shape.entries;
       notes = subst (λ (o : Option Message). All (Contains (holds c o)) (holds x.state None)) (sym comes) shape.notes;

@@ -1,13 +1,12 @@
 -- What the entries of a server make of the rank whose batch begins or ends, or that fetches common bytes.
-use Rattle.std.proofs.Common.{◌≡◌, ◌⊎◌, inl, inr, ◌+◌, ℕ, Bool, true, false, cond, List, [], ◌∷◌, ◌++◌, length, Option, Some, None, refl, sym, ap, ◌∙◌, subst, find, append-nil}
-use Rattle.std.specs.Prelude.{All, option_and_then, option_map}
+use Rattle.std.proofs.Common.{◌≡◌, inl, inr, ◌+◌, ℕ, Bool, true, false, cond, List, [], ◌∷◌, ◌++◌, length, Option, Some, None, refl, sym, ap, ◌∙◌, find, append-nil}
+use Rattle.std.specs.Prelude.{option_and_then}
 use Rattle.adlb_unit.specs.Ids.{same_batch, same_unit}
 use Rattle.bag_ledger.specs.declared.states.Placed.{Placed as Lodged}
 use Rattle.adlb_unit.specs.declared.messages.Message.{Message}
 use Rattle.adlb_unit.specs.declared.messages.Message.TheVariants as tells
 use Rattle.adlb_unit.specs.declared.names.BatchId.{BatchId}
 use Rattle.adlb_unit.specs.declared.names.CommonRef.{CommonRef}
-use Rattle.adlb_unit.specs.declared.names.Rank.{Rank}
 use Rattle.adlb_unit.specs.declared.names.Server.{Server}
 use Rattle.adlb_unit.specs.declared.notes.UnitNote.{UnitNote}
 use Rattle.adlb_unit.proofs.Same.{same_batch_from}
@@ -19,19 +18,19 @@ use Rattle.bag_ledger.specs.declared.entries.Said.{Said}
 use Rattle.bag_ledger.specs.declared.states.Part.{Part as Lot}
 use Rattle.bag_ledger.specs.declared.states.RankState.{RankState}
 use Rattle.bag_ledger.specs.declared.states.Status.TheVariants as does
-use Rattle.bag_ledger.specs.Bag.{Bag, keeping as kept_call, part_of, rank_at, unit_of}
-use Rattle.bag_ledger.specs.Runs.{IsRun, calls_from, says}
-use Rattle.bag_ledger.specs.Steps.{Legal, after, declined_by, ended, kept, new_part, with_part, with_rank}
+use Rattle.bag_ledger.specs.Bag.{Bag, keeping as kept_call, part_of, rank_at}
+use Rattle.bag_ledger.specs.Runs.{IsRun, says}
+use Rattle.bag_ledger.specs.Steps.{after, declined_by, ended, kept, new_part, with_part, with_rank}
 use Rattle.bag_law.proofs.Turn.{PartIs, found_new, part_is}
 use Rattle.batch_store.specs.Store.{is_due}
 use Rattle.batch_store.specs.declared.parts.Part.{Part}
 use Rattle.rank_client.specs.declared.pendings.Pending.{Pending}
 use Rattle.rank_client.specs.declared.pendings.Pending.TheVariants as waits_for
-use Rattle.rank_client.specs.Agreement.{HasAccepted, IsOwed, IsOwedIn, in_call, keeping as rank_keeping, running}
+use Rattle.rank_client.specs.Agreement.{HasAccepted, IsOwedIn, in_call, keeping as rank_keeping, running}
 use Rattle.rank_client.specs.Rules.{asked, begun_batch}
 use Rattle.rank_client.specs.State.{ClientModel}
 use Rattle.server_law.specs.Acts.{batch_of, frees, unit_of as unit_named}
-use Rattle.core_law.proofs.Coming.{Comes, Waits, accepted_same, no_call, one_call, rank_changed, ring_next, single, still_same}
+use Rattle.core_law.proofs.Coming.{Comes, Waits, accepted_same, no_call, one_call, rank_changed, ring_next, single}
 use Rattle.core_law.proofs.Gone.{facts_same}
 
 -- A part is freed behind the entry, if it is due then.
@@ -74,7 +73,6 @@ freed_comes c p a b e me batch k =
       facts = facts_same n d _ refl k.facts;
       owed = owed_same n d p (Some a) refl k.owed;
       accepted = accepted_turned n batch (λ q. record q { freed = true }) (λ q. refl) (λ q. refl) _ _ k.accepted;
-      still = still_same n d refl refl k.still;
     }
 
 -- an entry, and behind it the freeing of a part that is due
@@ -120,7 +118,6 @@ kept_comes c request common first tried me b next w is new run =
       owed = tt;
       accepted = (lot, found_new (λ (q : Lot). same_batch q.batch batch) b.parts lot new (same_batch_from batch batch refl), refl);
       facts = facts_same b d (c.handles ++ []) refl w.facts;
-      still = still_same b d refl refl w.still;
     })
 
 pub part_refused_comes : (c : ClientModel) (request : ℕ) (common : List ℕ) (first : Server) (tried : ℕ) (me : Server) (b next : Bag) (used : ℕ)
@@ -142,7 +139,6 @@ part_refused_comes c request common first tried me b next used w is run =
       owed = tt;
       accepted = accepted_same b d c.batch c.accepted refl w.accepted;
       facts = facts_same b d (c.handles ++ []) refl w.facts;
-      still = still_same b d refl refl w.still;
     })
 
 -- It ends.
@@ -169,7 +165,6 @@ closed_comes c request common batch me b next w own run =
       owed = tt;
       accepted = tt;
       facts = facts_same b d (c.handles ++ []) refl w.facts;
-      still = still_same b d refl refl w.still;
     })
 
 -- Common bytes come.
@@ -195,5 +190,4 @@ common_comes c request note common own batch lot me b next w there run =
       owed = w.owed;
       accepted = accepted_turned b batch g (λ q. refl) (λ q. refl) c.batch c.accepted w.accepted;
       facts = facts_same b d (c.handles ++ []) refl w.facts;
-      still = still_same b d refl refl w.still;
     })

@@ -16,7 +16,7 @@ use Rattle.server_law.specs.Carried.{all_counted, counted, posted, stamped}
 use Rattle.server_law.specs.State.{ServerModel}
 use Rattle.core_run.specs.World.{actors}
 use Rattle.core_law.specs.Acting.{AreSaid}
-use Rattle.core_law.specs.Lawful.{Each}
+use Rattle.core_law.specs.OnLinks.{Each}
 use Rattle.core_law.specs.Lines.{AreConsecutive, AreStamped, rank_sent, server_sent}
 use Rattle.core_law.proofs.Fifo.{letters_for}
 use Rattle.core_law.proofs.Posts.{lettered}

@@ -7,7 +7,7 @@ use Rattle.adlb_unit.specs.declared.messages.Message.{Message}
 use Rattle.rank_client.specs.Rules.{ClientSaying}
 use Rattle.rank_client.specs.State.{ClientModel}
 use Rattle.rank_client.specs.Step.{Made, counted, post as post_requests, posted as request_posted}
-use Rattle.core_law.specs.Lawful.{Each}
+use Rattle.core_law.specs.OnLinks.{Each}
 use Rattle.core_law.specs.Measures.{weigh}
 
 -- the letters of these sayings in order

@@ -3,9 +3,9 @@ use Rattle.core_law.proofs.Notes.{notes_same}
 use Rattle.rank_client.proofs.Begins.{found_is}
 use Rattle.rank_client.specs.Agreement.{holds}
 use Rattle.std.proofs.Common.{◌≡◌, ◌≤◌, ◌<◌, ℕ, zero, suc, ◌+◌, ◌^◌, ◌%◌, Bool, true, false, ◌&&◌, not, List, [], length, map, filter, Option, Some, None, refl, sym, ap, ◌∙◌, subst, arith, ℤ}
-use Rattle.std.specs.Prelude.{◌==◌, All, is_none, nat_le, Contains}
+use Rattle.std.specs.Prelude.{All, is_none, nat_le, Contains}
 use Rattle.std.specs.List.{range_with_len}
-use Rattle.std.proofs.lemmas.Bool.{and_parts, eqb-true, leb-true, not-true}
+use Rattle.std.proofs.lemmas.Bool.{and_parts, leb-true, not-true}
 use Rattle.std.proofs.lemmas.List.Elements.{All-filter, All-push, All-weaker, filter_passes, All-contains_itself}
 use Rattle.std.proofs.lemmas.Nat.{mod_below}
 use Rattle.std.proofs.Math.Nat.{mod-eq_of_lt}
@@ -35,7 +35,8 @@ use Rattle.rank_client.specs.Rules.{ClientResponse, ClientSaying, asked, asks, c
 use Rattle.rank_client.specs.State.{ClientModel}
 use Rattle.adlb_unit.specs.Ring.{behind}
 use Rattle.rank_client.specs.Step.{Made, begin, call_stamp, made, ticked}
-use Rattle.core_law.specs.Lawful.{Each, IsAsked}
+use Rattle.core_law.specs.Lawful.{IsAsked}
+use Rattle.core_law.specs.OnLinks.{Each}
 use Rattle.core_law.specs.Measures.{weigh}
 use Rattle.core_law.specs.Own.{IsAt, IsCall, IsClient, IsNote}
 use Rattle.core_run.specs.World.{server_named}
@@ -147,11 +148,11 @@ module _ (run : Config) (me : Rank) (s : ClientModel) (own : IsClient run me s) 
       (record { rank = refl; call = refl; batch = refl; size = size; target = aim }, s.config.servers_within.0)
       (first_within s target) own.notes (notes_same s.handles)
 
-  reserve_opens : (types : Option (List WorkType)) (end : Option End) → s.config.servers ≡ 1 → Began run me s (made (reserve now types end))
-  reserve_opens types (Some end) one = over_opens s.puts _ _ end (refl, λ b. (_, refl))
-  reserve_opens types None one =
+  reserve_opens : (types : Option (List WorkType)) (end : Option End) → Began run me s (made (reserve now types end))
+  reserve_opens types (Some end) = over_opens s.puts _ _ end (refl, λ b. (_, refl))
+  reserve_opens types None =
       let some : 0 < s.config.servers = s.config.servers_within.0 in
-      asks_opens s.puts s.handles _ (home s.config s.me) _ _ (refl, λ b. (_, refl)) (refl, refl) (refl, one)
+      asks_opens s.puts s.handles _ (home s.config s.me) _ _ (refl, λ b. (_, refl)) (refl, refl) refl
       (mod_below s.me.0 s.config.servers some) own.notes (notes_same s.handles)
 
   look_opens : (types : Option (List WorkType)) (end : Option End) → Began run me s (made (look now types end))
@@ -226,8 +227,7 @@ module _ (run : Config) (me : Rank) (s : ClientModel) (own : IsClient run me s) 
       if_some (λ z. Began run me s (made z)) (nat_le (length body) (2 ^ 20) && in_ranks s.config target) _
       (λ is. let parts = and_parts (nat_le (length body) (2 ^ 20)) (in_ranks s.config target) is in
       put_opens kind prio target answer body s.end (leb-true (length body) (2 ^ 20) parts.0) parts.1)
-  call_opens (calls_to.Reserve types) =
-      if_some (λ z. Began run me s (made z)) (s.config.servers == 1) _ (λ is. reserve_opens types s.end (eqb-true s.config.servers 1 is))
+  call_opens (calls_to.Reserve types) = reserve_opens types s.end
   call_opens (calls_to.Try types) = look_opens types s.end
   call_opens (calls_to.Fetch id) = fetch_opens id (held s id) refl
   call_opens (calls_to.BeginBatch common) =

@@ -2,7 +2,7 @@
 use Rattle.core_law.proofs.Notes.{notes_in}
 use Rattle.rank_client.specs.Agreement.{note_coming}
 use Rattle.std.proofs.Common.{max, ◌≡◌, ◌<◌, ℕ, ◌+◌, ◌^◌, Bool, true, false, ◌&&◌, not, List, [], ◌∷◌, ◌++◌, length, Option, Some, None, refl, ap, ◌∙◌, subst, arith, append-nil}
-use Rattle.std.specs.Prelude.{◌==◌, All, is_none, nat_lt, Contains}
+use Rattle.std.specs.Prelude.{◌==◌, All, nat_lt, Contains}
 use Rattle.std.proofs.lemmas.Bool.{and_parts, eqb-true, ltb-true, not-true}
 use Rattle.std.proofs.lemmas.List.Elements.{All-push, All-contains_itself, All-same}
 use Rattle.std.proofs.lemmas.Nat.{mod_below}
@@ -25,7 +25,7 @@ use Rattle.rank_client.specs.declared.pendings.Pending.TheVariants as waits_for
 use Rattle.rank_client.specs.Rules.{ClientResponse, answer_call, asked, begun_batch, ends, expects_note, hear_close, hear_common, hear_count, hear_fetch, hear_keep, hear_look, hear_put, hear_reserve, is_at_server, is_for, is_idle, looked, looks_at, own_came, part_refused, refused}
 use Rattle.rank_client.specs.State.{ClientModel}
 use Rattle.rank_client.specs.Step.{hear, letter_stamp, made, ticked}
-use Rattle.core_law.specs.Lawful.{Each}
+use Rattle.core_law.specs.OnLinks.{Each}
 use Rattle.adlb_unit.specs.Kinds.{is_to_rank}
 use Rattle.core_law.specs.Letters.{request_of}
 use Rattle.core_law.specs.Own.{IsAt, IsCall, IsClient, IsNote}
@@ -154,12 +154,12 @@ module _ (run : Config) (me : Rank) (s : ClientModel) (own : IsClient run me s) 
         _
         (λ for. let parts = and_parts (is_for request (home s.config s.me) from to) (expects_note now note) for in
         ended (waits_for.Reserve request types) (tells.Grant to note) s.end s.batch s.accepted (s.handles ++ note ∷ []) [] _ _ is refl refl
-        (number request (home s.config s.me) from to parts.0 (call_is (waits_for.Reserve request types) is).0) tt own.batch
+        (number request (home s.config s.me) from to parts.0 (call_is (waits_for.Reserve request types) is)) tt own.batch
         (All-push (IsNote s.config) s.handles note own.notes (known note parts.1)) (All-contains_itself (s.handles ++ note ∷ [])))
     reserve_heard request types from (tells.Ended to end) is =
         if_some (λ z. Heard run me s (tells.Ended to end) (made z)) (is_for request (home s.config s.me) from to) _
         (λ for. ended (waits_for.Reserve request types) (tells.Ended to end) (Some end) s.batch s.accepted s.handles [] _ _ is refl refl
-        (number request (home s.config s.me) from to for (call_is (waits_for.Reserve request types) is).0) tt own.batch own.notes
+        (number request (home s.config s.me) from to for (call_is (waits_for.Reserve request types) is)) tt own.batch own.notes
         (notes_in s.handles []))
     reserve_heard request types from _ is = tt
 

@@ -21,7 +21,8 @@ use Rattle.rank_client.specs.declared.pendings.Pending.TheVariants as waits_for
 use Rattle.rank_client.specs.Rules.{ClientResponse, farewell, is_idle}
 use Rattle.rank_client.specs.State.{ClientModel}
 use Rattle.rank_client.specs.Step.{Made, made}
-use Rattle.core_law.specs.Lawful.{Each, IsAsked}
+use Rattle.core_law.specs.Lawful.{IsAsked}
+use Rattle.core_law.specs.OnLinks.{Each}
 use Rattle.adlb_unit.specs.Kinds.{is_to_rank}
 use Rattle.core_law.specs.Letters.{is_request, request_of}
 use Rattle.core_law.specs.Measures.{weigh}
@@ -127,7 +128,7 @@ asked_busy s (waits_for.Count request kind) to m a = refl
 pub asked_number : (s : ClientModel) (p : Pending) (to : Server) (m : Message) → IsCall s p → IsAsked s p to m → request_of m + 1 ≡ s.next
 asked_number s waits_for.Nothing to m call a = absurd a
 asked_number s (waits_for.Put unit first tried) to m call a = ap (λ k. request_of k + 1) a.0 ∙ call.0.call
-asked_number s (waits_for.Reserve request types) to m call a = ap (λ k. request_of k + 1) a.0 ∙ call.0
+asked_number s (waits_for.Reserve request types) to m call a = ap (λ k. request_of k + 1) a.0 ∙ call
 asked_number s (waits_for.Try request types tried) to m call a = ap (λ k. request_of k + 1) a.0 ∙ call.0
 asked_number s (waits_for.Fetch request note) to m call a = ap (λ k. request_of k + 1) a.0 ∙ call.0
 asked_number s (waits_for.Common request note common own) to m call a = ap (λ k. request_of k + 1) a.0 ∙ call.0

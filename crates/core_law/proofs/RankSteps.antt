@@ -2,17 +2,15 @@
 use Rattle.std.proofs.Common.{◌≡◌, ◌≢◌, ◌<◌, ◌⊎◌, inl, inr, false, ◌==◌, List, [], ◌∷◌, ◌++◌, Option, Some, None, refl, sym, ap, ◌∙◌, subst, arith, append-nil}
 use Rattle.std.specs.Prelude.{All, Contains}
 use Rattle.std.proofs.lemmas.Bool.{cases_eq, eq-eqb, eqb-true, false_from_ne_true, lt-ltb}
-use Rattle.std.proofs.lemmas.List.Elements.{All-head, All-tail}
 use Rattle.std.proofs.lemmas.List.{get_or-set_other, get_or-set_same}
 use Rattle.adlb_unit.specs.declared.actors.Actor.{Actor}
 use Rattle.adlb_unit.specs.declared.actors.Actor.TheVariants as by
-use Rattle.adlb_unit.specs.declared.configs.Config.{Config}
 use Rattle.adlb_unit.specs.declared.letters.Letter.{Letter}
 use Rattle.adlb_unit.specs.declared.letters.Sending.{Sending}
 use Rattle.adlb_unit.specs.declared.messages.Message.{Message}
+use Rattle.adlb_unit.specs.declared.messages.Message.TheVariants as tells
 use Rattle.adlb_unit.specs.declared.names.Rank.{Rank}
 use Rattle.adlb_unit.specs.declared.names.Server.{Server}
-use Rattle.adlb_unit.specs.declared.names.WorkType.{WorkType}
 use Rattle.bag_ledger.specs.declared.entries.Entry.{Entry}
 use Rattle.bag_ledger.specs.Bag.{Bag, has_due, start as empty_bag, settled}
 use Rattle.bag_ledger.specs.Runs.{IsRun, calls, calls_from}
@@ -21,25 +19,26 @@ use Rattle.bag_ledger.proofs.Legal.{run_joined}
 use Rattle.bag_ledger.specs.Steps.{Steps}
 use Rattle.bag_law.specs.Sound.{IsSoundBag}
 use Rattle.bag_law.proofs.Sound.{run_is_sound, step_keeps_sound}
-use Rattle.rank_client.specs.declared.pendings.Pending.TheVariants as waits_for
 use Rattle.rank_client.specs.Agreement.{ClientAgrees, holds, said}
 use Rattle.rank_client.specs.State.{ClientModel, start as new_client}
 use Rattle.rank_client.specs.Step.{Made}
 use Rattle.server_law.specs.Agreement.{ServerAgrees}
-use Rattle.server_law.specs.State.{Waiting}
+use Rattle.reserve_path.specs.declared.waits.Waiting.{Waiting}
 use Rattle.core_run.specs.World.{Links, World, actors, after_rank, client_of, pool_of, rank_named}
-use Rattle.core_law.specs.Lawful.{Each, IsLawful, IsOfCall, IsSeat, IsWaiting, OfCall, OnLinks}
-use Rattle.core_law.specs.Letters.{call_letter}
+use Rattle.core_law.specs.Lawful.{IsLawful, IsOfCall, IsOfRemote, IsSeat, IsWaiting, OfCall}
+use Rattle.core_law.specs.OnLinks.{Each, OnLinks}
+use Rattle.core_law.specs.Letters.{call_letter, one, remote_letter}
 use Rattle.core_law.specs.Others.{teller, tells_of}
-use Rattle.core_law.specs.Own.{IsClient, IsEntry}
+use Rattle.core_law.specs.Own.{IsClient}
 use Rattle.core_law.specs.Well.{IsSquare, IsWell}
-use Rattle.core_law.proofs.Coming.{still_same}
 use Rattle.core_law.proofs.Gone.{facts_of, facts_same}
 use Rattle.core_law.proofs.OtherCalls.{calls_stay}
 use Rattle.core_law.proofs.OtherRanks.{clients_stay}
 use Rattle.core_law.proofs.RankShapes.{ChangesRank, IsFarewell, It_asks, It_leaves, It_rests, Then}
 use Rattle.core_law.proofs.Sums.{AreWithin}
 use Rattle.core_law.proofs.UnderWay.{each_weaker, posted_on, weaker}
+use Rattle.core_law.specs.Pushed.{IsOfPush}
+use Rattle.core_law.proofs.RankPushes.{LeavesServers, rank_pushed}
 
 -- Entries that do not tell of a rank.
 
@@ -95,6 +94,16 @@ sent_by_other c coming me differs (y ∷ sends) = (of y.to, sent_by_other c comi
     of (by.Server to) = λ same request. absurd (differs same)
 
 -- where no letter of the rank is under way, each is what it should be
+pub one_is : (a b : Rank) → a ≡ b → one (a.0 == b.0) ≡ 1
+one_is a b same = let e = eq-eqb a.0 b.0 (ap (λ (r : Rank). r.0) same) in rw e refl
+
+remote_nothing : (c : ClientModel) (coming : Option Message) (me : Rank) (m : Message) → c.me ≡ me → remote_letter me m ≡ 0
+    → IsOfRemote c coming m
+remote_nothing c coming me (tells.Ask of request types) named none = λ who. let is = one_is of me (who ∙ named) in absurd (omega arith)
+remote_nothing c coming me (tells.AskGrant of request note) named none = λ who. let is = one_is of me (who ∙ named) in absurd (omega arith)
+remote_nothing c coming me (tells.AskNone of request) named none = λ who. let is = one_is of me (who ∙ named) in absurd (omega arith)
+remote_nothing c coming me _ named none = tt
+
 pub weighs_nothing : (c : ClientModel) (coming : Option Message) (me : Rank) (from to : Actor) (m : Message) → c.me ≡ me
     → call_letter me from to m ≡ 0 → IsOfCall c coming from to m
 weighs_nothing c coming me (by.Rank from) (by.Server to) m named none =
@@ -108,26 +117,20 @@ weighs_nothing c coming me (by.Server from) (by.Rank to) m named none =
     let one_is : call_letter me (by.Server from) (by.Rank to) m ≡ 1 = rw who refl in
     absurd (omega arith)
 weighs_nothing c coming me (by.Rank from) (by.Rank to) m named none = tt
-weighs_nothing c coming me (by.Server from) (by.Server to) m named none = tt
+weighs_nothing c coming me (by.Server from) (by.Server to) m named none = remote_nothing c coming me m named none
 
--- A rank of which something is decided, or whose call is not a reserve, waits nowhere.
-pub waits_nowhere : (config : Config) (t : Server) (c s : ClientModel) (coming now : Option Message) → s.me ≡ c.me
-    → ((request : _) (types : Option (List WorkType)) → c.pending ≡ waits_for.Reserve request types → coming ≡ None → ⊥)
-    → (es : List Waiting) → All (IsEntry config t) es → Each (IsWaiting c coming) es → Each (IsWaiting s now) es
-waits_nowhere config t c s coming now me never [] own each = tt
-waits_nowhere config t c s coming now me never (e ∷ es) own each =
-    let idle = (All-head (IsEntry config t) e es own).idle in (
-      λ of. let was = each.0 (of ∙ me) in absurd (never e.wish.request e.wish.types was.0 (was.1 idle)),
-      waits_nowhere config t c s coming now me never es (All-tail (IsEntry config t) e es own) each.1,
-    )
+-- of another rank
+abbrev pub IsNotOf : Rank → Waiting → Type 0
+IsNotOf me e = e.wish.rank ≢ me
 
--- What a step of the rank is, with the links on which its letters are sent. No letter of its call stands on them.
+-- What a step of the rank is, with the links on which its letters are sent. No letter of its call stands on them, what is between
+-- servers is as it was, and it waits nowhere.
 pub record IsRankStep (w : World) (me : Rank) (links : Links) (coming : Option Message) (x : Made) (b n : Bag) : Type 0 where
   pub here : me.0 < w.config.ranks
   pub square : IsSquare (actors w.config) links
   pub none : OnLinks (λ from to l. call_letter me from to l.message ≡ 0) w.config links
-  pub never : (request : _) (types : Option (List WorkType)) → (client_of w me).pending ≡ waits_for.Reserve request types → coming ≡ None
-      → ⊥
+  pub servers : LeavesServers w links
+  pub nowhere : (t : Server) → t.0 < w.config.servers → Each (IsNotOf me) (pool_of w t).kept.parked.waiting
   pub own : IsClient w.config me x.state
   pub entries : Each (ChangesRank (client_of w me).me) x.entries
   pub notes : All (Contains (holds (client_of w me) coming)) (holds x.state None)
@@ -155,7 +158,6 @@ own_seat w me links coming x b n well l seat is =
     (sent_of_call c x (named ∙ sym seat.named) is.after) in
     let rank = lt-ltb me.0 w.config.ranks is.here in
     let posted = posted_on (OfCall x.state None) w.config links (by.Rank me) x.sends is.square left rank is.within sent in
-    let who : x.state.me ≡ c.me = named ∙ sym seat.named in
     let now = ap (λ s. s ++ calls_from b x.entries c.me) seat.said in
     let its = ap (λ r. calls w.config w.ledger me ++ calls_from b x.entries r) seat.named in
     let grows = calls_split (empty_bag w.config) b w.ledger x.entries me l.run in
@@ -163,10 +165,9 @@ own_seat w me links coming x b n well l seat is =
       named = rw next named;
       stands = rw next is.stands;
       letters = rw next posted;
-      waits = λ t there.
-          let s = pool_of w t in
-          let own = (well.own.servers t there).waiting in
-          rw next (waits_nowhere w.config t c x.state coming None who is.never s.kept.parked.waiting own (seat.waits t there));
+      waits = λ t there. rw next
+          (each_weaker (IsNotOf me) (IsWaiting x.state None) (λ e differs of. absurd (differs (of ∙ named)))
+          (pool_of w t).kept.parked.waiting (is.nowhere t there));
       said = rw next (is.transcript ∙ now ∙ its ∙ sym grows);
       facts = rw next (facts_same b n (holds x.state None) units (facts_of b (holds c coming) (holds x.state None) is.notes seat.facts));
     }
@@ -207,11 +208,11 @@ pub rank_lawful : (w : World) (me : Rank) (links : Links) (coming : Option Messa
     → IsSeat w b me coming → IsRankStep w me links coming x b n → IsLawful (after_rank w me links x) n
 rank_lawful w me links coming x b n left well l seat is =
     let same = ranks_alone (client_of w me).me x.entries b n is.entries is.run in
-    let units : n.units ≡ b.units = ap (λ (m : Bag). m.units) same in
     record {
       run = run_joined (empty_bag w.config) b n w.ledger x.entries l.run is.run;
       rests = ap has_due same ∙ l.rests;
-      still = still_same b n units (ap (λ (m : Bag). m.promises) same) l.still;
+      pushed = rank_pushed w me links x b n is.here is.within is.square is.servers
+          (left (λ from to y. IsOfPush b from to y.message) (l.pushed).letters) is.run is.entries l.pushed;
       seats = λ r within. by_rank r within (cases_eq r.0 me.0);
       pools = λ k there. subst (λ (m : Bag). ServerAgrees m (pool_of w k)) (sym same) (l.pools k there);
     }

@@ -1,5 +1,6 @@
 -- Where the only server finds that all work is used up, the bag is settled.
-use Rattle.std.proofs.Common.{◌≡◌, ◌<◌, ◌≤◌, ◌⊎◌, inl, inr, ℕ, zero, suc, ◌%◌, Bool, true, false, List, [], ◌∷◌, length, get_or, Some, refl, sym, ap, ◌∙◌, subst, arith}
+use Rattle.std.proofs.Common.{◌≡◌, ◌<◌, ◌≤◌, ◌⊎◌, inl, inr, ℕ, zero, suc, ◌%◌, Bool, true, false, List, [], ◌∷◌, length, get_or, Option, None, Some, refl, sym, ap, ◌∙◌, subst, arith}
+use Rattle.std.specs.Prelude.{IfSome}
 use Rattle.std.proofs.lemmas.Bool.{eq-eqb}
 use Rattle.std.proofs.lemmas.List.{length-replicate}
 use Rattle.std.proofs.lemmas.Option.{slice_get_within}
@@ -18,17 +19,21 @@ use Rattle.rank_client.specs.Agreement.{rank_of}
 use Rattle.server_law.specs.Acts.{Finds}
 use Rattle.server_law.specs.Expected.{IsHome, WaitsIdle}
 use Rattle.server_law.specs.Rest.{RestsAt, WaitsFor}
-use Rattle.server_law.specs.State.{Waiting, is_finished, start as new_pool}
+use Rattle.reserve_path.specs.Parked.{IsOther}
+use Rattle.reserve_path.specs.declared.waits.Waiting.{Waiting}
+use Rattle.server_law.specs.State.{is_finished, start as new_pool}
 use Rattle.server_law.proofs.OneServer.{one_has_all}
 use Rattle.server_law.proofs.Resting.{rest_is_settled}
 use Rattle.server_law.proofs.Tests.{quiet_is_tested}
 use Rattle.core_run.specs.World.{World, client_of, pool_of}
 use Rattle.core_law.specs.Acting.{IsAct}
-use Rattle.core_law.specs.Lawful.{Each, IsLawful, IsWaiting}
+use Rattle.core_law.specs.Lawful.{IsLawful, IsWaiting}
+use Rattle.core_law.specs.OnLinks.{Each}
 use Rattle.core_law.specs.Letters.{finishes, one}
 use Rattle.core_law.specs.Measures.{measure, server_weight, weigh_at}
 use Rattle.core_law.specs.Own.{IsEntry}
 use Rattle.core_law.specs.Well.{IsWell}
+use Rattle.core_law.proofs.Alone.{alone_unpromised}
 use Rattle.core_law.proofs.Answering.{IsReserveHere, waiting_call}
 use Rattle.core_law.proofs.Deciding.{asks_now}
 use Rattle.core_law.proofs.Fifo.{part_le}
@@ -74,15 +79,30 @@ each_at P [] i d each within = absurd (omega arith)
 each_at P (x ∷ xs) zero d each within = each.0
 each_at P (x ∷ xs) (suc i) d each within = each_at P xs i d each.1 (omega arith)
 
+-- where there is one server, no other is asked
+none_asked : (config : Config) (k : Server) (e : Waiting) → config.servers ≡ 1 → k.0 < config.servers → IsEntry config k e → e.asked ≡ None
+none_asked config k e alone here entry = by_asked e.asked refl entry.asked
+  where
+    by_asked : (o : Option Server) → e.asked ≡ o → IfSome o (IsOther config k) → e.asked ≡ None
+    by_asked None is other = is
+    by_asked (Some to) is other =
+        let within = other.0 in
+        let same : to.0 ≡ k.0 = omega arith in
+        absurd (other.1 same)
+
 module _ (w : World) (k : Server) (b : Bag) (well : IsWell w) (l : IsLawful w b) (is : IsAct w k Finds) where
-  -- each rank that waits is in that call
-  waits_at : (i : ℕ) (e : Waiting) → i < length (pool_of w k).kept.parked.waiting → get_or (pool_of w k).kept.parked.waiting i e ≡ e
-      → IsReserveHere w k b e.wish
-  waits_at i e within read =
+  entry_at : (i : ℕ) (e : Waiting) → i < length (pool_of w k).kept.parked.waiting → get_or (pool_of w k).kept.parked.waiting i e ≡ e
+      → IsEntry w.config k e
+  entry_at i e within read =
       let here = is.here in
       let pool = well.own.servers k here in
-      let entry : IsEntry w.config k e = subst (λ (x : Waiting). IsEntry w.config k x) read (pool.waiting i e within) in
-      waiting_call w k b e well l entry (λ coming seat.
+      subst (λ (x : Waiting). IsEntry w.config k x) read (pool.waiting i e within)
+
+  -- each rank that waits and is idle is in that call
+  waits_at : (i : ℕ) (e : Waiting) → i < length (pool_of w k).kept.parked.waiting → get_or (pool_of w k).kept.parked.waiting i e ≡ e
+      → e.asked ≡ None → IsReserveHere w k b e.wish
+  waits_at i e within read idle =
+      waiting_call w k b e well l (entry_at i e within read) idle (λ coming seat.
       let P : Waiting → Type 0 = IsWaiting (client_of w e.wish.rank) coming in
       subst P read (each_at P (pool_of w k).kept.parked.waiting i e (seat.waits k is.here) within))
 
@@ -102,7 +122,8 @@ module _ (w : World) (k : Server) (b : Bag) (well : IsWell w) (l : IsLawful w b)
   asking_in_bag : (rank : Rank) (r : RankState) → rank_at b rank ≡ Some r → WaitsIdle (pool_of w k) rank
       → WaitsFor (pool_of w k).kept.parked.waiting rank r
   asking_in_bag rank r there (i, e, within, read, (same, idle)) =
-      let asks = asks_now w k b well l is.here e.wish (waits_at i e within read) in
+      let h = waits_at i e within read idle in
+      let asks = asks_now w k b well l is.here e.wish h.calling in
       let one : asks.0 ≡ r = some_is (sym asks.1 ∙ ap (rank_at b) same ∙ there) in
       (i, e, within, read, (same, ap (λ (x : RankState). x.status) (sym one) ∙ asks.2))
 
@@ -119,15 +140,16 @@ module _ (w : World) (k : Server) (b : Bag) (well : IsWell w) (l : IsLawful w b)
       let here = is.here in
       let pool = well.own.servers k here in
       let agrees = l.pools k here in
-      let still = l.still in
       let alone : w.config.servers ≡ 1 = ap (λ (c : Config). c.servers) (sym pool.config) ∙ sure.alone in
       let zeroth : (pool_of w k).me.0 ≡ 0 = let n = agrees.within in let a = sure.alone in omega arith in
       let first_waits : get_or (pool_of w k).kept.parked.waiting 0 sure.first ≡ sure.first = rw (sure.waits) refl in
       let some : 0 < length (pool_of w k).kept.parked.waiting = rw (sure.waits) (omega arith) in
+      let idle = none_asked w.config k sure.first alone is.here (entry_at 0 sure.first some first_waits) in
+      let first_here = waits_at 0 sure.first some first_waits idle in
       record {
         agrees = l.pools k is.here;
         all = one_has_all w.config w.ledger b (pool_of w k).me alone zeroth l.run;
-        unpromised = still.unpromised;
+        unpromised = alone_unpromised w b well alone l.pushed;
         ranks = λ rank r there.
             let within = within_run rank r there in
             let alike : (pool_of w k).config.ranks ≡ w.config.ranks = ap (λ (c : Config). c.ranks) pool.config in
@@ -136,7 +158,7 @@ module _ (w : World) (k : Server) (b : Bag) (well : IsWell w) (l : IsLawful w b)
               | inl waits ↦ inr (asking_in_bag rank r there waits)
               | inr finished ↦ inl (finished_in_bag rank r within there finished)
             ];
-        asks = (sure.first.wish, asks_now w k b well l is.here sure.first.wish (waits_at 0 sure.first some first_waits));
+        asks = (sure.first.wish, asks_now w k b well l is.here sure.first.wish first_here.calling);
         unfit = sure.unfit;
       }
 

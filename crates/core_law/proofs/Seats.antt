@@ -1,7 +1,7 @@
 -- The seat of a rank through one act of a server: nothing of it changes, or its pending call is decided.
-use Rattle.std.proofs.Common.{◌≡◌, ◌<◌, ℕ, ◌+◌, ◌==◌, false, not, List, [], ◌∷◌, ◌++◌, length, set, Option, refl, sym, ap, ◌∙◌, subst, arith, append-nil}
+use Rattle.std.proofs.Common.{◌≡◌, ◌<◌, ℕ, ◌+◌, false, not, List, [], ◌∷◌, ◌++◌, length, set, Option, sym, ap, ◌∙◌, subst, arith, append-nil}
 use Rattle.std.specs.Prelude.{All}
-use Rattle.std.proofs.lemmas.Bool.{eq-eqb, lt-ltb}
+use Rattle.std.proofs.lemmas.Bool.{lt-ltb}
 use Rattle.std.proofs.lemmas.List.{length-set}
 use Rattle.adlb_unit.specs.declared.actors.Actor.{Actor}
 use Rattle.adlb_unit.specs.declared.actors.Actor.TheVariants as by
@@ -17,12 +17,14 @@ use Rattle.bag_law.proofs.Sound.{run_is_sound}
 use Rattle.rank_client.specs.Agreement.{ClientAgrees, holds, said}
 use Rattle.rank_client.specs.Rules.{is_idle}
 use Rattle.rank_client.specs.State.{ClientModel}
-use Rattle.server_law.specs.State.{ServerModel, Waiting, start as new_pool}
+use Rattle.reserve_path.specs.declared.waits.Waiting.{Waiting}
+use Rattle.server_law.specs.State.{ServerModel, start as new_pool}
 use Rattle.server_law.specs.Acts.{Act, comes, does, entries, goes, says, takes, waiting_after}
 use Rattle.server_law.specs.Carried.{done, sends}
 use Rattle.core_run.specs.World.{World, client_of, pool_of}
 use Rattle.core_law.specs.Acting.{IsAct, IsOwn, acted, taken_off}
-use Rattle.core_law.specs.Lawful.{Each, IsFact, IsOfCall, IsSeat, IsWaiting, OfCall, OnLinks}
+use Rattle.core_law.specs.Lawful.{IsFact, IsOfCall, IsSeat, IsWaiting, OfCall}
+use Rattle.core_law.specs.OnLinks.{Each, OnLinks}
 use Rattle.core_law.specs.Letters.{call_letter, call_waits, one, one_letter}
 use Rattle.core_law.specs.Measures.{IsBalanced, heard_weight, links_weight, measure, server_weight, weigh, weigh_at, weights}
 use Rattle.core_law.specs.Well.{IsShaped}
@@ -30,7 +32,7 @@ use Rattle.core_law.proofs.Actors.{every_pool}
 use Rattle.core_law.proofs.Acts.{counted_kept, sent_each, sent_within, taken_off_on, taken_square, taken_weight}
 use Rattle.core_law.proofs.Fifo.{part_le}
 use Rattle.core_law.proofs.Owed.{letters_are, no_sum}
-use Rattle.core_law.proofs.RankSteps.{AreSilent, run_silent, run_stands, weighs_nothing}
+use Rattle.core_law.proofs.RankSteps.{AreSilent, one_is, run_silent, run_stands, weighs_nothing}
 use Rattle.core_law.proofs.Sums.{weigh_at-set}
 use Rattle.core_law.proofs.UnderWay.{posted_on, weaker, zero_on}
 use Rattle.core_law.proofs.Waits.{each_after, waits}
@@ -38,7 +40,7 @@ use Rattle.core_law.proofs.Waits.{each_after, waits}
 -- Letters and who waits, after an act.
 
 -- all letters after an act: those that are left, and those that it sends
-letters_next : (P : Actor → Actor → Message → Type 0) (w : World) (k : Server) (a : Act) → IsShaped w → IsAct w k a → IsOwn w k a
+pub letters_next : (P : Actor → Actor → Message → Type 0) (w : World) (k : Server) (a : Act) → IsShaped w → IsAct w k a → IsOwn w k a
     → OnLinks (λ from to l. P from to l.message) w.config (taken_off w.config k w.links (takes a))
     → Each (λ y. P (by.Server k) y.to y.message) (says a (pool_of w k))
     → OnLinks (λ from to l. P from to l.message) w.config (acted w k a).links
@@ -143,9 +145,6 @@ is_bare w k a me shape is its =
     }
 
 -- of a rank that weighs nothing each letter is what it should be
-one_is : (a b : Rank) → a ≡ b → one (a.0 == b.0) ≡ 1
-one_is a b same = let e = eq-eqb a.0 b.0 (ap (λ (r : Rank). r.0) same) in rw e refl
-
 idle_nothing : (c : ClientModel) (coming now : Option Message) (me : Rank) (place : ℕ) (e : Waiting) → c.me ≡ me → IsWaiting c coming e
     → call_waits me place e ≡ 0 → IsWaiting c now e
 idle_nothing c coming now me place e named was none =

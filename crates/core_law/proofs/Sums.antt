@@ -1,5 +1,5 @@
 -- Sums over lists and over all links, where one element is set or some letters are sent.
-use Rattle.std.proofs.Common.{◌≡◌, ◌<◌, ℕ, zero, suc, ◌+◌, ◌-◌, true, false, List, [], ◌∷◌, ◌++◌, length, set, get_or, ap, ◌∙◌, arith, inl, inr, ltb}
+use Rattle.std.proofs.Common.{◌≡◌, ◌≢◌, ◌≤◌, ◌<◌, ℕ, zero, suc, ◌+◌, ◌-◌, true, false, List, [], ◌∷◌, ◌++◌, length, set, get_or, ap, ◌∙◌, arith, refl, inl, inr, ltb}
 use Rattle.std.proofs.lemmas.List.{length-set, get_or-set_same, get_or-set_other}
 use Rattle.std.proofs.lemmas.Bool.Decides.{nat_tests}
 use Rattle.std.proofs.lemmas.Bool.{ltb-true, cases_eq}
@@ -9,6 +9,7 @@ use Rattle.adlb_unit.specs.declared.actors.Actor.TheVariants as by
 use Rattle.adlb_unit.specs.declared.configs.Config.{Config}
 use Rattle.adlb_unit.specs.declared.letters.Letter.{Letter}
 use Rattle.adlb_unit.specs.declared.letters.Sending.{Sending}
+use Rattle.adlb_unit.specs.declared.messages.Message.{Message}
 use Rattle.core_run.specs.World.{Links, actors, link, post, put_link, row}
 use Rattle.core_law.specs.Measures.{Weights, actor, link_weight, links_weight, row_weight, sends_weight, weigh, weigh_at}
 use Rattle.core_law.specs.Well.{IsSquare}
@@ -16,6 +17,42 @@ use Rattle.core_law.specs.Well.{IsSquare}
 pub weigh-append : {X : Type 0} (f : X → ℕ) (xs ys : List X) → weigh f (xs ++ ys) ≡ weigh f xs + weigh f ys
 weigh-append f [] ys = omega arith
 weigh-append f (x ∷ xs) ys = let h = weigh-append f xs ys in omega arith
+
+-- a sum to which one place alone adds
+pub none_adds : {X : Type 0} (f : ℕ → X → ℕ) (xs : List X) → ((i : ℕ) (x : X) → f i x ≡ 0) → weigh_at f xs ≡ 0
+none_adds f [] zeros = refl
+none_adds f (x ∷ xs) zeros =
+    let here = zeros zero x in let later = none_adds (λ i. f (suc i)) xs (λ i. zeros (suc i)) in omega arith
+
+pub one_adds : {X : Type 0} (f : ℕ → X → ℕ) (xs : List X) (n : ℕ) (d : X) → n < length xs → ((i : ℕ) (x : X) → i ≢ n → f i x ≡ 0)
+    → weigh_at f xs ≡ f n (get_or xs n d)
+one_adds f [] n d inside others = absurd (omega arith)
+one_adds f (x ∷ xs) zero d inside others =
+    let later = none_adds (λ i. f (suc i)) xs (λ i y. others (suc i) y (λ e. absurd (omega arith))) in omega arith
+one_adds f (x ∷ xs) (suc n) d inside others =
+    let here = others zero x (λ e. absurd (omega arith)) in
+    let later = one_adds (λ i. f (suc i)) xs n d (omega arith) (λ i y differs. others (suc i) y (λ e. differs (omega arith))) in
+    omega arith
+
+-- what weighs less one by one weighs less in all
+weigh_le : {X : Type 0} (f g : X → ℕ) → ((x : X) → f x ≤ g x) → (xs : List X) → weigh f xs ≤ weigh g xs
+weigh_le f g less [] = omega arith
+weigh_le f g less (x ∷ xs) = let here = less x in let later = weigh_le f g less xs in omega arith
+
+weigh_at_le : {X : Type 0} (f g : ℕ → X → ℕ) → ((i : ℕ) (x : X) → f i x ≤ g i x) → (xs : List X) → weigh_at f xs ≤ weigh_at g xs
+weigh_at_le f g less [] = omega arith
+weigh_at_le f g less (x ∷ xs) =
+    let here = less zero x in let later = weigh_at_le (λ i. f (suc i)) (λ i. g (suc i)) (λ i. less (suc i)) xs in omega arith
+
+pub links_le : (config : Config) (m n : Weights) (links : Links)
+    → ((from to : Actor) (x : Message) → m.letter from to x ≤ n.letter from to x)
+    → links_weight config m links ≤ links_weight config n links
+links_le config m n links less =
+    weigh_at_le (row_weight config m) (row_weight config n)
+    (λ i row. weigh_at_le (link_weight config m i) (link_weight config n i)
+    (λ k letters. weigh_le (λ (l : Letter). m.letter (actor config i) (actor config k) l.message)
+    (λ (l : Letter). n.letter (actor config i) (actor config k) l.message)
+    (λ l. less (actor config i) (actor config k) l.message) letters) row) links
 
 -- one element is set
 pub weigh_at-set : {X : Type 0} (f : ℕ → X → ℕ) (xs : List X) (i : ℕ) (y d : X) → i < length xs

@@ -7,7 +7,7 @@ use Rattle.adlb_unit.specs.declared.configs.Config.{Config}
 use Rattle.adlb_unit.specs.declared.letters.Letter.{Letter}
 use Rattle.adlb_unit.specs.declared.letters.Sending.{Sending}
 use Rattle.core_run.specs.World.{Links, actors, link, post, put_link}
-use Rattle.core_law.specs.Lawful.{Each, OnLinks}
+use Rattle.core_law.specs.OnLinks.{Each, OnLinks}
 use Rattle.core_law.specs.Measures.{Weights, actor, link_weight, links_weight, weigh}
 use Rattle.core_law.specs.Well.{IsSquare}
 use Rattle.core_law.proofs.Sums.{AreWithin, place_actor, place_below}

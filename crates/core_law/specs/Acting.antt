@@ -6,10 +6,11 @@ use Rattle.adlb_unit.specs.declared.configs.Config.{Config}
 use Rattle.adlb_unit.specs.declared.letters.Letter.{Letter}
 use Rattle.adlb_unit.specs.declared.names.Server.{Server}
 use Rattle.core_run.specs.World.{Links, World, link, pool_of, post, put_link}
-use Rattle.server_law.specs.Acts.{Act, Heard, ServerSaying, entries, says, takes}
+use Rattle.server_law.specs.Acts.{Act, Heard, Hints, ServerSaying, entries, says, takes}
 use Rattle.server_law.specs.Carried.{done, sends}
 use Rattle.server_law.specs.Step.{ticked}
 use Rattle.server_law.specs.Sure.{SitsIn, Sure}
+use Rattle.core_law.specs.Own.{IsWish}
 
 abbrev pub behind_front : List Letter → List Letter
 behind_front [] = []
@@ -46,12 +47,18 @@ AreFront config me links (h ∷ more) =
     × (link links (place_of config h.from) (place_of config (by.Server me)) ≡ l ∷ rest) × (l.message ≡ h.message)
     × AreFront config me (put_link links (place_of config h.from) (place_of config (by.Server me)) rest) more
 
+-- if the act is a hint, it is to another server, about a rank of the run
+abbrev pub HintsAway : Config → Server → Act → Type 0
+HintsAway config me (Hints wish) = IsWish config me wish
+HintsAway config me _ = Unit {0}
+
 -- the act is one of this server in this world
 pub record IsAct (w : World) (me : Server) (a : Act) : Type 0 where
   pub here : me.0 < w.config.servers
   pub front : AreFront w.config me w.links (takes a)
   pub sits : SitsIn a (pool_of w me)
   pub sure : Sure a (pool_of w me)
+  pub hints : HintsAway w.config me a
 
 -- these are, one after the other
 abbrev pub AreActs : World → Server → List Act → Type 0

@@ -1,16 +1,13 @@
 -- What is known of each rank across its client, its home, its letters and the bag, at every moment of a run and between acts.
-use Rattle.std.specs.Prelude.{◌≡◌, ◌<◌, true, false, List, [], ◌∷◌, length, All, Option, None, Some}
-use Rattle.adlb_unit.specs.Links.{is_within, place_of}
+use Rattle.std.specs.Prelude.{◌≡◌, ◌<◌, true, false, All, Option, None, Some}
 use Rattle.adlb_unit.specs.Targets.{home}
 use Rattle.adlb_unit.specs.declared.actors.Actor.{Actor}
 use Rattle.adlb_unit.specs.declared.actors.Actor.TheVariants as by
-use Rattle.adlb_unit.specs.declared.configs.Config.{Config}
 use Rattle.adlb_unit.specs.declared.letters.Letter.{Letter}
 use Rattle.adlb_unit.specs.declared.messages.Message.{Message}
 use Rattle.adlb_unit.specs.declared.messages.Message.TheVariants as tells
 use Rattle.adlb_unit.specs.declared.names.Rank.{Rank}
 use Rattle.adlb_unit.specs.declared.names.Server.{Server}
-use Rattle.adlb_unit.specs.declared.names.UnitId.{UnitId}
 use Rattle.adlb_unit.specs.declared.notes.UnitNote.{UnitNote}
 use Rattle.bag_ledger.specs.Bag.{Bag, has_due, start as empty_bag, unit_of}
 use Rattle.bag_ledger.specs.Runs.{IsRun, calls, note_of}
@@ -22,19 +19,11 @@ use Rattle.rank_client.specs.Expected.{IsAwaited}
 use Rattle.rank_client.specs.Rules.{asked, looks_at}
 use Rattle.rank_client.specs.State.{ClientModel}
 use Rattle.server_law.specs.Agreement.{ServerAgrees}
-use Rattle.server_law.specs.State.{Waiting}
-use Rattle.core_run.specs.World.{Links, World, client_of, link, pool_of}
+use Rattle.reserve_path.specs.declared.waits.Waiting.{Waiting}
+use Rattle.core_run.specs.World.{World, client_of, pool_of}
 use Rattle.core_law.specs.Letters.{is_request}
-use Rattle.core_law.specs.Seats.{IsStill}
-
-abbrev pub Each : {X : Type 0} → (X → Type 0) → List X → Type 0
-Each P [] = Unit {0}
-Each P (x ∷ xs) = P x × Each P xs
-
--- of each letter under way, with the actors between which it is
-pub record OnLinks (P : Actor → Actor → Letter → Type 0) (config : Config) (links : Links) : Type 0 where
-  pub each : (from to : Actor) → is_within config from ≡ true → is_within config to ≡ true
-      → Each (P from to) (link links (place_of config from) (place_of config to))
+use Rattle.core_law.specs.OnLinks.{Each, OnLinks}
+use Rattle.core_law.specs.Pushed.{IsPushed}
 
 -- Letters of a call.
 
@@ -50,13 +39,22 @@ IsAsked s (waits_for.Keep request common first tried) to m = (m ≡ tells.KeepCo
 IsAsked s (waits_for.Close request batch) to m = (m ≡ tells.CloseBatch request batch.batch s.accepted) × (to ≡ batch.server)
 IsAsked s (waits_for.Count request kind) to m = (m ≡ tells.Count request kind) × (to ≡ home s.config s.me)
 
+-- Between servers, the home's request for the rank is of its pending call, where nothing is decided; an answer that there is a unit
+-- is what was decided, and the home's word of it is awaited; one that there is none decides nothing.
+abbrev pub IsOfRemote : ClientModel → Option Message → Message → Type 0
+IsOfRemote s coming (tells.Ask rank request types) = rank ≡ s.me → (coming ≡ None) × (s.pending ≡ waits_for.Reserve request types)
+IsOfRemote s coming (tells.AskGrant rank request note) =
+    rank ≡ s.me → (coming ≡ Some (tells.Grant request note)) × IsAwaited s s.pending (home s.config s.me) (tells.Grant request note)
+IsOfRemote s coming (tells.AskNone rank request) = rank ≡ s.me → coming ≡ None
+IsOfRemote s coming _ = Unit {0}
+
 -- a request of the rank is the last one of its pending call, where nothing is decided; an answer to it is what was decided, and is
 -- awaited
 abbrev pub IsOfCall : ClientModel → Option Message → Actor → Actor → Message → Type 0
 IsOfCall s coming (by.Rank from) (by.Server to) m = from ≡ s.me → is_request m ≡ true → (coming ≡ None) × IsAsked s s.pending to m
 IsOfCall s coming (by.Server from) (by.Rank to) m = to ≡ s.me → (coming ≡ Some m) × IsAwaited s s.pending from m
 IsOfCall s coming (by.Rank from) (by.Rank to) m = Unit {0}
-IsOfCall s coming (by.Server from) (by.Server to) m = Unit {0}
+IsOfCall s coming (by.Server from) (by.Server to) m = IsOfRemote s coming m
 
 abbrev pub OfCall : ClientModel → Option Message → Actor → Actor → Letter → Type 0
 OfCall s coming from to l = IsOfCall s coming from to l.message
@@ -81,6 +79,6 @@ pub record IsSeat (w : World) (b : Bag) (me : Rank) (coming : Option Message) : 
 pub record IsLawful (w : World) (b : Bag) : Type 0 where
   pub run : IsRun (empty_bag w.config) w.ledger b
   pub rests : has_due b ≡ false
-  pub still : IsStill b
   pub seats : (me : Rank) → me.0 < w.config.ranks → (coming : Option Message) × IsSeat w b me coming
   pub pools : (k : Server) → k.0 < w.config.servers → ServerAgrees b (pool_of w k)
+  pub pushed : IsPushed w b

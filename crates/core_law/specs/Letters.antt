@@ -1,15 +1,17 @@
 -- Letters of a rank's pending call, and its Finish letters, as weights: what is so at every moment of a run.
-use Rattle.std.specs.Prelude.{ℕ, ◌+◌, ◌==◌, Bool, true, false, ◌&&◌, ◌||◌, not, Option, None, Some, if◌then◌else◌}
+use Rattle.std.specs.Prelude.{ℕ, ◌+◌, ◌==◌, Bool, true, false, ◌&&◌, ◌||◌, not, nat_lt, Option, None, Some, if◌then◌else◌}
 use Rattle.adlb_unit.specs.declared.actors.Actor.{Actor}
 use Rattle.adlb_unit.specs.declared.actors.Actor.TheVariants as by
 use Rattle.adlb_unit.specs.declared.messages.Message.{Message}
 use Rattle.adlb_unit.specs.declared.messages.Message.TheVariants as tells
 use Rattle.adlb_unit.specs.declared.names.Rank.{Rank}
+use Rattle.adlb_unit.specs.declared.configs.Config.{Config}
 use Rattle.adlb_unit.specs.declared.names.Server.{Server}
 use Rattle.adlb_unit.specs.Kinds.{is_of_rank, is_to_rank}
 use Rattle.rank_client.specs.Rules.{is_idle}
 use Rattle.rank_client.specs.State.{ClientModel}
-use Rattle.server_law.specs.State.{Kept, Waiting, is_finished}
+use Rattle.reserve_path.specs.declared.waits.Waiting.{Waiting}
+use Rattle.server_law.specs.State.{Kept, is_finished, is_home}
 use Rattle.core_law.specs.Measures.{Balance, Weights}
 
 abbrev pub one : Bool → ℕ
@@ -57,8 +59,8 @@ finishes rank server = record {
   rank_due = at_rank rank (λ s. one s.finished);
 }
 
--- One letter: a request of the rank, an answer to it, or that it waits and is idle, is there exactly once while a call is pending,
--- and else not at all.
+-- One letter: a request of the rank, an answer to it, a letter between servers about it, or that it waits and is idle, is there
+-- exactly once while a call is pending, and otherwise not at all.
 
 -- a rank says it, and awaits an answer
 abbrev pub is_request : Message → Bool
@@ -66,11 +68,18 @@ is_request tells.Finish = false
 is_request (tells.Gone trouble) = false
 is_request m = is_of_rank m
 
+-- a server asks another for this rank, or answers
+abbrev pub remote_letter : Rank → Message → ℕ
+remote_letter rank (tells.Ask of request types) = one (of.0 == rank.0)
+remote_letter rank (tells.AskGrant of request note) = one (of.0 == rank.0)
+remote_letter rank (tells.AskNone of request) = one (of.0 == rank.0)
+remote_letter rank _ = 0
+
 abbrev pub call_letter : Rank → Actor → Actor → Message → ℕ
 call_letter rank (by.Rank from) (by.Server to) m = one (is_request m && (from.0 == rank.0))
 call_letter rank (by.Rank from) (by.Rank to) m = 0
 call_letter rank (by.Server from) (by.Rank to) m = one (to.0 == rank.0)
-call_letter rank (by.Server from) (by.Server to) m = 0
+call_letter rank (by.Server from) (by.Server to) m = remote_letter rank m
 
 abbrev pub call_waits : Rank → ℕ → Waiting → ℕ
 call_waits rank place e = if_idle e.asked (one (e.wish.rank.0 == rank.0))
@@ -106,13 +115,22 @@ request_of (tells.Bytes request body) = request
 request_of (tells.Closed request) = request
 request_of (tells.Counted request info) = request
 request_of (tells.DoneHeard request) = request
+request_of (tells.Ask rank request types) = request
+request_of (tells.AskGrant rank request note) = request
+request_of (tells.AskNone rank request) = request
 request_of _ = 0
+
+abbrev pub numbered_remote : Rank → ℕ → Message → ℕ
+numbered_remote rank next (tells.Ask of request types) = one ((of.0 == rank.0) && ((request + 1) == next))
+numbered_remote rank next (tells.AskGrant of request note) = one ((of.0 == rank.0) && ((request + 1) == next))
+numbered_remote rank next (tells.AskNone of request) = one ((of.0 == rank.0) && ((request + 1) == next))
+numbered_remote rank next _ = 0
 
 abbrev pub numbered_letter : Rank → ℕ → Actor → Actor → Message → ℕ
 numbered_letter rank next (by.Rank from) (by.Server to) m = one (is_request m && ((from.0 == rank.0) && ((request_of m + 1) == next)))
 numbered_letter rank next (by.Rank from) (by.Rank to) m = 0
 numbered_letter rank next (by.Server from) (by.Rank to) m = one ((to.0 == rank.0) && ((request_of m + 1) == next))
-numbered_letter rank next (by.Server from) (by.Server to) m = 0
+numbered_letter rank next (by.Server from) (by.Server to) m = numbered_remote rank next m
 
 abbrev pub numbered_waits : Rank → ℕ → ℕ → Waiting → ℕ
 numbered_waits rank next place e = if_idle e.asked (one ((e.wish.rank.0 == rank.0) && ((e.wish.request + 1) == next)))
@@ -126,17 +144,86 @@ numbered rank next = record {
   rank_due = at_rank rank (λ s. one (not (is_idle s.pending) && (s.next == next)));
 }
 
--- Kinds: a rank sends requests and Finish to servers, and a server answers to ranks. Servers send each other nothing.
+-- Remote letters: between the home and the server that was asked there are as many about the rank in this call as it waits at its
+-- home in this call with that server unanswered.
 
-abbrev pub fits_link : Actor → Actor → Message → Bool
-fits_link (by.Rank from) (by.Rank to) m = false
-fits_link (by.Rank from) (by.Server to) m = is_request m || is_finish m
-fits_link (by.Server from) (by.Rank to) m = is_to_rank m
-fits_link (by.Server from) (by.Server to) m = false
+-- a rank for which a server was asked weighs so much; an idle one nothing
+abbrev pub if_asked : Option Server → (Server → ℕ) → ℕ
+if_asked None f = 0
+if_asked (Some asked) f = f asked
 
-abbrev pub misfit : Actor → Actor → Message → ℕ
-misfit from to m = one (not (fits_link from to m))
+abbrev pub about : Server → Server → Rank → ℕ → ℕ → ℕ → Rank → ℕ → ℕ
+about home asked rank request at to of number =
+    one (((of.0 == rank.0) && (number == request)) && ((at == home.0) && (to == asked.0)))
+
+abbrev pub remote_about : Server → Server → Rank → ℕ → ℕ → ℕ → Message → ℕ
+remote_about home asked rank request from to (tells.Ask of number types) = about home asked rank request from to of number
+remote_about home asked rank request from to (tells.AskGrant of number note) = about home asked rank request to from of number
+remote_about home asked rank request from to (tells.AskNone of number) = about home asked rank request to from of number
+remote_about home asked rank request from to _ = 0
+
+abbrev pub remotes_letter : Server → Server → Rank → ℕ → Actor → Actor → Message → ℕ
+remotes_letter home asked rank request (by.Server from) (by.Server to) m = remote_about home asked rank request from.0 to.0 m
+remotes_letter home asked rank request (by.Server from) (by.Rank to) m = 0
+remotes_letter home asked rank request (by.Rank from) to m = 0
+
+abbrev pub remotes_waits : Server → Server → Rank → ℕ → ℕ → Waiting → ℕ
+remotes_waits home asked rank request place e =
+    if_asked e.asked (λ to. about home asked rank request place to.0 e.wish.rank e.wish.request)
+
+abbrev pub remotes : Server → Server → Rank → ℕ → Balance
+remotes home asked rank request = record {
+  letter = remotes_letter home asked rank request;
+  waits = no_waiting;
+  waits_due = remotes_waits home asked rank request;
+  rank = no_rank;
+  rank_due = no_rank;
+}
+
+-- Remote letters of the rank, over all servers and calls.
+
+abbrev pub any_remote_letter : Rank → Actor → Actor → Message → ℕ
+any_remote_letter rank (by.Server from) (by.Server to) m = remote_letter rank m
+any_remote_letter rank (by.Server from) (by.Rank to) m = 0
+any_remote_letter rank (by.Rank from) to m = 0
+
+abbrev pub any_remote_waits : Rank → ℕ → Waiting → ℕ
+any_remote_waits rank place e = if_asked e.asked (λ to. one (e.wish.rank.0 == rank.0))
+
+abbrev pub any_remote : Rank → Balance
+any_remote rank = record {
+  letter = any_remote_letter rank;
+  waits = no_waiting;
+  waits_due = any_remote_waits rank;
+  rank = no_rank;
+  rank_due = no_rank;
+}
+
+-- Kinds: a rank sends requests and Finish to servers, and a server answers to ranks. A rank's home asks other servers for it, and they
+-- answer and hint to its home. Any server pushes to any other.
+
+abbrev pub fits_between : Config → Server → Server → Message → Bool
+fits_between config from to (tells.Ask rank request types) = nat_lt rank.0 config.ranks && is_home config from rank
+fits_between config from to (tells.AskGrant rank request note) = nat_lt rank.0 config.ranks && is_home config to rank
+fits_between config from to (tells.AskNone rank request) = nat_lt rank.0 config.ranks && is_home config to rank
+fits_between config from to (tells.Hint rank request) = nat_lt rank.0 config.ranks && is_home config to rank
+fits_between config from to (tells.PushQuery id length) = true
+fits_between config from to (tells.PushYes id) = true
+fits_between config from to (tells.PushNo id) = true
+fits_between config from to (tells.PushUnit unit) = true
+fits_between config from to (tells.PushCancel id) = true
+fits_between config from to (tells.PushAck id) = true
+fits_between config from to _ = false
+
+abbrev pub fits_link : Config → Actor → Actor → Message → Bool
+fits_link config (by.Rank from) (by.Rank to) m = false
+fits_link config (by.Rank from) (by.Server to) m = is_request m || is_finish m
+fits_link config (by.Server from) (by.Rank to) m = is_to_rank m
+fits_link config (by.Server from) (by.Server to) m = not (from.0 == to.0) && fits_between config from to m
+
+abbrev pub misfit : Config → Actor → Actor → Message → ℕ
+misfit config from to m = one (not (fits_link config from to m))
 
 -- no letter is misplaced
-abbrev pub kinds : Weights
-kinds = record { letter = misfit; server = no_server; rank = no_rank; server_due = no_server; rank_due = no_rank }
+abbrev pub kinds : Config → Weights
+kinds config = record { letter = misfit config; server = no_server; rank = no_rank; server_due = no_server; rank_due = no_rank }

@@ -3,7 +3,10 @@ pub mod Letters
 pub mod Lawful
 pub mod Lines
 pub mod Measures
+pub mod OnLinks
 pub mod Others
 pub mod Own
+pub mod Pushed
+pub mod Pushes
 pub mod Seats
 pub mod Well

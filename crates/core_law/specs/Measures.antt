@@ -1,5 +1,5 @@
 -- Weights of letters and states, and their sums over a world.
-use Rattle.std.specs.Prelude.{◌≡◌, ℕ, ◌+◌, ◌-◌, zero, suc, nat_lt, List, [], ◌∷◌, if◌then◌else◌}
+use Rattle.std.specs.Prelude.{◌≡◌, ℕ, ◌+◌, ◌-◌, zero, suc, nat_lt, List, [], ◌∷◌, Option, None, Some, if◌then◌else◌}
 use Rattle.adlb_unit.specs.declared.actors.Actor.{Actor}
 use Rattle.adlb_unit.specs.declared.actors.Actor.TheVariants as by
 use Rattle.adlb_unit.specs.declared.configs.Config.{Config}
@@ -8,8 +8,10 @@ use Rattle.adlb_unit.specs.declared.letters.Sending.{Sending}
 use Rattle.adlb_unit.specs.declared.messages.Message.{Message}
 use Rattle.adlb_unit.specs.declared.names.Server.{Server}
 use Rattle.rank_client.specs.State.{ClientModel}
-use Rattle.server_law.specs.Acts.{Act, Heard, ServerSaying, comes, does, goes, says, takes}
-use Rattle.server_law.specs.State.{Kept, ServerModel, Waiting}
+use Rattle.server_law.specs.Acts.{Act, Heard, ServerSaying, comes, does, goes, says, takes, debts, turns}
+use Rattle.reserve_path.specs.declared.waits.Waiting.{Waiting}
+use Rattle.put_path.specs.declared.standing.StandingPush.{StandingPush}
+use Rattle.server_law.specs.State.{Debt, Kept, ServerModel}
 use Rattle.core_run.specs.World.{Links, World, rank_named, server_named}
 
 -- the sum of the weights of a list's elements
@@ -98,3 +100,37 @@ abbrev pub IsEven : Balance → Act → ServerModel → Type 0
 IsEven b a s =
     heard_weight b.letter s.me (takes a) + weigh (b.waits s.me.0) (goes a) + weigh (b.waits_due s.me.0) (comes a s)
     ≡ said_weight b.letter s.me (says a s) + weigh (b.waits s.me.0) (comes a s) + weigh (b.waits_due s.me.0) (goes a)
+
+-- A balance of letters, of the push that stands and of the acknowledgement that is owed.
+
+pub record PushBalance : Type 0 where
+  pub letter : Actor → Actor → Message → ℕ
+  pub owed : ℕ → Debt → ℕ
+  pub due : ℕ → StandingPush → ℕ
+
+abbrev pub weight : {X : Type 0} → (X → ℕ) → Option X → ℕ
+weight f None = 0
+weight f (Some x) = f x
+
+abbrev pub push_weights : PushBalance → Weights
+push_weights b = record {
+  letter = b.letter;
+  server = λ place k. weight (b.owed place) k.owed;
+  rank = λ place s. 0;
+  server_due = λ place k. weight (b.due place) k.pushing.push;
+  rank_due = λ place s. 0;
+}
+
+-- as an act changes them: what was, and what is
+abbrev pub before : {X : Type 0} → Option (Option X × Option X) → Option X
+before None = None
+before (Some change) = change.0
+
+abbrev pub afterwards : {X : Type 0} → Option (Option X × Option X) → Option X
+afterwards None = None
+afterwards (Some change) = change.1
+
+abbrev pub IsEvenPush : PushBalance → Act → ServerModel → Type 0
+IsEvenPush b a s =
+    heard_weight b.letter s.me (takes a) + weight (b.owed s.me.0) (before (debts a)) + weight (b.due s.me.0) (afterwards (turns a))
+    ≡ said_weight b.letter s.me (says a s) + weight (b.owed s.me.0) (afterwards (debts a)) + weight (b.due s.me.0) (before (turns a))

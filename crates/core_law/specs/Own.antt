@@ -12,7 +12,11 @@ use Rattle.adlb_unit.specs.declared.units.Unit.{Unit}
 use Rattle.rank_client.specs.declared.pendings.Pending.{Pending}
 use Rattle.rank_client.specs.declared.pendings.Pending.TheVariants as waits_for
 use Rattle.rank_client.specs.State.{ClientModel}
-use Rattle.server_law.specs.State.{ServerModel, Waiting, is_home}
+use Rattle.reserve_path.specs.Parked.{IsOther}
+use Rattle.reserve_path.specs.declared.waits.Waiting.{Waiting}
+use Rattle.reserve_path.specs.declared.wishes.Wish.{Wish}
+use Rattle.put_path.specs.declared.standing.StandingPush.{StandingPush}
+use Rattle.server_law.specs.State.{Debt, ServerModel, is_home}
 use Rattle.core_run.specs.World.{World, client_of, pool_of}
 
 -- the unit that the rank puts in its last call
@@ -38,7 +42,7 @@ pub record IsNote (config : Config) (note : UnitNote) : Type 0 where
 abbrev pub IsCall : ClientModel → Pending → Type 0
 IsCall s waits_for.Nothing = Prim.Unit {0}
 IsCall s (waits_for.Put unit first tried) = IsOffer s unit × (tried < s.config.servers)
-IsCall s (waits_for.Reserve request types) = (request + 1 ≡ s.next) × (s.config.servers ≡ 1)
+IsCall s (waits_for.Reserve request types) = request + 1 ≡ s.next
 IsCall s (waits_for.Try request types tried) = (request + 1 ≡ s.next) × (tried < s.config.servers)
 IsCall s (waits_for.Fetch request note) = (request + 1 ≡ s.next) × IsNote s.config note × All (λ n. same_unit n.id note.id ≡ false) s.handles
 IsCall s (waits_for.Common request note common own) = (request + 1 ≡ s.next) × (common.server.0 < s.config.servers)
@@ -57,12 +61,17 @@ pub record IsClient (run : Config) (rank : Rank) (s : ClientModel) : Type 0 wher
   pub batch : IsAt s.config s.batch
   pub notes : All (IsNote s.config) s.handles
 
--- of a rank that waits: it is one of the run, with its home here
+-- of a rank that waits: it is one of the run, with its home here, and only other servers are asked for it
 pub record IsEntry (run : Config) (server : Server) (e : Waiting) : Type 0 where
   pub within : e.wish.rank.0 < run.ranks
   pub here : is_home run server e.wish.rank ≡ true
-  -- no server is asked for it
-  pub idle : e.asked ≡ None
+  pub asked : IfSome e.asked (IsOther run server)
+  pub to_ask : All (IsOther run server) e.to_ask
+
+-- of a rank whose wish is kept: it is one of the run, with its home elsewhere
+pub record IsWish (run : Config) (server : Server) (wish : Wish) : Type 0 where
+  pub within : wish.rank.0 < run.ranks
+  pub away : is_home run server wish.rank ≡ false
 
 -- of this server
 pub record IsPool (run : Config) (server : Server) (s : ServerModel) : Type 0 where
@@ -70,8 +79,18 @@ pub record IsPool (run : Config) (server : Server) (s : ServerModel) : Type 0 wh
   pub me : s.me ≡ server
   pub finished : length s.kept.finished ≡ run.ranks
   pub waiting : All (IsEntry run server) s.kept.parked.waiting
+  pub wishes : All (IsWish run server) s.kept.parked.wishes
+  -- a push goes to another server, and so does an acknowledgement
+  pub pushing : IfSome s.kept.pushing.push (λ (p : StandingPush). IsOther run server p.to)
+  pub owed : IfSome s.kept.owed (λ (d : Debt). IsOther run server d.to)
+  -- only a server that is alone is shut
+  pub shut : s.kept.shut ≡ true → run.servers ≡ 1
 
 -- of all actors of a world
 pub record AreOwn (w : World) : Type 0 where
   pub ranks : (me : Rank) → me.0 < w.config.ranks → IsClient w.config me (client_of w me)
   pub servers : (me : Server) → me.0 < w.config.servers → IsPool w.config me (pool_of w me)
+
+-- of worlds between events: no server owes an acknowledgement
+abbrev pub NoneOwes : World → Type 0
+NoneOwes w = (me : Server) → me.0 < w.config.servers → (pool_of w me).kept.owed ≡ None

@@ -1,34 +1,58 @@
 //! What holds of letters and of each actor's own state in every run.
 
-ghost use Rattle.std.specs.Prelude.{◌≡◌, ◌<◌, ℕ, List, IsTrue};
+ghost use Rattle.std.specs.Prelude.{◌≡◌, ◌<◌, ℕ, Bool, List, IsTrue, is_some};
 ghost use Rattle.adlb_unit.specs.Links.{is_within};
 ghost use Rattle.adlb_unit.specs.declared.actors.Actor.{Actor};
 ghost use Rattle.adlb_unit.specs.declared.configs.Config.{Config};
 ghost use Rattle.adlb_unit.specs.declared.names.Rank.{Rank};
 ghost use Rattle.adlb_unit.specs.declared.names.Server.{Server};
+ghost use Rattle.adlb_unit.specs.declared.names.UnitId.{UnitId};
+ghost use Rattle.put_path.specs.Pushes.{is_push_as, some_push};
 ghost use Rattle.core_run.specs.declared.events.Event.{Event};
-ghost use Rattle.core_law.specs.Letters.{finishes, kinds, numbered, one_letter};
+ghost use Rattle.core_law.specs.Letters.{finishes, kinds, numbered, one, one_letter, remotes};
 ghost use Rattle.core_law.specs.Lines.{IsInLine};
-ghost use Rattle.core_law.specs.Measures.{IsBalanced, weights};
-ghost use Rattle.core_law.specs.Own.{AreOwn};
+ghost use Rattle.core_law.specs.Measures.{IsBalanced, links_weight, weights};
+ghost use Rattle.core_law.specs.Own.{AreOwn, NoneOwes};
+ghost use Rattle.core_law.specs.Pushed.{letters_of};
+ghost use Rattle.core_law.specs.Pushes.{push_as, push_letter};
 ghost use Rattle.core_run.specs.Runs.{Runs};
-ghost use Rattle.core_run.specs.World.{World, start};
+ghost use Rattle.core_run.specs.World.{World, pool_of, start};
 
 /// In every run, of every number of ranks and servers: each letter is of a kind that its sender sends to its receiver
-/// (`kinds`). While a call of a rank is pending exactly one letter of it is under way or it waits at a server and is idle,
-/// and else none (`one_letter`), with the number of the call (`numbered`). A Finish letter to a server, or that the server
-/// handled it, is there exactly where the rank has finished (`finishes`). The letters from one actor to another are the
-/// last that were sent, by consecutive places, and their stamps do not fall and are not past the sender's last event
-/// (`in_line`). Each actor's own state is as `AreOwn` says (`own`).
+/// (`kinds`); servers write to each other about the ranks of the run alone, the rank's home to others or others to its
+/// home. While a call of a rank is pending, exactly one letter of it is under way, also between servers, or it waits at
+/// a server and is idle; otherwise none is (`one_letter`), with the number of the call (`numbered`). Between a home and
+/// another server there are as many letters about a rank's call as the rank waits at that home in this call with that
+/// server unanswered (`remotes`): by `one_letter` at most one. A Finish letter to a server, or that the server handled
+/// it, is there exactly where the rank has finished (`finishes`). The letters from one actor to another are the last
+/// that were sent, by consecutive places, and their stamps do not fall and are not past the sender's last event
+/// (`in_line`). While a push of a server stands, exactly one letter of it is under way, and otherwise none: the query for
+/// room, the answer to it, the unit or a cancel of it, or the acknowledgement (`pushes`). By server, unit and whether the
+/// unit or a cancel of it was sent, there is one exactly where the push that stands is this one: until then it is the query
+/// or its answer, from then on the unit, the cancel or the acknowledgement (`pushes_to`). Between events no server owes an
+/// acknowledgement (`none_owes`). Each actor's own state is as `AreOwn` says (`own`): the ranks that wait at a server have
+/// their home there, and only other servers are asked for them; the ranks whose wishes it keeps have their homes elsewhere;
+/// a push goes to another server.
 pub fn letter_laws()
-    ensures kinds { (config : Config) (events : List Event) (w : World) → Runs (start config) events w → IsBalanced kinds w }
+    ensures kinds { (config : Config) (events : List Event) (w : World) →
+        Runs (start config) events w → IsBalanced (kinds config) w }
     ensures one_letter { (config : Config) (events : List Event) (w : World) (rank : Rank) →
         Runs (start config) events w → IsBalanced (weights (one_letter rank)) w }
     ensures numbered { (config : Config) (events : List Event) (w : World) (rank : Rank) (next : ℕ) →
         Runs (start config) events w → IsBalanced (weights (numbered rank next)) w }
+    ensures remotes { (config : Config) (events : List Event) (w : World) (home asked : Server) (rank : Rank) (request : ℕ) →
+        Runs (start config) events w → IsBalanced (weights (remotes home asked rank request)) w }
     ensures finishes { (config : Config) (events : List Event) (w : World) (rank : Rank) (server : Server) →
         server.0 < config.servers → Runs (start config) events w → IsBalanced (finishes rank server) w }
     ensures in_line { (config : Config) (events : List Event) (w : World) (from to : Actor) →
         Runs (start config) events w → IsTrue (is_within w.config from) → IsTrue (is_within w.config to) → IsInLine w from to }
+    ensures pushes { (config : Config) (events : List Event) (w : World) (a : Server) → a.0 < config.servers →
+        Runs (start config) events w →
+        links_weight w.config (letters_of (push_letter a)) w.links ≡ one (is_some (pool_of w a).kept.pushing.push) }
+    ensures pushes_to { (config : Config) (events : List Event) (w : World) (a to : Server) (id : UnitId) (sent : Bool) →
+        a.0 < config.servers → Runs (start config) events w →
+        links_weight w.config (letters_of (push_as a to id sent)) w.links
+        ≡ one (some_push (is_push_as to id sent) (pool_of w a).kept.pushing.push) }
+    ensures none_owes { (config : Config) (events : List Event) (w : World) → Runs (start config) events w → NoneOwes w }
     ensures own { (config : Config) (events : List Event) (w : World) → Runs (start config) events w → AreOwn w }
 {}

@@ -1,11 +1,14 @@
 -- What stands after an event that failed.
-use Rattle.std.proofs.Common.{◌≡◌, ℕ, zero, suc, Bool, true, false, ◌&&◌, cond, List, [], ◌∷◌, ◌++◌, get_or, set, Option, Some, None, inl, refl, sym, ap, ◌∙◌, subst, append-nil}
+use Rattle.std.proofs.Common.{◌≡◌, ◌<◌, ℕ, zero, suc, Bool, true, false, ◌&&◌, cond, List, [], ◌∷◌, ◌++◌, get_or, set, Option, Some, None, inl, refl, sym, ap, ◌∙◌, subst, append-nil}
 use Rattle.std.specs.Prelude.{IsSome, nat_lt}
 use Rattle.std.specs.Option.{option_map}
+use Rattle.adlb_unit.specs.Limits.{stamp_limit}
 use Rattle.adlb_unit.specs.Links.{is_within, place_of}
 use Rattle.adlb_unit.specs.declared.actors.Actor.{Actor}
 use Rattle.adlb_unit.specs.declared.actors.Actor.TheVariants as by
+use Rattle.adlb_unit.specs.declared.configs.Config.{Config}
 use Rattle.adlb_unit.specs.declared.letters.Letter.{Letter}
+use Rattle.adlb_unit.specs.declared.letters.Sending.{Sending}
 use Rattle.adlb_unit.specs.declared.names.Rank.{Rank}
 use Rattle.adlb_unit.specs.declared.names.Server.{Server}
 use Rattle.adlb_unit.specs.declared.notes.Trouble.{Trouble}
@@ -19,8 +22,9 @@ use Rattle.server_law.specs.Carried.{Served}
 use Rattle.server_law.specs.Step.{next_stamp, serve}
 use Rattle.core_run.specs.declared.events.Event.{Event}
 use Rattle.core_run.specs.declared.events.Event.TheVariants as occurs
-use Rattle.core_run.specs.World.{Links, World, after_rank, after_server, client_of, handle, happens, has_ended, link, pool_of, taken}
-use Rattle.core_world.specs.Applied.{Causes, IsCut, IsEnabled, IsKept, Stops, event_stamp, front_stamp}
+use Rattle.core_run.specs.Runs.{transcript}
+use Rattle.core_run.specs.World.{Links, World, after_rank, after_server, client_of, handle, happens, has_ended, link, pool_of, post, taken}
+use Rattle.core_world.specs.Applied.{Causes, IsCut, IsEnabled, IsHalf, IsKept, Stops, event_stamp, front_stamp}
 use Rattle.core_world.specs.Seen.{under_way}
 use Rattle.core_world.specs.Stage.{with_client, with_server}
 use Rattle.core_world.proofs.Stamps.{unmapped}
@@ -182,3 +186,77 @@ serve_expected w took from to letter rest enabled front took_is =
     by_test : (b : Bool) → IsSome (cond b (handle w from (by.Server to) letters) None) → cond b letters [] ≡ letter ∷ rest → IsSome (serve (pool_of w to) from letter)
     by_test true some is = handled_by w from to letter rest (subst (λ (l : List Letter). IsSome (handle w from (by.Server to) l)) is some)
     by_test false some is = absurd (cc)
+
+-- A front letter that a server has handled.
+
+handled_as : (w : World) (from : Actor) (to : Server) (letter : Letter) (rest : List Letter) → handle w from (by.Server to) (letter ∷ rest)
+    ≡ cond (has_ended (pool_of w to)) None (option_map (after_server w to (taken w from (by.Server to) rest)) (serve (pool_of w to) from letter))
+handled_as w (by.Rank from) to letter rest = refl
+handled_as w (by.Server from) to letter rest = refl
+
+some_same : {X : Type 0} {x y : X} → Some x ≡ Some y → x ≡ y
+some_same is = cc
+
+same_transcript : (w now : World) (rank : Rank) → now.ranks ≡ w.ranks → now.config ≡ w.config → transcript now rank ≡ transcript w rank
+same_transcript w now rank ranks config =
+    ap (λ (l : List ClientModel). (get_or l rank.0 (new_client now.config rank)).transcript) ranks
+    ∙ ap (λ (run : Config). (get_or w.ranks rank.0 (new_client run rank)).transcript) config
+
+unless_is : (ended : Bool) (w : World) → IsSome (cond ended None (Some w)) → cond ended None (Some w) ≡ Some w
+unless_is true w some = absurd (cc)
+unless_is false w some = refl
+
+-- an event of a server, which took a letter off and stepped to this state
+module _ (w took stepped : World) (from : Actor) (to : Server) (letter : Letter) (rest : List Letter) (s : ServerModel) (sends : List Sending)
+    (entries : List Entry) (enabled : IsEnabled w (occurs.Deliver from (by.Server to))) (front : under_way w from (by.Server to) ≡ letter ∷ rest)
+    (took_is : took ≡ record w { links = taken w from (by.Server to) rest })
+    (served : serve (pool_of took to) from letter ≡ Some (record { state = s; sends = sends; entries = entries }))
+    (stepped_is : stepped ≡ with_server took to s) where
+  abbrev links : Links
+  links = taken w from (by.Server to) rest
+
+  abbrev made : Served
+  made = record { state = s; sends = sends; entries = entries }
+
+  abbrev letters : List Letter
+  letters = link w.links (place_of w.config from) (place_of w.config (by.Server to))
+
+  by_test : (b : Bool) → IsSome (cond b (handle w from (by.Server to) letters) None) → cond b letters [] ≡ letter ∷ rest
+      → cond b (handle w from (by.Server to) letters) None ≡ Some (after_server w to links made)
+  by_test false some is = absurd (cc)
+  by_test true some is =
+      let ended : Bool = has_ended (pool_of w to) in
+      let here : serve (pool_of w to) from letter ≡ Some made = subst (λ (v : World). serve (pool_of v to) from letter ≡ Some made) took_is served in
+      let same : handle w from (by.Server to) letters ≡ cond ended None (Some (after_server w to links made)) =
+      ap (λ (l : List Letter). handle w from (by.Server to) l) is ∙ handled_as w from to letter rest
+      ∙ ap (λ (o : Option Served). cond ended None (option_map (after_server w to links) o)) here in
+      same ∙ unless_is ended (after_server w to links made) (subst IsSome same some)
+
+  pub has_happened : happens w (occurs.Deliver from (by.Server to)) ≡ Some (after_server w to links made)
+  has_happened = by_test (is_within w.config from && is_within w.config (by.Server to)) enabled front
+
+  stands : stepped ≡ with_server (record w { links = links }) to s
+  stands = stepped_is ∙ ap (λ (v : World). with_server v to s) took_is
+
+  -- with its letters sent and its entries entered
+  abbrev given : World → World
+  given v = record v { links = post v.config v.links (place_of v.config (by.Server to)) sends; ledger = v.ledger ++ entries }
+
+  pub given_happens : (now : World) → now ≡ given stepped → happens w (occurs.Deliver from (by.Server to)) ≡ Some now
+  given_happens now is = has_happened ∙ sym (ap Some (is ∙ ap given stands))
+
+  -- where there was no memory for all of them
+  pub half_stops : (now : World) → next_stamp (pool_of took to) letter < stamp_limit → IsHalf stepped entries now
+      → Stops w (occurs.Deliver from (by.Server to)) troubles.Memory now
+  half_stops now within half =
+      let h : IsHalf (with_server (record w { links = links }) to s) entries now = subst (λ (v : World). IsHalf v entries now) stands half in
+      let low : next_stamp (pool_of w to) letter < stamp_limit = subst (λ (v : World). next_stamp (pool_of v to) letter < stamp_limit) took_is within in
+      record {
+        cause = subst (λ n. n < stamp_limit) (sym (ap (front_stamp w (by.Server to)) front)) low;
+        leaves = λ after happened.
+            subst (λ (v : World). IsCut w now v) (some_same (sym has_happened ∙ happened)) (record {
+              config = h.config;
+              ledger = h.ledger;
+              transcripts = λ rank. inl (same_transcript w now rank h.ranks h.config);
+            });
+      }

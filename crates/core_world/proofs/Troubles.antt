@@ -1,15 +1,13 @@
 -- A step of an actor that has not failed leaves it so.
-use Rattle.std.proofs.Common.{◌≡◌, ◌+◌, ◌^◌, ℕ, Bool, true, false, ◌&&◌, cond, List, [], ◌∷◌, ◌++◌, map, Option, Some, None, refl, sym, ap, ◌∙◌, find}
+use Rattle.std.proofs.Common.{◌≡◌, ◌+◌, ◌^◌, ℕ, Bool, true, false, ◌&&◌, cond, List, [], ◌∷◌, ◌++◌, Option, Some, None, refl, sym, ap, ◌∙◌}
 use Rattle.std.specs.Prelude.{nat_lt, not}
 use Rattle.std.specs.Option.{option_map}
 use Rattle.adlb_unit.specs.Links.{is_within}
 use Rattle.adlb_unit.specs.declared.actors.Actor.{Actor}
-use Rattle.adlb_unit.specs.declared.actors.Actor.TheVariants as by
 use Rattle.adlb_unit.specs.declared.letters.Letter.{Letter}
 use Rattle.adlb_unit.specs.declared.messages.Message.{Message}
 use Rattle.adlb_unit.specs.declared.messages.Message.TheVariants as tells
 use Rattle.adlb_unit.specs.declared.names.CommonRef.{CommonRef}
-use Rattle.adlb_unit.specs.declared.names.Rank.{Rank}
 use Rattle.adlb_unit.specs.declared.names.Server.{Server}
 use Rattle.adlb_unit.specs.declared.names.UnitId.{UnitId}
 use Rattle.adlb_unit.specs.declared.names.WorkType.{WorkType}
@@ -67,7 +65,7 @@ close_leaves s (Some batch) = refl
 call_leaves : (s : ClientModel) (call : Call) → Leaves s.trouble (rank_rules.open_call s call)
 call_leaves s (calls_to.Put kind prio target answer body) =
     leaves_if s.trouble _ (rank_rules.put s (rank_rules.unit_put s kind prio target answer body) s.end) (put_leaves s (rank_rules.unit_put s kind prio target answer body) s.end)
-call_leaves s (calls_to.Reserve types) = leaves_if s.trouble _ (rank_rules.reserve s types s.end) (reserve_leaves s types s.end)
+call_leaves s (calls_to.Reserve types) = reserve_leaves s types s.end
 call_leaves s (calls_to.Try types) = look_leaves s types s.end
 call_leaves s (calls_to.Fetch id) = fetch_leaves s id (rank_rules.held s id)
 call_leaves s (calls_to.BeginBatch common) = leaves_if s.trouble _ (rank_rules.keep s common s.end) (keep_leaves s common s.end)

@@ -9,8 +9,6 @@ mod applying;
 mod faults;
 mod links;
 mod stages;
-#[cfg(test)]
-mod stepped;
 mod steps;
 mod worlds;
 

@@ -93,6 +93,18 @@ fn plain_copy(entry: &Entry) -> Result<Entry, Fail> {
         },
         Entry::Over { rank, call, end } => Entry::Over { rank, call, end },
         Entry::Finished { rank, call } => Entry::Finished { rank, call },
+        _ => return moving_copy(entry),
+    };
+    Ok(copy)
+}
+
+// A copy of an entry about a unit that moves to another server.
+fn moving_copy(entry: &Entry) -> Result<Entry, Fail> {
+    let copy = match *entry {
+        Entry::Promised { server, id, length } => Entry::Promised { server, id, length },
+        Entry::Left { server, to, id } => Entry::Left { server, to, id },
+        Entry::Arrived { server, id } => Entry::Arrived { server, id },
+        Entry::Withdrawn { server, id } => Entry::Withdrawn { server, id },
         _ => return Err("an entry of another kind".into()),
     };
     Ok(copy)
@@ -203,6 +215,24 @@ fn with_other_unit(entry: &Entry) -> Result<Entry, Fail> {
         Entry::Fetched { server, rank, id } => Entry::Fetched {
             server,
             rank,
+            id: other(id),
+        },
+        Entry::Promised { server, id, length } => Entry::Promised {
+            server,
+            id: other(id),
+            length,
+        },
+        Entry::Left { server, to, id } => Entry::Left {
+            server,
+            to,
+            id: other(id),
+        },
+        Entry::Arrived { server, id } => Entry::Arrived {
+            server,
+            id: other(id),
+        },
+        Entry::Withdrawn { server, id } => Entry::Withdrawn {
+            server,
             id: other(id),
         },
         _ => return Err("an entry of another kind".into()),

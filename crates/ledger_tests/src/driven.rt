@@ -1,15 +1,16 @@
-//! A hundred driven runs, and each with one entry changed.
+//! Runs that are driven at random, 200 of them with several servers, and each with one entry changed.
 
+use crate::calls::Words;
 use crate::changes::{changed, copied};
-use crate::scripts::{Words, driven};
-use adlb_unit::{Config, End};
+use crate::scripts::driven;
+use adlb_unit::{Config, End, Rank, UnitId};
 use bag_ledger::{Entry, Ledger};
 use ledger_checker::first_illegal;
 use std::alloc::Global;
 use std::test::Fail;
 
 /// How many runs.
-const RUNS: u64 = 100;
+const RUNS: u64 = 272;
 
 // The ledger of these entries, the one at this place changed.
 fn with_change(alloc: Global, entries: &[Entry], place: usize) -> Result<Ledger, Fail> {
@@ -25,14 +26,11 @@ fn with_change(alloc: Global, entries: &[Entry], place: usize) -> Result<Ledger,
     Ok(ledger)
 }
 
-// The numbers of the run of this number: up to four ranks over one server, or one rank and up to three servers, and limits that
-// are soon reached.
+// The numbers of the run of this number: up to six ranks and four servers, and limits that are soon reached.
 fn config_of(number: u64) -> Result<Config, Fail> {
-    let (ranks, servers) = match number % 5 {
-        4 => (1, 1 + (number / 5 % 3) as u32),
-        rest => (1 + rest as u32, 1),
-    };
-    let limit = 64 + number / 3 % 4 * 50;
+    let ranks = 1 + (number % 6) as u32;
+    let servers = 1 + (number / 6 % 4) as u32;
+    let limit = 64 + number / 3 % 4 * 45;
     match Config::new(ranks, servers, limit) {
         Ok(config) => Ok(config),
         Err(_) => Err("no configuration".into()),
@@ -63,7 +61,7 @@ fn tells_of(entry: &Entry, number: u32) -> bool {
 // The ledger is legal, and with one entry changed it is illegal at that place.
 fn is_judged(alloc: Global, ledger: &Ledger, config: &Config, number: u64) -> Result<bool, Fail> {
     let entries = ledger.entries();
-    let place = Words::new(number.wrapping_add(RUNS)).next() as usize % entries.len().max(1);
+    let place = Words::new(number.wrapping_add(RUNS)).place(entries.len());
     let other = with_change(alloc, entries, place)?;
     Ok(
         first_illegal(alloc, ledger, config) == Ok(None)
@@ -71,35 +69,94 @@ fn is_judged(alloc: Global, ledger: &Ledger, config: &Config, number: u64) -> Re
     )
 }
 
+// What some run has shown: a put that each server refused; a unit that went to a waiting rank as it came; a count of some unit; a
+// look at one server behind another; a try with several servers that was granted; a unit that another server than the home had for a
+// rank that reserved, and one that came there only after the rank had asked; a unit that moved, and a push that was taken back; and in
+// how many runs with several servers a unit moved; and how many entries all have.
+#[derive(Debug, Default, Drop)]
+struct Seen {
+    rejects: bool,
+    settles: bool,
+    counts: bool,
+    looks_on: bool,
+    tries: bool,
+    far: bool,
+    hinted: bool,
+    withdrawn: bool,
+    moved: u32,
+    entries: usize,
+}
+
+impl Seen {
+    fn look(&mut self, entries: &[Entry], servers: u32) {
+        self.entries = self.entries.saturating_add(entries.len());
+        self.rejects |= entries.iter().any(|e| matches!(e, Entry::Rejected { .. }));
+        self.settles |= entries.windows(2).any(is_settled);
+        self.counts |= entries.iter().any(is_count);
+        self.looks_on |= entries.windows(2).any(is_look_on);
+        self.withdrawn |= entries.iter().any(|e| matches!(e, Entry::Withdrawn { .. }));
+        if entries.iter().any(|e| matches!(e, Entry::Arrived { .. })) {
+            self.moved = self.moved.saturating_add(1);
+        }
+        for (place, entry) in entries.iter().enumerate() {
+            if let Entry::Granted {
+                server,
+                rank,
+                call,
+                id,
+            } = entry
+            {
+                let asked = entries.iter().position(|e| is_asked(e, *rank, *call));
+                let came = entries.iter().position(|e| is_accepted(e, *id));
+                let far = server.0 != rank.0 % servers.max(1);
+                self.tries |= servers > 1 && asked.is_none();
+                self.far |= far && asked.is_some();
+                self.hinted |= far && asked.is_some() && asked < came;
+            }
+        }
+    }
+
+    fn all(&self) -> bool {
+        self.rejects
+            && self.settles
+            && self.counts
+            && self.looks_on
+            && self.tries
+            && self.far
+            && self.hinted
+            && self.withdrawn
+            && self.moved > 150
+            && self.entries > 8000
+    }
+}
+
+fn is_asked(entry: &Entry, by: Rank, number: u64) -> bool {
+    match entry {
+        Entry::Asked { rank, call, .. } => *rank == by && *call == number,
+        _ => false,
+    }
+}
+
+fn is_accepted(entry: &Entry, unit: UnitId) -> bool {
+    match entry {
+        Entry::Accepted { id, .. } => *id == unit,
+        _ => false,
+    }
+}
+
 #[test]
 fn driven_runs_are_legal_and_one_change_shows(rt: HostRuntime) -> Result<(), Fail> {
-    let mut rejects = false;
-    let mut settles = false;
-    let mut counts = false;
-    let mut looks_on = false;
-    let mut tries = false;
+    let mut seen = Seen::default();
     for number in 0..RUNS {
         let config = config_of(number)?;
         let world = driven(rt.alloc(), config, number)?;
         let entries = world.ledger().entries();
-        assert!(rt; entries.len() >= 10, "run {number}");
-        assert!(rt;
-            is_judged(rt.alloc(), world.ledger(), &config, number)?,
-            "run {number}"
-        );
-        assert!(rt;
-            config.servers > 1 || all_are_told(entries, config.ranks),
-            "run {number}"
-        );
-        rejects = rejects || entries.iter().any(|e| matches!(e, Entry::Rejected { .. }));
-        settles = settles || entries.windows(2).any(is_settled);
-        counts = counts || entries.iter().any(is_count);
-        looks_on = looks_on || entries.windows(2).any(is_look_on);
-        // With several servers no rank reserves, so what is granted is granted to a try.
-        tries = tries
-            || config.servers > 1 && entries.iter().any(|e| matches!(e, Entry::Granted { .. }));
+        let judged = is_judged(rt.alloc(), world.ledger(), &config, number)?;
+        let told = config.servers > 1 || all_are_told(entries, config.ranks);
+        seen.look(entries, config.servers);
+        assert!(rt; judged && told, "run {number}");
     }
-    assert!(rt; rejects && settles && counts && looks_on && tries);
+    assert!(rt; seen.all(), "{seen:?}");
     Ok(())
 }
 

@@ -1,140 +1,138 @@
-//! Runs that are driven by fixed pseudo-random scripts.
+//! Runs in which each event is chosen at random among those that are enabled.
 
-use adlb_unit::{Actor, Config, Payload, Rank, Server, Target, Types, UnitId, WorkType};
-use bag_ledger::Call;
+ghost use Rattle.std.specs.Prelude.{◌≡◌, ◌<◌};
+
+use crate::calls::{Words, call, last_call};
+use adlb_unit::{Actor, Config, Rank, Server};
+use bag_ledger::{Answer, Call, Said};
 use core_run::Event;
 use core_world::World;
 use std::alloc::Global;
 use std::test::Fail;
 
-/// How many events are tried.
-const STEPS: u32 = 400;
+/// How many calls a rank makes at random. Then it reserves until it is told an end, and finishes.
+const CALLS: u64 = 16;
 
-/// How often each rank then calls: more often than there are units.
-const ROUNDS: u32 = 60;
+/// More events than a run has.
+const EVENTS: u32 = 4000;
 
-/// Fixed pseudo-random numbers, by a linear congruence.
-#[derive(Drop)]
-pub(crate) struct Words {
-    state: u64,
+// What can happen next.
+#[derive(Clone, Copy)]
+enum Choice {
+    // The second handles the front letter of the first.
+    Delivers(Actor, Actor),
+    // The rank calls.
+    Calls(Rank),
 }
 
-impl Words {
-    pub(crate) fn new(seed: u64) -> Words {
-        Words {
-            state: seed.wrapping_mul(0x9e37_79b9_7f4a_7c15).wrapping_add(1),
+// A run that goes on, with how many calls each rank began.
+#[derive(Drop)]
+struct GoingRun {
+    world: World,
+    config: Config,
+    begun: Vec<u64>,
+    words: Words,
+    ghost run_is: { world.world.config ≡ config },
+}
+
+/// The world in which nothing is enabled any more, after events that this number chooses.
+pub(crate) fn driven(alloc: Global, config: Config, number: u64) -> Result<World, Fail> {
+    let mut run = GoingRun {
+        world: World::new(alloc, config)?,
+        config,
+        begun: vec![in alloc; 0; config.ranks as usize]?,
+        words: Words::new(number),
+    };
+    for _ in 0..EVENTS {
+        if !run.goes_on(alloc)? {
+            return Ok(run.world);
+        }
+    }
+    Err("the run goes on".into())
+}
+
+impl GoingRun {
+    // One event more; none if nothing is enabled.
+    fn goes_on(&mut self, alloc: Global) -> Result<bool, Fail> {
+        let Some(event) = self.choose(alloc)? else {
+            return Ok(false);
+        };
+        if self.world.apply(event).is_err() {
+            return Err("an enabled event was refused".into());
+        }
+        Ok(true)
+    }
+
+    // One of the events that are enabled; none if there is none.
+    fn choose(&mut self, alloc: Global) -> Result<Option<Event>, Fail> {
+        let choices = self.choices(alloc)?;
+        match choices.get(self.words.place(choices.len())) {
+            None => Ok(None),
+            Some(Choice::Delivers(from, to)) => Ok(Some(Event::Deliver(*from, *to))),
+            Some(Choice::Calls(rank)) => {
+                let call = self.next_call(alloc, *rank)?;
+                Ok(Some(Event::Call(*rank, call)))
+            }
         }
     }
 
-    // The next number, below 2^31.
-    pub(crate) fn next(&mut self) -> u32 {
-        self.state = self
-            .state
-            .wrapping_mul(0x5851_f42d_4c95_7f2d)
-            .wrapping_add(0x1405_7b7e_f767_814f);
-        (self.state >> 33) as u32
+    // All that can happen: each list of letters gives its front, and each rank that awaits no answer calls.
+    fn choices(&self, alloc: Global) -> Result<Vec<Choice>, Fail> {
+        let mut choices = Vec::new(alloc);
+        let actors = self.config.ranks + self.config.servers;
+        for place in 0..actors * actors {
+            let from = self.actor(place / actors.max(1));
+            let to = self.actor(place % actors.max(1));
+            if self.world.waiting(from, to) > 0 {
+                choices.push(Choice::Delivers(from, to))?;
+            }
+        }
+        for number in 0..self.config.ranks {
+            if self.may_call(Rank(number)) {
+                choices.push(Choice::Calls(Rank(number)))?;
+            }
+        }
+        Ok(choices)
     }
-}
 
-// A call that a rank may make, in a run of so many.
-fn call(alloc: Global, words: &mut Words, ranks: u32) -> Result<Call, Fail> {
-    let word = words.next();
-    let call = match word % 6 {
-        0 | 1 => Call::Put {
-            kind: WorkType(word / 6 % 3),
-            prio: (word / 18 % 2) as i32,
-            target: target(word / 36, ranks),
-            answer: None,
-            body: body(alloc, words)?,
-        },
-        2 => Call::Reserve {
-            types: Types::any(),
-        },
-        3 => Call::Count {
-            kind: WorkType(word / 6 % 3),
-        },
-        4 => Call::Try {
-            types: Types::any(),
-        },
-        _ => Call::Fetch {
-            id: UnitId {
-                rank: Rank(words.next() % ranks.max(1)),
-                number: (word / 6 % 40) as u64,
-            },
-        },
-    };
-    Ok(call)
-}
-
-// A target in a run of so many ranks.
-fn target(word: u32, ranks: u32) -> Target {
-    let rank = Rank(word / 3 % ranks.max(1));
-    match word % 3 {
-        0 => Target::Any,
-        1 => Target::Only(rank),
-        _ => Target::Soft(rank),
-    }
-}
-
-// Up to 59 bytes.
-fn body(alloc: Global, words: &mut Words) -> Result<Payload, Fail> {
-    let length = words.next() % 60;
-    let bytes = vec![in alloc; b'x'; length as usize]?;
-    Ok(Payload::from_vec(bytes))
-}
-
-// A list of letters between a rank and a server.
-fn delivery(words: &mut Words, config: &Config) -> Event {
-    let word = words.next();
-    let rank = Actor::Rank(Rank(word / 2 % config.ranks.max(1)));
-    let server = Actor::Server(Server(word / 64 % config.servers.max(1)));
-    if word % 2 == 0 {
-        Event::Deliver(rank, server)
-    } else {
-        Event::Deliver(server, rank)
-    }
-}
-
-/// The world after a script of this number, in which most events are tried in vain: those are refused and change nothing.
-/// Then no rank puts any more, and each reserves until it is told an end, and finishes.
-pub(crate) fn driven(alloc: Global, config: Config, number: u64) -> Result<World, Fail> {
-    let mut world = World::new(alloc, config)?;
-    let mut words = Words::new(number);
-    for _ in 0..STEPS {
-        let event = if words.next() % 4 == 0 {
-            let rank = Rank(words.next() % config.ranks.max(1));
-            Event::Call(rank, call(alloc, &mut words, config.ranks)?)
+    // The actor of this number, the ranks before the servers.
+    fn actor(&self, number: u32) -> Actor {
+        if number < self.config.ranks {
+            Actor::Rank(Rank(number))
         } else {
-            delivery(&mut words, &config)
-        };
-        let _ = world.apply(event);
+            Actor::Server(Server(number - self.config.ranks))
+        }
     }
-    for round in 0..ROUNDS {
-        to_the_end(&mut world, &config, round + 1 == ROUNDS);
-    }
-    Ok(world)
-}
 
-// Each rank reserves or, at the last, finishes; and each list of letters gives its front, twice as often as it can be long.
-fn to_the_end(world: &mut World, config: &Config, finish: bool) {
-    for number in 0..config.ranks {
-        let rank = Rank(number);
-        let types = Types::any();
-        let call = if finish {
-            Call::Finish
+    // The rank has heard the answer of each of its calls, and has not finished.
+    fn may_call(&self, rank: Rank) -> bool {
+        if rank.0 >= self.config.ranks {
+            return false;
+        }
+        let said = self.world.transcript(rank);
+        let begun = self.begun.get(rank.0 as usize).copied();
+        begun == Some(said.len() as u64) && !said.iter().any(|s| matches!(s.call, Call::Finish))
+    }
+
+    // The rank's next call: at random, and at the last such that it ends.
+    fn next_call(&mut self, alloc: Global, rank: Rank) -> Result<Call, Fail> {
+        if rank.0 >= self.config.ranks {
+            return Err("no such rank".into());
+        }
+        let begun = self.begun.get_mut(rank.0 as usize).ok_or("no such rank")?;
+        let made = *begun;
+        *begun = made.saturating_add(1);
+        let said = self.world.transcript(rank);
+        let ended = is_ended(said);
+        if made < CALLS && !ended {
+            call(alloc, &mut self.words, self.config, said)
         } else {
-            Call::Reserve { types }
-        };
-        let _ = world.apply(Event::Call(rank, call));
-        deliver_all(world, config, Actor::Rank(rank));
+            Ok(last_call(ended))
+        }
     }
 }
 
-// Two letters from the rank to each server, and two from each to the rank.
-fn deliver_all(world: &mut World, config: &Config, rank: Actor) {
-    for number in 0..2 * config.servers {
-        let server = Actor::Server(Server(number / 2));
-        let _ = world.apply(Event::Deliver(rank, server));
-        let _ = world.apply(Event::Deliver(server, rank));
-    }
+// The rank was told an end.
+fn is_ended(said: &[Said]) -> bool {
+    said.iter().any(|s| matches!(s.answer, Answer::Ended(_)))
 }

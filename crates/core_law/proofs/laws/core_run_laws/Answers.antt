@@ -1,5 +1,6 @@
+use Rattle.core_law.proofs.Calm.{every_run_calm}
 use Rattle.core_law.proofs.Expected.{none_is_stuck}
-use Rattle.core_law.proofs.Lawful.{actors_seated, is_run, ledger_is_legal, ledger_tells, run_is, servers_agree}
+use Rattle.core_law.proofs.Lawful.{actors_seated, is_run, ledger_is_legal, ledger_tells, run_is, servers_agree, units_are_brought}
 use Rattle.core_law.proofs.laws.core_run_laws.Goals as goal
 
 pub returns : goal.returns
@@ -9,5 +10,7 @@ returns c = record {
   agrees = servers_agree;
   calls = ledger_tells;
   seated = actors_seated;
+  moving = units_are_brought;
+  calm = every_run_calm;
   expected = none_is_stuck;
 }

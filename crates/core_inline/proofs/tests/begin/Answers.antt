@@ -1,8 +1,0 @@
-use Rattle.std.proofs.Common.{refl}
-use Rattle.core_inline.proofs.Scripts.{still_running}
-use Rattle.core_inline.proofs.tests.begin.Goals as goal
-
-pub returns : goal.returns
-returns g c =
-    still_running c.args.world.now.run.transcript c.begin_batch-begun.new.self.run.transcript _ _ c.begin_batch-begun.ensures.says
-    c.requires.running refl

@@ -1,0 +1,581 @@
+//! Scripts of calls, with ledgers that were found by hand.
+
+ghost use Rattle.std.specs.Prelude.{◌≡◌, ◌≤◌, ◌^◌, length, false, IfOk};
+ghost use Rattle.rank_client.specs.Calls.{granted, has_finished, is_fetched};
+
+use adlb_unit::{Handle, Info, Payload, Rank, Server, Target, Trouble, Types, UnitId, WorkType};
+use bag_ledger::{Body, Entry};
+use core_inline::InlineWorld;
+use rank_client::{Adlb, EndFault, PutFault, TryFault};
+use server_core::LeftUnit;
+use std::alloc::Global;
+use std::process::Abort;
+use std::test::Fail;
+
+// One step of a script, with what is answered.
+#[derive(Clone, Copy)]
+enum Act {
+    // A unit of this type, of this byte `n` times, is put and accepted.
+    Put(u32, u8, u8),
+    // A unit of this type, of this priority and of one byte, an `a`, is put and accepted.
+    PutAt(u32, i32),
+    // A put of `n` bytes is rejected.
+    PutRejected(u8),
+    // A put is told that all work is used up.
+    PutOver,
+    // A unit is reserved and fetched: it has these common bytes, and of its own this byte `n` times.
+    Work(&'static str, u8, u8),
+    // A unit is reserved and left.
+    Leave,
+    // A reserve is told that all work is used up.
+    Exhausted,
+    // A try finds no unit now.
+    TryInVain,
+    // A try is granted a unit, which is left.
+    TryAndLeave,
+    // A try is told that all work is used up.
+    TryOver,
+    // A count of this type tells so many units, this highest priority, and so many that have it.
+    Count(u32, u64, Option<i32>, u64),
+    // A batch with the common part `xy` begins.
+    Begin,
+    // The beginning of a batch with a common part of `n` bytes is rejected, and no batch is going on.
+    BeginRejected(u8),
+    // The beginning of a batch is told that all work is used up, and no batch is going on.
+    BeginOver,
+    // The batch ends.
+    End,
+}
+
+// This byte `n` times.
+fn body(alloc: Global, byte: u8, n: u8) -> Result<Payload, Fail>
+    ensures { IfOk result (λ b. length b ≤ 255) }
+{
+    let bytes = vec![in alloc; byte; n as usize]?;
+    Ok(Payload::from_vec(bytes))
+}
+
+fn put(world: &mut InlineWorld, kind: u32, prio: i32, body: Payload) -> Result<(), PutFault>
+    requires running { has_finished world.old.run.transcript ≡ false }
+    requires size { length body ≤ 255 }
+    ensures { has_finished world.new.run.transcript ≡ false }
+{
+    world.put(WorkType(kind), prio, Target::Any, None, body)
+}
+
+fn reserve(world: &mut InlineWorld) -> Result<Handle, EndFault>
+    requires { has_finished world.old.run.transcript ≡ false }
+    ensures running { has_finished world.new.run.transcript ≡ false }
+    ensures granted { IfOk result (λ note. granted note world.new.run.transcript) }
+    ensures once { IfOk result (λ note. is_fetched note.id world.new.run.transcript ≡ false) }
+{
+    world.reserve(&Types::any())
+}
+
+fn attempt(world: &mut InlineWorld) -> Result<Handle, TryFault>
+    requires { has_finished world.old.run.transcript ≡ false }
+    ensures running { has_finished world.new.run.transcript ≡ false }
+    ensures granted { IfOk result (λ note. granted note world.new.run.transcript) }
+    ensures once { IfOk result (λ note. is_fetched note.id world.new.run.transcript ≡ false) }
+{
+    world.ireserve(&Types::any())
+}
+
+// A try is answered by this fault.
+fn refused(rt: &impl Abort, world: &mut InlineWorld, expected: TryFault)
+    requires { has_finished world.old.run.transcript ≡ false }
+    ensures { has_finished world.new.run.transcript ≡ false }
+{
+    match attempt(world) {
+        Ok(handle) => {
+            world.leave(handle);
+            panic!(rt; "a unit is left");
+        }
+        Err(fault) => assert_eq!(rt; fault, expected),
+    }
+}
+
+fn count(world: &mut InlineWorld, kind: u32) -> Result<Info, Trouble>
+    requires { has_finished world.old.run.transcript ≡ false }
+    ensures { has_finished world.new.run.transcript ≡ false }
+{
+    world.num_units(WorkType(kind))
+}
+
+// The bytes of a unit that is reserved and fetched.
+fn work(world: &mut InlineWorld) -> Result<Body, Fail>
+    requires { has_finished world.old.run.transcript ≡ false }
+    ensures { has_finished world.new.run.transcript ≡ false }
+{
+    let handle = reserve(world)?;
+    match world.get_reserved(handle) {
+        Ok(body) => Ok(body),
+        Err((handle, trouble)) => {
+            let _ = handle.spend();
+            Err(Fail::from(trouble))
+        }
+    }
+}
+
+// A batch begins; the script has it where none is going on.
+fn begin(rt: &impl Abort, world: &mut InlineWorld, common: Payload) -> Result<(), PutFault>
+    requires running { has_finished world.old.run.transcript ≡ false }
+    requires size { length common ≤ 255 }
+    ensures { has_finished world.new.run.transcript ≡ false }
+{
+    if world.batch_open() {
+        panic!(rt; "a batch is going on");
+    }
+    let begun = world.begin_batch(common);
+    assert_eq!(rt; world.batch_open(), begun.is_ok());
+    begun
+}
+
+// The batch that is going on ends.
+fn end(rt: &impl Abort, world: &mut InlineWorld) -> Result<(), Fail>
+    requires { has_finished world.old.run.transcript ≡ false }
+    ensures { has_finished world.new.run.transcript ≡ false }
+{
+    if !world.batch_open() {
+        panic!(rt; "no batch is going on");
+    }
+    world.end_batch()?;
+    assert!(rt; !world.batch_open());
+    Ok(())
+}
+
+// Each step is answered as it says.
+fn play(rt: &impl Abort, alloc: Global, world: &mut InlineWorld, acts: &[Act]) -> Result<(), Fail>
+    requires { has_finished world.old.run.transcript ≡ false }
+    ensures { has_finished world.new.run.transcript ≡ false }
+{
+    for act in acts {
+        play_one(rt, alloc, world, *act)?;
+    }
+    Ok(())
+}
+
+fn play_one(rt: &impl Abort, alloc: Global, world: &mut InlineWorld, act: Act) -> Result<(), Fail>
+    requires { has_finished world.old.run.transcript ≡ false }
+    ensures { has_finished world.new.run.transcript ≡ false }
+{
+    match act {
+        Act::Put(kind, byte, n) => put(world, kind, 0, body(alloc, byte, n)?)?,
+        Act::PutAt(kind, prio) => put(world, kind, prio, body(alloc, b'a', 1)?)?,
+        Act::PutRejected(n) => {
+            let answer = put(world, 1, 0, body(alloc, 0, n)?);
+            assert_eq!(rt; answer, Err(PutFault::Rejected));
+        }
+        Act::PutOver => {
+            let answer = put(world, 1, 0, body(alloc, 0, 1)?);
+            assert_eq!(rt; answer, Err(PutFault::Exhausted));
+        }
+        Act::Work(common, byte, n) => {
+            let given = work(world)?;
+            let own = body(alloc, byte, n)?;
+            assert_eq!(rt; given.runs(), (common.as_bytes(), own.bytes()));
+        }
+        Act::Leave => {
+            let handle = reserve(world)?;
+            world.leave(handle);
+        }
+        Act::Exhausted => match reserve(world) {
+            Ok(handle) => {
+                world.leave(handle);
+                panic!(rt; "a unit is left");
+            }
+            Err(fault) => assert_eq!(rt; fault, EndFault::Exhausted),
+        },
+        Act::TryInVain => refused(rt, world, TryFault::NoCurrentWork),
+        Act::TryAndLeave => {
+            let handle = attempt(world)?;
+            world.leave(handle);
+        }
+        Act::TryOver => refused(rt, world, TryFault::Exhausted),
+        Act::Count(kind, free, top, at_top) => {
+            let info = count(world, kind)?;
+            assert_eq!(rt; info, Info { free, top, at_top });
+        }
+        Act::Begin => begin(rt, world, Payload::copy(alloc, b"xy".as_slice())?)?,
+        Act::BeginRejected(n) => {
+            let answer = begin(rt, world, body(alloc, 0, n)?);
+            assert_eq!(rt; answer, Err(PutFault::Rejected));
+        }
+        Act::BeginOver => {
+            let answer = begin(rt, world, body(alloc, 0, 1)?);
+            assert_eq!(rt; answer, Err(PutFault::Exhausted));
+        }
+        Act::End => end(rt, world)?,
+    }
+    Ok(())
+}
+
+// A world with this limit in which each step was made, and the rank finished, answered `calls` calls, has this ledger, and
+// these units are left.
+fn check(
+    rt: &impl Abort,
+    alloc: Global,
+    limit: u64,
+    acts: &[Act],
+    calls: usize,
+    ledger: &[&str],
+    left: &[LeftUnit],
+) -> Result<(), Fail>
+    requires least { 64 ≤ limit }
+    requires most { limit ≤ 2 ^ 30 }
+{
+    let mut world = InlineWorld::new(alloc, limit)?;
+    play(rt, alloc, &mut world, acts)?;
+    if world.batch_open() {
+        panic!(rt; "a batch is going on");
+    }
+    world.finish_inline();
+    let (entries, said, units) = world.end()?;
+    assert_eq!(rt; said.len(), calls);
+    let mut lines = ledger.iter();
+    for entry in entries.entries() {
+        let line = line(alloc, entry)?;
+        assert_eq!(rt; Some(&line.as_str()), lines.next());
+    }
+    assert!(rt; lines.next().is_none());
+    assert_eq!(rt; units.as_slice(), left);
+    Ok(())
+}
+
+// An entry as it is shown: of what is put its type, its length and its first byte, of a common part these two, and of a
+// reserve and a try no types.
+fn line(alloc: Global, entry: &Entry) -> Result<String, Fail> {
+    Ok(match entry {
+        Entry::Putting {
+            rank,
+            call,
+            kind,
+            body,
+            ..
+        } => {
+            let first = body.bytes().first();
+            format!(in alloc;
+                "Putting {} {call}: type {}, {} bytes, {first:?}",
+                rank.0,
+                kind.0,
+                body.len()
+            )?
+        }
+        Entry::Keeping { rank, call, common } => {
+            let first = common.bytes().first();
+            format!(in alloc;
+                "Keeping {} {call}: {} bytes, {first:?}",
+                rank.0,
+                common.len()
+            )?
+        }
+        Entry::Asked { rank, call, .. } => format!(in alloc; "Asked {} {call}", rank.0)?,
+        Entry::Tried { rank, call, .. } => format!(in alloc; "Tried {} {call}", rank.0)?,
+        _ => format!(in alloc; "{entry:?}")?,
+    })
+}
+
+const fn unit(number: u64, pinned: Option<Rank>) -> LeftUnit {
+    LeftUnit {
+        id: UnitId {
+            rank: Rank(0),
+            number,
+        },
+        server: Server(0),
+        pinned,
+    }
+}
+
+#[test]
+fn units_are_fetched_in_order(rt: HostRuntime) -> Result<(), Fail> {
+    let acts = [
+        Act::Put(1, b'a', 1),
+        Act::Put(1, b'b', 1),
+        Act::Work("", b'a', 1),
+        Act::Work("", b'b', 1),
+    ];
+    let ledger = [
+        "Putting 0 0: type 1, 1 bytes, Some(97)",
+        "Accepted { server: Server(0), id: UnitId { rank: Rank(0), number: 0 } }",
+        "Putting 0 1: type 1, 1 bytes, Some(98)",
+        "Accepted { server: Server(0), id: UnitId { rank: Rank(0), number: 1 } }",
+        "Asked 0 2",
+        "Granted { server: Server(0), rank: Rank(0), call: 2, id: UnitId { rank: Rank(0), number: 0 } }",
+        "Fetching { rank: Rank(0), call: 3, id: UnitId { rank: Rank(0), number: 0 } }",
+        "Fetched { server: Server(0), rank: Rank(0), id: UnitId { rank: Rank(0), number: 0 } }",
+        "Asked 0 4",
+        "Granted { server: Server(0), rank: Rank(0), call: 4, id: UnitId { rank: Rank(0), number: 1 } }",
+        "Fetching { rank: Rank(0), call: 5, id: UnitId { rank: Rank(0), number: 1 } }",
+        "Fetched { server: Server(0), rank: Rank(0), id: UnitId { rank: Rank(0), number: 1 } }",
+        "Finished { rank: Rank(0), call: 6 }",
+    ];
+    check(&rt, rt.alloc(), 64, &acts, 7, &ledger, &[])
+}
+
+#[test]
+fn what_is_over_the_limit_is_rejected(rt: HostRuntime) -> Result<(), Fail> {
+    let acts = [
+        Act::PutRejected(93),
+        Act::PutRejected(85),
+        Act::Exhausted,
+        Act::Exhausted,
+    ];
+    let ledger = [
+        "Putting 0 0: type 1, 93 bytes, Some(0)",
+        "Refused { server: Server(0), id: UnitId { rank: Rank(0), number: 0 }, used: 0 }",
+        "Rejected { rank: Rank(0), call: 0 }",
+        "Putting 0 1: type 1, 85 bytes, Some(0)",
+        "Refused { server: Server(0), id: UnitId { rank: Rank(0), number: 1 }, used: 0 }",
+        "Rejected { rank: Rank(0), call: 1 }",
+        "Asked 0 2",
+        "Exhausted",
+        "Over { rank: Rank(0), call: 2, end: Exhausted }",
+        "Asked 0 3",
+        "Over { rank: Rank(0), call: 3, end: Exhausted }",
+        "Finished { rank: Rank(0), call: 4 }",
+    ];
+    check(&rt, rt.alloc(), 64, &acts, 5, &ledger, &[])
+}
+
+#[test]
+fn units_that_are_not_fetched_are_left(rt: HostRuntime) -> Result<(), Fail> {
+    let acts = [
+        Act::Put(2, b'a', 60),
+        Act::PutRejected(5),
+        Act::Put(2, b'b', 4),
+        Act::Leave,
+    ];
+    let ledger = [
+        "Putting 0 0: type 2, 60 bytes, Some(97)",
+        "Accepted { server: Server(0), id: UnitId { rank: Rank(0), number: 0 } }",
+        "Putting 0 1: type 1, 5 bytes, Some(0)",
+        "Refused { server: Server(0), id: UnitId { rank: Rank(0), number: 1 }, used: 60 }",
+        "Rejected { rank: Rank(0), call: 1 }",
+        "Putting 0 2: type 2, 4 bytes, Some(98)",
+        "Accepted { server: Server(0), id: UnitId { rank: Rank(0), number: 2 } }",
+        "Asked 0 3",
+        "Granted { server: Server(0), rank: Rank(0), call: 3, id: UnitId { rank: Rank(0), number: 0 } }",
+        "Finished { rank: Rank(0), call: 4 }",
+    ];
+    let left = [unit(0, Some(Rank(0))), unit(2, None)];
+    check(&rt, rt.alloc(), 64, &acts, 5, &ledger, &left)
+}
+
+#[test]
+fn free_units_of_a_type_are_counted_by_their_priority(rt: HostRuntime) -> Result<(), Fail> {
+    let acts = [
+        Act::PutAt(1, 3),
+        Act::PutAt(1, 7),
+        Act::Count(1, 2, Some(7), 1),
+        Act::Count(2, 0, None, 0),
+        // The unit of priority 7 is fetched.
+        Act::Work("", b'a', 1),
+        Act::Count(1, 1, Some(3), 1),
+        // A unit that is pinned is not counted.
+        Act::Leave,
+        Act::Count(1, 0, None, 0),
+        // After an end was told the home is asked as before.
+        Act::Exhausted,
+        Act::Count(1, 0, None, 0),
+    ];
+    let ledger = [
+        "Putting 0 0: type 1, 1 bytes, Some(97)",
+        "Accepted { server: Server(0), id: UnitId { rank: Rank(0), number: 0 } }",
+        "Putting 0 1: type 1, 1 bytes, Some(97)",
+        "Accepted { server: Server(0), id: UnitId { rank: Rank(0), number: 1 } }",
+        "Counting { rank: Rank(0), call: 2, kind: WorkType(1) }",
+        "Counted { server: Server(0), rank: Rank(0), call: 2, info: Info { free: 2, top: Some(7), at_top: 1 } }",
+        "Counting { rank: Rank(0), call: 3, kind: WorkType(2) }",
+        "Counted { server: Server(0), rank: Rank(0), call: 3, info: Info { free: 0, top: None, at_top: 0 } }",
+        "Asked 0 4",
+        "Granted { server: Server(0), rank: Rank(0), call: 4, id: UnitId { rank: Rank(0), number: 1 } }",
+        "Fetching { rank: Rank(0), call: 5, id: UnitId { rank: Rank(0), number: 1 } }",
+        "Fetched { server: Server(0), rank: Rank(0), id: UnitId { rank: Rank(0), number: 1 } }",
+        "Counting { rank: Rank(0), call: 6, kind: WorkType(1) }",
+        "Counted { server: Server(0), rank: Rank(0), call: 6, info: Info { free: 1, top: Some(3), at_top: 1 } }",
+        "Asked 0 7",
+        "Granted { server: Server(0), rank: Rank(0), call: 7, id: UnitId { rank: Rank(0), number: 0 } }",
+        "Counting { rank: Rank(0), call: 8, kind: WorkType(1) }",
+        "Counted { server: Server(0), rank: Rank(0), call: 8, info: Info { free: 0, top: None, at_top: 0 } }",
+        "Asked 0 9",
+        "Exhausted",
+        "Over { rank: Rank(0), call: 9, end: Exhausted }",
+        "Counting { rank: Rank(0), call: 10, kind: WorkType(1) }",
+        "Counted { server: Server(0), rank: Rank(0), call: 10, info: Info { free: 0, top: None, at_top: 0 } }",
+        "Finished { rank: Rank(0), call: 11 }",
+    ];
+    let left = [unit(0, Some(Rank(0)))];
+    check(&rt, rt.alloc(), 64, &acts, 12, &ledger, &left)
+}
+
+#[test]
+fn a_try_where_nothing_is_looks_once(rt: HostRuntime) -> Result<(), Fail> {
+    let ledger = [
+        "Tried 0 0",
+        "Looked { server: Server(0), rank: Rank(0), call: 0 }",
+        "NoCurrent { rank: Rank(0), call: 0 }",
+        "Finished { rank: Rank(0), call: 1 }",
+    ];
+    check(&rt, rt.alloc(), 64, &[Act::TryInVain], 2, &ledger, &[])
+}
+
+#[test]
+fn a_try_is_granted_what_is_free(rt: HostRuntime) -> Result<(), Fail> {
+    let acts = [
+        Act::Put(1, b'a', 1),
+        Act::TryAndLeave,
+        // The unit is pinned.
+        Act::TryInVain,
+        // Trying does not use up the work, and reserving does.
+        Act::Exhausted,
+        Act::TryOver,
+    ];
+    let ledger = [
+        "Putting 0 0: type 1, 1 bytes, Some(97)",
+        "Accepted { server: Server(0), id: UnitId { rank: Rank(0), number: 0 } }",
+        "Tried 0 1",
+        "Granted { server: Server(0), rank: Rank(0), call: 1, id: UnitId { rank: Rank(0), number: 0 } }",
+        "Tried 0 2",
+        "Looked { server: Server(0), rank: Rank(0), call: 2 }",
+        "NoCurrent { rank: Rank(0), call: 2 }",
+        "Asked 0 3",
+        "Exhausted",
+        "Over { rank: Rank(0), call: 3, end: Exhausted }",
+        "Tried 0 4",
+        "Over { rank: Rank(0), call: 4, end: Exhausted }",
+        "Finished { rank: Rank(0), call: 5 }",
+    ];
+    let left = [unit(0, Some(Rank(0)))];
+    check(&rt, rt.alloc(), 64, &acts, 6, &ledger, &left)
+}
+
+#[test]
+fn units_of_a_batch_share_its_common_part(rt: HostRuntime) -> Result<(), Fail> {
+    let acts = [
+        Act::Begin,
+        Act::Put(1, b'a', 1),
+        Act::Put(1, b'b', 1),
+        Act::Count(1, 2, Some(0), 2),
+        Act::End,
+        Act::Work("xy", b'a', 1),
+        Act::Work("xy", b'b', 1),
+    ];
+    let ledger = [
+        "Keeping 0 0: 2 bytes, Some(120)",
+        "Kept { server: Server(0), batch: BatchId { rank: Rank(0), number: 0 } }",
+        "Putting 0 1: type 1, 1 bytes, Some(97)",
+        "Accepted { server: Server(0), id: UnitId { rank: Rank(0), number: 1 } }",
+        "Putting 0 2: type 1, 1 bytes, Some(98)",
+        "Accepted { server: Server(0), id: UnitId { rank: Rank(0), number: 2 } }",
+        "Counting { rank: Rank(0), call: 3, kind: WorkType(1) }",
+        "Counted { server: Server(0), rank: Rank(0), call: 3, info: Info { free: 2, top: Some(0), at_top: 2 } }",
+        "Closing { rank: Rank(0), call: 4 }",
+        "Closed { server: Server(0), batch: BatchId { rank: Rank(0), number: 0 } }",
+        "Asked 0 5",
+        "Granted { server: Server(0), rank: Rank(0), call: 5, id: UnitId { rank: Rank(0), number: 1 } }",
+        "Fetching { rank: Rank(0), call: 6, id: UnitId { rank: Rank(0), number: 1 } }",
+        "Fetched { server: Server(0), rank: Rank(0), id: UnitId { rank: Rank(0), number: 1 } }",
+        "CommonFetched { server: Server(0), rank: Rank(0), batch: BatchId { rank: Rank(0), number: 0 } }",
+        "Asked 0 7",
+        "Granted { server: Server(0), rank: Rank(0), call: 7, id: UnitId { rank: Rank(0), number: 2 } }",
+        "Fetching { rank: Rank(0), call: 8, id: UnitId { rank: Rank(0), number: 2 } }",
+        "Fetched { server: Server(0), rank: Rank(0), id: UnitId { rank: Rank(0), number: 2 } }",
+        "CommonFetched { server: Server(0), rank: Rank(0), batch: BatchId { rank: Rank(0), number: 0 } }",
+        "Freed { server: Server(0), batch: BatchId { rank: Rank(0), number: 0 } }",
+        "Finished { rank: Rank(0), call: 9 }",
+    ];
+    check(&rt, rt.alloc(), 64, &acts, 10, &ledger, &[])
+}
+
+#[test]
+fn the_part_of_a_batch_without_units_is_freed_at_its_end(rt: HostRuntime) -> Result<(), Fail> {
+    let acts = [Act::Begin, Act::End];
+    let ledger = [
+        "Keeping 0 0: 2 bytes, Some(120)",
+        "Kept { server: Server(0), batch: BatchId { rank: Rank(0), number: 0 } }",
+        "Closing { rank: Rank(0), call: 1 }",
+        "Closed { server: Server(0), batch: BatchId { rank: Rank(0), number: 0 } }",
+        "Freed { server: Server(0), batch: BatchId { rank: Rank(0), number: 0 } }",
+        "Finished { rank: Rank(0), call: 2 }",
+    ];
+    check(&rt, rt.alloc(), 64, &acts, 3, &ledger, &[])
+}
+
+#[test]
+fn a_common_part_over_the_limit_is_rejected(rt: HostRuntime) -> Result<(), Fail> {
+    let acts = [
+        Act::BeginRejected(65),
+        Act::Put(1, b'a', 64),
+        Act::Work("", b'a', 64),
+    ];
+    let ledger = [
+        "Keeping 0 0: 65 bytes, Some(0)",
+        "Refused { server: Server(0), id: UnitId { rank: Rank(0), number: 0 }, used: 0 }",
+        "Rejected { rank: Rank(0), call: 0 }",
+        "Putting 0 1: type 1, 64 bytes, Some(97)",
+        "Accepted { server: Server(0), id: UnitId { rank: Rank(0), number: 1 } }",
+        "Asked 0 2",
+        "Granted { server: Server(0), rank: Rank(0), call: 2, id: UnitId { rank: Rank(0), number: 1 } }",
+        "Fetching { rank: Rank(0), call: 3, id: UnitId { rank: Rank(0), number: 1 } }",
+        "Fetched { server: Server(0), rank: Rank(0), id: UnitId { rank: Rank(0), number: 1 } }",
+        "Finished { rank: Rank(0), call: 4 }",
+    ];
+    check(&rt, rt.alloc(), 64, &acts, 5, &ledger, &[])
+}
+
+#[test]
+fn a_batch_ends_after_an_end_was_told(rt: HostRuntime) -> Result<(), Fail> {
+    let acts = [
+        Act::Begin,
+        Act::Put(1, b'a', 1),
+        Act::Work("xy", b'a', 1),
+        Act::Exhausted,
+        Act::PutOver,
+        Act::End,
+        Act::BeginOver,
+        Act::Exhausted,
+    ];
+    let ledger = [
+        "Keeping 0 0: 2 bytes, Some(120)",
+        "Kept { server: Server(0), batch: BatchId { rank: Rank(0), number: 0 } }",
+        "Putting 0 1: type 1, 1 bytes, Some(97)",
+        "Accepted { server: Server(0), id: UnitId { rank: Rank(0), number: 1 } }",
+        "Asked 0 2",
+        "Granted { server: Server(0), rank: Rank(0), call: 2, id: UnitId { rank: Rank(0), number: 1 } }",
+        "Fetching { rank: Rank(0), call: 3, id: UnitId { rank: Rank(0), number: 1 } }",
+        "Fetched { server: Server(0), rank: Rank(0), id: UnitId { rank: Rank(0), number: 1 } }",
+        "CommonFetched { server: Server(0), rank: Rank(0), batch: BatchId { rank: Rank(0), number: 0 } }",
+        "Asked 0 4",
+        "Exhausted",
+        "Over { rank: Rank(0), call: 4, end: Exhausted }",
+        "Putting 0 5: type 1, 1 bytes, Some(0)",
+        "Over { rank: Rank(0), call: 5, end: Exhausted }",
+        "Closing { rank: Rank(0), call: 6 }",
+        "Closed { server: Server(0), batch: BatchId { rank: Rank(0), number: 0 } }",
+        "Freed { server: Server(0), batch: BatchId { rank: Rank(0), number: 0 } }",
+        "Keeping 0 7: 1 bytes, Some(0)",
+        "Over { rank: Rank(0), call: 7, end: Exhausted }",
+        "Asked 0 8",
+        "Over { rank: Rank(0), call: 8, end: Exhausted }",
+        "Finished { rank: Rank(0), call: 9 }",
+    ];
+    check(&rt, rt.alloc(), 64, &acts, 10, &ledger, &[])
+}
+
+#[test]
+fn a_unit_that_is_left_keeps_its_common_part(rt: HostRuntime) -> Result<(), Fail> {
+    let acts = [Act::Begin, Act::Put(1, b'a', 1), Act::End, Act::Leave];
+    let ledger = [
+        "Keeping 0 0: 2 bytes, Some(120)",
+        "Kept { server: Server(0), batch: BatchId { rank: Rank(0), number: 0 } }",
+        "Putting 0 1: type 1, 1 bytes, Some(97)",
+        "Accepted { server: Server(0), id: UnitId { rank: Rank(0), number: 1 } }",
+        "Closing { rank: Rank(0), call: 2 }",
+        "Closed { server: Server(0), batch: BatchId { rank: Rank(0), number: 0 } }",
+        "Asked 0 3",
+        "Granted { server: Server(0), rank: Rank(0), call: 3, id: UnitId { rank: Rank(0), number: 1 } }",
+        "Finished { rank: Rank(0), call: 4 }",
+    ];
+    let left = [unit(1, Some(Rank(0)))];
+    check(&rt, rt.alloc(), 64, &acts, 5, &ledger, &left)
+}

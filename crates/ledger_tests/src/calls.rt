@@ -1,0 +1,123 @@
+//! Calls at random, each one that its rank is ready for.
+
+use adlb_unit::{Config, Payload, Rank, Target, Types, UnitId, WorkType};
+use bag_ledger::{Answer, Call, Said};
+use rand_core::utils::NextWord;
+use rand_pcg::Pcg32;
+use std::alloc::Global;
+use std::test::Fail;
+
+/// The stream of the generator.
+const STREAM: u64 = 7;
+
+/// Numbers as a seed gives them.
+#[derive(Drop)]
+pub(crate) struct Words {
+    generator: Pcg32,
+}
+
+impl Words {
+    pub(crate) fn new(seed: u64) -> Words {
+        Words {
+            generator: Pcg32::new(seed, STREAM),
+        }
+    }
+
+    // One of the numbers below this one, and 0 below 0.
+    pub(crate) fn below(&mut self, count: u32) -> u32 {
+        let word: u32 = self.generator.next_word();
+        word % count.max(1)
+    }
+
+    // One of the places of a list of so many.
+    pub(crate) fn place(&mut self, count: usize) -> usize {
+        let word: u32 = self.generator.next_word();
+        word as usize % count.max(1)
+    }
+}
+
+/// A call of a rank with this transcript. A unit that was granted is fetched at once, but for one of four.
+pub(crate) fn call(
+    alloc: Global,
+    words: &mut Words,
+    config: Config,
+    said: &[Said],
+) -> Result<Call, Fail> {
+    if let Some(id) = granted_last(said) {
+        if words.below(4) > 0 {
+            return Ok(Call::Fetch { id });
+        }
+    }
+    match words.below(9) {
+        0..=5 => put(alloc, words, config),
+        6 => Ok(Call::Reserve {
+            types: types(words)?,
+        }),
+        7 => Ok(Call::Try {
+            types: types(words)?,
+        }),
+        _ => Ok(Call::Count {
+            kind: WorkType(words.below(3)),
+        }),
+    }
+}
+
+/// The last calls: the rank reserves until it is told an end, and finishes.
+pub(crate) fn last_call(ended: bool) -> Call {
+    if ended {
+        Call::Finish
+    } else {
+        Call::Reserve {
+            types: Types::any(),
+        }
+    }
+}
+
+// The unit that the last call was granted.
+fn granted_last(said: &[Said]) -> Option<UnitId> {
+    match said.last() {
+        Some(
+            Said {
+                answer: Answer::Granted(note),
+                ..
+            },
+        ) => Some(note.id),
+        _ => None,
+    }
+}
+
+// Any type, or one or two of three.
+fn types(words: &mut Words) -> Result<Types, Fail> {
+    let kinds = [WorkType(words.below(3)), WorkType(words.below(3))];
+    if words.below(3) == 0 {
+        return Ok(Types::any());
+    }
+    Ok(Types::list(&kinds)?)
+}
+
+fn put(alloc: Global, words: &mut Words, config: Config) -> Result<Call, Fail> {
+    Ok(Call::Put {
+        kind: WorkType(words.below(3)),
+        prio: if words.below(2) == 0 { 0 } else { 1 },
+        target: target(words, config.ranks),
+        answer: None,
+        body: body(alloc, words)?,
+    })
+}
+
+// A target in a run of so many ranks.
+fn target(words: &mut Words, ranks: u32) -> Target {
+    let rank = Rank(words.below(ranks));
+    match words.below(4) {
+        0 | 1 => Target::Any,
+        2 => Target::Only(rank),
+        _ => Target::Soft(rank),
+    }
+}
+
+// Up to 59 bytes.
+fn body(alloc: Global, words: &mut Words) -> Result<Payload, Fail> {
+    let length = words.below(60);
+    let bytes = vec![in alloc; b'x'; length as usize]?;
+    Ok(Payload::from_vec(bytes))
+}
