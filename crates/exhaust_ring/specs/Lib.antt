@@ -1,0 +1,5 @@
+pub mod Expected
+pub mod Inside
+pub mod Ring
+pub mod Tests
+pub mod Visits
