@@ -4,7 +4,7 @@ use adlb_unit::{
     Actor, BatchId, CommonRef, Config, End, Info, Letter, Message, Payload, Rank, Sending, Server,
     Target, Types, UnitId, UnitNote, WorkType,
 };
-use bag_ledger::{Answer, Call, Entry};
+use bag_ledger::{Answer, Call, Entry, Said};
 use rank_client::{ClientCore, ClientStep};
 use std::alloc::Global;
 use std::process::Abort;
@@ -24,6 +24,7 @@ enum Makes {
     EndBatch,
     // A count of the units of type 1.
     Count,
+    SetDone,
     Finish,
 }
 
@@ -43,6 +44,7 @@ enum Says {
     Closed(u64),
     // So many units are free, and one of them has the highest priority, 7.
     Counted(u64, u64),
+    DoneHeard(u64),
     Finish,
 }
 
@@ -59,6 +61,8 @@ enum Line {
     Expects(u32, u64, Says),
     // How many calls are answered.
     Answered,
+    // The last call that is answered, with its answer.
+    SaidLast,
 }
 
 // Rank 1's unit of number 7 is granted, in the rank's second event.
@@ -105,6 +109,7 @@ fn call(alloc: Global, makes: Makes) -> Result<Call, Fail> {
         },
         Makes::EndBatch => Call::EndBatch,
         Makes::Count => Call::Count { kind: WorkType(1) },
+        Makes::SetDone => Call::SetDone,
         Makes::Finish => Call::Finish,
     })
 }
@@ -139,6 +144,7 @@ fn message(alloc: Global, says: Says) -> Result<Message, Fail> {
             request,
             info: info(free),
         },
+        Says::DoneHeard(request) => Message::DoneHeard { request },
         Says::Finish => Message::Finish,
     })
 }
@@ -229,7 +235,7 @@ fn yes(alloc: Global, holds: bool) -> Result<String, Fail> {
     Ok(String::from_str(alloc, if holds { "yes" } else { "no" })?)
 }
 
-// To whom letters go, with the batch of a unit and with what the end of a batch tells.
+// To whom letters go, with the batch of a unit, what the end of a batch tells, and that the problem is done.
 fn receivers(alloc: Global, sends: &[Sending]) -> Result<String, Fail> {
     let mut all = String::new(alloc);
     for sending in sends {
@@ -239,12 +245,12 @@ fn receivers(alloc: Global, sends: &[Sending]) -> Result<String, Fail> {
             )?.as_str())?,
             Actor::Rank(_) => all.push_str(" to a rank")?,
         }
-        all.push_str(of_batch(alloc, &sending.letter.message)?.as_str())?;
+        all.push_str(detail(alloc, &sending.letter.message)?.as_str())?;
     }
     Ok(all)
 }
 
-fn of_batch(alloc: Global, message: &Message) -> Result<String, Fail> {
+fn detail(alloc: Global, message: &Message) -> Result<String, Fail> {
     match message {
         Message::Put { unit } => match unit.common {
             Some(part) => {
@@ -255,6 +261,7 @@ fn of_batch(alloc: Global, message: &Message) -> Result<String, Fail> {
             None => Ok(String::new(alloc)),
         },
         Message::CloseBatch { accepted, .. } => Ok(format!(in alloc; " after {accepted}")?),
+        Message::Done { request } => Ok(format!(in alloc; " with Done {request}")?),
         _ => Ok(String::new(alloc)),
     }
 }
@@ -280,6 +287,7 @@ fn name(entry: &Entry) -> (&'static str, u64) {
         Entry::Keeping { call, .. } => ("keeping", *call),
         Entry::Closing { call, .. } => ("closing", *call),
         Entry::Counting { call, .. } => ("counting", *call),
+        Entry::Done { call, .. } => ("done", *call),
         Entry::Over { call, .. } => ("over", *call),
         Entry::Finished { call, .. } => ("finished", *call),
         _ => ("other", 0),
@@ -321,6 +329,17 @@ fn shown(alloc: Global, client: &mut ClientCore, line: Line) -> Result<String, F
             let count = client.transcript().len();
             Ok(format!(in alloc; "{count}")?)
         }
+        Line::SaidLast => said_last(alloc, client),
+    }
+}
+
+fn said_last(alloc: Global, client: &ClientCore) -> Result<String, Fail> {
+    match client.transcript().last() {
+        Some(said) => {
+            let Said { call, answer } = said;
+            Ok(format!(in alloc; "{call:?} {answer:?}")?)
+        }
+        None => Ok(String::from_str(alloc, "none")?),
     }
 }
 
@@ -618,4 +637,41 @@ fn after_an_end_the_home_is_asked_for_a_count(rt: HostRuntime) -> Result<(), Fai
         (Line::Begins(Makes::Count), "4 to 0 counting 1"),
     ];
     play(&rt, rt.alloc(), 1, &scene)
+}
+
+#[test]
+fn each_server_hears_that_the_problem_is_done(rt: HostRuntime) -> Result<(), Fail> {
+    let scene = [
+        (Line::Begins(Makes::SetDone), "1 to 0 with Done 0 done 0"),
+        (Line::IsReady(Makes::Finish), "no"),
+        (Line::Expects(1, 1, Says::DoneHeard(0)), "no"),
+        (Line::Expects(0, 1, Says::DoneHeard(1)), "no"),
+        (Line::Expects(0, 1, Says::Ended(0, End::NoMoreWork)), "no"),
+        (Line::Hears(0, 2, Says::DoneHeard(0)), "3 to 1 with Done 0"),
+        (Line::Answered, "0"),
+        (Line::Expects(0, 1, Says::DoneHeard(0)), "no"),
+        (Line::Hears(1, 4, Says::DoneHeard(0)), "5 Fine"),
+        (Line::SaidLast, "SetDone Fine"),
+        (Line::Answered, "1"),
+        (Line::IsReady(Makes::Finish), "yes"),
+    ];
+    play(&rt, rt.alloc(), 2, &scene)
+}
+
+#[test]
+fn after_an_end_each_server_still_hears_that_the_problem_is_done(
+    rt: HostRuntime,
+) -> Result<(), Fail> {
+    let scene = [
+        (Line::Begins(Makes::Reserve), "1 to 0 asked 0"),
+        (
+            Line::Hears(0, 2, Says::Ended(0, End::NoMoreWork)),
+            "3 Ended(NoMoreWork)",
+        ),
+        (Line::Begins(Makes::SetDone), "4 to 0 with Done 1 done 1"),
+        (Line::Hears(0, 5, Says::DoneHeard(1)), "6 to 1 with Done 1"),
+        (Line::Hears(1, 7, Says::DoneHeard(1)), "8 Fine"),
+        (Line::SaidLast, "SetDone Fine"),
+    ];
+    play(&rt, rt.alloc(), 2, &scene)
 }

@@ -25,9 +25,9 @@ use Rattle.rank_client.specs.declared.pendings.Pending.TheVariants as waits_for
 use Rattle.adlb_unit.specs.declared.names.CommonRef.{CommonRef}
 use Rattle.std.specs.Vec.{vec_capacity, vec_len}
 use Rattle.rank_client.specs.declared.clients.ClientCore.TheInside.{Inside}
-use Rattle.rank_client.specs.Inside.{HasRoom, IsFresh, IsInside, IsPlaced, IsSound, Keep, Look, Put, awaited, is_keep, is_put, is_try, keep_of, look_of, put_of, state_of}
+use Rattle.rank_client.specs.Inside.{HasRoom, IsFresh, IsInside, IsPlaced, IsSound, Keep, Look, Put, SetDone, awaited, is_keep, is_put, is_set_done, is_try, keep_of, look_of, put_of, set_done_of, state_of}
 use Rattle.rank_client.specs.Transcript.{TranscriptModel}
-use Rattle.rank_client.specs.Rules.{ClientResponse, answer_call, asked, expects_note, hear_keep, hear_look, hear_put, is_at_server, is_for, looked, looks_at, own_came, part_refused, refused}
+use Rattle.rank_client.specs.Rules.{ClientResponse, answer_call, asked, expects_note, hear_done, hear_keep, hear_look, hear_put, is_at_server, is_for, looked, looks_at, own_came, part_refused, refused}
 use Rattle.rank_client.specs.State.{ClientModel}
 use Rattle.adlb_unit.specs.Ring.{behind}
 use Rattle.rank_client.specs.Step.{Made, hear, letter_stamp, letter_trouble, made, ticked, told_trouble}
@@ -66,6 +66,7 @@ granted_placed s p from m to note m_is some = by_pending p (subst (λ (x : Messa
     by_pending (waits_for.Keep request common first tried) some = absurd (cc)
     by_pending (waits_for.Close request batch) some = absurd (cc)
     by_pending (waits_for.Count request kind) some = absurd (cc)
+    by_pending (waits_for.SetDone request tried) some = absurd (cc)
 
 -- a put that is pending is told by its parts
 pub put_is : (p : Put) (unit : Unit) (first : Server) (tried : ℕ) → waits_for.Put unit first tried ≡ put_of p
@@ -91,6 +92,7 @@ put_heard s from m x to rule is (waits_for.Common request note common own) put s
 put_heard s from m x to rule is (waits_for.Keep request common first tried) put some gave = absurd (cc)
 put_heard s from m x to rule is (waits_for.Close request batch) put some gave = absurd (cc)
 put_heard s from m x to rule is (waits_for.Count request kind) put some gave = absurd (cc)
+put_heard s from m x to rule is (waits_for.SetDone request tried) put some gave = absurd (cc)
 put_heard s from m x to rule is (waits_for.Put unit first tried) put some gave =
     ap (option_map made) (is p) ∙ by_test (is_for unit.id.number (asked s first tried) from to) (subst IsSome (is p) some)
   where
@@ -147,6 +149,7 @@ keep_heard s from m x to rule is (waits_for.Fetch request note) keep some gave =
 keep_heard s from m x to rule is (waits_for.Common request note common own) keep some gave = absurd (cc)
 keep_heard s from m x to rule is (waits_for.Close request batch) keep some gave = absurd (cc)
 keep_heard s from m x to rule is (waits_for.Count request kind) keep some gave = absurd (cc)
+keep_heard s from m x to rule is (waits_for.SetDone request tried) keep some gave = absurd (cc)
 keep_heard s from m x to rule is (waits_for.Keep request common first tried) keep some gave =
     ap (option_map made) (is p) ∙ by_test (is_for request (asked s first tried) from to) (subst IsSome (is p) some)
   where
@@ -188,6 +191,7 @@ look_heard s from m x test rule is (waits_for.Common request note common own) lo
 look_heard s from m x test rule is (waits_for.Keep request common first tried) look some gave = absurd (cc)
 look_heard s from m x test rule is (waits_for.Close request batch) look some gave = absurd (cc)
 look_heard s from m x test rule is (waits_for.Count request kind) look some gave = absurd (cc)
+look_heard s from m x test rule is (waits_for.SetDone request tried) look some gave = absurd (cc)
 look_heard s from m x test rule is (waits_for.Try request types tried) look some gave =
     ap (option_map made) (is p) ∙ by_test (test p) (subst IsSome (is p) some)
   where
@@ -205,6 +209,30 @@ pub looked_gives : (s : ClientModel) (request : ℕ) (types next : Option (List 
     → made (looked s request types tried true) ≡ record { state = record s { pending = waits_for.Try request types (tried + 1); sent = sent }; sends = sends; entries = entries; answer = None }
 looked_gives s request types next to tried letter sends before entries sent to_is next_is sent_is letter_is before_is sends_is entries_is =
     rw (sends_is, entries_is, before_is, letter_is, sent_is, next_is, to_is) refl
+
+-- that a server has heard that the problem is done, which is awaited, is heard by its rule
+pub done_heard : (s : ClientModel) (from : Server) (m : Message) (x : Made) (to : ℕ) (rule : SetDone → ClientResponse)
+    → ((p : SetDone) → hear_done s p.request p.tried from m ≡ (if is_for p.request (looks_at s p.tried) from to then Some (rule p) else None))
+    → (pending : Pending) → is_set_done pending ≡ true → IsSome (answer_call s pending from m)
+    → ((p : SetDone) → pending ≡ set_done_of p → made (rule p) ≡ x) → option_map made (answer_call s pending from m) ≡ Some x
+done_heard s from m x to rule is waits_for.Nothing done some gave = absurd (cc)
+done_heard s from m x to rule is (waits_for.Put unit first tried) done some gave = absurd (cc)
+done_heard s from m x to rule is (waits_for.Reserve request types) done some gave = absurd (cc)
+done_heard s from m x to rule is (waits_for.Try request types tried) done some gave = absurd (cc)
+done_heard s from m x to rule is (waits_for.Fetch request note) done some gave = absurd (cc)
+done_heard s from m x to rule is (waits_for.Common request note common own) done some gave = absurd (cc)
+done_heard s from m x to rule is (waits_for.Keep request common first tried) done some gave = absurd (cc)
+done_heard s from m x to rule is (waits_for.Close request batch) done some gave = absurd (cc)
+done_heard s from m x to rule is (waits_for.Count request kind) done some gave = absurd (cc)
+done_heard s from m x to rule is (waits_for.SetDone request tried) done some gave =
+    ap (option_map made) (is p) ∙ by_test (is_for request (looks_at s tried) from to) (subst IsSome (is p) some)
+  where
+    p : SetDone
+    p = record { request = request; tried = tried }
+
+    by_test : (t : Bool) → IsSome (if t then Some (rule p) else None) → option_map made (if t then Some (rule p) else None) ≡ Some x
+    by_test true some = ap Some (gave p refl)
+    by_test false some = absurd (cc)
 
 -- The fields stay sound.
 

@@ -25,7 +25,7 @@ use Rattle.rank_client.specs.Calls.{fetches, goes_on, is_fetched, is_finish, is_
 use Rattle.rank_client.specs.Granted.{AreGranted, IsGrantedFirst}
 use Rattle.rank_client.specs.Remembered.{AreHeld, IsFitting, IsTaken, Remembers, fetched_by, note_with, pending_call}
 use Rattle.rank_client.specs.Rules.{ClientResponse, answered, call_of, close, count, fetch, finish, held, is_free, is_idle, keep, open_call}
-use Rattle.rank_client.specs.Rules.{look, put, reserve, unit_put, waiting}
+use Rattle.rank_client.specs.Rules.{look, put, reserve, set_done, unit_put, waiting}
 use Rattle.rank_client.specs.Says.{Tells}
 use Rattle.rank_client.specs.State.{ClientModel}
 use Rattle.rank_client.specs.Step.{Made, begin, call_stamp, made, ticked}
@@ -127,6 +127,10 @@ module _ (s : ClientModel) (r : Remembers s) (idle : s.pending ≡ waits_for.Not
   count_tells kind first =
       asks_tells (calls_to.Count kind) s.puts (waits_for.Count s.next kind) refl refl first tt (λ heeds. absurd (cc))
 
+  done_tells : Goes calls_to.SetDone (set_done t)
+  done_tells first =
+      asks_tells calls_to.SetDone s.puts (waits_for.SetDone s.next 0) refl refl first tt (λ heeds. absurd (cc))
+
   finish_tells : Goes calls_to.Finish (finish t)
   finish_tells first =
       ends_tells s r going (call_stamp s) later calls_to.Finish (s.next + 1) s.puts s.accepted s.end s.batch s.handles true answers.Fine refl
@@ -146,7 +150,7 @@ module _ (s : ClientModel) (r : Remembers s) (idle : s.pending ≡ waits_for.Not
   open_tells calls_to.EndBatch z is = close_tells s.batch z is
   open_tells (calls_to.Count kind) z is = subst (Goes (calls_to.Count kind)) (some_is is) (count_tells kind)
   open_tells calls_to.Finish z is = subst (Goes calls_to.Finish) (if_is _ _ z is) finish_tells
-  open_tells _ z is = absurd (cc)
+  open_tells calls_to.SetDone z is = subst (Goes calls_to.SetDone) (some_is is) done_tells
 
 pub call_tells : (s : ClientModel) (call : Call) (x : Made) → begin s call ≡ Some x → Remembers s → Tells s (call_stamp s) call x.answer x.state
 call_tells s call x is r = by_free (is_free s) refl is
@@ -202,7 +206,7 @@ module _ (s : ClientModel) (r : Remembers s) (idle : s.pending ≡ waits_for.Not
       subst (λ (o : Option CommonRef). IsSome (close later_s o)) (sym batch.1) refl
   opens (calls_to.Count kind) can = refl
   opens calls_to.Finish can = some_when _ _ (closed_is can)
-  opens _ can = absurd can
+  opens calls_to.SetDone can = refl
 
   pub is_ready : (call : Call) → CanCall s.config.ranks s.config.servers s.transcript call → IsSome (begin s call)
   is_ready call can =

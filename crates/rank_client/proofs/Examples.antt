@@ -1,4 +1,4 @@
--- Where a put goes first, and where a try goes, by computation.
+-- Where a put goes first, where a try goes, and where that the problem is done, by computation.
 use Rattle.std.proofs.Common.{◌≡◌, ℕ, pos, List, [], ◌∷◌, Option, Some, None, refl, replicate, map, arith}
 use Rattle.std.specs.Option.{option_map}
 use Rattle.adlb_unit.specs.declared.actors.Actor.{Actor}
@@ -9,6 +9,7 @@ use Rattle.adlb_unit.specs.declared.messages.Message.TheVariants as tells
 use Rattle.adlb_unit.specs.declared.names.Rank.{Rank}
 use Rattle.adlb_unit.specs.declared.names.Target.{Target}
 use Rattle.adlb_unit.specs.declared.names.Target.TheVariants as targets
+use Rattle.adlb_unit.specs.declared.notes.End.TheVariants as ends_by
 use Rattle.bag_ledger.specs.declared.entries.Call.TheVariants as calls_to
 use Rattle.rank_client.specs.declared.pendings.Pending.TheVariants as waits_for
 use Rattle.rank_client.specs.State.{start}
@@ -90,3 +91,30 @@ looks_nowhere = refl
 looks_elsewhere : looks_next 1 2 ≡ None
 unfolding config rank looks_next
 looks_elsewhere = refl
+
+-- That the problem is done goes the same way, also after an end was told.
+
+told_first : Option (List Actor)
+told_first =
+    option_map (λ (x : Made). map (λ (y : Sending). y.to) x.sends)
+    (begin (record (start config (rank 2)) { end = Some ends_by.Exhausted }) calls_to.SetDone)
+
+told_at_home : told_first ≡ server 2
+unfolding config rank told_first server
+told_at_home = refl
+
+-- the server that is told next, where this one has heard it as the last of so many and one
+tells_next : ℕ → ℕ → Option (List Actor)
+tells_next tried from =
+    option_map (λ (x : Made). map (λ (y : Sending). y.to) x.sends)
+    (hear (record (start config (rank 2)) { pending = waits_for.SetDone 0 tried }) (record { 0 = from })
+    (record { stamp = 1; place = 0; message = tells.DoneHeard 0 }))
+
+told_behind_home : tells_next 0 2 ≡ server 0
+unfolding config rank tells_next server
+told_behind_home = refl
+
+-- and where each has heard it none is
+told_nowhere : tells_next 2 1 ≡ Some []
+unfolding config rank tells_next
+told_nowhere = refl

@@ -15,8 +15,8 @@ use Rattle.bag_ledger.proofs.Tests.{same_server_is}
 use Rattle.rank_client.specs.declared.pendings.Pending.{Pending}
 use Rattle.rank_client.specs.declared.pendings.Pending.TheVariants as waits_for
 use Rattle.rank_client.specs.Calls.{is_fetched, is_granted}
-use Rattle.rank_client.specs.Expected.{AnswersClose, AnswersCommon, AnswersCount, AnswersFetch, AnswersPut, AnswersReserve, AnswersTry, ExpectedAreHeard, IsAtServer, IsAwaited, IsFor, IsNewNote}
-use Rattle.rank_client.specs.Rules.{ClientResponse, answer_call, asked, expects_note, hear_close, hear_common, hear_count, hear_fetch, hear_keep, hear_look, hear_put, hear_reserve, is_at_server, is_for, looks_at}
+use Rattle.rank_client.specs.Expected.{AnswersClose, AnswersCommon, AnswersCount, AnswersDone, AnswersFetch, AnswersPut, AnswersReserve, AnswersTry, ExpectedAreHeard, IsAtServer, IsAwaited, IsFor, IsNewNote}
+use Rattle.rank_client.specs.Rules.{ClientResponse, answer_call, asked, expects_note, hear_close, hear_common, hear_count, hear_done, hear_fetch, hear_keep, hear_look, hear_put, hear_reserve, is_at_server, is_for, looks_at}
 use Rattle.rank_client.specs.State.{ClientModel}
 use Rattle.rank_client.specs.Step.{letter_stamp, made, ticked}
 
@@ -145,6 +145,12 @@ count_awaited s request kind from (tells.Counted to info) =
     let is = for_is request (home s.config s.me) from to in (λ some. is.0 (if_some _ _ some), λ here. some_if _ _ (is.1 here))
 count_awaited s request kind from _ = (λ some. absurd (cc), λ here. absurd here)
 
+done_awaited : (s : ClientModel) (request tried : ℕ) (from : Server) (m : Message)
+    → IsSome (hear_done s request tried from m) ↔ AnswersDone request (looks_at s tried) from m
+done_awaited s request tried from (tells.DoneHeard to) =
+    let is = for_is request (looks_at s tried) from to in (λ some. is.0 (if_some _ _ some), λ here. some_if _ _ (is.1 here))
+done_awaited s request tried from _ = (λ some. absurd (cc), λ here. absurd here)
+
 awaited : (s : ClientModel) (p : Pending) (from : Server) (m : Message) → IsSome (answer_call s p from m) ↔ IsAwaited s p from m
 awaited s waits_for.Nothing from m = (λ some. absurd (cc), λ here. absurd here)
 awaited s (waits_for.Put unit first tried) from m = put_awaited s unit first tried from m
@@ -155,6 +161,7 @@ awaited s (waits_for.Common request note common own) from m = common_awaited s r
 awaited s (waits_for.Keep request common first tried) from m = keep_awaited s request common first tried from m
 awaited s (waits_for.Close request batch) from m = close_awaited s request batch from m
 awaited s (waits_for.Count request kind) from m = count_awaited s request kind from m
+awaited s (waits_for.SetDone request tried) from m = done_awaited s request tried from m
 
 -- the stamp of an event changes nothing of what is awaited
 same_server : (s : ClientModel) (stamp : ℕ) (o : Option CommonRef) → IsAtServer s o → IsAtServer (ticked s stamp) o
@@ -194,6 +201,7 @@ awaited_ticked s stamp (waits_for.Common request note common own) from m = (λ h
 awaited_ticked s stamp (waits_for.Keep request common first tried) from m = (λ here. here, λ here. here)
 awaited_ticked s stamp (waits_for.Close request batch) from m = (λ here. here, λ here. here)
 awaited_ticked s stamp (waits_for.Count request kind) from m = (λ here. here, λ here. here)
+awaited_ticked s stamp (waits_for.SetDone request tried) from m = (λ here. here, λ here. here)
 
 pub expected_are_heard : ExpectedAreHeard
 expected_are_heard s from letter =

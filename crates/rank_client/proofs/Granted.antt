@@ -27,7 +27,7 @@ use Rattle.rank_client.specs.declared.pendings.Pending.TheVariants as waits_for
 use Rattle.rank_client.specs.Calls.{fetches, grants, is_fetched, is_granted}
 use Rattle.rank_client.specs.Granted.{AreGranted, GrantsComeFirst, IsGrantedFirst}
 use Rattle.adlb_unit.specs.declared.names.CommonRef.{CommonRef}
-use Rattle.rank_client.specs.Rules.{ClientResponse, ClientSaying, answer_call, call_of, close, count, fetch, hear_close, hear_common, hear_count, hear_fetch, hear_keep, hear_look, hear_put, hear_reserve, held, is_free, keep, look, looked, open_call, own_came, part_refused, put, refused, reserve, unit_put}
+use Rattle.rank_client.specs.Rules.{ClientResponse, ClientSaying, answer_call, call_of, close, count, fetch, hear_close, hear_common, hear_count, hear_done, hear_fetch, hear_keep, hear_look, hear_put, hear_reserve, held, is_free, keep, look, looked, open_call, own_came, part_refused, put, refused, reserve, set_done, told_done, unit_put}
 use Rattle.rank_client.specs.State.{ClientModel, start}
 use Rattle.rank_client.specs.Step.{Made, begin, call_stamp, hear, letter_stamp, made, post, ticked}
 use Rattle.rank_client.proofs.Begins.{found_is}
@@ -124,6 +124,9 @@ close_keeps s (Some batch) y is g = subst Keeps (some_is is) (record { held = g.
 count_keeps : (s : ClientModel) (kind : WorkType) → IsGrantedFirst s → Keeps (count s kind)
 count_keeps s kind g = record { held = g.held; fetching = tt; fetched = g.fetched }
 
+done_keeps : (s : ClientModel) → IsGrantedFirst s → Keeps (set_done s)
+done_keeps s g = record { held = g.held; fetching = tt; fetched = g.fetched }
+
 pub open_keeps : (s : ClientModel) (call : Call) (y : ClientResponse) → open_call s call ≡ Some y → IsGrantedFirst s → Keeps y
 open_keeps s (calls_to.Put kind prio target answer body) y is g = subst Keeps (if_is _ _ y is) (put_keeps s (unit_put s kind prio target answer body) s.end g)
 open_keeps s (calls_to.Reserve types) y is g = subst Keeps (some_is is) (reserve_keeps s types s.end g)
@@ -133,7 +136,7 @@ open_keeps s (calls_to.BeginBatch common) y is g = subst Keeps (if_is _ _ y is) 
 open_keeps s calls_to.EndBatch y is g = close_keeps s s.batch y is g
 open_keeps s (calls_to.Count kind) y is g = subst Keeps (some_is is) (count_keeps s kind g)
 open_keeps s calls_to.Finish y is g = subst Keeps (if_is _ _ y is) (call_over s.transcript s.handles s.pending calls_to.Finish answers.Fine g (λ id no. absurd (cc)))
-open_keeps s _ y is g = absurd (cc)
+open_keeps s calls_to.SetDone y is g = subst Keeps (some_is is) (done_keeps s g)
 
 -- A letter.
 
@@ -208,6 +211,17 @@ hear_count_keeps s request kind from (tells.Counted to info) y is g =
     (call_over s.transcript s.handles s.pending (calls_to.Count kind) (answers.Info info) g (λ id no. absurd (cc)))
 hear_count_keeps s request kind from _ y is g = absurd (cc)
 
+told_on_keeps : (s : ClientModel) (request tried : ℕ) (more : Bool) → IsGrantedFirst s → Keeps (told_done s request tried more)
+told_on_keeps s request tried true g = record { held = g.held; fetching = tt; fetched = g.fetched }
+told_on_keeps s request tried false g =
+    call_over s.transcript s.handles s.pending calls_to.SetDone answers.Fine g (λ id no. absurd (cc))
+
+hear_done_keeps : (s : ClientModel) (request tried : ℕ) (from : Server) (m : Message) (y : ClientResponse)
+    → hear_done s request tried from m ≡ Some y → IsGrantedFirst s → Keeps y
+hear_done_keeps s request tried from (tells.DoneHeard to) y is g =
+    subst Keeps (if_is _ _ y is) (told_on_keeps s request tried (nat_lt (tried + 1) s.config.servers) g)
+hear_done_keeps s request tried from _ y is g = absurd (cc)
+
 pub answer_keeps : (s : ClientModel) (p : Pending) (from : Server) (m : Message) (y : ClientResponse) → s.pending ≡ p → answer_call s p from m ≡ Some y → IsGrantedFirst s → Keeps y
 answer_keeps s waits_for.Nothing from m y waits is g = absurd (cc)
 answer_keeps s (waits_for.Put unit first tried) from m y waits is g = hear_put_keeps s unit first tried from m y is g
@@ -222,6 +236,7 @@ answer_keeps s (waits_for.Common request note common own) from m y waits is g =
 answer_keeps s (waits_for.Keep request common first tried) from m y waits is g = hear_keep_keeps s request common first tried from m y is g
 answer_keeps s (waits_for.Close request batch) from m y waits is g = hear_close_keeps s request batch from m y is g
 answer_keeps s (waits_for.Count request kind) from m y waits is g = hear_count_keeps s request kind from m y is g
+answer_keeps s (waits_for.SetDone request tried) from m y waits is g = hear_done_keeps s request tried from m y is g
 
 -- A step.
 

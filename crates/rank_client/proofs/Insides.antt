@@ -62,6 +62,7 @@ room_with config notes space room (waits_for.Common request note common own) mor
 room_with config notes space room (waits_for.Keep request common first tried) more has = has
 room_with config notes space room (waits_for.Close request batch) more has = tt
 room_with config notes space room (waits_for.Count request kind) more has = tt
+room_with config notes space room (waits_for.SetDone request tried) more has = has
 
 pub awaited_few : (pending : Pending) → awaited pending ≤ 2
 awaited_few waits_for.Nothing = omega arith
@@ -73,6 +74,7 @@ awaited_few (waits_for.Common request note common own) = omega arith
 awaited_few (waits_for.Keep request common first tried) = omega arith
 awaited_few (waits_for.Close request batch) = omega arith
 awaited_few (waits_for.Count request kind) = omega arith
+awaited_few (waits_for.SetDone request tried) = omega arith
 
 -- a unit that is held is at a server
 pub held_server : (s : ClientModel) (id : UnitId) (note : UnitNote) → IsSound s → held s id ≡ Some note → IsPlaced s.config note
@@ -89,6 +91,7 @@ room_fewer config notes fewer space same room (waits_for.Common request note com
 room_fewer config notes fewer space same room (waits_for.Keep request common first tried) less is has = has
 room_fewer config notes fewer space same room (waits_for.Close request batch) less is has = tt
 room_fewer config notes fewer space same room (waits_for.Count request kind) less is has = tt
+room_fewer config notes fewer space same room (waits_for.SetDone request tried) less is has = has
 
 pub fewer_notes : (s : ClientModel) (id : UnitId) (notes : List UnitNote) → IsSound s → notes ≡ filter (λ n. not (same_unit n.id id)) s.handles → IsSound (record s { handles = notes })
 fewer_notes s id notes sound is =

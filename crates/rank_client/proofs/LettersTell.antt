@@ -26,7 +26,7 @@ use Rattle.rank_client.specs.Answers.{IsAnswer, answers_call, heeds_end}
 use Rattle.rank_client.specs.Calls.{end_of, fetches, goes_on, is_fetched, is_finish, is_granted, plus}
 use Rattle.rank_client.specs.Granted.{AreGranted, IsGrantedFirst}
 use Rattle.rank_client.specs.Remembered.{AreHeld, IsFitting, IsTaken, Remembers, fetched_by, pending_call}
-use Rattle.rank_client.specs.Rules.{ClientResponse, answer_call, answered, asked, begun_batch, call_of, ends, looked, own_came, part_refused, refused}
+use Rattle.rank_client.specs.Rules.{ClientResponse, answer_call, answered, asked, begun_batch, call_of, ends, looked, own_came, part_refused, refused, told_done}
 use Rattle.rank_client.specs.Says.{Tells}
 use Rattle.rank_client.specs.State.{ClientModel}
 use Rattle.rank_client.specs.Step.{Made, hear, letter_stamp, made, ticked}
@@ -197,6 +197,24 @@ module _ (s : ClientModel) (r : Remembers s) (going : s.finished ≡ false) (sta
       (record { kind = refl; known = tt; again = λ heeds. absurd (cc) }) first)
   count_tells request kind _ z none is = absurd (cc)
 
+  -- The next server is told that the problem is done, or each has heard it.
+
+  told_on_tells : (request tried : ℕ) (more : Bool) → fetched_by s.pending ≡ [] → Goes calls_to.SetDone (told_done heard request tried more)
+  told_on_tells request tried true none first =
+      waits_tells s r going stamp later calls_to.SetDone (waits_for.SetDone request (tried + 1)) s.next s.puts s.handles refl
+      (subst (λ l. AreHeld s.transcript (s.handles ++ l)) none r.held) first tt (λ heeds. absurd (cc))
+  told_on_tells request tried false none first =
+      ends_tells s r going stamp later calls_to.SetDone s.next s.puts s.accepted s.end s.batch s.handles s.finished answers.Fine going
+      (first_none s.end) refl
+      (held_same s.transcript s.handles calls_to.SetDone answers.Fine (held_idle none) (λ note e. absurd (cc)) (λ id. refl))
+      (record { kind = refl; known = tt; again = λ heeds. absurd (cc) }) first
+
+  done_tells : (request tried : ℕ) (m : Message) (z : ClientResponse) → fetched_by s.pending ≡ []
+      → answer_call heard (waits_for.SetDone request tried) from m ≡ Some z → Goes calls_to.SetDone z
+  done_tells request tried (tells.DoneHeard to) z none is =
+      subst (Goes calls_to.SetDone) (if_both _ _ z is).1 (told_on_tells request tried (nat_lt (tried + 1) s.config.servers) none)
+  done_tells request tried _ z none is = absurd (cc)
+
   -- All bytes of a unit have come, or its own, and the common ones are asked for.
 
   body_tells : (note : UnitNote) (body : List ℕ) → fetched_by s.pending ≡ note ∷ [] → IsTaken s.transcript s.handles note
@@ -273,6 +291,8 @@ module _ (s : ClientModel) (r : Remembers s) (going : s.finished ≡ false) (sta
       subst (λ (k : Call). Goes k z) (some_is pending) (close_tells request batch m z (ap fetched_by waits) is)
   answer_tells (waits_for.Count request kind) m z call waits fits pending untold is =
       subst (λ (k : Call). Goes k z) (some_is pending) (count_tells request kind m z (ap fetched_by waits) is)
+  answer_tells (waits_for.SetDone request tried) m z call waits fits pending untold is =
+      subst (λ (k : Call). Goes k z) (some_is pending) (done_tells request tried m z (ap fetched_by waits) is)
 
 pub letter_tells : (s : ClientModel) (from : Server) (letter : Letter) (x : Made) (call : Call) → hear s from letter ≡ Some x
     → Remembers s → pending_call s.pending ≡ Some call → Tells s (letter_stamp s letter) call x.answer x.state

@@ -22,7 +22,7 @@ use Rattle.bag_ledger.specs.declared.states.Status.TheVariants as does
 use Rattle.bag_ledger.specs.declared.states.UnitPlace.TheVariants.{Pinned}
 use Rattle.bag_ledger.specs.Bag.{Bag, part_of, rank_at, unit_of}
 use Rattle.bag_ledger.specs.declared.states.Part.{Part}
-use Rattle.bag_ledger.specs.Runs.{IsRun, calls_from}
+use Rattle.bag_ledger.specs.Runs.{IsRunWhere, calls_from}
 use Rattle.bag_ledger.specs.Steps.{Stands, has_cause}
 use Rattle.rank_client.specs.declared.pendings.Pending.{Pending}
 use Rattle.rank_client.specs.declared.pendings.Pending.TheVariants as waits_for
@@ -107,6 +107,7 @@ in_call s (waits_for.Common request note common own) coming = in_common s reques
 in_call s (waits_for.Keep request common first tried) coming = in_keep s request common first tried coming
 in_call s (waits_for.Close request batch) coming = in_close s request coming
 in_call s (waits_for.Count request kind) coming = in_count s request kind coming
+in_call s (waits_for.SetDone request tried) coming = running s
 
 abbrev pub rank_of : ClientModel → Bool → Option Message → RankState
 rank_of s true coming = record (running s) { status = does.Finished }
@@ -142,8 +143,9 @@ abbrev pub count_coming : Message → Option Answer
 count_coming (tells.Counted to info) = Some (answers.Info info)
 count_coming _ = None
 
--- the transcript and then that call
+-- the transcript and then that call; the ledger has that the problem is done, and so the answer, as soon as the call begins
 abbrev pub said : ClientModel → Pending → Option Message → List Said
+said s (waits_for.SetDone request tried) coming = plus s.transcript calls_to.SetDone (Some answers.Fine)
 said s pending None = s.transcript
 said s waits_for.Nothing (Some m) = s.transcript
 said s (waits_for.Put unit first tried) (Some m) = plus s.transcript (call_of unit) (put_coming m)
@@ -179,11 +181,12 @@ abbrev pub IsOwed : Bag → UnitNote → CommonRef → List ℕ → Type 0
 IsOwed b note common own =
     (u : Placed) × (unit_of b note.id ≡ Some u) × (u.unit.common ≡ Some common) × (u.unit.body ≡ own)
 
--- also while the own bytes come of a unit that has a common part
+-- also while the own bytes come of a unit that has a common part; and the bag knows that the problem is done
 abbrev pub IsOwedIn : Bag → Pending → Option Message → Type 0
 IsOwedIn b (waits_for.Fetch request note) (Some (tells.Bytes to own)) =
     (common : CommonRef) → note.common ≡ Some common → IsOwed b note common own
 IsOwedIn b (waits_for.Common request note common own) coming = IsOwed b note common own
+IsOwedIn b (waits_for.SetDone request tried) coming = b.done ≡ true
 IsOwedIn b pending coming = Prim.Unit {0}
 
 -- Units of the batch that is going on: how many were accepted, also by an answer which comes back.
@@ -215,9 +218,9 @@ pub record ClientAgrees (s : ClientModel) (coming : Option Message) (b : Bag) : 
   pub owed : IsOwedIn b s.pending coming
   pub accepted : HasAccepted b (rank_of s s.finished coming).batch (accepted_by s s.pending coming)
 
--- the entries of the step are steps of the bag, the client stands for its rank afterwards, and its transcript is what the ledger says
--- of the rank
-abbrev pub Follows : ClientModel → Option Message → Bag → Made → Type 0
-Follows s coming b x =
-    (next : Bag) × IsRun b x.entries next × ClientAgrees x.state None next
-    × (x.state.transcript ≡ said s s.pending coming ++ calls_from b x.entries s.me)
+-- the entries of the step are steps of the bag, the client stands for its rank afterwards, and its transcript, with its pending call
+-- where that has its answer in the ledger, is what the ledger says of the rank; whatever is asked where exhaustion is found
+abbrev pub Follows : (Bag → Bool) → ClientModel → Option Message → Bag → Made → Type 0
+Follows found s coming b x =
+    (next : Bag) × IsRunWhere found b x.entries next × ClientAgrees x.state None next
+    × (said x.state x.state.pending None ≡ said s s.pending coming ++ calls_from b x.entries s.me)

@@ -21,8 +21,8 @@ abbrev pub troubled : Result Answer Trouble → Option Trouble
 troubled (Ok answer) = None
 troubled (Err trouble) = Some trouble
 
--- what a put and the beginning of a batch can be answered, what a reserve, what a try, what a fetch, what the end of a batch and
--- Finish, and what a count
+-- what a put and the beginning of a batch can be answered, what a reserve, what a try, what a fetch, what the end of a batch, of the
+-- problem and Finish, and what a count
 abbrev pub answers_put : Answer → Bool
 answers_put answers.Fine = true
 answers_put answers.Rejected = true
@@ -60,8 +60,8 @@ answers_call (calls_to.Fetch id) = answers_fetch
 answers_call (calls_to.BeginBatch common) = answers_put
 answers_call calls_to.EndBatch = answers_done
 answers_call (calls_to.Count kind) = answers_count
+answers_call calls_to.SetDone = answers_done
 answers_call calls_to.Finish = answers_done
-answers_call _ = λ a. false
 
 -- after an end was told, a put, a reserve, a try and the beginning of a batch are answered by it
 abbrev pub heeds_end : Call → Bool
@@ -72,8 +72,8 @@ heeds_end (calls_to.BeginBatch common) = true
 heeds_end _ = false
 
 -- The rank can make the call, in a run of so many ranks and servers: a put with a body of at most 2^20 bytes for a rank of the run; a
--- reserve; a try; a fetch of a unit that was granted and not fetched; the end of the batch that is going on; a count; or, while none
--- is, the beginning of one with a common part of at most 2^20 bytes, or Finish.
+-- reserve; a try; a fetch of a unit that was granted and not fetched; the end of the batch that is going on; a count; that the
+-- problem is done; or, while no batch is, the beginning of one with a common part of at most 2^20 bytes, or Finish.
 abbrev pub CanCall : ℕ → ℕ → List Said → Call → Type 0
 CanCall ranks servers said (calls_to.Put kind prio target answer body) = (length body ≤ body_limit) × Aims target ranks
 CanCall ranks servers said (calls_to.Reserve types) = Unit {0}
@@ -83,8 +83,8 @@ CanCall ranks servers said (calls_to.Fetch id) =
 CanCall ranks servers said (calls_to.BeginBatch common) = (length common ≤ body_limit) × (is_open said ≡ false)
 CanCall ranks servers said calls_to.EndBatch = is_open said ≡ true
 CanCall ranks servers said (calls_to.Count kind) = Unit {0}
+CanCall ranks servers said calls_to.SetDone = Unit {0}
 CanCall ranks servers said calls_to.Finish = is_open said ≡ false
-CanCall ranks servers said _ = ⊥
 
 -- what is known of an answer: a unit is granted that was not granted and not fetched before, and as many bytes come as the note says
 abbrev pub IsAnswer : List Said → Call → Answer → Type 0

@@ -74,7 +74,7 @@ abbrev pub fetch_trouble : Result (List ℕ) (UnitNote × Trouble) → Option Tr
 fetch_trouble (Ok body) = None
 fetch_trouble (Err e) = Some e.1
 
--- the end of a batch
+-- the end of a batch, and of the problem
 abbrev pub done_answer : Result (Unit {0}) Trouble → Option Answer
 done_answer (Ok done) = Some answers.Fine
 done_answer (Err trouble) = None

@@ -72,6 +72,11 @@ abbrev pub AnswersCount : ℕ → Server → Server → Message → Type 0
 AnswersCount request at from (tells.Counted to info) = IsFor request at from to
 AnswersCount request at from _ = ⊥
 
+-- that the problem is done, which a server was told
+abbrev pub AnswersDone : ℕ → Server → Server → Message → Type 0
+AnswersDone request at from (tells.DoneHeard to) = IsFor request at from to
+AnswersDone request at from _ = ⊥
+
 -- the pending call awaits such an answer, with this request, from this server
 abbrev pub IsAwaited : ClientModel → Pending → Server → Message → Type 0
 IsAwaited s waits_for.Nothing from message = ⊥
@@ -84,6 +89,7 @@ IsAwaited s (waits_for.Common request note common own) from message = AnswersCom
 IsAwaited s (waits_for.Keep request common first tried) from message = AnswersPut request (asked s first tried) from message
 IsAwaited s (waits_for.Close request batch) from message = AnswersClose request batch from message
 IsAwaited s (waits_for.Count request kind) from message = AnswersCount request (home s.config s.me) from message
+IsAwaited s (waits_for.SetDone request tried) from message = AnswersDone request (looks_at s tried) from message
 
 -- beside it: the rank has not finished, and the stamp is one that is given
 pub record IsExpected (s : ClientModel) (from : Server) (letter : Letter) : Type 0 where

@@ -83,6 +83,7 @@ HasRoom config notes space room (waits_for.Keep request common first tried) =
     × (1 ≤ vec_capacity room.entries) × (room.entries.items ≡ []) × (length common ≤ body_limit)
 HasRoom config notes space room (waits_for.Close request batch) = Prim.Unit {0}
 HasRoom config notes space room (waits_for.Count request kind) = Prim.Unit {0}
+HasRoom config notes space room (waits_for.SetDone request tried) = vec_len room.tries + tried + 1 ≡ config.servers
 
 -- room for the calls to come in the transcript, each of which names two units at most, and for the letters and the entry of Finish
 pub record CanFinish (i : Inside) : Type 0 where
@@ -157,6 +158,18 @@ is_close _ = false
 abbrev pub is_count : Pending → Bool
 is_count (waits_for.Count request kind) = true
 is_count _ = false
+
+-- that the problem is done, which is pending
+pub record SetDone : Type 0 where
+  pub request : ℕ
+  pub tried : ℕ
+
+abbrev pub set_done_of : SetDone → Pending
+set_done_of p = waits_for.SetDone p.request p.tried
+
+abbrev pub is_set_done : Pending → Bool
+is_set_done (waits_for.SetDone request tried) = true
+is_set_done _ = false
 
 -- a batch's beginning that is pending
 pub record Keep : Type 0 where

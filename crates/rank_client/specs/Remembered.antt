@@ -25,6 +25,7 @@ pending_call (waits_for.Common request note common own) = Some (calls_to.Fetch n
 pending_call (waits_for.Keep request common first tried) = Some (calls_to.BeginBatch common)
 pending_call (waits_for.Close request batch) = Some calls_to.EndBatch
 pending_call (waits_for.Count request kind) = Some (calls_to.Count kind)
+pending_call (waits_for.SetDone request tried) = Some calls_to.SetDone
 
 -- the note of this id
 abbrev pub note_with : UnitId → List UnitNote → Option UnitNote

@@ -162,6 +162,12 @@ abbrev pub count : ClientModel → WorkType → ClientResponse
 count s kind =
     asks s (enters.Counting s.me s.next kind) (home s.config s.me) (tells.Count s.next kind) (waits_for.Count s.next kind)
 
+-- The problem is done.
+
+-- the home is told, and then the other servers, in ring order; each end that was told before changes nothing
+abbrev pub set_done : ClientModel → ClientResponse
+set_done s = asks s (enters.Done s.me s.next) (looks_at s 0) (tells.Done s.next) (waits_for.SetDone s.next 0)
+
 -- Finish.
 
 abbrev pub farewell : ℕ → ClientSaying
@@ -198,8 +204,8 @@ open_call s (calls_to.BeginBatch common) =
     if is_none s.batch && nat_le (length common) body_limit then Some (keep s common s.end) else None
 open_call s calls_to.EndBatch = close s s.batch
 open_call s (calls_to.Count kind) = Some (count s kind)
+open_call s calls_to.SetDone = Some (set_done s)
 open_call s calls_to.Finish = if is_none s.batch then Some (finish s) else None
-open_call s _ = None
 
 -- A letter.
 
@@ -341,6 +347,21 @@ hear_count s request kind from (tells.Counted to info) =
     if is_for request (home s.config s.me) from to then Some (ends s [] (calls_to.Count kind) (answers.Info info)) else None
 hear_count s request kind from _ = None
 
+-- where a server has heard it the next one is told, and after each has heard it the call has its answer
+abbrev pub told_done : ClientModel → ℕ → ℕ → Bool → ClientResponse
+told_done s request tried true = record {
+  state = record s { pending = waits_for.SetDone request (tried + 1) };
+  says = record { to = looks_at s (tried + 1); message = tells.Done request } ∷ [];
+  entries = [];
+  answer = None;
+}
+told_done s request tried false = ends s [] calls_to.SetDone answers.Fine
+
+abbrev pub hear_done : ClientModel → ℕ → ℕ → Server → Message → Option ClientResponse
+hear_done s request tried from (tells.DoneHeard to) =
+    if is_for request (looks_at s tried) from to then Some (told_done s request tried (nat_lt (tried + 1) s.config.servers)) else None
+hear_done s request tried from _ = None
+
 -- the rule of a letter; nothing where the pending call does not await it
 abbrev pub answer_call : ClientModel → Pending → Server → Message → Option ClientResponse
 answer_call s waits_for.Nothing from message = None
@@ -352,3 +373,4 @@ answer_call s (waits_for.Common request note common own) from message = hear_com
 answer_call s (waits_for.Keep request common first tried) from message = hear_keep s request common first tried from message
 answer_call s (waits_for.Close request batch) from message = hear_close s request batch from message
 answer_call s (waits_for.Count request kind) from message = hear_count s request kind from message
+answer_call s (waits_for.SetDone request tried) from message = hear_done s request tried from message

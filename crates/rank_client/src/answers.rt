@@ -78,7 +78,7 @@ pub fn fetch_result(
     }
 }
 
-/// What the end of a batch tells, if it had this answer, or failed with this trouble.
+/// What the end of a batch or of the problem tells, if it had this answer, or failed with this trouble.
 pub fn done_result(answer: Result<Answer, Trouble>) -> Result<(), Trouble>
     requires { IfOk answer (λ a. answers_done a ≡ true) }
     ensures answer { done_answer result ≡ answered answer }

@@ -53,7 +53,7 @@ impl ClientCore {
     /// The rank is ready for this call: no call is pending, it has not finished, and the call's own conditions hold. The body of
     /// a put has at most `2^20` bytes, and a rank that its target names is one of the run; a unit that is fetched is held; no batch
     /// is going on when one begins, whose common part has at most `2^20` bytes, nor at Finish; and one is when it ends. A reserve, a
-    /// try and a count have none.
+    /// try, a count and that the problem is done have none.
     pub fn ready(&self, call: &Call) -> bool
         ensures { IsTrue result ↔ IsSome (begin self.now call.now) }
     {
@@ -63,12 +63,11 @@ impl ClientCore {
         match call {
             Call::Put { target, body, .. } => body.len() <= BODY_LIMIT
                 && self.config.has_target(*target),
-            Call::Reserve { .. } | Call::Try { .. } | Call::Count { .. } => true,
+            Call::Reserve { .. } | Call::Try { .. } | Call::Count { .. } | Call::SetDone => true,
             Call::Fetch { id } => self.held(*id).is_some(),
             Call::BeginBatch { common } => self.batch.is_none() && common.len() <= BODY_LIMIT,
             Call::EndBatch => self.batch.is_some(),
             Call::Finish => self.batch.is_none(),
-            _ => false,
         }
     }
 
@@ -278,8 +277,8 @@ impl ClientCore {
                 None => unreachable!(),
             },
             Call::Count { kind } => self.count(kind),
+            Call::SetDone => self.set_done(),
             Call::Finish => Ok(self.finish()),
-            _ => unreachable!(),
         }
     }
 }

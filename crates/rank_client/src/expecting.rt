@@ -2,7 +2,7 @@
 
 ghost use Rattle.std.specs.Prelude.{◌≡◌, ◌<◌, ◌↔◌, ◌&&◌, IsTrue, IsSome};
 ghost use Rattle.adlb_unit.specs.declared.messages.Message.{Message};
-ghost use Rattle.rank_client.specs.Expected.{AnswersClose, AnswersCommon, AnswersCount, AnswersFetch, AnswersPut, AnswersReserve, AnswersTry, IsAwaited, IsExpected};
+ghost use Rattle.rank_client.specs.Expected.{AnswersClose, AnswersCommon, AnswersCount, AnswersDone, AnswersFetch, AnswersPut, AnswersReserve, AnswersTry, IsAwaited, IsExpected};
 ghost use Rattle.rank_client.specs.Rules.{expects_note, is_at_server, is_for};
 ghost use Rattle.rank_client.specs.Step.{hear};
 
@@ -53,6 +53,10 @@ impl ClientCore {
             Pending::Count { request, .. } => {
                 let home = self.config.home(self.me);
                 answers_count(*request, home, from, message)
+            }
+            Pending::SetDone { request, tried } => {
+                let at = behind(&self.config, self.config.home(self.me), *tried as u64);
+                answers_done(*request, at, from, message)
             }
         }
     }
@@ -158,6 +162,15 @@ fn answers_count(request: u64, home: Server, from: Server, message: &Message) ->
 {
     match message {
         Message::Counted { request: to, .. } => is_for(request, home, from, *to),
+        _ => false,
+    }
+}
+
+fn answers_done(request: u64, at: Server, from: Server, message: &Message) -> bool
+    ensures { IsTrue result ↔ AnswersDone request at from message.now }
+{
+    match message {
+        Message::DoneHeard { request: to } => is_for(request, at, from, *to),
         _ => false,
     }
 }

@@ -63,6 +63,7 @@ impl ClientCore {
             Pending::Keep { .. } => self.hear_keep(from, message),
             Pending::Close { .. } => self.hear_close(from, message),
             Pending::Count { .. } => self.hear_count(from, message),
+            Pending::SetDone { .. } => self.hear_done(from, message),
             Pending::Nothing => unreachable!(),
         }
     }

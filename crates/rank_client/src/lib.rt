@@ -13,6 +13,7 @@ mod batches;
 mod calls;
 mod clients;
 mod counts;
+mod dones;
 mod expecting;
 mod faults;
 mod fetches;

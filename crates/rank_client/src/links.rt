@@ -148,6 +148,18 @@ pub trait Adlb {
         ensures repeats { Repeats (failed self.old) (count_trouble result) }
         ensures began { Began (failed self.old) (begun self.old) (Call.Count kind) (failed self.new) (begun self.new) };
 
+    /// Says that the problem is done: tells each server, from the rank's home on in ring order, and waits for each to have heard it.
+    /// From then on the servers answer each put, reserve, try and beginning of a batch, of every rank, with `NoMoreWork`; units that
+    /// were granted can still be fetched. It works after an end was told as well, and while a batch is going on.
+    fn set_problem_done(&mut self) -> Result<(), Trouble>
+        requires running { has_finished (transcript self.old) ≡ false }
+        ensures says { transcript self.new ≡ plus (transcript self.old) Call.SetDone (done_answer result) }
+        ensures seat { seat self.new ≡ seat self.old }
+        ensures batch { batch self.new ≡ (batch self.old && is_none (done_trouble result)) }
+        ensures failed { failed self.new ≡ done_trouble result }
+        ensures repeats { Repeats (failed self.old) (done_trouble result) }
+        ensures began { Began (failed self.old) (begun self.old) Call.SetDone (failed self.new) (begun self.new) };
+
     /// Leaves the run. No batch is going on.
     fn finish(self)
         requires running { has_finished (transcript self) ≡ false }

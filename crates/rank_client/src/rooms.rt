@@ -9,7 +9,7 @@ use std::alloc::Global;
 use std::marker::Model;
 
 // What it takes to offer a unit or a common part to one more server: its bytes, and room for the letter. It is seen as the bytes.
-// A try offers no bytes.
+// A try offers no bytes, nor does that the problem is done.
 #[derive(Drop)]
 pub(crate) struct Offer {
     pub(crate) body: Payload,

@@ -18,7 +18,7 @@ use Rattle.bag_ledger.specs.declared.entries.Call.TheVariants as calls_to
 use Rattle.rank_client.specs.declared.pendings.Pending.{Pending}
 use Rattle.rank_client.specs.declared.pendings.Pending.TheVariants as waits_for
 use Rattle.rank_client.specs.Rules.{ClientResponse, ClientSaying, answer_call, close, fetch, held, is_free}
-use Rattle.rank_client.specs.Rules.{keep, look, looked, open_call, own_came, part_refused, put, refused, reserve, unit_put}
+use Rattle.rank_client.specs.Rules.{keep, look, looked, open_call, own_came, part_refused, put, refused, reserve, told_done, unit_put}
 use Rattle.rank_client.specs.State.{ClientModel}
 use Rattle.rank_client.specs.Step.{Made, begin, call_stamp, hear, letter_stamp, made, post, ticked}
 use Rattle.rank_client.proofs.Granted.{if_is, if_there, map_is}
@@ -68,8 +68,8 @@ open_few s (calls_to.Fetch id) z is = fetch_few s id (held s id) z is
 open_few s (calls_to.BeginBatch common) z is = subst Few (if_is _ _ z is) (keep_few s common s.end)
 open_few s calls_to.EndBatch z is = close_few s s.batch z is
 open_few s (calls_to.Count kind) z is = subst Few (if_is true _ z is) (omega arith)
+open_few s calls_to.SetDone z is = subst Few (if_is true _ z is) (omega arith)
 open_few s calls_to.Finish z is = subst Few (if_is _ _ z is) (omega arith)
-open_few s _ z is = absurd (cc)
 
 pub begin_few : (s : ClientModel) (call : Call) (x : Made) → begin s call ≡ Some x → length x.entries ≤ 2
 begin_few s call x is =
@@ -90,6 +90,10 @@ part_refused_few s request common first tried false = omega arith
 looked_few : (s : ClientModel) (request : ℕ) (types : Option (List WorkType)) (tried : ℕ) (more : Bool) → Few (looked s request types tried more)
 looked_few s request types tried true = omega arith
 looked_few s request types tried false = omega arith
+
+told_few : (s : ClientModel) (request tried : ℕ) (more : Bool) → Few (told_done s request tried more)
+told_few s request tried true = omega arith
+told_few s request tried false = omega arith
 
 own_few : (s : ClientModel) (request : ℕ) (note : UnitNote) (own : List ℕ) (common : Option CommonRef)
     → Few (own_came s request note own common)
@@ -124,6 +128,9 @@ answer_few s (waits_for.Close request batch) from (tells.Closed to) z is = subst
 answer_few s (waits_for.Close request batch) from _ z is = absurd (cc)
 answer_few s (waits_for.Count request kind) from (tells.Counted to info) z is = subst Few (if_is _ _ z is) (omega arith)
 answer_few s (waits_for.Count request kind) from _ z is = absurd (cc)
+answer_few s (waits_for.SetDone request tried) from (tells.DoneHeard to) z is =
+    subst Few (if_is _ _ z is) (told_few s request tried (nat_lt (tried + 1) s.config.servers))
+answer_few s (waits_for.SetDone request tried) from _ z is = absurd (cc)
 answer_few s waits_for.Nothing from m z is = absurd (cc)
 
 pub hear_few : (s : ClientModel) (from : Server) (letter : Letter) (x : Made) → hear s from letter ≡ Some x → length x.entries ≤ 2

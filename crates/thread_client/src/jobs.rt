@@ -53,8 +53,7 @@ pub struct RankJob<P: RankProgram, R: Wait, G: Gate> {
 }
 
 impl<P: RankProgram + Drop, R: Wait + Copy, G: Gate + Drop> RankJob<P, R, G> {
-    /// The work of the rank `me` in a run of one server, at the start, as `ThreadedLink::new` says of its link. Its only error is
-    /// `NoMemory`.
+    /// The work of the rank `me` at the start of a run, as `ThreadedLink::new` says of its link. Its only error is `NoMemory`.
     pub fn new(
         alloc: Global,
         rt: R,
@@ -65,7 +64,6 @@ impl<P: RankProgram + Drop, R: Wait + Copy, G: Gate + Drop> RankJob<P, R, G> {
         inbox: Inbox,
         gate: G,
     ) -> Result<RankJob<P, R, G>, NoMemory>
-        requires one_server { config.servers ≡ 1 }
         requires rank { me.0 < config.ranks }
         requires reach { config.ranks + config.servers ≤ length post.places }
         ensures program { IfOk result (λ j. j.program ≡ program) }

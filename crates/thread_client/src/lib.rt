@@ -1,4 +1,4 @@
-//! The link of a rank whose server is in another thread, and the work of a rank's thread.
+//! The link of a rank whose servers are in other threads, and the work of a rank's thread.
 //!
 //! `ThreadedLink` stands on the client of `rank_client`, whose transcript is the link's, and on the mailboxes of `rank_mail`.
 //! What it claims is what every `Adlb` claims, and it rests on the client alone: a letter that the client does not expect makes

@@ -1,4 +1,4 @@
-//! The link of a rank whose server is in another thread.
+//! The link of a rank whose servers are in other threads.
 
 ghost use Rattle.std.specs.Prelude.{◌≡◌, ◌<◌, ◌≤◌, ◌+◌, ◌&&◌, [], length, false, None, Some, IfOk, IfSome, is_none};
 ghost use Rattle.std.proofs.Props.{props};
@@ -21,8 +21,8 @@ use rank_mail::{Inbox, Post};
 use std::alloc::Global;
 use std::sync::Wait;
 
-/// The link of a rank whose server is in another thread. Its calls wait for letters. Its transcript is that of the rank's client.
-/// It fails if its client does, if memory for the journal is missing, if the server tells that it has failed, or if a letter comes
+/// The link of a rank whose servers are in other threads. Its calls wait for letters. Its transcript is that of the rank's client.
+/// It fails if its client does, if memory for the journal is missing, if a server tells that it has failed, or if a letter comes
 /// that is not expected, which is kept. A gate is passed after each grant and each fetch.
 #[derive(Drop)]
 pub struct ThreadedLink<R: Wait, G: Gate> {
@@ -34,8 +34,8 @@ pub struct ThreadedLink<R: Wait, G: Gate> {
 }
 
 impl<R: Wait + Copy, G: Gate + Drop> ThreadedLink<R, G> {
-    /// The link of the rank `me` at the start of a run of one server. The actors of the mailboxes are the ranks by their numbers,
-    /// and then the server; the post and the inbox are the rank's. Its only error is `NoMemory`.
+    /// The link of the rank `me` at the start of a run. The actors of the mailboxes are the ranks by their numbers, and then the
+    /// servers by theirs; the post and the inbox are the rank's. Its only error is `NoMemory`.
     pub fn new(
         alloc: Global,
         rt: R,
@@ -45,7 +45,6 @@ impl<R: Wait + Copy, G: Gate + Drop> ThreadedLink<R, G> {
         inbox: Inbox,
         gate: G,
     ) -> Result<ThreadedLink<R, G>, NoMemory>
-        requires one_server { config.servers ≡ 1 }
         requires rank { me.0 < config.ranks }
         requires reach { config.ranks + config.servers ≤ length post.places }
         ensures config { IfOk result (λ l. l.run.config ≡ config) }
@@ -162,6 +161,10 @@ impl<R: Wait + Copy, G: Gate + Drop> Adlb for ThreadedLink<R, G> {
 
     fn num_units(&mut self, kind: WorkType) -> Result<Info, Trouble> {
         count_result(self.run.call(Call::Count { kind }))
+    }
+
+    fn set_problem_done(&mut self) -> Result<(), Trouble> {
+        done_result(self.run.call(Call::SetDone))
     }
 
     fn batch_open(&self) -> bool {

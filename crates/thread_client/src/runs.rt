@@ -69,7 +69,6 @@ impl<R: Wait + Copy> RankRun<R> {
         post: Post,
         inbox: Inbox,
     ) -> Result<RankRun<R>, NoMemory>
-        requires one_server { config.servers ≡ 1 }
         requires rank { me.0 < config.ranks }
         requires reach { config.ranks + config.servers ≤ length post.places }
         ensures config { IfOk result (λ r. r.config ≡ config) }
@@ -95,7 +94,7 @@ impl<R: Wait + Copy> RankRun<R> {
     // One call, from its beginning to its answer.
     pub(crate) fn call(&mut self, call: Call) -> Result<Answer, Trouble>
         requires running { has_finished self.old.core.transcript ≡ false }
-        requires can { self.old.core.trouble ≡ None → CanCall self.old.config.ranks 1 self.old.core.transcript call }
+        requires can { self.old.core.trouble ≡ None → CanCall self.old.config.ranks self.old.config.servers self.old.core.transcript call }
         ensures says { self.new.core.transcript ≡ plus self.old.core.transcript call (answered result) }
         ensures kind { IfOk result (λ a. answers_call call a ≡ true) }
         ensures known { IfOk result (λ a. IsAnswer self.old.core.transcript call a) }

@@ -34,7 +34,6 @@ pub struct Wire<R: Wait> {
     pub(crate) journal: Vec<Entered>,
     pub(crate) strange: Option<(u32, Letter)>,
     ghost run_is: { core.config ≡ config },
-    ghost one_server: { config.servers ≡ 1 },
     ghost reach: { config.ranks + config.servers ≤ length post.places },
 }
 

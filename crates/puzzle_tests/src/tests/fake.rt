@@ -548,6 +548,22 @@ impl Fake {
             Err(trouble) => Err(trouble),
         }
     }
+
+    // Takes note that the problem is done.
+    fn done(&mut self) -> Result<(), Trouble>
+        ensures says { OnOk result (self.new.said.items ≡
+            self.old.said.items ++ record { call = Call.SetDone; answer = Answer.Fine } ∷ []) }
+        ensures kept { OnErr result (self.new.said.items ≡ self.old.said.items) }
+        ensures fine { OnOk result (self.new.trouble ≡ None) }
+        ensures failed { IfErr result (λ t. self.new.trouble ≡ Some t) }
+        ensures repeats { (t : Trouble) → self.old.trouble ≡ Some t → result ≡ Err t }
+        ensures going { self.new.going ≡ self.old.going }
+    {
+        match self.trouble {
+            Some(trouble) => Err(trouble),
+            None => self.say(Call::SetDone, Answer::Fine),
+        }
+    }
 }
 
 impl Adlb for Fake {
@@ -638,6 +654,12 @@ impl Adlb for Fake {
         let counted = self.count(kind);
         self.shut();
         counted
+    }
+
+    fn set_problem_done(&mut self) -> Result<(), Trouble> {
+        let done = self.done();
+        self.shut();
+        done
     }
 
     fn batch_open(&self) -> bool {

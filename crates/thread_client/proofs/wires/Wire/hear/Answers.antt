@@ -13,7 +13,6 @@ invariant_of-self-in-Some g c =
       run_is =
           hear_config w.core c.hear.new.self c.in-Some.server c.args.letter c.hear.result (same_knows _ _ ok c.requires.knows)
           (same_whole _ _ ok c.requires.whole) c.hear.ensures.heard c.hear.ensures.whole c.hear.ensures.failed ∙ w.run_is;
-      one_server = w.one_server;
       reach = w.reach;
     }
 
