@@ -81,6 +81,34 @@ impl Ring {
         self.me.0 == 0 && self.wanted && !self.runs && quiet && !self.shut
     }
 
+    /// All work was found used up, as far as this server knows.
+    pub fn is_exhausted(&self) -> bool
+        ensures { result ≡ self.now.exhausted }
+    {
+        self.exhausted
+    }
+
+    /// No rank waits or runs any more, as far as this server knows.
+    pub fn is_shut(&self) -> bool
+        ensures { result ≡ self.now.shut }
+    {
+        self.shut
+    }
+
+    /// Server 0 tells that all work is used up.
+    pub fn hear_exhaust(&mut self)
+        ensures { self.new ≡ record self.old { exhausted = true } }
+    {
+        self.exhausted = true;
+    }
+
+    /// Server 0 tells that no rank waits or runs any more.
+    pub fn hear_shutdown(&mut self)
+        ensures { self.new ≡ record self.old { shut = true } }
+    {
+        self.shut = true;
+    }
+
     /// The token has failed elsewhere, at server 0 to which it has come (`IsRunning`): the check has ended.
     pub fn failed(&mut self, token: Token)
         requires { IsRunning self.old token }

@@ -22,7 +22,7 @@ use Rattle.server_law.proofs.Carrying.{carried_state, followed, followed_more, w
 use Rattle.server_law.proofs.Debts.{settles_leaves_debt}
 use Rattle.server_law.proofs.Waiters.{done_named}
 use Rattle.server_core.specs.Out.{Out, going_on, made, planned, with_entry, with_letter}
-use Rattle.server_core.proofs.Going.{goes_nowhere, goes_on, plan_if, says_one}
+use Rattle.server_core.proofs.Going.{decides, goes_nowhere, goes_on, plan_if, says_one}
 use Rattle.server_core.proofs.Pushing.{moved}
 
 -- the server while this is owed
@@ -140,7 +140,8 @@ module _ (s : ServerModel) (out : Out) (from : Server) (unit : Work) (none : s.k
       let come : Plan = record { first = a; follow = [] } in
       let lies : Plan = record { first = a; follow = settles id ∷ [] } in
       let mid_out = with_entry out (enters.Arrived s.me unit.id) in
-      let then = goes_on (settles id) come s (does a s) (owing t owed) out mid_out mid first
-      (settled_owing id v t mid_out mid owed settled) in
-      let all = goes_on acks lies s (owing t owed) last out mid end then (acked last end after told) in
+      let then = goes_on (settles id ∷ []) come s (does a s) (owing t owed) out mid_out mid first
+      (decides (settles id) (does a s) (owing t owed) mid_out mid (settled_owing id v t mid_out mid owed settled)) in
+      let all = goes_on (acks ∷ []) lies s (owing t owed) last out mid end then
+      (decides acks (owing t owed) last mid end (acked last end after told)) in
       plan_if (expects_unit s.kept unit) a (settles id ∷ acks ∷ []) s out (made last end) all p is

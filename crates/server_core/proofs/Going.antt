@@ -1,8 +1,12 @@
 -- Acts after acts, with what was sent and entered before.
-use Rattle.std.proofs.Common.{◌≡◌, ◌≤◌, ◌+◌, ◌==◌, ℕ, Bool, true, false, cond, List, [], ◌∷◌, ◌++◌, append-nil, length, Option, None, Some, IsSome, refl, sym, ap, ◌∙◌, subst, arith}
+use Rattle.std.proofs.Common.{◌≡◌, ◌≤◌, ◌+◌, ◌==◌, ℕ, Bool, true, false, cond, ◌&&◌, List, [], ◌∷◌, ◌++◌, append-nil, length, Option, None, Some, IsSome, refl, sym, ap, ◌∙◌, subst, arith}
+use Rattle.std.specs.Prelude.{nat_lt}
 use Rattle.std.specs.Option.{option_map}
+use Rattle.adlb_unit.specs.Limits.{stamp_limit}
+use Rattle.adlb_unit.specs.Links.{is_within}
 use Rattle.adlb_unit.specs.declared.actors.Actor.{Actor}
 use Rattle.adlb_unit.specs.declared.actors.Actor.TheVariants as by
+use Rattle.adlb_unit.specs.declared.letters.Letter.{Letter}
 use Rattle.adlb_unit.specs.declared.messages.Message.{Message}
 use Rattle.adlb_unit.specs.declared.names.BatchId.{BatchId}
 use Rattle.adlb_unit.specs.declared.names.Rank.{Rank}
@@ -15,13 +19,13 @@ use Rattle.work_queue.specs.Queue.{Queue}
 use Rattle.reserve_path.specs.Parked.{Parked}
 use Rattle.server_law.specs.Acts.{Act, Closes, ServerSaying, does, entries, says}
 use Rattle.server_law.specs.Batches.{can_close, close, close_rule, part_if}
-use Rattle.server_law.specs.Endings.{ends_event}
-use Rattle.server_law.specs.Step.{acts, rule, server_rule}
+use Rattle.server_law.specs.Endings.{checks, ends_event, notices}
+use Rattle.server_law.specs.Step.{acts, at_event, rule, serve, server_rule}
 use Rattle.server_law.specs.Carried.{Served, counted, done, posted}
 use Rattle.server_law.specs.Plan.{Decider, Plan, decided, in_order, plan}
 use Rattle.server_law.specs.State.{ServerModel}
 use Rattle.server_law.proofs.Carrying.{decided_carried, followed, followed_by, followed_more, followed_none, with_act}
-use Rattle.server_core.specs.Out.{HasRoom, Out, going_on, made, planned, with_answer, with_letter}
+use Rattle.server_core.specs.Out.{HasRoom, Out, going_on, made, nothing, planned, with_answer, with_letter}
 use Rattle.server_core.proofs.Sounds.{with_parked}
 
 -- no act
@@ -34,27 +38,51 @@ followed_by-append [] es x = refl
 followed_by-append (d ∷ ds) es x = followed_by-append ds es (followed x (d x.state))
 
 -- what the plan says, and then what comes last
-pub goes_on : (last : Decider) (p : Plan) (s t u : ServerModel) (out mid end : Out)
-    → made t mid ≡ planned out p s → made u end ≡ going_on mid (last t) t
+pub goes_on : (last : List Decider) (p : Plan) (s t u : ServerModel) (out mid end : Out)
+    → made t mid ≡ planned out p s → made u end ≡ going_on mid (decided last t) t
     → made u end ≡ going_on out (in_order last s p) s
 goes_on last p s t u out mid end first then =
     let x = made s out in
     let y = with_act x p.first in
-    let follow = p.follow ++ last ∷ [] in
+    let follow = p.follow ++ last in
     let before = first ∙ followed_more x p.first (decided p.follow y.state) ∙ decided_carried p.follow y in
     then
-    ∙ ap (λ (z : Served). followed z (last z.state)) before
-    ∙ sym (followed_by-append p.follow (last ∷ []) y)
+    ∙ decided_carried last (made t mid)
+    ∙ ap (λ z. followed_by z last) before
+    ∙ sym (followed_by-append p.follow last y)
     ∙ sym (decided_carried follow y)
     ∙ sym (followed_more x p.first (decided follow y.state))
 
+-- one decider decides what is done
+pub decides : (d : Decider) (s t : ServerModel) (out end : Out) → made t end ≡ going_on out (d s) s
+    → made t end ≡ going_on out (decided (d ∷ []) s) s
+decides d s t out end goes = goes ∙ ap (λ l. going_on out l s) (sym (append-nil (d s)))
+
+-- notice is given, and then a check may start
+pub ends_goes : (s t u : ServerModel) (out mid end : Out) → made t mid ≡ going_on out (notices s) s → made u end ≡ going_on mid (checks t) t
+    → made u end ≡ going_on out (decided ends_event s) s
+ends_goes s t u out mid end first then =
+    then ∙ ap (λ (z : Served). followed z (checks z.state)) first ∙ sym (decided_carried ends_event (made s out))
+
 -- so a letter is handled
 pub handled_goes : (s t u : ServerModel) (out mid end : Out) (from : Actor) (message : Message) (p : Plan) → rule s from message ≡ Some p
-    → made t mid ≡ planned out p s → made u end ≡ going_on mid (ends_event t) t
+    → made t mid ≡ planned out p s → made u end ≡ going_on mid (decided ends_event t) t
     → option_map (λ list. going_on out list s) (acts s from message) ≡ Some (made u end)
 handled_goes s t u out mid end from message p is first then =
     ap (λ r. option_map (λ list. going_on out list s) (option_map (in_order ends_event s) r)) is
     ∙ ap (λ x. Some x) (sym (goes_on ends_event p s t u out mid end first then))
+
+-- a letter that is expected is served so
+pub serves : (s t u : ServerModel) (out : Out) (room : ℕ) (from : Actor) (letter : Letter) → IsSome (serve s from letter) → t ≡ at_event s letter
+    → option_map (λ list. going_on (nothing room) list t) (acts t from letter.message) ≡ Some (made u out)
+    → serve s from letter ≡ Some (made u out)
+serves s t u out room from letter some now goes =
+    tested_is (is_within s.config from && nat_lt letter.stamp stamp_limit) some
+    ∙ ap (λ v. option_map (λ list. going_on (nothing room) list v) (acts v from letter.message)) (sym now) ∙ goes
+  where
+    tested_is : {X : Type 0} {o : Option X} (b : Bool) → IsSome (cond b o None) → cond b o None ≡ o
+    tested_is true some = refl
+    tested_is false some = absurd (cc)
 
 -- the rule of another server's letter
 pub server_rule_is : (s : ServerModel) (from : Server) (message : Message) (p : Plan) → rule s (by.Server from) message ≡ Some p

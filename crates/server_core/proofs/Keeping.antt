@@ -28,7 +28,15 @@ with_parts s queue parts = record s { kept = record s.kept { queue = queue; part
 pub parts_inside : (i : Inside) → IsInside i → (queue : Queue) (parts : Store) → IsSound (with_parts (state_of i) queue parts)
     → IsInside (record i { queue = queue; parts = parts })
 parts_inside i inside queue parts sound =
-    record { sound = sound; config = inside.config; me = inside.me; push_config = inside.push_config; push_me = inside.push_me }
+    record {
+      sound = sound;
+      config = inside.config;
+      me = inside.me;
+      push_config = inside.push_config;
+      push_me = inside.push_me;
+      ring_config = inside.ring_config;
+      ring_me = inside.ring_me;
+    }
 
 -- where no unit came and the bytes of parts are charged, it is sound
 stays_sound : (s : ServerModel) (queue : Queue) (parts : Store) → IsSound s → queue.arrivals ≡ s.kept.queue.arrivals
@@ -39,6 +47,7 @@ stays_sound s queue parts sound same charged = record {
   parked = sound.parked;
   arrivals = subst (λ n. n ≤ s.clock) (sym same) sound.arrivals;
   charged = charged;
+  check = sound.check;
   activity = sound.activity;
   sent = sound.sent;
   clock = sound.clock;

@@ -2,8 +2,9 @@ pub mod Alone
 pub mod Answering
 pub mod Arriving
 pub mod Asked
+pub mod Askers
 pub mod Asking
-pub mod Fitting
+pub mod Checking
 pub mod Going
 pub mod Hearing
 pub mod Hinting
@@ -17,5 +18,7 @@ pub mod Rings
 pub mod Seats
 pub mod Settled
 pub mod Sounds
+pub mod Starting
 pub mod Telling
 pub mod Unknown
+pub mod Young

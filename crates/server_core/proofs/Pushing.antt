@@ -1,5 +1,6 @@
 -- The letters of pushes: what a server makes of them.
-use Rattle.std.proofs.Common.{◌≡◌, ◌≤◌, ℕ, true, false, cond, [], ◌∷◌, find, IsSome, Option, None, Some, All, refl, sym, ap, ◌∙◌, subst}
+use Rattle.std.proofs.Common.{◌≡◌, ◌≤◌, ◌+◌, ℕ, Bool, true, false, cond, [], ◌∷◌, find, IsSome, Option, None, Some, All, refl, sym, ap, ◌∙◌, subst}
+use Rattle.std.proofs.lemmas.Bool.{le-ltb, lt-ltb}
 use Rattle.std.proofs.lemmas.List.Elements.{All-contains}
 use Rattle.adlb_unit.specs.declared.actors.Actor.TheVariants as by
 use Rattle.adlb_unit.specs.declared.messages.Message.TheVariants as tells
@@ -9,16 +10,16 @@ use Rattle.adlb_unit.specs.declared.names.UnitId.{UnitId}
 use Rattle.adlb_unit.specs.declared.units.Unit.{Unit as Work}
 use Rattle.bag_ledger.specs.declared.entries.Entry.TheVariants as enters
 use Rattle.bag_ledger.proofs.Tests.{some_is}
-use Rattle.work_queue.specs.Queue.{HasFree, HasPromise, Queue, id_of, without, without_promise}
+use Rattle.work_queue.specs.Queue.{HasFree, HasPromise, Queue, charge_of, id_of, without, without_promise}
 use Rattle.work_queue.specs.declared.placing.Placed.{Placed}
-use Rattle.put_path.specs.Pushes.{PushModel, Pushing, asks_room, has_sent, with_push, with_pushing}
+use Rattle.put_path.specs.Pushes.{IsPromise, PushModel, Pushing, asks_room, has_sent, with_push, with_pushing}
 use Rattle.put_path.proofs.StandingPushes.{push_from}
-use Rattle.server_law.specs.Acts.{Cancels, Ends_push, Sends_unit, Withdraws, does, to_server}
-use Rattle.server_law.specs.Carried.{counted, done, posted}
-use Rattle.server_law.specs.Finding.{has_promise, is_free_as}
+use Rattle.server_law.specs.Acts.{Cancels, Ends_push, Promises, Refuses_push, Sends_unit, Withdraws, does, to_server}
+use Rattle.server_law.specs.Carried.{Served, counted, done, posted}
+use Rattle.server_law.specs.Finding.{exceeds, has_promise, is_free_as}
 use Rattle.server_law.specs.Plan.{Plan, plan}
 use Rattle.server_law.specs.Presses.{presses}
-use Rattle.server_law.specs.Pushes.{ack_at, ack_rule, cancel_rule, sends as sends_on, yes_at, yes_rule}
+use Rattle.server_law.specs.Pushes.{ack_at, ack_rule, answer_query, cancel_rule, expects_query, query_rule, sends as sends_on, yes_at, yes_rule}
 use Rattle.server_law.specs.Puts.{expects_put, is_taken, put_now, put_rule, settles}
 use Rattle.server_law.specs.State.{ServerModel}
 use Rattle.server_law.proofs.Expected.{server_rule_awaited}
@@ -26,7 +27,7 @@ use Rattle.server_law.proofs.Found.{free_is, free_there, none_free}
 use Rattle.server_core.specs.Inside.{IsInside, IsSound, bytes_in, state_of}
 use Rattle.server_core.specs.Out.{HasRoom, Out, going_on, made, planned, with_answer, with_letter}
 use Rattle.server_core.specs.declared.states.ServerState.TheInside.{Inside}
-use Rattle.server_core.proofs.Going.{answers_only, goes_nowhere, goes_on, plan_if, says_only, silent}
+use Rattle.server_core.proofs.Going.{answers_only, decides, goes_nowhere, goes_on, plan_if, says_only, silent}
 
 -- the server with this queue and this push
 abbrev pub moved : ServerModel → Queue → Pushing → ServerModel
@@ -45,8 +46,8 @@ puts_goes s t u v out mid end last from unit answered settled pressed p is =
     let first : Plan = record { first = put_now s.kept unit; follow = [] } in
     let next : Plan = record { first = put_now s.kept unit; follow = settles unit.id ∷ [] } in
     let press = presses (is_taken s.kept unit) in
-    let then = goes_on (settles unit.id) first s t u out mid end answered settled in
-    let all = goes_on press next s u v out end last then pressed in
+    let then = goes_on (settles unit.id ∷ []) first s t u out mid end answered (decides (settles unit.id) t u mid end settled) in
+    let all = goes_on (press ∷ []) next s u v out end last then (decides press u v end last pressed) in
     plan_if (expects_put s from unit) (put_now s.kept unit) (settles unit.id ∷ press ∷ []) s out (made v last) all p is
 
 -- What is so of the server stays so.
@@ -59,6 +60,7 @@ moved_sound s queue pushing sound arrivals same = record {
   parked = sound.parked;
   arrivals = arrivals;
   charged = subst (λ n. bytes_in s.kept.parts ≤ n) (sym same) sound.charged;
+  check = sound.check;
   activity = sound.activity;
   sent = sound.sent;
   clock = sound.clock;
@@ -72,6 +74,8 @@ moved_inside i inside n pushing queue is arrivals same = record {
   me = inside.me;
   push_config = ap (λ (m : PushModel). m.config) is ∙ inside.push_config;
   push_me = ap (λ (m : PushModel). m.me) is ∙ inside.push_me;
+  ring_config = inside.ring_config;
+  ring_me = inside.ring_me;
 }
 
 -- The push that a letter is about.
@@ -146,6 +150,40 @@ ends_goes s out from id n stands t after p is =
     ∙ ap (λ b. cond b (plan (Ends_push from id n) []) None) (push_from from id n true) in
     let goes = goes_nowhere out (does a s) ∙ sym (silent a [] s out refl refl) in
     subst (λ r. made t out ≡ planned out r s) (some_is (sym rule ∙ is)) (rw after goes)
+
+-- Room is promised where there is some, and otherwise refused.
+module _ (s : ServerModel) (out : Out) (from : Server) (id : UnitId) (n : ℕ) (queue : Queue) (t : ServerModel) (last : Out)
+    (after : t ≡ counted (moved s queue s.kept.pushing) (by.Server from)) where
+  abbrev now : ServerModel
+  now = moved s queue s.kept.pushing
+
+  pub promises_goes : IsPromise s.kept.queue id n true queue
+      → last ≡ with_answer out (posted now (to_server from (tells.PushYes id))) (enters.Promised s.me id n)
+      → (p : Plan) → query_rule s from id n ≡ Some p → made t last ≡ planned out p s
+  promises_goes promised told =
+      let a = Promises from id n in
+      let x = to_server from (tells.PushYes id) in
+      let e = enters.Promised s.me id n in
+      let seat : moved s queue s.kept.pushing ≡ does a s = ap (λ q. moved s q s.kept.pushing) promised.1 in
+      let state = after ∙ ap (λ v. counted v (by.Server from)) seat in
+      let letter = told ∙ ap (λ v. with_answer out (posted v x) e) seat in
+      let fits : exceeds s.kept.queue n ≡ false = le-ltb s.kept.queue.limit (charge_of s.kept.queue + n) promised.0 in
+      let Q : Bool → Served = λ b. planned out (record { first = answer_query b from id n; follow = [] }) s in
+      plan_if (expects_query s.kept id) (answer_query (exceeds s.kept.queue n) from id n) [] s out (made t last)
+      (rw (state, letter) (answers_only a s out x e refl refl) ∙ ap Q (sym fits))
+
+  pub refuses_goes : IsPromise s.kept.queue id n false queue → last ≡ with_letter out (posted now (to_server from (tells.PushNo id)))
+      → (p : Plan) → query_rule s from id n ≡ Some p → made t last ≡ planned out p s
+  refuses_goes full told =
+      let a = Refuses_push from id n in
+      let x = to_server from (tells.PushNo id) in
+      let seat : moved s queue s.kept.pushing ≡ does a s = ap (λ q. moved s q s.kept.pushing) full.1 in
+      let state = after ∙ ap (λ v. counted v (by.Server from)) seat in
+      let letter = told ∙ ap (λ v. with_letter out (posted v x)) seat in
+      let over : exceeds s.kept.queue n ≡ true = lt-ltb s.kept.queue.limit (charge_of s.kept.queue + n) full.0 in
+      let Q : Bool → Served = λ b. planned out (record { first = answer_query b from id n; follow = [] }) s in
+      plan_if (expects_query s.kept id) (answer_query (exceeds s.kept.queue n) from id n) [] s out (made t last)
+      (rw (state, letter) (says_only a s out x refl refl) ∙ ap Q (sym over))
 
 -- The promise is taken back.
 pub withdraws_goes : (s : ServerModel) (out : Out) (from : Server) (id : UnitId) (queue : Queue)

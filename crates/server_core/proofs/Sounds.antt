@@ -15,6 +15,7 @@ use Rattle.reserve_path.proofs.Sound.{forgotten_sound, gone_sound, heard_waits, 
 use Rattle.reserve_path.proofs.Places.{nobody}
 use Rattle.reserve_path.specs.Calls.{asking}
 use Rattle.adlb_unit.specs.Ring.{others}
+use Rattle.exhaust_ring.specs.Ring.{AreOfOne, RingModel}
 use Rattle.server_law.specs.State.{ServerModel}
 use Rattle.server_core.specs.Inside.{IsInside, IsSound, bytes_in, parked_of, state_of}
 use Rattle.server_core.specs.declared.states.ServerState.TheInside.{Inside}
@@ -135,11 +136,42 @@ module _ (i : Inside) (inside : IsInside i) where
         parked = subst IsParked (sym is ∙ same) stays.sound;
         arrivals = subst (λ k. k ≤ i.clock) (sym arrivals) inside.sound.arrivals;
         charged = subst (λ k. bytes_in i.parts ≤ k) (sym common) inside.sound.charged;
+        check = inside.sound.check;
         activity = inside.sound.activity;
         sent = inside.sound.sent;
         clock = inside.sound.clock;
       } in
-      record { sound = sound; config = config; me = me; push_config = inside.push_config; push_me = inside.push_me }
+      record {
+        sound = sound;
+        config = config;
+        me = me;
+        push_config = inside.push_config;
+        push_me = inside.push_me;
+        ring_config = inside.ring_config;
+        ring_me = inside.ring_me;
+      }
+
+-- the ring may change, at the server as before
+pub ring_inside : (i : Inside) → IsInside i → (n : RingModel) → AreOfOne i.ring n → n.ring.check ≤ i.clock → IsInside (record i { ring = n })
+ring_inside i inside n same check = record {
+  sound = record {
+    finished = inside.sound.finished;
+    actors = inside.sound.actors;
+    parked = inside.sound.parked;
+    arrivals = inside.sound.arrivals;
+    charged = inside.sound.charged;
+    check = check;
+    activity = inside.sound.activity;
+    sent = inside.sound.sent;
+    clock = inside.sound.clock;
+  };
+  config = inside.config;
+  me = inside.me;
+  push_config = inside.push_config;
+  push_me = inside.push_me;
+  ring_config = same.1 ∙ inside.ring_config;
+  ring_me = same.0 ∙ inside.ring_me;
+}
 
 -- no more wait and are wished for than there are ranks
 pub counts_within : (i : Inside) → IsInside i

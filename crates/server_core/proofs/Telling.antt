@@ -129,11 +129,11 @@ module _ (s : ServerModel) (once : AllPairs AreApart s.kept.parked.waiting) (n :
     pub fewer_wait : length n.waiting < length s.kept.parked.waiting
     fewer_wait = let e = waits_told first rank request told in omega (arith, fewer e.0 e.1)
 
-    pub end_room : (out : Out) → HasRoom s out 0 → HasRoom v out 1
-    end_room out room =
+    pub end_room : (out : Out) (more : ℕ) → HasRoom s out more → HasRoom v out (more + 1)
+    end_room out more room =
         let e = waits_told first rank request told in
         let wishes = ap (λ (p : Parked). length p.wishes) (others e.0 e.1) in
-        room_left s s.kept.queue n out 0 1 (omega (arith, wishes, fewer e.0 e.1)) room
+        room_left s s.kept.queue n out more (more + 1) (omega (arith, wishes, fewer e.0 e.1)) room
 
     pub end_goes : (end : End) (out last : Out) (t : ServerModel) → t ≡ counted v (by.Rank rank)
         → last ≡ with_answer out (posted v (to_rank rank (tells.Ended request end))) (enters.Over rank request end)

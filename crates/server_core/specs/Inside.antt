@@ -26,8 +26,10 @@ state_of i = record {
     owed = None;
     finished = i.finished.items;
     done = i.done;
-    exhausted = i.exhausted;
-    shut = i.shut;
+    exhausted = i.ring.exhausted;
+    shut = i.ring.shut;
+    ring = i.ring.ring;
+    noted = i.noted;
   };
 }
 
@@ -51,14 +53,18 @@ pub record IsSound (s : ServerModel) : Type 0 where
   pub arrivals : s.kept.queue.arrivals ≤ s.clock
   -- the bytes of the parts that are kept are charged to the queue
   pub charged : bytes_in s.kept.parts ≤ s.kept.queue.common
+  -- and starts at most one check
+  pub check : s.kept.ring.check ≤ s.clock
   pub activity : s.activity ≤ s.clock
   pub sent : All (λ n. n ≤ event_letters * s.clock) s.sent
   pub clock : s.clock < stamp_limit
 
 pub record IsInside (i : Inside) : Type 0 where
   pub sound : IsSound (state_of i)
-  -- what waits is seen as at this server, and so is its push
+  -- what waits is seen as at this server, and so are its push and its ring
   pub config : i.parked.config ≡ i.config
   pub me : i.parked.me ≡ i.me
   pub push_config : i.pushes.config ≡ i.config
   pub push_me : i.pushes.me ≡ i.me
+  pub ring_config : i.ring.config ≡ i.config
+  pub ring_me : i.ring.me ≡ i.me

@@ -1,4 +1,6 @@
+pub mod Checks
 pub mod Failing
 pub mod Inside
 pub mod Left
 pub mod Out
+pub mod Quiet

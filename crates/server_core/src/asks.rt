@@ -92,7 +92,7 @@ impl ServerState {
             self.parked.remote_end(rank);
             return self.end_call(rank, request, End::NoMoreWork, out);
         }
-        if self.exhausted {
+        if self.ring.is_exhausted() {
             self.parked.remote_end(rank);
             return self.end_call(rank, request, End::Exhausted, out);
         }

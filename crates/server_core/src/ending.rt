@@ -1,25 +1,35 @@
-//! What follows each event, with one server.
+//! What follows each event: a quiet server that has changed gives notice, and a check is started where one is wanted. And how
+//! an end is told to the ranks that wait.
 
-ghost use Rattle.std.specs.Prelude.{◌≡◌, ◌<◌, ◌∷◌, [], ◌↔◌, IsTrue, MatchBool, is_some, length, true, false};
-ghost use Rattle.std.specs.List.{list_any};
+ghost use Rattle.std.specs.Prelude.{◌≡◌, ◌<◌, [], ◌↔◌, ℕ, IsTrue, length, true, false};
+ghost use Rattle.exhaust_ring.specs.Ring.{MayStart};
+ghost use Rattle.server_core.specs.Checks.{with_check};
 ghost use Rattle.server_core.specs.Out.{HasRoom, Out, going_on, made};
-ghost use Rattle.server_law.specs.Acts.{Act, Finds};
-ghost use Rattle.server_law.specs.Endings.{ends_event, fits, is_quiet, rests, tells_all};
+ghost use Rattle.server_core.specs.Quiet.{all_rest};
+ghost use Rattle.server_law.specs.Acts.{check_alone};
+ghost use Rattle.server_law.specs.Endings.{checks, ends_event, is_noted, is_quiet, notices, rests, tells_all};
 ghost use Rattle.server_law.specs.Expected.{IsQuiet};
-ghost use Rattle.server_law.specs.State.{Kept, ServerModel};
-ghost use Rattle.work_queue.specs.Best.{best_of};
+ghost use Rattle.server_law.specs.Plan.{decided};
+ghost use Rattle.server_law.specs.State.{Kept, ServerModel, ring_at};
 
 use crate::outgoing::Outgoing;
 use crate::states::ServerState;
-use adlb_unit::{End, Rank, Types};
-use bag_ledger::Entry;
-use work_queue::WorkQueue;
+use adlb_unit::{Actor, End, Message, Rank, Server, Types};
+use exhaust_ring::RingStep;
 
 impl ServerState {
-    /// Each rank whose home this is has finished, or waits here and is idle (`IsQuiet`, and as a test `is_quiet`).
+    /// No push of this server stands, and each rank whose home this is has finished, or waits here and is idle (`IsQuiet`,
+    /// and as a test `is_quiet`).
     pub fn is_quiet(&self) -> bool
         ensures quiet { IsTrue result ↔ IsQuiet self.now }
         ensures test { result ≡ is_quiet self.now }
+    {
+        !self.pushes.going() && self.all_rest()
+    }
+
+    // Each rank of the run rests, as far as the server knows.
+    fn all_rest(&self) -> bool
+        ensures { result ≡ all_rest self.now }
     {
         for number in 0..self.config.ranks {
             if !self.rests(Rank(number)) {
@@ -37,53 +47,85 @@ impl ServerState {
         !self.is_home(rank) || self.finished[rank.0 as usize] || self.is_idle(rank)
     }
 
-    // If all is quiet at the only server, no unit can come. If then nobody waits, the server is shut; otherwise, if no free
-    // unit fits a rank that waits, all work is used up.
+    // What follows each event.
     pub(crate) fn end_event(&mut self, out: &mut Outgoing)
-        requires { HasRoom self.old out.old 1 }
-        ensures { made self.new out.new ≡ going_on out.old (ends_event self.old) self.old }
+        requires young { self.old.kept.ring.check < self.old.clock }
+        requires room { HasRoom self.old out.old 1 }
+        ensures { made self.new out.new ≡ going_on out.old (decided ends_event self.old) self.old }
     {
-        if self.config.servers != 1 || !self.is_quiet() {
+        let quiet = self.is_quiet();
+        self.give_notice(quiet, out);
+        self.check_if_wanted(quiet, out);
+    }
+
+    // A quiet server that has changed since its last notice gives notice that a check is wanted: it tells server 0, or is
+    // server 0.
+    fn give_notice(&mut self, quiet: bool, out: &mut Outgoing)
+        requires quiet { quiet ≡ is_quiet self.old }
+        requires room { HasRoom self.old out.old 1 }
+
+        ensures made { made self.new out.new ≡ going_on out.old (notices self.old) self.old }
+        ensures room { self.new.me.0 ≡ 0 → HasRoom self.new out.new 1 }
+    {
+        if !quiet || self.is_noted() {
             return;
         }
-        if self.nobody_waits() {
-            self.shut = true;
-        } else if !self.exhausted && !self.fits_some() {
-            self.exhaust(out);
+        self.noted = Some(self.activity);
+        if self.me.0 == 0 {
+            self.ring.notice();
+        } else {
+            self.say(Actor::Server(Server(0)), Message::Notice, out);
         }
     }
 
-    // No rank waits.
-    fn nobody_waits(&self) -> bool
-        ensures { MatchBool result (self.now.kept.parked.waiting ≡ []) (0 < length self.now.kept.parked.waiting) }
+    // The last notice was of the activity of now.
+    fn is_noted(&self) -> bool
+        ensures { result ≡ is_noted self.now.kept.noted self.now.activity }
     {
-        self.parked.counts().0 == 0
+        match self.noted {
+            Some(noted) => noted == self.activity,
+            None => false,
+        }
     }
 
-    // A free unit is permitted to a rank that waits.
-    fn fits_some(&self) -> bool
-        ensures { result ≡ list_any (fits self.now.kept) self.now.kept.parked.waiting }
+    // If a check is wanted and may start, it does, and if this server is alone its verdict follows at once.
+    fn check_if_wanted(&mut self, quiet: bool, out: &mut Outgoing)
+        requires quiet { quiet ≡ is_quiet self.old }
+        requires young { self.old.kept.ring.check < self.old.clock }
+        requires room { self.old.me.0 ≡ 0 → HasRoom self.old out.old 1 }
+
+        ensures { made self.new out.new ≡ going_on out.old (checks self.old) self.old }
+    {
+        if self.ring.may_start(quiet) {
+            let step = self.start_check();
+            self.tell_step(step, out);
+        }
+    }
+
+    // A check starts, with the ranks that wait here.
+    fn start_check(&mut self) -> RingStep
+        requires may { MayStart (ring_at self.old) true }
+        requires young { self.old.kept.ring.check < self.old.clock }
+
+        ensures step { result ≡ (check_alone self.old).step }
+        ensures ring { self.new ≡ with_check self.old (check_alone self.old).ring }
     {
         let mut room = std::array::from_fn(|_| (Rank(0), Types::any()));
         let count = self.parked.asked(&mut room);
-        has_fit(&self.queue, &room[..count as usize])
-    }
-
-    // All work is used up: it is entered once, and all who wait are told.
-    fn exhaust(&mut self, out: &mut Outgoing)
-        requires { HasRoom self.old out.old 1 }
-        ensures { made self.new out.new ≡
-            going_on out.old (Finds ∷ tells_all End.Exhausted [] self.old.kept.parked.waiting) self.old }
-    {
-        out.enter(Entry::Exhausted);
-        self.exhausted = true;
-        self.tell_all(End::Exhausted, out);
+        let asked = &room[..count as usize];
+        let fits = if self.config.servers == 1 {
+            self.queue.fits(asked)
+        } else {
+            None
+        };
+        self.ring.start(self.activity, asked, fits)
     }
 
     // All idle ranks are told the end, in the order in which they came.
-    fn tell_all(&mut self, end: End, out: &mut Outgoing)
+    pub(crate) fn tell_all(&mut self, end: End, out: &mut Outgoing)
         requires { HasRoom self.old out.old 0 }
-        ensures { made self.new out.new ≡ going_on out.old (tells_all end [] self.old.kept.parked.waiting) self.old }
+        ensures made { made self.new out.new ≡ going_on out.old (tells_all end [] self.old.kept.parked.waiting) self.old }
+        ensures room { (more : ℕ) → HasRoom self.old out.old more → HasRoom self.new out.new more }
     {
         while self.tell_next(end, out) {}
     }
@@ -95,7 +137,7 @@ impl ServerState {
             going_on out.old (tells_all end [] self.old.kept.parked.waiting) self.old }
         ensures fewer { result ≡ true → length self.new.kept.parked.waiting < length self.old.kept.parked.waiting }
         ensures last { result ≡ false → tells_all end [] self.new.kept.parked.waiting ≡ [] }
-        ensures room { HasRoom self.new out.new 0 }
+        ensures room { (more : ℕ) → HasRoom self.old out.old more → HasRoom self.new out.new more }
     {
         match self.parked.end_idle() {
             Some((rank, request)) => {
@@ -105,13 +147,4 @@ impl ServerState {
             None => false,
         }
     }
-}
-
-// A free unit is permitted to one of these, each with the types that it wants.
-fn has_fit(queue: &WorkQueue, asked: &[(Rank, Types)]) -> bool
-    ensures { result ≡ list_any (λ waits. is_some (best_of waits.0 waits.1 queue.now.units)) asked.now }
-{
-    asked
-        .iter()
-        .any(|(rank, types)| queue.best(*rank, types).is_some())
 }

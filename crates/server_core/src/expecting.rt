@@ -59,6 +59,11 @@ impl ServerState {
             Message::PushUnit { unit } => self.has_room_for(unit),
             Message::PushCancel { id } => self.has_promised(*id),
             Message::PushAck { id } => self.pushes.has_sent(from, *id),
+            Message::Notice => self.me.0 == 0,
+            Message::Token { token } => self.ring.expects(from, token),
+            Message::Failed { token, .. } => self.ring.expects_failed(token),
+            Message::Exhaust => from.0 == 0,
+            Message::Shutdown => from.0 == 0,
             _ => false,
         }
     }
@@ -83,6 +88,7 @@ impl ServerState {
             } => batch.rank.0 == from.0 && self.can_close(*batch, *accepted),
             Message::FetchCommon { batch, .. } => self.can_share(*batch),
             Message::Count { .. } => self.runs_at_home(from),
+            Message::Done { .. } => true,
             Message::Finish => self.runs(from),
             _ => false,
         }

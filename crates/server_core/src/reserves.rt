@@ -30,7 +30,7 @@ impl ServerState {
         if self.done {
             return self.end_call(from, request, End::NoMoreWork, out);
         }
-        if self.exhausted {
+        if self.ring.is_exhausted() {
             return self.end_call(from, request, End::Exhausted, out);
         }
         match self.parked.reserve(&mut self.queue, from, request, types) {

@@ -14,6 +14,7 @@ use crate::outgoing::Outgoing;
 use adlb_unit::{Actor, Config, Letter, Message, NoMemory, Rank, Sending, Server, Trouble, UnitId};
 use bag_ledger::Entry;
 use batch_store::BatchStore;
+use exhaust_ring::Ring;
 use put_path::PushState;
 use reserve_path::Parked;
 use std::alloc::Global;
@@ -42,8 +43,10 @@ pub struct ServerState {
     pub(crate) pushes: PushState,
     pub(crate) finished: Vec<bool>,
     pub(crate) done: bool,
-    pub(crate) exhausted: bool,
-    pub(crate) shut: bool,
+    // The checks that go round the ring of servers, and what was found by them.
+    pub(crate) ring: Ring,
+    // The activity of the last notice that a check is wanted.
+    pub(crate) noted: Option<u64>,
     pub(crate) activity: u64,
     pub(crate) clock: u64,
     pub(crate) sent: Vec<u64>,
@@ -71,8 +74,9 @@ impl ServerState {
     {
         let ranks = config.ranks as usize;
         let actors = ranks + config.servers as usize;
-        let (Ok(parked), Ok(finished), Ok(sent)) = (
+        let (Ok(parked), Ok(ring), Ok(finished), Ok(sent)) = (
             Parked::new(alloc, config, me),
+            Ring::new(alloc, config, me),
             vec![in alloc; false; ranks],
             vec![in alloc; 0; actors],
         ) else {
@@ -87,8 +91,8 @@ impl ServerState {
             pushes: PushState::new(config, me),
             finished,
             done: false,
-            exhausted: false,
-            shut: false,
+            ring,
+            noted: None,
             activity: 0,
             clock: 0,
             sent,
@@ -108,7 +112,7 @@ impl ServerState {
     pub fn ended(&self) -> bool
         ensures { IsTrue result ↔ (IsTrue self.now.kept.shut × All IsTrue self.now.kept.finished) }
     {
-        self.shut && self.finished.iter().all(|finished| *finished)
+        self.ring.is_shut() && self.finished.iter().all(|finished| *finished)
     }
 
     /// The units that are here, in arrival order. Its only error is `NoMemory`.
@@ -138,16 +142,19 @@ impl ServerState {
         self.config.home(rank).0 == self.me.0
     }
 
-    // The event has this stamp.
-    pub(crate) fn tick(&mut self, stamp: u64)
+    // The event has this stamp. Its letter may change what is free or who waits, or may not.
+    pub(crate) fn tick(&mut self, stamp: u64, up: bool)
         requires rises { self.old.clock < stamp }
         requires within { stamp < stamp_limit }
-        ensures ticked { self.new ≡ ticked self.old stamp }
+        ensures ticked { self.new ≡ ticked self.old stamp up }
         ensures fresh { self.new.kept.queue.arrivals < self.new.clock }
+        ensures young { self.new.kept.ring.check < self.new.clock }
         ensures places { All (λ n. n + event_letters ≤ event_letters * self.new.clock) self.new.sent }
     {
         self.clock = stamp;
-        self.activity += 1;
+        if up {
+            self.activity += 1;
+        }
     }
 
     // The place of an actor among all: the ranks before the servers.

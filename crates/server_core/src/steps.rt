@@ -7,7 +7,7 @@ ghost use Rattle.server_core.specs.Failing.{finishing, with_finished};
 ghost use Rattle.server_core.specs.Out.{HasRoom, IsWithin, Out, going_on, made, planned};
 ghost use Rattle.server_law.specs.Plan.{Plan};
 ghost use Rattle.server_law.specs.State.{Kept, ServerModel};
-ghost use Rattle.server_law.specs.Step.{acts, heard_finish, next_stamp, rank_rule, rule, serve, server_rule};
+ghost use Rattle.server_law.specs.Step.{acts, heard_finish, next_stamp, raises, rank_rule, rule, serve, server_rule};
 
 use crate::outgoing::Outgoing;
 use crate::states::ServerState;
@@ -47,12 +47,13 @@ impl ServerState {
             return Err(self.fail(finishes, Trouble::TooLong { stamp }));
         }
         // An event answers its letter, or enters that a unit has come; asks a server, frees a part, or says what a push
-        // needs; and finds exhaustion. It answers each rank that waits, or hints for each wish.
+        // needs; or enters a verdict and tells each of at most seven other servers. It answers each rank that waits, or
+        // hints for each wish. Then it gives notice, or starts a check.
         let (waiting, wishes) = self.parked.counts();
-        let Ok(mut out) = Outgoing::new(self.alloc, waiting + wishes + 3) else {
+        let Ok(mut out) = Outgoing::new(self.alloc, waiting + wishes + 9) else {
             return Err(self.fail(finishes, Trouble::Memory));
         };
-        self.tick(stamp);
+        self.tick(stamp, raises(&letter.message));
         if self.handle(from, letter.message, &mut out).is_err() {
             return Err(self.fail(finishes, Trouble::Memory));
         }
@@ -69,7 +70,8 @@ impl ServerState {
         requires actor { IsWithin self.old.config from }
         requires expected { IsSome (rule self.old from message) }
         requires fresh { self.old.kept.queue.arrivals < self.old.clock }
-        requires room { HasRoom self.old out.old 3 }
+        requires young { self.old.kept.ring.check < self.old.clock }
+        requires room { HasRoom self.old out.old 9 }
 
         ensures ok { OnOk result (option_map (λ list. going_on out.old list self.old) (acts self.old from message) ≡
             Some (made self.new out.new)) }
@@ -114,6 +116,7 @@ impl ServerState {
             } => Ok(self.close(request, batch, accepted, out)),
             Message::FetchCommon { request, batch } => self.share(from, request, batch, out),
             Message::Count { request, kind } => Ok(self.count(from, request, kind, out)),
+            Message::Done { request } => Ok(self.hear_done(from, request, out)),
             Message::Finish => Ok(self.finish(from)),
             _ => unreachable!(),
         }
@@ -130,7 +133,7 @@ impl ServerState {
         requires other { from ≢ self.old.me }
         requires expected { IsSome (server_rule self.old from message) }
         requires fresh { self.old.kept.queue.arrivals < self.old.clock }
-        requires room { HasRoom self.old out.old 3 }
+        requires room { HasRoom self.old out.old 9 }
 
         ensures ok { OnOk result ((p : Plan) → server_rule self.old from message ≡ Some p →
             made self.new out.new ≡ planned out.old p self.old) }
@@ -156,6 +159,11 @@ impl ServerState {
             Message::PushUnit { unit } => Ok(self.hear_unit(from, unit, out)),
             Message::PushCancel { id } => Ok(self.hear_cancel(from, id, out)),
             Message::PushAck { .. } => Ok(self.hear_ack()),
+            Message::Notice => Ok(self.hear_notice()),
+            Message::Token { token } => Ok(self.hear_token(token, out)),
+            Message::Failed { token, .. } => Ok(self.hear_failed(token)),
+            Message::Exhaust => Ok(self.hear_exhaust(out)),
+            Message::Shutdown => Ok(self.hear_shutdown()),
             _ => unreachable!(),
         }
     }
@@ -183,4 +191,14 @@ fn finishing(from: Actor, message: &Message) -> Option<Rank>
         (Actor::Rank(rank), Message::Finish) => Some(rank),
         _ => None,
     }
+}
+
+// The letter may change what is free or who waits.
+fn raises(message: &Message) -> bool
+    ensures { result ≡ raises message.now }
+{
+    !matches!(
+        message,
+        Message::Notice | Message::Token { .. } | Message::Failed { .. } | Message::Shutdown
+    )
 }

@@ -29,7 +29,7 @@ use Rattle.reserve_path.specs.declared.waits.Waiting.{Waiting}
 use Rattle.reserve_path.specs.declared.wishes.Wish.{Wish}
 use Rattle.reserve_path.proofs.Resting.{each_not, none_granted_is, none_left, none_pinned, not_any}
 use Rattle.server_law.specs.Acts.{Act, Accepts, Answers, Around, Arrives, Asks_on, Closes, Fetches, Fetches_part, Gives, Grants, Grants_try, Heard, Is_hinted, Parks, Sends_unit, Wakes, comes, given_back, queue_after, takes}
-use Rattle.server_law.specs.Asks.{none_rule, wake_at}
+use Rattle.server_law.specs.Asks.{none_rule, wake, wake_at}
 use Rattle.server_law.specs.Calm.{EventsKeepCalm, StartIsCalm, WaitOnce}
 use Rattle.server_law.specs.Carried.{Served, all_done, done}
 use Rattle.server_law.specs.Endings.{ends_event}
@@ -39,18 +39,16 @@ use Rattle.server_law.specs.Presses.{presses}
 use Rattle.server_law.specs.Pushes.{acks, expects_unit}
 use Rattle.server_law.specs.Puts.{expects_put, gives, is_over, is_taken, put, put_now, settles}
 use Rattle.server_law.specs.State.{Kept, ServerModel, awaiting, idle}
-use Rattle.server_law.specs.Step.{acts, next_stamp, rule, ticked}
+use Rattle.server_law.specs.Step.{acts, at_event, rule}
 use Rattle.server_law.specs.Sure.{SitsIn, Sure}
 use Rattle.server_law.specs.Waits.{asks_on, look_again, look_at, looks_again}
 use Rattle.server_law.proofs.Carrying.{carried_state}
-use Rattle.server_law.proofs.Decided.{EachDecides, Follow, acks_decides, asks_on_decides, decided_follow, ends_event_decides, presses_decides, settles_decides}
-use Rattle.server_law.proofs.Handled.{asked_at_place, planned, put_plan}
-use Rattle.server_law.proofs.Plans.{IsPlan}
-use Rattle.server_law.proofs.Places.{IsPlace, Takes, found_there, none_found, place_found, taker_found}
+use Rattle.server_law.proofs.Decided.{Follow, settles_decides}
+use Rattle.server_law.proofs.Places.{Takes, found_there, none_found, taker_found}
 use Rattle.server_law.proofs.Settling.{free, settles_new}
 use Rattle.server_law.proofs.Tests.{expects_put_says, unit_comes_says}
 use Rattle.server_law.proofs.Waiters.{Each, all_done_joined, all_each, done_kept, each_after, each_all, each_append, each_both, each_gone, each_parts, each_weaker, none_of, one}
-use Rattle.server_law.proofs.Once.{step_acts}
+use Rattle.server_law.proofs.Once.{Handles, follow_rest, plan_handles, step_acts}
 
 -- No free unit for an idle rank.
 
@@ -253,7 +251,11 @@ woken_calm s at wish from rest stands once calm =
 
 -- after the acts of the plan
 abbrev Mends : ServerModel → Plan → Type 0
-Mends s p = let t = done p.first s in IsCalmIn (all_done (decided p.follow t) t).kept
+Mends s p = IsCalmIn (all_done (in_order ends_event s p) s).kept
+
+-- if it handles the letter
+abbrev Mends_by : ServerModel → Actor → Message → Plan → Type 0
+Mends_by s from message p = Handles s from message p → Mends s p
 
 -- the letter brings neither
 abbrev is_mild : Actor → Message → Bool
@@ -278,120 +280,105 @@ mild_is_peaceful (Wakes at wish server rest) from message mild is =
     absurd (both_ways (is_mild from message) (sym loud) mild)
 mild_is_peaceful _ from message mild is = tt
 
-plan_mends : (s : ServerModel) (from : Actor) (message : Message) (p : Plan) → IsPlan s from message p → IsPeaceful p.first
-    → IsCalmIn s.kept → Mends s p
-plan_mends s from message p is peaceful calm =
-    follow_calm (decided p.follow (done p.first s)) (done p.first s) (decided_follow p.follow (done p.first s) is.follow)
-    (act_calm p.first s peaceful is.sits is.sure calm)
+peaceful_mends : (s : ServerModel) (from : Actor) (message : Message) (p : Plan) → IsPeaceful p.first → IsCalmIn s.kept
+    → Mends_by s from message p
+peaceful_mends s from message p peaceful calm h =
+    let t = done p.first s in
+    follow_calm (decided (p.follow ++ ends_event) t) t h.follow (act_calm p.first s peaceful h.sits h.sure calm)
 
 mild_mends : (s : ServerModel) (from : Actor) (message : Message) → is_mild from message ≡ true → IsCalmIn s.kept → (o : Option Plan)
-    → IfSome o (IsPlan s from message) → IfSome o (Mends s)
-mild_mends s from message mild calm None is = tt
-mild_mends s from message mild calm (Some p) is =
-    plan_mends s from message p is (mild_is_peaceful p.first from message mild is.takes) calm
+    → IfSome o (Mends_by s from message)
+mild_mends s from message mild calm None = tt
+mild_mends s from message mild calm (Some p) = λ h.
+    peaceful_mends s from message p (mild_is_peaceful p.first from message mild h.takes) calm h
 
--- what follows the first of the deciders leaves the server calm
-first_mends : (d : Decider) (ds : List Decider) (t : ServerModel) → EachDecides ds → IsCalmIn (all_done (d t) t).kept
+-- the first of the deciders leaves the server calm, and so do the others
+first_mends : (d : Decider) (ds : List Decider) (t : ServerModel) → Follow (decided (d ∷ ds) t) t → IsCalmIn (all_done (d t) t).kept
     → IsCalmIn (all_done (decided (d ∷ ds) t) t).kept
-first_mends d ds t each calm =
+first_mends d ds t follow calm =
     let u = all_done (d t) t in
     let rest = decided ds u in
-    subst (λ (x : ServerModel). IsCalmIn x.kept) (sym (all_done_joined (d t) rest t)) (follow_calm rest u (decided_follow ds u each) calm)
+    subst (λ (x : ServerModel). IsCalmIn x.kept) (sym (all_done_joined (d t) rest t))
+    (follow_calm rest u (follow_rest (d t) rest t follow) calm)
 
-put_mends : (s : ServerModel) (unit : Work) → expects_put s unit.id.rank unit ≡ true → IsCalmIn s.kept → (is_done over : Bool)
-    → s.kept.done ≡ is_done → is_over s.kept.queue unit ≡ over → (taken : Bool)
-    → Mends s (record { first = put is_done over unit; follow = settles unit.id ∷ presses taken ∷ [] })
-put_mends s unit expected calm true over ended is taken =
-    plan_mends s (by.Rank unit.id.rank) (tells.Put unit) _ (put_plan s unit expected true over ended is taken) tt calm
-put_mends s unit expected calm false true ended is taken =
-    plan_mends s (by.Rank unit.id.rank) (tells.Put unit) _ (put_plan s unit expected false true ended is taken) tt calm
-put_mends s unit expected calm false false ended is taken =
-    let new = ((expects_put_says s unit.id.rank unit).0 expected).new in
-    first_mends (settles unit.id) (presses taken ∷ []) (done (Accepts unit) s) (presses_decides taken, tt)
+put_mends : (s : ServerModel) (from : Actor) (unit : Work) → IsCalmIn s.kept → (is_done over taken : Bool)
+    → Mends_by s from (tells.Put unit) (record { first = put is_done over unit; follow = settles unit.id ∷ presses taken ∷ [] })
+put_mends s from unit calm true over taken h = peaceful_mends s from (tells.Put unit) _ tt calm h
+put_mends s from unit calm false true taken h = peaceful_mends s from (tells.Put unit) _ tt calm h
+put_mends s from unit calm false false taken h =
+    let new = ((expects_put_says s unit.id.rank unit).0 h.sure.0).new in
+    first_mends (settles unit.id) (presses taken ∷ ends_event) (done (Accepts unit) s) h.follow
     (come_calm (done (Accepts unit) s) s.kept.queue unit new refl calm)
 
-arrival_mends : (s : ServerModel) (from : Server) (unit : Work) → expects_unit s.kept unit ≡ true → IsCalmIn s.kept
-    → Mends s (record { first = Arrives from unit; follow = settles unit.id ∷ acks ∷ [] })
-arrival_mends s from unit expected calm =
-    let new = ((unit_comes_says s.kept unit).0 expected).0 in
-    first_mends (settles unit.id) (acks ∷ []) (done (Arrives from unit) s) (acks_decides, tt)
+arrival_mends : (s : ServerModel) (from : Server) (unit : Work) → IsCalmIn s.kept
+    → Mends_by s (by.Server from) (tells.PushUnit unit) (record { first = Arrives from unit; follow = settles unit.id ∷ acks ∷ [] })
+arrival_mends s from unit calm h =
+    let new = ((unit_comes_says s.kept unit).0 h.sure).0 in
+    first_mends (settles unit.id) (acks ∷ ends_event) (done (Arrives from unit) s) h.follow
     (come_calm (done (Arrives from unit) s) s.kept.queue unit new refl calm)
 
-wake_mends : (s : ServerModel) (from : Server) (rank : Rank) (request : ℕ) → WaitOnce s → IsCalmIn s.kept → (o : Option Place)
-    → IfSome o (IsPlace (has_asked from rank request) s.kept.parked.waiting) → IfSome (wake_at o) (Mends s)
-wake_mends s from rank request once calm None is = tt
-wake_mends s from rank request once calm (Some p) is =
-    let at = asked_at_place s from rank request p is in
-    let wish = p.here.wish in
-    let t = done (Wakes p.at wish from p.here.to_ask) s in
-    let woken = woken_calm s p.at wish from p.here.to_ask at.stands once calm in
-    let mended = first_mends (looks_again wish.rank) (asks_on wish.rank ∷ []) t (asks_on_decides wish.rank, tt) woken in
-    rw at.asked mended
+wake_mends : (s : ServerModel) (from : Actor) (message : Message) → WaitOnce s → IsCalmIn s.kept → (o : Option Place)
+    → IfSome (wake_at o) (Mends_by s from message)
+wake_mends s from message once calm None = tt
+wake_mends s from message once calm (Some p) = by_asked p.here.asked
+  where
+    by_asked : (asked : Option Server) → IfSome (wake p asked) (Mends_by s from message)
+    by_asked None = tt
+    by_asked (Some asked) = λ h.
+        let wish = p.here.wish in
+        first_mends (looks_again wish.rank) (asks_on wish.rank ∷ ends_event) (done (Wakes p.at wish asked p.here.to_ask) s) h.follow
+        (woken_calm s p.at wish asked p.here.to_ask h.sits once calm)
 
 loud_mends : (s : ServerModel) (from : Actor) (message : Message) → is_mild from message ≡ false → WaitOnce s → IsCalmIn s.kept
-    → IfSome (rule s from message) (Mends s)
-loud_mends s (by.Rank from) (tells.Put unit) loud once calm = by_test (expects_put s from unit) refl
+    → IfSome (rule s from message) (Mends_by s from message)
+loud_mends s (by.Rank from) (tells.Put unit) loud once calm = by_test (expects_put s from unit)
   where
-    by_test : (t : Bool) → expects_put s from unit ≡ t
-        → IfSome (cond t (plan (put_now s.kept unit) (settles unit.id ∷ presses (is_taken s.kept unit) ∷ [])) None) (Mends s)
-    by_test true expected =
-        let is : unit.id.rank ≡ from = ((expects_put_says s from unit).0 expected).sender in
-        let own : expects_put s unit.id.rank unit ≡ true = ap (λ r. expects_put s r unit) is ∙ expected in
-        put_mends s unit own calm s.kept.done (is_over s.kept.queue unit) refl refl (is_taken s.kept unit)
-    by_test false expected = tt
+    by_test : (t : Bool)
+        → IfSome (cond t (plan (put_now s.kept unit) (settles unit.id ∷ presses (is_taken s.kept unit) ∷ [])) None)
+        (Mends_by s (by.Rank from) (tells.Put unit))
+    by_test true = put_mends s (by.Rank from) unit calm s.kept.done (is_over s.kept.queue unit) (is_taken s.kept unit)
+    by_test false = tt
 loud_mends s (by.Server from) (tells.AskNone rank request) loud once calm = by_self (from.0 == s.me.0)
   where
-    by_self : (t : Bool) → IfSome (cond t None (none_rule s from rank request)) (Mends s)
+    by_self : (t : Bool)
+        → IfSome (cond t None (none_rule s from rank request)) (Mends_by s (by.Server from) (tells.AskNone rank request))
     by_self true = tt
     by_self false =
-        wake_mends s from rank request once calm (place_in (has_asked from rank request) s.kept.parked.waiting)
-        (place_found (has_asked from rank request) s.kept.parked.waiting)
-loud_mends s (by.Server from) (tells.PushUnit unit) loud once calm = by_self (from.0 == s.me.0) (expects_unit s.kept unit) refl
+        wake_mends s (by.Server from) (tells.AskNone rank request) once calm (place_in (has_asked from rank request) s.kept.parked.waiting)
+loud_mends s (by.Server from) (tells.PushUnit unit) loud once calm = by_self (from.0 == s.me.0) (expects_unit s.kept unit)
   where
-    by_self : (t expected : Bool) → expects_unit s.kept unit ≡ expected
-        → IfSome (cond t None (cond expected (plan (Arrives from unit) (settles unit.id ∷ acks ∷ [])) None)) (Mends s)
-    by_self true expected is = tt
-    by_self false false is = tt
-    by_self false true is = arrival_mends s from unit is calm
+    by_self : (t expected : Bool)
+        → IfSome (cond t None (cond expected (plan (Arrives from unit) (settles unit.id ∷ acks ∷ [])) None))
+        (Mends_by s (by.Server from) (tells.PushUnit unit))
+    by_self true expected = tt
+    by_self false false = tt
+    by_self false true = arrival_mends s from unit calm
 loud_mends s _ _ loud once calm = absurd (cc)
 
-mends : (s : ServerModel) (from : Actor) (message : Message) → WaitOnce s → IsCalmIn s.kept → IfSome (rule s from message) (Mends s)
+mends : (s : ServerModel) (from : Actor) (message : Message) → WaitOnce s → IsCalmIn s.kept
+    → IfSome (rule s from message) (Mends_by s from message)
 mends s from message once calm = by_test (is_mild from message) refl
   where
-    by_test : (t : Bool) → is_mild from message ≡ t → IfSome (rule s from message) (Mends s)
-    by_test true mild = mild_mends s from message mild calm (rule s from message) (planned s from message)
+    by_test : (t : Bool) → is_mild from message ≡ t → IfSome (rule s from message) (Mends_by s from message)
+    by_test true mild = mild_mends s from message mild calm (rule s from message)
     by_test false loud = loud_mends s from message loud once calm
 
 -- Events.
 
-decided_joined : (ds es : List Decider) (s : ServerModel)
-    → all_done (decided (ds ++ es) s) s ≡ (let t = all_done (decided ds s) s in all_done (decided es t) t)
-decided_joined [] es s = refl
-decided_joined (d ∷ ds) es s =
-    let t = all_done (d s) s in
-    all_done_joined (d s) (decided (ds ++ es) t) s ∙ decided_joined ds es t
-    ∙ ap (λ x. all_done (decided es x) x) (sym (all_done_joined (d s) (decided ds t) s))
-
 event_calm : (s : ServerModel) (from : Actor) (message : Message) (list : List Act) → WaitOnce s → IsCalmIn s.kept
     → acts s from message ≡ Some list → IsCalmIn (all_done list s).kept
-event_calm s from message list once calm are = by_plan (rule s from message) (mends s from message once calm) are
+event_calm s from message list once calm are = by_plan (rule s from message) refl (mends s from message once calm) are
   where
-    by_plan : (o : Option Plan) → IfSome o (Mends s) → option_map (in_order ends_event s) o ≡ Some list → IsCalmIn (all_done list s).kept
-    by_plan None mended is = absurd (cc)
-    by_plan (Some p) mended is =
-        let t = done p.first s in
-        let u = all_done (decided p.follow t) t in
-        let last = decided (ends_event ∷ []) u in
-        let calm_at : IsCalmIn (all_done last u).kept =
-        follow_calm last u (decided_follow (ends_event ∷ []) u (ends_event_decides, tt)) mended in
-        let all : IsCalmIn (all_done (decided (p.follow ++ ends_event ∷ []) t) t).kept =
-        subst (λ (x : ServerModel). IsCalmIn x.kept) (sym (decided_joined p.follow (ends_event ∷ []) t)) calm_at in
-        subst (λ l. IsCalmIn (all_done l s).kept) (some_is is) all
+    by_plan : (o : Option Plan) → rule s from message ≡ o → IfSome o (Mends_by s from message)
+        → option_map (in_order ends_event s) o ≡ Some list → IsCalmIn (all_done list s).kept
+    by_plan None by mended is = absurd (cc)
+    by_plan (Some p) by mended is =
+        subst (λ l. IsCalmIn (all_done l s).kept) (some_is is) (mended (plan_handles s from message p by))
 
 pub events_keep_calm : EventsKeepCalm
 events_keep_calm s from letter x once calm is =
     let step = step_acts s from letter x is in
-    let now = ticked s (next_stamp s letter) in
+    let now = at_event s letter in
     let kept = event_calm now from letter.message step.list once (each_all (Rests s.kept.queue) s.kept.parked.waiting calm) step.are in
     let same : all_done step.list now ≡ x.state = sym (carried_state step.list now) ∙ ap (λ (y : Served). y.state) step.makes in
     let after = subst (λ (y : ServerModel). IsCalmIn y.kept) same kept in

@@ -1,5 +1,5 @@
 -- What acts make of a server, one after the other.
-use Rattle.std.proofs.Common.{◌≡◌, ◌<◌, ◌==◌, ℕ, true, false, List, [], ◌∷◌, ◌++◌, find, Option, Some, None, refl, sym, ap, ◌∙◌, append_assoc}
+use Rattle.std.proofs.Common.{◌≡◌, ◌<◌, ◌==◌, ℕ, true, false, cond, List, [], ◌∷◌, ◌++◌, find, Option, Some, None, refl, sym, ap, ◌∙◌, append_assoc}
 use Rattle.std.specs.Option.{option_map}
 use Rattle.std.proofs.lemmas.Bool.{lt-ltb}
 use Rattle.std.proofs.lemmas.List.{append-nil}
@@ -10,16 +10,21 @@ use Rattle.adlb_unit.specs.declared.actors.Actor.TheVariants as by
 use Rattle.adlb_unit.specs.declared.letters.Letter.{Letter}
 use Rattle.adlb_unit.specs.declared.messages.Message.{Message}
 use Rattle.adlb_unit.specs.declared.messages.Message.TheVariants as tells
+use Rattle.adlb_unit.specs.declared.messages.Why.{Why}
 use Rattle.adlb_unit.specs.declared.names.Rank.{Rank}
 use Rattle.adlb_unit.specs.declared.names.Server.{Server}
 use Rattle.adlb_unit.specs.declared.names.UnitId.{UnitId}
+use Rattle.adlb_unit.specs.declared.notes.End.TheVariants as ends_by
 use Rattle.adlb_unit.specs.declared.notes.UnitNote.{UnitNote}
+use Rattle.adlb_unit.specs.declared.tokens.Token.{Token}
 use Rattle.adlb_unit.specs.declared.units.Unit.{Unit as Work}
+use Rattle.exhaust_ring.specs.Expected.{expects, is_running}
 use Rattle.work_queue.specs.declared.placing.Placed.{Placed}
-use Rattle.server_law.specs.Acts.{Act, Arrives, Drops_hint, Ends_push, Fetches, Is_hinted, Notes_finish, Passes_on, ServerSaying, Stops_push, Wakes, Withdraws, entries}
+use Rattle.server_law.specs.Acts.{Act, Arrives, Drops_hint, Ends_push, Fetches, Hears_done, Hears_exhaust, Hears_failed, Hears_shutdown, Is_hinted, Notes_finish, Passes_on, ServerSaying, Stops_push, Wakes, Wants, Withdraws, entries}
 use Rattle.server_law.specs.Asks.{answer_now, expects_ask}
 use Rattle.server_law.specs.Carried.{Served, all_counted, all_done, carried, counted, done, joined, posted, sends, stamped}
-use Rattle.server_law.specs.Endings.{ends_event}
+use Rattle.server_law.specs.Checks.{failed_rule, token_rule, visit}
+use Rattle.server_law.specs.Endings.{ends_event, tells_idle}
 use Rattle.server_law.specs.Finding.{Place, exceeds, has_asked, has_promise, is_free_as, is_pinned_as, place_in}
 use Rattle.server_law.specs.Hints.{expects_hint}
 use Rattle.server_law.specs.Plan.{Decider, Plan, decided, in_order, plan}
@@ -31,8 +36,8 @@ use Rattle.server_law.specs.Puts.{expects_put, is_taken, put_now, settles}
 use Rattle.server_law.specs.Reserves.{reserve_now}
 use Rattle.reserve_path.specs.Calls.{is_since}
 use Rattle.reserve_path.specs.declared.wishes.Wish.{Wish}
-use Rattle.server_law.specs.State.{ServerModel, runs, runs_at_home}
-use Rattle.server_law.specs.Step.{acts, next_stamp, rule, serve, ticked}
+use Rattle.server_law.specs.State.{ServerModel, ring_at, runs, runs_at_home}
+use Rattle.server_law.specs.Step.{acts, at_event, rule, serve}
 use Rattle.server_law.specs.Waits.{asks_on, looks_again}
 
 -- Letters.
@@ -98,9 +103,9 @@ decided_carried (d ∷ ds) x =
     ∙ ap (λ s. followed (followed x first) (decided ds s)) (sym (carried_state first x.state))
     ∙ decided_carried ds (followed x first)
 
-pub plan_carried : (last : Decider) (s : ServerModel) (p : Plan)
-    → carried (in_order last s p) s ≡ followed_by (performed p.first s) (p.follow ++ last ∷ [])
-plan_carried last s p = decided_carried (p.follow ++ last ∷ []) (performed p.first s)
+pub plan_carried : (last : List Decider) (s : ServerModel) (p : Plan)
+    → carried (in_order last s p) s ≡ followed_by (performed p.first s) (p.follow ++ last)
+plan_carried last s p = decided_carried (p.follow ++ last) (performed p.first s)
 
 -- Steps.
 
@@ -109,26 +114,26 @@ abbrev pub handled : ServerModel → Actor → Message → Option Served
 handled s from message = option_map (λ list. carried list s) (acts s from message)
 
 pub serve_is : (s : ServerModel) (from : Actor) (letter : Letter) → is_within s.config from ≡ true → letter.stamp < stamp_limit
-    → serve s from letter ≡ handled (ticked s (next_stamp s letter)) from letter.message
+    → serve s from letter ≡ handled (at_event s letter) from letter.message
 serve_is s from letter within given = rw (within, lt-ltb letter.stamp stamp_limit given) refl
 
 pub handled_by : (s : ServerModel) (from : Actor) (message : Message) (first : Act) (follow : List Decider)
     → rule s from message ≡ plan first follow
-    → handled s from message ≡ Some (followed_by (performed first s) (follow ++ ends_event ∷ []))
+    → handled s from message ≡ Some (followed_by (performed first s) (follow ++ ends_event))
 handled_by s from message first follow is =
     ap (λ o. option_map (λ list. carried list s) (option_map (in_order ends_event s) o)) is
     ∙ ap (λ x. Some x) (plan_carried ends_event s (record { first = first; follow = follow }))
 
 pub put_handled : (s : ServerModel) (from : Rank) (unit : Work) → expects_put s from unit ≡ true
     → handled s (by.Rank from) (tells.Put unit)
-    ≡ Some (followed_by (performed (put_now s.kept unit) s) (settles unit.id ∷ presses (is_taken s.kept unit) ∷ ends_event ∷ []))
+    ≡ Some (followed_by (performed (put_now s.kept unit) s) (settles unit.id ∷ presses (is_taken s.kept unit) ∷ ends_event))
 put_handled s from unit expected =
     handled_by s (by.Rank from) (tells.Put unit) (put_now s.kept unit)
     (settles unit.id ∷ presses (is_taken s.kept unit) ∷ []) (rw expected refl)
 
 pub reserve_handled : (s : ServerModel) (wish : Wish) → runs_at_home s wish.rank ≡ true
     → handled s (by.Rank wish.rank) (tells.Reserve wish.request wish.types)
-    ≡ Some (followed_by (performed (reserve_now s.kept wish) s) (asks_on wish.rank ∷ ends_event ∷ []))
+    ≡ Some (followed_by (performed (reserve_now s.kept wish) s) (asks_on wish.rank ∷ ends_event))
 reserve_handled s wish expected =
     handled_by s (by.Rank wish.rank) (tells.Reserve wish.request wish.types) (reserve_now s.kept wish) (asks_on wish.rank ∷ [])
     (rw expected refl)
@@ -136,19 +141,25 @@ reserve_handled s wish expected =
 pub fetch_handled : (s : ServerModel) (from : Rank) (request : ℕ) (id : UnitId) (p : Placed)
     → find (is_pinned_as id from) s.kept.queue.units ≡ Some p
     → handled s (by.Rank from) (tells.Fetch request id)
-    ≡ Some (followed_by (performed (Fetches from request id p.unit) s) (ends_event ∷ []))
+    ≡ Some (followed_by (performed (Fetches from request id p.unit) s) ends_event)
 fetch_handled s from request id p found =
     handled_by s (by.Rank from) (tells.Fetch request id) (Fetches from request id p.unit) [] (rw found refl)
 
 pub finish_handled : (s : ServerModel) (from : Rank) → runs s.kept from ≡ true
-    → handled s (by.Rank from) tells.Finish ≡ Some (followed_by (performed (Notes_finish from) s) (ends_event ∷ []))
+    → handled s (by.Rank from) tells.Finish ≡ Some (followed_by (performed (Notes_finish from) s) ends_event)
 finish_handled s from expected = handled_by s (by.Rank from) tells.Finish (Notes_finish from) [] (rw expected refl)
+
+pub done_handled : (s : ServerModel) (from : Rank) (request : ℕ)
+    → handled s (by.Rank from) (tells.Done request)
+    ≡ Some (followed_by (performed (Hears_done from request) s) (tells_idle ends_by.NoMoreWork ∷ ends_event))
+done_handled s from request =
+    handled_by s (by.Rank from) (tells.Done request) (Hears_done from request) (tells_idle ends_by.NoMoreWork ∷ []) refl
 
 -- Letters of another server.
 
 pub ask_handled : (s : ServerModel) (from : Server) (wish : Wish) → (from.0 == s.me.0) ≡ false → expects_ask s from wish.rank ≡ true
     → handled s (by.Server from) (tells.Ask wish.rank wish.request wish.types)
-    ≡ Some (followed_by (performed (answer_now s.kept from wish) s) (ends_event ∷ []))
+    ≡ Some (followed_by (performed (answer_now s.kept from wish) s) ends_event)
 ask_handled s from wish other expected =
     handled_by s (by.Server from) (tells.Ask wish.rank wish.request wish.types) (answer_now s.kept from wish) []
     (rw (other, expected) refl)
@@ -157,14 +168,14 @@ ask_handled s from wish other expected =
 module _ (s : ServerModel) (from : Server) (rank : Rank) (request : ℕ) (p : Place) (other : (from.0 == s.me.0) ≡ false)
     (found : place_in (has_asked from rank request) s.kept.parked.waiting ≡ Some p) (asked : p.here.asked ≡ Some from) where
   pub grant_handled : (note : UnitNote) → handled s (by.Server from) (tells.AskGrant rank request note)
-      ≡ Some (followed_by (performed (Passes_on p.at p.here.wish from p.here.to_ask note) s) (ends_event ∷ []))
+      ≡ Some (followed_by (performed (Passes_on p.at p.here.wish from p.here.to_ask note) s) ends_event)
   grant_handled note =
       handled_by s (by.Server from) (tells.AskGrant rank request note) (Passes_on p.at p.here.wish from p.here.to_ask note) []
       (rw (other, found, asked) refl)
 
   pub none_handled : handled s (by.Server from) (tells.AskNone rank request)
       ≡ Some (followed_by (performed (Wakes p.at p.here.wish from p.here.to_ask) s)
-      (looks_again p.here.wish.rank ∷ asks_on p.here.wish.rank ∷ ends_event ∷ []))
+      (looks_again p.here.wish.rank ∷ asks_on p.here.wish.rank ∷ ends_event))
   none_handled =
       handled_by s (by.Server from) (tells.AskNone rank request) (Wakes p.at p.here.wish from p.here.to_ask)
       (looks_again p.here.wish.rank ∷ asks_on p.here.wish.rank ∷ []) (rw (other, found, asked) refl)
@@ -173,14 +184,14 @@ module _ (s : ServerModel) (from : Server) (rank : Rank) (request : ℕ) (other 
     (expected : expects_hint s rank ≡ true) where
   pub hint_handled : (p : Place) → place_in (is_since rank request) s.kept.parked.waiting ≡ Some p
       → handled s (by.Server from) (tells.Hint rank request)
-      ≡ Some (followed_by (performed (Is_hinted p.at p.here from) s) (asks_on p.here.wish.rank ∷ ends_event ∷ []))
+      ≡ Some (followed_by (performed (Is_hinted p.at p.here from) s) (asks_on p.here.wish.rank ∷ ends_event))
   hint_handled p found =
       handled_by s (by.Server from) (tells.Hint rank request) (Is_hinted p.at p.here from) (asks_on p.here.wish.rank ∷ [])
       (rw (other, expected, found) refl)
 
   pub late_hint_handled : place_in (is_since rank request) s.kept.parked.waiting ≡ None
       → handled s (by.Server from) (tells.Hint rank request)
-      ≡ Some (followed_by (performed (Drops_hint from rank request) s) (ends_event ∷ []))
+      ≡ Some (followed_by (performed (Drops_hint from rank request) s) ends_event)
   late_hint_handled found =
       handled_by s (by.Server from) (tells.Hint rank request) (Drops_hint from rank request) [] (rw (other, expected, found) refl)
 
@@ -189,36 +200,68 @@ module _ (s : ServerModel) (from : Server) (rank : Rank) (request : ℕ) (other 
 module _ (s : ServerModel) (from : Server) (id : UnitId) (other : (from.0 == s.me.0) ≡ false) where
   pub query_handled : (n : ℕ) → expects_query s.kept id ≡ true
       → handled s (by.Server from) (tells.PushQuery id n)
-      ≡ Some (followed_by (performed (answer_query (exceeds s.kept.queue n) from id n) s) (ends_event ∷ []))
+      ≡ Some (followed_by (performed (answer_query (exceeds s.kept.queue n) from id n) s) ends_event)
   query_handled n expected =
       handled_by s (by.Server from) (tells.PushQuery id n) (answer_query (exceeds s.kept.queue n) from id n) [] (rw (other, expected) refl)
 
   -- where this server's push stands
   pub yes_handled : (n : ℕ) → s.kept.pushing.push ≡ Some (asks_room from id n)
       → handled s (by.Server from) (tells.PushYes id)
-      ≡ Some (followed_by (performed (sends_on from id n (find (is_free_as id) s.kept.queue.units)) s) (ends_event ∷ []))
+      ≡ Some (followed_by (performed (sends_on from id n (find (is_free_as id) s.kept.queue.units)) s) ends_event)
   yes_handled n stands =
       handled_by s (by.Server from) (tells.PushYes id) (sends_on from id n (find (is_free_as id) s.kept.queue.units)) []
       (rw (other, stands, push_from from id n false) refl)
 
   pub no_handled : (n : ℕ) → s.kept.pushing.push ≡ Some (asks_room from id n)
-      → handled s (by.Server from) (tells.PushNo id) ≡ Some (followed_by (performed (Stops_push from id n) s) (ends_event ∷ []))
+      → handled s (by.Server from) (tells.PushNo id) ≡ Some (followed_by (performed (Stops_push from id n) s) ends_event)
   no_handled n stands =
       handled_by s (by.Server from) (tells.PushNo id) (Stops_push from id n) [] (rw (other, stands, push_from from id n false) refl)
 
   pub ack_handled : (n : ℕ) → s.kept.pushing.push ≡ Some (has_sent from id n)
-      → handled s (by.Server from) (tells.PushAck id) ≡ Some (followed_by (performed (Ends_push from id n) s) (ends_event ∷ []))
+      → handled s (by.Server from) (tells.PushAck id) ≡ Some (followed_by (performed (Ends_push from id n) s) ends_event)
   ack_handled n stands =
       handled_by s (by.Server from) (tells.PushAck id) (Ends_push from id n) [] (rw (other, stands, push_from from id n true) refl)
 
   -- where room was promised here
   pub cancel_handled : has_promise id s.kept.queue.promises ≡ true
-      → handled s (by.Server from) (tells.PushCancel id) ≡ Some (followed_by (performed (Withdraws from id) s) (ends_event ∷ []))
+      → handled s (by.Server from) (tells.PushCancel id) ≡ Some (followed_by (performed (Withdraws from id) s) ends_event)
   cancel_handled expected =
       handled_by s (by.Server from) (tells.PushCancel id) (Withdraws from id) [] (rw (other, expected) refl)
 
 pub unit_handled : (s : ServerModel) (from : Server) (unit : Work) → (from.0 == s.me.0) ≡ false → expects_unit s.kept unit ≡ true
     → handled s (by.Server from) (tells.PushUnit unit)
-    ≡ Some (followed_by (performed (Arrives from unit) s) (settles unit.id ∷ acks ∷ ends_event ∷ []))
+    ≡ Some (followed_by (performed (Arrives from unit) s) (settles unit.id ∷ acks ∷ ends_event))
 unit_handled s from unit other expected =
     handled_by s (by.Server from) (tells.PushUnit unit) (Arrives from unit) (settles unit.id ∷ acks ∷ []) (rw (other, expected) refl)
+
+-- Checks.
+
+module _ (s : ServerModel) (from : Server) (other : (from.0 == s.me.0) ≡ false) where
+  pub notice_handled : (s.me.0 == 0) ≡ true
+      → handled s (by.Server from) tells.Notice ≡ Some (followed_by (performed (Wants from) s) ends_event)
+  notice_handled zeroth = handled_by s (by.Server from) tells.Notice (Wants from) [] (rw (other, zeroth) refl)
+
+  -- by what the visit comes to
+  pub token_handled : (t : Token) (first : Act) (follow : List Decider) → expects (ring_at s) from t ≡ true
+      → visit s from t ≡ plan first follow
+      → handled s (by.Server from) (tells.Token t) ≡ Some (followed_by (performed first s) (follow ++ ends_event))
+  token_handled t first follow expected is =
+      handled_by s (by.Server from) (tells.Token t) first follow
+      (ap (λ b. cond b None (token_rule s from t)) other ∙ ap (λ b. cond b (visit s from t) None) expected ∙ is)
+
+  pub failed_handled : (t : Token) (why : Why) → is_running (ring_at s) t ≡ true
+      → handled s (by.Server from) (tells.Failed t why) ≡ Some (followed_by (performed (Hears_failed from t why) s) ends_event)
+  failed_handled t why runs =
+      handled_by s (by.Server from) (tells.Failed t why) (Hears_failed from t why) []
+      (ap (λ b. cond b None (failed_rule s from t why)) other ∙ ap (λ b. cond b (plan (Hears_failed from t why) []) None) runs)
+
+  -- where the sender is server 0
+  pub exhaust_handled : (from.0 == 0) ≡ true
+      → handled s (by.Server from) tells.Exhaust
+      ≡ Some (followed_by (performed (Hears_exhaust from) s) (tells_idle ends_by.Exhausted ∷ ends_event))
+  exhaust_handled zeroth =
+      handled_by s (by.Server from) tells.Exhaust (Hears_exhaust from) (tells_idle ends_by.Exhausted ∷ []) (rw (other, zeroth) refl)
+
+  pub shutdown_handled : (from.0 == 0) ≡ true
+      → handled s (by.Server from) tells.Shutdown ≡ Some (followed_by (performed (Hears_shutdown from) s) ends_event)
+  shutdown_handled zeroth = handled_by s (by.Server from) tells.Shutdown (Hears_shutdown from) [] (rw (other, zeroth) refl)

@@ -195,10 +195,13 @@ pub promises_agree : (b : Bag) (s : ServerModel) (rooms : List Room) → ServerA
 promises_agree b s rooms m are same = rooms_agree b s rooms s.kept.queue.promises m are (same ∙ m.room) m.single
 
 -- what is known: whether the problem was called done, and whether all work was found used up
-pub known_agrees : (b : Bag) (s : ServerModel) (is_done is_exhausted knows : Bool) → ServerAgrees b s
-    → (s.kept.done ≡ true → is_done ≡ true) → (knows ≡ true → is_exhausted ≡ true) → (s.me.0 ≡ 0 → is_exhausted ≡ true → knows ≡ true)
-    → ServerAgrees (record b { done = is_done; exhausted = is_exhausted }) (record s { kept = record s.kept { exhausted = knows } })
-known_agrees b s is_done is_exhausted knows m done exhausted found = record {
+abbrev pub with_knowledge : Bool → Bool → ServerModel → ServerModel
+with_knowledge is_done is_exhausted s = record s { kept = record s.kept { done = is_done; exhausted = is_exhausted } }
+
+pub known_agrees : (b : Bag) (s : ServerModel) (is_done is_exhausted hears knows : Bool) → ServerAgrees b s
+    → (hears ≡ true → is_done ≡ true) → (knows ≡ true → is_exhausted ≡ true) → (s.me.0 ≡ 0 → is_exhausted ≡ true → knows ≡ true)
+    → ServerAgrees (record b { done = is_done; exhausted = is_exhausted }) (with_knowledge hears knows s)
+known_agrees b s is_done is_exhausted hears knows m done exhausted found = record {
   servers = m.servers;
   within = m.within;
   limit = m.limit;

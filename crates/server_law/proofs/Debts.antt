@@ -21,14 +21,12 @@ use Rattle.server_law.specs.Plan.{Plan, decided, in_order, plan}
 use Rattle.server_law.specs.Pushes.{acks, acks_if, expects_unit}
 use Rattle.server_law.specs.Puts.{gives, settles, settles_as}
 use Rattle.server_law.specs.State.{Debt, Kept, ServerModel}
-use Rattle.server_law.specs.Step.{acts, next_stamp, rule, ticked}
+use Rattle.server_law.specs.Step.{acts, at_event, rule}
 use Rattle.server_law.specs.Sure.{TakeNone}
 use Rattle.server_law.proofs.Calm.{first_is}
 use Rattle.server_law.proofs.Carrying.{carried_state}
-use Rattle.server_law.proofs.Decided.{decided_follow, each_and_last, ends_event_decides}
-use Rattle.server_law.proofs.Handled.{planned}
-use Rattle.server_law.proofs.Once.{step_acts}
-use Rattle.server_law.proofs.Plans.{IsPlan}
+use Rattle.server_law.proofs.Decided.{Follow}
+use Rattle.server_law.proofs.Once.{Handles, follow_rest, plan_handles, step_acts}
 use Rattle.server_law.proofs.Waiters.{all_done_joined, done_kept}
 
 abbrev OwesNone : ServerModel → Type 0
@@ -76,49 +74,55 @@ acks_pay s = by_debt s.kept.owed refl
 abbrev Pays : ServerModel → Plan → Type 0
 Pays s p = OwesNone (all_done (in_order ends_event s p) s)
 
+-- after the acts of the plan, if it handles the letter
+abbrev Pays_by : ServerModel → Actor → Message → Plan → Type 0
+Pays_by s from message p = Handles s from message p → Pays s p
+
 plan_pays : (s : ServerModel) (from : Actor) (message : Message) → IsOther message → OwesNone s → (o : Option Plan)
-    → IfSome o (IsPlan s from message) → IfSome o (Pays s)
-plan_pays s from message other none None is = tt
-plan_pays s from message other none (Some p) is =
-    let ds = p.follow ++ ends_event ∷ [] in
+    → IfSome o (Pays_by s from message)
+plan_pays s from message other none None = tt
+plan_pays s from message other none (Some p) = λ h.
     let t = done p.first s in
-    let follow = decided_follow ds t (each_and_last p.follow ends_event is.follow ends_event_decides) in
-    follow_owes (decided ds t) t follow.1 (owes_after p.first s (first_owes p.first s from message is.takes other none))
+    follow_owes (decided (p.follow ++ ends_event) t) t h.follow.1 (owes_after p.first s (first_owes p.first s from message h.takes other none))
 
 -- once the acknowledgement is said, whatever was settled before
-arrival_pays : (t : ServerModel) (id : UnitId) → OwesNone (all_done (decided (settles id ∷ acks ∷ ends_event ∷ []) t) t)
-arrival_pays t id =
+arrival_pays : (t : ServerModel) (id : UnitId) → Follow (decided (settles id ∷ acks ∷ ends_event) t) t
+    → OwesNone (all_done (decided (settles id ∷ acks ∷ ends_event) t) t)
+arrival_pays t id follow =
     let xs = settles id t in
     let u = all_done xs t in
     let ys = acks u in
     let v = all_done ys u in
-    let zs = decided (ends_event ∷ []) v in
-    let paid = follow_owes zs v (decided_follow (ends_event ∷ []) v (ends_event_decides, tt)).1 (acks_pay u) in
+    let zs = decided ends_event v in
+    let silent = (follow_rest ys zs u (follow_rest xs (ys ++ zs) t follow)).1 in
+    let paid = follow_owes zs v silent (acks_pay u) in
     ap (λ (x : ServerModel). x.kept.owed) (all_done_joined xs (ys ++ zs) t ∙ all_done_joined ys zs u) ∙ paid
 
-rule_pays : (s : ServerModel) (from : Actor) (message : Message) → OwesNone s → IfSome (rule s from message) (Pays s)
+rule_pays : (s : ServerModel) (from : Actor) (message : Message) → OwesNone s → IfSome (rule s from message) (Pays_by s from message)
 rule_pays s (by.Server from) (tells.PushUnit unit) none = by_tests (from.0 == s.me.0) (expects_unit s.kept unit)
   where
     by_tests : (t expected : Bool)
-        → IfSome (cond t None (cond expected (plan (Arrives from unit) (settles unit.id ∷ acks ∷ [])) None)) (Pays s)
+        → IfSome (cond t None (cond expected (plan (Arrives from unit) (settles unit.id ∷ acks ∷ [])) None))
+        (Pays_by s (by.Server from) (tells.PushUnit unit))
     by_tests true expected = tt
     by_tests false false = tt
-    by_tests false true = arrival_pays (done (Arrives from unit) s) unit.id
+    by_tests false true = λ h. arrival_pays (done (Arrives from unit) s) unit.id h.follow
 rule_pays s (by.Rank from) (tells.PushUnit unit) none = tt
-rule_pays s from message none = plan_pays s from message tt none (rule s from message) (planned s from message)
+rule_pays s from message none = plan_pays s from message tt none (rule s from message)
 
 acts_pay : (s : ServerModel) (from : Actor) (message : Message) (list : List Act) → OwesNone s → acts s from message ≡ Some list
     → OwesNone (all_done list s)
-acts_pay s from message list none are = by_plan (rule s from message) (rule_pays s from message none) are
+acts_pay s from message list none are = by_plan (rule s from message) refl (rule_pays s from message none) are
   where
-    by_plan : (o : Option Plan) → IfSome o (Pays s) → option_map (in_order ends_event s) o ≡ Some list → OwesNone (all_done list s)
-    by_plan None pays is = absurd (cc)
-    by_plan (Some p) pays is = subst (λ l. OwesNone (all_done l s)) (some_is is) pays
+    by_plan : (o : Option Plan) → rule s from message ≡ o → IfSome o (Pays_by s from message)
+        → option_map (in_order ends_event s) o ≡ Some list → OwesNone (all_done list s)
+    by_plan None by pays is = absurd (cc)
+    by_plan (Some p) by pays is = subst (λ l. OwesNone (all_done l s)) (some_is is) (pays (plan_handles s from message p by))
 
 pub events_pay : EventsPay
 events_pay s from letter x none is =
     let step = step_acts s from letter x is in
-    let now = ticked s (next_stamp s letter) in
+    let now = at_event s letter in
     let paid = acts_pay now from letter.message step.list none step.are in
     let same : all_done step.list now ≡ x.state = sym (carried_state step.list now) ∙ ap (λ (y : Served). y.state) step.makes in
     subst OwesNone same paid

@@ -1,9 +1,8 @@
 -- What follows the first act of a rule: each act is sure where it is carried out, and none takes a letter.
-use Rattle.std.proofs.Common.{◌≡◌, inl, inr, suc, ◌==◌, Bool, true, false, cond, ◌&&◌, ◌||◌, List, [], ◌∷◌, ◌++◌, find, Option, None, Some, refl, sym, ap, ◌∙◌, subst, append_assoc, Any, arith}
+use Rattle.std.proofs.Common.{◌≡◌, inl, inr, suc, ◌==◌, Bool, true, false, cond, ◌&&◌, not, List, [], ◌∷◌, ◌++◌, find, Option, None, Some, refl, sym, ap, ◌∙◌, subst, append_assoc, Any, arith}
 use Rattle.std.specs.Prelude.{is_none}
-use Rattle.std.specs.List.{list_any}
 use Rattle.std.specs.Option.{IfSome}
-use Rattle.std.proofs.lemmas.Bool.{and_parts, eqb-true, or_parts}
+use Rattle.std.proofs.lemmas.Bool.{and_parts, eqb-false, eqb-true}
 use Rattle.adlb_unit.specs.declared.names.Rank.{Rank}
 use Rattle.adlb_unit.specs.declared.names.Server.{Server}
 use Rattle.adlb_unit.specs.declared.names.UnitId.{UnitId}
@@ -11,12 +10,15 @@ use Rattle.adlb_unit.specs.declared.notes.End.{End}
 use Rattle.adlb_unit.specs.declared.notes.End.TheVariants as ends_by
 use Rattle.adlb_unit.specs.declared.units.Unit.{Unit as Work}
 use Rattle.bag_law.proofs.Turn.{found_passes}
+use Rattle.exhaust_ring.specs.Ring.{MayStart, may_start}
+use Rattle.exhaust_ring.specs.declared.steps.RingStep.{RingStep}
+use Rattle.exhaust_ring.specs.declared.steps.RingStep.TheVariants.{Ended, Exhausted, Fail, Pass, Shutdown}
 use Rattle.work_queue.specs.Queue.{Queue, id_of}
 use Rattle.work_queue.specs.declared.placing.Placed.{Placed}
-use Rattle.server_law.specs.Acts.{Act, Around, Finds, Hints, Tells, takes}
+use Rattle.server_law.specs.Acts.{Act, Around, Finds_alone, Hints, Starts, Tells, check_alone, takes}
 use Rattle.reserve_path.specs.Parked.{is_idle, is_of}
 use Rattle.server_law.specs.Carried.{all_done, done}
-use Rattle.server_law.specs.Endings.{ends_event, exhausts, fits, is_quiet, tells_all, tells_one, verdict}
+use Rattle.server_law.specs.Endings.{checks, ends_event, finds_alone, is_noted, is_quiet, notice, notices, starts, tells_all, tells_idle, tells_one}
 use Rattle.server_law.specs.Finding.{Place, best_for, is_free_as, permits, place_in, taker}
 use Rattle.server_law.specs.Hints.{hint_all, hints_if, is_first_for, is_later_for}
 use Rattle.server_law.specs.Plan.{Decider, decided}
@@ -27,10 +29,11 @@ use Rattle.server_law.specs.Pushes.{acks, acks_if}
 use Rattle.server_law.specs.Puts.{gives, settles, settles_as}
 use Rattle.reserve_path.specs.declared.waits.Waiting.{Waiting}
 use Rattle.reserve_path.specs.declared.wishes.Wish.{Wish}
-use Rattle.server_law.specs.State.{Debt, ServerModel, idle}
-use Rattle.server_law.specs.Sure.{AreHintsOf, AreSure, HasCause, IsExhausted, IsFound, TakeNone}
+use Rattle.server_law.specs.State.{Debt, ServerModel, idle, ring_at}
+use Rattle.server_law.specs.Sure.{AreHintsOf, AreSure, HasCause, IsFound, TakeNone}
 use Rattle.server_law.specs.Waits.{ask_at, ask_next, asks_on, look_again, look_at, looks_again}
 use Rattle.server_law.proofs.Places.{IsPlace, Takes, idle_is, place_found, taker_found}
+use Rattle.server_law.proofs.Starting.{exhausted_alone, may_is, shut_alone}
 use Rattle.server_law.proofs.Tests.{is_free_says}
 
 -- Acts that follow a first one.
@@ -74,21 +77,24 @@ decided_hints_none (d ∷ ds) wishes s each =
     hints_joined wishes (d s) (decided ds (all_done (d s) s)) (each.0 wishes s)
     (decided_hints_none ds wishes (all_done (d s) s) each.1)
 
+-- acts that follow, and others that follow these
+pub follow_joined : (xs ys : List Act) (s : ServerModel) → Follow xs s → Follow ys (all_done xs s) → Follow (xs ++ ys) s
+follow_joined xs ys s first then = (are_sure_joined xs ys s first.0 then.0, take_none_joined xs ys first.1 then.1)
+
 pub decided_follow : (ds : List Decider) (s : ServerModel) → EachDecides ds → Follow (decided ds s) s
 decided_follow [] s each = (tt, tt)
 decided_follow (d ∷ ds) s each =
     let first = each.0 s in
     let then = all_done (d s) s in
-    let rest = decided_follow ds then each.1 in
-    (are_sure_joined (d s) (decided ds then) s first.0 rest.0, take_none_joined (d s) (decided ds then) first.1 rest.1)
+    follow_joined (d s) (decided ds then) s first (decided_follow ds then each.1)
 
-pub each_and_last : (ds : List Decider) (d : Decider) → EachDecides ds → Decides d → EachDecides (ds ++ d ∷ [])
-each_and_last [] d each last = (last, tt)
-each_and_last (e ∷ ds) d each last = (each.0, each_and_last ds d each.1 last)
+pub each_joined : (ds es : List Decider) → EachDecides ds → EachDecides es → EachDecides (ds ++ es)
+each_joined [] es each later = later
+each_joined (d ∷ ds) es each later = (each.0, each_joined ds es each.1 later)
 
-pub each_none_and_last : (ds : List Decider) (d : Decider) → EachHintsNone ds → HintsNone d → EachHintsNone (ds ++ d ∷ [])
-each_none_and_last [] d each last = (last, tt)
-each_none_and_last (e ∷ ds) d each last = (each.0, each_none_and_last ds d each.1 last)
+pub each_none_joined : (ds es : List Decider) → EachHintsNone ds → EachHintsNone es → EachHintsNone (ds ++ es)
+each_none_joined [] es each later = later
+each_none_joined (d ∷ ds) es each later = (each.0, each_none_joined ds es each.1 later)
 
 -- Where a unit is settled.
 
@@ -126,7 +132,7 @@ all_hints_follow unit wishes s found =
     let first = hints_follow unit (is_first_for unit) wishes s (λ w is. (and_parts _ _ is).0) found in
     let then = hints_follow unit (is_later_for unit) wishes (all_done xs s) (λ w is. (and_parts _ _ is).0)
     (subst (λ (q : Queue). IsFound (find (is_free_as unit.id) q.units) unit) (sym (hints_keep (is_first_for unit) wishes s)) found) in
-    (are_sure_joined xs ys s first.0 then.0, take_none_joined xs ys first.1 then.1)
+    follow_joined xs ys s first then
 
 hints_of : (test : Wish → Bool) (all wishes : List Wish) → ((w : Wish) → Any (λ v. v ≡ w) wishes → Any (λ v. v ≡ w) all)
     → AreHintsOf all (hints_if test wishes)
@@ -312,7 +318,7 @@ told_follow end (e ∷ behind) before s stands cause = by_asked e.asked refl (to
         ((stands ∙ ap (λ x. before ++ x ∷ behind) (idle_is e (ap is_none asked)), cause, rest.0), (refl, rest.1))
     by_asked (Some t) asked later = later (before ++ e ∷ []) s (stands ∙ sym (append_assoc before (e ∷ []) behind)) cause
 
-told_hints_none : (end : End) (behind before : List Waiting) (wishes : List Wish)
+pub told_hints_none : (end : End) (behind before : List Waiting) (wishes : List Wish)
     → AreHintsOf wishes (tells_all end before behind)
 told_hints_none end [] before wishes = tt
 told_hints_none end (e ∷ behind) before wishes =
@@ -325,52 +331,75 @@ told_hints_none end (e ∷ behind) before wishes =
     by_asked None told passed = (tt, told)
     by_asked (Some t) told passed = passed
 
+pub tells_idle_hints_none : (end : End) → HintsNone (tells_idle end)
+tells_idle_hints_none end wishes s = told_hints_none end s.kept.parked.waiting [] wishes
+
 -- What follows each event.
 
-pub ends_event_hints_none : HintsNone ends_event
-ends_event_hints_none wishes s = by_test ((s.config.servers == 1) && is_quiet s)
+pub notices_hints_none : HintsNone notices
+notices_hints_none wishes s = by_test (is_quiet s && not (is_noted s.kept.noted s.activity))
   where
-    by_fits : (t : Bool) (e : Waiting) (behind : List Waiting) → AreHintsOf wishes (exhausts t (e ∷ behind))
-    by_fits true e behind = tt
-    by_fits false e behind = (tt, told_hints_none ends_by.Exhausted (e ∷ behind) [] wishes)
+    by_me : (zeroth : Bool) → AreHintsOf wishes (notice zeroth)
+    by_me true = (tt, tt)
+    by_me false = (tt, tt)
 
-    by_waiting : (xs : List Waiting) → AreHintsOf wishes (verdict s.kept xs)
-    by_waiting [] = (tt, tt)
-    by_waiting (e ∷ behind) = by_fits (s.kept.exhausted || list_any (fits s.kept) (e ∷ behind)) e behind
-
-    by_test : (t : Bool) → AreHintsOf wishes (cond t (verdict s.kept s.kept.parked.waiting) [])
-    by_test true = by_waiting s.kept.parked.waiting
+    by_test : (t : Bool) → AreHintsOf wishes (cond t (notice (s.me.0 == 0)) [])
+    by_test true = by_me (s.me.0 == 0)
     by_test false = tt
 
-pub ends_event_decides : Decides ends_event
-ends_event_decides s = by_test ((s.config.servers == 1) && is_quiet s) refl
+pub notices_decides : Decides notices
+notices_decides s = by_test (is_quiet s && not (is_noted s.kept.noted s.activity)) refl
   where
-    waiting : List Waiting
-    waiting = s.kept.parked.waiting
+    by_me : is_quiet s ≡ true → (zeroth : Bool) → (s.me.0 == 0) ≡ zeroth → Follow (notice zeroth) s
+    by_me quiet true is = ((refl, (eqb-true s.me.0 0 is, quiet), tt), (refl, tt))
+    by_me quiet false is = ((refl, (eqb-false s.me.0 0 is, quiet), tt), (refl, tt))
 
-    by_fits : ((s.config.servers == 1) && is_quiet s) ≡ true → (e : Waiting) (behind : List Waiting) → waiting ≡ e ∷ behind
-        → (t : Bool) → (s.kept.exhausted || list_any (fits s.kept) (e ∷ behind)) ≡ t → Follow (exhausts t (e ∷ behind)) s
-    by_fits only e behind is true none = (tt, tt)
-    by_fits only e behind is false none =
-        let quiet = and_parts (s.config.servers == 1) (is_quiet s) only in
-        let new = or_parts s.kept.exhausted (list_any (fits s.kept) (e ∷ behind)) none in
-        let found : IsExhausted s = record {
-          alone = eqb-true s.config.servers 1 quiet.0;
-          quiet = quiet.1;
-          new = new.0;
-          first = e;
-          behind = behind;
-          waits = is;
-          unfit = ap (list_any (fits s.kept)) is ∙ new.1;
-        } in
-        let rest = told_follow ends_by.Exhausted (e ∷ behind) [] (done Finds s) is refl in
-        ((refl, found, rest.0), (refl, rest.1))
+    by_test : (t : Bool) → (is_quiet s && not (is_noted s.kept.noted s.activity)) ≡ t → Follow (cond t (notice (s.me.0 == 0)) []) s
+    by_test true changed = by_me (and_parts (is_quiet s) (not (is_noted s.kept.noted s.activity)) changed).0 (s.me.0 == 0) refl
+    by_test false changed = (tt, tt)
 
-    by_waiting : ((s.config.servers == 1) && is_quiet s) ≡ true → (xs : List Waiting) → waiting ≡ xs → Follow (verdict s.kept xs) s
-    by_waiting only [] is =
-        let alone = eqb-true s.config.servers 1 (and_parts (s.config.servers == 1) (is_quiet s) only).0 in ((refl, alone, tt), (refl, tt))
-    by_waiting only (e ∷ behind) is = by_fits only e behind is (s.kept.exhausted || list_any (fits s.kept) (e ∷ behind)) refl
+pub checks_hints_none : HintsNone checks
+checks_hints_none wishes s = by_test (may_start (ring_at s) (is_quiet s))
+  where
+    by_step : (step : RingStep) (waiting : List Waiting) → AreHintsOf wishes (finds_alone step waiting)
+    by_step Exhausted waiting = (tt, told_hints_none ends_by.Exhausted waiting [] wishes)
+    by_step Shutdown waiting = (tt, tt)
+    by_step Ended waiting = (tt, tt)
+    by_step (Pass t) waiting = (tt, tt)
+    by_step (Fail t why) waiting = (tt, tt)
 
-    by_test : (t : Bool) → ((s.config.servers == 1) && is_quiet s) ≡ t → Follow (cond t (verdict s.kept waiting) []) s
-    by_test true only = by_waiting only waiting refl
-    by_test false only = (tt, tt)
+    by_number : (alone : Bool) → AreHintsOf wishes (cond alone (finds_alone (check_alone s).step s.kept.parked.waiting) (Starts ∷ []))
+    by_number true = by_step (check_alone s).step s.kept.parked.waiting
+    by_number false = (tt, tt)
+
+    by_test : (t : Bool) → AreHintsOf wishes (cond t (starts s) [])
+    by_test true = by_number (s.config.servers == 1)
+    by_test false = tt
+
+pub checks_decides : Decides checks
+checks_decides s = by_test (may_start (ring_at s) (is_quiet s)) refl
+  where
+    by_step : s.config.servers ≡ 1 → is_quiet s ≡ true → (step : RingStep) → (check_alone s).step ≡ step
+        → Follow (finds_alone step s.kept.parked.waiting) s
+    by_step alone quiet Exhausted is =
+        let rest = told_follow ends_by.Exhausted s.kept.parked.waiting [] (done Finds_alone s) refl refl in
+        ((refl, exhausted_alone s alone quiet is, rest.0), (refl, rest.1))
+    by_step alone quiet Shutdown is = ((refl, (alone, quiet, shut_alone s alone is), tt), (refl, tt))
+    by_step alone quiet Ended is = ((refl, alone, tt), (refl, tt))
+    by_step alone quiet (Pass t) is = ((refl, alone, tt), (refl, tt))
+    by_step alone quiet (Fail t why) is = ((refl, alone, tt), (refl, tt))
+
+    by_number : MayStart (ring_at s) (is_quiet s) → (alone : Bool) → (s.config.servers == 1) ≡ alone
+        → Follow (cond alone (finds_alone (check_alone s).step s.kept.parked.waiting) (Starts ∷ [])) s
+    by_number may true is = by_step (eqb-true s.config.servers 1 is) may.rests (check_alone s).step refl
+    by_number may false is = ((refl, (may, eqb-false s.config.servers 1 is), tt), (refl, tt))
+
+    by_test : (t : Bool) → may_start (ring_at s) (is_quiet s) ≡ t → Follow (cond t (starts s) []) s
+    by_test true may = by_number (may_is (ring_at s) (is_quiet s) may) (s.config.servers == 1) refl
+    by_test false may = (tt, tt)
+
+pub ends_event_hints_none : EachHintsNone ends_event
+ends_event_hints_none = (notices_hints_none, (checks_hints_none, tt))
+
+pub ends_event_decides : EachDecides ends_event
+ends_event_decides = (notices_decides, (checks_decides, tt))

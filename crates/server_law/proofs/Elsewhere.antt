@@ -12,7 +12,7 @@ use Rattle.adlb_unit.specs.declared.names.UnitId.{UnitId}
 use Rattle.adlb_unit.specs.declared.units.Unit.{Unit as Work}
 use Rattle.adlb_unit.proofs.Same.{same_unit_is}
 use Rattle.bag_ledger.specs.Bag.{Bag, part_charge, part_of, promise_charge, promise_of, putting, rank_at, unit_of}
-use Rattle.bag_ledger.specs.Steps.{Legal, after, kept, moved, new_part, taken, unpromised, with_part}
+use Rattle.bag_ledger.specs.Steps.{LegalWhere, after, kept, moved, new_part, taken, unpromised, with_part}
 use Rattle.bag_ledger.specs.declared.entries.Entry.{Entry}
 use Rattle.bag_ledger.specs.declared.entries.Entry.TheVariants as enters
 use Rattle.bag_ledger.specs.declared.states.Part.{Part}
@@ -163,9 +163,9 @@ part_away b s batch p g same stays whole found away m =
 
 -- Entries.
 
-entry_stays : (b : Bag) (e : Entry) (s : ServerModel) → IsSoundBag b → Legal b e → keeper e ≢ Some s.me → ServerAgrees b s
-    → ServerAgrees (after b e) s
-entry_stays b (enters.Accepted server id) s sound l differs m =
+entry_stays : (found : Bag → Bool) (b : Bag) (e : Entry) (s : ServerModel) → IsSoundBag b → LegalWhere found b e → keeper e ≢ Some s.me
+    → ServerAgrees b s → ServerAgrees (after b e) s
+entry_stays found b (enters.Accepted server id) s sound l differs m =
     let put = unit_put (λ (r : RankState). putting r.status) (rank_at b id.rank) l.0 l.1 l.2 (rw l.3 refl) in
     let u : Lodged = record { unit = l.1; place = Free server } in
     let more : ServerAgrees (record b { units = b.units ++ u ∷ [] }) s =
@@ -173,7 +173,7 @@ entry_stays b (enters.Accepted server id) s sound l differs m =
     let is_open : IsOpen b l.1.common = put_shares_open b sound id.rank l.0 l.1 l.2 l.3 in
     let all : ServerAgrees (taken server (Some l.1) b) s = shared_agrees (record b { units = b.units ++ u ∷ [] }) s l.1.common is_open more in
     subst (λ (o : Option Work). ServerAgrees (taken server o b) s) (sym put) all
-entry_stays b (enters.Kept server batch) s sound l differs m =
+entry_stays found b (enters.Kept server batch) s sound l differs m =
     let part = new_part server batch l.1 in
     let away = elsewhere s.me server differs in
     let none : part_charge s.me part ≡ 0 = rw away refl in
@@ -187,28 +187,28 @@ entry_stays b (enters.Kept server batch) s sound l differs m =
     let all : ServerAgrees (kept server batch (Some (batch.number, l.1)) b) s =
     parts_agree b s (b.parts ++ part ∷ []) s.kept.parts s.kept.queue.common m holds (omega arith) in
     subst (λ (n : Bag). ServerAgrees n s) (sym (kept_is b server batch l)) all
-entry_stays b (enters.Closed server batch) s sound l differs m =
+entry_stays found b (enters.Closed server batch) s sound l differs m =
     let away : (l.3.server.0 == s.me.0) ≡ false = rw l.8.2 (elsewhere s.me server differs) in
     part_away b s batch l.3 (λ p. record p { closed = true }) (λ p. refl) (λ p. refl) (λ p. refl) l.8.1 away m
-entry_stays b (enters.Freed server batch) s sound l differs m =
+entry_stays found b (enters.Freed server batch) s sound l differs m =
     let p = l.0 in
     let g : Part → Part = λ q. record q { freed = true } in
     let away : (p.server.0 == s.me.0) ≡ false = rw (l.1.2) (elsewhere s.me server differs) in
     part_away b s batch p g (λ q. refl) (λ q. refl) (λ q. refl) l.1.1 away m
-entry_stays b (enters.Granted server rank call id) s sound l differs m =
+entry_stays found b (enters.Granted server rank call id) s sound l differs m =
     let away = elsewhere s.me server differs in
     passes b s id (Pinned server rank) l.2 l.6.0 (free_away s.me server l.2.place away l.6.1)
     (pinned_away s.me server rank (Pinned server rank) away refl) m
-entry_stays b (enters.Fetched server rank id) s sound l differs m =
+entry_stays found b (enters.Fetched server rank id) s sound l differs m =
     passes b s id Spent l.2 l.6.0 (pinned_away s.me server rank l.2.place (elsewhere s.me server differs) l.6.1) refl m
-entry_stays b (enters.CommonFetched server rank batch) s sound l differs m =
+entry_stays found b (enters.CommonFetched server rank batch) s sound l differs m =
     let away : (l.5.server.0 == s.me.0) ≡ false = rw l.11.2 (elsewhere s.me server differs) in
     part_away b s batch l.5 (λ p. record p { fetched = p.fetched + 1 }) (λ p. refl) (λ p. refl) (λ p. refl) l.11.1 away m
-entry_stays b (enters.Promised server id n) s sound l differs m =
+entry_stays found b (enters.Promised server id n) s sound l differs m =
     promises b s (record { server = server; id = id; length = n }) (elsewhere s.me server differs) m
-entry_stays b (enters.Left server to id) s sound l differs m =
+entry_stays found b (enters.Left server to id) s sound l differs m =
     passes b s id (Travelling to) l.0 l.2.0 (free_away s.me server l.0.place (elsewhere s.me server differs) l.2.1) refl m
-entry_stays b (enters.Arrived server id) s sound l differs m =
+entry_stays found b (enters.Arrived server id) s sound l differs m =
     let away = elsewhere s.me server differs in
     let p = sound.tracked.promised id l.0 server l.1 in
     let at : (p.0.server.0 == s.me.0) ≡ false = rw p.2 away in
@@ -216,15 +216,16 @@ entry_stays b (enters.Arrived server id) s sound l differs m =
     let here : ServerAgrees (moved id (Free server) b) s =
     passes b s id (Free server) l.0 l.1.0 gone (free_away s.me server (Free server) away refl) m in
     unpromises (moved id (Free server) b) s id p.0 sound.single p.1 at here
-entry_stays b (enters.Withdrawn server id) s sound l differs m =
+entry_stays found b (enters.Withdrawn server id) s sound l differs m =
     let at : (l.1.server.0 == s.me.0) ≡ false = rw l.6 (elsewhere s.me server differs) in
     unpromises b s id l.1 sound.single l.5 at m
-entry_stays b (enters.Done rank call) s sound l differs m =
-    known_agrees b s true b.exhausted s.kept.exhausted m (λ is. refl) m.exhausted m.found
-entry_stays b enters.Exhausted s sound l differs m =
-    known_agrees b s b.done true s.kept.exhausted m m.done (λ is. refl)
+entry_stays found b (enters.Done rank call) s sound l differs m =
+    known_agrees b s true b.exhausted s.kept.done s.kept.exhausted m (λ is. refl) m.exhausted m.found
+entry_stays found b enters.Exhausted s sound l differs m =
+    known_agrees b s b.done true s.kept.done s.kept.exhausted m m.done (λ is. refl)
     (λ zeroth is. absurd (differs (ap (λ n. Some (server_of n)) (sym zeroth))))
-entry_stays b _ s sound l differs m = m
+entry_stays found b _ s sound l differs m = m
 
 pub servers_stay : ServersStay
-servers_stay b next e s sound step differs m = subst (λ (n : Bag). ServerAgrees n s) (sym step.2) (entry_stays b e s sound step.1 differs m)
+servers_stay found b next e s sound step differs m =
+    subst (λ (n : Bag). ServerAgrees n s) (sym step.2) (entry_stays found b e s sound step.1 differs m)

@@ -1,60 +1,87 @@
 -- What follows an event, and how the end is told.
-use Rattle.std.proofs.Common.{◌≡◌, ◌≢◌, ◌<◌, ◌==◌, Bool, true, false, ◌||◌, cond, List, [], ◌∷◌, map, None, refl, ap, ◌∙◌, All, inl, inr}
-use Rattle.std.specs.List.{list_any}
-use Rattle.std.proofs.lemmas.Bool.{and_from, and_left, and_right, both_ways, eq-eqb, false_from_ne_true, ne_eqb}
+use Rattle.std.proofs.Common.{◌≡◌, ◌≢◌, ◌<◌, ◌==◌, Bool, true, false, not, cond, List, [], ◌∷◌, ◌++◌, map, None, refl, ap, ◌∙◌, All, inl, inr}
+use Rattle.std.proofs.lemmas.Bool.{and_from, and_left, and_right, both_ways, eq-eqb, false_from_ne_true, ne_eqb, not_from_false}
 use Rattle.std.proofs.lemmas.List.Elements.{All-head, All-tail}
 use Rattle.adlb_unit.specs.declared.messages.Message.TheVariants as tells
 use Rattle.adlb_unit.specs.declared.names.Rank.{Rank}
 use Rattle.adlb_unit.specs.declared.notes.End.{End}
 use Rattle.bag_ledger.specs.declared.entries.Entry.{Entry}
 use Rattle.bag_ledger.specs.declared.entries.Entry.TheVariants as enters
-use Rattle.server_law.specs.Acts.{Act, ServerSaying, Tells, to_rank}
-use Rattle.server_law.specs.Carried.{Served, all_counted, carried, done, joined, sends, stamped}
-use Rattle.server_law.specs.Endings.{ends_event, exhausts, fits, is_quiet, tells_all, tells_one, verdict}
+use Rattle.exhaust_ring.specs.Ring.{MayStart, may_start}
+use Rattle.server_law.specs.Acts.{Act, ServerSaying, Starts, Tells, check_alone, to_rank}
+use Rattle.server_law.specs.Carried.{Served, all_counted, all_done, carried, done, joined, sends, stamped}
+use Rattle.server_law.specs.Endings.{checks, ends_event, finds_alone, is_noted, is_quiet, notice, notices, starts, tells_all, tells_one}
 use Rattle.server_law.specs.Expected.{IsHome, Runs}
 use Rattle.reserve_path.specs.declared.waits.Waiting.{Waiting}
-use Rattle.server_law.specs.State.{Kept, ServerModel, is_finished}
+use Rattle.server_law.specs.Plan.{decided}
+use Rattle.server_law.specs.State.{ServerModel, is_finished, ring_at}
 use Rattle.server_law.proofs.Carrying.{followed, followed_more, with_act}
+use Rattle.server_law.proofs.Starting.{may_tested, unquiet_may_not}
 use Rattle.server_law.proofs.Tests.{quiet_is_tested}
 
 -- What follows.
 
 -- by the test
-ends_if : ServerModel → Bool → List Act
-ends_if s t = cond t (verdict s.kept s.kept.parked.waiting) []
+notices_if : ServerModel → Bool → List Act
+notices_if s b = cond b (notice (s.me.0 == 0)) []
 
--- where there are other servers, nothing follows an event
-pub ends_beside_others : (s : ServerModel) → s.config.servers ≢ 1 → ends_event s ≡ []
-unfolding ends_if
-ends_beside_others s others = ap (ends_if s) (and_left (s.config.servers == 1) (is_quiet s) (ne_eqb s.config.servers 1 others))
+checks_if : ServerModel → Bool → List Act
+checks_if s b = cond b (starts s) []
 
--- nor where the server is not quiet
-pub ends_unquiet : (s : ServerModel) → is_quiet s ≡ false → ends_event s ≡ []
-unfolding ends_if
-ends_unquiet s unquiet = ap (ends_if s) (and_right (s.config.servers == 1) (is_quiet s) unquiet)
+-- a quiet server that has changed since its last notice gives notice
+pub notices_quiet : (s : ServerModel) → is_quiet s ≡ true → is_noted s.kept.noted s.activity ≡ false → notices s ≡ notice (s.me.0 == 0)
+unfolding notices_if
+notices_quiet s quiet new = ap (notices_if s) (and_from (is_quiet s) (not (is_noted s.kept.noted s.activity)) quiet (not_from_false _ new))
 
--- where it is the only one, and is quiet
-pub ends_quiet : (s : ServerModel) → s.config.servers ≡ 1 → is_quiet s ≡ true → ends_event s ≡ verdict s.kept s.kept.parked.waiting
-unfolding ends_if
-ends_quiet s only quiet = ap (ends_if s) (and_from (s.config.servers == 1) (is_quiet s) (eq-eqb s.config.servers 1 only) quiet)
+-- and no other does
+pub notices_unquiet : (s : ServerModel) → is_quiet s ≡ false → notices s ≡ []
+unfolding notices_if
+notices_unquiet s unquiet = ap (notices_if s) (and_left (is_quiet s) (not (is_noted s.kept.noted s.activity)) unquiet)
+
+pub notices_noted : (s : ServerModel) → is_noted s.kept.noted s.activity ≡ true → notices s ≡ []
+unfolding notices_if
+notices_noted s noted = ap (notices_if s) (and_right (is_quiet s) (not (is_noted s.kept.noted s.activity)) (ap not noted))
+
+-- a check is started where one may be
+pub checks_start : (s : ServerModel) → MayStart (ring_at s) (is_quiet s) → checks s ≡ starts s
+unfolding checks_if
+checks_start s may = ap (checks_if s) (may_tested (ring_at s) (is_quiet s) may)
+
+-- and nowhere else
+pub checks_none : (s : ServerModel) → may_start (ring_at s) (is_quiet s) ≡ false → checks s ≡ []
+unfolding checks_if
+checks_none s none = ap (checks_if s) none
+
+-- where the server is not quiet, nothing follows an event
+pub checks_unquiet : (s : ServerModel) → is_quiet s ≡ false → checks s ≡ []
+checks_unquiet s unquiet = checks_none s (unquiet_may_not (ring_at s) (is_quiet s) unquiet)
+
+pub ends_unquiet : (s : ServerModel) → is_quiet s ≡ false → decided ends_event s ≡ []
+ends_unquiet s unquiet =
+    let later : List Act → List Act = λ list. list ++ decided (checks ∷ []) (all_done list s) in
+    ap later (notices_unquiet s unquiet) ∙ ap (λ list. list ++ []) (checks_unquiet s unquiet)
 
 -- a server is not quiet where a rank runs whose home it is
 pub runner_unquiet : (s : ServerModel) (rank : Rank) → rank.0 < s.config.ranks → IsHome s rank → Runs s rank → is_quiet s ≡ false
 runner_unquiet s rank within home runs = false_from_ne_true (is_quiet s) (λ quiet.
-    elim ((quiet_is_tested s).0 quiet rank within home) [
+    elim (((quiet_is_tested s).0 quiet).rest rank within home) [
       | inl waits ↦ runs.waits_not waits.0 waits.1 waits.2 (ap (λ (e : Waiting). e.wish.rank) waits.3 ∙ waits.4.0)
       | inr ended ↦ both_ways (is_finished s.kept rank) runs.finished_not ended
     ])
 
 -- so nothing follows
-pub ends_beside_runner : (s : ServerModel) (rank : Rank) → rank.0 < s.config.ranks → IsHome s rank → Runs s rank → ends_event s ≡ []
+pub ends_beside_runner : (s : ServerModel) (rank : Rank) → rank.0 < s.config.ranks → IsHome s rank → Runs s rank → decided ends_event s ≡ []
 ends_beside_runner s rank within home runs = ends_unquiet s (runner_unquiet s rank within home runs)
 
--- where a rank waits
-pub verdict_some : (k : Kept) (waiting : List Waiting) → waiting ≢ []
-    → verdict k waiting ≡ exhausts (k.exhausted || list_any (fits k) waiting) waiting
-verdict_some k [] some = absurd (some refl)
-verdict_some k (e ∷ waiting) some = refl
+-- the check of a server that is alone
+pub starts_alone : (s : ServerModel) → s.config.servers ≡ 1 → starts s ≡ finds_alone (check_alone s).step s.kept.parked.waiting
+starts_alone s alone =
+    ap (λ b. cond b (finds_alone (check_alone s).step s.kept.parked.waiting) (Starts ∷ [])) (eq-eqb s.config.servers 1 alone)
+
+-- otherwise the token goes round
+pub starts_round : (s : ServerModel) → s.config.servers ≢ 1 → starts s ≡ Starts ∷ []
+starts_round s others =
+    ap (λ b. cond b (finds_alone (check_alone s).step s.kept.parked.waiting) (Starts ∷ [])) (ne_eqb s.config.servers 1 others)
 
 -- How the end is told, where each rank that waits is idle.
 

@@ -6,8 +6,8 @@ use Rattle.adlb_unit.specs.declared.names.Rank.{Rank}
 use Rattle.adlb_unit.specs.declared.names.Server.{Server}
 use Rattle.adlb_unit.specs.declared.units.Unit.{Unit as Work}
 use Rattle.bag_ledger.specs.Bag.{Bag, charge, has_due, unit_charge}
-use Rattle.bag_ledger.specs.Runs.{IsRun}
-use Rattle.bag_ledger.specs.Steps.{Steps, after, change_first}
+use Rattle.bag_ledger.specs.Runs.{IsRunWhere}
+use Rattle.bag_ledger.specs.Steps.{StepsWhere, after, change_first}
 use Rattle.bag_ledger.specs.declared.entries.Entry.{Entry}
 use Rattle.bag_ledger.specs.declared.states.UnitPlace.{UnitPlace}
 use Rattle.bag_ledger.specs.declared.states.UnitPlace.TheVariants.{Free, Travelling, Pinned, Spent}
@@ -17,13 +17,13 @@ use Rattle.server_law.specs.Agreement.{ServerAgrees, UnitWeight, pinned_weight, 
 use Rattle.server_law.specs.State.{ServerModel}
 
 -- the entries are steps of the bag, which agrees with the server afterwards, and in which no part is due then
-abbrev pub AreSteps : Bag → List Entry → ServerModel → Type 0
-AreSteps b es now = (next : Bag) × IsRun b es next × ServerAgrees next now × (has_due next ≡ false)
+abbrev pub AreSteps : (Bag → Bool) → Bag → List Entry → ServerModel → Type 0
+AreSteps found b es now = (next : Bag) × IsRunWhere found b es next × ServerAgrees next now × (has_due next ≡ false)
 
 -- one entry
-pub is_step : (b : Bag) (e : Entry) (now : ServerModel) → Steps b e (after b e) → ServerAgrees (after b e) now
-    → has_due (after b e) ≡ false → AreSteps b (e ∷ []) now
-is_step b e now step m rests = (after b e, (after b e, step, refl), m, rests)
+pub is_step : (found : Bag → Bool) (b : Bag) (e : Entry) (now : ServerModel) → StepsWhere found b e (after b e) → ServerAgrees (after b e) now
+    → has_due (after b e) ≡ false → AreSteps found b (e ∷ []) now
+is_step found b e now step m rests = (after b e, (after b e, step, refl), m, rests)
 
 -- Charge.
 

@@ -23,10 +23,12 @@ use Rattle.bag_ledger.specs.declared.entries.Entry.{Entry}
 use Rattle.bag_ledger.specs.declared.entries.Entry.TheVariants as enters
 use Rattle.bag_ledger.specs.Runs.{note_of}
 use Rattle.work_queue.specs.Queue.{with_unit}
-use Rattle.server_law.specs.Acts.{Act, Around, Finds, Tells}
+use Rattle.put_path.specs.Pushes.{asks_room}
+use Rattle.server_law.specs.Acts.{Act, Around, Checks_alone, Finds_alone, Notes_own, Tells}
 use Rattle.server_law.specs.Carried.{Served}
 use Rattle.server_law.specs.Endings.{ends_event, tells_all}
 use Rattle.server_law.specs.Finding.{taker}
+use Rattle.server_law.specs.Plan.{decided}
 use Rattle.reserve_path.specs.declared.waits.Waiting.{Waiting}
 use Rattle.reserve_path.specs.declared.wishes.Wish.{Wish}
 use Rattle.server_law.specs.State.{Kept, ServerModel, awaiting, idle, start}
@@ -334,7 +336,10 @@ made waiting k = record (begun two_ranks) { kept = record k { parked = record { 
 abbrev empty : Kept
 empty = (begun two_ranks).kept
 
-a_server_is_not_quiet_while_one_is_asked : ends_event (made (asked ∷ rests ∷ []) empty) ≡ []
+abbrev follows : List Waiting → Kept → List Act
+follows waiting k = decided ends_event (made waiting k)
+
+a_server_is_not_quiet_while_one_is_asked : follows (asked ∷ rests ∷ []) empty ≡ []
 a_server_is_not_quiet_while_one_is_asked = refl
 
 abbrev both : List Waiting
@@ -342,21 +347,48 @@ both = idle (wish 1) [] ∷ rests ∷ []
 
 abbrev all_is_used_up : List Act
 all_is_used_up =
-    Finds ∷ Tells (record { before = []; behind = rests ∷ [] }) (wish 1) [] ends_by.Exhausted
+    Notes_own ∷ Finds_alone ∷ Tells (record { before = []; behind = rests ∷ [] }) (wish 1) [] ends_by.Exhausted
     ∷ Tells (record { before = []; behind = [] }) (wish 0) [] ends_by.Exhausted ∷ []
 
-where_both_are_idle_it_is : ends_event (made both empty) ≡ all_is_used_up
+where_both_are_idle_it_is : follows both empty ≡ all_is_used_up
 where_both_are_idle_it_is = refl
 
--- nothing follows while a free unit is permitted to one of them, nor where all work was found used up before
+-- the check ends without a verdict where a free unit is permitted to one of them, or all work was found used up before
 abbrev one_fits : Kept
 one_fits = record empty { queue = with_unit empty.queue (unit 0 (targets.Only (rank 0))) }
 
-while_a_unit_fits_nothing_follows : ends_event (made both one_fits) ≡ []
-while_a_unit_fits_nothing_follows = refl
+where_a_unit_fits_there_is_no_verdict : follows both one_fits ≡ Notes_own ∷ Checks_alone ∷ []
+where_a_unit_fits_there_is_no_verdict = refl
 
-it_is_found_once : ends_event (made both (record empty { exhausted = true })) ≡ []
+it_is_found_once : follows both (record empty { exhausted = true }) ≡ Notes_own ∷ Checks_alone ∷ []
 it_is_found_once = refl
+
+-- and nothing follows while a push stands, nor where the server has not changed since its last notice, and no check is wanted
+a_server_is_not_quiet_while_it_pushes :
+    follows both (record empty { pushing = record { push = Some (asks_room (server 1) (id 0) 4); pushes = 1 } }) ≡ []
+a_server_is_not_quiet_while_it_pushes = refl
+
+each_change_is_noted_once : follows both (record empty { noted = Some 0 }) ≡ []
+each_change_is_noted_once = refl
+
+-- A rank says that the problem is done. It is told that the server has heard, and the ranks that wait are told; later puts are ended.
+
+abbrev done_over : ℕ → ℕ → Entry
+done_over from request = enters.Over (rank from) request ends_by.NoMoreWork
+
+abbrev done_ended : ℕ → Message
+done_ended request = tells.Ended request ends_by.NoMoreWork
+
+the_problem_is_done :
+    drop 2 (events (begun three_ranks) (reserves 2 0 ∷ reserves 1 5 ∷ says 0 (tells.Done 3) ∷ puts 0 (unit 4 targets.Any) ∷ []))
+    ≡ record {
+      sends = tells_to 3 0 0 (tells.DoneHeard 3) ∷ tells_to 3 0 2 (done_ended 0) ∷ tells_to 3 0 1 (done_ended 5) ∷ [];
+      entries = done_over 2 0 ∷ done_over 1 5 ∷ [];
+      waits = [];
+    }
+    ∷ record { sends = tells_to 4 1 0 (done_ended 4) ∷ []; entries = done_over 0 4 ∷ []; waits = [] }
+    ∷ []
+the_problem_is_done = refl
 
 -- Counts: of units of priorities 3 and 7, then of the one that is left free, and of a type of which there is none.
 
@@ -458,6 +490,9 @@ a_rank_counts_at_its_home_alone = refl
 
 a_rank_tries_at_each_server : is_some (heard (start two_servers (server 1)) (tries 0 0 None)) ≡ true
 a_rank_tries_at_each_server = refl
+
+a_rank_says_so_to_each_server : is_some (heard (start two_servers (server 1)) (says 0 (tells.Done 0))) ≡ true
+a_rank_says_so_to_each_server = refl
 
 a_rank_that_waits_does_not_count : is_expected_after (reserves 0 0 ∷ []) (counts 1 2) ≡ Some false
 a_rank_that_waits_does_not_count = refl

@@ -1,5 +1,5 @@
 -- Exactly the letters that are expected have a step.
-use Rattle.std.proofs.Common.{◌↔◌, ◌≡◌, ◌≢◌, ◌<◌, ◌==◌, ℕ, Bool, true, false, cond, List, Option, None, Some, IsSome, refl, sym, ap, ◌∙◌, subst, find}
+use Rattle.std.proofs.Common.{◌↔◌, ◌≡◌, ◌≢◌, ◌<◌, ◌==◌, ℕ, Bool, true, false, cond, List, [], ◌∷◌, Option, None, Some, IsSome, refl, sym, ap, ◌∙◌, subst, find}
 use Rattle.std.specs.Prelude.{is_some}
 use Rattle.std.specs.List.{list_any}
 use Rattle.std.specs.Option.{IfSome, option_map}
@@ -15,31 +15,36 @@ use Rattle.adlb_unit.specs.declared.names.Rank.{Rank}
 use Rattle.adlb_unit.specs.declared.names.Server.{Server}
 use Rattle.adlb_unit.specs.declared.names.UnitId.{UnitId}
 use Rattle.adlb_unit.specs.declared.notes.UnitNote.{UnitNote}
+use Rattle.adlb_unit.specs.declared.tokens.Token.{Token}
+use Rattle.exhaust_ring.specs.Expected.{expects, is_running}
+use Rattle.exhaust_ring.specs.Ring.{Asker}
+use Rattle.exhaust_ring.proofs.Rows.{expects_is, expects_tested}
 use Rattle.work_queue.specs.declared.placing.Placed.{Placed}
 use Rattle.reserve_path.specs.Calls.{is_since}
 use Rattle.reserve_path.specs.declared.waits.Waiting.{Waiting}
 use Rattle.server_law.specs.Acts.{Act}
 use Rattle.server_law.specs.Asks.{expects_ask, grant_rule, none_rule, pass_at, pass_on, wake, wake_at}
 use Rattle.server_law.specs.Carried.{Served, carried}
-use Rattle.server_law.specs.Endings.{ends_event}
+use Rattle.server_law.specs.Checks.{marks, tests_now, verdict, visit, visit_other, visit_zeroth}
+use Rattle.server_law.specs.Endings.{ends_event, is_quiet}
 use Rattle.server_law.specs.Expected.{ExpectedHaveSteps, IsAwaited, IsAwaitedFrom, IsHome, IsUnanswered}
 use Rattle.server_law.specs.Fetches.{fetch}
 use Rattle.server_law.specs.Finding.{Place, has_asked, has_promise, is_free_as, is_pinned_as, place_in}
 use Rattle.server_law.specs.Hints.{expects_hint, hint_at, hint_rule}
-use Rattle.server_law.specs.Plan.{Plan, in_order}
+use Rattle.server_law.specs.Plan.{Plan, in_order, plan}
 use Rattle.put_path.specs.Pushes.{Asks, HasSent, Pushing, is_push_as, some_push}
 use Rattle.put_path.specs.declared.standing.StandingPush.{StandingPush}
 use Rattle.put_path.proofs.StandingPushes.{asks_says, sent_says}
 use Rattle.server_law.specs.Pushes.{ack_at, expects_query, expects_unit, no_at, yes_at}
 use Rattle.server_law.specs.Puts.{expects_put}
-use Rattle.server_law.specs.State.{ServerModel, runs, runs_at_home}
-use Rattle.server_law.specs.Step.{acts, next_stamp, rule, serve, server_rule, ticked}
+use Rattle.server_law.specs.State.{ServerModel, ring_at, runs, runs_at_home}
+use Rattle.server_law.specs.Step.{acts, at_event, rule, serve, server_rule}
 use Rattle.adlb_unit.specs.declared.names.BatchId.{BatchId}
 use Rattle.batch_store.specs.Store.{part_in}
 use Rattle.batch_store.specs.declared.parts.Part.{Part}
 use Rattle.server_law.specs.Batches.{can_close, can_fetch, close, expects_keep, part_if, share}
 use Rattle.server_law.proofs.Places.{IsPlace, place_found, place_says}
-use Rattle.server_law.proofs.Tests.{Says, below_says, both_say, close_says, expects_ask_says, expects_hint_says, expects_put_says, has_asked_says, keep_says, pinned_says, promise_says, query_says, runs_at_home_says, runs_says, server_says, share_says, unanswered_says, unit_comes_says}
+use Rattle.server_law.proofs.Tests.{Says, below_says, both_say, close_says, expects_ask_says, expects_hint_says, expects_put_says, has_asked_says, keep_says, pinned_says, promise_says, query_says, running_says, runs_at_home_says, runs_says, same_says, server_says, share_says, unanswered_says, unit_comes_says}
 
 -- Options.
 
@@ -91,6 +96,7 @@ rule_awaited s from (tells.CloseBatch request batch accepted) =
 rule_awaited s from (tells.FetchCommon request batch) =
     share_some from request batch (part_if (can_fetch s.kept.queue.common) (part_in s.kept.parts batch)) (share_says s batch)
 rule_awaited s from (tells.Count request kind) = if_some (runs_at_home s from) _ (runs_at_home_says s from)
+rule_awaited s from (tells.Done request) = (λ some. tt, λ is. refl)
 rule_awaited s from tells.Finish = if_some (runs s.kept from) _ (runs_says s from)
 rule_awaited s from _ = (λ some. absurd (cc), λ never. absurd never)
 
@@ -170,6 +176,31 @@ ack_some pushing from id None is =
 ack_some pushing from id (Some p) is =
     if_some (is_push_as from id true p) _ (push_says p pushing from id true (sent_says pushing from id) is)
 
+-- each token that is expected comes to something
+always_some : {X : Type 0} (b : Bool) (o : Option X) {A : Type 0} → IsSome o → Says b A → IsSome (cond b o None) ↔ A
+always_some true o some says = (λ is. says.0 refl, λ is. some)
+always_some false o some says = (λ no. absurd (cc), λ is. let yes = says.1 is in absurd (cc))
+
+visit_some : (s : ServerModel) (from : Server) (t : Token) → IsSome (visit s from t)
+visit_some s from t = by_me (s.me.0 == 0)
+  where
+    by_verdict : (exhausted : Bool) (asked : List Asker) → IsSome (verdict exhausted asked from t)
+    by_verdict exhausted [] = refl
+    by_verdict true (first ∷ more) = refl
+    by_verdict false (first ∷ more) = refl
+
+    by_wave : (first : Bool) → IsSome (cond first (plan (tests_now s from t) []) (verdict s.kept.exhausted t.asked from t))
+    by_wave true = refl
+    by_wave false = by_verdict s.kept.exhausted t.asked
+
+    other_wave : (first : Bool) → IsSome (cond first (plan (marks (is_quiet s) from t) []) (plan (tests_now s from t) []))
+    other_wave true = refl
+    other_wave false = refl
+
+    by_me : (zeroth : Bool) → IsSome (cond zeroth (visit_zeroth s from t) (visit_other s from t))
+    by_me true = by_wave (t.wave == 1)
+    by_me false = other_wave (t.wave == 1)
+
 pub server_rule_awaited : (s : ServerModel) (from : Server) (message : Message)
     → IsSome (server_rule s from message) ↔ IsAwaitedFrom s from message
 server_rule_awaited s from (tells.Ask rank request types) = if_some (expects_ask s from rank) _ (expects_ask_says s from rank)
@@ -184,6 +215,13 @@ server_rule_awaited s from (tells.PushAck id) = ack_some s.kept.pushing from id 
 server_rule_awaited s from (tells.PushUnit unit) = if_some (expects_unit s.kept unit) _ (unit_comes_says s.kept unit)
 server_rule_awaited s from (tells.PushCancel id) =
     if_some (has_promise id s.kept.queue.promises) _ (promise_says id s.kept.queue.promises)
+server_rule_awaited s from tells.Notice = if_some (s.me.0 == 0) _ (same_says s.me.0 0)
+server_rule_awaited s from (tells.Token t) =
+    always_some (expects (ring_at s) from t) (visit s from t) (visit_some s from t)
+    (expects_is (ring_at s) from t, expects_tested (ring_at s) from t)
+server_rule_awaited s from (tells.Failed t why) = if_some (is_running (ring_at s) t) _ (running_says (ring_at s) t)
+server_rule_awaited s from tells.Exhaust = if_some (from.0 == 0) _ (same_says from.0 0)
+server_rule_awaited s from tells.Shutdown = if_some (from.0 == 0) _ (same_says from.0 0)
 server_rule_awaited s from _ = (λ some. absurd (cc), λ never. absurd never)
 
 -- no server writes to itself
@@ -197,7 +235,7 @@ another_says from me = (
 
 module _ (s : ServerModel) (from : Actor) (letter : Letter) where
   abbrev now : ServerModel
-  now = ticked s (next_stamp s letter)
+  now = at_event s letter
 
   step_says : {A B : Type 0} → Says (is_within s.config from) A → IsSome (rule now from letter.message) ↔ B
       → IsSome (serve s from letter) ↔ ((A × (letter.stamp < stamp_limit)) × B)
@@ -210,9 +248,9 @@ module _ (s : ServerModel) (from : Actor) (letter : Letter) where
 
 pub expected_have_steps : ExpectedHaveSteps
 expected_have_steps s (by.Server from) letter =
-    let t = ticked s (next_stamp s letter) in
+    let t = at_event s letter in
     let awaited = where_apart (from.0 == s.me.0) (server_rule t from letter.message) (another_says from s.me)
-    (server_rule_awaited s from letter.message) in
+    (server_rule_awaited t from letter.message) in
     let step = step_says s (by.Server from) letter (below_says from.0 s.config.servers) awaited in
     (λ some. let is = step.0 some in (is.0.0, is.1.0, is.0.1, is.1.1), λ is. step.1 ((is.0, is.2), (is.1, is.3)))
 expected_have_steps s (by.Rank from) letter =

@@ -1,6 +1,7 @@
 -- A letter is handled by the acts of its rule.
 use Rattle.std.proofs.Common.{◌≡◌, ℕ, ◌==◌, Bool, true, false, cond, List, [], ◌∷◌, ◌++◌, length, find, Option, None, Some, refl, sym, ap, ◌∙◌, subst}
 use Rattle.std.specs.Option.{IfSome, option_map}
+use Rattle.std.proofs.lemmas.Bool.{eqb-true}
 use Rattle.adlb_unit.specs.declared.actors.Actor.{Actor}
 use Rattle.adlb_unit.specs.declared.actors.Actor.TheVariants as by
 use Rattle.adlb_unit.specs.declared.messages.Message.{Message}
@@ -12,8 +13,9 @@ use Rattle.adlb_unit.specs.declared.notes.End.TheVariants as ends_by
 use Rattle.adlb_unit.specs.declared.notes.UnitNote.{UnitNote}
 use Rattle.adlb_unit.specs.declared.units.Unit.{Unit as Work}
 use Rattle.bag_ledger.proofs.Tests.{some_is}
+use Rattle.exhaust_ring.specs.Expected.{is_running}
 use Rattle.work_queue.specs.declared.placing.Placed.{Placed}
-use Rattle.server_law.specs.Acts.{Act, Accepts, Closes, Ends_put, Ends_reserve, Grants, Heard, Hints, Parks, Refuses, of_rank, takes}
+use Rattle.server_law.specs.Acts.{Act, Accepts, Closes, Ends_put, Ends_reserve, Grants, Heard, Hears_done, Hears_exhaust, Hints, Parks, Refuses, of_rank, takes}
 use Rattle.adlb_unit.specs.declared.names.BatchId.{BatchId}
 use Rattle.batch_store.specs.Store.{part_in}
 use Rattle.batch_store.specs.declared.parts.Part.{Part}
@@ -32,15 +34,16 @@ use Rattle.server_law.specs.Pushes.{expects_query, expects_unit}
 use Rattle.server_law.specs.Puts.{expects_put, is_over, is_taken, put, put_now, settles}
 use Rattle.server_law.specs.Reserves.{reserve}
 use Rattle.reserve_path.specs.declared.wishes.Wish.{Wish}
-use Rattle.server_law.specs.State.{ServerModel, awaiting, runs, runs_at_home}
+use Rattle.server_law.specs.State.{ServerModel, awaiting, ring_at, runs, runs_at_home}
 use Rattle.server_law.specs.Step.{rule, server_rule}
 use Rattle.server_law.specs.Sure.{ActsHandle, HandledBy, IsHintOf, SitsIn, Sure}
 use Rattle.server_law.specs.Waits.{asks_on}
 use Rattle.server_law.proofs.Places.{IsPlace, place_found}
-use Rattle.server_law.proofs.Plans.{IsPlan, if_plan, made, settled}
+use Rattle.server_law.proofs.CheckPlans.{token_plan}
+use Rattle.server_law.proofs.Plans.{IsPlan, if_plan, made, settled, told}
 use Rattle.server_law.proofs.PushPlans.{ack_plan, cancel_plan, no_plan, query_plan, unit_plan, yes_plan}
-use Rattle.server_law.proofs.Tests.{can_close_says, expects_put_says, has_asked_says, is_since_says}
-use Rattle.server_law.proofs.Decided.{asks_on_decides, asks_on_hints_none, presses_decides, presses_hints_none, decided_follow, each_and_last, ends_event_decides, looks_again_decides, looks_again_hints_none}
+use Rattle.server_law.proofs.Tests.{can_close_says, expects_put_says, has_asked_says, is_since_says, running_says}
+use Rattle.server_law.proofs.Decided.{asks_on_decides, asks_on_hints_none, looks_again_decides, looks_again_hints_none, presses_decides, presses_hints_none}
 
 -- The rules.
 
@@ -186,19 +189,19 @@ hint_plan s from rank request (Some p) is =
     let own = p.here.wish.rank in
     made is.stands tt (rw (who.0, who.1) refl) (asks_on_decides own, tt) (asks_on_hints_none own, tt)
 
-planned_by_server : (s : ServerModel) (from : Server) (message : Message)
+planned_by_server : (s : ServerModel) (from : Server) → (from.0 == s.me.0) ≡ false → (message : Message)
     → IfSome (server_rule s from message) (IsPlan s (by.Server from) message)
-planned_by_server s from (tells.Ask rank request types) =
+planned_by_server s from apart (tells.Ask rank request types) =
     let wish : Wish = record { rank = rank; request = request; types = types } in
     if_plan s (by.Server from) (tells.Ask rank request types) (expects_ask s from rank) _ (λ expected.
     answer_plan s from wish expected s.kept.done (best_for s.kept wish) refl refl)
-planned_by_server s from (tells.AskGrant rank request note) =
+planned_by_server s from apart (tells.AskGrant rank request note) =
     pass_plan s from rank request note (place_in (has_asked from rank request) s.kept.parked.waiting)
     (place_found (has_asked from rank request) s.kept.parked.waiting)
-planned_by_server s from (tells.AskNone rank request) =
+planned_by_server s from apart (tells.AskNone rank request) =
     wake_plan s from rank request (place_in (has_asked from rank request) s.kept.parked.waiting)
     (place_found (has_asked from rank request) s.kept.parked.waiting)
-planned_by_server s from (tells.Hint rank request) =
+planned_by_server s from apart (tells.Hint rank request) =
     if_expected (expects_hint s rank) (hint_at from rank request (place_in (is_since rank request) s.kept.parked.waiting))
     (hint_plan s from rank request (place_in (is_since rank request) s.kept.parked.waiting)
     (place_found (is_since rank request) s.kept.parked.waiting))
@@ -207,17 +210,28 @@ planned_by_server s from (tells.Hint rank request) =
         → IfSome (cond t o None) (IsPlan s (by.Server from) (tells.Hint rank request))
     if_expected true o is = is
     if_expected false o is = tt
-planned_by_server s from (tells.PushQuery id length) =
+planned_by_server s from apart (tells.PushQuery id length) =
     if_plan s (by.Server from) (tells.PushQuery id length) (expects_query s.kept id) _ (λ expected.
     query_plan s from id length expected (exceeds s.kept.queue length) refl)
-planned_by_server s from (tells.PushYes id) = yes_plan s from id s.kept.pushing.push (find (is_free_as id) s.kept.queue.units) refl refl
-planned_by_server s from (tells.PushNo id) = no_plan s from id s.kept.pushing.push refl
-planned_by_server s from (tells.PushAck id) = ack_plan s from id s.kept.pushing.push refl
-planned_by_server s from (tells.PushUnit unit) =
+planned_by_server s from apart (tells.PushYes id) = yes_plan s from id s.kept.pushing.push (find (is_free_as id) s.kept.queue.units) refl refl
+planned_by_server s from apart (tells.PushNo id) = no_plan s from id s.kept.pushing.push refl
+planned_by_server s from apart (tells.PushAck id) = ack_plan s from id s.kept.pushing.push refl
+planned_by_server s from apart (tells.PushUnit unit) =
     if_plan s (by.Server from) (tells.PushUnit unit) (expects_unit s.kept unit) _ (unit_plan s from unit)
-planned_by_server s from (tells.PushCancel id) =
+planned_by_server s from apart (tells.PushCancel id) =
     if_plan s (by.Server from) (tells.PushCancel id) (has_promise id s.kept.queue.promises) _ (cancel_plan s from id)
-planned_by_server s from _ = tt
+planned_by_server s from apart tells.Notice =
+    if_plan s (by.Server from) tells.Notice (s.me.0 == 0) _ (λ zeroth. made refl (eqb-true s.me.0 0 zeroth) refl tt tt)
+planned_by_server s from apart (tells.Token t) = token_plan s from t apart
+planned_by_server s from apart (tells.Failed t why) =
+    if_plan s (by.Server from) (tells.Failed t why) (is_running (ring_at s) t) _ (λ runs.
+    made refl ((running_says (ring_at s) t).0 runs) refl tt tt)
+planned_by_server s from apart tells.Exhaust =
+    if_plan s (by.Server from) tells.Exhaust (from.0 == 0) _ (λ zeroth.
+    told s ends_by.Exhausted (Hears_exhaust from) refl (eqb-true from.0 0 zeroth) refl refl)
+planned_by_server s from apart tells.Shutdown =
+    if_plan s (by.Server from) tells.Shutdown (from.0 == 0) _ (λ zeroth. made refl (eqb-true from.0 0 zeroth) refl tt tt)
+planned_by_server s from apart _ = tt
 
 pub planned : (s : ServerModel) (from : Actor) (message : Message) → IfSome (rule s from message) (IsPlan s from message)
 planned s (by.Rank from) (tells.Put unit) = if_plan s (by.Rank from) (tells.Put unit) (expects_put s from unit) _ (λ expected.
@@ -241,15 +255,15 @@ planned s (by.Rank from) (tells.CloseBatch request batch accepted) = close_plan 
 planned s (by.Rank from) (tells.FetchCommon request batch) = share_plan s from request batch (part_in s.kept.parts batch) refl
 planned s (by.Rank from) (tells.Count request kind) =
     if_plan s (by.Rank from) (tells.Count request kind) (runs_at_home s from) _ (λ expected. made refl expected refl tt tt)
+planned s (by.Rank from) (tells.Done request) = told s ends_by.NoMoreWork (Hears_done from request) refl tt refl refl
 planned s (by.Rank from) tells.Finish =
     if_plan s (by.Rank from) tells.Finish (runs s.kept from) _ (λ runs. made refl runs refl tt tt)
 planned s (by.Rank from) _ = tt
-planned s (by.Server from) message = by_self (from.0 == s.me.0) (planned_by_server s from message)
+planned s (by.Server from) message = by_self (from.0 == s.me.0) refl
   where
-    by_self : (t : Bool) → IfSome (server_rule s from message) (IsPlan s (by.Server from) message)
-        → IfSome (cond t None (server_rule s from message)) (IsPlan s (by.Server from) message)
-    by_self true is = tt
-    by_self false is = is
+    by_self : (t : Bool) → (from.0 == s.me.0) ≡ t → IfSome (cond t None (server_rule s from message)) (IsPlan s (by.Server from) message)
+    by_self true same = tt
+    by_self false apart = planned_by_server s from apart message
 
 -- an act that takes a letter is no hint
 first_is_no_hint : (wishes : List Wish) (a : Act) (heard : Heard) → takes a ≡ heard ∷ [] → IsHintOf wishes a
@@ -263,14 +277,12 @@ acts_handle s from message list is = by_plan (rule s from message) (planned s fr
         → HandledBy from message list s
     by_plan None plan is = absurd (cc)
     by_plan (Some p) plan is =
-        let deciders = p.follow ++ ends_event ∷ [] in
-        let follow = decided_follow deciders (done p.first s) (each_and_last p.follow ends_event plan.follow ends_event_decides) in
         record {
           first = p.first;
-          more = decided deciders (done p.first s);
+          more = decided (p.follow ++ ends_event) (done p.first s);
           are = sym (some_is is);
           takes = plan.takes;
-          follow = follow.1;
-          sure = (plan.sits, plan.sure, follow.0);
+          follow = plan.follow.1;
+          sure = (plan.sits, plan.sure, plan.follow.0);
           hints = (first_is_no_hint s.kept.parked.wishes p.first _ plan.takes, plan.hints);
         }

@@ -19,12 +19,12 @@ use Rattle.batch_store.specs.declared.parts.Part.{Part}
 use Rattle.reserve_path.specs.Parked.{is_of}
 use Rattle.reserve_path.specs.declared.waits.Waiting.{Waiting}
 use Rattle.reserve_path.specs.declared.wishes.Wish.{Wish}
-use Rattle.server_law.specs.Acts.{Act, Accepts, Answers, Around, Arrives, Asks_on, Closes, Counts, Ends_keep, Ends_put, Ends_reserve, Ends_try, Fetches, Fetches_part, Finds, Gives, Grants, Grants_try, Heard, Is_hinted, Keeps, Looks, Passes_on, Promises, Refuses, Refuses_part, Sends_unit, Tells, Wakes, Withdraws, comes, entries, frees, goes, takes}
+use Rattle.server_law.specs.Acts.{Act, Accepts, Answers, Around, Arrives, Asks_on, Closes, Counts, Ends_keep, Ends_put, Ends_reserve, Ends_try, Fetches, Fetches_part, Finds, Finds_alone, Gives, Grants, Grants_try, Heard, Is_hinted, Keeps, Looks, Passes_on, Promises, Refuses, Refuses_part, Sends_unit, Tells, Wakes, Withdraws, comes, entries, frees, goes, takes}
 use Rattle.server_law.specs.Calm.{AskedAreLeft, AskedWaitOn, EndsCall, IsAnswer, WaitOnce}
 use Rattle.server_law.specs.Carried.{Served, all_done, carried, done}
 use Rattle.server_law.specs.Expected.{IsExpected, IsHome}
 use Rattle.server_law.specs.State.{Kept, ServerModel, awaiting, idle}
-use Rattle.server_law.specs.Step.{next_stamp, ticked}
+use Rattle.server_law.specs.Step.{at_event}
 use Rattle.server_law.specs.Sure.{AreSure, SitsIn, Sure, TakeNone}
 use Rattle.server_law.proofs.Once.{act_once, step_acts}
 use Rattle.server_law.proofs.Carrying.{carried_state}
@@ -77,7 +77,7 @@ acts_wait_on (a ∷ more) s wish asked sure none has =
 pub asked_wait_on : AskedWaitOn
 asked_wait_on s from letter x wish asked is waits other =
     let step = step_acts s from letter x is in
-    let now = ticked s (next_stamp s letter) in
+    let now = at_event s letter in
     let h = acts_handle now from letter.message step.list step.are in
     let has = any_has (Waits wish asked) s.kept.parked.waiting waits in
     let heard = subst (λ l. Each (NoAnswer wish asked) l) (sym h.takes) (other, tt) in
@@ -151,7 +151,8 @@ ends_not (Gives at w rest unit) s wish asked sits sure once home has foreign =
     ((λ is. none_beside s wish asked at w rest sits once has is.1), tt)
 ends_not (Tells at w rest end) s wish asked sits sure once home has foreign =
     ((λ is. none_beside s wish asked at w rest sits once has is), tt)
-ends_not Finds s wish asked sits sure once home has foreign = ((λ is. is), tt)
+ends_not (Finds from t) s wish asked sits sure once home has foreign = ((λ is. is), tt)
+ends_not Finds_alone s wish asked sits sure once home has foreign = ((λ is. is), tt)
 ends_not (Keeps rank request common) s wish asked sits sure once home has foreign = ((λ is. is), tt)
 ends_not (Refuses_part rank request common) s wish asked sits sure once home has foreign = ((λ is. is), tt)
 ends_not (Ends_keep rank request common end) s wish asked sits sure once home has foreign = ((λ is. foreign.0.0 (ap by.Rank is)), tt)
@@ -201,7 +202,7 @@ not_own s (by.Server from) letter expected is = expected.1 (cc)
 pub asked_are_left : AskedAreLeft
 asked_are_left s from letter x wish asked is once home waits other foreign =
     let step = step_acts s from letter x is in
-    let now = ticked s (next_stamp s letter) in
+    let now = at_event s letter in
     let h = acts_handle now from letter.message step.list step.are in
     let has = any_has (Waits wish asked) s.kept.parked.waiting waits in
     let apart = not_own s from letter ((expected_have_steps s from letter).0 (rw is refl)) in

@@ -3,6 +3,8 @@ pub mod BestFits
 pub mod ByIds
 pub mod Calm
 pub mod Carrying
+mod CheckExamples
+pub mod CheckPlans
 pub mod Components
 pub mod Counting
 pub mod Debts
@@ -29,5 +31,6 @@ mod RestWorked
 pub mod Resting
 pub mod Rooms
 pub mod Settling
+pub mod Starting
 pub mod Tests
 pub mod Waiters

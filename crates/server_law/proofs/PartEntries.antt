@@ -11,7 +11,7 @@ use Rattle.adlb_unit.specs.declared.names.Rank.{Rank}
 use Rattle.adlb_unit.specs.declared.names.Server.{Server}
 use Rattle.adlb_unit.proofs.Same.{same_batch_from}
 use Rattle.bag_ledger.specs.Bag.{Bag, has_due, is_due as is_lot_due, offer, part_charge, part_of}
-use Rattle.bag_ledger.specs.Steps.{Legal, Steps, after, change_at, change_first, ended, kept as with_kept, new_part}
+use Rattle.bag_ledger.specs.Steps.{Legal, StepsWhere, after, change_at, change_first, ended, kept as with_kept, new_part}
 use Rattle.bag_ledger.specs.declared.entries.Entry.{Entry}
 use Rattle.bag_ledger.specs.declared.entries.Entry.TheVariants as enters
 use Rattle.bag_ledger.specs.declared.states.Part.{Part as Lot}
@@ -92,9 +92,9 @@ due_is lot unfreed = by_closed lot.closed refl
 abbrev pub with_store : Store → Queue → ServerModel → ServerModel
 with_store store queue s = record s { kept = record s.kept { queue = queue; parts = store } }
 
-module _ (b : Bag) (s : ServerModel) (batch : BatchId) (part : Part) (f : Part → Part) (g : Lot → Lot) (lot : Lot) (ranks : List RankState)
-    (m : ServerAgrees b s) (is : IsLodged b s.me batch part lot) (at : part_in s.kept.parts batch ≡ Some part) (counts : Counts g)
-    (same : part_seen (g lot) ≡ f part) where
+module _ (found : Bag → Bool) (b : Bag) (s : ServerModel) (batch : BatchId) (part : Part) (f : Part → Part) (g : Lot → Lot) (lot : Lot)
+    (ranks : List RankState) (m : ServerAgrees b s) (is : IsLodged b s.me batch part lot) (at : part_in s.kept.parts batch ≡ Some part)
+    (counts : Counts g) (same : part_seen (g lot) ≡ f part) where
   abbrev now : Part
   now = f part
 
@@ -139,7 +139,7 @@ module _ (b : Bag) (s : ServerModel) (batch : BatchId) (part : Part) (f : Part �
       (holds_changed b.parts s.me s.kept.parts (changed f s.kept.parts batch) batch g lot counts.batch is.found m.parts (stays_here due)
       kept_there) charged
 
-  frees_step : is_due now ≡ true → Steps next (enters.Freed s.me batch) (after next (enters.Freed s.me batch))
+  frees_step : is_due now ≡ true → StepsWhere found next (enters.Freed s.me batch) (after next (enters.Freed s.me batch))
   frees_step due =
       (refl, (g lot, (rw m.servers m.within, there, counts.server lot ∙ is.here, still), due_now ∙ due), refl)
 
@@ -176,12 +176,12 @@ module _ (b : Bag) (s : ServerModel) (batch : BatchId) (part : Part) (f : Part �
       ∙ none_changed is_lot_due (of_batch batch) (λ p. frees_it (g p)) b.parts rests
       (λ p found. freed_not_due (g p).closed ((g p).fetched == (g p).accepted))
 
-  pub part_steps : has_due b ≡ false → (e : Entry) → Steps b e next
-      → AreSteps b (e ∷ frees s.me batch now) (with_store (changed f s.kept.parts batch) (given_back now s.kept.queue) s)
+  pub part_steps : has_due b ≡ false → (e : Entry) → StepsWhere found b e next
+      → AreSteps found b (e ∷ frees s.me batch now) (with_store (changed f s.kept.parts batch) (given_back now s.kept.queue) s)
   part_steps rests e step = by_due (is_due now) refl
     where
       by_due : (t : Bool) → is_due now ≡ t
-          → AreSteps b (e ∷ cond t (enters.Freed s.me batch ∷ []) [])
+          → AreSteps found b (e ∷ cond t (enters.Freed s.me batch ∷ []) [])
           (with_store (changed f s.kept.parts batch) (cond t (without_common s.kept.queue (length now.bytes)) s.kept.queue) s)
       by_due true due = (
         after next (enters.Freed s.me batch),
@@ -193,11 +193,11 @@ module _ (b : Bag) (s : ServerModel) (batch : BatchId) (part : Part) (f : Part �
 
 -- The acts.
 
-pub keeps : (b : Bag) (s : ServerModel) (rank : Rank) (request : ℕ) (common : List ℕ) → ServerAgrees b s → has_due b ≡ false
-    → Begins b s.me rank request common → part_of b (batch_of rank request) ≡ None → exceeds s.kept.queue (length common) ≡ false
-    → AreSteps b (entries (Keeps rank request common) s) (done (Keeps rank request common) s)
-keeps b s rank request common m rests of new over =
-    is_step b (enters.Kept s.me batch) (done (Keeps rank request common) s) (rw rests refl, legal, refl)
+pub keeps : (found : Bag → Bool) (b : Bag) (s : ServerModel) (rank : Rank) (request : ℕ) (common : List ℕ) → ServerAgrees b s
+    → has_due b ≡ false → Begins b s.me rank request common → part_of b (batch_of rank request) ≡ None → exceeds s.kept.queue (length common) ≡ false
+    → AreSteps found b (entries (Keeps rank request common) s) (done (Keeps rank request common) s)
+keeps found b s rank request common m rests of new over =
+    is_step found b (enters.Kept s.me batch) (done (Keeps rank request common) s) (rw rests refl, legal, refl)
     (subst (λ (n : Bag). ServerAgrees n (done (Keeps rank request common) s)) (sym (kept_is b s.me batch legal)) all)
     (subst (λ (n : Bag). has_due n ≡ false) (sym (kept_is b s.me batch legal)) more_rests)
   where
@@ -233,22 +233,22 @@ keeps b s rank request common m rests of new over =
         (λ other differs. in_inserted s.kept.parts batch other (fresh common) ∙ rw differs refl))
         (omega arith)
 
-pub refuses_part : (b : Bag) (s : ServerModel) (rank : Rank) (request : ℕ) (common : List ℕ) → ServerAgrees b s → has_due b ≡ false
-    → Begins b s.me rank request common → exceeds s.kept.queue (length common) ≡ true
-    → AreSteps b (entries (Refuses_part rank request common) s) (done (Refuses_part rank request common) s)
-refuses_part b s rank request common m rests of over =
+pub refuses_part : (found : Bag → Bool) (b : Bag) (s : ServerModel) (rank : Rank) (request : ℕ) (common : List ℕ) → ServerAgrees b s
+    → has_due b ≡ false → Begins b s.me rank request common → exceeds s.kept.queue (length common) ≡ true
+    → AreSteps found b (entries (Refuses_part rank request common) s) (done (Refuses_part rank request common) s)
+refuses_part found b s rank request common m rests of over =
     let above : s.kept.queue.limit < charge_of s.kept.queue + length common =
     ltb-true s.kept.queue.limit (charge_of s.kept.queue + length common) over in
     let used = sym (charge_agrees b s m) in
-    is_step b (enters.Refused s.me (record { rank = rank; number = request }) (charge_of s.kept.queue))
+    is_step found b (enters.Refused s.me (record { rank = rank; number = request }) (charge_of s.kept.queue))
     (done (Refuses_part rank request common) s)
     (rw rests refl, (of.0, length common, of.1, ap offer of.2, rw m.servers m.within, of.3, used, rw m.limit above), refl) m rests
 
-pub closes : (b : Bag) (s : ServerModel) (request : ℕ) (batch : BatchId) (accepted : ℕ) (part : Part) → ServerAgrees b s
+pub closes : (found : Bag → Bool) (b : Bag) (s : ServerModel) (request : ℕ) (batch : BatchId) (accepted : ℕ) (part : Part) → ServerAgrees b s
     → has_due b ≡ false → EndsBatch b request batch → HasAccepted b batch accepted → part_in s.kept.parts batch ≡ Some part
-    → AreSteps b (entries (Closes request batch accepted part) s) (done (Closes request batch accepted part) s)
-closes b s request batch accepted part m rests of all found =
-    part_steps b s batch part (closed accepted) g lot (change_at (λ r. ended (record r { batch = None })) batch.rank.0 b.ranks) m is found
+    → AreSteps found b (entries (Closes request batch accepted part) s) (done (Closes request batch accepted part) s)
+closes found b s request batch accepted part m rests of all held =
+    part_steps found b s batch part (closed accepted) g lot (change_at (λ r. ended (record r { batch = None })) batch.rank.0 b.ranks) m is held
     (record { batch = λ p. refl; server = λ p. refl; common = λ p. refl; freed = λ p. refl })
     (ap (λ n. closed n (part_seen lot)) (all lot is.found) ∙ ap (closed accepted) is.same) rests (enters.Closed s.me batch)
     (rw rests refl, legal, refl)
@@ -257,7 +257,7 @@ closes b s request batch accepted part m rests of all found =
     g p = record p { closed = true }
 
     there : (lot : Lot) × IsLodged b s.me batch part lot
-    there = lodged_part b s batch part m found
+    there = lodged_part b s batch part m held
 
     lot : Lot
     lot = there.0
@@ -268,11 +268,11 @@ closes b s request batch accepted part m rests of all found =
     legal : Legal b (enters.Closed s.me batch)
     legal = (of.0, request, of.1, lot, of.2, of.3, of.4, of.5, (rw m.servers m.within, is.found, is.here, is.unfreed))
 
-pub fetches_part : (b : Bag) (s : ServerModel) (rank : Rank) (request : ℕ) (batch : BatchId) (part : Part) → ServerAgrees b s
+pub fetches_part : (found : Bag → Bool) (b : Bag) (s : ServerModel) (rank : Rank) (request : ℕ) (batch : BatchId) (part : Part) → ServerAgrees b s
     → has_due b ≡ false → IsOwed b rank request batch → part_in s.kept.parts batch ≡ Some part
-    → AreSteps b (entries (Fetches_part rank request batch part) s) (done (Fetches_part rank request batch part) s)
-fetches_part b s rank request batch part m rests of found =
-    part_steps b s batch part fetched g lot (change_at ended rank.0 b.ranks) m is found
+    → AreSteps found b (entries (Fetches_part rank request batch part) s) (done (Fetches_part rank request batch part) s)
+fetches_part found b s rank request batch part m rests of held =
+    part_steps found b s batch part fetched g lot (change_at ended rank.0 b.ranks) m is held
     (record { batch = λ p. refl; server = λ p. refl; common = λ p. refl; freed = λ p. refl }) (ap fetched is.same) rests
     (enters.CommonFetched s.me rank batch) (rw rests refl, legal, refl)
   where
@@ -280,7 +280,7 @@ fetches_part b s rank request batch part m rests of found =
     g p = record p { fetched = p.fetched + 1 }
 
     there : (lot : Lot) × IsLodged b s.me batch part lot
-    there = lodged_part b s batch part m found
+    there = lodged_part b s batch part m held
 
     lot : Lot
     lot = there.0

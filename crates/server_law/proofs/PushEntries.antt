@@ -1,5 +1,5 @@
 -- The entries of pushes: room is promised, a unit leaves, it arrives, and a promise is taken back.
-use Rattle.std.proofs.Common.{◌≡◌, ◌≢◌, ◌≤◌, ◌<◌, ℕ, ◌+◌, ◌==◌, true, false, [], ◌∷◌, ◌++◌, filter, length, sum_by, Some, None, refl, sym, ap, ◌∙◌, arith}
+use Rattle.std.proofs.Common.{◌≡◌, ◌≢◌, ◌≤◌, ◌<◌, ℕ, ◌+◌, ◌==◌, Bool, true, false, [], ◌∷◌, ◌++◌, filter, length, sum_by, Some, None, refl, sym, ap, ◌∙◌, arith}
 use Rattle.std.proofs.lemmas.Bool.{false_from_ne_true, ltb-false}
 use Rattle.std.proofs.lemmas.List.Sums.{sum_by_push}
 use Rattle.adlb_unit.specs.Ids.{same_unit}
@@ -55,11 +55,11 @@ held_rests from Spent held = refl
 
 -- Room is promised.
 
-pub promises : (b : Bag) (s : ServerModel) (from : Server) (id : UnitId) (n : ℕ) → ServerAgrees b s → has_due b ≡ false
+pub promises : (found : Bag → Bool) (b : Bag) (s : ServerModel) (from : Server) (id : UnitId) (n : ℕ) → ServerAgrees b s → has_due b ≡ false
     → expects_query s.kept id ≡ true → exceeds s.kept.queue n ≡ false → from ≢ s.me → IsHeldAt b from id → IsMeasured b id n
-    → promise_of b id ≡ None → AreSteps b (entries (Promises from id n) s) (done (Promises from id n) s)
-promises b s from id n m rests expected fits other held long none =
-    is_step b (enters.Promised s.me id n) (done (Promises from id n) s) (
+    → promise_of b id ≡ None → AreSteps found b (entries (Promises from id n) s) (done (Promises from id n) s)
+promises found b s from id n m rests expected fits other held long none =
+    is_step found b (enters.Promised s.me id n) (done (Promises from id n) s) (
       rw rests refl,
       (held.unit, held.found, measured, rw m.servers m.within, apart.0, apart.1, none, rw (charge_agrees b s m, m.limit) below),
       refl,
@@ -94,16 +94,16 @@ promises b s from id n m rests expected fits other held long none =
 
 -- The unit leaves.
 
-pub leaves : (b : Bag) (s : ServerModel) (to : Server) (p : Placed) → ServerAgrees b s → has_due b ≡ false → to.0 < b.servers
+pub leaves : (found : Bag → Bool) (b : Bag) (s : ServerModel) (to : Server) (p : Placed) → ServerAgrees b s → has_due b ≡ false → to.0 < b.servers
     → IsPromisedAt b to p.unit.id → unit_with p.unit.id s.kept.queue.units ≡ Some p → p.pin ≡ None
-    → AreSteps b (enters.Left s.me to p.unit.id ∷ [])
+    → AreSteps found b (enters.Left s.me to p.unit.id ∷ [])
     (with_units (filter (has_other_id p.unit.id) s.kept.queue.units) s.kept.queue.arrivals s)
-leaves b s to p m rests there room found free =
-    let u = lodged b.units s.me s.kept.queue.units p.unit.id p m.units found in
+leaves found b s to p m rests there room is free =
+    let u = lodged b.units s.me s.kept.queue.units p.unit.id p m.units is in
     let place : u.0.place ≡ Free s.me = place_is s.me None u.0.place (u.1.pin ∙ ap Some free) in
     let now = filter (has_other_id p.unit.id) s.kept.queue.units in
-    let holds = holds_taken b.units s.me s.kept.queue.units p.unit.id (Travelling to) p u.0 m.units found u.1 refl in
-    is_step b (enters.Left s.me to p.unit.id) (with_units now s.kept.queue.arrivals s)
+    let holds = holds_taken b.units s.me s.kept.queue.units p.unit.id (Travelling to) p u.0 m.units is u.1 refl in
+    is_step found b (enters.Left s.me to p.unit.id) (with_units now s.kept.queue.arrivals s)
     (rw rests refl, (u.0, room.room, (u.1.found, place), rw m.servers m.within, there, room.found, room.here), refl)
     (units_agree b s _ now s.kept.queue.arrivals m holds) rests
 
@@ -118,12 +118,12 @@ promise_is b s id m has =
     room_is b.promises s.me s.kept.queue.promises id p.0 m.promises p.1
 
 -- the unit arrives
-pub arrives : (b : Bag) (s : ServerModel) (from : Server) (unit : Work) → ServerAgrees b s → has_due b ≡ false
+pub arrives : (found : Bag → Bool) (b : Bag) (s : ServerModel) (from : Server) (unit : Work) → ServerAgrees b s → has_due b ≡ false
     → expects_unit s.kept unit ≡ true → unit_of b unit.id ≡ Some (record { unit = unit; place = Travelling s.me })
-    → PromisesAreSingle b.promises → AreSteps b (entries (Arrives from unit) s) (done (Arrives from unit) s)
-arrives b s from unit m rests expected found single =
-    is_step b (enters.Arrived s.me unit.id) (done (Arrives from unit) s)
-    (rw rests refl, (record { unit = unit; place = Travelling s.me }, (found, refl), rw m.servers m.within), refl)
+    → PromisesAreSingle b.promises → AreSteps found b (entries (Arrives from unit) s) (done (Arrives from unit) s)
+arrives found b s from unit m rests expected travels single =
+    is_step found b (enters.Arrived s.me unit.id) (done (Arrives from unit) s)
+    (rw rests refl, (record { unit = unit; place = Travelling s.me }, (travels, refl), rw m.servers m.within), refl)
     (rooms_agree (moved unit.id (Free s.me) b) here _ (filter (is_for_other unit.id) s.kept.queue.promises) come
     (rooms_left b.promises s.me s.kept.queue.promises unit.id m.promises)
     (rooms_sum b.promises s.me s.kept.queue.promises unit.id single m.single room m.room)
@@ -137,7 +137,7 @@ arrives b s from unit m rests expected found single =
         (with_units (s.kept.queue.units ++ record { unit = unit; pin = None } ∷ []) (s.kept.queue.arrivals + 1) s)
     come =
         units_agree b s _ (s.kept.queue.units ++ record { unit = unit; pin = None } ∷ []) (s.kept.queue.arrivals + 1) m
-        (holds_arrived b.units s.me s.kept.queue.units (record { unit = unit; place = Travelling s.me }) m.units found refl)
+        (holds_arrived b.units s.me s.kept.queue.units (record { unit = unit; place = Travelling s.me }) m.units travels refl)
 
     room : IsRoom b.promises s.me s.kept.queue.promises unit.id
     room =
@@ -145,13 +145,13 @@ arrives b s from unit m rests expected found single =
         promise_is b s unit.id m ((promise_says unit.id s.kept.queue.promises).1 (has.0, has.1, has.2, has.3, has.4.0))
 
 -- the promise is taken back
-pub withdraws : (b : Bag) (s : ServerModel) (from : Server) (id : UnitId) → ServerAgrees b s → has_due b ≡ false
+pub withdraws : (found : Bag → Bool) (b : Bag) (s : ServerModel) (from : Server) (id : UnitId) → ServerAgrees b s → has_due b ≡ false
     → has_promise id s.kept.queue.promises ≡ true → IsHeldAt b from id → PromisesAreSingle b.promises
-    → AreSteps b (entries (Withdraws from id) s) (done (Withdraws from id) s)
-withdraws b s from id m rests has held single =
+    → AreSteps found b (entries (Withdraws from id) s) (done (Withdraws from id) s)
+withdraws found b s from id m rests has held single =
     let room = promise_is b s id m has in
     let rest = held_rests from held.unit.place held.held in
-    is_step b (enters.Withdrawn s.me id) (done (Withdraws from id) s)
+    is_step found b (enters.Withdrawn s.me id) (done (Withdraws from id) s)
     (rw rests refl, (held.unit, room.room, held.found, rest, rw m.servers m.within, room.found, room.here), refl)
     (rooms_agree b s _ (filter (is_for_other id) s.kept.queue.promises) m
     (rooms_left b.promises s.me s.kept.queue.promises id m.promises)

@@ -3,13 +3,13 @@ use Rattle.std.proofs.Common.{◌≡◌, inr, ℕ, false, zero, suc, [], ◌∷�
 use Rattle.adlb_unit.specs.declared.configs.Config.{Config}
 use Rattle.adlb_unit.specs.declared.names.Rank.{Rank}
 use Rattle.adlb_unit.specs.declared.names.Server.{Server}
-use Rattle.bag_ledger.specs.Bag.{Bag, has_due, rank_at, start as empty_bag}
+use Rattle.bag_ledger.specs.Bag.{Bag, has_due, rank_at, settled, start as empty_bag}
 use Rattle.bag_ledger.specs.Runs.{IsRun}
 use Rattle.bag_ledger.specs.Steps.{after}
 use Rattle.bag_ledger.specs.declared.entries.Entry.{Entry}
 use Rattle.bag_ledger.specs.declared.entries.Entry.TheVariants as enters
 use Rattle.bag_ledger.specs.declared.states.RankState.{RankState}
-use Rattle.server_law.specs.Acts.{Finds, Parks}
+use Rattle.server_law.specs.Acts.{Finds_alone, Parks}
 use Rattle.server_law.specs.Agreement.{ServerAgrees}
 use Rattle.server_law.specs.Carried.{done}
 use Rattle.server_law.specs.Rest.{RestsAt, WaitsFor}
@@ -79,8 +79,8 @@ rests = record {
     waiting (suc n) s at = absurd (cc)
 
 -- so all work may be found used up
-is_found : (next : Bag) × IsRun asked (enters.Exhausted ∷ []) next × ServerAgrees next (done Finds waits) × (has_due next ≡ false)
+is_found : (next : Bag) × IsRun asked (enters.Exhausted ∷ []) next × ServerAgrees next (done Finds_alone waits) × (has_due next ≡ false)
 is_found =
-    acts_are_legal asked waits Finds rests.agrees refl refl
+    acts_are_legal settled asked waits Finds_alone rests.agrees refl refl
     (record { alone = refl; quiet = refl; new = refl; first = idle wish []; behind = []; waits = refl; unfit = refl })
     (rest_is_settled asked waits rests)

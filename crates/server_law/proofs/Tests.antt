@@ -16,9 +16,12 @@ use Rattle.adlb_unit.specs.declared.names.Server.{Server}
 use Rattle.adlb_unit.specs.declared.names.Target.{Target}
 use Rattle.adlb_unit.specs.declared.names.Target.TheVariants.{Any as Anyone, Only, Soft}
 use Rattle.adlb_unit.specs.declared.names.UnitId.{UnitId}
+use Rattle.adlb_unit.specs.declared.tokens.Token.{Token}
 use Rattle.adlb_unit.specs.declared.units.Unit.{Unit as Work}
 use Rattle.adlb_unit.proofs.Same.{same_unit_from, same_unit_is}
 use Rattle.bag_ledger.proofs.Tests.{same_rank_is, some_is}
+use Rattle.exhaust_ring.specs.Expected.{IsRunning, is_running}
+use Rattle.exhaust_ring.specs.Ring.{RingModel}
 use Rattle.work_queue.specs.Queue.{HasFree, HasNoPromise, HasNoUnit, HasPinned, HasPromise, HasRoom, Promise, id_of}
 use Rattle.work_queue.specs.declared.placing.Placed.{Placed}
 use Rattle.adlb_unit.specs.declared.names.BatchId.{BatchId}
@@ -29,7 +32,7 @@ use Rattle.server_law.specs.Acts.{batch_of}
 use Rattle.server_law.specs.Asks.{expects_ask}
 use Rattle.server_law.specs.Batches.{can_close, can_fetch, expects_keep, is_fewer, part_if}
 use Rattle.server_law.specs.Endings.{rests}
-use Rattle.server_law.specs.Expected.{IsHome, IsNew, IsUnanswered, Runs, WaitsIdle}
+use Rattle.server_law.specs.Expected.{IsHome, IsNew, IsQuiet, IsUnanswered, Runs, WaitsIdle}
 use Rattle.reserve_path.specs.Parked.{is_idle}
 use Rattle.server_law.specs.Finding.{has_asked, has_promise, has_unit, is_asked_at, is_free_as, is_pin, is_pinned_as}
 use Rattle.server_law.specs.Hints.{expects_hint}
@@ -89,7 +92,7 @@ module _ {X : Type 0} (test : X → Bool) (P : X → Type 0) (says : (x : X) →
 
 -- Numbers and names.
 
-same_says : (m n : ℕ) → Says (m == n) (m ≡ n)
+pub same_says : (m n : ℕ) → Says (m == n) (m ≡ n)
 same_says m n = (eqb-true m n, eq-eqb m n)
 
 pub below_says : (m n : ℕ) → Says (nat_lt m n) (m < n)
@@ -288,6 +291,17 @@ expects_put_says s from unit =
       λ (is : IsNew s from unit). five.1 ((((is.sender, is.new), is.unpromised), is.size), is.target),
     )
 
+-- Checks.
+
+-- server 0 is told of the check that runs
+pub running_says : (m : RingModel) (t : Token) → Says (is_running m t) (IsRunning m t)
+running_says m t =
+    let same = both_say m.ring.runs (t.check == m.ring.check) (λ is. is, λ is. is) (same_says t.check m.ring.check) in
+    let all = both_say (m.me.0 == 0) (m.ring.runs && (t.check == m.ring.check)) (same_says m.me.0 0) same in (
+      λ is. let both = all.0 is in record { zeroth = both.0; runs = both.1.0; check = both.1.1 },
+      λ (r : IsRunning m t). all.1 (r.zeroth, (r.runs, r.check)),
+    )
+
 -- Quiet servers.
 
 abbrev pub is_idle_of : Rank → Waiting → Bool
@@ -325,7 +339,13 @@ each_below_says test n =
 
 pub quiet_is_tested : QuietIsTested
 quiet_is_tested s =
-    let all = each_below_says (λ n. rests s (record { 0 = n })) s.config.ranks in (
-      λ is rank within. (rests_says s rank).0 (all.0 is rank.0 within),
-      λ quiet. all.1 (λ k below. (rests_says s (record { 0 = k })).1 (quiet (record { 0 = k }) below)),
+    let all = each_below_says (λ n. rests s (record { 0 = n })) s.config.ranks in
+    let both = and_parts (is_none s.kept.pushing.push) (list_all (λ n. rests s (record { 0 = n })) (range_with_len 0 s.config.ranks)) in (
+      λ is. record {
+        unpushed = (is_none_says s.kept.pushing.push).0 (both is).0;
+        rest = λ rank within. (rests_says s rank).0 (all.0 (both is).1 rank.0 within);
+      },
+      λ (quiet : IsQuiet s).
+          and_from _ _ ((is_none_says s.kept.pushing.push).1 quiet.unpushed)
+          (all.1 (λ k below. (rests_says s (record { 0 = k })).1 (quiet.rest (record { 0 = k }) below))),
     )

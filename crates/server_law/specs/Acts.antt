@@ -1,12 +1,13 @@
 -- What a server does, one act after the other: the letter that an act takes, what it changes, says and enters in the ledger. Each
 -- act tells of at most one rank.
-use Rattle.std.specs.Prelude.{ℕ, Bool, true, not, List, [], ◌∷◌, ◌++◌, filter, length, Option, None, Some, slice_set, if◌then◌else◌}
-use Rattle.adlb_unit.specs.Ring.{others}
+use Rattle.std.specs.Prelude.{ℕ, ◌+◌, ◌==◌, Bool, true, not, List, [], ◌∷◌, ◌++◌, filter, length, map, Option, None, Some, slice_set, if◌then◌else◌}
+use Rattle.adlb_unit.specs.Ring.{behind, others}
 use Rattle.adlb_unit.specs.Targets.{home}
 use Rattle.adlb_unit.specs.declared.actors.Actor.{Actor}
 use Rattle.adlb_unit.specs.declared.actors.Actor.TheVariants as by
 use Rattle.adlb_unit.specs.declared.messages.Message.{Message}
 use Rattle.adlb_unit.specs.declared.messages.Message.TheVariants as tells
+use Rattle.adlb_unit.specs.declared.messages.Why.{Why}
 use Rattle.adlb_unit.specs.declared.names.BatchId.{BatchId}
 use Rattle.adlb_unit.specs.declared.names.Rank.{Rank}
 use Rattle.adlb_unit.specs.declared.names.Server.{Server}
@@ -14,21 +15,25 @@ use Rattle.adlb_unit.specs.declared.names.UnitId.{UnitId}
 use Rattle.adlb_unit.specs.declared.names.WorkType.{WorkType}
 use Rattle.adlb_unit.specs.declared.notes.End.{End}
 use Rattle.adlb_unit.specs.declared.notes.UnitNote.{UnitNote}
+use Rattle.adlb_unit.specs.declared.tokens.Token.{Token}
 use Rattle.adlb_unit.specs.declared.units.Unit.{Unit as Work}
 use Rattle.bag_ledger.specs.declared.entries.Entry.{Entry}
 use Rattle.bag_ledger.specs.declared.entries.Entry.TheVariants as enters
 use Rattle.bag_ledger.specs.Runs.{note_of}
+use Rattle.exhaust_ring.specs.Ring.{Asker, Ring, begun, ended, token, wanting, with_mark, with_tests}
+use Rattle.exhaust_ring.specs.Visits.{Outcome, started}
 use Rattle.work_queue.specs.Counts.{counts_of}
+use Rattle.work_queue.specs.Fits.{first_fit}
 use Rattle.work_queue.specs.Queue.{Queue, charge_of, with_arrival, with_common, with_pin, with_promise, with_unit, without, without_common, without_promise}
 use Rattle.batch_store.specs.Store.{Store, changed, closed, fetched, is_due, with_fresh}
 use Rattle.batch_store.specs.declared.parts.Part.{Part}
-use Rattle.reserve_path.specs.Calls.{with_server}
+use Rattle.reserve_path.specs.Calls.{wants, with_server}
 use Rattle.reserve_path.specs.Parked.{is_by}
 use Rattle.reserve_path.specs.declared.waits.Waiting.{Waiting}
 use Rattle.reserve_path.specs.declared.wishes.Wish.{Wish}
 use Rattle.put_path.specs.Pushes.{asks_room, has_sent, one_more}
 use Rattle.put_path.specs.declared.standing.StandingPush.{StandingPush}
-use Rattle.server_law.specs.State.{Debt, ServerModel, awaiting, debt, idle}
+use Rattle.server_law.specs.State.{Debt, Kept, ServerModel, awaiting, debt, idle, ring_at}
 
 -- a message to an actor
 pub record ServerSaying : Type 0 where
@@ -97,9 +102,30 @@ pub data Act : Type 0 where
   Arrives : Server → Work → Act
   Acks : Server → UnitId → Act
   Withdraws : Server → UnitId → Act
-  -- all work is used up; and no rank waits or runs any more
-  Finds : Act
-  Shuts : Act
+  -- the problem is done, as a rank says in the call of this number
+  Hears_done : Rank → ℕ → Act
+  -- a quiet server that has changed since its last notice gives notice that a check is wanted: it tells server 0, or is server 0; and
+  -- server 0 is told
+  Notices : Act
+  Notes_own : Act
+  Wants : Server → Act
+  -- server 0 starts a check; in the first wave another server takes its mark; after its tests a server sends the token on in the second
+  -- wave, or tells server 0 of the test that fails; the check ends without a verdict, where the token is, or as server 0 is told
+  Starts : Act
+  Marks : Server → Token → Act
+  Passes : Server → Token → Act
+  Fails : Server → Token → Why → Act
+  Gives_up : Server → Token → Act
+  Hears_failed : Server → Token → Why → Act
+  -- the verdict: all work is used up, or no rank waits or runs any more; the other servers are told, and hear it
+  Finds : Server → Token → Act
+  Shuts : Server → Token → Act
+  Hears_exhaust : Server → Act
+  Hears_shutdown : Server → Act
+  -- the whole check of a server that is alone: all work is used up, or no rank waits or runs any more, or there is no verdict
+  Finds_alone : Act
+  Shuts_alone : Act
+  Checks_alone : Act
 
 abbrev pub to_rank : Rank → Message → ServerSaying
 to_rank rank message = record { to = by.Rank rank; message = message }
@@ -154,6 +180,17 @@ takes (Stops_push to id length) = of_server to (tells.PushNo id) ∷ []
 takes (Ends_push to id length) = of_server to (tells.PushAck id) ∷ []
 takes (Arrives from unit) = of_server from (tells.PushUnit unit) ∷ []
 takes (Withdraws from id) = of_server from (tells.PushCancel id) ∷ []
+takes (Hears_done rank request) = of_rank rank (tells.Done request) ∷ []
+takes (Wants from) = of_server from tells.Notice ∷ []
+takes (Marks from t) = of_server from (tells.Token t) ∷ []
+takes (Passes from t) = of_server from (tells.Token t) ∷ []
+takes (Fails from t why) = of_server from (tells.Token t) ∷ []
+takes (Gives_up from t) = of_server from (tells.Token t) ∷ []
+takes (Hears_failed from t why) = of_server from (tells.Failed t why) ∷ []
+takes (Finds from t) = of_server from (tells.Token t) ∷ []
+takes (Shuts from t) = of_server from (tells.Token t) ∷ []
+takes (Hears_exhaust from) = of_server from tells.Exhaust ∷ []
+takes (Hears_shutdown from) = of_server from tells.Shutdown ∷ []
 takes _ = []
 
 -- What it changes, component by component.
@@ -260,13 +297,58 @@ abbrev pub finished_after : Act → List Bool → List Bool
 finished_after (Notes_finish rank) finished = slice_set finished rank.0 true
 finished_after _ finished = finished
 
+abbrev pub done_after : Act → Bool → Bool
+done_after (Hears_done rank request) is_done = true
+done_after _ is_done = is_done
+
 abbrev pub exhausted_after : Act → Bool → Bool
-exhausted_after Finds exhausted = true
+exhausted_after (Finds from t) exhausted = true
+exhausted_after (Hears_exhaust from) exhausted = true
+exhausted_after Finds_alone exhausted = true
 exhausted_after _ exhausted = exhausted
 
 abbrev pub shut_after : Act → Bool → Bool
-shut_after Shuts shut = true
+shut_after (Shuts from t) shut = true
+shut_after (Hears_shutdown from) shut = true
+shut_after Shuts_alone shut = true
 shut_after _ shut = shut
+
+-- the ranks that wait, as a token names them
+abbrev pub askers : Kept → List Asker
+askers k = map wants k.parked.waiting
+
+-- the first free unit that fits one of these
+abbrev pub fit_among : Kept → List Asker → Option UnitId
+fit_among k asked = first_fit asked k.queue.units
+
+-- the whole check of a server that is alone
+abbrev pub check_alone : ServerModel → Outcome
+check_alone s = started (ring_at s) s.activity (askers s.kept) (fit_among s.kept (askers s.kept))
+
+-- the tests are made in the second wave
+abbrev pub tested_in : ℕ → Ring → Ring
+tested_in wave ring = if wave == 2 then with_tests ring else ring
+
+abbrev pub ring_after : Act → ServerModel → Ring
+ring_after Notes_own s = wanting s.kept.ring
+ring_after (Wants from) s = wanting s.kept.ring
+ring_after Starts s = begun s.kept.ring s.activity
+ring_after (Marks from t) s = with_mark s.kept.ring t.check s.activity
+ring_after (Passes from t) s = with_tests s.kept.ring
+ring_after (Fails from t why) s = tested_in t.wave s.kept.ring
+ring_after (Gives_up from t) s = ended s.kept.ring
+ring_after (Hears_failed from t why) s = ended s.kept.ring
+ring_after (Finds from t) s = ended s.kept.ring
+ring_after (Shuts from t) s = ended s.kept.ring
+ring_after Finds_alone s = (check_alone s).ring.ring
+ring_after Shuts_alone s = (check_alone s).ring.ring
+ring_after Checks_alone s = (check_alone s).ring.ring
+ring_after _ s = s.kept.ring
+
+abbrev pub noted_after : Act → ServerModel → Option ℕ
+noted_after Notices s = Some s.activity
+noted_after Notes_own s = Some s.activity
+noted_after _ s = s.kept.noted
 
 -- the server after the act
 abbrev pub does : Act → ServerModel → ServerModel
@@ -278,13 +360,26 @@ does a s = record s {
     pushing = record { push = turned (turns a) s.kept.pushing.push; pushes = pushes_after a s.kept.pushing.pushes };
     owed = turned (debts a) s.kept.owed;
     finished = finished_after a s.kept.finished;
-    done = s.kept.done;
+    done = done_after a s.kept.done;
     exhausted = exhausted_after a s.kept.exhausted;
     shut = shut_after a s.kept.shut;
+    ring = ring_after a s;
+    noted = noted_after a s;
   };
 }
 
 -- What it says and enters, by the server as it was before.
+
+abbrev pub zeroth : Server
+zeroth = record { 0 = 0 }
+
+-- the server behind this one, to which the token goes on
+abbrev pub onward : ServerModel → Server
+onward s = behind s.config s.me 1
+
+-- a message to each other server
+abbrev pub to_others : ServerModel → Message → List ServerSaying
+to_others s message = map (λ t. to_server t message) (others s.config s.me)
 
 abbrev pub says : Act → ServerModel → List ServerSaying
 says (Accepts unit) s = to_rank unit.id.rank (tells.Accepted unit.id.number) ∷ []
@@ -316,6 +411,14 @@ says (Sends_unit to length unit) s = to_server to (tells.PushUnit unit) ∷ []
 says (Cancels to id length) s = to_server to (tells.PushCancel id) ∷ []
 says (Acks to id) s = to_server to (tells.PushAck id) ∷ []
 says (Withdraws from id) s = to_server from (tells.PushAck id) ∷ []
+says (Hears_done rank request) s = to_rank rank (tells.DoneHeard request) ∷ []
+says Notices s = to_server zeroth tells.Notice ∷ []
+says Starts s = to_server (onward s) (tells.Token (token (s.kept.ring.check + 1) 1 (askers s.kept))) ∷ []
+says (Marks from t) s = to_server (onward s) (tells.Token (token t.check t.wave (t.asked ++ askers s.kept))) ∷ []
+says (Passes from t) s = to_server (onward s) (tells.Token (token t.check 2 t.asked)) ∷ []
+says (Fails from t why) s = to_server zeroth (tells.Failed t why) ∷ []
+says (Finds from t) s = to_others s tells.Exhaust
+says (Shuts from t) s = to_others s tells.Shutdown
 says _ s = []
 
 -- a part that is due is freed
@@ -335,7 +438,8 @@ entries (Fetches rank request id unit) s = enters.Fetched s.me rank id ∷ []
 entries (Counts rank request kind) s = enters.Counted s.me rank request (counts_of kind s.kept.queue.units) ∷ []
 entries (Gives at wish rest unit) s = enters.Granted s.me wish.rank wish.request unit.id ∷ []
 entries (Tells at wish rest end) s = enters.Over wish.rank wish.request end ∷ []
-entries Finds s = enters.Exhausted ∷ []
+entries (Finds from t) s = enters.Exhausted ∷ []
+entries Finds_alone s = enters.Exhausted ∷ []
 entries (Keeps rank request common) s = enters.Kept s.me (batch_of rank request) ∷ []
 entries (Refuses_part rank request common) s = enters.Refused s.me (unit_of rank request) (charge_of s.kept.queue) ∷ []
 entries (Ends_keep rank request common end) s = enters.Over rank request end ∷ []

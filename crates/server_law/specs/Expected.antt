@@ -14,8 +14,9 @@ use Rattle.work_queue.specs.Queue.{HasNoPromise, HasNoUnit, HasPinned, HasPromis
 use Rattle.batch_store.specs.Store.{CanClose, CanFetch, Keeps as PartKept, part_in}
 use Rattle.reserve_path.specs.declared.waits.Waiting.{Waiting}
 use Rattle.put_path.specs.Pushes.{Asks, HasSent}
+use Rattle.exhaust_ring.specs.Expected.{Expects, IsRunning}
 use Rattle.server_law.specs.Acts.{batch_of}
-use Rattle.server_law.specs.State.{ServerModel, is_finished}
+use Rattle.server_law.specs.State.{ServerModel, is_finished, ring_at}
 use Rattle.server_law.specs.Step.{serve}
 
 -- the unit is the sender's; no unit and no promise of its id is here; its body is no longer than it may be; a rank that its target
@@ -54,6 +55,8 @@ IsAwaited s from (tells.CloseBatch request batch accepted) =
 IsAwaited s from (tells.FetchCommon request batch) = PartKept s.kept.parts batch s.kept.queue.common CanFetch
 -- the sender's home is here, and it runs
 IsAwaited s from (tells.Count request kind) = IsHome s from × Runs s from
+-- each rank may say to each server that the problem is done
+IsAwaited s from (tells.Done request) = Prim.Unit {0}
 -- the sender runs
 IsAwaited s from tells.Finish = Runs s from
 IsAwaited s from _ = ⊥
@@ -83,6 +86,14 @@ IsAwaitedFrom s from (tells.PushUnit unit) =
 IsAwaitedFrom s from (tells.PushCancel id) = HasPromise id s.kept.queue.promises
 -- the push of this server has sent the unit or a cancel of it to the sender
 IsAwaitedFrom s from (tells.PushAck id) = HasSent s.kept.pushing from id
+-- this is server 0
+IsAwaitedFrom s from tells.Notice = s.me.0 ≡ 0
+-- the ring expects the token from the sender; this is server 0, and the check runs
+IsAwaitedFrom s from (tells.Token t) = Expects (ring_at s) from t
+IsAwaitedFrom s from (tells.Failed t why) = IsRunning (ring_at s) t
+-- the sender is server 0
+IsAwaitedFrom s from tells.Exhaust = from.0 ≡ 0
+IsAwaitedFrom s from tells.Shutdown = from.0 ≡ 0
 IsAwaitedFrom s from _ = ⊥
 
 -- beside each row: the sender is a rank of the run, or another server of it, and the stamp one that is given
@@ -99,6 +110,7 @@ ExpectedHaveSteps = (s : ServerModel) (from : Actor) (letter : Letter) → IsSom
 abbrev pub WaitsIdle : ServerModel → Rank → Type 0
 WaitsIdle s rank = Any (λ (e : Waiting). (e.wish.rank ≡ rank) × (e.asked ≡ None)) s.kept.parked.waiting
 
--- the server is quiet: each rank of the run whose home this is waits here and is idle, or has finished
-abbrev pub IsQuiet : ServerModel → Type 0
-IsQuiet s = (rank : Rank) → rank.0 < s.config.ranks → IsHome s rank → WaitsIdle s rank ⊎ (is_finished s.kept rank ≡ true)
+-- the server is quiet: no push that it began stands, and each rank of the run whose home this is waits here and is idle, or has finished
+pub record IsQuiet (s : ServerModel) : Type 0 where
+  pub unpushed : s.kept.pushing.push ≡ None
+  pub rest : (rank : Rank) → rank.0 < s.config.ranks → IsHome s rank → WaitsIdle s rank ⊎ (is_finished s.kept rank ≡ true)

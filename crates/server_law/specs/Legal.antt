@@ -1,14 +1,14 @@
 -- What an act asks of the bag, so that its entries are steps of the bag; and what steps of others leave.
-use Rattle.std.specs.Prelude.{◌≡◌, ◌≢◌, ◌<◌, ℕ, true, false, List, Option, None, Some, IsTrue}
+use Rattle.std.specs.Prelude.{◌≡◌, ◌≢◌, ◌<◌, ℕ, Bool, true, false, List, Option, None, Some}
 use Rattle.adlb_unit.specs.declared.names.BatchId.{BatchId}
 use Rattle.adlb_unit.specs.declared.names.CommonRef.{CommonRef}
 use Rattle.adlb_unit.specs.declared.names.Rank.{Rank}
 use Rattle.adlb_unit.specs.declared.names.Server.{Server}
 use Rattle.adlb_unit.specs.declared.names.UnitId.{UnitId}
 use Rattle.adlb_unit.specs.declared.units.Unit.{Unit as Work}
-use Rattle.bag_ledger.specs.Bag.{Bag, has_declined, has_due, part_of, promise_of, rank_at, settled, unit_of}
-use Rattle.bag_ledger.specs.Runs.{IsRun}
-use Rattle.bag_ledger.specs.Steps.{Steps}
+use Rattle.bag_ledger.specs.Bag.{Bag, has_declined, has_due, part_of, promise_of, rank_at, unit_of}
+use Rattle.bag_ledger.specs.Runs.{IsRunWhere}
+use Rattle.bag_ledger.specs.Steps.{StepsWhere}
 use Rattle.bag_ledger.specs.declared.entries.Entry.{Entry}
 use Rattle.bag_ledger.specs.declared.entries.Entry.TheVariants as enters
 use Rattle.bag_ledger.specs.declared.states.Part.{Part}
@@ -19,7 +19,7 @@ use Rattle.bag_ledger.specs.declared.states.Status.TheVariants as is_at
 use Rattle.bag_ledger.specs.declared.states.UnitPlace.TheVariants.{Travelling}
 use Rattle.bag_law.specs.Sound.{IsSoundBag, PromisesAreSingle}
 use Rattle.reserve_path.specs.declared.wishes.Wish.{Wish}
-use Rattle.server_law.specs.Acts.{Accepts, Act, Answers, Arrives, Closes, Counts, Ends_keep, Ends_put, Ends_reserve, Ends_try, Fetches, Fetches_part, Finds, Gives, Grants, Grants_try, Keeps, Looks, Promises, Refuses, Refuses_part, Sends_unit, Tells, Withdraws, batch_of, entries}
+use Rattle.server_law.specs.Acts.{Accepts, Act, Answers, Arrives, Closes, Counts, Ends_keep, Ends_put, Ends_reserve, Ends_try, Fetches, Fetches_part, Finds, Finds_alone, Gives, Grants, Grants_try, Hears_done, Hears_exhaust, Keeps, Looks, Promises, Refuses, Refuses_part, Sends_unit, Tells, Withdraws, batch_of, entries}
 use Rattle.server_law.specs.Agreement.{ServerAgrees}
 use Rattle.server_law.specs.Carried.{done}
 use Rattle.server_law.specs.Moving.{IsHeldAt, IsMeasured, IsPromisedAt}
@@ -66,39 +66,42 @@ IsOwed b rank request batch =
     (id : UnitId) × (u : Placed) × (common : CommonRef) × Does b rank (is_at.Fetching request id true) × (unit_of b id ≡ Some u)
     × (u.unit.common ≡ Some common) × (common.batch ≡ batch)
 
--- what the act asks of the bag
-abbrev pub Needs : Act → Bag → Server → Type 0
-Needs (Accepts unit) b me = Offers b me unit × (unit_of b unit.id ≡ None) × IsOpen b unit.common
-Needs (Refuses unit) b me = Offers b me unit
-Needs (Ends_put unit end) b me = Does b unit.id.rank (is_at.Putting unit)
-Needs (Grants wish unit) b me = AsksFor b wish
-Needs (Ends_reserve wish end) b me = AsksFor b wish
-Needs (Grants_try wish unit) b me = TriesFor b wish
-Needs (Ends_try wish end) b me = TriesFor b wish
-Needs (Looks wish) b me = TriesFor b wish
-Needs (Fetches rank request id unit) b me = Does b rank (is_at.Fetching request id false)
-Needs (Counts rank request kind) b me = Does b rank (is_at.Counting request kind)
-Needs (Gives at wish rest unit) b me = AsksFor b wish
-Needs (Tells at wish rest end) b me = AsksFor b wish
-Needs Finds b me = IsTrue (settled b)
-Needs (Keeps rank request common) b me = Begins b me rank request common × (part_of b (batch_of rank request) ≡ None)
-Needs (Refuses_part rank request common) b me = Begins b me rank request common
-Needs (Ends_keep rank request common end) b me = Does b rank (is_at.Keeping request common)
-Needs (Closes request batch accepted part) b me = EndsBatch b request batch × HasAccepted b batch accepted
-Needs (Fetches_part rank request batch part) b me = IsOwed b rank request batch
-Needs (Answers from wish unit) b me = AsksFor b wish
-Needs (Promises from id length) b me = (from ≢ me) × IsHeldAt b from id × IsMeasured b id length × (promise_of b id ≡ None)
-Needs (Sends_unit to length unit) b me = (to.0 < b.servers) × IsPromisedAt b to unit.id
-Needs (Arrives from unit) b me = (unit_of b unit.id ≡ Some (record { unit = unit; place = Travelling me })) × PromisesAreSingle b.promises
-Needs (Withdraws from id) b me = IsHeldAt b from id × PromisesAreSingle b.promises
-Needs a b me = Unit {0}
+-- what the act asks of the bag, where exhaustion is found as `found` says
+abbrev pub Needs : (Bag → Bool) → Act → Bag → Server → Type 0
+Needs found (Accepts unit) b me = Offers b me unit × (unit_of b unit.id ≡ None) × IsOpen b unit.common
+Needs found (Refuses unit) b me = Offers b me unit
+Needs found (Ends_put unit end) b me = Does b unit.id.rank (is_at.Putting unit)
+Needs found (Grants wish unit) b me = AsksFor b wish
+Needs found (Ends_reserve wish end) b me = AsksFor b wish
+Needs found (Grants_try wish unit) b me = TriesFor b wish
+Needs found (Ends_try wish end) b me = TriesFor b wish
+Needs found (Looks wish) b me = TriesFor b wish
+Needs found (Fetches rank request id unit) b me = Does b rank (is_at.Fetching request id false)
+Needs found (Counts rank request kind) b me = Does b rank (is_at.Counting request kind)
+Needs found (Gives at wish rest unit) b me = AsksFor b wish
+Needs found (Tells at wish rest end) b me = AsksFor b wish
+Needs found (Finds from t) b me = found b ≡ true
+Needs found Finds_alone b me = found b ≡ true
+Needs found (Hears_done rank request) b me = b.done ≡ true
+Needs found (Hears_exhaust from) b me = b.exhausted ≡ true
+Needs found (Keeps rank request common) b me = Begins b me rank request common × (part_of b (batch_of rank request) ≡ None)
+Needs found (Refuses_part rank request common) b me = Begins b me rank request common
+Needs found (Ends_keep rank request common end) b me = Does b rank (is_at.Keeping request common)
+Needs found (Closes request batch accepted part) b me = EndsBatch b request batch × HasAccepted b batch accepted
+Needs found (Fetches_part rank request batch part) b me = IsOwed b rank request batch
+Needs found (Answers from wish unit) b me = AsksFor b wish
+Needs found (Promises from id length) b me = (from ≢ me) × IsHeldAt b from id × IsMeasured b id length × (promise_of b id ≡ None)
+Needs found (Sends_unit to length unit) b me = (to.0 < b.servers) × IsPromisedAt b to unit.id
+Needs found (Arrives from unit) b me = (unit_of b unit.id ≡ Some (record { unit = unit; place = Travelling me })) × PromisesAreSingle b.promises
+Needs found (Withdraws from id) b me = IsHeldAt b from id × PromisesAreSingle b.promises
+Needs found a b me = Unit {0}
 
 -- the law: from a bag that agrees with the server and in which no common part is due, the entries of an act that is sure are steps of
 -- the bag, where it has what the act needs; and the bag agrees with the server afterwards, and no part is due
 abbrev pub ActsAreLegal : Type 0
 ActsAreLegal =
-    (b : Bag) (s : ServerModel) (a : Act) → ServerAgrees b s → has_due b ≡ false → SitsIn a s → Sure a s → Needs a b s.me
-    → (next : Bag) × IsRun b (entries a s) next × ServerAgrees next (done a s) × (has_due next ≡ false)
+    (found : Bag → Bool) (b : Bag) (s : ServerModel) (a : Act) → ServerAgrees b s → has_due b ≡ false → SitsIn a s → Sure a s
+    → Needs found a b s.me → (next : Bag) × IsRunWhere found b (entries a s) next × ServerAgrees next (done a s) × (has_due next ≡ false)
 
 -- Steps of others.
 
@@ -121,4 +124,5 @@ keeper _ = None
 -- the law: a step of the bag leaves its agreement with each server that is not the entry's keeper
 abbrev pub ServersStay : Type 0
 ServersStay =
-    (b next : Bag) (e : Entry) (s : ServerModel) → IsSoundBag b → Steps b e next → keeper e ≢ Some s.me → ServerAgrees b s → ServerAgrees next s
+    (found : Bag → Bool) (b next : Bag) (e : Entry) (s : ServerModel) → IsSoundBag b → StepsWhere found b e next → keeper e ≢ Some s.me
+    → ServerAgrees b s → ServerAgrees next s

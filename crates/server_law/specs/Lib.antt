@@ -4,7 +4,9 @@ pub mod Asks
 pub mod Batches
 pub mod Calm
 pub mod Carried
+pub mod Checks
 pub mod Counts
+pub mod Dones
 pub mod Endings
 pub mod Expected
 pub mod Fetches

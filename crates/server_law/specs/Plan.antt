@@ -20,5 +20,5 @@ decided [] s = []
 decided (d ∷ ds) s = d s ++ decided ds (all_done (d s) s)
 
 -- the acts of the plan, after which comes what follows each event
-abbrev pub in_order : Decider → ServerModel → Plan → List Act
-in_order last s p = p.first ∷ decided (p.follow ++ last ∷ []) (done p.first s)
+abbrev pub in_order : List Decider → ServerModel → Plan → List Act
+in_order last s p = p.first ∷ decided (p.follow ++ last) (done p.first s)

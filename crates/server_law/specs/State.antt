@@ -9,6 +9,7 @@ use Rattle.adlb_unit.specs.declared.names.UnitId.{UnitId}
 use Rattle.adlb_unit.specs.declared.notes.Trouble.{Trouble}
 use Rattle.work_queue.specs.Queue.{Queue}
 use Rattle.batch_store.specs.Store.{Store}
+use Rattle.exhaust_ring.specs.Ring.{Ring, RingModel, no_check}
 use Rattle.put_path.specs.Pushes.{Pushing}
 use Rattle.reserve_path.specs.Parked.{Parked, is_of}
 use Rattle.reserve_path.specs.declared.waits.Waiting.{Waiting}
@@ -45,6 +46,9 @@ pub record Kept : Type 0 where
   pub done : Bool
   pub exhausted : Bool
   pub shut : Bool
+  -- the checks that go round the ring of servers; and the activity of the last notice that a check is wanted
+  pub ring : Ring
+  pub noted : Option ℕ
 
 -- what they do not: who the server is, and what is counted of events and letters
 pub record ServerModel : Type 0 where
@@ -78,6 +82,8 @@ start config me = record {
     done = false;
     exhausted = false;
     shut = false;
+    ring = no_check;
+    noted = None;
   };
 }
 
@@ -97,6 +103,10 @@ is_finished k rank = slice_index_or k.finished rank.0 false
 -- the rank neither waits nor has finished, as far as the server knows
 abbrev pub runs : Kept → Rank → Bool
 runs k rank = not (is_waiting k rank) && not (is_finished k rank)
+
+-- the server in the ring
+abbrev pub ring_at : ServerModel → RingModel
+ring_at s = record { config = s.config; me = s.me; ring = s.kept.ring; exhausted = s.kept.exhausted; shut = s.kept.shut }
 
 -- the rank's home is here, and it runs
 abbrev pub runs_at_home : ServerModel → Rank → Bool

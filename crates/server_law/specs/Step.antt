@@ -1,5 +1,5 @@
 -- One step of a server: the rule of its letter, and what follows each event.
-use Rattle.std.specs.Prelude.{ℕ, ◌+◌, ◌==◌, nat_lt, Bool, true, ◌&&◌, List, Option, None, slice_set, if◌then◌else◌}
+use Rattle.std.specs.Prelude.{ℕ, ◌+◌, ◌==◌, nat_lt, Bool, true, false, ◌&&◌, List, Option, None, slice_set, if◌then◌else◌}
 use Rattle.std.specs.Option.{option_map}
 use Rattle.adlb_unit.specs.Limits.{stamp_limit}
 use Rattle.adlb_unit.specs.Links.{is_within, stamp_after}
@@ -14,7 +14,9 @@ use Rattle.server_law.specs.Acts.{Act}
 use Rattle.server_law.specs.Asks.{ask_rule, grant_rule, none_rule}
 use Rattle.server_law.specs.Batches.{close_rule, keep_rule, share_rule}
 use Rattle.server_law.specs.Carried.{Served, carried}
+use Rattle.server_law.specs.Checks.{exhaust_rule, failed_rule, notice_rule, shutdown_rule, token_rule}
 use Rattle.server_law.specs.Counts.{count_rule}
+use Rattle.server_law.specs.Dones.{done_rule}
 use Rattle.server_law.specs.Endings.{ends_event}
 use Rattle.server_law.specs.Fetches.{fetch_rule}
 use Rattle.server_law.specs.Finishes.{finish_rule}
@@ -36,6 +38,7 @@ rank_rule s from (tells.KeepCommon request common) = keep_rule s from request co
 rank_rule s from (tells.CloseBatch request batch accepted) = close_rule s from request batch accepted
 rank_rule s from (tells.FetchCommon request batch) = share_rule s from request batch
 rank_rule s from (tells.Count request kind) = count_rule s from request kind
+rank_rule s from (tells.Done request) = done_rule s from request
 rank_rule s from tells.Finish = finish_rule s from
 rank_rule s from _ = None
 
@@ -50,6 +53,11 @@ server_rule s from (tells.PushNo id) = no_rule s from id
 server_rule s from (tells.PushUnit unit) = unit_rule s from unit
 server_rule s from (tells.PushCancel id) = cancel_rule s from id
 server_rule s from (tells.PushAck id) = ack_rule s from id
+server_rule s from tells.Notice = notice_rule s from
+server_rule s from (tells.Token t) = token_rule s from t
+server_rule s from (tells.Failed t why) = failed_rule s from t why
+server_rule s from tells.Exhaust = exhaust_rule s from
+server_rule s from tells.Shutdown = shutdown_rule s from
 server_rule s from _ = None
 
 -- no server writes to itself
@@ -65,15 +73,31 @@ acts s from message = option_map (in_order ends_event s) (rule s from message)
 abbrev pub next_stamp : ServerModel → Letter → ℕ
 next_stamp s letter = stamp_after s.clock letter
 
--- the event has its stamp
-abbrev pub ticked : ServerModel → ℕ → ServerModel
-ticked s stamp = record s { clock = stamp; activity = s.activity + 1 }
+-- the letter may change what is free or who waits
+abbrev pub raises : Message → Bool
+raises tells.Notice = false
+raises (tells.Token t) = false
+raises (tells.Failed t why) = false
+raises tells.Shutdown = false
+raises _ = true
+
+abbrev pub raised : Bool → ℕ → ℕ
+raised true activity = activity + 1
+raised false activity = activity
+
+-- the event has its stamp, and its letter may change what is free or who waits, or may not
+abbrev pub ticked : ServerModel → ℕ → Bool → ServerModel
+ticked s stamp up = record s { clock = stamp; activity = raised up s.activity }
+
+-- the server as it handles the letter
+abbrev pub at_event : ServerModel → Letter → ServerModel
+at_event s letter = ticked s (next_stamp s letter) (raises letter.message)
 
 -- nothing where the letter is not expected: from an actor of this run, with a stamp that was given, as its rule says
 abbrev pub serve : ServerModel → Actor → Letter → Option Served
 serve s from letter =
     if is_within s.config from && nat_lt letter.stamp stamp_limit
-    then option_map (λ list. carried list (ticked s (next_stamp s letter))) (acts (ticked s (next_stamp s letter)) from letter.message)
+    then option_map (λ list. carried list (at_event s letter)) (acts (at_event s letter) from letter.message)
     else None
 
 -- a Finish letter counts as handled where its step failed, too

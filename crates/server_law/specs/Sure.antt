@@ -1,15 +1,22 @@
 -- What is so of a server where it carries out an act: what its rule has found.
-use Rattle.std.specs.Prelude.{◌≡◌, ◌⊎◌, true, false, List, [], ◌∷◌, ◌++◌, length, Any, find, Option, None, Some}
+use Rattle.std.specs.Prelude.{◌≡◌, ◌≢◌, ◌⊎◌, Bool, true, false, List, [], ◌∷◌, ◌++◌, length, Any, find, Option, None, Some}
 use Rattle.std.specs.List.{list_any}
 use Rattle.adlb_unit.specs.declared.actors.Actor.{Actor}
 use Rattle.adlb_unit.specs.declared.messages.Message.{Message}
+use Rattle.adlb_unit.specs.declared.messages.Why.{Why}
+use Rattle.adlb_unit.specs.declared.messages.Why.TheVariants.{Busy}
+use Rattle.adlb_unit.specs.declared.names.Server.{Server}
 use Rattle.adlb_unit.specs.declared.notes.End.{End}
 use Rattle.adlb_unit.specs.declared.notes.End.TheVariants as ends_by
+use Rattle.adlb_unit.specs.declared.tokens.Token.{Token}
 use Rattle.adlb_unit.specs.declared.units.Unit.{Unit as Work}
+use Rattle.exhaust_ring.specs.Expected.{HasComeBack, IsBefore, IsRunning, IsToJudge, IsToMark, IsToTest}
+use Rattle.exhaust_ring.specs.Ring.{MayStart}
+use Rattle.exhaust_ring.specs.Tests.{first_failing, passes}
 use Rattle.work_queue.specs.declared.placing.Placed.{Placed}
 use Rattle.reserve_path.specs.declared.waits.Waiting.{Waiting}
 use Rattle.reserve_path.specs.declared.wishes.Wish.{Wish}
-use Rattle.server_law.specs.Acts.{Accepts, Acks, Act, Answers, Around, Arrives, Asks_on, Cancels, Closes, Counts, Declines, Drops_hint, Ends_keep, Ends_push, Ends_put, Ends_reserve, Ends_try, Fetches, Fetches_part, Finds, Gives, Grants, Grants_try, Hints, Is_hinted, Keeps, Looks, Notes_finish, Parks, Passes_on, Promises, Queries, Refuses, Refuses_part, Refuses_push, Sends_unit, Shuts, Stops_push, Tells, Wakes, Withdraws, around, goes, takes}
+use Rattle.server_law.specs.Acts.{Accepts, Acks, Act, Answers, Around, Arrives, Asks_on, Cancels, Closes, Checks_alone, Counts, Declines, Drops_hint, Ends_keep, Ends_push, Ends_put, Ends_reserve, Ends_try, Fails, Fetches, Fetches_part, Finds, Finds_alone, Gives, Gives_up, Grants, Grants_try, Hears_done, Hears_exhaust, Hears_failed, Hears_shutdown, Hints, Is_hinted, Keeps, Looks, Marks, Notes_finish, Notes_own, Notices, Parks, Passes, Passes_on, Promises, Queries, Refuses, Refuses_part, Refuses_push, Sends_unit, Shuts, Shuts_alone, Starts, Stops_push, Tells, Wakes, Wants, Withdraws, around, fit_among, goes, takes}
 use Rattle.batch_store.specs.Store.{part_in}
 use Rattle.server_law.specs.Asks.{expects_ask}
 use Rattle.server_law.specs.Batches.{can_close, can_fetch, expects_keep}
@@ -19,7 +26,7 @@ use Rattle.server_law.specs.Finding.{best_for, exceeds, has_promise, is_free_as,
 use Rattle.put_path.specs.Pushes.{asks_room, has_sent, query_of}
 use Rattle.server_law.specs.Pushes.{expects_query, expects_unit}
 use Rattle.server_law.specs.Puts.{expects_put, is_over}
-use Rattle.server_law.specs.State.{Kept, ServerModel, debt, runs, runs_at_home}
+use Rattle.server_law.specs.State.{Kept, ServerModel, debt, ring_at, runs, runs_at_home}
 use Rattle.server_law.specs.Step.{acts}
 
 -- who goes waits where the act says
@@ -53,6 +60,21 @@ pub record IsExhausted (s : ServerModel) : Type 0 where
   pub waits : s.kept.parked.waiting ≡ first ∷ behind
   pub unfit : list_any (fits s.kept) s.kept.parked.waiting ≡ false
 
+-- the token has come from the server before this one, which is another
+pub record IsRound (s : ServerModel) (from : Server) : Type 0 where
+  pub before : IsBefore (ring_at s) from
+  pub other : from ≢ s.me
+
+-- each of the tests of a token
+abbrev pub passes_here : ServerModel → Token → Bool
+passes_here s t = passes (is_quiet s) s.kept.ring.mark s.activity (fit_among s.kept t.asked)
+
+-- the first test that fails is this one: in the first wave the only test is that the server is quiet
+abbrev pub IsFailing : ServerModel → Token → Why → Type 0
+IsFailing s t why =
+    (IsToMark (ring_at s) t × (is_quiet s ≡ false) × (why ≡ Busy))
+    ⊎ (IsToTest (ring_at s) t × (first_failing (is_quiet s) s.kept.ring.mark s.activity (fit_among s.kept t.asked) ≡ Some why))
+
 -- what was found before the act
 abbrev pub Sure : Act → ServerModel → Type 0
 Sure (Accepts unit) s = (expects_put s unit.id.rank unit ≡ true) × (s.kept.done ≡ false) × (is_over s.kept.queue unit ≡ false)
@@ -69,7 +91,6 @@ Sure (Counts rank request kind) s = runs_at_home s rank ≡ true
 Sure (Notes_finish rank) s = runs s.kept rank ≡ true
 Sure (Gives at wish rest unit) s = IsFreeFor s.kept unit wish ⊎ IsFound (best_for s.kept wish) unit
 Sure (Tells at wish rest end) s = HasCause s.kept end
-Sure Finds s = IsExhausted s
 Sure (Keeps rank request common) s =
     (expects_keep s rank request common ≡ true) × (s.kept.done ≡ false) × (exceeds s.kept.queue (length common) ≡ false)
 Sure (Refuses_part rank request common) s =
@@ -97,7 +118,23 @@ Sure (Ends_push to id length) s = s.kept.pushing.push ≡ Some (has_sent to id l
 Sure (Arrives from unit) s = expects_unit s.kept unit ≡ true
 Sure (Acks to id) s = s.kept.owed ≡ Some (debt to id)
 Sure (Withdraws from id) s = has_promise id s.kept.queue.promises ≡ true
-Sure Shuts s = s.config.servers ≡ 1
+Sure (Hears_done rank request) s = Unit {0}
+Sure Notices s = (s.me.0 ≢ 0) × (is_quiet s ≡ true)
+Sure Notes_own s = (s.me.0 ≡ 0) × (is_quiet s ≡ true)
+Sure (Wants from) s = s.me.0 ≡ 0
+Sure Starts s = MayStart (ring_at s) (is_quiet s) × (s.config.servers ≢ 1)
+Sure (Marks from t) s = IsRound s from × IsToMark (ring_at s) t × (is_quiet s ≡ true)
+Sure (Passes from t) s = IsRound s from × (HasComeBack (ring_at s) t ⊎ IsToTest (ring_at s) t) × (passes_here s t ≡ true)
+Sure (Fails from t why) s = IsRound s from × IsFailing s t why
+Sure (Gives_up from t) s = IsRunning (ring_at s) t
+Sure (Hears_failed from t why) s = IsRunning (ring_at s) t
+Sure (Finds from t) s = IsToJudge (ring_at s) t × (t.asked ≢ []) × (s.kept.exhausted ≡ false)
+Sure (Shuts from t) s = IsToJudge (ring_at s) t × (t.asked ≡ [])
+Sure (Hears_exhaust from) s = from.0 ≡ 0
+Sure (Hears_shutdown from) s = from.0 ≡ 0
+Sure Finds_alone s = IsExhausted s
+Sure Shuts_alone s = (s.config.servers ≡ 1) × (is_quiet s ≡ true) × (s.kept.parked.waiting ≡ [])
+Sure Checks_alone s = s.config.servers ≡ 1
 
 -- acts of which each is sure where it is carried out
 abbrev pub AreSure : List Act → ServerModel → Type 0

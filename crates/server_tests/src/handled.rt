@@ -3,8 +3,8 @@
 ghost use Rattle.std.specs.Prelude.{◌<◌};
 
 use adlb_unit::{
-    Actor, BatchId, Config, Letter, Message, Payload, Rank, Server, Target, Types, Unit, UnitId,
-    UnitNote, WorkType,
+    Actor, AskedList, BatchId, Config, Letter, Message, Payload, Rank, Server, Target, Token,
+    Types, Unit, UnitId, UnitNote, Why, WorkType,
 };
 use server_core::{LeftUnit, ServerState, Step};
 use std::alloc::Global;
@@ -57,6 +57,9 @@ enum Says {
     PushUnit(u32, u64, usize),
     PushCancel(u32, u64),
     PushAck(u32, u64),
+    // The token of the check of this number and wave, with nobody on its list; and that the run has ended.
+    Token(u64, u8),
+    Shutdown,
 }
 
 // A line of a scene: what is done with the server, or what is asked of it.
@@ -180,6 +183,14 @@ fn message(alloc: Global, says: Says) -> Result<Message, Fail> {
         Says::PushAck(rank, number) => Message::PushAck {
             id: unit_id(rank, number),
         },
+        Says::Token(check, wave) => Message::Token {
+            token: Token {
+                check,
+                wave,
+                asked: AskedList::new(alloc)?,
+            },
+        },
+        Says::Shutdown => Message::Shutdown,
     })
 }
 
@@ -320,8 +331,32 @@ fn push(alloc: Global, message: &Message) -> Result<String, Fail> {
         }
         Message::PushCancel { id } => format!(in alloc; "cancel {} {}", id.rank.0, id.number)?,
         Message::PushAck { id } => format!(in alloc; "ack {} {}", id.rank.0, id.number)?,
+        _ => check(alloc, message)?,
+    })
+}
+
+// A letter of a check, or of an end.
+fn check(alloc: Global, message: &Message) -> Result<String, Fail> {
+    Ok(match message {
+        Message::Notice => format!(in alloc; "notice")?,
+        Message::Token { token } => {
+            format!(in alloc; "token {} in wave {}", token.check, token.wave)?
+        }
+        Message::Failed { token, why } => {
+            format!(in alloc; "failed {} as {}", token.check, reason(why))?
+        }
+        Message::DoneHeard { request } => format!(in alloc; "done heard {request}")?,
+        Message::Ended { request, .. } => format!(in alloc; "ended {request}")?,
         _ => format!(in alloc; "another")?,
     })
+}
+
+fn reason(why: &Why) -> &'static str {
+    match why {
+        Why::Busy => "busy",
+        Why::Changed { .. } => "changed",
+        Why::Fits { .. } => "fits",
+    }
 }
 
 // What a line of a scene gives, as it is shown.
@@ -520,14 +555,21 @@ fn one_of_several_waits_and_is_not_shut(rt: HostRuntime) -> Result<(), Fail> {
             "1, Server(Server(1)) 0 ask 0 0 []",
         ),
         (Line::IsQuiet, "no"),
-        (Line::Answers(SERVER_1, Says::AskNone(0, 0)), "2 []"),
+        // It is quiet, and starts a check.
+        (
+            Line::Answers(SERVER_1, Says::AskNone(0, 0)),
+            "2, Server(Server(1)) 1 token 1 in wave 1 []",
+        ),
         (Line::IsQuiet, "yes"),
     ];
     play(&rt, rt.alloc(), 1, 2, 0, &home)?;
     let other = [
         (Line::IsQuiet, "yes"),
         (Line::Expects(RANK, Says::Reserve(1)), "no"),
-        (Line::Hears(0, Says::Finish), "1 [] []"),
+        (
+            Line::Answers(RANK, Says::Finish),
+            "1, Server(Server(0)) 0 notice []",
+        ),
         (Line::HasEnded, "no"),
     ];
     play(&rt, rt.alloc(), 1, 2, 1, &other)
@@ -571,7 +613,7 @@ fn expects_each_letter_by_its_row(rt: HostRuntime) -> Result<(), Fail> {
         (Line::Expects(RANK, Says::Fetch(2)), "yes"),
         (Line::Expects(RANK, Says::Reserve(2)), "yes"),
         (Line::Expects(RANK, Says::Finish), "yes"),
-        (Line::Expects(RANK, Says::Done(2)), "no"),
+        (Line::Expects(RANK, Says::Done(2)), "yes"),
         (Line::Expects(Actor::Rank(Rank(1)), Says::Finish), "no"),
         (Line::Expects(Actor::Server(Server(0)), Says::Finish), "no"),
         (Line::ExpectsAt(1 << 48), "no"),
@@ -742,11 +784,14 @@ fn asks_until_a_server_grants(rt: HostRuntime) -> Result<(), Fail> {
             Line::Answers(SERVER_1, Says::AskNone(0, 0)),
             "2, Server(Server(2)) 0 ask 0 0 []",
         ),
-        (Line::Answers(SERVER_2, Says::AskNone(0, 0)), "3 []"),
+        (
+            Line::Answers(SERVER_2, Says::AskNone(0, 0)),
+            "3, Server(Server(1)) 1 token 1 in wave 1 []",
+        ),
         // Server 1 hints, and is asked again; the hint of server 2 waits for its answer.
         (
             Line::Answers(SERVER_1, Says::Hint(0, 0)),
-            "4, Server(Server(1)) 1 ask 0 0 []",
+            "4, Server(Server(1)) 2 ask 0 0 []",
         ),
         (Line::Answers(SERVER_2, Says::Hint(0, 0)), "5 []"),
         (
@@ -960,15 +1005,18 @@ fn a_unit_that_comes_is_settled_and_then_acknowledged(rt: HostRuntime) -> Result
             Line::Answers(RANK_1, Says::Reserve(0)),
             "1, Server(Server(0)) 0 ask 1 0 []",
         ),
-        (Line::Answers(SERVER_0, Says::AskNone(1, 0)), "2 []"),
+        (
+            Line::Answers(SERVER_0, Says::AskNone(1, 0)),
+            "2, Server(Server(0)) 1 notice []",
+        ),
         (
             Line::Answers(SERVER_0, Says::PushQuery(0, 0, 2)),
-            "3, Server(Server(0)) 1 yes 0 0 \
+            "3, Server(Server(0)) 2 yes 0 0, Server(Server(0)) 3 notice \
                 [Promised { server: Server(1), id: UnitId { rank: Rank(0), number: 0 }, length: 2 }]",
         ),
         (
             Line::Answers(SERVER_0, Says::PushUnit(0, 0, 2)),
-            "4, Rank(Rank(1)) 0 granted 0 at 1, Server(Server(0)) 2 ack 0 0 \
+            "4, Rank(Rank(1)) 0 granted 0 at 1, Server(Server(0)) 4 ack 0 0 \
                 [Arrived { server: Server(1), id: UnitId { rank: Rank(0), number: 0 } }, \
                 Granted { server: Server(1), rank: Rank(1), call: 0, id: UnitId { rank: Rank(0), number: 0 } }]",
         ),
@@ -991,6 +1039,65 @@ fn a_unit_that_comes_is_settled_and_then_acknowledged(rt: HostRuntime) -> Result
         ),
     ];
     play(&rt, rt.alloc(), 3, 3, 1, &wished)
+}
+
+#[test]
+fn who_is_idle_is_told_that_the_problem_is_done(rt: HostRuntime) -> Result<(), Fail> {
+    let scene = [
+        (Line::Answers(RANK_1, Says::Reserve(0)), "1 []"),
+        (
+            Line::Answers(RANK, Says::Done(0)),
+            "2, Rank(Rank(0)) 0 done heard 0, Rank(Rank(1)) 0 ended 0 \
+                [Over { rank: Rank(1), call: 0, end: NoMoreWork }]",
+        ),
+        (
+            Line::Answers(RANK, Says::Reserve(1)),
+            "3, Rank(Rank(0)) 1 ended 1 [Over { rank: Rank(0), call: 1, end: NoMoreWork }]",
+        ),
+    ];
+    play(&rt, rt.alloc(), 2, 1, 0, &scene)
+}
+
+#[test]
+fn a_token_goes_on_where_the_server_is_quiet(rt: HostRuntime) -> Result<(), Fail> {
+    let scene = [
+        (Line::Expects(SERVER_0, Says::Token(1, 2)), "no"),
+        (
+            Line::Answers(SERVER_0, Says::Token(1, 1)),
+            "1, Server(Server(0)) 0 failed 1 as busy []",
+        ),
+        (
+            Line::Answers(RANK_1, Says::Finish),
+            "2, Server(Server(0)) 1 notice []",
+        ),
+        (
+            Line::Answers(SERVER_0, Says::Token(2, 1)),
+            "3, Server(Server(0)) 2 token 2 in wave 1 []",
+        ),
+        (Line::Expects(SERVER_0, Says::Token(2, 1)), "no"),
+        (
+            Line::Answers(SERVER_0, Says::Token(2, 2)),
+            "4, Server(Server(0)) 3 token 2 in wave 2 []",
+        ),
+        (Line::Expects(SERVER_0, Says::Token(2, 2)), "no"),
+        // Another rank's Finish comes between the two waves.
+        (
+            Line::Answers(SERVER_0, Says::Token(3, 1)),
+            "5, Server(Server(0)) 4 token 3 in wave 1 []",
+        ),
+        (
+            Line::Answers(RANK, Says::Finish),
+            "6, Server(Server(0)) 5 notice []",
+        ),
+        (
+            Line::Answers(SERVER_0, Says::Token(3, 2)),
+            "7, Server(Server(0)) 6 failed 3 as changed []",
+        ),
+        (Line::HasEnded, "no"),
+        (Line::Answers(SERVER_0, Says::Shutdown), "8 []"),
+        (Line::HasEnded, "yes"),
+    ];
+    play(&rt, rt.alloc(), 2, 2, 1, &scene)
 }
 
 #[test]

@@ -100,8 +100,8 @@ returns-then-self-clause-room c =
     let more = subst (λ u. HasRoom u c.args.out.now 4) (sym seat) (gone_room s c.args.out.now from rank request p.0 p.1 i.queue room) in
     room_less c.end_call.new.self c.end_call.new.out 3 1 (omega arith) (c.end_call.ensures.room 3 more)
 
-pub remote_end-requires-then-self-2 : goal.remote_end-requires-then-self-2
-remote_end-requires-then-self-2 c =
+pub remote_end-requires-then-is_exhausted : goal.remote_end-requires-then-is_exhausted
+remote_end-requires-then-is_exhausted c =
     let i = c.self.inside in
     let s = state_of i in
     let once = c.self.invariant.sound.parked.once in
@@ -114,14 +114,14 @@ remote_end-requires-then-self-2 c =
     let P : ParkedModel → Type 0 = λ m. is_pending m rank ≡ true in
     subst P (sym (seen i c.self.invariant)) (asked_pending s once from rank request unanswered)
 
-pub invariant_of-self-then-self-2 : goal.invariant_of-self-then-self-2
-invariant_of-self-then-self-2 c =
+pub invariant_of-self-then-is_exhausted : goal.invariant_of-self-then-is_exhausted
+invariant_of-self-then-is_exhausted c =
     let i = c.self.inside in
-    closes i c.self.invariant c.remote_end-then-self-2.new.self (gone i.parked c.args.rank) i.queue i.queue c.remote_end-then-self-2.ensures
+    closes i c.self.invariant c.remote_end-then-is_exhausted.new.self (gone i.parked c.args.rank) i.queue i.queue c.remote_end-then-is_exhausted.ensures
     (gone_stays i.parked (parked_is i c.self.invariant) c.args.rank) refl (same_pins i.queue)
 
-pub end_call-requires-then-self-2-clause-rank : goal.end_call-requires-then-self-2-clause-rank
-end_call-requires-then-self-2-clause-rank c =
+pub end_call-requires-then-is_exhausted-clause-rank : goal.end_call-requires-then-is_exhausted-clause-rank
+end_call-requires-then-is_exhausted-clause-rank c =
     let i = c.self.inside in
     let s = state_of i in
     let once = c.self.invariant.sound.parked.once in
@@ -133,8 +133,8 @@ end_call-requires-then-self-2-clause-rank c =
     let p = asked_for s once from rank request unanswered in
     asked_within s from rank request p.0 p.1 c.self.invariant.sound.parked
 
-pub returns-then-self-2-clause-made : goal.returns-then-self-2-clause-made
-returns-then-self-2-clause-made c =
+pub returns-then-is_exhausted-clause-made : goal.returns-then-is_exhausted-clause-made
+returns-then-is_exhausted-clause-made c =
     let i = c.self.inside in
     let s = state_of i in
     let once = c.self.invariant.sound.parked.once in
@@ -144,22 +144,22 @@ returns-then-self-2-clause-made c =
     let some = subst (λ t. IsSome (none_rule t c.args.from c.args.rank c.args.request)) (sym c.self.view_is) c.requires.expected in
     let unanswered = (server_rule_awaited s from (tells.AskNone rank request)).0 some in
     let p = asked_for s once from rank request unanswered in
-    let n = c.remote_end-then-self-2.new.self in
-    let left = made_of i c.self.invariant (λ m. gone m rank) n c.remote_end-then-self-2.ensures in
+    let n = c.remote_end-then-is_exhausted.new.self in
+    let left = made_of i c.self.invariant (λ m. gone m rank) n c.remote_end-then-is_exhausted.ensures in
     let seat = seat_gone s c.args.out.now from rank request p.0 p.1 n.parked i.queue i.queue left refl in
-    let t = c.end_call-then-self-2.new.self in
-    let last = c.end_call-then-self-2.new.out in
+    let t = c.end_call-then-is_exhausted.new.self in
+    let last = c.end_call-then-is_exhausted.new.out in
     let over = enters.Over rank request ends_by.Exhausted in
-    let after = c.end_call-then-self-2.ensures.counted ∙ ap (λ v. counted v (by.Rank rank)) seat in
-    let told = c.end_call-then-self-2.ensures.told
+    let after = c.end_call-then-is_exhausted.ensures.counted ∙ ap (λ v. counted v (by.Rank rank)) seat in
+    let told = c.end_call-then-is_exhausted.ensures.told
     ∙ ap (λ v. with_answer c.args.out.now (posted v (to_rank rank (tells.Ended request ends_by.Exhausted))) over) seat in
     let best = best_at s.kept p.0.here.wish in
     let tell = λ (d e : Bool). look_again d e best p.0.at p.0.here.wish p.0.here.to_ask in
     let G : ServerModel → Type 0 = λ u. (q : Plan) → none_rule u from rank request ≡ Some q → made t last ≡ planned c.args.out.now q u in
-    subst G c.self.view_is (none_ends s c.args.out.now from rank request p.0 p.1 ends_by.Exhausted (ap (λ d. tell d s.kept.exhausted) c.if-self.false ∙ ap (λ e. tell false e) c.if-self-2.true) t last after told)
+    subst G c.self.view_is (none_ends s c.args.out.now from rank request p.0 p.1 ends_by.Exhausted (ap (λ d. tell d s.kept.exhausted) c.if-self.false ∙ ap (λ e. tell false e) (sym c.is_exhausted.ensures ∙ c.if-is_exhausted.true)) t last after told)
 
-pub returns-then-self-2-clause-room : goal.returns-then-self-2-clause-room
-returns-then-self-2-clause-room c =
+pub returns-then-is_exhausted-clause-room : goal.returns-then-is_exhausted-clause-room
+returns-then-is_exhausted-clause-room c =
     let i = c.self.inside in
     let s = state_of i in
     let once = c.self.invariant.sound.parked.once in
@@ -169,12 +169,12 @@ returns-then-self-2-clause-room c =
     let some = subst (λ t. IsSome (none_rule t c.args.from c.args.rank c.args.request)) (sym c.self.view_is) c.requires.expected in
     let unanswered = (server_rule_awaited s from (tells.AskNone rank request)).0 some in
     let p = asked_for s once from rank request unanswered in
-    let n = c.remote_end-then-self-2.new.self in
-    let left = made_of i c.self.invariant (λ m. gone m rank) n c.remote_end-then-self-2.ensures in
+    let n = c.remote_end-then-is_exhausted.new.self in
+    let left = made_of i c.self.invariant (λ m. gone m rank) n c.remote_end-then-is_exhausted.ensures in
     let seat = seat_gone s c.args.out.now from rank request p.0 p.1 n.parked i.queue i.queue left refl in
     let room = subst (λ u. HasRoom u c.args.out.now 3) (sym c.self.view_is) c.requires.room in
     let more = subst (λ u. HasRoom u c.args.out.now 4) (sym seat) (gone_room s c.args.out.now from rank request p.0 p.1 i.queue room) in
-    room_less c.end_call-then-self-2.new.self c.end_call-then-self-2.new.out 3 1 (omega arith) (c.end_call-then-self-2.ensures.room 3 more)
+    room_less c.end_call-then-is_exhausted.new.self c.end_call-then-is_exhausted.new.out 3 1 (omega arith) (c.end_call-then-is_exhausted.ensures.room 3 more)
 
 pub remote_none-requires : goal.remote_none-requires
 remote_none-requires c =
@@ -278,9 +278,9 @@ ask-requires-clause-waits c =
     let best : best_at s.kept e.wish ≡ o = ap (λ r. best_for i.queue r e.wish.types) p.1.rank_is in
     let step = sym c.in-Ask.is ∙ c.remote_none.ensures.step e found ∙ ap (λ (k : ParkedModel). step_for k.me o e.to_ask) (seen i c.self.invariant) in
     let told = ask_told i.me o e.to_ask c.in-Ask.to step in
-    let seat = seat_asked s c.args.out.now from rank request p.0 p.1 c.if-self.false c.if-self-2.false o best told.0 n.parked queue left pinned in
+    let seat = seat_asked s c.args.out.now from rank request p.0 p.1 c.if-self.false (sym c.is_exhausted.ensures ∙ c.if-is_exhausted.false) o best told.0 n.parked queue left pinned in
     let v = with_parked s queue n.parked in
-    let wants = seat_wants s c.args.out.now from rank request p.0 p.1 c.if-self.false c.if-self-2.false o best told.0 c.in-Ask.to told.1 told.2 v seat in
+    let wants = seat_wants s c.args.out.now from rank request p.0 p.1 c.if-self.false (sym c.is_exhausted.ensures ∙ c.if-is_exhausted.false) o best told.0 c.in-Ask.to told.1 told.2 v seat in
     waits_by v rank (awaiting e.wish c.in-Ask.to told.1) wants
 
 pub returns-in-Granted-clause-made : goal.returns-in-Granted-clause-made
@@ -317,7 +317,7 @@ returns-in-Granted-clause-made c =
     let told = c.grant.ensures.told ∙ ap (λ w. with_answer c.args.out.now (posted w (letter c.in-Granted.note)) (entry c.in-Granted.note)) seat
     ∙ ap (λ k. with_answer c.args.out.now (posted v (letter k)) (entry k)) unit.2 in
     let G : ServerModel → Type 0 = λ u. (q : Plan) → none_rule u from rank request ≡ Some q → made t last ≡ planned c.args.out.now q u in
-    subst G c.self.view_is (none_gives s c.args.out.now from rank request p.0 p.1 c.if-self.false c.if-self-2.false o best unit.0 unit.1 t last now told)
+    subst G c.self.view_is (none_gives s c.args.out.now from rank request p.0 p.1 c.if-self.false (sym c.is_exhausted.ensures ∙ c.if-is_exhausted.false) o best unit.0 unit.1 t last now told)
 
 pub returns-in-Granted-clause-room : goal.returns-in-Granted-clause-room
 returns-in-Granted-clause-room c =
@@ -369,11 +369,11 @@ returns-in-Ask-clause-made c =
     let best : best_at s.kept e.wish ≡ o = ap (λ r. best_for i.queue r e.wish.types) p.1.rank_is in
     let step = sym c.in-Ask.is ∙ c.remote_none.ensures.step e found ∙ ap (λ (k : ParkedModel). step_for k.me o e.to_ask) (seen i c.self.invariant) in
     let told = ask_told i.me o e.to_ask c.in-Ask.to step in
-    let seat = seat_asked s c.args.out.now from rank request p.0 p.1 c.if-self.false c.if-self-2.false o best told.0 n.parked queue left pinned in
+    let seat = seat_asked s c.args.out.now from rank request p.0 p.1 c.if-self.false (sym c.is_exhausted.ensures ∙ c.if-is_exhausted.false) o best told.0 n.parked queue left pinned in
     let v = with_parked s queue n.parked in
     let G : ServerModel → Type 0 = λ u. (q : Plan) → none_rule u from rank request ≡ Some q → made c.ask.new.self c.ask.new.out ≡ planned c.args.out.now q u in
     subst G c.self.view_is
-    (none_asks s c.args.out.now from rank request p.0 p.1 c.if-self.false c.if-self-2.false o best told.0 c.in-Ask.to told.1 told.2 v seat c.ask.new.self c.ask.new.out c.ask.ensures.counted c.ask.ensures.told)
+    (none_asks s c.args.out.now from rank request p.0 p.1 c.if-self.false (sym c.is_exhausted.ensures ∙ c.if-is_exhausted.false) o best told.0 c.in-Ask.to told.1 told.2 v seat c.ask.new.self c.ask.new.out c.ask.ensures.counted c.ask.ensures.told)
 
 pub returns-in-Ask-clause-room : goal.returns-in-Ask-clause-room
 returns-in-Ask-clause-room c =
@@ -396,9 +396,9 @@ returns-in-Ask-clause-room c =
     let best : best_at s.kept e.wish ≡ o = ap (λ r. best_for i.queue r e.wish.types) p.1.rank_is in
     let step = sym c.in-Ask.is ∙ c.remote_none.ensures.step e found ∙ ap (λ (k : ParkedModel). step_for k.me o e.to_ask) (seen i c.self.invariant) in
     let told = ask_told i.me o e.to_ask c.in-Ask.to step in
-    let seat = seat_asked s c.args.out.now from rank request p.0 p.1 c.if-self.false c.if-self-2.false o best told.0 n.parked queue left pinned in
+    let seat = seat_asked s c.args.out.now from rank request p.0 p.1 c.if-self.false (sym c.is_exhausted.ensures ∙ c.if-is_exhausted.false) o best told.0 n.parked queue left pinned in
     let room = subst (λ u. HasRoom u c.args.out.now 3) (sym c.self.view_is) c.requires.room in
-    let more = subst (λ u. HasRoom u c.args.out.now 3) (sym seat) (asked_room s c.args.out.now from rank request p.0 p.1 c.if-self.false c.if-self-2.false o best room) in
+    let more = subst (λ u. HasRoom u c.args.out.now 3) (sym seat) (asked_room s c.args.out.now from rank request p.0 p.1 c.if-self.false (sym c.is_exhausted.ensures ∙ c.if-is_exhausted.false) o best room) in
     room_less c.ask.new.self c.ask.new.out 2 1 (omega arith) (c.ask.ensures.room 2 more)
 
 pub returns-in-Idle-clause-made : goal.returns-in-Idle-clause-made
@@ -422,10 +422,10 @@ returns-in-Idle-clause-made c =
     let best : best_at s.kept e.wish ≡ o = ap (λ r. best_for i.queue r e.wish.types) p.1.rank_is in
     let step = sym c.in-Idle.is ∙ c.remote_none.ensures.step e found ∙ ap (λ (k : ParkedModel). step_for k.me o e.to_ask) (seen i c.self.invariant) in
     let told = idle_left i.me o e.to_ask step in
-    let seat = seat_asked s c.args.out.now from rank request p.0 p.1 c.if-self.false c.if-self-2.false o best told.0 n.parked queue left pinned in
+    let seat = seat_asked s c.args.out.now from rank request p.0 p.1 c.if-self.false (sym c.is_exhausted.ensures ∙ c.if-is_exhausted.false) o best told.0 n.parked queue left pinned in
     let v = with_parked s queue n.parked in
     let G : ServerModel → Type 0 = λ u. (q : Plan) → none_rule u from rank request ≡ Some q → made v c.args.out.now ≡ planned c.args.out.now q u in
-    subst G c.self.view_is (none_idle s c.args.out.now from rank request p.0 p.1 c.if-self.false c.if-self-2.false o best told.0 told.1 v seat)
+    subst G c.self.view_is (none_idle s c.args.out.now from rank request p.0 p.1 c.if-self.false (sym c.is_exhausted.ensures ∙ c.if-is_exhausted.false) o best told.0 told.1 v seat)
 
 pub returns-in-Idle-clause-room : goal.returns-in-Idle-clause-room
 returns-in-Idle-clause-room c =
@@ -448,7 +448,7 @@ returns-in-Idle-clause-room c =
     let best : best_at s.kept e.wish ≡ o = ap (λ r. best_for i.queue r e.wish.types) p.1.rank_is in
     let step = sym c.in-Idle.is ∙ c.remote_none.ensures.step e found ∙ ap (λ (k : ParkedModel). step_for k.me o e.to_ask) (seen i c.self.invariant) in
     let told = idle_left i.me o e.to_ask step in
-    let seat = seat_asked s c.args.out.now from rank request p.0 p.1 c.if-self.false c.if-self-2.false o best told.0 n.parked queue left pinned in
+    let seat = seat_asked s c.args.out.now from rank request p.0 p.1 c.if-self.false (sym c.is_exhausted.ensures ∙ c.if-is_exhausted.false) o best told.0 n.parked queue left pinned in
     let room = subst (λ u. HasRoom u c.args.out.now 3) (sym c.self.view_is) c.requires.room in
-    let more = subst (λ u. HasRoom u c.args.out.now 3) (sym seat) (asked_room s c.args.out.now from rank request p.0 p.1 c.if-self.false c.if-self-2.false o best room) in
+    let more = subst (λ u. HasRoom u c.args.out.now 3) (sym seat) (asked_room s c.args.out.now from rank request p.0 p.1 c.if-self.false (sym c.is_exhausted.ensures ∙ c.if-is_exhausted.false) o best room) in
     room_less (with_parked s queue n.parked) c.args.out.now 3 1 (omega arith) more

@@ -1,49 +1,30 @@
-use Rattle.std.proofs.Common.{◌≡◌, true, false, ◌&&◌, ◌+◌, sym, ap, ◌∙◌, arith}
-use Rattle.server_law.specs.Endings.{is_quiet, rests}
+use Rattle.std.proofs.Common.{Bool, not, ap, sym, ◌∙◌}
+use Rattle.std.specs.Prelude.{is_some}
 use Rattle.server_law.specs.State.{ServerModel}
-use Rattle.server_core.proofs.Quiet.{quiet_tells, rest_all, rest_from, rest_next, rest_none}
+use Rattle.server_core.proofs.Quiet.{going_unquiet, quiet_tells, rests_quiet}
 use Rattle.server_core.proofs.states.ServerState.is_quiet.Goals as goal
 
-pub loop-number-init : goal.loop-number-init
-loop-number-init c =
-    let same = ap (λ (s : ServerModel). s.config.ranks) c.self.view_is in
-    record { left = ap (λ n. rest_from c.args.self.now n 0) same ∙ rest_all c.args.self.now; end = same }
+abbrev pushes : ServerModel → Bool
+pushes s = is_some s.kept.pushing.push
 
--- a rank that does not rest
-one_runs : (c : goal.Then-not-rests) → false ≡ is_quiet c.args.self.now
-one_runs c =
-    let s = c.args.self.now in
-    let end = c.self.inside.config.ranks in
-    let runs : rests s (record { 0 = c.loop-number.number }) ≡ false = sym c.rests.ensures ∙ c.if-not-rests.true in
-    sym (ap (λ b. b && rest_from s end (c.loop-number.number + 1)) runs)
-    ∙ sym (rest_next s end c.loop-number.number c.loop-number-test.true) ∙ c.loop-number.invariant.left
+pub returns-then-not-going-clause-test : goal.returns-then-not-going-clause-test
+returns-then-not-going-clause-test c =
+    c.all_rest.ensures
+    ∙ rests_quiet c.args.self.now (sym (ap pushes c.self.view_is) ∙ sym c.going.ensures.stands ∙ c.if-not-going.true)
 
-pub returns-then-not-rests-clause-quiet : goal.returns-then-not-rests-clause-quiet
-returns-then-not-rests-clause-quiet c = quiet_tells c.args.self.now false (one_runs c)
+pub returns-then-not-going-clause-quiet : goal.returns-then-not-going-clause-quiet
+returns-then-not-going-clause-quiet c =
+    quiet_tells c.args.self.now c.all_rest.result
+    (c.all_rest.ensures
+    ∙ rests_quiet c.args.self.now (sym (ap pushes c.self.view_is) ∙ sym c.going.ensures.stands ∙ c.if-not-going.true))
 
-pub returns-then-not-rests-clause-test : goal.returns-then-not-rests-clause-test
-returns-then-not-rests-clause-test c = one_runs c
+pub returns-else-not-going-clause-test : goal.returns-else-not-going-clause-test
+returns-else-not-going-clause-test c =
+    ap not c.if-not-going.false
+    ∙ going_unquiet c.args.self.now (sym (ap pushes c.self.view_is) ∙ sym c.going.ensures.stands ∙ c.if-not-going.false)
 
-pub loop-number-preserved : goal.loop-number-preserved
-loop-number-preserved c =
-    let s = c.args.self.now in
-    let end = c.self.inside.config.ranks in
-    let rest : rests s (record { 0 = c.loop-number.number }) ≡ true = sym c.rests.ensures ∙ c.if-not-rests.false in
-    record {
-      left = sym (ap (λ b. b && rest_from s end (c.loop-number.number + 1)) rest)
-          ∙ sym (rest_next s end c.loop-number.number c.loop-number-test.true) ∙ c.loop-number.invariant.left;
-      end = c.loop-number.invariant.end;
-    }
-
-all_rest : (c : goal.After-loop-number) → true ≡ is_quiet c.args.self.now
-all_rest c =
-    let s = c.args.self.now in
-    let end = c.self.inside.config.ranks in
-    let last : c.loop-number.number ≡ end = omega arith in
-    sym (rest_none s end) ∙ ap (λ n. rest_from s end n) (sym last) ∙ c.loop-number.invariant.left
-
-pub returns-clause-quiet : goal.returns-clause-quiet
-returns-clause-quiet c = quiet_tells c.args.self.now true (all_rest c)
-
-pub returns-clause-test : goal.returns-clause-test
-returns-clause-test c = all_rest c
+pub returns-else-not-going-clause-quiet : goal.returns-else-not-going-clause-quiet
+returns-else-not-going-clause-quiet c =
+    quiet_tells c.args.self.now (not c.going.result)
+    (ap not c.if-not-going.false
+    ∙ going_unquiet c.args.self.now (sym (ap pushes c.self.view_is) ∙ sym c.going.ensures.stands ∙ c.if-not-going.false))

@@ -35,21 +35,21 @@ returns-then-self-clause-made c =
     (c.end_call.ensures.counted ∙ ap (λ u. counted u (by.Rank c.args.from)) (sym c.self.view_is))
     (c.end_call.ensures.told ∙ ap (λ u. with_answer c.args.out.now (posted u (to_rank c.args.from (tells.Ended c.args.request ends_by.NoMoreWork))) (enters.Over c.args.from c.args.request ends_by.NoMoreWork)) (sym c.self.view_is)))
 
-pub returns-then-self-2-clause-made : goal.returns-then-self-2-clause-made
-returns-then-self-2-clause-made c =
+pub returns-then-is_exhausted-clause-made : goal.returns-then-is_exhausted-clause-made
+returns-then-is_exhausted-clause-made c =
     let i = c.self.inside in
     let s = state_of i in
     let wish : Wish = record { rank = c.args.from; request = c.args.request; types = c.args.types.now } in
     let expected = runs_here s wish (subst (λ t. IsSome (reserve_rule t wish)) (sym c.self.view_is) c.requires.expected) in
-    let t = c.end_call-then-self-2.new.self in
-    let last = c.end_call-then-self-2.new.out in
+    let t = c.end_call-then-is_exhausted.new.self in
+    let last = c.end_call-then-is_exhausted.new.out in
     let G : ServerModel → Type 0 = λ u. (q : Plan) → reserve_rule u wish ≡ Some q → made t last ≡ planned c.args.out.now q u in
     let now = ap (λ d. reserve d s.kept.exhausted (best_for i.queue c.args.from c.args.types.now) wish) c.if-self.false
-    ∙ ap (λ e. reserve false e (best_for i.queue c.args.from c.args.types.now) wish) c.if-self-2.true in
+    ∙ ap (λ e. reserve false e (best_for i.queue c.args.from c.args.types.now) wish) (sym c.is_exhausted.ensures ∙ c.if-is_exhausted.true) in
     subst G c.self.view_is
     (ends_goes s c.args.out.now wish expected ends_by.Exhausted now t last
-    (c.end_call-then-self-2.ensures.counted ∙ ap (λ u. counted u (by.Rank c.args.from)) (sym c.self.view_is))
-    (c.end_call-then-self-2.ensures.told ∙ ap (λ u. with_answer c.args.out.now (posted u (to_rank c.args.from (tells.Ended c.args.request ends_by.Exhausted))) (enters.Over c.args.from c.args.request ends_by.Exhausted)) (sym c.self.view_is)))
+    (c.end_call-then-is_exhausted.ensures.counted ∙ ap (λ u. counted u (by.Rank c.args.from)) (sym c.self.view_is))
+    (c.end_call-then-is_exhausted.ensures.told ∙ ap (λ u. with_answer c.args.out.now (posted u (to_rank c.args.from (tells.Ended c.args.request ends_by.Exhausted))) (enters.Over c.args.from c.args.request ends_by.Exhausted)) (sym c.self.view_is)))
 
 pub invariant_of-self : goal.invariant_of-self
 invariant_of-self c =
@@ -114,7 +114,7 @@ returns-in-Granted-clause-made c =
     let step = c.in-Granted.ensures.step ∙ ap (λ (k : ParkedModel). step_for k.me o (others k.config k.me)) (seen i c.self.invariant) in
     let G : ServerModel → Type 0 = λ u. (q : Plan) → reserve_rule u wish ≡ Some q → made c.grant.new.self c.grant.new.out ≡ planned c.args.out.now q u in
     subst G c.self.view_is
-    (grants_goes s c.args.out.now wish expected c.if-self.false c.if-self-2.false o refl n.parked c.reserve.new.queue seats c.reserve.ensures.queue
+    (grants_goes s c.args.out.now wish expected c.if-self.false (sym c.is_exhausted.ensures ∙ c.if-is_exhausted.false) o refl n.parked c.reserve.new.queue seats c.reserve.ensures.queue
     c.in-Granted.note step c.grant.new.self c.grant.new.out c.grant.ensures.counted c.grant.ensures.told)
 
 pub returns-in-Granted-clause-room : goal.returns-in-Granted-clause-room
@@ -128,7 +128,7 @@ returns-in-Granted-clause-room c =
     let seats = made_of i c.self.invariant (λ m. reserved m wish o) n c.reserve.ensures.parked in
     let step = c.in-Granted.ensures.step ∙ ap (λ (k : ParkedModel). step_for k.me o (others k.config k.me)) (seen i c.self.invariant) in
     let room = subst (λ u. HasRoom u c.args.out.now 3) (sym c.self.view_is) c.requires.room in
-    let left = c.grant.ensures.room 2 (grants_room s c.args.out.now wish expected c.if-self.false c.if-self-2.false o refl n.parked c.reserve.new.queue seats c.reserve.ensures.queue
+    let left = c.grant.ensures.room 2 (grants_room s c.args.out.now wish expected c.if-self.false (sym c.is_exhausted.ensures ∙ c.if-is_exhausted.false) o refl n.parked c.reserve.new.queue seats c.reserve.ensures.queue
     c.in-Granted.note step room) in
     record { tells = omega (arith, left.tells); places = left.places }
 
@@ -144,7 +144,7 @@ returns-in-Ask-clause-made c =
     let step = c.in-Ask.ensures.step ∙ ap (λ (k : ParkedModel). step_for k.me o (others k.config k.me)) (seen i c.self.invariant) in
     let G : ServerModel → Type 0 = λ u. (q : Plan) → reserve_rule u wish ≡ Some q → made c.ask.new.self c.ask.new.out ≡ planned c.args.out.now q u in
     subst G c.self.view_is
-    (asks_goes s c.args.out.now wish expected c.if-self.false c.if-self-2.false o refl n.parked c.reserve.new.queue seats c.reserve.ensures.queue
+    (asks_goes s c.args.out.now wish expected c.if-self.false (sym c.is_exhausted.ensures ∙ c.if-is_exhausted.false) o refl n.parked c.reserve.new.queue seats c.reserve.ensures.queue
     c.in-Ask.to step c.ask.new.self c.ask.new.out c.ask.ensures.counted c.ask.ensures.told)
 
 pub returns-in-Ask-clause-room : goal.returns-in-Ask-clause-room
@@ -159,7 +159,7 @@ returns-in-Ask-clause-room c =
     let step = c.in-Ask.ensures.step ∙ ap (λ (k : ParkedModel). step_for k.me o (others k.config k.me)) (seen i c.self.invariant) in
     let room = subst (λ u. HasRoom u c.args.out.now 3) (sym c.self.view_is) c.requires.room in
     let nothing = (ask_told i.me o (others i.config i.me) c.in-Ask.to step).0 in
-    c.ask.ensures.room 1 (waits_room s c.args.out.now wish expected c.if-self.false c.if-self-2.false o refl n.parked c.reserve.new.queue seats c.reserve.ensures.queue nothing room)
+    c.ask.ensures.room 1 (waits_room s c.args.out.now wish expected c.if-self.false (sym c.is_exhausted.ensures ∙ c.if-is_exhausted.false) o refl n.parked c.reserve.new.queue seats c.reserve.ensures.queue nothing room)
 
 pub returns-in-Idle-clause-made : goal.returns-in-Idle-clause-made
 returns-in-Idle-clause-made c =
@@ -174,7 +174,7 @@ returns-in-Idle-clause-made c =
     let v = with_parked s c.reserve.new.queue n.parked in
     let G : ServerModel → Type 0 = λ u. (q : Plan) → reserve_rule u wish ≡ Some q → made v c.args.out.now ≡ planned c.args.out.now q u in
     subst G c.self.view_is
-    (idle_goes s c.args.out.now wish expected c.if-self.false c.if-self-2.false o refl n.parked c.reserve.new.queue seats c.reserve.ensures.queue step)
+    (idle_goes s c.args.out.now wish expected c.if-self.false (sym c.is_exhausted.ensures ∙ c.if-is_exhausted.false) o refl n.parked c.reserve.new.queue seats c.reserve.ensures.queue step)
 
 pub returns-in-Idle-clause-room : goal.returns-in-Idle-clause-room
 returns-in-Idle-clause-room c =
@@ -188,5 +188,5 @@ returns-in-Idle-clause-room c =
     let step = c.in-Idle.ensures.step ∙ ap (λ (k : ParkedModel). step_for k.me o (others k.config k.me)) (seen i c.self.invariant) in
     let room = subst (λ u. HasRoom u c.args.out.now 3) (sym c.self.view_is) c.requires.room in
     let nothing = (idle_left i.me o (others i.config i.me) step).0 in
-    let left = waits_room s c.args.out.now wish expected c.if-self.false c.if-self-2.false o refl n.parked c.reserve.new.queue seats c.reserve.ensures.queue nothing room in
+    let left = waits_room s c.args.out.now wish expected c.if-self.false (sym c.is_exhausted.ensures ∙ c.if-is_exhausted.false) o refl n.parked c.reserve.new.queue seats c.reserve.ensures.queue nothing room in
     record { tells = omega (arith, left.tells); places = left.places }

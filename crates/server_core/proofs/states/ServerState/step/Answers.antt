@@ -1,7 +1,11 @@
-use Rattle.std.proofs.Common.{ℕ, ◌≡◌, ◌≤◌, ◌+◌, ◌*◌, length, sym, ap, ◌∙◌, arith}
+use Rattle.std.proofs.Common.{ℕ, ◌≡◌, ◌≤◌, ◌+◌, ◌*◌, false, length, max, Some, Result, Ok, Err, sym, ap, ◌∙◌, subst, arith}
+use Rattle.std.specs.Option.{option_map}
+use Rattle.std.specs.Result.{OnOk, is_err}
 use Rattle.std.proofs.lemmas.List.Elements.{All-weaker}
 use Rattle.server_law.specs.State.{ServerModel}
-use Rattle.server_core.specs.Out.{Out, event_letters}
+use Rattle.server_law.specs.Step.{acts, at_event, next_stamp, ticked}
+use Rattle.server_core.specs.Out.{Out, event_letters, going_on, made}
+use Rattle.server_core.proofs.Going.{serves}
 use Rattle.server_core.proofs.Sounds.{counts_within}
 use Rattle.server_core.proofs.states.ServerState.step.Goals as goal
 
@@ -26,7 +30,7 @@ handle-requires-clause-room c =
     let wishes : ServerModel → ℕ = λ t. length t.kept.parked.wishes in
     let same = ap waiting c.tick.ensures.ticked ∙ ap waiting (sym c.self.view_is) in
     let same_wishes = ap wishes c.tick.ensures.ticked ∙ ap wishes (sym c.self.view_is) in
-    let room : c.in-Ok.out.room ≡ c.counts-waiting.result.0 + c.counts-waiting.result.1 + 3 = ap (λ (o : Out). o.room) c.in-Ok.ensures in
+    let room : c.in-Ok.out.room ≡ c.counts-waiting.result.0 + c.counts-waiting.result.1 + 9 = ap (λ (o : Out). o.room) c.in-Ok.ensures in
     let all = event_letters * c.tick.new.self.clock in
     let Before : ℕ → Type 0 = λ n. n + event_letters ≤ all in
     let Now : ℕ → Type 0 = λ n. n + c.in-Ok.out.room ≤ all in
@@ -35,3 +39,25 @@ handle-requires-clause-room c =
       places = All-weaker Before Now
           (λ n fits. omega (arith, few.0, few.1, told.waiting, told.wishes, room, most.1, fits)) c.tick.new.self.sent c.tick.ensures.places;
     }
+
+pub returns-clause-served : goal.returns-clause-served
+returns-clause-served c =
+    let s = c.args.self.now in
+    let letter = c.args.letter in
+    let given = c.handle.new.out in
+    let parts = c.parts-sends.ensures in
+    let stamp : c.max-stamp.result + 1 ≡ next_stamp s letter =
+    ap (λ n. n + 1) c.max-stamp.ensures ∙ ap (λ (t : ServerModel). max t.clock letter.stamp + 1) c.self.view_is in
+    let now : c.tick.new.self ≡ at_event s letter =
+    c.tick.ensures.ticked ∙ ap (λ n. ticked s n c.raises.result) stamp ∙ ap (ticked s (next_stamp s letter)) c.raises.ensures in
+    let room = c.counts-waiting.result.0 + c.counts-waiting.result.1 + 9 in
+    let handled = on_ok c.handle.result (sym c.if-is_err.ensures.value) c.handle.ensures.ok in
+    let F : Out → Type 0 = λ o. option_map (λ list. going_on o list c.tick.new.self) (acts c.tick.new.self c.args.from letter.message)
+    ≡ Some (made c.handle.new.self given) in
+    serves s c.tick.new.self c.handle.new.self given room c.args.from letter c.requires.expected now (subst F c.in-Ok.ensures handled)
+    ∙ ap (λ sends. Some (record { state = c.handle.new.self; sends = sends; entries = given.entries })) (sym parts.sends)
+    ∙ ap (λ entries. Some (record { state = c.handle.new.self; sends = c.parts-sends.result.0.items; entries = entries })) (sym parts.entries)
+  where
+    on_ok : {T E P : Type 0} (r : Result T E) → is_err r ≡ false → OnOk r P → P
+    on_ok (Ok x) none holds = holds
+    on_ok (Err e) none holds = absurd (cc)

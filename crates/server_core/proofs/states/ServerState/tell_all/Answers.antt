@@ -4,9 +4,19 @@ use Rattle.server_core.specs.Out.{going_on}
 use Rattle.server_core.proofs.Going.{goes_nowhere}
 use Rattle.server_core.proofs.states.ServerState.tell_all.Goals as goal
 
-pub returns : goal.returns
-returns c =
+pub returns-clause-made : goal.returns-clause-made
+returns-clause-made c =
     let t = c.tell_next.new.self in
     let end = c.tell_next.new.out in
     let last = c.loop-end-test.ensures in
     goes_nowhere end t ∙ ap (λ (l : List Act). going_on end l t) (sym (last.last refl)) ∙ last.told ∙ c.loop-end.invariant.left
+
+pub returns-clause-room : goal.returns-clause-room
+returns-clause-room c more room = c.loop-end-test.ensures.room more (c.loop-end.invariant.rooms more room)
+
+pub loop-end-preserved : goal.loop-end-preserved
+loop-end-preserved c = record {
+  left = c.loop-end-test.ensures.told ∙ c.loop-end.invariant.left;
+  room = c.loop-end-test.ensures.room 0 c.loop-end.invariant.room;
+  rooms = λ more room. c.loop-end-test.ensures.room more (c.loop-end.invariant.rooms more room);
+}

@@ -1,4 +1,4 @@
-use Rattle.std.proofs.Common.{◌≡◌, [], length}
+use Rattle.std.proofs.Common.{◌≡◌, ℕ, [], length}
 use Rattle.server_core.specs.Out.{HasRoom, going_on}
 use Rattle.server_law.specs.Endings.{tells_all}
 use Rattle.server_core.proofs.states.ServerState.tell_all.Given as goal
@@ -8,6 +8,7 @@ invariant-loop-end l = record {
   left : going_on l.out (tells_all l.end [] l.self.kept.parked.waiting) l.self
       ≡ going_on l.fn.out (tells_all l.end [] l.fn.self.kept.parked.waiting) l.fn.self;
   room : HasRoom l.self l.out 0;
+  rooms : (more : ℕ) → HasRoom l.fn.self l.fn.out more → HasRoom l.self l.out more;
 }
 
 abbrev pub decreases-loop-end : goal.decreases-loop-end

@@ -48,14 +48,14 @@ returns-in-Some-clause-fewer c is =
     omega (arith, fewer, ap waiting c.end_call.ensures.counted, ap waiting c.self.view_is)
 
 pub returns-in-Some-clause-room : goal.returns-in-Some-clause-room
-returns-in-Some-clause-room c =
+returns-in-Some-clause-room c more room =
     let i = c.self.inside in
     let n = c.end_idle.new.self in
     let left = made_of i c.self.invariant (λ m. gone_if m (first_idle m)) n c.end_idle.ensures.parked in
     let once = c.self.invariant.sound.parked.once in
-    let room = subst (λ t. HasRoom t c.args.out.now 0) (sym c.self.view_is) c.requires in
-    c.end_call.ensures.room 0
-    (end_room (state_of i) once n.parked left c.in-Some.rank c.in-Some.request c.in-Some.ensures.idle c.args.out.now room)
+    let was = subst (λ t. HasRoom t c.args.out.now more) (sym c.self.view_is) room in
+    c.end_call.ensures.room more
+    (end_room (state_of i) once n.parked left c.in-Some.rank c.in-Some.request c.in-Some.ensures.idle c.args.out.now more was)
 
 pub returns-in-None-clause-last : goal.returns-in-None-clause-last
 returns-in-None-clause-last c is =
