@@ -18,7 +18,7 @@ use Rattle.rank_client.specs.declared.pendings.Pending.TheVariants as waits_for
 use Rattle.rank_client.specs.Answers.{CanCall, IsAnswerTo}
 use Rattle.rank_client.specs.Calls.{has_finished, is_finish}
 use Rattle.rank_client.specs.Remembered.{Remembers, pending_call}
-use Rattle.rank_client.specs.Rules.{ClientResponse, answer_call, looked, own_came, part_refused, refused}
+use Rattle.rank_client.specs.Rules.{ClientResponse, answer_call, looked, own_came, part_refused, refused, told_done}
 use Rattle.rank_client.specs.Says.{Tells}
 use Rattle.rank_client.specs.State.{ClientModel}
 use Rattle.rank_client.specs.Step.{Made, begin, call_stamp, hear, letter_stamp, made, ticked}
@@ -125,7 +125,7 @@ module _ (c : ClientModel) (one_server : c.config.servers ≡ 1) where
   abbrev Passes : ClientResponse → Type 0
   Passes z = (made z).answer ≡ None → is_common (made z).state.pending ≡ true
 
-  -- there is no server but the one that refused or looked
+  -- there is no server but the one that refused, looked or was told
   tried_all : (tried : ℕ) → nat_lt (tried + 1) c.config.servers ≡ false
   tried_all tried =
       rw one_server (false_from_ne_true (nat_lt (tried + 1) 1) (λ more. absurd (omega (arith, ltb-true (tried + 1) 1 more))))
@@ -167,6 +167,10 @@ module _ (c : ClientModel) (one_server : c.config.servers ≡ 1) where
   passes (waits_for.Close request batch) from _ z is = absurd (cc)
   passes (waits_for.Count request kind) from (tells.Counted to info) z is = subst Passes (if_is _ _ z is) (λ none. absurd (cc))
   passes (waits_for.Count request kind) from _ z is = absurd (cc)
+  passes (waits_for.SetDone request tried) from (tells.DoneHeard to) z is =
+      subst Passes (if_is _ _ z is)
+      (subst (λ (more : Bool). Passes (told_done c request tried more)) (sym (tried_all tried)) (λ none. absurd (cc)))
+  passes (waits_for.SetDone request tried) from _ z is = absurd (cc)
 
 -- the common bytes answer it
 common_answers : (c : ClientModel) (p : Pending) (from : Server) (m : Message) (z : ClientResponse) → is_common p ≡ true

@@ -31,8 +31,8 @@ use Rattle.core_inline.specs.inside.Pairs.{IsAnswered, IsFinished, IsIdle, IsLon
 use Rattle.core_inline.specs.inside.Pairs.{with_call, is_ended}
 use Rattle.core_inline.proofs.Clients.{GoesBy, IsBegun, IsEnded, IsPending, call_begins, call_ends, call_goes, is_common}
 use Rattle.core_inline.proofs.Failing.{IsStage}
-use Rattle.core_inline.proofs.Hosts.{finish_ends, nobody_waits, serve_clock}
-use Rattle.core_inline.proofs.Reached.{IsCalled, IsHeard, IsServed, asked, facts, lone_next, one_of, rank_own, server_own}
+use Rattle.core_inline.proofs.Hosts.{IsAlone, finish_ends, goes_on, nobody_waits, own_alone, serve_clock}
+use Rattle.core_inline.proofs.Reached.{IsCalled, IsHeard, IsServed, asked, facts, lone_next, one_false, one_of, rank_own, server_own}
 use Rattle.core_inline.proofs.Reached.{to_rank, to_server, told}
 use Rattle.core_inline.proofs.Told.{Behind, Before, IsAt, Within, true_idle}
 
@@ -83,6 +83,7 @@ pending_other (waits_for.Common request note common own) call is = ap is_finish 
 pending_other (waits_for.Keep request common first tried) call is = ap is_finish (sym (some_is is))
 pending_other (waits_for.Close request batch) call is = ap is_finish (sym (some_is is))
 pending_other (waits_for.Count request kind) call is = ap is_finish (sym (some_is is))
+pending_other (waits_for.SetDone request tried) call is = ap is_finish (sym (some_is is))
 
 finish_is : (call : Call) → is_finish call ≡ true → call ≡ calls_to.Finish
 finish_is calls_to.Finish is = refl
@@ -272,17 +273,18 @@ module _ (first : Bool) (said : List Said) (call : Call) (w : World) (i : IsAske
   asked_stamp : asked_letter.0.stamp ≤ (client_of w zeroth).clock
   asked_stamp = (facts w i.lone).asked_before asked_letter.0 [] asked_letter.1
 
+  -- the letter is the only one, so no Finish was handled yet
+  alone : IsAlone (pool_of w first_server)
+  alone = own_alone w.config (pool_of w first_server) (server_own w i.lone) i.lone.one_rank i.lone.one_server i.nobody
+      (one_false (is_finished (pool_of w first_server).kept zeroth)
+      (omega (arith, (facts w i.lone).letters i.nobody, owed said call (client_of w zeroth) i.goes, i.single)))
+
   serves : (next : World) × (happens w to_server ≡ Some next)
-  serves = (facts w i.lone).asked_goes asked_letter.0 [] asked_letter.1 (omega (arith, asked_stamp, i.early))
+  serves = (facts w i.lone).asked_goes asked_letter.0 [] asked_letter.1 (goes_on (pool_of w first_server) alone)
+      (omega (arith, asked_stamp, i.early))
 
   it_served : (next : World) → happens w to_server ≡ Some next → IsServed w asked_letter.0 next
   it_served next happened = (facts w i.lone).serves asked_letter.0 next asked_letter.1 happened
-
-  one_rank : (pool_of w first_server).config.ranks ≡ 1
-  one_rank = ap (λ (g : Config). g.ranks) (server_own w i.lone).config ∙ i.lone.one_rank
-
-  one_server : (pool_of w first_server).config.servers ≡ 1
-  one_server = ap (λ (g : Config). g.servers) (server_own w i.lone).config ∙ i.lone.one_server
 
   pub serve_stage : IsStage said call w to_server
   serve_stage =
@@ -306,7 +308,7 @@ module _ (first : Bool) (said : List Said) (call : Call) (w : World) (i : IsAske
       let rank = ap (λ (k : ClientModel). k.clock) s.rank in
       let lone = lone_next w now to_server i.lone happened in
       let nobody = ap (λ (v : ServerModel). v.kept.parked.waiting) s.pool
-      ∙ nobody_waits server asked_letter.0 s.x one_rank one_server i.nobody s.does in
+      ∙ nobody_waits server asked_letter.0 s.x alone s.does in
       let waits = subst (IsPending said call) (sym s.rank) still in
       record {
         lone = lone;
@@ -358,8 +360,8 @@ module _ (first : Bool) (said : List Said) (call : Call) (w : World) (i : IsAske
           true_now = true_after last (lone_next w last.world to_server i.lone happened)
               (ap (λ (k : ClientModel). k.pending) s.rank ∙ o.idle) short;
           grown = transcript ∙ o.grown ∙ grown;
-          heard = ap is_ended s.pool ∙ finish_ends (pool_of w first_server) asked_letter.0 s.x one_rank one_server i.nobody
-              (own.finished ∙ i.lone.one_rank) ((facts w i.lone).farewell asked_letter.0 [] o.idle asked_letter.1) s.does;
+          heard = ap is_ended s.pool ∙ finish_ends (pool_of w first_server) asked_letter.0 s.x alone (own.finished ∙ i.lone.one_rank)
+              ((facts w i.lone).farewell asked_letter.0 [] o.idle asked_letter.1) s.does;
           opened = ap (λ (k : ClientModel). is_some k.batch) s.rank ∙ o.opened ∙ sym (ap is_open transcript);
         }
   ]

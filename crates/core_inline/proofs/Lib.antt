@@ -1,3 +1,4 @@
+pub mod AloneChecks
 pub mod Batches
 pub mod Begun
 pub mod Clients

@@ -3,6 +3,7 @@ use Rattle.std.proofs.Common.{◌≡◌, ℕ, ◌+◌, ◌==◌, ◌<◌, ◌≤
 use Rattle.std.specs.Prelude.{option_and_then}
 use Rattle.std.specs.Option.{option_map}
 use Rattle.adlb_unit.specs.Limits.{stamp_limit, InRanks, InServers, InLimit}
+use Rattle.adlb_unit.specs.Kinds.{is_to_rank}
 use Rattle.adlb_unit.specs.Links.{place_of}
 use Rattle.adlb_unit.specs.declared.actors.Actor.{Actor}
 use Rattle.adlb_unit.specs.declared.actors.Actor.TheVariants as by
@@ -22,7 +23,7 @@ use Rattle.server_law.specs.State.{is_finished, ServerModel}
 use Rattle.server_law.specs.Step.{next_stamp, serve}
 use Rattle.core_run.specs.declared.events.Event.{Event}
 use Rattle.core_run.specs.declared.events.Event.TheVariants as occurs
-use Rattle.core_run.specs.Runs.{Runs}
+use Rattle.core_run.specs.Runs.{Runs, is_of_check}
 use Rattle.core_run.specs.World.{Links, World, after_rank, after_server, client_of, handle, happens, has_ended, link, pool_of, start, taken}
 use Rattle.core_run.specs.World.{row}
 use Rattle.core_law.specs.Letters.{is_finish, is_request, misfit, one, call_waits, remote_letter}
@@ -157,9 +158,20 @@ one_true : (t : Bool) → one (t && true) ≡ 1 → t ≡ true
 one_true true is = refl
 one_true false is = absurd (omega (arith, is))
 
-one_false : (t : Bool) → one t ≡ 0 → t ≡ false
+pub one_false : (t : Bool) → one t ≡ 0 → t ≡ false
 one_false true is = absurd (omega (arith, is))
 one_false false is = refl
+
+-- no letter between the rank and the server is a token or one that has failed
+asked_no_check : (m : Message) → one (not (is_request m || is_finish m)) ≡ 0 → is_of_check m ≡ false
+asked_no_check (tells.Token t) fits = absurd (omega (arith, fits))
+asked_no_check (tells.Failed t why) fits = absurd (omega (arith, fits))
+asked_no_check _ fits = refl
+
+told_no_check : (m : Message) → one (not (is_to_rank m)) ≡ 0 → is_of_check m ≡ false
+told_no_check (tells.Token t) fits = absurd (omega (arith, fits))
+told_no_check (tells.Failed t why) fits = absurd (omega (arith, fits))
+told_no_check _ fits = refl
 
 stamped_below : (low last : ℕ) (letters : List Letter) → AreStamped low letters last → low ≤ last
 stamped_below low last [] stamped = stamped
@@ -224,11 +236,11 @@ pub record AreFacts (w : World) : Type 0 where
   pub unhandled : (client_of w zeroth).finished ≡ false → is_finished (pool_of w first_server).kept zeroth ≡ false
   pub farewell : (letter : Letter) (rest : List Letter) → (client_of w zeroth).pending ≡ waits_for.Nothing → asked w ≡ letter ∷ rest
       → is_finish letter.message ≡ true
-  -- a letter at the front was sent before, and is handled
+  -- a letter at the front was sent before, and is handled; by the server as long as that has not ended
   pub asked_before : (letter : Letter) (rest : List Letter) → asked w ≡ letter ∷ rest → letter.stamp ≤ (client_of w zeroth).clock
   pub told_before : (letter : Letter) (rest : List Letter) → told w ≡ letter ∷ rest → letter.stamp ≤ (pool_of w first_server).clock
-  pub asked_goes : (letter : Letter) (rest : List Letter) → asked w ≡ letter ∷ rest → letter.stamp < stamp_limit
-      → (next : World) × (happens w to_server ≡ Some next)
+  pub asked_goes : (letter : Letter) (rest : List Letter) → asked w ≡ letter ∷ rest → has_ended (pool_of w first_server) ≡ false
+      → letter.stamp < stamp_limit → (next : World) × (happens w to_server ≡ Some next)
   pub told_goes : (letter : Letter) (rest : List Letter) → told w ≡ letter ∷ rest → letter.stamp < stamp_limit
       → (next : World) × (happens w to_rank ≡ Some next)
   -- what each event does
@@ -277,8 +289,14 @@ facts w l = by_world (λ v. IsLone v → AreFacts v) (λ limit a b d c s rr rs s
           (omega (arith, requests, kinds, busy, weights, misfits, one_kind letter.message, nothing rr));
       asked_before = λ letter rest. sent_before rs rest letter c.clock (line by_rank by_server refl refl).stamps;
       told_before = λ letter rest. sent_before sr rest letter s.clock (line by_server by_rank refl refl).stamps;
-      asked_goes = λ letter rest. stuck by_rank by_server letter rest refl refl;
-      told_goes = λ letter rest. stuck by_server by_rank letter rest refl refl;
+      asked_goes = λ letter rest front going.
+          let misfits : weigh (λ x. misfit g by_rank by_server x.message) rs ≡ misfit g by_rank by_server letter.message
+          + weigh (λ x. misfit g by_rank by_server x.message) rest = ap (weigh (λ x. misfit g by_rank by_server x.message)) front in
+          stuck by_rank by_server letter rest refl refl front going (asked_no_check letter.message (omega (arith, kinds, misfits)));
+      told_goes = λ letter rest front.
+          let misfits : weigh (λ x. misfit g by_server by_rank x.message) sr ≡ misfit g by_server by_rank letter.message
+          + weigh (λ x. misfit g by_server by_rank x.message) rest = ap (weigh (λ x. misfit g by_server by_rank x.message)) front in
+          stuck by_server by_rank letter rest refl refl front refl (told_no_check letter.message (omega (arith, kinds, misfits)));
       begins = λ call x gave. record {
         happened = ap (option_map (after_rank v zeroth v.links)) gave;
         rank = refl;

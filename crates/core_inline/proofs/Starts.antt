@@ -6,6 +6,7 @@ use Rattle.adlb_unit.specs.declared.configs.ConfigFault.{ConfigFault}
 use Rattle.adlb_unit.specs.declared.configs.ConfigFault.TheVariants.{Ranks, Servers, Limit}
 use Rattle.adlb_unit.specs.Limits.{Refuses}
 use Rattle.bag_ledger.specs.declared.entries.Call.{Call}
+use Rattle.bag_ledger.specs.declared.entries.Entry.{Entry}
 use Rattle.bag_ledger.specs.declared.entries.Said.{Said}
 use Rattle.bag_ledger.specs.Runs.{call_of}
 use Rattle.rank_client.specs.Calls.{has_finished}
@@ -14,6 +15,7 @@ use Rattle.rank_client.proofs.StepsTell.{steps_tell}
 use Rattle.rank_client.proofs.Transcripts.{none_finished}
 use Rattle.server_law.specs.State.{start as new_pool}
 use Rattle.server_core.specs.Left.{left_of}
+use Rattle.server_core.specs.declared.states.LeftUnit.{LeftUnit}
 use Rattle.core_run.specs.World.{start}
 use Rattle.core_law.proofs.EveryRun.{client_at, pool_at}
 use Rattle.core_world.specs.Seen.{Seen, new_world}
@@ -111,7 +113,7 @@ none_open pending [] is = refl
 none_open pending (s ∷ []) is = absurd (cc is.1)
 none_open pending (s ∷ t ∷ more) is = absurd is
 
-pub end_is : (run : Run) → IsInline run → run.failed ≡ None → IsEnd run run.ledger run.transcript run.left
+end_is : (run : Run) → IsInline run → run.failed ≡ None → IsEnd run run.ledger run.transcript run.left
 end_is run inline none =
     let whole = inline.whole none in
     let pending = call_of inline.told.rank.status in
@@ -122,6 +124,12 @@ end_is run inline none =
       calls_are = inline.told.calls_are ∙ ap (λ l. run.transcript ++ l) more ∙ append-nil run.transcript;
       left_is = whole.left;
     }
+
+-- the parts that are given are those of the run
+pub end_of : (run : Run) (ledger : List Entry) (transcript : List Said) (left : List LeftUnit) → IsInline run → run.failed ≡ None
+    → ledger ≡ run.ledger → transcript ≡ run.transcript → left ≡ run.left → IsEnd run ledger transcript left
+end_of run ledger transcript left inline none same_ledger same_transcript same_left =
+    rw (same_ledger, same_transcript, same_left) (end_is run inline none)
 
 pub end_finished : (run : Run) → IsInline run → run.failed ≡ None → run.finished ≡ true → has_finished run.transcript ≡ true
 end_finished run inline none called = sym (inline.whole none).finished ∙ called

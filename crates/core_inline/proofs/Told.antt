@@ -1,5 +1,6 @@
 -- What the law of runs tells of a world of one rank and one server.
-use Rattle.std.proofs.Common.{◌≡◌, ◌⊎◌, inl, inr, Bool, true, false, List, [], ◌∷◌, ◌++◌, Option, None, Some, refl, sym, ap, ◌∙◌, arith, append-nil}
+use Rattle.std.proofs.Common.{◌≡◌, ◌⊎◌, inl, inr, Bool, true, false, cond, List, [], ◌∷◌, ◌++◌, Option, None, Some, refl, sym, ap, ◌∙◌, subst, arith, append-nil}
+use Rattle.std.proofs.lemmas.Bool.{eq-eqb}
 use Rattle.adlb_unit.specs.declared.messages.Message.{Message}
 use Rattle.adlb_unit.specs.declared.messages.Message.TheVariants as tells
 use Rattle.adlb_unit.specs.declared.names.Server.{Server}
@@ -7,8 +8,8 @@ use Rattle.adlb_unit.specs.declared.names.CommonRef.{CommonRef}
 use Rattle.bag_ledger.specs.declared.entries.Call.{Call}
 use Rattle.bag_ledger.specs.declared.entries.Call.TheVariants as calls_to
 use Rattle.bag_ledger.specs.declared.entries.Said.{Said}
-use Rattle.bag_ledger.specs.Bag.{Bag, rank_at}
-use Rattle.bag_ledger.specs.Runs.{call_of}
+use Rattle.bag_ledger.specs.Bag.{Bag, rank_at, settled, start}
+use Rattle.bag_ledger.specs.Runs.{IsRun, IsRunWhere, call_of}
 use Rattle.bag_ledger.specs.declared.states.RankState.{RankState}
 use Rattle.rank_client.specs.declared.pendings.Pending.{Pending}
 use Rattle.rank_client.specs.declared.pendings.Pending.TheVariants as waits_for
@@ -48,7 +49,7 @@ rests c coming true idle = refl
 rests c coming false idle = ap (λ p. call_of (in_call c p coming).status) idle
 
 says_all : (c : ClientModel) (coming : Option Message) → c.pending ≡ waits_for.Nothing → said_with c c.pending coming ≡ c.transcript
-says_all c None idle = refl
+says_all c None idle = ap (λ p. said_with c p None) idle
 says_all c (Some m) idle = ap (λ p. said_with c p (Some m)) idle
 
 -- what the ledger says beyond the transcript while a call is pending, and which call was begun
@@ -143,6 +144,8 @@ beyond c (waits_for.Count request kind) (Some (tells.Counted to info)) call is =
     record { more = _ ∷ []; begun = _; says = refl; open_call = (refl, refl); of_it = inr is }
 beyond c (waits_for.Count request kind) (Some _) call is =
     record { more = []; begun = None; says = sym (append-nil c.transcript); open_call = refl; of_it = inl refl }
+beyond c (waits_for.SetDone request tried) coming call is =
+    record { more = _ ∷ []; begun = _; says = refl; open_call = (refl, refl); of_it = inr is }
 
 module _ (w : World) (l : IsLone w) where
   abbrev c : ClientModel
@@ -150,6 +153,11 @@ module _ (w : World) (l : IsLone w) where
 
   abbrev bag : (b : Bag) × IsSeated w b
   bag = actors_seated w.config l.events w l.run
+
+  -- with one server a run asks at an exhaustion that all is settled
+  legal : IsRun (start w.config) w.ledger bag.0
+  legal = subst (λ (alone : Bool). IsRunWhere (λ b. cond alone (settled b) true) (start w.config) w.ledger bag.0)
+      (eq-eqb w.config.servers 1 l.one_server) bag.1.run
 
   seat : HasSeat w bag.0 zeroth
   seat = bag.1.ranks zeroth (omega (arith, l.one_rank))
@@ -159,7 +167,7 @@ module _ (w : World) (l : IsLone w) where
       → rank_of c c.finished seat.coming ≡ r → IsOpen (call_of r.status) more begun → IsTold w.config w.ledger said begun
   told_as said more begun r says is open_call = record {
     last = bag.0;
-    legal = bag.1.run;
+    legal = legal;
     more = more;
     calls_are = sym seat.says ∙ says;
     rank = r;
@@ -172,7 +180,7 @@ module _ (w : World) (l : IsLone w) where
       → (told : IsTold w.config w.ledger c.transcript None) × IsLeft told.last (left_of (pool_of w first_server))
   true_idle idle =
       let s = pool_of w first_server in
-      let all = one_has_all w.config w.ledger bag.0 s.me l.one_server (ap (λ (k : Server). k.0) (server_own w l).me) bag.1.run in (
+      let all = one_has_all w.config w.ledger bag.0 s.me l.one_server (ap (λ (k : Server). k.0) (server_own w l).me) legal in (
         told_as c.transcript [] None (rank_of c c.finished seat.coming) (says_all c seat.coming idle ∙ sym (append-nil c.transcript)) refl
             (sym (rests c seat.coming c.finished idle)),
         left_is bag.0 s (bag.1.servers first_server (omega (arith, l.one_server))) all,

@@ -154,6 +154,10 @@ impl Adlb for InlineWorld {
         count_result(self.run.call(Call::Count { kind }))
     }
 
+    fn set_problem_done(&mut self) -> Result<(), Trouble> {
+        done_result(self.run.call(Call::SetDone))
+    }
+
     fn batch_open(&self) -> bool {
         self.run.batch_open()
     }

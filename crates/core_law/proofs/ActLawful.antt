@@ -7,13 +7,13 @@ use Rattle.adlb_unit.specs.declared.letters.Letter.{Letter}
 use Rattle.adlb_unit.specs.declared.messages.Message.{Message}
 use Rattle.adlb_unit.specs.declared.names.Rank.{Rank}
 use Rattle.adlb_unit.specs.declared.names.Server.{Server}
-use Rattle.bag_ledger.specs.Bag.{Bag, settled, start as empty_bag}
-use Rattle.bag_ledger.specs.Runs.{IsRun}
-use Rattle.bag_ledger.proofs.Legal.{run_joined}
+use Rattle.bag_ledger.specs.Bag.{Bag, start as empty_bag}
+use Rattle.bag_ledger.specs.Runs.{IsRunWhere}
+use Rattle.bag_ledger.proofs.Legal.{joined_where}
 use Rattle.bag_ledger.proofs.Tests.{some_is}
 use Rattle.bag_law.proofs.Sound.{run_is_sound}
 use Rattle.rank_client.specs.Agreement.{holds}
-use Rattle.server_law.specs.Acts.{Accepts, Act, Answers, Asks_on, Closes, Counts, Declines, Drops_hint, Ends_keep, Ends_put, Ends_reserve, Ends_try, Fetches, Fetches_part, Finds, Gives, Grants, Grants_try, Hints, Is_hinted, Keeps, Looks, Notes_finish, Parks, Passes_on, Refuses, Refuses_part, Shuts, Tells, Wakes, entries, Queries, Promises, Refuses_push, Sends_unit, Cancels, Stops_push, Ends_push, Arrives, Acks, Withdraws}
+use Rattle.server_law.specs.Acts.{Accepts, Act, Checks_alone, Fails, Finds_alone, Gives_up, Hears_done, Hears_exhaust, Hears_failed, Hears_shutdown, Marks, Notes_own, Notices, Passes, Shuts_alone, Starts, Wants, Answers, Asks_on, Closes, Counts, Declines, Drops_hint, Ends_keep, Ends_put, Ends_reserve, Ends_try, Fetches, Fetches_part, Finds, Gives, Grants, Grants_try, Hints, Is_hinted, Keeps, Looks, Notes_finish, Parks, Passes_on, Refuses, Refuses_part, Shuts, Tells, Wakes, entries, Queries, Promises, Refuses_push, Sends_unit, Cancels, Stops_push, Ends_push, Arrives, Acks, Withdraws}
 use Rattle.server_law.specs.Agreement.{ServerAgrees}
 use Rattle.server_law.specs.Carried.{Served, done}
 use Rattle.server_law.specs.Legal.{Needs}
@@ -23,6 +23,7 @@ use Rattle.server_law.proofs.Elsewhere.{servers_stay}
 use Rattle.server_law.proofs.OwnEntries.{acts_are_legal}
 use Rattle.core_run.specs.World.{World, client_of, pool_of, rank_named}
 use Rattle.core_law.specs.Acting.{IsAct, acted, ticks}
+use Rattle.core_law.specs.Found.{found_in}
 use Rattle.core_law.specs.Lawful.{IsLawful, IsSeat, IsWaiting}
 use Rattle.core_law.specs.OnLinks.{Each}
 use Rattle.core_law.specs.Others.{tells_of}
@@ -31,25 +32,25 @@ use Rattle.core_law.proofs.Actors.{every_pool}
 use Rattle.core_law.proofs.ActSeats.{about, asks_stays, declines_stays, finish_stays, hinted_stays, other_stays, parks_stays, passes_stays, wakes_stays}
 use Rattle.core_law.proofs.Answering.{entry_here, home_here}
 use Rattle.core_law.proofs.Bags.{not_kept, of_act, run_facts, run_servers}
-use Rattle.core_law.proofs.Deciding.{IsDone, Succeeds, accepts_succeeds, answers_succeeds, ends_put_succeeds, ends_reserve_succeeds, fetches_succeeds, gives_succeeds, grants_succeeds, refuses_succeeds, tells_succeeds, closes_succeeds, counts_succeeds, ends_keep_succeeds, ends_try_succeeds, fetches_part_succeeds, grants_try_succeeds, keeps_succeeds, looks_succeeds, refuses_part_succeeds}
+use Rattle.core_law.proofs.Deciding.{IsDone, Succeeds, accepts_succeeds, answers_succeeds, ends_put_succeeds, ends_reserve_succeeds, fetches_succeeds, gives_succeeds, grants_succeeds, hears_done_succeeds, refuses_succeeds, tells_succeeds, closes_succeeds, counts_succeeds, ends_keep_succeeds, ends_try_succeeds, fetches_part_succeeds, grants_try_succeeds, keeps_succeeds, looks_succeeds, refuses_part_succeeds}
 use Rattle.core_law.proofs.Events.{event_keeps}
-use Rattle.core_law.proofs.Resting.{bag_is_settled}
+use Rattle.core_law.proofs.Resting.{alone_is_found, token_is_found}
 use Rattle.core_law.proofs.Seats.{IsMade}
 use Rattle.core_law.proofs.Steps.{Serves}
 use Rattle.core_law.proofs.Well.{inside_servers, own_of}
-use Rattle.core_law.proofs.PushLawful.{act_pushed, arrives_needs, promises_needs, sends_needs, withdraws_needs}
+use Rattle.core_law.proofs.PushLawful.{act_pushed, arrives_needs, exhaust_needs, promises_needs, sends_needs, withdraws_needs}
 
 -- An act.
 
 module _ (w : World) (k : Server) (b : Bag) (well : IsWell w) (l : IsLawful w b) where
   -- an act that enters nothing
-  unchanged : (a : Act) → entries a (pool_of w k) ≡ [] → Needs a b (pool_of w k).me
+  unchanged : (a : Act) → entries a (pool_of w k) ≡ [] → Needs (found_in w.config) a b (pool_of w k).me
       → ((r : Rank) (coming : Option Message) → about a ≡ Some r → IsMade w k a b b → IsSeat w b r coming → IsSeat (acted w k a) b r coming)
       → Succeeds w k a b
   unchanged a none needs stays = record {
     needs = needs;
     makes = λ n m.
-        let same : b ≡ n = subst (λ es. IsRun b es n) none m.step in
+        let same : b ≡ n = subst (λ es. IsRunWhere (found_in w.config) b es n) none m.step in
         let made = subst (λ (x : Bag). IsMade w k a b x) (sym same) m in
         subst (λ (x : Bag). IsDone w k a x) same (record {
           seat = λ r told within. let its = l.seats r within in (its.0, stays r its.0 told made its.1);
@@ -57,7 +58,7 @@ module _ (w : World) (k : Server) (b : Bag) (well : IsWell w) (l : IsLawful w b)
   }
 
   -- an act that tells of no rank
-  tells_nobody : (a : Act) → Needs a b (pool_of w k).me → about a ≡ None → Succeeds w k a b
+  tells_nobody : (a : Act) → Needs (found_in w.config) a b (pool_of w k).me → about a ≡ None → Succeeds w k a b
   tells_nobody a needs none = record {
     needs = needs;
     makes = λ n m. record { seat = λ r told within. let no_one : None ≡ Some r = sym none ∙ told in absurd (cc) };
@@ -105,13 +106,28 @@ module _ (w : World) (k : Server) (b : Bag) (well : IsWell w) (l : IsLawful w b)
   succeeds (Arrives from unit) is = tells_nobody (Arrives from unit) (arrives_needs w k b well l from unit is) refl
   succeeds (Acks to id) is = tells_nobody (Acks to id) tt refl
   succeeds (Withdraws from id) is = tells_nobody (Withdraws from id) (withdraws_needs w k b well l from id is) refl
-  succeeds Finds is = tells_nobody Finds (bag_is_settled w k b well l is) refl
+  succeeds (Hears_done rank request) is = hears_done_succeeds w k b well l is.here rank request is
+  succeeds Notices is = tells_nobody Notices tt refl
+  succeeds Notes_own is = tells_nobody Notes_own tt refl
+  succeeds (Wants from) is = tells_nobody (Wants from) tt refl
+  succeeds Starts is = tells_nobody Starts tt refl
+  succeeds (Marks from t) is = tells_nobody (Marks from t) tt refl
+  succeeds (Passes from t) is = tells_nobody (Passes from t) tt refl
+  succeeds (Fails from t why) is = tells_nobody (Fails from t why) tt refl
+  succeeds (Gives_up from t) is = tells_nobody (Gives_up from t) tt refl
+  succeeds (Hears_failed from t why) is = tells_nobody (Hears_failed from t why) tt refl
+  succeeds (Finds from t) is = tells_nobody (Finds from t) (token_is_found w k b from t well is) refl
+  succeeds (Shuts from t) is = tells_nobody (Shuts from t) tt refl
+  succeeds (Hears_exhaust from) is = tells_nobody (Hears_exhaust from) (exhaust_needs w k b well l from is) refl
+  succeeds (Hears_shutdown from) is = tells_nobody (Hears_shutdown from) tt refl
+  succeeds Finds_alone is = tells_nobody Finds_alone (alone_is_found w k b well l is) refl
   succeeds (Keeps rank request common) is = keeps_succeeds w k b well l is.here rank request common is
   succeeds (Refuses_part rank request common) is = refuses_part_succeeds w k b well l is.here rank request common is
   succeeds (Ends_keep rank request common end) is = ends_keep_succeeds w k b well l is.here rank request common end is
   succeeds (Closes request batch accepted part) is = closes_succeeds w k b well l is.here request batch accepted part is
   succeeds (Fetches_part rank request batch part) is = fetches_part_succeeds w k b well l is.here rank request batch part is
-  succeeds Shuts is = tells_nobody Shuts tt refl
+  succeeds Shuts_alone is = tells_nobody Shuts_alone tt refl
+  succeeds Checks_alone is = tells_nobody Checks_alone tt refl
 
   -- the seats of all ranks after the act
   seats_next : (a : Act) (n : Bag) → IsMade w k a b n → IsDone w k a n → (r : Rank) → r.0 < w.config.ranks
@@ -125,7 +141,8 @@ module _ (w : World) (k : Server) (b : Bag) (well : IsWell w) (l : IsLawful w b)
       other not_told =
           let its = l.seats r within in
           let seat = its.1 in
-          let facts = run_facts (entries a (pool_of w k)) b n (holds (client_of w r) its.0) (of_act a (pool_of w k)) m.step seat.facts in
+          let s = pool_of w k in
+          let facts = run_facts (found_in w.config) (entries a s) b n (holds (client_of w r) its.0) (of_act a s) m.step seat.facts in
           (its.0, other_stays w k a b n r its.0 m not_told facts its.1)
 
       by_test : (q : Rank) → about a ≡ Some q → (t : Bool) → (q.0 == r.0) ≡ t → Now
@@ -142,32 +159,32 @@ module _ (w : World) (k : Server) (b : Bag) (well : IsWell w) (l : IsLawful w b)
   act_lawful a is =
       let s = pool_of w k in
       let it = succeeds a is in
-      let legal = acts_are_legal b s a (l.pools k is.here) l.rests is.sits is.sure it.needs in
+      let legal = acts_are_legal (found_in w.config) b s a (l.pools k is.here) l.rests is.sits is.sure it.needs in
       let n = legal.0 in
       let m : IsMade w k a b n = record { shape = well.shape; is = is; own = own_of w k a well is; run = l.run; step = legal.1 } in
       let d = it.makes n m in
-      let sound = run_is_sound settled w.config w.ledger b l.run in
+      let sound = run_is_sound (found_in w.config) w.config w.ledger b l.run in
       let mine = well.own.servers k is.here in
       let agrees = l.pools k is.here in (
         n,
         record {
-          run = run_joined (empty_bag w.config) b n w.ledger (entries a s) l.run legal.1;
+          run = joined_where (found_in w.config) (empty_bag w.config) b n w.ledger (entries a s) l.run legal.1;
           rests = legal.3;
           seats = seats_next a n m d;
           pools = every_pool (λ t x. ServerAgrees n x) w k (done a s) (inside_servers w k well is.here) legal.2 (λ t there differs.
               let yours = well.own.servers t there in
               let apart : s.me ≢ (pool_of w t).me = λ e. differs (ap (λ (x : Server). x.0) (sym yours.me ∙ sym e ∙ mine.me)) in
               let others = not_kept a s (pool_of w t).me is.sure agrees.within apart in
-              run_servers servers_stay (entries a s) b n (pool_of w t) others sound legal.1 (l.pools t there));
+              run_servers servers_stay (found_in w.config) (entries a s) b n (pool_of w t) others sound legal.1 (l.pools t there));
           pushed = act_pushed w k b well l a n m;
         },
       )
 
 -- The stamp of an event.
 
-pub tick_lawful : (w : World) (k : Server) (stamp : ℕ) (b : Bag) → k.0 < w.config.servers → IsWell w → IsLawful w b
-    → IsLawful (ticks w k stamp) b
-tick_lawful w k stamp b here well l =
+pub tick_lawful : (w : World) (k : Server) (stamp : ℕ) (up : Bool) (b : Bag) → k.0 < w.config.servers → IsWell w → IsLawful w b
+    → IsLawful (ticks w k stamp up) b
+tick_lawful w k stamp up b here well l =
     let s = pool_of w k in
     let inside = inside_servers w k well here in
     let m = l.pools k here in
@@ -189,12 +206,12 @@ tick_lawful w k stamp b here well l =
               named = seat.named;
               stands = seat.stands;
               letters = seat.letters;
-              waits = every_pool (λ t x. P x) w k (ticked s stamp) inside (seat.waits k here) (λ t there differs. seat.waits t there);
+              waits = every_pool (λ t x. P x) w k (ticked s stamp up) inside (seat.waits k here) (λ t there differs. seat.waits t there);
               said = seat.said;
               facts = seat.facts;
             },
           );
-      pools = every_pool (λ t x. ServerAgrees b x) w k (ticked s stamp) inside m (λ t there differs. l.pools t there);
+      pools = every_pool (λ t x. ServerAgrees b x) w k (ticked s stamp up) inside m (λ t there differs. l.pools t there);
     }
 
 -- An event of a server.
@@ -202,5 +219,5 @@ pub event_lawful : (w next : World) (from : Actor) (me : Server) (letter : Lette
     → IsLawful w b
     → Serves w from me letter rest x next → (n : Bag) × IsLawful next n
 event_lawful w next from me letter rest x b well l does =
-    event_keeps (λ v. (n : Bag) × IsLawful v n) (λ v k stamp here own was. (was.0, tick_lawful v k stamp was.0 here own was.1))
+    event_keeps (λ v. (n : Bag) × IsLawful v n) (λ v k stamp up here own was. (was.0, tick_lawful v k stamp up was.0 here own was.1))
     (λ v k a own is was. act_lawful v k was.0 own was.1 a is) w next from me letter rest x well does (b, l)

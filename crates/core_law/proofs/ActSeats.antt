@@ -22,18 +22,19 @@ use Rattle.adlb_unit.specs.declared.names.BatchId.{BatchId}
 use Rattle.bag_ledger.specs.declared.entries.Entry.TheVariants as enters
 use Rattle.batch_store.specs.Store.{closed, fetched, is_due}
 use Rattle.batch_store.specs.declared.parts.Part.{Part}
-use Rattle.server_law.specs.Acts.{Act, Accepts, Answers, Around, Asks_on, Closes, Counts, Declines, Drops_hint, Ends_keep, Ends_put, Ends_reserve, Ends_try, Fetches, Fetches_part, Finds, Gives, Grants, Grants_try, Heard, Hints, Is_hinted, Keeps, Looks, Notes_finish, Parks, Passes_on, Refuses, Refuses_part, ServerSaying, Shuts, Tells, Wakes, comes, entries, frees, of_rank, of_server, says, takes, Queries, Promises, Refuses_push, Sends_unit, Cancels, Stops_push, Ends_push, Arrives, Acks, Withdraws}
+use Rattle.server_law.specs.Acts.{Act, Accepts, Checks_alone, Fails, Finds_alone, Gives_up, Hears_done, Hears_exhaust, Hears_failed, Hears_shutdown, Marks, Notes_own, Notices, Passes, Shuts_alone, Starts, Wants, Answers, Around, Asks_on, Closes, Counts, Declines, Drops_hint, Ends_keep, Ends_put, Ends_reserve, Ends_try, Fetches, Fetches_part, Finds, Gives, Grants, Grants_try, Heard, Hints, Is_hinted, Keeps, Looks, Notes_finish, Parks, Passes_on, Refuses, Refuses_part, ServerSaying, Shuts, Tells, Wakes, comes, entries, frees, of_rank, of_server, says, takes, Queries, Promises, Refuses_push, Sends_unit, Cancels, Stops_push, Ends_push, Arrives, Acks, Withdraws}
 use Rattle.core_run.specs.World.{World, client_of, pool_of}
 use Rattle.core_law.specs.Acting.{AreFront, IsAct, acted}
 use Rattle.core_law.specs.Lawful.{IsAsked, IsFact, IsOfCall, IsSeat, IsWaiting, OfCall}
 use Rattle.core_law.specs.OnLinks.{Each}
 use Rattle.core_law.specs.Letters.{call_letter}
 use Rattle.core_law.specs.Others.{tells_of}
+use Rattle.core_law.proofs.Acts.{others_told}
 use Rattle.core_law.proofs.RankSteps.{AreSilent, weighs_nothing}
 use Rattle.core_law.proofs.Seats.{IsMade, seat_stays}
 use Rattle.core_law.proofs.UnderWay.{at_front, each_parts}
 
--- the rank of which an act tells; a hint changes nothing for its rank, and a push tells of none
+-- the rank of which an act tells; a hint changes nothing for its rank, and a push and a check tell of none
 abbrev pub about : Act → Option Rank
 about (Accepts unit) = Some unit.id.rank
 about (Refuses unit) = Some unit.id.rank
@@ -72,8 +73,23 @@ about (Ends_push to id size) = None
 about (Arrives from unit) = None
 about (Acks to id) = None
 about (Withdraws from id) = None
-about Finds = None
-about Shuts = None
+about (Hears_done rank request) = Some rank
+about Notices = None
+about Notes_own = None
+about (Wants from) = None
+about Starts = None
+about (Marks from t) = None
+about (Passes from t) = None
+about (Fails from t why) = None
+about (Gives_up from t) = None
+about (Hears_failed from t why) = None
+about (Finds from t) = None
+about (Shuts from t) = None
+about (Hears_exhaust from) = None
+about (Hears_shutdown from) = None
+about Finds_alone = None
+about Shuts_alone = None
+about Checks_alone = None
 
 -- It enters nothing of others, says nothing to them, and none of them comes to wait.
 
@@ -87,7 +103,21 @@ frees_silent me k batch part = by_due (is_due part)
 silent : (me : Rank) (a : Act) (s : ServerModel) → tells_of me (about a) ≡ false → AreSilent me (entries a s)
 silent me (Parks wish) s is = tt
 silent me (Notes_finish rank) s is = tt
-silent me Shuts s is = tt
+silent me (Hears_done rank request) s is = tt
+silent me Notices s is = tt
+silent me Notes_own s is = tt
+silent me (Wants from) s is = tt
+silent me Starts s is = tt
+silent me (Marks from t) s is = tt
+silent me (Passes from t) s is = tt
+silent me (Fails from t why) s is = tt
+silent me (Gives_up from t) s is = tt
+silent me (Hears_failed from t why) s is = tt
+silent me (Shuts from t) s is = tt
+silent me (Hears_exhaust from) s is = tt
+silent me (Hears_shutdown from) s is = tt
+silent me Shuts_alone s is = tt
+silent me Checks_alone s is = tt
 silent me (Asks_on at wish to rest) s is = tt
 silent me (Passes_on at wish from rest note) s is = tt
 silent me (Wakes at wish from rest) s is = tt
@@ -105,7 +135,8 @@ silent me (Promises from id size) s is = (refl, tt)
 silent me (Sends_unit to size unit) s is = (refl, tt)
 silent me (Arrives from unit) s is = (refl, tt)
 silent me (Withdraws from id) s is = (refl, tt)
-silent me Finds s is = (refl, tt)
+silent me (Finds from t) s is = (refl, tt)
+silent me Finds_alone s is = (refl, tt)
 silent me (Closes request batch accepted part) s is = (is, frees_silent me s.me batch (closed accepted part))
 silent me (Fetches_part rank request batch part) s is = (is, frees_silent me s.me batch (fetched part))
 silent me _ s is = (is, tt)
@@ -116,8 +147,22 @@ SayNothing me k ys = Each (λ y. call_letter me (by.Server k) y.to y.message ≡
 says_nothing : (me : Rank) (a : Act) (s : ServerModel) (k : Server) → tells_of me (about a) ≡ false → SayNothing me k (says a s)
 says_nothing me (Parks wish) s k is = tt
 says_nothing me (Notes_finish rank) s k is = tt
-says_nothing me Shuts s k is = tt
-says_nothing me Finds s k is = tt
+says_nothing me Notices s k is = (refl, tt)
+says_nothing me Notes_own s k is = tt
+says_nothing me (Wants from) s k is = tt
+says_nothing me Starts s k is = (refl, tt)
+says_nothing me (Marks from t) s k is = (refl, tt)
+says_nothing me (Passes from t) s k is = (refl, tt)
+says_nothing me (Fails from t why) s k is = (refl, tt)
+says_nothing me (Gives_up from t) s k is = tt
+says_nothing me (Hears_failed from t why) s k is = tt
+says_nothing me (Finds from t) s k is = others_told (λ to m. call_letter me (by.Server k) to m ≡ 0) s tells.Exhaust (λ to. refl)
+says_nothing me (Shuts from t) s k is = others_told (λ to m. call_letter me (by.Server k) to m ≡ 0) s tells.Shutdown (λ to. refl)
+says_nothing me (Hears_exhaust from) s k is = tt
+says_nothing me (Hears_shutdown from) s k is = tt
+says_nothing me Finds_alone s k is = tt
+says_nothing me Shuts_alone s k is = tt
+says_nothing me Checks_alone s k is = tt
 says_nothing me (Wakes at wish from rest) s k is = tt
 says_nothing me (Is_hinted at e from) s k is = tt
 says_nothing me (Drops_hint from rank request) s k is = tt
@@ -203,6 +248,7 @@ reserve_asked c (waits_for.Common request note common own) k wish is = absurd (c
 reserve_asked c (waits_for.Keep request common first tried) k wish is = absurd (cc is.0)
 reserve_asked c (waits_for.Close request batch) k wish is = absurd (cc is.0)
 reserve_asked c (waits_for.Count request kind) k wish is = absurd (cc is.0)
+reserve_asked c (waits_for.SetDone request tried) k wish is = absurd (cc is.0)
 
 -- the rank comes to wait
 pub parks_stays : (w : World) (k : Server) (wish : Wish) (b : Bag) (me : Rank) (coming : Option Message) → IsMade w k (Parks wish) b b

@@ -1,8 +1,9 @@
 -- Sums along an act of a server: what it takes, what it sends, and what it changes.
-use Rattle.std.proofs.Common.{◌≡◌, ◌<◌, ◌+◌, true, List, [], ◌∷◌, length, refl, sym, ap, ◌∙◌, subst, arith}
+use Rattle.std.proofs.Common.{◌≡◌, ◌<◌, ◌+◌, true, List, [], ◌∷◌, length, map, refl, sym, ap, ◌∙◌, subst, arith}
 use Rattle.std.proofs.lemmas.Bool.{lt-ltb}
 use Rattle.std.proofs.lemmas.List.{length-set}
 use Rattle.adlb_unit.specs.Links.{is_within, place_of}
+use Rattle.adlb_unit.specs.Ring.{others}
 use Rattle.adlb_unit.specs.declared.actors.Actor.{Actor}
 use Rattle.adlb_unit.specs.declared.actors.Actor.TheVariants as by
 use Rattle.adlb_unit.specs.declared.configs.Config.{Config}
@@ -10,7 +11,7 @@ use Rattle.adlb_unit.specs.declared.letters.Letter.{Letter}
 use Rattle.adlb_unit.specs.declared.letters.Sending.{Sending}
 use Rattle.adlb_unit.specs.declared.messages.Message.{Message}
 use Rattle.adlb_unit.specs.declared.names.Server.{Server}
-use Rattle.server_law.specs.Acts.{Act, Heard, ServerSaying, does, says, takes}
+use Rattle.server_law.specs.Acts.{Act, Heard, ServerSaying, does, says, takes, to_others, to_server}
 use Rattle.server_law.specs.Carried.{all_counted, counted, done, sends, stamped}
 use Rattle.server_law.specs.State.{ServerModel, start as new_pool}
 use Rattle.core_run.specs.World.{Links, World, actors, link, pool_of, put_link}
@@ -45,6 +46,15 @@ pub sent_each : (P : Actor → Message → Type 0) (s : ServerModel) (ys : List 
     → Each (λ (x : Sending). P x.to x.letter.message) (stamped s ys)
 sent_each P s [] each = tt
 sent_each P s (y ∷ ys) each = (each.0, sent_each P (counted s y.to) ys each.1)
+
+-- of what is told to each other server
+pub others_told : (P : Actor → Message → Type 0) (s : ServerModel) (m : Message) → ((to : Server) → P (by.Server to) m)
+    → Each (λ (y : ServerSaying). P y.to y.message) (to_others s m)
+others_told P s m each = told (others s.config s.me)
+  where
+    told : (ts : List Server) → Each (λ (y : ServerSaying). P y.to y.message) (map (λ to. to_server to m) ts)
+    told [] = tt
+    told (to ∷ ts) = (each to, told ts)
 
 -- What is taken.
 

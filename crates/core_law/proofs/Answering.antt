@@ -119,6 +119,7 @@ put_asked c (waits_for.Common request note common own) k unit is = absurd (cc is
 put_asked c (waits_for.Keep request common first tried) k unit is = absurd (cc is.0)
 put_asked c (waits_for.Count to kind) k unit is = absurd (cc is.0)
 put_asked c (waits_for.Close request batch) k unit is = absurd (cc is.0)
+put_asked c (waits_for.SetDone to tried) k unit is = absurd (cc is.0)
 
 fetch_asked : (c : ClientModel) (p : Pending) (k : Server) (request : ℕ) (id : UnitId) → IsAsked c p k (tells.Fetch request id)
     → (note : UnitNote) × (p ≡ waits_for.Fetch request note) × (note.id ≡ id) × (k ≡ note.server)
@@ -131,6 +132,7 @@ fetch_asked c (waits_for.Keep to common first tried) k request id is = absurd (c
 fetch_asked c (waits_for.Count to kind) k request id is = absurd (cc is.0)
 fetch_asked c (waits_for.Close to batch) k request id is = absurd (cc is.0)
 fetch_asked c (waits_for.Fetch to note) k request id is = let e = is.0 in (note, cc, cc, is.1)
+fetch_asked c (waits_for.SetDone to tried) k request id is = absurd (cc is.0)
 
 common_asked : (c : ClientModel) (p : Pending) (k : Server) (request : ℕ) (batch : BatchId) → IsAsked c p k (tells.FetchCommon request batch)
     → (note : UnitNote) × (common : CommonRef) × (own : List ℕ) × (p ≡ waits_for.Common request note common own) × (common.batch ≡ batch)
@@ -144,6 +146,7 @@ common_asked c (waits_for.Common to note common own) k request batch is = let e 
 common_asked c (waits_for.Keep to common first tried) k request batch is = absurd (cc is.0)
 common_asked c (waits_for.Count to kind) k request batch is = absurd (cc is.0)
 common_asked c (waits_for.Close to other) k request batch is = absurd (cc is.0)
+common_asked c (waits_for.SetDone to tried) k request batch is = absurd (cc is.0)
 
 keep_asked : (c : ClientModel) (p : Pending) (k : Server) (request : ℕ) (common : List ℕ) → IsAsked c p k (tells.KeepCommon request common)
     → (first : Server) × (tried : ℕ) × (p ≡ waits_for.Keep request common first tried) × (k ≡ asked c first tried)
@@ -156,6 +159,7 @@ keep_asked c (waits_for.Common to note part own) k request common is = absurd (c
 keep_asked c (waits_for.Keep to other first tried) k request common is = let e = is.0 in (first, tried, cc, is.1)
 keep_asked c (waits_for.Count to kind) k request common is = absurd (cc is.0)
 keep_asked c (waits_for.Close to other) k request common is = absurd (cc is.0)
+keep_asked c (waits_for.SetDone to tried) k request common is = absurd (cc is.0)
 
 close_asked : (c : ClientModel) (p : Pending) (k : Server) (request : ℕ) (batch : BatchId) (accepted : ℕ)
     → IsAsked c p k (tells.CloseBatch request batch accepted)
@@ -169,6 +173,7 @@ close_asked c (waits_for.Common to note part own) k request batch accepted is = 
 close_asked c (waits_for.Keep to other first tried) k request batch accepted is = absurd (cc is.0)
 close_asked c (waits_for.Count to kind) k request batch accepted is = absurd (cc is.0)
 close_asked c (waits_for.Close to common) k request batch accepted is = let e = is.0 in (common, cc, cc, cc, is.1)
+close_asked c (waits_for.SetDone to tried) k request batch accepted is = absurd (cc is.0)
 
 count_asked : (c : ClientModel) (p : Pending) (k : Server) (request : ℕ) (kind : WorkType) → IsAsked c p k (tells.Count request kind)
     → (p ≡ waits_for.Count request kind) × (k ≡ home c.config c.me)
@@ -181,6 +186,7 @@ count_asked c (waits_for.Common to note part own) k request kind is = absurd (cc
 count_asked c (waits_for.Keep to other first tried) k request kind is = absurd (cc is.0)
 count_asked c (waits_for.Close to batch) k request kind is = absurd (cc is.0)
 count_asked c (waits_for.Count to other) k request kind is = let e = is.0 in (cc, is.1)
+count_asked c (waits_for.SetDone to tried) k request kind is = absurd (cc is.0)
 
 try_asked : (c : ClientModel) (p : Pending) (k : Server) (wish : Wish) → IsAsked c p k (tells.Try wish.request wish.types)
     → (tried : ℕ) × (p ≡ waits_for.Try wish.request wish.types tried) × (k ≡ looks_at c tried)
@@ -193,6 +199,7 @@ try_asked c (waits_for.Common to note part own) k wish is = absurd (cc is.0)
 try_asked c (waits_for.Keep to other first tried) k wish is = absurd (cc is.0)
 try_asked c (waits_for.Close to batch) k wish is = absurd (cc is.0)
 try_asked c (waits_for.Count to kind) k wish is = absurd (cc is.0)
+try_asked c (waits_for.SetDone to tried) k wish is = absurd (cc is.0)
 
 -- a put that was asked for last at this server
 pub record IsPutHere (w : World) (k : Server) (b : Bag) (unit : Work) : Type 0 where
@@ -374,3 +381,31 @@ count_here w k a b rank request kind l is takes_it =
     let its = asked_call w k a b rank (tells.Count request kind) l is takes_it refl in
     let of = count_asked (client_of w rank) (client_of w rank).pending k request kind its.2 in
     record { calling = record { within = its.0; call = of.0; busy = refl; seat = its.1 }; here = of.1 }
+
+-- That the problem is done.
+
+done_asked : (c : ClientModel) (p : Pending) (k : Server) (request : ℕ) → IsAsked c p k (tells.Done request)
+    → (tried : ℕ) × (p ≡ waits_for.SetDone request tried) × (k ≡ looks_at c tried)
+done_asked c waits_for.Nothing k request is = absurd is
+done_asked c (waits_for.Put unit first tried) k request is = absurd (cc is.0)
+done_asked c (waits_for.Reserve to types) k request is = absurd (cc is.0)
+done_asked c (waits_for.Try to types tried) k request is = absurd (cc is.0)
+done_asked c (waits_for.Fetch to note) k request is = absurd (cc is.0)
+done_asked c (waits_for.Common to note part own) k request is = absurd (cc is.0)
+done_asked c (waits_for.Keep to other first tried) k request is = absurd (cc is.0)
+done_asked c (waits_for.Close to other) k request is = absurd (cc is.0)
+done_asked c (waits_for.Count to kind) k request is = absurd (cc is.0)
+done_asked c (waits_for.SetDone to tried) k request is = let e = is.0 in (tried, cc, is.1)
+
+-- a rank says so to this server
+pub record IsDoneHere (w : World) (k : Server) (b : Bag) (rank : Rank) (request : ℕ) : Type 0 where
+  pub tried : ℕ
+  pub calling : IsCalling w b rank (waits_for.SetDone request tried)
+  pub here : k ≡ looks_at (client_of w rank) tried
+
+pub done_here : (w : World) (k : Server) (a : Act) (b : Bag) (rank : Rank) (request : ℕ) → IsLawful w b → IsAct w k a
+    → takes a ≡ of_rank rank (tells.Done request) ∷ [] → IsDoneHere w k b rank request
+done_here w k a b rank request l is takes_it =
+    let its = asked_call w k a b rank (tells.Done request) l is takes_it refl in
+    let of = done_asked (client_of w rank) (client_of w rank).pending k request its.2 in
+    record { tried = of.0; calling = record { within = its.0; call = of.1; busy = refl; seat = its.1 }; here = of.2 }

@@ -1,6 +1,6 @@
 -- Letters of a rank's calls through each act of a server and each step of a rank, and the kinds of all letters through each step of a
 -- rank.
-use Rattle.std.proofs.Common.{◌≡◌, ℕ, zero, suc, ◌+◌, Bool, true, false, cond, ◌&&◌, List, [], ◌∷◌, map, refl, arith, eqb}
+use Rattle.std.proofs.Common.{◌≡◌, ℕ, ◌+◌, Bool, true, false, cond, ◌&&◌, List, [], ◌∷◌, map, refl, arith, eqb}
 use Rattle.std.specs.List.{range_with_len}
 use Rattle.adlb_unit.specs.declared.actors.Actor.{Actor}
 use Rattle.adlb_unit.specs.declared.actors.Actor.TheVariants as by
@@ -12,38 +12,45 @@ use Rattle.adlb_unit.specs.declared.names.Server.{Server}
 use Rattle.rank_client.specs.Rules.{farewell}
 use Rattle.rank_client.specs.State.{ClientModel}
 use Rattle.rank_client.specs.Step.{Made}
-use Rattle.server_law.specs.Acts.{Act, Finds}
+use Rattle.server_law.specs.Acts.{Act, Finds, Shuts}
 use Rattle.server_law.specs.State.{ServerModel}
-use Rattle.core_law.specs.Letters.{any_remote, call_letter, kinds, misfit, numbered, numbered_letter, one, one_letter, remotes}
+use Rattle.core_run.specs.World.{server_named}
+use Rattle.core_law.specs.Letters.{any_remote, any_remote_letter, call_letter, kinds, misfit, numbered, numbered_letter, one, one_letter, remotes, remotes_letter}
 use Rattle.core_law.specs.Measures.{IsEven, weigh, weights}
 use Rattle.core_law.proofs.Kept.{IsLaw, RankKeeps}
 use Rattle.core_law.proofs.RankShapes.{Began, Heard, It_asks, It_leaves, It_rests, Then}
+use Rattle.core_law.proofs.Sums.{others_none, weigh-map_none}
 
 -- A server.
 
 pub calls_even : (rank : Rank) (a : Act) (s : ServerModel) → IsEven (one_letter rank) a s
-calls_even rank Finds s = omega arith
+calls_even rank (Finds from t) s = let none = others_none (call_letter rank) s.me s tells.Exhaust (λ to. refl) in omega arith
+calls_even rank (Shuts from t) s = let none = others_none (call_letter rank) s.me s tells.Shutdown (λ to. refl) in omega arith
 calls_even rank _ s = omega arith
 
 pub numbers_even : (rank : Rank) (next : ℕ) (a : Act) (s : ServerModel) → IsEven (numbered rank next) a s
-numbers_even rank next Finds s = omega arith
+numbers_even rank next (Finds from t) s = let none = others_none (numbered_letter rank next) s.me s tells.Exhaust (λ to. refl) in omega arith
+numbers_even rank next (Shuts from t) s = let none = others_none (numbered_letter rank next) s.me s tells.Shutdown (λ to. refl) in omega arith
 numbers_even rank next _ s = omega arith
 
 pub remotes_even : (home asked : Server) (rank : Rank) (request : ℕ) (a : Act) (s : ServerModel)
     → IsEven (remotes home asked rank request) a s
-remotes_even home asked rank request Finds s = omega arith
+remotes_even home asked rank request (Finds from t) s =
+    let none = others_none (remotes_letter home asked rank request) s.me s tells.Exhaust (λ to. refl) in omega arith
+remotes_even home asked rank request (Shuts from t) s =
+    let none = others_none (remotes_letter home asked rank request) s.me s tells.Shutdown (λ to. refl) in omega arith
 remotes_even home asked rank request _ s = omega arith
 
 pub any_even : (rank : Rank) (a : Act) (s : ServerModel) → IsEven (any_remote rank) a s
-any_even rank Finds s = omega arith
+any_even rank (Finds from t) s = let none = others_none (any_remote_letter rank) s.me s tells.Exhaust (λ to. refl) in omega arith
+any_even rank (Shuts from t) s = let none = others_none (any_remote_letter rank) s.me s tells.Shutdown (λ to. refl) in omega arith
 any_even rank _ s = omega arith
 
 -- A rank. Finish is no letter of a call.
 
 none_each : (f : Actor → Message → ℕ) (from n : ℕ) → ((to : Server) → f (by.Server to) tells.Finish ≡ 0)
     → weigh (λ y. f (by.Server y.to) y.message) (map farewell (range_with_len from n)) ≡ 0
-none_each f from zero none = refl
-none_each f from (suc n) none = let here = none (record { 0 = from }) in let later = none_each f (from + 1) n none in omega arith
+none_each f from n none = weigh-map_none (λ y. f (by.Server y.to) y.message) farewell (range_with_len from n) (λ to. none (server_named to))
 
 -- Kinds.
 

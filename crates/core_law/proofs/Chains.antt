@@ -1,5 +1,5 @@
 -- An event of a server is a chain of acts.
-use Rattle.std.proofs.Common.{◌≡◌, ◌<◌, ℕ, zero, suc, List, [], ◌∷◌, ◌++◌, length, set, refl, sym, ap, ◌∙◌, arith, append-nil, append_assoc}
+use Rattle.std.proofs.Common.{◌≡◌, ◌<◌, ℕ, zero, suc, Bool, List, [], ◌∷◌, ◌++◌, length, set, refl, sym, ap, ◌∙◌, arith, append-nil, append_assoc}
 use Rattle.std.proofs.lemmas.List.{get_or-set_same, length-set, set-get_or}
 use Rattle.adlb_unit.specs.Links.{place_of}
 use Rattle.adlb_unit.specs.declared.actors.Actor.{Actor}
@@ -81,15 +81,16 @@ chained w me a more here none =
     ∙ one_joined w me a (carried more (done a (pool_of w me)))
 
 -- An event: the server has its stamp, the first act takes the letter, and the others follow.
-pub event_is_acts : (w : World) (from : Actor) (me : Server) (letter : Letter) (rest : List Letter) (stamp : ℕ) (a : Act) (more : List Act)
+pub event_is_acts : (w : World) (from : Actor) (me : Server) (letter : Letter) (rest : List Letter) (stamp : ℕ) (up : Bool)
+    (a : Act) (more : List Act)
     → me.0 < length w.servers → link w.links (place_of w.config from) (place_of w.config (by.Server me)) ≡ letter ∷ rest
     → takes a ≡ record { from = from; message = letter.message } ∷ [] → TakeNone more
-    → after_server w me (taken w from (by.Server me) rest) (carried (a ∷ more) (ticked (pool_of w me) stamp))
-    ≡ acted_all (ticks w me stamp) me (a ∷ more)
+    → after_server w me (taken w from (by.Server me) rest) (carried (a ∷ more) (ticked (pool_of w me) stamp up))
+    ≡ acted_all (ticks w me stamp up) me (a ∷ more)
 unfolding with_parts
-event_is_acts w from me letter rest stamp a more here front takes_it none =
-    let v = ticks w me stamp in
-    let s = ticked (pool_of w me) stamp in
+event_is_acts w from me letter rest stamp up a more here front takes_it none =
+    let v = ticks w me stamp up in
+    let s = ticked (pool_of w me) stamp up in
     let inside : me.0 < length v.servers = let same = length-set w.servers me.0 s in omega arith in
     let pool : pool_of v me ≡ s = get_or-set_same w.servers me.0 s (new_pool w.config me) here in
     let off : taken_off w.config me w.links (takes a) ≡ taken w from (by.Server me) rest =

@@ -75,7 +75,7 @@ pub record Comes (c : ClientModel) (p : Pending) (a : Message) (b next : Bag) (e
   pub servers : next.servers ≡ c.config.servers
   pub caused : IsCaused next (in_call c p (Some a)).end
   pub held : All (IsHeld next c.me) (c.handles ++ note_coming p (Some a))
-  pub said : said c p (Some a) ≡ c.transcript ++ calls_from b es c.me
+  pub said : said c p (Some a) ≡ said c p None ++ calls_from b es c.me
   pub facts : All (IsFact next) (c.handles ++ note_coming p (Some a))
   pub owed : IsOwedIn next p (Some a)
   pub accepted : HasAccepted next (in_call c p (Some a)).batch (accepted_by c p (Some a))
@@ -136,6 +136,7 @@ pub record IsEnded (c : ClientModel) (p : Pending) (request : ℕ) (end : End) :
   pub rank : overs end (in_call c p None) ≡ in_call c p (Some (tells.Ended request end))
   pub end_is : (in_call c p (Some (tells.Ended request end))).end ≡ Some end
   pub notes : note_coming p (Some (tells.Ended request end)) ≡ note_coming p None
+  pub before : said c p None ≡ c.transcript
   pub said : said c p (Some (tells.Ended request end)) ≡ c.transcript ++ record { call = call; answer = answers.Ended end } ∷ []
   pub owed : (x : Bag) → IsOwedIn x p (Some (tells.Ended request end))
   pub batch : (in_call c p (Some (tells.Ended request end))).batch ≡ (in_call c p None).batch
@@ -154,7 +155,8 @@ over_comes c p b next request end w e run =
       servers = w.servers;
       caused = rw e.end_is cause;
       held = rw e.notes w.held;
-      said = e.said ∙ ap (λ l. c.transcript ++ l) (sym (one_call b e' c.me (record { call = e.call; answer = answers.Ended end }) told));
+      said = e.said ∙ ap (λ l. c.transcript ++ l) (sym (one_call b e' c.me (record { call = e.call; answer = answers.Ended end }) told))
+          ∙ ap (λ l. l ++ calls_from b (e' ∷ []) c.me) (sym e.before);
       owed = e.owed (with_rank c.me (overs end) b);
       accepted = rw (e.batch, e.accepted) (accepted_same b (with_rank c.me (overs end) b) (in_call c p None).batch (accepted_by c p None) refl w.accepted);
       facts = rw e.notes (facts_same b (with_rank c.me (overs end) b) (c.handles ++ note_coming p None) refl w.facts);
@@ -162,23 +164,63 @@ over_comes c p b next request end w e run =
 
 pub put_ended : (c : ClientModel) (unit : Unit) (first : Server) (tried request : ℕ) (end : End)
     → IsEnded c (waits_for.Put unit first tried) request end
-put_ended c unit first tried request end =
-    record { call = call_of unit; calls = refl; rank = refl; end_is = refl; notes = refl; said = refl; owed = λ x. tt; batch = refl; accepted = refl }
+put_ended c unit first tried request end = record {
+  call = call_of unit;
+  calls = refl;
+  rank = refl;
+  end_is = refl;
+  notes = refl;
+  before = refl;
+  said = refl;
+  owed = λ x. tt;
+  batch = refl;
+  accepted = refl;
+}
 
 pub reserve_ended : (c : ClientModel) (request : ℕ) (types : Option (List WorkType)) (to : ℕ) (end : End)
     → IsEnded c (waits_for.Reserve request types) to end
-reserve_ended c request types to end =
-    record { call = calls_to.Reserve types; calls = refl; rank = refl; end_is = refl; notes = refl; said = refl; owed = λ x. tt; batch = refl; accepted = refl }
+reserve_ended c request types to end = record {
+  call = calls_to.Reserve types;
+  calls = refl;
+  rank = refl;
+  end_is = refl;
+  notes = refl;
+  before = refl;
+  said = refl;
+  owed = λ x. tt;
+  batch = refl;
+  accepted = refl;
+}
 
 pub try_ended : (c : ClientModel) (request : ℕ) (types : Option (List WorkType)) (tried to : ℕ) (end : End)
     → IsEnded c (waits_for.Try request types tried) to end
-try_ended c request types tried to end =
-    record { call = calls_to.Try types; calls = refl; rank = refl; end_is = refl; notes = refl; said = refl; owed = λ x. tt; batch = refl; accepted = refl }
+try_ended c request types tried to end = record {
+  call = calls_to.Try types;
+  calls = refl;
+  rank = refl;
+  end_is = refl;
+  notes = refl;
+  before = refl;
+  said = refl;
+  owed = λ x. tt;
+  batch = refl;
+  accepted = refl;
+}
 
 pub keep_ended : (c : ClientModel) (request : ℕ) (common : List ℕ) (first : Server) (tried to : ℕ) (end : End)
     → IsEnded c (waits_for.Keep request common first tried) to end
-keep_ended c request common first tried to end =
-    record { call = calls_to.BeginBatch common; calls = refl; rank = refl; end_is = refl; notes = refl; said = refl; owed = λ x. tt; batch = refl; accepted = refl }
+keep_ended c request common first tried to end = record {
+  call = calls_to.BeginBatch common;
+  calls = refl;
+  rank = refl;
+  end_is = refl;
+  notes = refl;
+  before = refl;
+  said = refl;
+  owed = λ x. tt;
+  batch = refl;
+  accepted = refl;
+}
 
 -- The unit is refused.
 
@@ -298,6 +340,7 @@ pub record IsGranted (c : ClientModel) (p : Pending) (request : ℕ) (note : Uni
   pub end_is : (in_call c p (Some (tells.Grant request note))).end ≡ (in_call c p None).end
   pub none : note_coming p None ≡ []
   pub notes : note_coming p (Some (tells.Grant request note)) ≡ note ∷ []
+  pub before : said c p None ≡ c.transcript
   pub said : said c p (Some (tells.Grant request note)) ≡ c.transcript ++ record { call = call; answer = answers.Granted note } ∷ []
   pub owed : (x : Bag) → IsOwedIn x p (Some (tells.Grant request note))
   pub batch : (in_call c p (Some (tells.Grant request note))).batch ≡ (in_call c p None).batch
@@ -312,6 +355,7 @@ reserve_granted c request types to note = record {
   end_is = refl;
   none = refl;
   notes = refl;
+  before = refl;
   said = refl;
   owed = λ x. tt;
   batch = refl;
@@ -327,6 +371,7 @@ try_granted c request types tried to note = record {
   end_is = refl;
   none = refl;
   notes = refl;
+  before = refl;
   said = refl;
   owed = λ x. tt;
   batch = refl;
@@ -358,7 +403,8 @@ granted_comes c p request me work u b next g w there same free run =
       servers = w.servers;
       caused = rw g.end_is w.caused;
       held = rw g.notes (All-push (IsHeld d c.me) c.handles note left here);
-      said = g.said ∙ ap (λ l. c.transcript ++ l) (sym (one_call b e c.me said_so told));
+      said = g.said ∙ ap (λ l. c.transcript ++ l) (sym (one_call b e c.me said_so told))
+          ∙ ap (λ l. l ++ calls_from b (e ∷ []) c.me) (sym g.before);
       owed = g.owed d;
       accepted = rw (g.batch, g.accepted) (accepted_same b d (in_call c p None).batch (accepted_by c p None) refl w.accepted);
       facts = rw g.notes
@@ -503,3 +549,18 @@ counted_comes c request kind me info b next w run =
       accepted = accepted_same b d c.batch c.accepted refl w.accepted;
       facts = facts_same b d (c.handles ++ []) refl w.facts;
     })
+
+-- A server has heard that the problem is done, of which the ledger told before.
+
+pub told_comes : (c : ClientModel) (request tried : ℕ) (b next : Bag) → Waits c (waits_for.SetDone request tried) b → b ≡ next
+    → Comes c (waits_for.SetDone request tried) (tells.DoneHeard request) b next []
+told_comes c request tried b next w same = rw (sym same) (record {
+  rank = w.rank;
+  servers = w.servers;
+  caused = w.caused;
+  held = w.held;
+  said = sym (append-nil (said c (waits_for.SetDone request tried) None));
+  owed = w.owed;
+  accepted = w.accepted;
+  facts = w.facts;
+})

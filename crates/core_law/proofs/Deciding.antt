@@ -13,8 +13,8 @@ use Rattle.adlb_unit.specs.declared.names.WorkType.{WorkType}
 use Rattle.adlb_unit.specs.declared.notes.End.{End}
 use Rattle.adlb_unit.specs.declared.notes.UnitNote.{UnitNote}
 use Rattle.adlb_unit.specs.declared.units.Unit.{Unit as Work}
-use Rattle.bag_ledger.specs.Bag.{Bag, has_declined, is_free, settled, unit_of, rank_at, part_of}
-use Rattle.bag_ledger.specs.Runs.{IsRun, note_of}
+use Rattle.bag_ledger.specs.Bag.{Bag, has_declined, is_free, unit_of, rank_at, part_of}
+use Rattle.bag_ledger.specs.Runs.{IsRunWhere, note_of}
 use Rattle.bag_ledger.specs.declared.entries.Entry.{Entry}
 use Rattle.bag_ledger.specs.declared.entries.Entry.TheVariants as enters
 use Rattle.bag_ledger.specs.declared.entries.Said.{Said}
@@ -31,11 +31,11 @@ use Rattle.work_queue.specs.declared.placing.Placed.{Placed}
 use Rattle.rank_client.specs.Calls.{is_fetched, is_granted}
 use Rattle.rank_client.specs.declared.pendings.Pending.{Pending}
 use Rattle.rank_client.specs.declared.pendings.Pending.TheVariants as waits_for
-use Rattle.rank_client.specs.Agreement.{HasAccepted as HasAcceptedOf, in_call}
+use Rattle.rank_client.specs.Agreement.{HasAccepted as HasAcceptedOf, in_call, said}
 use Rattle.rank_client.specs.Expected.{IsAtServer, IsAwaited, IsNewNote}
 use Rattle.reserve_path.specs.declared.wishes.Wish.{Wish}
 use Rattle.server_law.specs.State.{ServerModel, is_home}
-use Rattle.server_law.specs.Acts.{Act, Accepts, Answers, Around, Closes, Counts, Ends_keep, Ends_put, Ends_reserve, Ends_try, Fetches, Fetches_part, Gives, Grants, Grants_try, Keeps, Looks, Refuses, Refuses_part, Tells, batch_of, entries, frees, unit_of as unit_named}
+use Rattle.server_law.specs.Acts.{Act, Accepts, Answers, Around, Closes, Counts, Ends_keep, Ends_put, Ends_reserve, Ends_try, Fetches, Fetches_part, Gives, Grants, Grants_try, Hears_done, Keeps, Looks, Refuses, Refuses_part, Tells, batch_of, entries, frees, unit_of as unit_named}
 use Rattle.server_law.specs.Agreement.{ServerAgrees}
 use Rattle.reserve_path.specs.Grants.{unit_with}
 use Rattle.server_law.specs.Finding.{best_for}
@@ -55,11 +55,12 @@ use Rattle.server_law.proofs.ByIds.{free_is_found, pinned_is_found}
 use Rattle.server_law.proofs.Lodging.{lodged, place_is}
 use Rattle.core_run.specs.World.{World, client_of, pool_of}
 use Rattle.core_law.specs.Acting.{IsAct, acted}
+use Rattle.core_law.specs.Found.{found_in}
 use Rattle.core_law.specs.Lawful.{IsLawful, IsSeat}
 use Rattle.core_law.specs.Well.{IsWell}
 use Rattle.core_law.proofs.ActSeats.{about}
-use Rattle.core_law.proofs.Answering.{IsCalling, IsPutHere, IsReserveHere, IsTryHere, Replies, ask_call, fetch_here, idle_here, one_self, put_here, replies, reply_passes, reserve_here, try_here, waits_so, IsKeepHere, close_here, common_here, count_here, keep_here}
-use Rattle.core_law.proofs.Coming.{Comes, IsEnded, IsGranted, Waits, accepted_comes, counted_comes, fetched_comes, granted_comes, looked_comes, over_comes, put_ended, refused_comes, reserve_ended, reserve_granted, try_ended, try_granted, fetched_shares, keep_ended}
+use Rattle.core_law.proofs.Answering.{IsCalling, IsPutHere, IsReserveHere, IsTryHere, Replies, ask_call, fetch_here, idle_here, one_self, put_here, replies, reply_passes, reserve_here, try_here, waits_so, IsKeepHere, close_here, common_here, count_here, done_here, keep_here}
+use Rattle.core_law.proofs.Coming.{Comes, IsEnded, IsGranted, Waits, accepted_comes, counted_comes, fetched_comes, granted_comes, looked_comes, over_comes, put_ended, refused_comes, reserve_ended, reserve_granted, try_ended, try_granted, fetched_shares, keep_ended, told_comes}
 use Rattle.core_law.proofs.PartComing.{closed_comes, common_comes, kept_comes, part_refused_comes, with_frees}
 use Rattle.core_law.proofs.Gone.{is_taken, taken_gone}
 use Rattle.core_law.proofs.Ring.{not_tried}
@@ -70,7 +71,7 @@ pub record IsDone (w : World) (k : Server) (a : Act) (n : Bag) : Type 0 where
   pub seat : (r : Rank) → about a ≡ Some r → r.0 < w.config.ranks → (now : Option Message) × IsSeat (acted w k a) n r now
 
 pub record Succeeds (w : World) (k : Server) (a : Act) (b : Bag) : Type 0 where
-  pub needs : Needs a b (pool_of w k).me
+  pub needs : Needs (found_in w.config) a b (pool_of w k).me
   pub makes : (n : Bag) → IsMade w k a b n → IsDone w k a n
 
 -- the unit is free in the bag, at the server
@@ -89,6 +90,13 @@ neither true f e = absurd (cc)
 neither false f e = (refl, e)
 
 module _ (w : World) (k : Server) (b : Bag) (well : IsWell w) (l : IsLawful w b) (here : k.0 < w.config.servers) where
+  -- from this bag, and what is asked of it
+  abbrev AreSteps : List Entry → Bag → Type 0
+  AreSteps es n = IsRunWhere (found_in w.config) b es n
+
+  abbrev HasNeeds : Act → Type 0
+  HasNeeds a = Needs (found_in w.config) a b (pool_of w k).me
+
   me_is : (pool_of w k).me ≡ k
   me_is = (well.own.servers k here).me
 
@@ -101,16 +109,16 @@ module _ (w : World) (k : Server) (b : Bag) (well : IsWell w) (l : IsLawful w b)
 
   -- what an entry makes of a rank, with the name that its client has
   renamed : (rank : Rank) (p : Pending) (now : Message) (n : Bag) (e : Rank → List Entry) → IsCalling w b rank p
-      → (let c = client_of w rank in (IsRun b (e c.me) n → Comes c p now b n (e c.me)) → IsRun b (e rank) n → Comes c p now b n (e rank))
+      → (let c = client_of w rank in (AreSteps (e c.me) n → Comes c p now b n (e c.me)) → AreSteps (e rank) n → Comes c p now b n (e rank))
   renamed rank p now n e is comes =
       let c = client_of w rank in
       let seat = is.seat in
-      subst (λ (r : Rank). IsRun b (e r) n → Comes c p now b n (e r)) seat.named comes
+      subst (λ (r : Rank). AreSteps (e r) n → Comes c p now b n (e r)) seat.named comes
 
   -- an act that decides the call of the rank, which awaits the answer from this server
   decides_from : (from : Server) (a : Act) (rank : Rank) (p : Pending) (now : Message) → about a ≡ Some rank → IsCalling w b rank p
-      → Replies w k a rank now from → IsAwaited (client_of w rank) p from now → Needs a b (pool_of w k).me
-      → ((n : Bag) → IsRun b (entries a (pool_of w k)) n → Comes (client_of w rank) p now b n (entries a (pool_of w k))) → Succeeds w k a b
+      → Replies w k a rank now from → IsAwaited (client_of w rank) p from now → HasNeeds a
+      → ((n : Bag) → AreSteps (entries a (pool_of w k)) n → Comes (client_of w rank) p now b n (entries a (pool_of w k))) → Succeeds w k a b
   decides_from from a rank p now tells_of_it is r awaited needs comes = record {
     needs = needs;
     makes = λ n m.
@@ -124,8 +132,8 @@ module _ (w : World) (k : Server) (b : Bag) (well : IsWell w) (l : IsLawful w b)
 
   -- from here
   abbrev decides : (a : Act) (rank : Rank) (p : Pending) (now : Message) → about a ≡ Some rank → IsCalling w b rank p
-      → Replies w k a rank now k → IsAwaited (client_of w rank) p k now → Needs a b (pool_of w k).me
-      → ((n : Bag) → IsRun b (entries a (pool_of w k)) n → Comes (client_of w rank) p now b n (entries a (pool_of w k))) → Succeeds w k a b
+      → Replies w k a rank now k → IsAwaited (client_of w rank) p k now → HasNeeds a
+      → ((n : Bag) → AreSteps (entries a (pool_of w k)) n → Comes (client_of w rank) p now b n (entries a (pool_of w k))) → Succeeds w k a b
   decides = decides_from k
 
   -- Puts.
@@ -145,7 +153,7 @@ module _ (w : World) (k : Server) (b : Bag) (well : IsWell w) (l : IsLawful w b)
       let p = waits_for.Put unit h.first h.tried in
       let c = client_of w unit.id.rank in
       let waits = waits_so w b unit.id.rank p well l h.calling in
-      let sound = run_is_sound settled w.config w.ledger b l.run in
+      let sound = run_is_sound (found_in w.config) w.config w.ledger b l.run in
       let new = put_is_new b sound unit.id.rank (in_call c p None) unit (rank_is unit.id.rank p h.calling) refl in
       decides (Accepts unit) unit.id.rank p (tells.Accepted unit.id.number) refl h.calling
       (replies w k _ _ _ refl (let e = one_self unit.id.rank in omega arith) refl) (refl, h.here)
@@ -168,13 +176,13 @@ module _ (w : World) (k : Server) (b : Bag) (well : IsWell w) (l : IsLawful w b)
   ends : (a : Act) (rank : Rank) (p : Pending) (request : ℕ) (end : End) → about a ≡ Some rank
       → entries a (pool_of w k) ≡ enters.Over rank request end ∷ [] → IsCalling w b rank p → IsEnded (client_of w rank) p request end
       → Replies w k a rank (tells.Ended request end) k → IsAwaited (client_of w rank) p k (tells.Ended request end)
-      → Needs a b (pool_of w k).me → Succeeds w k a b
+      → HasNeeds a → Succeeds w k a b
   ends a rank p request end tells_of_it entered is ended r awaited needs =
       let c = client_of w rank in
       let now = tells.Ended request end in
       let waits = waits_so w b rank p well l is in
       decides a rank p now tells_of_it is r awaited needs (λ n.
-      subst (λ (es : List Entry). IsRun b es n → Comes c p now b n es) (sym entered)
+      subst (λ (es : List Entry). AreSteps es n → Comes c p now b n es) (sym entered)
       (renamed rank p now n (λ x. enters.Over x request end ∷ []) is (over_comes c p b n request end waits ended)))
 
   pub ends_put_succeeds : (unit : Work) (end : End) → IsAct w k (Ends_put unit end) → Succeeds w k (Ends_put unit end) b
@@ -191,7 +199,7 @@ module _ (w : World) (k : Server) (b : Bag) (well : IsWell w) (l : IsLawful w b)
 
   ends_wish : (a : Act) (wish : Wish) (end : End) → IsReserveHere w k b wish → about a ≡ Some wish.rank
       → entries a (pool_of w k) ≡ enters.Over wish.rank wish.request end ∷ [] → Replies w k a wish.rank (tells.Ended wish.request end) k
-      → Needs a b (pool_of w k).me → Succeeds w k a b
+      → HasNeeds a → Succeeds w k a b
   ends_wish a wish end h tells_of_it entered r needs =
       ends a wish.rank (waits_for.Reserve wish.request wish.types) wish.request end tells_of_it entered h.calling
       (reserve_ended (client_of w wish.rank) wish.request wish.types wish.request end) r (refl, h.here) needs
@@ -224,28 +232,29 @@ module _ (w : World) (k : Server) (b : Bag) (well : IsWell w) (l : IsLawful w b)
   -- the part that a unit shares is at a server of the run
   shares_at : (unit : Work) (u : Lodged) → unit_of b unit.id ≡ Some u → u.unit ≡ unit → HasPart b.parts unit.common
   shares_at unit u there same =
-      let sound = run_is_sound settled w.config w.ledger b l.run in
+      let sound = run_is_sound (found_in w.config) w.config w.ledger b l.run in
       subst (λ (k : Work). HasPart b.parts k.common) same (sound.shares.each unit.id u there)
 
   common_at : (c : ClientModel) (o : Option CommonRef) → b.servers ≡ c.config.servers → HasPart b.parts o → IsAtServer c o
   common_at c None same has = tt
   common_at c (Some common) same has =
-      let sound = run_is_sound settled w.config w.ledger b l.run in
+      let sound = run_is_sound (found_in w.config) w.config w.ledger b l.run in
       let there = sound.there.each common.batch has.0 has.1 in
       let at : has.0.server.0 ≡ common.server.0 = ap (λ (k : Server). k.0) has.2 in
       omega arith
 
   -- a unit that is free was not granted before, nor fetched
-  note_is_new : (rank : Rank) (p : Pending) (unit : Work) → IsCalling w b rank p → IsFreeAt b (pool_of w k).me unit
-      → IsNewNote (client_of w rank) (note_of (pool_of w k).me unit)
-  note_is_new rank p unit is u =
+  note_is_new : (rank : Rank) (p : Pending) (unit : Work) → said (client_of w rank) p None ≡ (client_of w rank).transcript
+      → IsCalling w b rank p → IsFreeAt b (pool_of w k).me unit → IsNewNote (client_of w rank) (note_of (pool_of w k).me unit)
+  note_is_new rank p unit before is u =
       let c = client_of w rank in
       let seat = is.seat in
       let agrees = l.pools k here in
       let same : (client_of w rank).config ≡ (pool_of w k).config =
       (well.own.ranks rank is.within).config ∙ sym (well.own.servers k here).config in
-      let true_said = run_calls_are_true settled w.config w.ledger b rank l.run in
-      let all = subst (λ (list : List Said). All (IsTrueSaid b rank) list) (sym seat.said) true_said.each in
+      let true_said = run_calls_are_true (found_in w.config) w.config w.ledger b rank l.run in
+      let told : said c c.pending None ≡ c.transcript = ap (λ (q : Pending). said c q None) is.call ∙ before in
+      let all = subst (λ (list : List Said). All (IsTrueSaid b rank) list) (sym seat.said ∙ told) true_said.each in
       let fresh : is_taken unit.id c.transcript ≡ false = false_from_ne_true (is_taken unit.id c.transcript) (λ taken.
       let gone = taken_gone b rank unit.id c.transcript all taken in
       let one : gone.0 ≡ u.0 = some_is (sym gone.1 ∙ u.1) in
@@ -272,14 +281,14 @@ module _ (w : World) (k : Server) (b : Bag) (well : IsWell w) (l : IsLawful w b)
       → entries a (pool_of w k) ≡ enters.Granted (pool_of w k).me wish.rank wish.request unit.id ∷ [] → IsCalling w b wish.rank p
       → IsGranted (client_of w wish.rank) p wish.request (note_here unit)
       → (IsNewNote (client_of w wish.rank) (note_here unit) → IsAwaited (client_of w wish.rank) p from (grant wish unit))
-      → IsFreeAt b (pool_of w k).me unit → Replies w k a wish.rank (grant wish unit) from → Needs a b (pool_of w k).me → Succeeds w k a b
+      → IsFreeAt b (pool_of w k).me unit → Replies w k a wish.rank (grant wish unit) from → HasNeeds a → Succeeds w k a b
   grants from a wish unit p tells_of_it entered calling granted awaited u r needs =
       let me = (pool_of w k).me in
       let c = client_of w wish.rank in
       let now = grant wish unit in
       let waits = waits_so w b wish.rank p well l calling in
-      decides_from from a wish.rank p now tells_of_it calling r (awaited (note_is_new wish.rank p unit calling u)) needs (λ n.
-      subst (λ (es : List Entry). IsRun b es n → Comes c p now b n es) (sym entered)
+      decides_from from a wish.rank p now tells_of_it calling r (awaited (note_is_new wish.rank p unit granted.before calling u)) needs (λ n.
+      subst (λ (es : List Entry). AreSteps es n → Comes c p now b n es) (sym entered)
       (renamed wish.rank p now n (λ x. enters.Granted me x wish.request unit.id ∷ []) calling
       (granted_comes c p wish.request me unit u.0 b n granted waits u.1 u.2 u.3)))
 
@@ -288,7 +297,7 @@ module _ (w : World) (k : Server) (b : Bag) (well : IsWell w) (l : IsLawful w b)
       → entries a (pool_of w k) ≡ enters.Granted (pool_of w k).me wish.rank wish.request unit.id ∷ []
       → IsCalling w b wish.rank (waits_for.Reserve wish.request wish.types)
       → from ≡ home (client_of w wish.rank).config (client_of w wish.rank).me
-      → IsFreeAt b (pool_of w k).me unit → Replies w k a wish.rank (grant wish unit) from → Needs a b (pool_of w k).me → Succeeds w k a b
+      → IsFreeAt b (pool_of w k).me unit → Replies w k a wish.rank (grant wish unit) from → HasNeeds a → Succeeds w k a b
   grants_wish from a wish unit tells_of_it entered calling at_home u r needs =
       grants from a wish unit (waits_for.Reserve wish.request wish.types) tells_of_it entered calling
       (reserve_granted (client_of w wish.rank) wish.request wish.types wish.request (note_here unit)) (λ new. ((refl, at_home), new)) u r needs
@@ -393,7 +402,7 @@ module _ (w : World) (k : Server) (b : Bag) (well : IsWell w) (l : IsLawful w b)
       decides (Fetches rank request id unit) rank p now refl h.calling
       (replies w k _ _ _ refl (let e = one_self rank in omega arith) refl) ((refl, h.here), long)
       (_, rank_is rank p h.calling, ap (λ i. is_at.Fetching request i false) h.named) (λ n.
-      subst (λ (i : UnitId). IsRun b (enters.Fetched me rank i ∷ []) n → Comes c p now b n (enters.Fetched me rank i ∷ [])) h.named
+      subst (λ (i : UnitId). AreSteps (enters.Fetched me rank i ∷ []) n → Comes c p now b n (enters.Fetched me rank i ∷ [])) h.named
       (renamed rank p now n (λ x. enters.Fetched me x h.note.id ∷ []) h.calling
       (fetched_comes c request h.note me unit u.0 b n waits there same)))
 
@@ -418,7 +427,7 @@ module _ (w : World) (k : Server) (b : Bag) (well : IsWell w) (l : IsLawful w b)
       let me = (pool_of w k).me in
       let now = tells.Accepted request in
       let waits = waits_so w b rank p well l h.calling in
-      let sound = run_is_sound settled w.config w.ledger b l.run in
+      let sound = run_is_sound (found_in w.config) w.config w.ledger b l.run in
       let seat = h.calling.seat in
       let new = begun_is_new b sound (batch_of rank request) (in_call c p None) common (rank_is rank p h.calling) refl in
       let new_named : part_of b (batch_of c.me request) ≡ None = ap (λ x. part_of b (batch_of x request)) seat.named ∙ new in
@@ -478,7 +487,7 @@ module _ (w : World) (k : Server) (b : Bag) (well : IsWell w) (l : IsLawful w b)
         (in_call c p None, h.common, rank_is rank p h.calling, refl, waits.call.1, h.named),
         accepted_now c h.common batch accepted waits.accepted waits.call.1 h.named h.count,
       ) (λ n.
-      with_frees c p now b n (enters.Closed me batch) me batch (closed accepted part)
+      with_frees (found_in w.config) c p now b n (enters.Closed me batch) me batch (closed accepted part)
       (λ n run. closed_comes c request h.common batch me b n waits (sym seat.named) run))
 
   pub fetches_part_succeeds : (rank : Rank) (request : ℕ) (batch : BatchId) (part : Part) → IsAct w k (Fetches_part rank request batch part)
@@ -490,7 +499,7 @@ module _ (w : World) (k : Server) (b : Bag) (well : IsWell w) (l : IsLawful w b)
       let me = (pool_of w k).me in
       let waits = waits_so w b rank p well l h.calling in
       let agrees = l.pools k here in
-      let sound = run_is_sound settled w.config w.ledger b l.run in
+      let sound = run_is_sound (found_in w.config) w.config w.ledger b l.run in
       let found = is.sure.0 in
       let lot = lodged_part b (pool_of w k) batch part agrees found in
       let bytes : lot.0.common ≡ part.bytes = ap (λ (x : Part). x.bytes) lot.1.same in
@@ -504,7 +513,7 @@ module _ (w : World) (k : Server) (b : Bag) (well : IsWell w) (l : IsLawful w b)
       (replies w k _ _ _ refl (let e = one_self rank in omega arith) refl) ((refl, h.here), long)
       (h.note.id, owed.0, h.common, (_, rank_is rank p h.calling, refl), owed.1, owed.2, h.named) (λ n.
       renamed rank p now n (λ x. enters.CommonFetched me x batch ∷ frees me batch (fetched part)) h.calling
-      (with_frees c p now b n (enters.CommonFetched me c.me batch) me batch (fetched part)
+      (with_frees (found_in w.config) c p now b n (enters.CommonFetched me c.me batch) me batch (fetched part)
       (λ n run. subst (λ x. Comes c p (tells.Bytes request x) b n (enters.CommonFetched me c.me batch ∷ [])) bytes
       (common_comes c request h.note h.common h.own batch lot.0 me b n waits lot.1.found run))))
 
@@ -524,3 +533,14 @@ module _ (w : World) (k : Server) (b : Bag) (well : IsWell w) (l : IsLawful w b)
       (_, rank_is rank p h.calling, refl) (λ n.
       renamed rank p now n (λ x. enters.Counted me x request info ∷ []) h.calling
       (counted_comes (client_of w rank) request kind me info b n waits))
+
+  -- That the problem is done.
+
+  pub hears_done_succeeds : (rank : Rank) (request : ℕ) → IsAct w k (Hears_done rank request) → Succeeds w k (Hears_done rank request) b
+  hears_done_succeeds rank request is =
+      let h = done_here w k (Hears_done rank request) b rank request l is refl in
+      let p = waits_for.SetDone request h.tried in
+      let waits = waits_so w b rank p well l h.calling in
+      decides (Hears_done rank request) rank p (tells.DoneHeard request) refl h.calling
+      (replies w k _ _ _ refl (let e = one_self rank in omega arith) refl) (refl, h.here) waits.owed
+      (λ n run. told_comes (client_of w rank) request h.tried b n waits run)

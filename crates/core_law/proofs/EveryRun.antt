@@ -144,13 +144,13 @@ same_zero f zero x none = refl
 same_zero f (suc n) x none = let here = none zero in let later = same_zero (λ i. f (suc i)) n x (λ i. none (suc i)) in omega arith
 
 -- the state of each actor weighs nothing
-record AreZero (config : Config) (m : Weights) : Type 0 where
-  server : (i k : ℕ) → m.server i (new_pool config (server_named k)).kept ≡ 0
-  rank : (i k : ℕ) → m.rank i (new_client config (rank_named k)) ≡ 0
-  server_due : (i k : ℕ) → m.server_due i (new_pool config (server_named k)).kept ≡ 0
-  rank_due : (i k : ℕ) → m.rank_due i (new_client config (rank_named k)) ≡ 0
+pub record AreZero (config : Config) (m : Weights) : Type 0 where
+  pub server : (i k : ℕ) → m.server i (new_pool config (server_named k)).kept ≡ 0
+  pub rank : (i k : ℕ) → m.rank i (new_client config (rank_named k)) ≡ 0
+  pub server_due : (i k : ℕ) → m.server_due i (new_pool config (server_named k)).kept ≡ 0
+  pub rank_due : (i k : ℕ) → m.rank_due i (new_client config (rank_named k)) ≡ 0
 
-begins_even : (config : Config) (m : Weights) → AreZero config m → IsBalanced m (start config)
+pub begins_even : (config : Config) (m : Weights) → AreZero config m → IsBalanced m (start config)
 unfolding measure due
 begins_even config m z =
     let n = actors config in
@@ -210,7 +210,10 @@ begins_well config =
               wishes = All-nil (IsWish config me);
               pushing = tt;
               owed = tt;
-              shut = λ is. absurd (cc);
+              noted = tt;
+              mark = omega arith;
+              shut = λ alone is. absurd (cc);
+              alone = λ alone. refl;
             });
       };
       kind = begins_even config (kinds config) (record {

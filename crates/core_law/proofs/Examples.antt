@@ -83,7 +83,7 @@ counts number = occurs.Call (rank number) (calls_to.Count (record { 0 = 2 }))
 abbrev tries : ℕ → Event
 tries number = occurs.Call (rank number) (calls_to.Try None)
 
-abbrev finishes : ℕ → Event
+abbrev pub finishes : ℕ → Event
 finishes number = occurs.Call (rank number) calls_to.Finish
 
 -- the server handles the rank's letter, the rank the server's, and a server that of another
@@ -207,7 +207,7 @@ stuck_past_the_stamps = refl
 -- Several ranks over one server.
 
 -- who waits at each server, and whether it has ended
-abbrev waiting_after : Config → List Event → Option (List (List Rank × Bool))
+abbrev pub waiting_after : Config → List Event → Option (List (List Rank × Bool))
 waiting_after config events =
     option_map (λ (w : World). map (λ (s : ServerModel). (map (λ e. e.wish.rank) s.kept.parked.waiting, has_ended s)) w.servers)
     (run (start config) events)
@@ -318,13 +318,14 @@ illegal_from config ledger = first_illegal (empty_bag config) 0 ledger
 abbrev illegal_at : World → Option ℕ
 illegal_at w = illegal_from w.config w.ledger
 
--- Rank 1 reserves any type; its home asks server 0, which has none, and rank 1 waits there. Rank 0 puts `hello` of type 1 at server 0,
--- which hints to the home. That asks again, server 0 grants, and the home passes the grant on.
+-- Rank 1 reserves any type; its home asks server 0, which has none, and rank 1 waits there. The home is quiet and gives notice to server
+-- 0, where rank 0 runs. Rank 0 puts `hello` of type 1 at server 0, which hints to the home. That asks again, server 0 grants, and the
+-- home passes the grant on.
 abbrev hello : List ℕ
 hello = 104 ∷ 101 ∷ 108 ∷ 108 ∷ 111 ∷ []
 
-abbrev asked_in_vain : List Event
-asked_in_vain = reserves 1 ∷ asks 1 1 ∷ brings 1 0 ∷ brings 0 1 ∷ []
+abbrev pub asked_in_vain : List Event
+asked_in_vain = reserves 1 ∷ asks 1 1 ∷ brings 1 0 ∷ brings 0 1 ∷ brings 1 0 ∷ []
 
 abbrev puts_hello : Event
 puts_hello = occurs.Call (rank 0) (calls_to.Put (record { 0 = 1 }) (pos 0) Any None hello)
@@ -360,7 +361,7 @@ no_wish_is_left = refl
 
 -- one thing stands for the reserve throughout: the request, that the rank waits and is idle, or a letter between servers
 one_thing_stands_between : calls_along two_and_two 1 hinted
-    ≡ Some 0 ∷ Some 1 ∷ Some 1 ∷ Some 1 ∷ Some 1 ∷ Some 1 ∷ Some 1 ∷ Some 1 ∷ Some 1 ∷ Some 1 ∷ Some 1 ∷ Some 0 ∷ []
+    ≡ Some 0 ∷ Some 1 ∷ Some 1 ∷ Some 1 ∷ Some 1 ∷ Some 1 ∷ Some 1 ∷ Some 1 ∷ Some 1 ∷ Some 1 ∷ Some 1 ∷ Some 1 ∷ Some 0 ∷ []
 unfolding post is_granted is_fetched measure
 one_thing_stands_between = refl
 
@@ -371,7 +372,7 @@ between_along config events =
     (range_with_len 0 (length events + 1))
 
 one_letter_between : between_along two_and_two hinted
-    ≡ Some 0 ∷ Some 0 ∷ Some 1 ∷ Some 1 ∷ Some 0 ∷ Some 0 ∷ Some 0 ∷ Some 0 ∷ Some 1 ∷ Some 1 ∷ Some 0 ∷ Some 0 ∷ []
+    ≡ Some 0 ∷ Some 0 ∷ Some 1 ∷ Some 1 ∷ Some 0 ∷ Some 0 ∷ Some 0 ∷ Some 0 ∷ Some 0 ∷ Some 1 ∷ Some 1 ∷ Some 0 ∷ Some 0 ∷ []
 unfolding post is_granted is_fetched measure
 one_letter_between = refl
 

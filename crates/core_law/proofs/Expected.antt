@@ -1,11 +1,9 @@
 -- Each letter that is under way is expected.
 use Rattle.std.proofs.Common.{◌≡◌, ◌≢◌, ◌<◌, ◌≤◌, inl, inr, ℕ, ◌==◌, Bool, true, false, ◌&&◌, not, cond, List, [], ◌∷◌, ◌++◌, length, Option, Some, None, refl, sym, ap, ◌∙◌, subst, arith}
 use Rattle.std.specs.Prelude.{All, IsSome, nat_lt, option_and_then}
-use Rattle.std.specs.List.{list_all}
 use Rattle.std.specs.Option.{option_map}
 use Rattle.std.proofs.lemmas.Bool.{and_from, and_parts, eq-eqb, eqb-true, false_from_ne_true, lt-ltb, ltb-true, or_cases}
 use Rattle.std.proofs.lemmas.List.Elements.{All-contains, Contains-push}
-use Rattle.std.proofs.lemmas.List.Sums.{AllPass-from_list_all}
 use Rattle.adlb_unit.specs.Ids.{same_batch}
 use Rattle.adlb_unit.specs.Limits.{stamp_limit}
 use Rattle.adlb_unit.specs.Links.{is_within, place_of}
@@ -21,7 +19,7 @@ use Rattle.adlb_unit.specs.declared.names.Server.{Server}
 use Rattle.adlb_unit.specs.declared.names.UnitId.{UnitId}
 use Rattle.adlb_unit.specs.declared.notes.UnitNote.{UnitNote}
 use Rattle.adlb_unit.specs.declared.units.Unit.{Unit}
-use Rattle.bag_ledger.specs.Bag.{Bag, part_charge, part_of, promise_of, rank_at, settled, unit_of}
+use Rattle.bag_ledger.specs.Bag.{Bag, part_charge, part_of, promise_of, rank_at, unit_of}
 use Rattle.bag_ledger.specs.Words.{IsTracked}
 use Rattle.bag_ledger.specs.declared.states.Placed.{Placed as Lodged}
 use Rattle.bag_ledger.specs.declared.states.Promise.{Promise as Room}
@@ -56,8 +54,9 @@ use Rattle.work_queue.specs.Queue.{HasPinned, Promise, id_of}
 use Rattle.work_queue.specs.declared.placing.Placed.{Placed}
 use Rattle.work_queue.proofs.Named.{find_listed, find_nothing}
 use Rattle.core_run.specs.declared.events.Event.{Event}
-use Rattle.core_run.specs.Runs.{NoneIsStuck, Runs}
+use Rattle.core_run.specs.Runs.{NoneIsStuck, Runs, is_of_check, is_over}
 use Rattle.core_run.specs.World.{World, after_rank, after_server, client_of, handle, has_ended, link, pool_of, rank_named, start, taken}
+use Rattle.core_law.specs.Found.{found_in}
 use Rattle.core_law.specs.Lawful.{IsAsked, IsFact, IsLawful, OfCall}
 use Rattle.core_law.specs.Letters.{about, call_letter, finish_handled, finish_letter, finishes, fits_between, fits_link, is_finish, is_request, one, one_letter, remotes_letter}
 use Rattle.core_law.specs.Measures.{measure, weights}
@@ -214,20 +213,9 @@ request_awaited c (waits_for.Close request batch) b s m w sound a same asked run
     subst (IsAwaitedHere s c.me) (sym asked.0) (close_awaited c request batch b s w sound a asked.1)
 request_awaited c (waits_for.Count request kind) b s m w sound a same asked runs =
     subst (IsAwaitedHere s c.me) (sym asked.0) (at_home c s same asked.1, runs)
+request_awaited c (waits_for.SetDone request tried) b s m w sound a same asked runs = subst (IsAwaitedHere s c.me) (sym asked.0) tt
 
 -- A rank whose request or Finish letter is under way runs at the server.
-
--- a server has not ended where it has not handled each Finish letter
-not_ended : (s : ServerModel) (rank : Rank) → rank.0 < length s.kept.finished → is_finished s.kept rank ≡ false → has_ended s ≡ false
-not_ended s rank within fresh =
-    let all : list_all (λ (finished : Bool). finished) s.kept.finished ≡ false =
-    false_from_ne_true (list_all (λ (finished : Bool). finished) s.kept.finished)
-    (λ is. let here = AllPass-from_list_all (λ (finished : Bool). finished) s.kept.finished is rank.0 false within in cc (here, fresh)) in
-    ap (λ t. s.kept.shut && t) all ∙ shuts s.kept.shut
-  where
-    shuts : (t : Bool) → (t && false) ≡ false
-    shuts true = refl
-    shuts false = refl
 
 flag_off : (t : Bool) → one t ≤ 0 → t ≡ false
 flag_off true few = absurd (omega arith)
@@ -242,13 +230,13 @@ finish_is tells.Finish e = refl
 finish_is _ e = absurd (cc)
 
 -- the letter is of a kind that goes there
-fits : (w : World) (from to : Actor) (letter : Letter) (rest : List Letter) → IsWell w → is_within w.config from ≡ true
+pub fits : (w : World) (from to : Actor) (letter : Letter) (rest : List Letter) → IsWell w → is_within w.config from ≡ true
     → is_within w.config to ≡ true
     → link w.links (place_of w.config from) (place_of w.config to) ≡ letter ∷ rest → fits_link w.config from to letter.message ≡ true
 fits w from to letter rest well f t front =
     front_fits w.config w.links from to letter rest (all_fit w well.shape well.kind) f t front
 
-some_of : {X : Type 0} (o : Option X) → IsSome o → (x : X) × (o ≡ Some x)
+pub some_of : {X : Type 0} (o : Option X) → IsSome o → (x : X) × (o ≡ Some x)
 some_of None some = absurd (cc)
 some_of (Some x) some = (x, refl)
 
@@ -260,9 +248,10 @@ from_runner : (w : World) (from : Rank) (me : Server) (letter : Letter) (rest : 
     → me.0 < w.config.servers → letter.stamp < stamp_limit
     → link w.links (place_of w.config (by.Rank from)) (place_of w.config (by.Server me)) ≡ letter ∷ rest
     → measure (weights (one_letter from)) w ≡ call_letter from (by.Rank from) (by.Server me) letter.message
-    → is_finished (pool_of w me).kept from ≡ false → (RunsHere (pool_of w me) from → IsAwaitedHere (pool_of w me) from letter.message)
+    → has_ended (pool_of w me) ≡ false → is_finished (pool_of w me).kept from ≡ false
+    → (RunsHere (pool_of w me) from → IsAwaitedHere (pool_of w me) from letter.message)
     → (next : World) × (handle w (by.Rank from) (by.Server me) (letter ∷ rest) ≡ Some next)
-from_runner w from me letter rest well inside here small front all fresh awaited =
+from_runner w from me letter rest well inside here small front all going fresh awaited =
     let s = pool_of w me in
     let pool = well.own.servers me here in
     let rank = lt-ltb from.0 w.config.ranks inside in
@@ -272,16 +261,15 @@ from_runner w from me letter rest well inside here small front all fresh awaited
     let ranks : from.0 < s.config.ranks = let e = ap (λ (k : Config). k.ranks) pool.config in omega arith in
     let runs : RunsHere s from = record { waits_not = alone; finished_not = fresh } in
     let x = some_of (serve s (by.Rank from) letter) ((expected_have_steps s (by.Rank from) letter).1 (ranks, small, awaited runs)) in
-    let going = not_ended s from (let e = pool.finished in omega arith) fresh in
     let f = after_server w me (taken w (by.Rank from) (by.Server me) rest) in
     (f x.0, ap (λ k. cond k None (option_map f (serve s (by.Rank from) letter))) going ∙ ap (option_map f) x.1)
 
 to_server : (w : World) (b : Bag) (from : Rank) (me : Server) (letter : Letter) (rest : List Letter) → IsWell w
     → IsLawful w b
-    → from.0 < w.config.ranks → me.0 < w.config.servers → letter.stamp < stamp_limit
+    → from.0 < w.config.ranks → me.0 < w.config.servers → letter.stamp < stamp_limit → has_ended (pool_of w me) ≡ false
     → link w.links (place_of w.config (by.Rank from)) (place_of w.config (by.Server me)) ≡ letter ∷ rest
     → (next : World) × (handle w (by.Rank from) (by.Server me) (letter ∷ rest) ≡ Some next)
-to_server w b from me letter rest well l inside here small front =
+to_server w b from me letter rest well l inside here small still front =
     let s = pool_of w me in
     let c = client_of w from in
     let m = letter.message in
@@ -309,12 +297,12 @@ to_server w b from me letter rest well l inside here small front =
           let stands : ClientAgrees c None b = subst (λ (o : Option Message). ClientAgrees c o b) sent.0 seat.stands in
           let facts = subst (λ (o : Option Message). All (IsFact b) (holds c o)) sent.0 seat.facts in
           let waits = waits_of c c.pending b refl going stands facts own.call in
-          let sound = run_is_sound settled w.config w.ledger b l.run in
+          let sound = run_is_sound (found_in w.config) w.config w.ledger b l.run in
           let asked : IsAsked c c.pending s.me m = subst (λ (k : Server). IsAsked c c.pending k m) (sym pool.me) sent.1 in
           let agrees = l.pools me here in
           let same = pool.config ∙ sym own.config in
           let done : one c.finished ≡ 0 = ap one going in
-          from_runner w from me letter rest well inside here small front (omega arith) (flag_off (is_finished s.kept from) (omega arith))
+          from_runner w from me letter rest well inside here small front (omega arith) still (flag_off (is_finished s.kept from) (omega arith))
           (subst (λ (r : Rank). RunsHere s r → IsAwaitedHere s r m) seat.named
           (request_awaited c c.pending b s m waits sound agrees same asked))
       | inr leaves ↦
@@ -326,7 +314,7 @@ to_server w b from me letter rest well l inside here small front =
           let none : one (not (is_idle c.pending)) ≡ 0 = ap (λ p. one (not (is_idle p))) (own.rests gone) in
           let weighs_no_call : call_letter from (by.Rank from) (by.Server me) m ≡ 0 =
           ap (λ (x : Message). call_letter from (by.Rank from) (by.Server me) x) is in
-          from_runner w from me letter rest well inside here small front (omega arith) (flag_off (is_finished s.kept from) (omega arith))
+          from_runner w from me letter rest well inside here small front (omega arith) still (flag_off (is_finished s.kept from) (omega arith))
           (λ runs. subst (IsAwaitedHere s from) (sym is) runs)
     ]
   where
@@ -346,6 +334,7 @@ awaited_busy c (waits_for.Common request note common own) from m is = refl
 awaited_busy c (waits_for.Keep request common first tried) from m is = refl
 awaited_busy c (waits_for.Close request batch) from m is = refl
 awaited_busy c (waits_for.Count request kind) from m is = refl
+awaited_busy c (waits_for.SetDone request tried) from m is = refl
 
 to_rank : (w : World) (b : Bag) (from : Server) (me : Rank) (letter : Letter) (rest : List Letter) → IsWell w
     → IsLawful w b
@@ -370,16 +359,16 @@ to_rank w b from me letter rest well l there here small front =
 -- A letter between servers.
 
 -- numbers that are told apart
-apart_is : (a b : ℕ) → not (a == b) ≡ true → a ≢ b
+pub apart_is : (a b : ℕ) → not (a == b) ≡ true → a ≢ b
 apart_is a b apart same = let e = eq-eqb a b same in absurd (cc)
 
--- the home asks; an answer comes where the rank waits with the sender unanswered; a hint comes to the home; and a letter of a push
--- comes where that push stands, or as the bag has its unit
+-- the home asks; an answer comes where the rank waits with the sender unanswered; a hint comes to the home; a letter of a push comes
+-- where that push stands, or as the bag has its unit; a notice comes to server 0, and a verdict from it
 between_awaited : (w : World) (b : Bag) (from me : Server) (letter : Letter) (rest : List Letter) (m : Message) → IsWell w → IsLawful w b
     → NoneOwes w → from.0 < w.config.servers → me.0 < w.config.servers → from ≢ (pool_of w me).me
     → link w.links (place_of w.config (by.Server from)) (place_of w.config (by.Server me)) ≡ letter ∷ rest → letter.message ≡ m
-    → fits_between w.config from me m ≡ true → IsAwaitedFrom (pool_of w me) from m
-between_awaited w b from me letter rest m well l paid there here differs front says fits = by_message m says fits
+    → is_of_check m ≡ false → fits_between w.config from me m ≡ true → IsAwaitedFrom (pool_of w me) from m
+between_awaited w b from me letter rest m well l paid there here differs front says plain fits = by_message m says plain fits
   where
     s : ServerModel
     s = pool_of w me
@@ -406,34 +395,41 @@ between_awaited w b from me letter rest m well l paid there here differs front s
 
     pushed : (x : Message) → letter.message ≡ x → IsOfPushes x → IsAwaitedFrom s from x
     pushed x is of =
-        let sound = run_is_sound settled w.config w.ledger b l.run in
+        let sound = run_is_sound (found_in w.config) w.config w.ledger b l.run in
         let bag : OfPush b from me letter.message =
         at_front (λ a t (y : Letter). IsOfPush b a t y.message) w.config w.links (by.Server from) (by.Server me) letter rest
         (l.pushed).letters (lt-ltb from.0 w.config.servers there) (lt-ltb me.0 w.config.servers here) front in
         push_awaited w b from me letter rest x well sound.tracked (l.pools me here) (paid me here) there here differs front is
         (subst (OfPush b from me) is bag) of
 
-    by_message : (x : Message) → letter.message ≡ x → fits_between w.config from me x ≡ true → IsAwaitedFrom s from x
-    by_message (tells.Ask rank request types) is fits = home_says rank from fits
-    by_message (tells.AskGrant rank request note) is fits =
+    by_message : (x : Message) → letter.message ≡ x → is_of_check x ≡ false → fits_between w.config from me x ≡ true
+        → IsAwaitedFrom s from x
+    by_message (tells.Ask rank request types) is plain fits = home_says rank from fits
+    by_message (tells.AskGrant rank request note) is plain fits =
         unanswered rank request (ap (remotes_letter me from rank request (by.Server from) (by.Server me)) is ∙ weighs_one rank request)
-    by_message (tells.AskNone rank request) is fits =
+    by_message (tells.AskNone rank request) is plain fits =
         unanswered rank request (ap (remotes_letter me from rank request (by.Server from) (by.Server me)) is ∙ weighs_one rank request)
-    by_message (tells.Hint rank request) is fits =
+    by_message (tells.Hint rank request) is plain fits =
         let at = home_says rank me fits in (at.0, at.1 ∙ ap (λ (k : Server). k.0) (sym (well.own.servers me here).me))
-    by_message (tells.PushQuery id n) is fits = pushed (tells.PushQuery id n) is tt
-    by_message (tells.PushYes id) is fits = pushed (tells.PushYes id) is tt
-    by_message (tells.PushNo id) is fits = pushed (tells.PushNo id) is tt
-    by_message (tells.PushUnit unit) is fits = pushed (tells.PushUnit unit) is tt
-    by_message (tells.PushCancel id) is fits = pushed (tells.PushCancel id) is tt
-    by_message (tells.PushAck id) is fits = pushed (tells.PushAck id) is tt
-    by_message _ is fits = absurd (cc)
+    by_message (tells.PushQuery id n) is plain fits = pushed (tells.PushQuery id n) is tt
+    by_message (tells.PushYes id) is plain fits = pushed (tells.PushYes id) is tt
+    by_message (tells.PushNo id) is plain fits = pushed (tells.PushNo id) is tt
+    by_message (tells.PushUnit unit) is plain fits = pushed (tells.PushUnit unit) is tt
+    by_message (tells.PushCancel id) is plain fits = pushed (tells.PushCancel id) is tt
+    by_message (tells.PushAck id) is plain fits = pushed (tells.PushAck id) is tt
+    by_message tells.Notice is plain fits = ap (λ (k : Server). k.0) (well.own.servers me here).me ∙ eqb-true me.0 0 fits
+    by_message tells.Exhaust is plain fits = eqb-true from.0 0 fits
+    by_message tells.Shutdown is plain fits = eqb-true from.0 0 fits
+    by_message (tells.Token t) is plain fits = absurd (cc plain)
+    by_message (tells.Failed t why) is plain fits = absurd (cc plain)
+    by_message _ is plain fits = absurd (cc)
 
 between : (w : World) (b : Bag) (from me : Server) (letter : Letter) (rest : List Letter) → IsWell w → IsLawful w b → NoneOwes w
-    → from.0 < w.config.servers → me.0 < w.config.servers → letter.stamp < stamp_limit
+    → from.0 < w.config.servers → me.0 < w.config.servers → letter.stamp < stamp_limit → has_ended (pool_of w me) ≡ false
+    → is_of_check letter.message ≡ false
     → link w.links (place_of w.config (by.Server from)) (place_of w.config (by.Server me)) ≡ letter ∷ rest
     → (next : World) × (handle w (by.Server from) (by.Server me) (letter ∷ rest) ≡ Some next)
-between w b from me letter rest well l paid there here small front =
+between w b from me letter rest well l paid there here small going plain front =
     let s = pool_of w me in
     let pool = well.own.servers me here in
     let f = lt-ltb from.0 w.config.servers there in
@@ -443,11 +439,9 @@ between w b from me letter rest well l paid there here small front =
     let apart = apart_is from.0 me.0 kind.0 in
     let of_run : from.0 < s.config.servers = let e = ap (λ (k : Config). k.servers) pool.config in omega arith in
     let other : from ≢ s.me = λ same. apart (ap (λ (k : Server). k.0) (same ∙ pool.me)) in
-    let awaited = between_awaited w b from me letter rest letter.message well l paid there here other front refl kind.1 in
+    let awaited = between_awaited w b from me letter rest letter.message well l paid there here other front refl plain kind.1 in
     let x = some_of (serve s (by.Server from) letter)
     ((expected_have_steps s (by.Server from) letter).1 (of_run, other, small, awaited)) in
-    let open_still : s.kept.shut ≡ false = false_from_ne_true s.kept.shut (λ on. let one = pool.shut on in apart (omega arith)) in
-    let going : has_ended s ≡ false = ap (λ t. t && list_all (λ (finished : Bool). finished) s.kept.finished) open_still in
     let f = after_server w me (taken w (by.Server from) (by.Server me) rest) in
     (f x.0, ap (λ k. cond k None (option_map f (serve s (by.Server from) letter))) going ∙ ap (option_map f) x.1)
 
@@ -455,24 +449,25 @@ between w b from me letter rest well l paid there here small front =
 
 handled_here : (w : World) (b : Bag) (from to : Actor) (letter : Letter) (rest : List Letter)
     → IsWell w → IsLawful w b → NoneOwes w
-    → is_within w.config from ≡ true → is_within w.config to ≡ true → letter.stamp < stamp_limit
+    → is_within w.config from ≡ true → is_within w.config to ≡ true → letter.stamp < stamp_limit → is_over w to ≡ false
+    → is_of_check letter.message ≡ false
     → link w.links (place_of w.config from) (place_of w.config to) ≡ letter ∷ rest
     → (next : World) × (handle w from to (letter ∷ rest) ≡ Some next)
-handled_here w b (by.Rank from) (by.Rank to) letter rest well l paid f t small front =
+handled_here w b (by.Rank from) (by.Rank to) letter rest well l paid f t small going plain front =
     let kind : false ≡ true = fits w (by.Rank from) (by.Rank to) letter rest well f t front in absurd (cc)
-handled_here w b (by.Server from) (by.Server to) letter rest well l paid f t small front =
-    between w b from to letter rest well l paid (ltb-true from.0 w.config.servers f) (ltb-true to.0 w.config.servers t) small front
-handled_here w b (by.Rank from) (by.Server to) letter rest well l paid f t small front =
-    to_server w b from to letter rest well l (ltb-true from.0 w.config.ranks f) (ltb-true to.0 w.config.servers t) small front
-handled_here w b (by.Server from) (by.Rank to) letter rest well l paid f t small front =
+handled_here w b (by.Server from) (by.Server to) letter rest well l paid f t small going plain front =
+    between w b from to letter rest well l paid (ltb-true from.0 w.config.servers f) (ltb-true to.0 w.config.servers t) small going plain front
+handled_here w b (by.Rank from) (by.Server to) letter rest well l paid f t small going plain front =
+    to_server w b from to letter rest well l (ltb-true from.0 w.config.ranks f) (ltb-true to.0 w.config.servers t) small going front
+handled_here w b (by.Server from) (by.Rank to) letter rest well l paid f t small going plain front =
     to_rank w b from to letter rest well l (ltb-true from.0 w.config.servers f) (ltb-true to.0 w.config.ranks t) small front
 
 pub none_is_stuck : (config : Config) (events : List Event) (w : World)
     → Runs (start config) events w
     → NoneIsStuck w
-none_is_stuck config events w run from to letter rest f t front small =
+none_is_stuck config events w run from to letter rest f t front going plain small =
     let l = every_run_lawful config events w run in
     let well = every_run_well config events w run in
     let letters = link w.links (place_of w.config from) (place_of w.config to) in
-    let here = handled_here w l.0 from to letter rest well l.1 (every_run_paid config events w run) f t small front in
+    let here = handled_here w l.0 from to letter rest well l.1 (every_run_paid config events w run) f t small going plain front in
     (here.0, ap (λ k. cond k (handle w from to letters) None) (and_from _ _ f t) ∙ ap (handle w from to) front ∙ here.1)

@@ -88,7 +88,7 @@ link_le m config links from to sq f t =
     omega arith
 
 -- so is the letter at its front
-front_le : (m : Weights) (config : Config) (links : Links) (from to : Actor) (l : Letter) (rest : List Letter)
+pub front_le : (m : Weights) (config : Config) (links : Links) (from to : Actor) (l : Letter) (rest : List Letter)
     → IsSquare (actors config) links → is_within config from ≡ true → is_within config to ≡ true
     → link links (place_of config from) (place_of config to) ≡ l ∷ rest → m.letter from to l.message ≤ links_weight config m links
 front_le m config links from to l rest sq f t front = let off = front_goes config m links from to l rest sq f t front in omega arith

@@ -13,13 +13,14 @@ use Rattle.adlb_unit.specs.declared.names.Server.{Server}
 use Rattle.rank_client.specs.Rules.{farewell}
 use Rattle.rank_client.specs.State.{ClientModel}
 use Rattle.rank_client.specs.Step.{Made}
-use Rattle.server_law.specs.Acts.{Act, Notes_finish}
+use Rattle.server_law.specs.Acts.{Act, Finds, Notes_finish, Shuts}
 use Rattle.server_law.specs.State.{ServerModel}
 use Rattle.core_law.specs.Letters.{finish_letter, finishes, is_finish, is_request, one}
 use Rattle.core_law.specs.Measures.{ActKeeps, weigh}
 use Rattle.core_law.proofs.Kept.{IsLaw, RankKeeps}
 use Rattle.core_law.proofs.Own.{IsFirst}
 use Rattle.core_law.proofs.RankShapes.{Began, Heard, It_asks, It_leaves, It_rests, Then}
+use Rattle.core_law.proofs.Sums.{others_none}
 
 -- a request is no Finish
 request_no_finish : (m : Message) → is_request m ≡ true → is_finish m ≡ false
@@ -53,6 +54,10 @@ finish_act config rank server (Notes_finish from) s first =
     handled (eqb s.me.0 server.0) (eqb from.0 rank.0) (one (get_or (set s.kept.finished from.0 true) rank.0 false))
     (one (get_or s.kept.finished rank.0 false))
     (noted s.kept.finished from.0 rank.0 first.1 first.0)
+finish_act config rank server (Finds from t) s first =
+    let none = others_none (finish_letter rank server) s.me s tells.Exhaust (λ to. refl) in omega arith
+finish_act config rank server (Shuts from t) s first =
+    let none = others_none (finish_letter rank server) s.me s tells.Shutdown (λ to. refl) in omega arith
 finish_act config rank server _ s first = refl
 
 -- A rank.

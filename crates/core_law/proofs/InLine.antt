@@ -1,5 +1,5 @@
 -- In every run the letters on each link stand in line.
-use Rattle.std.proofs.Common.{◌≡◌, ◌≢◌, ◌≤◌, ◌<◌, ℕ, ◌+◌, max, true, List, [], ◌∷◌, ◌++◌, length, get_or, replicate, refl, sym, ap, ◌∙◌, subst, arith}
+use Rattle.std.proofs.Common.{◌≡◌, ◌≢◌, ◌≤◌, ◌<◌, ℕ, ◌+◌, max, Bool, true, List, [], ◌∷◌, ◌++◌, length, get_or, replicate, refl, sym, ap, ◌∙◌, subst, arith}
 use Rattle.std.proofs.lemmas.Bool.{lt-ltb, ltb-true}
 use Rattle.std.proofs.lemmas.List.{get_or-replicate, length-replicate, length-set}
 use Rattle.adlb_unit.specs.Links.{is_within, place_of}
@@ -15,7 +15,7 @@ use Rattle.rank_client.specs.Step.{Made}
 use Rattle.server_law.specs.Acts.{Act, ServerSaying, does, entries, says, takes}
 use Rattle.server_law.specs.Carried.{Served, all_counted, counted, done, sends}
 use Rattle.server_law.specs.State.{ServerModel}
-use Rattle.server_law.specs.Step.{next_stamp, ticked}
+use Rattle.server_law.specs.Step.{next_stamp, raises, ticked}
 use Rattle.core_run.specs.declared.events.Event.{Event}
 use Rattle.core_run.specs.Runs.{Runs}
 use Rattle.core_run.specs.World.{Links, World, actors, after_rank, after_server, client_of, link, pool_of, post, start, taken}
@@ -185,11 +185,11 @@ pool_lines w me links x well here sq are counts later some p counted lines = rec
         let same = pool_beside w me k x.state (λ e. differs (ap (λ n. w.config.ranks + n) e)) in
         (λ to. ap (λ (s : ServerModel). server_sent w.config s to) same, ap (λ (s : ServerModel). s.clock) same)
 
-tick_in_line : (w : World) (me : Server) (stamp : ℕ) → IsWell w → me.0 < w.config.servers → (pool_of w me).clock < stamp → AreInLine w
-    → AreInLine (ticks w me stamp)
+tick_in_line : (w : World) (me : Server) (stamp : ℕ) (up : Bool) → IsWell w → me.0 < w.config.servers → (pool_of w me).clock < stamp
+    → AreInLine w → AreInLine (ticks w me stamp up)
 unfolding post
-tick_in_line w me stamp well here later line =
-    let s = ticked (pool_of w me) stamp in
+tick_in_line w me stamp up well here later line =
+    let s = ticked (pool_of w me) stamp up in
     let sent = server_sent w.config (pool_of w me) in
     let all = pool_lines w me w.links (record { state = s; sends = []; entries = [] }) well here (well.shape).square tt
     ((line.counted).servers me here) (omega arith) (omega arith)
@@ -240,15 +240,17 @@ event_in_line : (w next : World) (from : Actor) (me : Server) (letter : Letter) 
 event_in_line w next from me letter rest x well line does =
     let s = pool_of w me in
     let stamp = next_stamp s letter in
+    let up = raises letter.message in
     let later : s.clock < max s.clock letter.stamp + 1 = omega arith in
     let inside = inside_servers w me well does.here in
     let chain = event_chain w next from me letter rest x inside (well.own.servers me does.here).wishes does in
-    let clock : (pool_of (ticks w me stamp) me).clock ≡ stamp =
-    ap (λ (t : ServerModel). t.clock) (pool_there w me (ticked s stamp) inside) in
-    let first : IsTimely me (ticks w me stamp) = record { line = tick_in_line w me stamp well does.here later line; some = omega arith } in
+    let clock : (pool_of (ticks w me stamp up) me).clock ≡ stamp =
+    ap (λ (t : ServerModel). t.clock) (pool_there w me (ticked s stamp up) inside) in
+    let first : IsTimely me (ticks w me stamp up) =
+    record { line = tick_in_line w me stamp up well does.here later line; some = omega arith } in
     let all = acts_keep (λ v. IsWell v × IsTimely me v) me (λ v a is both. (act_well v me a both.0 is, act_in_line v me a both.0 is both.1))
-    (ticks w me stamp) chain.list chain.are
-    (tick_well w me stamp does.here well, first) in
+    (ticks w me stamp up) chain.list chain.are
+    (tick_well w me stamp up does.here well, first) in
     subst AreInLine (sym chain.is) (all.1).line
 
 -- Any event.

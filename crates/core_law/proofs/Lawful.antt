@@ -7,11 +7,12 @@ use Rattle.adlb_unit.specs.declared.messages.Message.{Message}
 use Rattle.adlb_unit.specs.declared.names.Rank.{Rank}
 use Rattle.adlb_unit.specs.declared.names.Server.{Server}
 use Rattle.bag_ledger.specs.declared.entries.Answer.{Answer}
+use Rattle.bag_ledger.specs.declared.entries.Answer.TheVariants as answers
 use Rattle.bag_ledger.specs.declared.entries.Call.{Call}
 use Rattle.bag_ledger.specs.declared.entries.Call.TheVariants as calls_to
 use Rattle.bag_ledger.specs.declared.entries.Said.{Said}
 use Rattle.bag_ledger.specs.Bag.{Bag, start as empty_bag}
-use Rattle.bag_ledger.specs.Runs.{IsLegal, IsRun}
+use Rattle.bag_ledger.specs.Runs.{IsLegal, IsRunWhere}
 use Rattle.bag_ledger.proofs.Tests.{some_is}
 use Rattle.rank_client.specs.declared.pendings.Pending.{Pending}
 use Rattle.rank_client.specs.declared.pendings.Pending.TheVariants as waits_for
@@ -24,6 +25,7 @@ use Rattle.server_law.proofs.Components.{start_agrees}
 use Rattle.core_run.specs.declared.events.Event.{Event}
 use Rattle.core_run.specs.Runs.{IsBehind, Runs, Tells, run}
 use Rattle.core_run.specs.World.{World, client_of, happens, pool_of, start}
+use Rattle.core_law.specs.Found.{found_in}
 use Rattle.core_law.specs.Lawful.{IsFact, IsLawful, IsSeat, OfCall}
 use Rattle.core_law.specs.Letters.{call_letter, one_letter}
 use Rattle.core_law.specs.Measures.{measure, weights}
@@ -33,6 +35,7 @@ use Rattle.core_law.proofs.ActLawful.{event_lawful}
 use Rattle.core_law.proofs.EveryRun.{begins_well, client_at, pool_at, run_config, well_kept}
 use Rattle.core_law.proofs.Moments.{answer_lawful, call_lawful, idle_said, no_letters}
 use Rattle.core_law.proofs.Owed.{letters_are}
+use Rattle.core_law.proofs.RunsWhere.{alone_run}
 use Rattle.core_law.proofs.RankSteps.{weighs_nothing}
 use Rattle.core_law.proofs.Steps.{A_call, A_request, An_answer, Does, happens_does}
 use Rattle.core_law.proofs.UnderWay.{weaker, zero_on}
@@ -107,19 +110,30 @@ every_run_lawful config events w run =
 
 -- What is read off.
 
-pub ledger_is_legal : (config : Config) (events : List Event) (w : World) → Runs (start config) events w
-    → IsLegal config w.ledger
+-- the ledger, as the run has its ranks and servers
+abbrev IsLedger : Config → World → Bag → Type 0
+IsLedger config w b = IsRunWhere (found_in config) (empty_bag config) w.ledger b
+
+ledger_is : (config : Config) (events : List Event) (w : World) (b : Bag) → Runs (start config) events w → IsLawful w b → IsLedger config w b
+ledger_is config events w b run l = subst (λ (k : Config). IsLedger k w b) (run_config (start config) w events run) l.run
+
+pub ledger_is_legal : (config : Config) (events : List Event) (w : World) → Runs (start config) events w → (b : Bag) × IsLedger config w b
 ledger_is_legal config events w run =
-    let l = every_run_lawful config events w run in
-    (l.0, subst (λ (k : Config). IsRun (empty_bag k) w.ledger l.0) (run_config (start config) w events run) l.1.run)
+    let l = every_run_lawful config events w run in (l.0, ledger_is config events w l.0 run l.1)
+
+pub alone_is_legal : (config : Config) (events : List Event) (w : World) → config.servers ≡ 1 → Runs (start config) events w
+    → IsLegal config w.ledger
+alone_is_legal config events w alone run =
+    let l = ledger_is_legal config events w run in
+    (l.0, alone_run config (empty_bag config) l.0 w.ledger alone l.1)
 
 pub servers_agree : (config : Config) (events : List Event) (w : World) → Runs (start config) events w
-    → (b : Bag) × IsRun (empty_bag config) w.ledger b × ((server : Server) → server.0 < config.servers → ServerAgrees b (pool_of w server))
+    → (b : Bag) × IsLedger config w b × ((server : Server) → server.0 < config.servers → ServerAgrees b (pool_of w server))
 servers_agree config events w run =
     let l = every_run_lawful config events w run in
     let same : w.config ≡ config = run_config (start config) w events run in (
       l.0,
-      subst (λ (k : Config). IsRun (empty_bag k) w.ledger l.0) same l.1.run,
+      ledger_is config events w l.0 run l.1,
       λ server there. l.1.pools server (let e = ap (λ (k : Config). k.servers) same in omega arith),
     )
 
@@ -128,7 +142,16 @@ plus_behind t call None = ([], sym (append-nil t), omega arith)
 plus_behind t call (Some answer) = (record { call = call; answer = answer } ∷ [], refl, omega arith)
 
 said_behind : (c : ClientModel) (p : Pending) (o : Option Message) → IsBehind c.transcript (said c p o)
-said_behind c p None = ([], sym (append-nil c.transcript), omega arith)
+said_behind c (waits_for.SetDone request tried) o = plus_behind c.transcript calls_to.SetDone (Some answers.Fine)
+said_behind c waits_for.Nothing None = ([], sym (append-nil c.transcript), omega arith)
+said_behind c (waits_for.Put unit first tried) None = ([], sym (append-nil c.transcript), omega arith)
+said_behind c (waits_for.Reserve request types) None = ([], sym (append-nil c.transcript), omega arith)
+said_behind c (waits_for.Try request types tried) None = ([], sym (append-nil c.transcript), omega arith)
+said_behind c (waits_for.Fetch request note) None = ([], sym (append-nil c.transcript), omega arith)
+said_behind c (waits_for.Common request note common own) None = ([], sym (append-nil c.transcript), omega arith)
+said_behind c (waits_for.Keep request common first tried) None = ([], sym (append-nil c.transcript), omega arith)
+said_behind c (waits_for.Close request batch) None = ([], sym (append-nil c.transcript), omega arith)
+said_behind c (waits_for.Count request kind) None = ([], sym (append-nil c.transcript), omega arith)
 said_behind c waits_for.Nothing (Some m) = ([], sym (append-nil c.transcript), omega arith)
 said_behind c (waits_for.Put unit first tried) (Some m) = plus_behind c.transcript (call_of unit) (put_coming m)
 said_behind c (waits_for.Reserve request types) (Some m) = plus_behind c.transcript (calls_to.Reserve types) (reserve_coming m)
@@ -170,11 +193,10 @@ actors_seated config events w run =
     moving w b pushed = record { travels = pushed.travels; rooms = pushed.rooms }
 
 pub units_are_brought : (config : Config) (events : List Event) (w : World) → Runs (start config) events w
-    → (b : Bag) × IsRun (empty_bag config) w.ledger b × AreBrought w b
+    → (b : Bag) × IsLedger config w b × AreBrought w b
 units_are_brought config events w run =
     let l = every_run_lawful config events w run in
-    let same = run_config (start config) w events run in
-    (l.0, subst (λ (c : Config). IsRun (empty_bag c) w.ledger l.0) same l.1.run, are_brought w l.0 l.1.pushed)
+    (l.0, ledger_is config events w l.0 run l.1, are_brought w l.0 l.1.pushed)
 
 -- A run as a relation and as a function.
 

@@ -1,61 +1,64 @@
-mod ActLawful
-mod ActSeats
-mod Actors
+pub mod ActLawful
+pub mod ActSeats
+pub mod Actors
 pub mod Acts
-mod Alone
-mod Answering
-mod Apart
-mod Bags
-mod Balances
-mod Brought
-mod Calm
-mod Chains
-mod Coming
-mod Debts
-mod Deciding
-mod Events
+pub mod Alone
+pub mod Answering
+pub mod Apart
+pub mod Bags
+pub mod Balances
+pub mod Brought
+pub mod Calm
+pub mod Chains
+pub mod CheckExamples
+pub mod Checking
+pub mod Coming
+pub mod Debts
+pub mod Deciding
+pub mod Events
 pub mod EveryRun
-mod Examples
+pub mod Examples
 pub mod Expected
 pub mod Fifo
-mod Finishing
-mod Gone
+pub mod Finishing
+pub mod Gone
 pub mod InLine
-mod Kept
+pub mod Kept
 pub mod Lawful
-mod Moments
-mod Movers
-mod Notes
-mod Nowhere
+pub mod Moments
+pub mod Movers
+pub mod Notes
+pub mod Nowhere
 pub mod OnLinks
 pub mod Once
-mod Onward
-mod OtherCalls
-mod OtherRanks
+pub mod Onward
+pub mod OtherCalls
+pub mod OtherRanks
 pub mod Owed
-mod Own
+pub mod Own
 pub mod PartComing
-mod Posting
-mod Posts
-mod PushActs
-mod PushCounts
-mod PushExamples
-mod PushLawful
-mod PushRows
-mod Pushing
-mod RankBegins
-mod RankHears
-mod RankPushes
-mod RankShapes
-mod RankSteps
-mod Remote
-mod Resting
-mod Ring
-mod Seats
-mod Some
-mod Stamping
+pub mod Posting
+pub mod Posts
+pub mod PushActs
+pub mod PushCounts
+pub mod PushExamples
+pub mod PushLawful
+pub mod PushRows
+pub mod Pushing
+pub mod RankBegins
+pub mod RankHears
+pub mod RankPushes
+pub mod RankShapes
+pub mod RankSteps
+pub mod Remote
+pub mod Resting
+pub mod Ring
+pub mod RunsWhere
+pub mod Seats
+pub mod Some
+pub mod Stamping
 pub mod Steps
-mod Sums
-mod UnderWay
+pub mod Sums
+pub mod UnderWay
 pub mod Waits
-mod Well
+pub mod Well

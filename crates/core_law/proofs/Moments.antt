@@ -21,6 +21,7 @@ use Rattle.rank_client.specs.Step.{Made}
 use Rattle.rank_client.proofs.Begins.{begins}
 use Rattle.rank_client.proofs.Hears.{hears}
 use Rattle.core_run.specs.World.{World, client_of, taken}
+use Rattle.core_law.specs.Found.{found_in}
 use Rattle.core_law.specs.Lawful.{IsLawful, OfCall}
 use Rattle.core_law.specs.OnLinks.{OnLinks}
 use Rattle.core_law.specs.Letters.{any_remote, call_letter, one_letter}
@@ -63,7 +64,7 @@ idle_stands c coming b idle a =
     }
 
 pub idle_said : (c : ClientModel) (coming : Option Message) → c.pending ≡ waits_for.Nothing → said c c.pending coming ≡ c.transcript
-idle_said c None idle = refl
+idle_said c None idle = ap (λ p. said c p None) idle
 idle_said c (Some m) idle = ap (λ p. said c p (Some m)) idle
 
 -- A call begins.
@@ -80,7 +81,8 @@ call_lawful w next me call x b well l does =
     let shape = call_began w next me call x well.own does in
     let its = l.seats me does.here in
     let seat = its.1 in
-    let f : Follows c None b x = begins c call x b does.does (idle_stands c its.0 b shape.free seat.stands) l.rests in
+    let found = found_in w.config in
+    let f : Follows found c None b x = begins found c call x b does.does (idle_stands c its.0 b shape.free seat.stands) l.rests in
     let empty : measure (weights (one_letter me)) w ≡ 0 =
     letters_are w me (let e = (well.shape).ranks in let h = does.here in omega arith) (well.one me) ∙ rw shape.free refl in
     let square = (well.shape).square in
@@ -97,7 +99,7 @@ call_lawful w next me call x b well l does =
       within = call_within w next me call x well.own does;
       run = f.1;
       stands = f.2;
-      transcript = f.3 ∙ ap (λ s. s ++ calls_from b x.entries c.me) (sym (idle_said c its.0 shape.free));
+      transcript = f.3 ∙ ap (λ s. s ++ calls_from b x.entries c.me) (idle_said c None shape.free ∙ sym (idle_said c its.0 shape.free));
     } in
     (f.0, subst (λ (v : World). IsLawful v f.0) (sym does.is) (rank_lawful w me w.links its.0 x b f.0 (λ P on. on) well l seat step))
 
@@ -118,8 +120,9 @@ answer_lawful w next from me letter rest x b well l does =
     let of_call = at_front (OfCall c its.0) w.config w.links (by.Server from) (by.Rank me) letter rest seat.letters server rank
     does.front in
     let comes : its.0 ≡ Some m = (of_call (sym seat.named)).0 in
-    let f : Follows c (Some m) b x =
-    hears c from letter x b does.does (subst (λ (o : Option Message). ClientAgrees c o b) comes seat.stands) l.rests in
+    let found = found_in w.config in
+    let f : Follows found c (Some m) b x =
+    hears found c from letter x b does.does (subst (λ (o : Option Message). ClientAgrees c o b) comes seat.stands) l.rests in
     let one = weights (one_letter me) in
     let left : World = record w { links = links } in
     let empty : measure one left ≡ 0 =

@@ -1,16 +1,18 @@
 -- What is known of push letters, through an act that pushes nothing, and through one that takes the one open letter of a unit.
-use Rattle.std.proofs.Common.{List, None, Some, [], arith, ◌+◌, ◌∷◌, ◌≡◌, ◌≤◌}
+use Rattle.std.proofs.Common.{List, None, Some, [], arith, refl, ◌+◌, ◌∷◌, ◌≡◌, ◌≤◌}
 use Rattle.adlb_unit.specs.Links.{place_of}
 use Rattle.adlb_unit.specs.declared.actors.Actor.TheVariants as by
 use Rattle.adlb_unit.specs.declared.letters.Letter.{Letter}
+use Rattle.adlb_unit.specs.declared.messages.Message.TheVariants as tells
 use Rattle.adlb_unit.specs.declared.names.Server.{Server}
 use Rattle.adlb_unit.specs.declared.names.UnitId.{UnitId}
 use Rattle.bag_ledger.specs.Bag.{Bag}
 use Rattle.bag_law.specs.Counts.{promises_named}
-use Rattle.server_law.specs.Acts.{Act, Queries, entries, says, takes}
+use Rattle.server_law.specs.Acts.{Act, Finds, Queries, Shuts, entries, says, takes}
 use Rattle.server_law.specs.State.{ServerModel}
 use Rattle.core_run.specs.World.{World, link, pool_of}
 use Rattle.core_law.specs.Acting.{acted, taken_off}
+use Rattle.core_law.specs.Found.{found_in}
 use Rattle.core_law.specs.Measures.{heard_weight, links_weight, said_weight}
 use Rattle.core_law.specs.OnLinks.{Each, OnLinks}
 use Rattle.core_law.specs.Pushed.{IsOfPush, IsPushed, letters_of, on_way, pushes}
@@ -19,6 +21,7 @@ use Rattle.core_law.proofs.Acts.{taken_off_on, taken_square, taken_weight}
 use Rattle.core_law.proofs.OnLinks.{links_next}
 use Rattle.core_law.proofs.Onward.{AreApart, none_pushed, of_one, run_later}
 use Rattle.core_law.proofs.Seats.{IsMade, letters_next}
+use Rattle.core_law.proofs.Sums.{others_none}
 use Rattle.core_law.proofs.UnderWay.{both, weaker, zero_on}
 
 -- An act in the midst of all that is known of it: what it makes of the bag and of the letters.
@@ -48,7 +51,7 @@ pushed_next w k a b n m apart said opens even pushed =
     pushed.letters in
     let now = weaker (λ from to l. AreApart (entries a s) from to l.message × IsOfPush b from to l.message)
     (λ from to l. IsOfPush n from to l.message) w.config links
-    (λ from to l of. run_later (entries a s) b n from to l.message m.step of.0 of.1)
+    (λ from to l of. run_later (found_in w.config) (entries a s) b n from to l.message m.step of.0 of.1)
     (both (λ from to l. AreApart (entries a s) from to l.message) (λ from to l. IsOfPush b from to l.message) w.config links apart left) in
     record {
       opens = opens;
@@ -75,6 +78,8 @@ OpensNone _ = Unit {0}
 lowers : (id : UnitId) (a : Act) (s : ServerModel) (k : Server) → OpensNone a
     → said_weight (open_letter id) k (says a s) ≤ heard_weight (open_letter id) k (takes a)
 lowers id (Queries to x n) s k none = absurd none
+lowers id (Finds from t) s k none = let told = others_none (open_letter id) k s tells.Exhaust (λ to. refl) in omega arith
+lowers id (Shuts from t) s k none = let told = others_none (open_letter id) k s tells.Shutdown (λ to. refl) in omega arith
 lowers id _ s k none = omega arith
 
 opens_kept : (w : World) (k : Server) (a : Act) (b n : Bag) → IsMade w k a b n → OpensNone a → IsPushed w b → OpensOne (acted w k a)

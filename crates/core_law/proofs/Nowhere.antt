@@ -21,7 +21,7 @@ use Rattle.core_law.proofs.Steps.{taken_weight}
 use Rattle.core_law.proofs.Sums.{links_le}
 
 -- a letter between servers is one of the rank's call
-remote_le : (me : Rank) (from to : Actor) (s : Message) → any_remote_letter me from to s ≤ call_letter me from to s
+pub remote_le : (me : Rank) (from to : Actor) (s : Message) → any_remote_letter me from to s ≤ call_letter me from to s
 remote_le me (by.Server from) (by.Server to) s = omega arith
 remote_le me (by.Server from) (by.Rank to) s = omega arith
 remote_le me (by.Rank from) to s = omega arith

@@ -17,8 +17,8 @@ use Rattle.adlb_unit.specs.declared.names.UnitId.{UnitId}
 use Rattle.adlb_unit.specs.declared.units.Unit.{Unit as Work}
 use Rattle.adlb_unit.proofs.Same.{same_unit_from, same_unit_is}
 use Rattle.bag_ledger.specs.Bag.{Bag, keeping, promise_of, putting, rank_at, unit_of}
-use Rattle.bag_ledger.specs.Runs.{IsRun}
-use Rattle.bag_ledger.specs.Steps.{Legal, after, kept, moved, shared, taken}
+use Rattle.bag_ledger.specs.Runs.{IsRunWhere}
+use Rattle.bag_ledger.specs.Steps.{LegalWhere, after, kept, moved, shared, taken}
 use Rattle.bag_ledger.specs.declared.entries.Entry.TheVariants as enters
 use Rattle.bag_ledger.specs.declared.entries.Entry.{Entry}
 use Rattle.bag_ledger.specs.declared.states.Placed.{Placed as Lodged}
@@ -90,25 +90,25 @@ abbrev pub IsNotOf : Option UnitId → UnitId → Type 0
 IsNotOf None id = Unit {0}
 IsNotOf (Some x) id = same_unit x id ≡ false
 
-unit_later : (b : Bag) (e : Entry) (id : UnitId) (u : Lodged) → Legal b e → IsNotOf (pushes e) id → unit_of b id ≡ Some u
-    → IsLater (after b e) id u
-unit_later b (enters.Accepted server x) id u l apart found =
+unit_later : (rule : Bag → Bool) (b : Bag) (e : Entry) (id : UnitId) (u : Lodged) → LegalWhere rule b e → IsNotOf (pushes e) id
+    → unit_of b id ≡ Some u → IsLater (after b e) id u
+unit_later rule b (enters.Accepted server x) id u l apart found =
     let brought = option_and_then (λ (r : RankState). putting r.status) (rank_at b x.rank) in
     as_it_was (after b (enters.Accepted server x)) id u (taken_units b server brought id u found)
-unit_later b (enters.Kept server batch) id u l apart found =
+unit_later rule b (enters.Kept server batch) id u l apart found =
     let begins = option_and_then (λ (r : RankState). keeping r.status) (rank_at b batch.rank) in
     as_it_was (after b (enters.Kept server batch)) id u (kept_units b server batch begins id ∙ found)
-unit_later b (enters.Granted server rank call x) id u l apart found =
+unit_later rule b (enters.Granted server rank call x) id u l apart found =
     let is = moved_later b x id (Pinned server rank) l.2 u l.6.0 (inr (server, rank, inl (l.6.1, refl))) found in
     record { unit = is.unit; found = is.found; same = is.same; onward = is.onward }
-unit_later b (enters.Fetched server rank x) id u l apart found =
+unit_later rule b (enters.Fetched server rank x) id u l apart found =
     let is = moved_later b x id Spent l.2 u l.6.0 (inr (server, rank, inr (l.6.1, refl))) found in
     record { unit = is.unit; found = is.found; same = is.same; onward = is.onward }
-unit_later b (enters.Left server to x) id u l apart found =
+unit_later rule b (enters.Left server to x) id u l apart found =
     as_it_was (after b (enters.Left server to x)) id u (moved_other b x id (Travelling to) apart ∙ found)
-unit_later b (enters.Arrived server x) id u l apart found =
+unit_later rule b (enters.Arrived server x) id u l apart found =
     as_it_was (after b (enters.Arrived server x)) id u (moved_other b x id (Free server) apart ∙ found)
-unit_later b e id u l apart found = as_it_was (after b e) id u found
+unit_later rule b e id u l apart found = as_it_was (after b e) id u found
 
 -- The promises.
 
@@ -137,10 +137,11 @@ same_promises b (enters.Arrived server x) none = absurd (cc)
 same_promises b (enters.Withdrawn server x) none = absurd (cc)
 same_promises b e none = refl
 
-pub run_promises : (es : List Entry) (b n : Bag) → IsRun b es n → Each (λ e. pushes e ≡ None) es → n.promises ≡ b.promises
-run_promises [] b n run none = ap (λ (x : Bag). x.promises) (sym run)
-run_promises (e ∷ es) b n run none =
-    run_promises es run.0 n run.2 none.1 ∙ ap (λ (x : Bag). x.promises) (run.1).2 ∙ same_promises b e none.0
+pub run_promises : (rule : Bag → Bool) (es : List Entry) (b n : Bag) → IsRunWhere rule b es n → Each (λ e. pushes e ≡ None) es
+    → n.promises ≡ b.promises
+run_promises rule [] b n run none = ap (λ (x : Bag). x.promises) (sym run)
+run_promises rule (e ∷ es) b n run none =
+    run_promises rule es run.0 n run.2 none.1 ∙ ap (λ (x : Bag). x.promises) (run.1).2 ∙ same_promises b e none.0
 
 promised_other : (b : Bag) (p : Room) (id : UnitId) → same_unit p.id id ≡ false
     → promise_of (record b { promises = b.promises ++ p ∷ [] }) id ≡ promise_of b id
@@ -170,27 +171,27 @@ travels_on to p q (inl same) is = same ∙ is
 travels_on to p q (inr (at, rank, inl both)) is = let no_one : Free at ≡ Travelling to = sym both.0 ∙ is in absurd (cc)
 travels_on to p q (inr (at, rank, inr both)) is = let no_one : Pinned at rank ≡ Travelling to = sym both.0 ∙ is in absurd (cc)
 
-held_later : (b : Bag) (e : Entry) (a : Server) (id : UnitId) → Legal b e → IsNotOf (pushes e) id → IsHeldAt b a id
-    → IsHeldAt (after b e) a id
-held_later b e a id l apart is =
-    let later = unit_later b e id is.unit l apart is.found in
+held_later : (rule : Bag → Bool) (b : Bag) (e : Entry) (a : Server) (id : UnitId) → LegalWhere rule b e → IsNotOf (pushes e) id
+    → IsHeldAt b a id → IsHeldAt (after b e) a id
+held_later rule b e a id l apart is =
+    let later = unit_later rule b e id is.unit l apart is.found in
     record { unit = later.unit; found = later.found; held = held_onward a is.unit.place later.unit.place later.onward is.held }
 
-measured_later : (b : Bag) (e : Entry) (id : UnitId) (n : ℕ) → Legal b e → IsNotOf (pushes e) id → IsMeasured b id n
-    → IsMeasured (after b e) id n
-measured_later b e id n l apart is =
-    let later = unit_later b e id is.unit l apart is.found in
+measured_later : (rule : Bag → Bool) (b : Bag) (e : Entry) (id : UnitId) (n : ℕ) → LegalWhere rule b e → IsNotOf (pushes e) id
+    → IsMeasured b id n → IsMeasured (after b e) id n
+measured_later rule b e id n l apart is =
+    let later = unit_later rule b e id is.unit l apart is.found in
     record { unit = later.unit; found = later.found; long = ap (λ (u : Work). length u.body) later.same ∙ is.long }
 
 promised_later : (b : Bag) (e : Entry) (t : Server) (id : UnitId) → IsNotOf (pushes e) id → IsPromisedAt b t id
     → IsPromisedAt (after b e) t id
 promised_later b e t id apart p = record { room = p.room; found = promise_later b e id apart ∙ p.found; here = p.here }
 
-travel_later : (b : Bag) (e : Entry) (to : Server) (unit : Work) → Legal b e → IsNotOf (pushes e) unit.id
+travel_later : (rule : Bag → Bool) (b : Bag) (e : Entry) (to : Server) (unit : Work) → LegalWhere rule b e → IsNotOf (pushes e) unit.id
     → unit_of b unit.id ≡ Some (record { unit = unit; place = Travelling to })
     → unit_of (after b e) unit.id ≡ Some (record { unit = unit; place = Travelling to })
-travel_later b e to unit l apart there =
-    let is = unit_later b e unit.id (record { unit = unit; place = Travelling to }) l apart there in
+travel_later rule b e to unit l apart there =
+    let is = unit_later rule b e unit.id (record { unit = unit; place = Travelling to }) l apart there in
     let place = travels_on to (Travelling to) is.unit.place is.onward refl in
     is.found ∙ ap (λ (w : Work). Some (record { unit = w; place = is.unit.place })) is.same
     ∙ ap (λ (p : UnitPlace). Some (record { unit = unit; place = p })) place
@@ -211,37 +212,60 @@ not_of (Some y) x none =
     let no_one = one_not (same_unit x y) (none y refl) in
     absurd (cc))
 
-of_push_later : (b : Bag) (e : Entry) (from to : Server) (m : Message) → Legal b e → IsApart e (by.Server from) (by.Server to) m
-    → OfPush b from to m → OfPush (after b e) from to m
-of_push_later b e from to (tells.PushQuery id n) l apart of =
-    let other = not_of (pushes e) id apart in
-    (held_later b e from id l other of.0, measured_later b e id n l other of.1, promise_later b e id other ∙ of.2)
-of_push_later b e from to (tells.PushYes id) l apart of =
-    let other = not_of (pushes e) id apart in (held_later b e to id l other of.0, promised_later b e from id other of.1)
-of_push_later b e from to (tells.PushNo id) l apart of = held_later b e to id l (not_of (pushes e) id apart) of
-of_push_later b e from to (tells.PushUnit unit) l apart of = travel_later b e to unit l (not_of (pushes e) unit.id apart) of
-of_push_later b e from to (tells.PushCancel id) l apart of =
-    let other = not_of (pushes e) id apart in (held_later b e from id l other of.0, promised_later b e to id other of.1)
-of_push_later b e from to _ l apart of = tt
+-- exhaustion that was found stays found
+pub still_exhausted : (b : Bag) (e : Entry) → b.exhausted ≡ true → (after b e).exhausted ≡ true
+still_exhausted b (enters.Accepted server x) is =
+    taken_exhausted server (option_and_then (λ (r : RankState). putting r.status) (rank_at b x.rank)) ∙ is
+  where
+    taken_exhausted : (server : Server) (o : Option Work) → (taken server o b).exhausted ≡ b.exhausted
+    taken_exhausted server None = refl
+    taken_exhausted server (Some unit) = by_common unit.common
+      where
+        by_common : (c : Option CommonRef)
+            → (shared c (record b { units = b.units ++ record { unit = unit; place = Free server } ∷ [] })).exhausted ≡ b.exhausted
+        by_common None = refl
+        by_common (Some c) = refl
+still_exhausted b (enters.Kept server batch) is =
+    kept_exhausted (option_and_then (λ (r : RankState). keeping r.status) (rank_at b batch.rank)) ∙ is
+  where
+    kept_exhausted : (o : Option (ℕ × List ℕ)) → (kept server batch o b).exhausted ≡ b.exhausted
+    kept_exhausted None = refl
+    kept_exhausted (Some x) = refl
+still_exhausted b enters.Exhausted is = refl
+still_exhausted b e is = is
 
-is_of_push_later : (b : Bag) (e : Entry) (from to : Actor) (m : Message) → Legal b e → IsApart e from to m → IsOfPush b from to m
-    → IsOfPush (after b e) from to m
-is_of_push_later b e (by.Server from) (by.Server to) m l apart of = of_push_later b e from to m l apart of
-is_of_push_later b e (by.Server from) (by.Rank to) m l apart of = tt
-is_of_push_later b e (by.Rank from) to m l apart of = tt
+of_push_later : (rule : Bag → Bool) (b : Bag) (e : Entry) (from to : Server) (m : Message) → LegalWhere rule b e
+    → IsApart e (by.Server from) (by.Server to) m → OfPush b from to m → OfPush (after b e) from to m
+of_push_later rule b e from to (tells.PushQuery id n) l apart of =
+    let other = not_of (pushes e) id apart in
+    (held_later rule b e from id l other of.0, measured_later rule b e id n l other of.1, promise_later b e id other ∙ of.2)
+of_push_later rule b e from to (tells.PushYes id) l apart of =
+    let other = not_of (pushes e) id apart in (held_later rule b e to id l other of.0, promised_later b e from id other of.1)
+of_push_later rule b e from to (tells.PushNo id) l apart of = held_later rule b e to id l (not_of (pushes e) id apart) of
+of_push_later rule b e from to (tells.PushUnit unit) l apart of = travel_later rule b e to unit l (not_of (pushes e) unit.id apart) of
+of_push_later rule b e from to (tells.PushCancel id) l apart of =
+    let other = not_of (pushes e) id apart in (held_later rule b e from id l other of.0, promised_later b e to id other of.1)
+of_push_later rule b e from to tells.Exhaust l apart of = still_exhausted b e of
+of_push_later rule b e from to _ l apart of = tt
+
+is_of_push_later : (rule : Bag → Bool) (b : Bag) (e : Entry) (from to : Actor) (m : Message) → LegalWhere rule b e → IsApart e from to m
+    → IsOfPush b from to m → IsOfPush (after b e) from to m
+is_of_push_later rule b e (by.Server from) (by.Server to) m l apart of = of_push_later rule b e from to m l apart of
+is_of_push_later rule b e (by.Server from) (by.Rank to) m l apart of = tt
+is_of_push_later rule b e (by.Rank from) to m l apart of = tt
 
 -- All entries.
 
 abbrev pub AreApart : List Entry → Actor → Actor → Message → Type 0
 AreApart es from to m = Each (λ e. IsApart e from to m) es
 
-pub run_later : (es : List Entry) (b n : Bag) (from to : Actor) (m : Message) → IsRun b es n → AreApart es from to m
-    → IsOfPush b from to m → IsOfPush n from to m
-run_later [] b n from to m run apart of = subst (λ (x : Bag). IsOfPush x from to m) run of
-run_later (e ∷ es) b n from to m run apart of =
+pub run_later : (rule : Bag → Bool) (es : List Entry) (b n : Bag) (from to : Actor) (m : Message) → IsRunWhere rule b es n
+    → AreApart es from to m → IsOfPush b from to m → IsOfPush n from to m
+run_later rule [] b n from to m run apart of = subst (λ (x : Bag). IsOfPush x from to m) run of
+run_later rule (e ∷ es) b n from to m run apart of =
     let step = run.1 in
-    let next = is_of_push_later b e from to m step.1 apart.0 of in
-    run_later es run.0 n from to m run.2 apart.1 (subst (λ (x : Bag). IsOfPush x from to m) (sym step.2) next)
+    let next = is_of_push_later rule b e from to m step.1 apart.0 of in
+    run_later rule es run.0 n from to m run.2 apart.1 (subst (λ (x : Bag). IsOfPush x from to m) (sym step.2) next)
 
 -- entries that push nothing are apart from every letter, and those of one unit from each letter that is none of its open ones
 pub none_pushed : (es : List Entry) (from to : Actor) (m : Message) → Each (λ e. pushes e ≡ None) es → AreApart es from to m

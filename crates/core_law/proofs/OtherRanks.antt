@@ -24,7 +24,7 @@ use Rattle.bag_ledger.specs.declared.states.RankState.{RankState}
 use Rattle.bag_ledger.specs.declared.states.UnitPlace.{UnitPlace}
 use Rattle.bag_ledger.specs.declared.states.UnitPlace.TheVariants.{Free, Pinned, Spent, Travelling}
 use Rattle.bag_ledger.specs.Bag.{Bag, keeping, putting, rank_at, unit_of, part_of}
-use Rattle.bag_ledger.specs.Steps.{Steps, after, change_at, kept, moved, shared, taken, with_rank, Legal, new_part, with_part}
+use Rattle.bag_ledger.specs.Steps.{StepsWhere, after, change_at, kept, moved, shared, taken, with_rank, LegalWhere, new_part, with_part}
 use Rattle.bag_ledger.proofs.Lookups.{find_before}
 use Rattle.bag_ledger.proofs.Moves.{moved_other}
 use Rattle.bag_ledger.proofs.Tests.{some_is}
@@ -69,18 +69,21 @@ still_owed me b next note common own k is =
     let v = k.unit note.id is.0 is.1 in
     (v.0, v.1, ap (λ (x : Unit). x.common) v.2 ∙ is.2, ap (λ (x : Unit). x.body) v.2 ∙ is.3)
 
-owed_after : (me : Rank) (b next : Bag) (p : Pending) (coming : Option Message) → KeepsUnits me b next → IsOwedIn b p coming → IsOwedIn next p coming
-owed_after me b next (waits_for.Fetch request note) (Some (tells.Bytes to own)) k is = λ common shares. still_owed me b next note common own k (is common shares)
-owed_after me b next (waits_for.Common request note common own) coming k is = still_owed me b next note common own k is
-owed_after me b next (waits_for.Fetch request note) None k is = tt
-owed_after me b next (waits_for.Fetch request note) (Some _) k is = tt
-owed_after me b next waits_for.Nothing coming k is = tt
-owed_after me b next (waits_for.Put unit first tried) coming k is = tt
-owed_after me b next (waits_for.Reserve request types) coming k is = tt
-owed_after me b next (waits_for.Try request types tried) coming k is = tt
-owed_after me b next (waits_for.Keep request common first tried) coming k is = tt
-owed_after me b next (waits_for.Close request batch) coming k is = tt
-owed_after me b next (waits_for.Count request kind) coming k is = tt
+owed_after : (me : Rank) (b next : Bag) (p : Pending) (coming : Option Message) → KeepsUnits me b next
+    → (b.done ≡ true → next.done ≡ true) → IsOwedIn b p coming → IsOwedIn next p coming
+owed_after me b next (waits_for.Fetch request note) (Some (tells.Bytes to own)) k done is =
+    λ common shares. still_owed me b next note common own k (is common shares)
+owed_after me b next (waits_for.Common request note common own) coming k done is = still_owed me b next note common own k is
+owed_after me b next (waits_for.Fetch request note) None k done is = tt
+owed_after me b next (waits_for.Fetch request note) (Some _) k done is = tt
+owed_after me b next waits_for.Nothing coming k done is = tt
+owed_after me b next (waits_for.Put unit first tried) coming k done is = tt
+owed_after me b next (waits_for.Reserve request types) coming k done is = tt
+owed_after me b next (waits_for.Try request types tried) coming k done is = tt
+owed_after me b next (waits_for.Keep request common first tried) coming k done is = tt
+owed_after me b next (waits_for.Close request batch) coming k done is = tt
+owed_after me b next (waits_for.Count request kind) coming k done is = tt
+owed_after me b next (waits_for.SetDone request tried) coming k done is = done is
 
 accepted_after : (me : Rank) (b next : Bag) (o : Option CommonRef) (n : ℕ) → ((c : CommonRef) → o ≡ Some c → c.batch.rank.0 ≡ me.0) → KeepsUnits me b next
     → HasAccepted b o n → HasAccepted next o n
@@ -90,7 +93,7 @@ accepted_after me b next (Some c) n own k is = let q = k.part c.batch is.0 (own 
 stands_after : (b next : Bag) (s : ClientModel) (coming : Option Message) → IsSoundBag b → Leaves s.me b next → KeepsUnits s.me b next
     → ClientAgrees s coming b → ClientAgrees s coming next
 stands_after b next s coming sound l k a = record {
-  owed = owed_after s.me b next s.pending coming k a.owed;
+  owed = owed_after s.me b next s.pending coming k l.done a.owed;
   accepted = accepted_after s.me b next (rank_of s s.finished coming).batch _
       (λ c is. (batch_is_open b sound s.me (rank_of s s.finished coming) c a.rank is).0) k a.accepted;
   rank = l.rank ∙ a.rank;
@@ -183,66 +186,67 @@ same me b = aside me b b.parts b.promises
 apart : (me other : Rank) → tells_of me (Some other) ≡ false → me.0 ≢ other.0
 apart me other is e = let yes_is : (other.0 == me.0) ≡ true = eq-eqb other.0 me.0 (sym e) in absurd (cc)
 
-entry_leaves : (me : Rank) (b : Bag) (e : Entry) → Steps b e (after b e) → tells_of me (teller e) ≡ false → Leaves me b (after b e)
-entry_leaves me b (enters.Putting rank call kind prio target answer body) s is = then_rank me rank _ b b (apart me rank is) (same me b)
-entry_leaves me b (enters.Refused server id used) s is = then_rank me id.rank _ b b (apart me id.rank is) (same me b)
-entry_leaves me b (enters.Accepted server id) s is =
+entry_leaves : (found : Bag → Bool) (me : Rank) (b : Bag) (e : Entry) → StepsWhere found b e (after b e)
+    → tells_of me (teller e) ≡ false → Leaves me b (after b e)
+entry_leaves found me b (enters.Putting rank call kind prio target answer body) s is = then_rank me rank _ b b (apart me rank is) (same me b)
+entry_leaves found me b (enters.Refused server id used) s is = then_rank me id.rank _ b b (apart me id.rank is) (same me b)
+entry_leaves found me b (enters.Accepted server id) s is =
     then_rank me id.rank _ b _ (apart me id.rank is)
     (unit_taken me b server (option_and_then (λ (r : RankState). putting r.status) (rank_at b id.rank)))
-entry_leaves me b (enters.Rejected rank call) s is = then_rank me rank _ b b (apart me rank is) (same me b)
-entry_leaves me b (enters.Keeping rank call common) s is = then_rank me rank _ b b (apart me rank is) (same me b)
-entry_leaves me b (enters.Kept server batch) s is =
+entry_leaves found me b (enters.Rejected rank call) s is = then_rank me rank _ b b (apart me rank is) (same me b)
+entry_leaves found me b (enters.Keeping rank call common) s is = then_rank me rank _ b b (apart me rank is) (same me b)
+entry_leaves found me b (enters.Kept server batch) s is =
     part_kept me b server batch (option_and_then (λ (r : RankState). keeping r.status) (rank_at b batch.rank)) (apart me batch.rank is)
-entry_leaves me b (enters.Closing rank call) s is = then_rank me rank _ b b (apart me rank is) (same me b)
-entry_leaves me b (enters.Closed server batch) s is = then_rank me batch.rank _ b _ (apart me batch.rank is) (aside me b _ b.promises)
-entry_leaves me b (enters.Freed server batch) s is = aside me b _ b.promises
-entry_leaves me b (enters.Asked rank call types) s is = then_rank me rank _ b b (apart me rank is) (same me b)
-entry_leaves me b (enters.Tried rank call types) s is = then_rank me rank _ b b (apart me rank is) (same me b)
-entry_leaves me b (enters.Granted server rank call id) s is =
+entry_leaves found me b (enters.Closing rank call) s is = then_rank me rank _ b b (apart me rank is) (same me b)
+entry_leaves found me b (enters.Closed server batch) s is = then_rank me batch.rank _ b _ (apart me batch.rank is) (aside me b _ b.promises)
+entry_leaves found me b (enters.Freed server batch) s is = aside me b _ b.promises
+entry_leaves found me b (enters.Asked rank call types) s is = then_rank me rank _ b b (apart me rank is) (same me b)
+entry_leaves found me b (enters.Tried rank call types) s is = then_rank me rank _ b b (apart me rank is) (same me b)
+entry_leaves found me b (enters.Granted server rank call id) s is =
     then_rank me rank _ b _ (apart me rank is)
     (goes me b id (Pinned server rank) s.1.2 b.promises s.1.6.0 (λ at. free_apart me server at s.1.2 s.1.6.1))
-entry_leaves me b (enters.Looked server rank call) s is = then_rank me rank _ b b (apart me rank is) (same me b)
-entry_leaves me b (enters.NoCurrent rank call) s is = then_rank me rank _ b b (apart me rank is) (same me b)
-entry_leaves me b (enters.Fetching rank call id) s is = then_rank me rank _ b b (apart me rank is) (same me b)
-entry_leaves me b (enters.Fetched server rank id) s is =
+entry_leaves found me b (enters.Looked server rank call) s is = then_rank me rank _ b b (apart me rank is) (same me b)
+entry_leaves found me b (enters.NoCurrent rank call) s is = then_rank me rank _ b b (apart me rank is) (same me b)
+entry_leaves found me b (enters.Fetching rank call id) s is = then_rank me rank _ b b (apart me rank is) (same me b)
+entry_leaves found me b (enters.Fetched server rank id) s is =
     then_rank me rank _ b _ (apart me rank is)
     (goes me b id Spent s.1.2 b.promises s.1.6.0 (λ at. pinned_apart me rank server at s.1.2 (apart me rank is) s.1.6.1))
-entry_leaves me b (enters.CommonFetched server rank batch) s is = then_rank me rank _ b _ (apart me rank is) (aside me b _ b.promises)
-entry_leaves me b (enters.Promised server id n) s is = aside me b b.parts _
-entry_leaves me b (enters.Left server to id) s is =
+entry_leaves found me b (enters.CommonFetched server rank batch) s is = then_rank me rank _ b _ (apart me rank is) (aside me b _ b.promises)
+entry_leaves found me b (enters.Promised server id n) s is = aside me b b.parts _
+entry_leaves found me b (enters.Left server to id) s is =
     goes me b id (Travelling to) s.1.0 b.promises s.1.2.0 (λ at. free_apart me server at s.1.0 s.1.2.1)
-entry_leaves me b (enters.Arrived server id) s is =
+entry_leaves found me b (enters.Arrived server id) s is =
     goes me b id (Free server) s.1.0 _ s.1.1.0 (λ at. travelling_apart me server at s.1.0 s.1.1.1)
-entry_leaves me b (enters.Withdrawn server id) s is = aside me b b.parts _
-entry_leaves me b (enters.Counting rank call kind) s is = then_rank me rank _ b b (apart me rank is) (same me b)
-entry_leaves me b (enters.Counted server rank call info) s is = then_rank me rank _ b b (apart me rank is) (same me b)
-entry_leaves me b (enters.Done rank call) s is =
+entry_leaves found me b (enters.Withdrawn server id) s is = aside me b b.parts _
+entry_leaves found me b (enters.Counting rank call kind) s is = then_rank me rank _ b b (apart me rank is) (same me b)
+entry_leaves found me b (enters.Counted server rank call info) s is = then_rank me rank _ b b (apart me rank is) (same me b)
+entry_leaves found me b (enters.Done rank call) s is =
     then_rank me rank _ b _ (apart me rank is)
     (record { rank = refl; servers = refl; done = λ is. refl; exhausted = λ is. is; held = λ note is. is })
-entry_leaves me b enters.Exhausted s is =
+entry_leaves found me b enters.Exhausted s is =
     record { rank = refl; servers = refl; done = λ is. is; exhausted = λ is. refl; held = λ note is. is }
-entry_leaves me b (enters.Over rank call end) s is = then_rank me rank _ b b (apart me rank is) (same me b)
-entry_leaves me b (enters.Finished rank call) s is = then_rank me rank _ b b (apart me rank is) (same me b)
+entry_leaves found me b (enters.Over rank call end) s is = then_rank me rank _ b b (apart me rank is) (same me b)
+entry_leaves found me b (enters.Finished rank call) s is = then_rank me rank _ b b (apart me rank is) (same me b)
 
 -- Units stay, and so do the counts of the rank's own batch.
 
 unit_same : (b : Bag) (id : UnitId) (u : Lodged) → unit_of b id ≡ Some u → (v : Lodged) × (unit_of b id ≡ Some v) × (v.unit ≡ u.unit)
 unit_same b id u there = (u, there, refl)
 
-unit_kept : (b : Bag) (e : Entry) (id : UnitId) (u : Lodged) → Legal b e → unit_of b id ≡ Some u
+unit_kept : (found : Bag → Bool) (b : Bag) (e : Entry) (id : UnitId) (u : Lodged) → LegalWhere found b e → unit_of b id ≡ Some u
     → (v : Lodged) × (unit_of (after b e) id ≡ Some v) × (v.unit ≡ u.unit)
-unit_kept b (enters.Accepted server x) id u l there =
+unit_kept found b (enters.Accepted server x) id u l there =
     let a = accepted_is b server x l in (
       u,
       ap (find (λ (v : Lodged). same_unit v.unit.id id)) a.units ∙ find_before (λ (v : Lodged). same_unit v.unit.id id) b.units (record { unit = a.u; place = Free server } ∷ []) u there,
       refl,
     )
-unit_kept b (enters.Kept server batch) id u l there = (u, ap (λ (n : Bag). unit_of n id) (kept_is b server batch l) ∙ there, refl)
-unit_kept b (enters.Granted server rank call x) id u l there = moved_keeps b x id (Pinned server rank) u there
-unit_kept b (enters.Fetched server rank x) id u l there = moved_keeps b x id Spent u there
-unit_kept b (enters.Left server to x) id u l there = moved_keeps b x id (Travelling to) u there
-unit_kept b (enters.Arrived server x) id u l there = moved_keeps b x id (Free server) u there
-unit_kept b _ id u l there = (u, there, refl)
+unit_kept found b (enters.Kept server batch) id u l there = (u, ap (λ (n : Bag). unit_of n id) (kept_is b server batch l) ∙ there, refl)
+unit_kept found b (enters.Granted server rank call x) id u l there = moved_keeps b x id (Pinned server rank) u there
+unit_kept found b (enters.Fetched server rank x) id u l there = moved_keeps b x id Spent u there
+unit_kept found b (enters.Left server to x) id u l there = moved_keeps b x id (Travelling to) u there
+unit_kept found b (enters.Arrived server x) id u l there = moved_keeps b x id (Free server) u there
+unit_kept found b _ id u l there = (u, there, refl)
 
 -- a change that leaves the count
 count_kept : (b : Bag) (batch x : BatchId) (g : Part → Part) → ((p : Part) → (g p).batch ≡ p.batch) → ((p : Part) → (g p).accepted ≡ p.accepted)
@@ -252,9 +256,10 @@ count_kept b batch x g same counts p there = by_is (part_is g same batch x b.par
     by_is : PartIs g batch x b.parts p → (q : Part) × (part_of (with_part batch g b) x ≡ Some q) × (q.accepted ≡ p.accepted)
     by_is w = (w.0, w.1, elim w.2 [ inl is ↦ ap (λ (y : Part). y.accepted) is | inr is ↦ ap (λ (y : Part). y.accepted) is.1 ∙ counts p ])
 
-part_counted : (me : Rank) (b : Bag) (e : Entry) (batch : BatchId) (p : Part) → IsSoundBag b → Legal b e → tells_of me (teller e) ≡ false
+part_counted : (found : Bag → Bool) (me : Rank) (b : Bag) (e : Entry) (batch : BatchId) (p : Part) → IsSoundBag b
+    → LegalWhere found b e → tells_of me (teller e) ≡ false
     → batch.rank.0 ≡ me.0 → part_of b batch ≡ Some p → (q : Part) × (part_of (after b e) batch ≡ Some q) × (q.accepted ≡ p.accepted)
-part_counted me b (enters.Accepted server id) batch p sound l is own there =
+part_counted found me b (enters.Accepted server id) batch p sound l is own there =
     let a = accepted_is b server id l in
     by_common a a.u.common refl
   where
@@ -276,22 +281,25 @@ part_counted me b (enters.Accepted server id) batch p sound l is own there =
             | inr other ↦ absurd (apart me id.rank is (sym own ∙ ap (λ (x : BatchId). x.rank.0) other.0 ∙ of.0))
           ],
         )
-part_counted me b (enters.Kept server x) batch p sound l is own there = (
+part_counted found me b (enters.Kept server x) batch p sound l is own there = (
   p,
   ap (λ (n : Bag). part_of n batch) (kept_is b server x l) ∙ find_before (λ (q : Part). same_batch q.batch batch) b.parts (new_part server x l.1 ∷ []) p there,
   refl,
 )
-part_counted me b (enters.Closed server x) batch p sound l is own there = count_kept b x batch (λ q. record q { closed = true }) (λ q. refl) (λ q. refl) p there
-part_counted me b (enters.Freed server x) batch p sound l is own there = count_kept b x batch (λ q. record q { freed = true }) (λ q. refl) (λ q. refl) p there
-part_counted me b (enters.CommonFetched server rank x) batch p sound l is own there =
+part_counted found me b (enters.Closed server x) batch p sound l is own there =
+    count_kept b x batch (λ q. record q { closed = true }) (λ q. refl) (λ q. refl) p there
+part_counted found me b (enters.Freed server x) batch p sound l is own there =
+    count_kept b x batch (λ q. record q { freed = true }) (λ q. refl) (λ q. refl) p there
+part_counted found me b (enters.CommonFetched server rank x) batch p sound l is own there =
     count_kept b x batch (λ q. record q { fetched = q.fetched + 1 }) (λ q. refl) (λ q. refl) p there
-part_counted me b _ batch p sound l is own there = (p, there, refl)
+part_counted found me b _ batch p sound l is own there = (p, there, refl)
 
 pub clients_stay : ClientsStay
-clients_stay b next e s coming sound step is a =
+clients_stay found b next e s coming sound step is a =
     let keeps : KeepsUnits s.me b (after b e) = record {
-      unit = λ id u there. unit_kept b e id u step.1 there;
-      part = λ batch p own there. part_counted s.me b e batch p sound step.1 is own there;
+      unit = λ id u there. unit_kept found b e id u step.1 there;
+      part = λ batch p own there. part_counted found s.me b e batch p sound step.1 is own there;
     } in
-    let now : ClientAgrees s coming (after b e) = stands_after b (after b e) s coming sound (entry_leaves s.me b e (step.0, step.1, refl) is) keeps a in
+    let now : ClientAgrees s coming (after b e) =
+    stands_after b (after b e) s coming sound (entry_leaves found s.me b e (step.0, step.1, refl) is) keeps a in
     subst (λ (n : Bag). ClientAgrees s coming n) (sym step.2) now

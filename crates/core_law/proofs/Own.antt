@@ -1,12 +1,12 @@
 -- A server's own state through an act, and that what the act takes and says is of a kind that goes there.
-use Rattle.std.proofs.Common.{◌≡◌, ◌≢◌, ◌<◌, ◌+◌, ℕ, ◌==◌, Bool, true, false, not, ◌&&◌, ◌||◌, List, [], ◌∷◌, length, refl, sym, ap, ◌∙◌, subst, arith}
+use Rattle.std.proofs.Common.{◌≡◌, ◌≢◌, ◌≤◌, ◌<◌, ◌+◌, ◌-◌, ℕ, ◌==◌, inl, inr, Bool, true, false, not, ◌&&◌, ◌||◌, List, [], ◌∷◌, ◌++◌, length, map, refl, sym, ap, ◌∙◌, subst, arith}
 use Rattle.std.specs.Prelude.{All, IfSome, Option, nat_lt}
 use Rattle.std.proofs.lemmas.Bool.{and_from, and_parts, eq-eqb, eqb-true, false_from_ne_true, lt-ltb, ltb-true, not-true}
 use Rattle.std.proofs.lemmas.List.{length-set}
 use Rattle.std.proofs.lemmas.List.Elements.{All-cons, All-filter, All-head, All-nil, All-push, All-tail}
 use Rattle.std.proofs.lemmas.Nat.{mod_below}
 use Rattle.adlb_unit.specs.Links.{is_within, place_of}
-use Rattle.adlb_unit.specs.Ring.{others}
+use Rattle.adlb_unit.specs.Ring.{behind, others}
 use Rattle.adlb_unit.specs.Targets.{home, home_of}
 use Rattle.adlb_unit.specs.declared.actors.Actor.{Actor}
 use Rattle.adlb_unit.specs.declared.actors.Actor.TheVariants as by
@@ -14,28 +14,33 @@ use Rattle.adlb_unit.specs.declared.configs.Config.{Config}
 use Rattle.adlb_unit.specs.declared.letters.Letter.{Letter}
 use Rattle.adlb_unit.specs.declared.messages.Message.{Message}
 use Rattle.adlb_unit.specs.declared.messages.Message.TheVariants as tells
+use Rattle.adlb_unit.specs.declared.messages.Why.{Why}
 use Rattle.adlb_unit.specs.declared.names.Rank.{Rank}
 use Rattle.adlb_unit.specs.declared.names.Server.{Server}
 use Rattle.adlb_unit.specs.declared.names.UnitId.{UnitId}
+use Rattle.adlb_unit.specs.declared.tokens.Token.{Token}
+use Rattle.exhaust_ring.specs.Expected.{IsToJudge}
+use Rattle.exhaust_ring.specs.Ring.{token}
 use Rattle.put_path.specs.Pushes.{next_to}
 use Rattle.put_path.specs.declared.standing.StandingPush.{StandingPush}
 use Rattle.reserve_path.specs.Calls.{has_server}
 use Rattle.reserve_path.specs.Parked.{IsOther, is_by}
 use Rattle.reserve_path.specs.declared.wishes.Wish.{Wish}
 use Rattle.reserve_path.proofs.Others.{all_others}
-use Rattle.server_law.specs.Acts.{Accepts, Acks, Act, Answers, Arrives, Asks_on, Cancels, Closes, Counts, Declines, Ends_keep, Ends_push, Ends_put, Ends_reserve, Ends_try, Fetches, Fetches_part, Gives, Grants, Grants_try, Heard, Hints, Is_hinted, Keeps, Looks, Notes_finish, Parks, Passes_on, Promises, Queries, Refuses, Refuses_part, Refuses_push, Sends_unit, ServerSaying, Shuts, Stops_push, Tells, Wakes, Withdraws, comes, debts, does, finished_after, goes, says, shut_after, takes, to_server, turned, turns, unwished, waiting_after, wishes_after}
-use Rattle.server_law.specs.Carried.{done}
-use Rattle.server_law.specs.State.{Debt, Kept, ServerModel, is_finished, is_home, is_waiting, runs}
-use Rattle.server_law.specs.Sure.{Sure, SitsIn}
+use Rattle.server_law.specs.Acts.{Accepts, Acks, Act, Answers, Arrives, Asks_on, Cancels, Closes, Counts, Declines, Ends_keep, Ends_push, Ends_put, Ends_reserve, Ends_try, Fails, Fetches, Fetches_part, Finds, Gives, Grants, Grants_try, Heard, Hears_done, Hears_shutdown, Hints, Is_hinted, Keeps, Looks, Marks, Notes_finish, Notices, Parks, Passes, Passes_on, Promises, Queries, Refuses, Refuses_part, Refuses_push, Sends_unit, ServerSaying, Shuts, Starts, Stops_push, Tells, Wakes, Withdraws, askers, comes, debts, does, finished_after, goes, onward, ring_after, says, shut_after, takes, to_others, to_server, zeroth, turned, turns, unwished, waiting_after, wishes_after}
+use Rattle.server_law.specs.Carried.{all_counted, counted, done}
+use Rattle.server_law.specs.State.{Debt, Kept, ServerModel, is_finished, is_home, is_waiting, ring_at, runs}
+use Rattle.server_law.specs.Sure.{IsFailing, SitsIn, Sure}
 use Rattle.core_run.specs.World.{Links, actors, link, put_link}
 use Rattle.core_law.specs.Acting.{AreFront, AreSaid, HintsAway}
 use Rattle.core_law.specs.OnLinks.{Each, OnLinks}
-use Rattle.core_law.specs.Letters.{fits_link, kinds, misfit, one}
+use Rattle.core_law.specs.Letters.{fits_between, fits_link, kinds, misfit, one}
 use Rattle.core_law.specs.Measures.{ActKeeps, heard_weight, said_weight}
 use Rattle.core_law.specs.Own.{IsEntry, IsPool, IsWish}
 use Rattle.core_law.specs.Well.{IsSquare}
 use Rattle.core_law.proofs.Acts.{counted_kept, counted_own}
-use Rattle.core_law.proofs.Pushing.{begins_push, next_other}
+use Rattle.core_law.proofs.Checking.{Elsewhere, alone_after, mark_after, noted_is, shut_is}
+use Rattle.core_law.proofs.Pushing.{begins_push, each_at, next_other}
 use Rattle.core_law.proofs.Sums.{place_below, square_put}
 use Rattle.core_law.proofs.UnderWay.{at_front, taken_on}
 use Rattle.core_law.proofs.Waits.{each_after, each_gone}
@@ -216,16 +221,64 @@ owed_here config me (Arrives from unit) s own fit = from_other config me from fi
 owed_here config me (Acks to id) s own fit = tt
 owed_here config me _ s own fit = own.owed
 
-shut_alone : (config : Config) (a : Act) (s : ServerModel) → s.config ≡ config → Sure a s → (s.kept.shut ≡ true → config.servers ≡ 1)
-    → shut_after a s.kept.shut ≡ true → config.servers ≡ 1
-shut_alone config Shuts s same sure was now = let e = ap (λ (c : Config). c.servers) same in omega (arith, sure)
-shut_alone config _ s same sure was now = was now
+-- The ring.
+
+-- the server is one of the run, as it has the run
+own_here : (config : Config) (me : Server) (s : ServerModel) → me.0 < config.servers → IsPool config me s → s.me.0 < s.config.servers
+own_here config me s here own =
+    let k = ap (λ (t : Server). t.0) own.me in let n = ap (λ (c : Config). c.servers) own.config in omega arith
+
+-- a letter has come from another server, so this one is not alone
+not_alone : (config : Config) (me from : Server) (fits : Bool) → me.0 < config.servers → is_within config (by.Server from) ≡ true
+    → (not (from.0 == me.0) && fits) ≡ true → config.servers ≢ 1
+not_alone config me from fits here within apart alone =
+    let differs = other_way from.0 me.0 (and_parts (not (from.0 == me.0)) fits apart).0 in
+    let there = ltb-true from.0 config.servers within in
+    differs (omega arith)
+
+takes_elsewhere : (config : Config) (me : Server) (a : Act) (s : ServerModel) → me.0 < config.servers → s.config ≡ config
+    → AreFit config me (takes a) → Elsewhere a s
+takes_elsewhere config me (Shuts from t) s here same fit =
+    subst (λ (c : Config). c.servers ≢ 1) (sym same) (not_alone config me from _ here fit.0.0 fit.0.1)
+takes_elsewhere config me (Hears_shutdown from) s here same fit =
+    subst (λ (c : Config). c.servers ≢ 1) (sym same) (not_alone config me from _ here fit.0.0 fit.0.1)
+takes_elsewhere config me _ s here same fit = tt
+
+abbrev AllFinished : List Bool → Type 0
+AllFinished finished = All (λ finished. finished ≡ true) finished
+
+-- with one server it is server 0
+pub alone_is : (config : Config) (me : Server) (s : ServerModel) → me.0 < config.servers → IsPool config me s → config.servers ≡ 1
+    → (s.config.servers ≡ 1) × (s.me.0 ≡ 0)
+alone_is config me s here own alone =
+    let inside = own_here config me s here own in
+    let same : s.config.servers ≡ 1 = ap (λ (c : Config). c.servers) own.config ∙ alone in
+    (same, omega arith)
+
+shut_alone : (config : Config) (me : Server) (a : Act) (s : ServerModel) → me.0 < config.servers → IsPool config me s
+    → AreFit config me (takes a) → Sure a s → config.servers ≡ 1 → shut_after a s.kept.shut ≡ true
+    → AllFinished (finished_after a s.kept.finished)
+shut_alone config me a s here own fit sure alone now =
+    let its = alone_is config me s here own alone in
+    let long : length s.kept.finished ≡ s.config.ranks = own.finished ∙ ap (λ (c : Config). c.ranks) (sym own.config) in
+    shut_is a s its.0 its.1 long (takes_elsewhere config me a s here own.config fit) sure (own.shut alone) now
+
+pub runs_alone : (config : Config) (me : Server) (a : Act) (s : ServerModel) → me.0 < config.servers → IsPool config me s → Sure a s
+    → config.servers ≡ 1 → (ring_after a s).runs ≡ false
+runs_alone config me a s here own sure alone =
+    let its = alone_is config me s here own alone in alone_after a s its.0 its.1 sure (own.alone alone)
+
+-- what an act says is counted, and changes no activity
+pub counted_activity : (s : ServerModel) (ys : List ServerSaying) → (all_counted s ys).activity ≡ s.activity
+counted_activity s [] = refl
+counted_activity s (y ∷ ys) = counted_activity (counted s y.to) ys
 
 pub pool_kept : (config : Config) (me : Server) (a : Act) (s : ServerModel) → me.0 < config.servers → IsPool config me s
     → AreFit config me (takes a) → SitsIn a s → Sure a s → IsPool config me (done a s)
 pool_kept config me a s here own fit sits sure =
     let set = counted_own (does a s) (says a s) in
     let kept = sym (counted_kept (does a s) (says a s)) in
+    let active = sym (counted_activity (does a s) (says a s)) in
     let was = each_all (IsEntry config me) s.kept.parked.waiting own.waiting in
     let waiting = all_each (IsEntry config me) (waiting_after a s) (each_after (IsEntry config me) a s sits was
     (comes_here config me a s here own fit sits sure)) in
@@ -238,7 +291,13 @@ pool_kept config me a s here own fit sits sure =
           (wishes_here config me a s.kept.parked.wishes fit own.wishes);
       pushing = subst (λ (k : Kept). PushesTo config me k.pushing.push) kept (pushing_here config me a s here own fit sure);
       owed = subst (λ (k : Kept). OwesTo config me k.owed) kept (owed_here config me a s own fit);
-      shut = subst (λ (k : Kept). k.shut ≡ true → config.servers ≡ 1) kept (shut_alone config a s own.config sure own.shut);
+      noted = subst (λ n. IfSome (done a s).kept.noted (λ k. k ≤ n)) active
+          (subst (λ (k : Kept). IfSome k.noted (λ n. n ≤ s.activity)) kept (noted_is a s own.noted));
+      mark = subst (λ n. (done a s).kept.ring.mark ≤ n) active
+          (subst (λ (k : Kept). k.ring.mark ≤ s.activity) kept (mark_after a s (own_here config me s here own) sure own.mark));
+      shut = subst (λ (k : Kept). config.servers ≡ 1 → k.shut ≡ true → AllFinished k.finished) kept
+          (shut_alone config me a s here own fit sure);
+      alone = subst (λ (k : Kept). config.servers ≡ 1 → k.ring.runs ≡ false) kept (runs_alone config me a s here own sure);
     }
 
 -- What it says goes to actors of the run, and is of a kind that goes there.
@@ -276,6 +335,50 @@ back_to : (me from : Server) → (not (from.0 == me.0) && true) ≡ true → (no
 back_to me from apart =
     let parts = and_parts (not (from.0 == me.0)) true apart in
     and_from (not (me.0 == from.0)) true (told_apart me.0 from.0 (other_way from.0 me.0 parts.0)) refl
+
+-- the token goes on to the server behind this one, which is another where this one is not alone
+onward_fits : (config : Config) (me : Server) (s : ServerModel) (t : Token) → me.0 < config.servers → IsPool config me s
+    → config.servers ≢ 1 → FitsSaid config me (to_server (onward s) (tells.Token t))
+onward_fits config me s t here own several =
+    let P : Config → Type 0 = λ c. FitsSaid config me (to_server (behind c s.me 1) (tells.Token t)) in
+    let Q : Server → Type 0 = λ k. FitsSaid config me (to_server (behind config k 1) (tells.Token t)) in
+    let to = behind config me 1 in
+    let other = each_at (IsOther config me) (behind config me) 1 (config.servers - 1) 0
+    (each_all (IsOther config me) (others config me) (all_others config me here)) (omega arith) in
+    subst P (sym own.config) (subst Q (sym own.me) (
+      lt-ltb to.0 config.servers other.0,
+      and_from (not (me.0 == to.0)) (to.0 == to.0) (told_apart me.0 to.0 (λ same. other.1 (sym same))) (eq-eqb to.0 to.0 refl),
+    ))
+
+-- and what goes to server 0 goes to another server
+zeroth_fits : (config : Config) (me : Server) (s : ServerModel) (m : Message) → IsPool config me s → s.me.0 ≢ 0
+    → fits_between config me zeroth m ≡ true → FitsSaid config me (to_server zeroth m)
+zeroth_fits config me s m own differs fits = (
+  lt-ltb 0 config.servers config.servers_within.0,
+  and_from (not (me.0 == 0)) (fits_between config me zeroth m)
+      (told_apart me.0 0 (λ same. differs (ap (λ (k : Server). k.0) own.me ∙ same))) fits,
+)
+
+-- a test that fails at another server than server 0
+fails_other : (s : ServerModel) (t : Token) (why : Why) → IsFailing s t why → s.me.0 ≢ 0
+fails_other s t why (inl marks) = marks.0.other
+fails_other s t why (inr tests) = tests.0.other
+
+-- the verdict of server 0 goes to each other server
+others_fit : (config : Config) (me : Server) (s : ServerModel) (m : Message) → me.0 < config.servers → IsPool config me s
+    → ((to : Server) → fits_between config me to m ≡ true) → Each (FitsSaid config me) (to_others s m)
+others_fit config me s m here own fits = each_said (others s.config s.me) (ring_others config me s here own)
+  where
+    each_said : (ts : List Server) → All (IsOther config me) ts → Each (FitsSaid config me) (map (λ t. to_server t m) ts)
+    each_said [] all = tt
+    each_said (t ∷ ts) all =
+        let other = All-head (IsOther config me) t ts all in
+        let fit = and_from (not (me.0 == t.0)) (fits_between config me t m) (told_apart me.0 t.0 (λ same. other.1 (sym same))) (fits t) in
+        ((lt-ltb t.0 config.servers other.0, fit), each_said ts (All-tail (IsOther config me) t ts all))
+
+verdict_fits : (config : Config) (me : Server) (s : ServerModel) (t : Token) → IsPool config me s → IsToJudge (ring_at s) t
+    → (me.0 == 0) ≡ true
+verdict_fits config me s t own judges = eq-eqb me.0 0 (ap (λ (k : Server). k.0) (sym own.me) ∙ judges.running.zeroth)
 
 pub said_fits : (config : Config) (me : Server) (a : Act) (s : ServerModel) → me.0 < config.servers → IsPool config me s
     → AreFit config me (takes a) → SitsIn a s → Sure a s → HintsAway config me a → Each (FitsSaid config me) (says a s)
@@ -323,6 +426,21 @@ said_fits config me (Cancels to id n) s here own fit sits sure hints = ((fit.0.0
 said_fits config me (Acks to id) s here own fit sits sure hints =
     (to_other config me to (subst (OwesTo config me) sure own.owed), tt)
 said_fits config me (Withdraws from id) s here own fit sits sure hints = ((fit.0.0, back_to me from fit.0.1), tt)
+said_fits config me (Hears_done rank request) s here own fit sits sure hints = ((fit.0.0, refl), tt)
+said_fits config me Notices s here own fit sits sure hints = (zeroth_fits config me s tells.Notice own sure.0 refl, tt)
+said_fits config me Starts s here own fit sits sure hints =
+    let several : config.servers ≢ 1 = λ alone. sure.1 (ap (λ (c : Config). c.servers) own.config ∙ alone) in
+    (onward_fits config me s (token (s.kept.ring.check + 1) 1 (askers s.kept)) here own several, tt)
+said_fits config me (Marks from t) s here own fit sits sure hints =
+    (onward_fits config me s (token t.check t.wave (t.asked ++ askers s.kept)) here own (not_alone config me from _ here fit.0.0 fit.0.1), tt)
+said_fits config me (Passes from t) s here own fit sits sure hints =
+    (onward_fits config me s (token t.check 2 t.asked) here own (not_alone config me from _ here fit.0.0 fit.0.1), tt)
+said_fits config me (Fails from t why) s here own fit sits sure hints =
+    (zeroth_fits config me s (tells.Failed t why) own (fails_other s t why sure.1) refl, tt)
+said_fits config me (Finds from t) s here own fit sits sure hints =
+    others_fit config me s tells.Exhaust here own (λ to. verdict_fits config me s t own sure.0)
+said_fits config me (Shuts from t) s here own fit sits sure hints =
+    others_fit config me s tells.Shutdown here own (λ to. verdict_fits config me s t own sure.0)
 said_fits config me _ s here own fit sits sure hints = tt
 
 pub said_within : (config : Config) (me : Server) (ys : List ServerSaying) → Each (FitsSaid config me) ys → AreSaid config ys

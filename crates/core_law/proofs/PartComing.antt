@@ -19,7 +19,7 @@ use Rattle.bag_ledger.specs.declared.states.Part.{Part as Lot}
 use Rattle.bag_ledger.specs.declared.states.RankState.{RankState}
 use Rattle.bag_ledger.specs.declared.states.Status.TheVariants as does
 use Rattle.bag_ledger.specs.Bag.{Bag, keeping as kept_call, part_of, rank_at}
-use Rattle.bag_ledger.specs.Runs.{IsRun, says}
+use Rattle.bag_ledger.specs.Runs.{IsRun, IsRunWhere, says}
 use Rattle.bag_ledger.specs.Steps.{after, declined_by, ended, kept, new_part, with_part, with_rank}
 use Rattle.bag_law.proofs.Turn.{PartIs, found_new, part_is}
 use Rattle.batch_store.specs.Store.{is_due}
@@ -44,19 +44,21 @@ accepted_turned b batch g same counts (Some c) n has = by_is (part_is g same bat
     by_is : PartIs g batch c.batch b.parts has.0 → HasAccepted (with_part batch g b) (Some c) n
     by_is w = (w.0, w.1, elim w.2 [ inl is ↦ ap (λ (x : Lot). x.accepted) is ∙ has.2 | inr is ↦ ap (λ (x : Lot). x.accepted) is.1 ∙ counts has.0 ∙ has.2 ])
 
-owed_same : (b n : Bag) (p : Pending) (coming : Option Message) → n.units ≡ b.units → IsOwedIn b p coming → IsOwedIn n p coming
-owed_same b n (waits_for.Fetch request note) (Some (tells.Bytes to own)) same is = λ common shares. let o = is common shares in
+owed_same : (b n : Bag) (p : Pending) (coming : Option Message) → n.units ≡ b.units → n.done ≡ b.done → IsOwedIn b p coming → IsOwedIn n p coming
+owed_same b n (waits_for.Fetch request note) (Some (tells.Bytes to own)) same alike is = λ common shares. let o = is common shares in
     (o.0, ap (λ units. find (λ (u : Lodged). same_unit u.unit.id note.id) units) same ∙ o.1, o.2, o.3)
-owed_same b n (waits_for.Common request note common own) coming same is = (is.0, ap (λ units. find (λ (u : Lodged). same_unit u.unit.id note.id) units) same ∙ is.1, is.2, is.3)
-owed_same b n (waits_for.Fetch request note) None same is = tt
-owed_same b n (waits_for.Fetch request note) (Some _) same is = tt
-owed_same b n waits_for.Nothing coming same is = tt
-owed_same b n (waits_for.Put unit first tried) coming same is = tt
-owed_same b n (waits_for.Reserve request types) coming same is = tt
-owed_same b n (waits_for.Try request types tried) coming same is = tt
-owed_same b n (waits_for.Keep request common first tried) coming same is = tt
-owed_same b n (waits_for.Close request batch) coming same is = tt
-owed_same b n (waits_for.Count request kind) coming same is = tt
+owed_same b n (waits_for.Common request note common own) coming same alike is =
+    (is.0, ap (λ units. find (λ (u : Lodged). same_unit u.unit.id note.id) units) same ∙ is.1, is.2, is.3)
+owed_same b n (waits_for.Fetch request note) None same alike is = tt
+owed_same b n (waits_for.Fetch request note) (Some _) same alike is = tt
+owed_same b n waits_for.Nothing coming same alike is = tt
+owed_same b n (waits_for.Put unit first tried) coming same alike is = tt
+owed_same b n (waits_for.Reserve request types) coming same alike is = tt
+owed_same b n (waits_for.Try request types tried) coming same alike is = tt
+owed_same b n (waits_for.Keep request common first tried) coming same alike is = tt
+owed_same b n (waits_for.Close request batch) coming same alike is = tt
+owed_same b n (waits_for.Count request kind) coming same alike is = tt
+owed_same b n (waits_for.SetDone request tried) coming same alike is = alike ∙ is
 
 -- the same where the part is freed
 freed_comes : (c : ClientModel) (p : Pending) (a : Message) (b : Bag) (e : Entry) (me : Server) (batch : BatchId)
@@ -71,17 +73,18 @@ freed_comes c p a b e me batch k =
       held = k.held;
       said = k.said;
       facts = facts_same n d _ refl k.facts;
-      owed = owed_same n d p (Some a) refl k.owed;
+      owed = owed_same n d p (Some a) refl refl k.owed;
       accepted = accepted_turned n batch (λ q. record q { freed = true }) (λ q. refl) (λ q. refl) _ _ k.accepted;
     }
 
 -- an entry, and behind it the freeing of a part that is due
-pub with_frees : (c : ClientModel) (p : Pending) (a : Message) (b next : Bag) (e : Entry) (me : Server) (batch : BatchId) (part : Part)
-    → ((n : Bag) → IsRun b (e ∷ []) n → Comes c p a b n (e ∷ [])) → IsRun b (e ∷ frees me batch part) next
+pub with_frees : (found : Bag → Bool) (c : ClientModel) (p : Pending) (a : Message) (b next : Bag) (e : Entry) (me : Server)
+    (batch : BatchId) (part : Part)
+    → ((n : Bag) → IsRunWhere found b (e ∷ []) n → Comes c p a b n (e ∷ [])) → IsRunWhere found b (e ∷ frees me batch part) next
     → Comes c p a b next (e ∷ frees me batch part)
-with_frees c p a b next e me batch part comes run = by_due (is_due part) run
+with_frees found c p a b next e me batch part comes run = by_due (is_due part) run
   where
-    by_due : (t : Bool) → IsRun b (e ∷ cond t (enters.Freed me batch ∷ []) []) next
+    by_due : (t : Bool) → IsRunWhere found b (e ∷ cond t (enters.Freed me batch ∷ []) []) next
         → Comes c p a b next (e ∷ cond t (enters.Freed me batch ∷ []) [])
     by_due true run =
         let first : Comes c p a b (after b e) (e ∷ []) = comes (after b e) (after b e, (run.1.0, run.1.1, refl), refl) in

@@ -1,11 +1,12 @@
 -- Each act and the push letters.
-use Rattle.std.proofs.Common.{Bool, List, None, Some, [], ap, arith, cond, false, refl, subst, true, ℕ, ◌++◌, ◌+◌, ◌∙◌, ◌∷◌, ◌≡◌}
+use Rattle.std.proofs.Common.{Bool, List, None, Some, [], ap, arith, cond, false, refl, sym, subst, true, ℕ, ◌++◌, ◌+◌, ◌∙◌, ◌∷◌, ◌≡◌}
 use Rattle.std.proofs.lemmas.Bool.{lt-ltb}
 use Rattle.std.proofs.lemmas.List.Folds.{find-append}
 use Rattle.adlb_unit.specs.Ids.{same_unit}
 use Rattle.adlb_unit.specs.declared.actors.Actor.TheVariants as by
 use Rattle.adlb_unit.specs.declared.messages.Message.TheVariants as tells
 use Rattle.adlb_unit.specs.declared.messages.Message.{Message}
+use Rattle.adlb_unit.specs.declared.tokens.Token.{Token}
 use Rattle.adlb_unit.specs.declared.names.BatchId.{BatchId}
 use Rattle.adlb_unit.specs.declared.names.Server.{Server}
 use Rattle.adlb_unit.specs.declared.names.UnitId.{UnitId}
@@ -23,21 +24,24 @@ use Rattle.bag_law.specs.Counts.{promises_named}
 use Rattle.bag_law.specs.Sound.{PromisesAreSingle}
 use Rattle.batch_store.specs.Store.{closed, fetched, is_due}
 use Rattle.batch_store.specs.declared.parts.Part.{Part}
-use Rattle.server_law.specs.Acts.{Accepts, Act, Answers, Arrives, Cancels, Closes, Counts, Drops_hint, Ends_keep, Ends_push, Ends_put, Ends_reserve, Ends_try, Fetches, Fetches_part, Finds, Gives, Grants, Grants_try, Heard, Is_hinted, Keeps, Looks, Notes_finish, Parks, Promises, Queries, Refuses, Refuses_part, Refuses_push, Sends_unit, Shuts, Stops_push, Tells, Wakes, Withdraws, entries, frees, of_server, says, takes}
+use Rattle.server_law.specs.Acts.{Accepts, Act, Answers, Arrives, Cancels, Closes, Counts, Drops_hint, Ends_keep, Ends_push, Ends_put, Ends_reserve, Ends_try, Fetches, Fetches_part, Checks_alone, Finds, Finds_alone, Gives, Gives_up, Hears_exhaust, Hears_failed, Hears_shutdown, Notes_own, Shuts_alone, Wants, Grants, Grants_try, Heard, Is_hinted, Keeps, Looks, Notes_finish, Parks, Promises, Queries, Refuses, Refuses_part, Refuses_push, Sends_unit, Shuts, Stops_push, Tells, Wakes, Withdraws, entries, frees, of_server, says, takes}
 use Rattle.server_law.specs.Moving.{IsHeldAt}
 use Rattle.server_law.specs.State.{ServerModel}
 use Rattle.core_run.specs.World.{World, pool_of}
 use Rattle.core_law.specs.Acting.{AreFront, IsAct, acted}
+use Rattle.core_law.specs.Found.{found_in}
 use Rattle.core_law.specs.Letters.{one}
 use Rattle.core_law.specs.Measures.{heard_weight, said_weight}
 use Rattle.core_law.specs.OnLinks.{Each}
 use Rattle.core_law.specs.Pushed.{IsOfPush, IsPushed, OfPush, on_way, pushes}
 use Rattle.core_law.specs.Pushes.{promised_letter, travels_letter}
+use Rattle.core_law.proofs.Acts.{others_told}
 use Rattle.core_law.proofs.Coming.{single}
 use Rattle.core_law.proofs.Movers.{OpensNone, SaysOfPush, mover_passes, mover_stays}
 use Rattle.core_law.proofs.Onward.{run_promises}
 use Rattle.core_law.proofs.PushCounts.{moved_way, named_more, promise_gone, run_way}
 use Rattle.core_law.proofs.Seats.{IsMade}
+use Rattle.core_law.proofs.Sums.{others_none}
 use Rattle.core_law.proofs.UnderWay.{at_front}
 
 -- Acts that push nothing.
@@ -50,6 +54,7 @@ IsPlain (Sends_unit to n unit) = ⊥
 IsPlain (Cancels to id n) = ⊥
 IsPlain (Arrives from unit) = ⊥
 IsPlain (Withdraws from id) = ⊥
+IsPlain (Finds from t) = ⊥
 IsPlain _ = Unit {0}
 
 ArePushless : List Entry → Type 0
@@ -82,7 +87,8 @@ unpushed (Counts rank request kind) s plain = (refl, tt)
 unpushed (Gives at wish rest unit) s plain = (refl, tt)
 unpushed (Tells at wish rest end) s plain = (refl, tt)
 unpushed (Answers from wish unit) s plain = (refl, tt)
-unpushed Finds s plain = (refl, tt)
+unpushed (Finds from t) s plain = absurd plain
+unpushed Finds_alone s plain = (refl, tt)
 unpushed (Keeps rank request common) s plain = (refl, tt)
 unpushed (Refuses_part rank request common) s plain = (refl, tt)
 unpushed (Ends_keep rank request common end) s plain = (refl, tt)
@@ -109,8 +115,17 @@ says_of_push n k (Is_hinted at e from) s plain = tt
 says_of_push n k (Drops_hint from rank request) s plain = tt
 says_of_push n k (Stops_push to id x) s plain = tt
 says_of_push n k (Ends_push to id x) s plain = tt
-says_of_push n k Finds s plain = tt
-says_of_push n k Shuts s plain = tt
+says_of_push n k (Finds from t) s plain = absurd plain
+says_of_push n k Notes_own s plain = tt
+says_of_push n k (Wants from) s plain = tt
+says_of_push n k (Gives_up from t) s plain = tt
+says_of_push n k (Hears_failed from t why) s plain = tt
+says_of_push n k (Shuts from t) s plain = others_told (IsOfPush n (by.Server k)) s tells.Shutdown (λ to. tt)
+says_of_push n k (Hears_exhaust from) s plain = tt
+says_of_push n k (Hears_shutdown from) s plain = tt
+says_of_push n k Finds_alone s plain = tt
+says_of_push n k Shuts_alone s plain = tt
+says_of_push n k Checks_alone s plain = tt
 says_of_push n k _ s plain = (tt, tt)
 
 -- it takes as much of promised room as it says, which is nothing, or the No that it takes
@@ -119,12 +134,18 @@ no_rooms_said : (id : UnitId) (a : Act) (s : ServerModel) (k : Server) → IsPla
 no_rooms_said id (Promises from x n) s k plain = absurd plain
 no_rooms_said id (Arrives from unit) s k plain = absurd plain
 no_rooms_said id (Withdraws from x) s k plain = absurd plain
+no_rooms_said id (Finds from t) s k plain = absurd plain
+no_rooms_said id (Shuts from t) s k plain =
+    let none = others_none (promised_letter id) k s tells.Shutdown (λ to. refl) in omega arith
 no_rooms_said id _ s k plain = omega arith
 
 no_travel_said : (id : UnitId) (a : Act) (s : ServerModel) (k : Server) → IsPlain a
     → heard_weight (travels_letter id) k (takes a) ≡ said_weight (travels_letter id) k (says a s)
 no_travel_said id (Arrives from unit) s k plain = absurd plain
 no_travel_said id (Sends_unit to n unit) s k plain = absurd plain
+no_travel_said id (Finds from t) s k plain = absurd plain
+no_travel_said id (Shuts from t) s k plain =
+    let none = others_none (travels_letter id) k s tells.Shutdown (λ to. refl) in omega arith
 no_travel_said id _ s k plain = omega arith
 
 pub plain_pushed : (w : World) (k : Server) (a : Act) (b n : Bag) → IsMade w k a b n → IsPlain a → IsPushed w b → IsPushed (acted w k a) n
@@ -132,7 +153,7 @@ unfolding ArePushless
 plain_pushed w k a b n m plain pushed =
     let s = pool_of w k in
     let none = unpushed a s plain in
-    let same = run_promises (entries a s) b n m.step none in
+    let same = run_promises (found_in w.config) (entries a s) b n m.step none in
     mover_stays w k a b n m none (opens_none a plain) (says_of_push n k a s plain) (record {
       rooms = λ id.
           let said = no_rooms_said id a s k plain in
@@ -140,7 +161,26 @@ plain_pushed w k a b n m plain pushed =
           omega arith;
       travels = λ id.
           let said = no_travel_said id a s k plain in
-          let stay = run_way id (entries a s) b n m.step none in
+          let stay = run_way (found_in w.config) id (entries a s) b n m.step none in
+          omega arith;
+    }) pushed
+
+-- All work is found used up, and the other servers are told so.
+
+pub finds_pushed : (w : World) (k from : Server) (t : Token) (b n : Bag) → IsMade w k (Finds from t) b n → IsPushed w b
+    → IsPushed (acted w k (Finds from t)) n
+finds_pushed w k from t b n m pushed =
+    let s = pool_of w k in
+    let is : n ≡ after b enters.Exhausted = sym m.step.2 ∙ m.step.1.2 in
+    let known : n.exhausted ≡ true = ap (λ (x : Bag). x.exhausted) is in
+    mover_stays w k (Finds from t) b n m (refl, tt) tt (others_told (IsOfPush n (by.Server k)) s tells.Exhaust (λ to. known)) (record {
+      rooms = λ id.
+          let none = others_none (promised_letter id) k s tells.Exhaust (λ to. refl) in
+          let same = ap (λ (x : Bag). promises_named id x.promises) is in
+          omega arith;
+      travels = λ id.
+          let none = others_none (travels_letter id) k s tells.Exhaust (λ to. refl) in
+          let same = ap (λ (x : Bag). on_way id x.units) is in
           omega arith;
     }) pushed
 

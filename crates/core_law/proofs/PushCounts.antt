@@ -10,8 +10,8 @@ use Rattle.adlb_unit.specs.declared.names.UnitId.{UnitId}
 use Rattle.adlb_unit.specs.declared.units.Unit.{Unit as Work}
 use Rattle.adlb_unit.proofs.Same.{same_unit_is}
 use Rattle.bag_ledger.specs.Bag.{Bag, is_travelling, keeping, promise_of, putting, rank_at}
-use Rattle.bag_ledger.specs.Runs.{IsRun}
-use Rattle.bag_ledger.specs.Steps.{Legal, after, change_first, kept, shared, taken}
+use Rattle.bag_ledger.specs.Runs.{IsRunWhere}
+use Rattle.bag_ledger.specs.Steps.{LegalWhere, after, change_first, kept, shared, taken}
 use Rattle.bag_ledger.specs.declared.entries.Entry.TheVariants as enters
 use Rattle.bag_ledger.specs.declared.entries.Entry.{Entry}
 use Rattle.bag_ledger.specs.declared.states.Placed.{Placed as Lodged}
@@ -105,24 +105,25 @@ kept_way : (id : UnitId) (b : Bag) (server : Server) (batch : BatchId) (o : Opti
 kept_way id b server batch None = refl
 kept_way id b server batch (Some x) = refl
 
-no_way : (id : UnitId) (b : Bag) (e : Entry) → Legal b e → pushes e ≡ None → on_way id (after b e).units ≡ on_way id b.units
-no_way id b (enters.Accepted server x) l none =
+no_way : (rule : Bag → Bool) (id : UnitId) (b : Bag) (e : Entry) → LegalWhere rule b e → pushes e ≡ None
+    → on_way id (after b e).units ≡ on_way id b.units
+no_way rule id b (enters.Accepted server x) l none =
     taken_way id b server (option_and_then (λ (r : RankState). putting r.status) (rank_at b x.rank))
-no_way id b (enters.Kept server batch) l none =
+no_way rule id b (enters.Kept server batch) l none =
     kept_way id b server batch (option_and_then (λ (r : RankState). keeping r.status) (rank_at b batch.rank))
-no_way id b (enters.Granted server rank call x) l none =
+no_way rule id b (enters.Granted server rank call x) l none =
     let sum = moved_way id x (Pinned server rank) b.units l.2 l.6.0 in let was = rests id l.2 (rw l.6.1 refl) in omega arith
-no_way id b (enters.Fetched server rank x) l none =
+no_way rule id b (enters.Fetched server rank x) l none =
     let sum = moved_way id x Spent b.units l.2 l.6.0 in let was = rests id l.2 (rw l.6.1 refl) in omega arith
-no_way id b (enters.Promised server x n) l none = absurd (cc)
-no_way id b (enters.Left server to x) l none = absurd (cc)
-no_way id b (enters.Arrived server x) l none = absurd (cc)
-no_way id b (enters.Withdrawn server x) l none = absurd (cc)
-no_way id b e l none = refl
+no_way rule id b (enters.Promised server x n) l none = absurd (cc)
+no_way rule id b (enters.Left server to x) l none = absurd (cc)
+no_way rule id b (enters.Arrived server x) l none = absurd (cc)
+no_way rule id b (enters.Withdrawn server x) l none = absurd (cc)
+no_way rule id b e l none = refl
 
 -- entries that push nothing leave what is between servers
-pub run_way : (id : UnitId) (es : List Entry) (b n : Bag) → IsRun b es n → Each (λ e. pushes e ≡ None) es
+pub run_way : (rule : Bag → Bool) (id : UnitId) (es : List Entry) (b n : Bag) → IsRunWhere rule b es n → Each (λ e. pushes e ≡ None) es
     → on_way id n.units ≡ on_way id b.units
-run_way id [] b n run none = ap (λ (x : Bag). on_way id x.units) (sym run)
-run_way id (e ∷ es) b n run none =
-    run_way id es run.0 n run.2 none.1 ∙ ap (λ (x : Bag). on_way id x.units) (run.1).2 ∙ no_way id b e (run.1).1 none.0
+run_way rule id [] b n run none = ap (λ (x : Bag). on_way id x.units) (sym run)
+run_way rule id (e ∷ es) b n run none =
+    run_way rule id es run.0 n run.2 none.1 ∙ ap (λ (x : Bag). on_way id x.units) (run.1).2 ∙ no_way rule id b e (run.1).1 none.0

@@ -1,4 +1,5 @@
--- Each act of a push: what it needs of the bag is so, and what is known of push letters stays so; and every other act leaves it.
+-- Each act of a push, and that exhaustion was found: what it needs of the bag is so, and what is known of these letters stays so; and
+-- every other act leaves it.
 use Rattle.std.specs.Option.{option_map}
 use Rattle.std.specs.Prelude.{Contains, fold}
 use Rattle.std.proofs.Common.{Bool, None, Option, Some, [], ap, arith, cond, false, length, not, refl, subst, sym, true, ℕ, ◌<◌, ◌==◌, ◌∙◌, ◌∷◌, ◌≡◌}
@@ -10,8 +11,8 @@ use Rattle.adlb_unit.specs.declared.messages.Message.{Message}
 use Rattle.adlb_unit.specs.declared.names.Server.{Server}
 use Rattle.adlb_unit.specs.declared.names.UnitId.{UnitId}
 use Rattle.adlb_unit.specs.declared.units.Unit.{Unit as Work}
-use Rattle.bag_ledger.specs.Bag.{Bag, settled, unit_of}
-use Rattle.bag_ledger.specs.Runs.{IsRun}
+use Rattle.bag_ledger.specs.Bag.{Bag, unit_of}
+use Rattle.bag_ledger.specs.Runs.{IsRunWhere}
 use Rattle.bag_ledger.specs.declared.states.Placed.{Placed as Lodged}
 use Rattle.bag_ledger.specs.declared.states.UnitPlace.TheVariants.{Free, Travelling}
 use Rattle.bag_ledger.specs.declared.states.UnitPlace.{UnitPlace}
@@ -25,19 +26,20 @@ use Rattle.work_queue.proofs.Pushes.{first_is}
 use Rattle.reserve_path.specs.Grants.{unit_with}
 use Rattle.put_path.specs.Pushes.{Pushing, may_push, query_of, query_to}
 use Rattle.put_path.specs.declared.pushing.PushQuery.{PushQuery}
-use Rattle.server_law.specs.Acts.{Act, Arrives, Cancels, Promises, Queries, Refuses_push, Sends_unit, Withdraws, entries, of_server, takes}
+use Rattle.server_law.specs.Acts.{Act, Arrives, Cancels, Finds, Hears_exhaust, Promises, Queries, Refuses_push, Sends_unit, Withdraws, entries, of_server, takes}
 use Rattle.server_law.specs.Agreement.{ServerAgrees}
 use Rattle.server_law.specs.Legal.{Needs}
 use Rattle.server_law.specs.State.{ServerModel}
 use Rattle.server_law.proofs.ByIds.{free_is_found, listed_is_found}
 use Rattle.core_run.specs.World.{World, pool_of}
 use Rattle.core_law.specs.Acting.{IsAct, acted}
+use Rattle.core_law.specs.Found.{found_in}
 use Rattle.core_law.specs.Lawful.{IsLawful}
 use Rattle.core_law.specs.Pushed.{IsPushed, OfPush}
 use Rattle.core_law.specs.Well.{IsWell}
 use Rattle.core_law.proofs.Apart.{queries_pushed}
 use Rattle.core_law.proofs.Deciding.{IsFreeAt, free_at}
-use Rattle.core_law.proofs.PushActs.{arrives_pushed, cancels_pushed, plain_pushed, promises_pushed, refuses_pushed, sends_pushed, taken_of, withdraws_pushed}
+use Rattle.core_law.proofs.PushActs.{arrives_pushed, cancels_pushed, finds_pushed, plain_pushed, promises_pushed, refuses_pushed, sends_pushed, taken_of, withdraws_pushed}
 use Rattle.core_law.proofs.Pushing.{begins_push}
 use Rattle.core_law.proofs.Seats.{IsMade}
 use Rattle.core_law.proofs.Well.{fit_of}
@@ -105,7 +107,7 @@ module _ (w : World) (k : Server) (b : Bag) (well : IsWell w) (l : IsLawful w b)
   named here = (well.own.servers k here).me
 
   singles : PromisesAreSingle b.promises
-  singles = (run_is_sound settled w.config w.ledger b l.run).single
+  singles = (run_is_sound (found_in w.config) w.config w.ledger b l.run).single
 
   -- a unit that is sent
   sent_is_free : (to : Server) (size : ℕ) (unit : Work) → IsAct w k (Sends_unit to size unit) → is_free b (pool_of w k).me unit
@@ -121,7 +123,7 @@ module _ (w : World) (k : Server) (b : Bag) (well : IsWell w) (l : IsLawful w b)
   -- What the act needs of the bag.
 
   pub promises_needs : (from : Server) (id : UnitId) (size : ℕ) → IsAct w k (Promises from id size)
-      → Needs (Promises from id size) b (pool_of w k).me
+      → Needs (found_in w.config) (Promises from id size) b (pool_of w k).me
   promises_needs from id size is =
       let of = letter_is (Promises from id size) from (tells.PushQuery id size) is refl in
       let fit = fit_of w k (Promises from id size) well is in
@@ -136,7 +138,7 @@ module _ (w : World) (k : Server) (b : Bag) (well : IsWell w) (l : IsLawful w b)
       )
 
   pub sends_needs : (to : Server) (size : ℕ) (unit : Work) → IsAct w k (Sends_unit to size unit)
-      → Needs (Sends_unit to size unit) b (pool_of w k).me
+      → Needs (found_in w.config) (Sends_unit to size unit) b (pool_of w k).me
   sends_needs to size unit is =
       let of = letter_is (Sends_unit to size unit) to (tells.PushYes unit.id) is refl in
       let agrees = l.pools k is.here in
@@ -145,13 +147,17 @@ module _ (w : World) (k : Server) (b : Bag) (well : IsWell w) (l : IsLawful w b)
       let servers = agrees.servers in
       (omega arith, of.1)
 
-  pub arrives_needs : (from : Server) (unit : Work) → IsAct w k (Arrives from unit) → Needs (Arrives from unit) b (pool_of w k).me
+  pub arrives_needs : (from : Server) (unit : Work) → IsAct w k (Arrives from unit) → Needs (found_in w.config) (Arrives from unit) b (pool_of w k).me
   arrives_needs from unit is =
       let of = letter_is (Arrives from unit) from (tells.PushUnit unit) is refl in
       (of ∙ ap (λ (x : Server). Some (record { unit = unit; place = Travelling x })) (sym (named is.here)), singles)
 
-  pub withdraws_needs : (from : Server) (id : UnitId) → IsAct w k (Withdraws from id) → Needs (Withdraws from id) b (pool_of w k).me
+  pub withdraws_needs : (from : Server) (id : UnitId) → IsAct w k (Withdraws from id)
+      → Needs (found_in w.config) (Withdraws from id) b (pool_of w k).me
   withdraws_needs from id is = ((letter_is (Withdraws from id) from (tells.PushCancel id) is refl).0, singles)
+
+  pub exhaust_needs : (from : Server) → IsAct w k (Hears_exhaust from) → Needs (found_in w.config) (Hears_exhaust from) b (pool_of w k).me
+  exhaust_needs from is = letter_is (Hears_exhaust from) from tells.Exhaust is refl
 
   -- What is known of push letters.
 
@@ -168,7 +174,7 @@ module _ (w : World) (k : Server) (b : Bag) (well : IsWell w) (l : IsLawful w b)
   unchanged_bag : (a : Act) (n : Bag) → entries a (pool_of w k) ≡ [] → IsMade w k a b n → (IsMade w k a b b → IsPushed (acted w k a) b)
       → IsPushed (acted w k a) n
   unchanged_bag a n none m pushes_on =
-      let same : b ≡ n = subst (λ es. IsRun b es n) none m.step in
+      let same : b ≡ n = subst (λ es. IsRunWhere (found_in w.config) b es n) none m.step in
       let made = subst (λ (x : Bag). IsMade w k a b x) (sym same) m in
       subst (λ (x : Bag). IsPushed (acted w k a) x) same (pushes_on made)
 
@@ -181,8 +187,9 @@ module _ (w : World) (k : Server) (b : Bag) (well : IsWell w) (l : IsLawful w b)
   act_pushed (Cancels to id size) n m = unchanged_bag (Cancels to id size) n refl m (λ made. cancels_pushed w k to id size b made l.pushed)
   act_pushed (Arrives from unit) n m =
       let of = letter_is (Arrives from unit) from (tells.PushUnit unit) m.is refl in
-      let sound = run_is_sound settled w.config w.ledger b l.run in
+      let sound = run_is_sound (found_in w.config) w.config w.ledger b l.run in
       let p = sound.tracked.promised unit.id (record { unit = unit; place = Travelling k }) k (of, refl) in
       arrives_pushed w k from unit b n p.0 m singles p.1 l.pushed
   act_pushed (Withdraws from id) n m = withdraws_pushed w k from id b n m singles l.pushed
+  act_pushed (Finds from t) n m = finds_pushed w k from t b n m l.pushed
   act_pushed a n m = plain_pushed w k a b n m tt l.pushed

@@ -8,6 +8,7 @@ use Rattle.std.proofs.lemmas.Bool.{and_parts, ltb-true}
 use Rattle.std.proofs.lemmas.Nat.{mod_below}
 use Rattle.adlb_unit.specs.Ring.{behind, others}
 use Rattle.adlb_unit.specs.declared.configs.Config.{Config}
+use Rattle.adlb_unit.specs.declared.messages.Message.TheVariants as tells
 use Rattle.adlb_unit.specs.declared.names.Server.{Server}
 use Rattle.adlb_unit.specs.declared.names.UnitId.{UnitId}
 use Rattle.bag_ledger.proofs.Tests.{some_is}
@@ -15,20 +16,21 @@ use Rattle.put_path.specs.Pushes.{IsOther, Pushing, is_pressed, may_push, next_t
 use Rattle.put_path.specs.declared.pushing.PushQuery.{PushQuery}
 use Rattle.work_queue.specs.Push.{first_to_push_of}
 use Rattle.work_queue.specs.Queue.{Queue}
-use Rattle.server_law.specs.Acts.{Act, Acks, Arrives, Cancels, Ends_push, Finds, Queries, Sends_unit, Stops_push, debts, turned, turns}
+use Rattle.server_law.specs.Acts.{Act, Acks, Arrives, Cancels, Ends_push, Finds, Queries, Sends_unit, Shuts, Stops_push, debts, turned, turns}
 use Rattle.server_law.specs.Finding.{has_unit}
 use Rattle.server_law.specs.Pushes.{is_room_for}
 use Rattle.server_law.specs.State.{ServerModel}
 use Rattle.server_law.specs.Sure.{Sure}
 use Rattle.core_law.specs.Measures.{ActKeeps, IsEvenPush, PushBalance, afterwards, before, push_weights, weight}
 use Rattle.core_law.specs.OnLinks.{Each}
-use Rattle.core_law.specs.Pushes.{pushing, pushing_to}
+use Rattle.core_law.specs.Pushes.{push_as, push_letter, pushing, pushing_to}
 use Rattle.core_law.proofs.Balances.{weighs_none}
 use Rattle.core_law.proofs.Kept.{IsLaw}
+use Rattle.core_law.proofs.Sums.{others_none}
 
 -- To whom a push goes.
 
-each_at : {X : Type 0} (P : X → Type 0) (f : ℕ → X) (from n i : ℕ) → Each P (map f (range_with_len from n)) → i < n → P (f (i + from))
+pub each_at : {X : Type 0} (P : X → Type 0) (f : ℕ → X) (from n i : ℕ) → Each P (map f (range_with_len from n)) → i < n → P (f (i + from))
 each_at P f from zero i each few = absurd (omega arith)
 each_at P f from (suc n) zero each few = let e : from ≡ 0 + from = omega arith in subst (λ (k : ℕ). P (f k)) e each.0
 each_at P f from (suc n) (suc i) each few =
@@ -76,11 +78,15 @@ begins_push config me p queue q is = by_test (may_push config p queue) refl is
 -- A server.
 
 pub pushing_even : (a : Server) (act : Act) (s : ServerModel) → IsEvenPush (pushing a) act s
-pushing_even a Finds s = omega arith
+pushing_even a (Finds from t) s = let none = others_none (push_letter a) s.me s tells.Exhaust (λ to. refl) in omega arith
+pushing_even a (Shuts from t) s = let none = others_none (push_letter a) s.me s tells.Shutdown (λ to. refl) in omega arith
 pushing_even a _ s = omega arith
 
 pub pushing_to_even : (a t : Server) (id : UnitId) (sent : Bool) (act : Act) (s : ServerModel) → IsEvenPush (pushing_to a t id sent) act s
-pushing_to_even a t id sent Finds s = omega arith
+pushing_to_even a t id sent (Finds from token) s =
+    let none = others_none (push_as a t id sent) s.me s tells.Exhaust (λ to. refl) in omega arith
+pushing_to_even a t id sent (Shuts from token) s =
+    let none = others_none (push_as a t id sent) s.me s tells.Shutdown (λ to. refl) in omega arith
 pushing_to_even a t id sent _ s = omega arith
 
 -- what stands is what the act says

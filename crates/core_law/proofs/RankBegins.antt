@@ -31,7 +31,7 @@ use Rattle.bag_ledger.specs.declared.entries.Call.TheVariants as calls_to
 use Rattle.bag_ledger.specs.declared.entries.Entry.{Entry}
 use Rattle.rank_client.specs.declared.pendings.Pending.{Pending}
 use Rattle.rank_client.specs.declared.pendings.Pending.TheVariants as waits_for
-use Rattle.rank_client.specs.Rules.{ClientResponse, ClientSaying, asked, asks, close, count, farewell, fetch, finish, first_server, held, is_free, is_idle, keep, look, looks_at, open_call, over, put, reserve, unit_put}
+use Rattle.rank_client.specs.Rules.{ClientResponse, ClientSaying, asked, asks, close, count, farewell, fetch, finish, first_server, held, is_free, is_idle, keep, look, looks_at, open_call, over, put, reserve, set_done, unit_put}
 use Rattle.rank_client.specs.State.{ClientModel}
 use Rattle.adlb_unit.specs.Ring.{behind}
 use Rattle.rank_client.specs.Step.{Made, begin, call_stamp, made, ticked}
@@ -55,6 +55,7 @@ idle_is (waits_for.Common request note common own) e = absurd (cc)
 idle_is (waits_for.Keep request common first tried) e = absurd (cc)
 idle_is (waits_for.Close request batch) e = absurd (cc)
 idle_is (waits_for.Count request kind) e = absurd (cc)
+idle_is (waits_for.SetDone request tried) e = absurd (cc)
 
 none_is : {X : Type 0} (o : Option X) → is_none o ≡ true → o ≡ None
 none_is None e = refl
@@ -103,7 +104,7 @@ module _ (run : Config) (me : Rank) (s : ClientModel) (own : IsClient run me s) 
     config = own.config;
     next = refl;
     own = record { config = own.config; me = own.me; call = tt; rests = λ is. refl; batch = own.batch; notes = own.notes };
-    entries = (changes, ((refl, λ b. (_, refl)), tt));
+    entries = (changes, ((refl, λ b. (_, _, refl, λ is. is)), tt));
     notes = notes_same s.handles;
     made = record { rule = over (record now { puts = puts }) e call end; is = refl; sent = refl; later = later };
     after = It_rests (record { pending = refl; finished = going; sends = refl });
@@ -142,24 +143,24 @@ module _ (run : Config) (me : Rank) (s : ClientModel) (own : IsClient run me s) 
   put_opens : (kind : WorkType) (prio : ℤ) (target : Target) (answer : Option Rank) (body : List ℕ) (end : Option End)
       → length body ≤ 2 ^ 20 → in_ranks s.config target ≡ true
       → Began run me s (made (put now (unit_put now kind prio target answer body) end))
-  put_opens kind prio target answer body (Some end) size aim = over_opens (s.puts + 1) _ _ end (refl, λ b. (_, refl))
+  put_opens kind prio target answer body (Some end) size aim = over_opens (s.puts + 1) _ _ end (refl, λ b. (_, _, refl, λ is. is))
   put_opens kind prio target answer body None size aim =
-      asks_opens (s.puts + 1) s.handles _ (first_server s target) _ _ (refl, λ b. (_, refl)) (refl, first_is s target)
+      asks_opens (s.puts + 1) s.handles _ (first_server s target) _ _ (refl, λ b. (_, _, refl, λ is. is)) (refl, first_is s target)
       (record { rank = refl; call = refl; batch = refl; size = size; target = aim }, s.config.servers_within.0)
       (first_within s target) own.notes (notes_same s.handles)
 
   reserve_opens : (types : Option (List WorkType)) (end : Option End) → Began run me s (made (reserve now types end))
-  reserve_opens types (Some end) = over_opens s.puts _ _ end (refl, λ b. (_, refl))
+  reserve_opens types (Some end) = over_opens s.puts _ _ end (refl, λ b. (_, _, refl, λ is. is))
   reserve_opens types None =
       let some : 0 < s.config.servers = s.config.servers_within.0 in
-      asks_opens s.puts s.handles _ (home s.config s.me) _ _ (refl, λ b. (_, refl)) (refl, refl) refl
+      asks_opens s.puts s.handles _ (home s.config s.me) _ _ (refl, λ b. (_, _, refl, λ is. is)) (refl, refl) refl
       (mod_below s.me.0 s.config.servers some) own.notes (notes_same s.handles)
 
   look_opens : (types : Option (List WorkType)) (end : Option End) → Began run me s (made (look now types end))
-  look_opens types (Some end) = over_opens s.puts _ _ end (refl, λ b. (_, refl))
+  look_opens types (Some end) = over_opens s.puts _ _ end (refl, λ b. (_, _, refl, λ is. is))
   look_opens types None =
       let some : 0 < s.config.servers = s.config.servers_within.0 in
-      asks_opens s.puts s.handles _ (looks_at s 0) _ _ (refl, λ b. (_, refl)) (refl, refl) (refl, some)
+      asks_opens s.puts s.handles _ (looks_at s 0) _ _ (refl, λ b. (_, _, refl, λ is. is)) (refl, refl) (refl, some)
       (mod_below ((home s.config s.me).0 + 0) s.config.servers some) own.notes (notes_same s.handles)
 
   fetch_opens : (id : UnitId) (o : Option UnitNote) → held s id ≡ o → Opens (fetch now id o)
@@ -172,28 +173,35 @@ module _ (run : Config) (me : Rank) (s : ClientModel) (own : IsClient run me s) 
       let all = All-contains_itself s.handles in
       let kept = All-push (Contains s.handles) (filter others s.handles) note (All-filter others (Contains s.handles) s.handles all)
       (found_is (Contains s.handles) id s.handles note is all).1 in
-      asks_opens s.puts (filter others s.handles) _ note.server _ _ (refl, λ b. (_, refl))
+      asks_opens s.puts (filter others s.handles) _ note.server _ _ (refl, λ b. (_, _, refl, λ is. is))
       (ap (λ i. tells.Fetch s.next i) (sym found.0), refl)
       (refl, found.1, left) found.1.there (All-filter others (IsNote s.config) s.handles own.notes) kept
 
   keep_opens : (common : List ℕ) (end : Option End) → s.batch ≡ None → length common ≤ 2 ^ 20
       → Began run me s (made (keep now common end))
-  keep_opens common (Some end) alone size = over_opens (s.puts + 1) _ _ end (refl, λ b. (_, refl))
+  keep_opens common (Some end) alone size = over_opens (s.puts + 1) _ _ end (refl, λ b. (_, _, refl, λ is. is))
   keep_opens common None alone size =
-      asks_opens (s.puts + 1) s.handles _ (first_server s Any) _ _ (refl, λ b. (_, refl)) (refl, first_is s Any)
+      asks_opens (s.puts + 1) s.handles _ (first_server s Any) _ _ (refl, λ b. (_, _, refl, λ is. is)) (refl, first_is s Any)
       (refl, alone, size, s.config.servers_within.0) (first_within s Any) own.notes (notes_same s.handles)
 
   close_opens : (o : Option CommonRef) → s.batch ≡ o → Opens (close now o)
   close_opens None is = tt
   close_opens (Some batch) is =
       let there : batch.server.0 < s.config.servers = subst (IsAt s.config) is own.batch in
-      asks_opens s.puts s.handles _ batch.server _ _ (refl, λ b. (_, refl)) (refl, refl) (refl, is) there own.notes (notes_same s.handles)
+      asks_opens s.puts s.handles _ batch.server _ _ (refl, λ b. (_, _, refl, λ is. is)) (refl, refl) (refl, is) there own.notes
+      (notes_same s.handles)
 
   count_opens : (kind : WorkType) → Began run me s (made (count now kind))
   count_opens kind =
       let some : 0 < s.config.servers = s.config.servers_within.0 in
-      asks_opens s.puts s.handles _ (home s.config s.me) _ _ (refl, λ b. (_, refl)) (refl, refl) refl
+      asks_opens s.puts s.handles _ (home s.config s.me) _ _ (refl, λ b. (_, _, refl, λ is. is)) (refl, refl) refl
       (mod_below s.me.0 s.config.servers some) own.notes (notes_same s.handles)
+
+  done_opens : Began run me s (made (set_done now))
+  done_opens =
+      let some : 0 < s.config.servers = s.config.servers_within.0 in
+      asks_opens s.puts s.handles _ (looks_at s 0) _ _ (refl, λ b. (_, _, refl, λ is. refl)) (refl, refl) (refl, some)
+      (mod_below ((home s.config s.me).0 + 0) s.config.servers some) own.notes (notes_same s.handles)
 
   finish_opens : Began run me s (made (finish now))
   finish_opens =
@@ -210,7 +218,7 @@ module _ (run : Config) (me : Rank) (s : ClientModel) (own : IsClient run me s) 
         going = going;
         config = own.config;
         next = ap (λ (t : ClientModel). t.next) state;
-        entries = rw (requests_entries z.says x) ((refl, λ b. (_, refl)), tt);
+        entries = rw (requests_entries z.says x) ((refl, λ b. (_, _, refl, λ is. is)), tt);
         notes = rw state (notes_same s.handles);
         own = rw state (record { config = own.config; me = own.me; call = tt; rests = λ is. refl; batch = own.batch; notes = own.notes });
         made = record { rule = z; is = refl; sent = refl; later = later };
@@ -237,7 +245,7 @@ module _ (run : Config) (me : Rank) (s : ClientModel) (own : IsClient run me s) 
   call_opens calls_to.EndBatch = close_opens s.batch refl
   call_opens (calls_to.Count kind) = count_opens kind
   call_opens calls_to.Finish = if_some (λ z. Began run me s (made z)) (is_none s.batch) _ (λ is. finish_opens)
-  call_opens _ = tt
+  call_opens calls_to.SetDone = done_opens
 
 pub begins : (run : Config) (me : Rank) (s : ClientModel) (call : Call) → IsClient run me s → OnSome (begin s call) (Began run me s)
 begins run me s call own =

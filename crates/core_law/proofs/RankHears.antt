@@ -22,7 +22,7 @@ use Rattle.bag_ledger.specs.declared.entries.Call.{Call}
 use Rattle.bag_ledger.specs.declared.entries.Entry.{Entry}
 use Rattle.rank_client.specs.declared.pendings.Pending.{Pending}
 use Rattle.rank_client.specs.declared.pendings.Pending.TheVariants as waits_for
-use Rattle.rank_client.specs.Rules.{ClientResponse, answer_call, asked, begun_batch, ends, expects_note, hear_close, hear_common, hear_count, hear_fetch, hear_keep, hear_look, hear_put, hear_reserve, is_at_server, is_for, is_idle, looked, looks_at, own_came, part_refused, refused}
+use Rattle.rank_client.specs.Rules.{ClientResponse, answer_call, asked, begun_batch, ends, expects_note, hear_close, hear_common, hear_count, hear_done, hear_fetch, hear_keep, hear_look, hear_put, hear_reserve, is_at_server, is_for, is_idle, looked, looks_at, own_came, part_refused, refused, told_done}
 use Rattle.rank_client.specs.State.{ClientModel}
 use Rattle.rank_client.specs.Step.{hear, letter_stamp, made, ticked}
 use Rattle.core_law.specs.OnLinks.{Each}
@@ -126,7 +126,7 @@ module _ (run : Config) (me : Rank) (s : ClientModel) (own : IsClient run me s) 
         }
     refused_heard unit first tried to charge false more is number =
         ended (waits_for.Put unit first tried) (tells.Full to charge) s.end s.batch s.accepted s.handles _ _ _ is refl refl number
-        ((refl, λ b. (_, refl)), tt) own.batch own.notes
+        ((refl, λ b. (_, _, refl, λ is. is)), tt) own.batch own.notes
         (notes_in s.handles [])
 
     put_heard : (unit : Unit) (first : Server) (tried : ℕ) (from : Server) (m : Message) → s.pending ≡ waits_for.Put unit first tried
@@ -201,7 +201,7 @@ module _ (run : Config) (me : Rank) (s : ClientModel) (own : IsClient run me s) 
         }
     looked_heard request types tried to false more is number =
         ended (waits_for.Try request types tried) (tells.Nothing to) s.end s.batch s.accepted s.handles _ _ _ is refl refl number
-        ((refl, λ b. (_, refl)), tt) own.batch own.notes (notes_in s.handles [])
+        ((refl, λ b. (_, _, refl, λ is. is)), tt) own.batch own.notes (notes_in s.handles [])
 
     look_heard : (request : ℕ) (types : Option (List WorkType)) (tried : ℕ) (from : Server) (m : Message)
         → s.pending ≡ waits_for.Try request types tried → Hears m (hear_look now request types tried from m)
@@ -320,7 +320,7 @@ module _ (run : Config) (me : Rank) (s : ClientModel) (own : IsClient run me s) 
         }
     part_refused_heard request common first tried to charge false more is number =
         ended (waits_for.Keep request common first tried) (tells.Full to charge) s.end s.batch s.accepted s.handles _ _ _ is refl refl number
-        ((refl, λ b. (_, refl)), tt) own.batch own.notes (notes_in s.handles [])
+        ((refl, λ b. (_, _, refl, λ is. is)), tt) own.batch own.notes (notes_in s.handles [])
 
     keep_heard : (request : ℕ) (common : List ℕ) (first : Server) (tried : ℕ) (from : Server) (m : Message)
         → s.pending ≡ waits_for.Keep request common first tried → Hears m (hear_keep now request common first tried from m)
@@ -359,6 +359,53 @@ module _ (run : Config) (me : Rank) (s : ClientModel) (own : IsClient run me s) 
         (notes_in s.handles []))
     count_heard request kind from _ is = tt
 
+    told_heard : (request tried to : ℕ) (t : Bool) → nat_lt (tried + 1) s.config.servers ≡ t → s.pending ≡ waits_for.SetDone request tried
+        → to + 1 ≡ s.next → Heard run me s (tells.DoneHeard to) (made (told_done now request tried t))
+    told_heard request tried to true more is number =
+        let was = call_is (waits_for.SetDone request tried) is in
+        let some : 0 < s.config.servers = s.config.servers_within.0 in
+        record {
+          kind = refl;
+          busy = ap is_idle is;
+          number = number;
+          going = going;
+          next = refl;
+          own = record {
+            config = own.config;
+            me = own.me;
+            call = (was.0, ltb-true (tried + 1) s.config.servers more);
+            rests = λ is. absurd (cc (is, going));
+            batch = own.batch;
+            notes = own.notes;
+          };
+          entries = tt;
+          notes = rw is (All-contains_itself (s.handles ++ []));
+          made = record { rule = told_done now request tried true; is = refl; sent = refl; later = later };
+          after = It_asks (record {
+            to = looks_at s (tried + 1);
+            letter = _;
+            asked = (refl, refl);
+            request = refl;
+            number = was.0;
+            busy = refl;
+            within = mod_below ((home s.config s.me).0 + (tried + 1)) s.config.servers some;
+            finished = going;
+            sends = refl;
+          });
+          stays = going;
+        }
+    told_heard request tried to false more is number =
+        ended (waits_for.SetDone request tried) (tells.DoneHeard to) s.end s.batch s.accepted s.handles [] _ _ is refl refl number tt
+        own.batch own.notes (notes_in s.handles [])
+
+    done_heard : (request tried : ℕ) (from : Server) (m : Message) → s.pending ≡ waits_for.SetDone request tried
+        → Hears m (hear_done now request tried from m)
+    done_heard request tried from (tells.DoneHeard to) is =
+        if_some (λ z. Heard run me s (tells.DoneHeard to) (made z)) (is_for request (looks_at s tried) from to) _
+        (λ for. told_heard request tried to (nat_lt (tried + 1) s.config.servers) refl is
+        (number request (looks_at s tried) from to for (call_is (waits_for.SetDone request tried) is).0))
+    done_heard request tried from _ is = tt
+
     call_heard : (p : Pending) (from : Server) (m : Message) → s.pending ≡ p → Hears m (answer_call now p from m)
     call_heard waits_for.Nothing from m is = tt
     call_heard (waits_for.Put unit first tried) from m is = put_heard unit first tried from m is
@@ -369,6 +416,7 @@ module _ (run : Config) (me : Rank) (s : ClientModel) (own : IsClient run me s) 
     call_heard (waits_for.Keep request common first tried) from m is = keep_heard request common first tried from m is
     call_heard (waits_for.Close request batch) from m is = close_heard request batch from m is
     call_heard (waits_for.Count request kind) from m is = count_heard request kind from m is
+    call_heard (waits_for.SetDone request tried) from m is = done_heard request tried from m is
 
 pub hears : (run : Config) (me : Rank) (s : ClientModel) (from : Server) (letter : Letter) → IsClient run me s
     → OnSome (hear s from letter) (Heard run me s letter.message)

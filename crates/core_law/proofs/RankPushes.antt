@@ -1,5 +1,5 @@
 -- A step of a rank leaves push letters, promises and units between servers as they are; and at the start of a run there are none.
-use Rattle.std.proofs.Common.{List, None, Some, [], ap, arith, refl, subst, sym, true, ℕ, ◌<◌, ◌∷◌, ◌≡◌}
+use Rattle.std.proofs.Common.{Bool, List, None, Some, [], ap, arith, refl, subst, sym, true, ℕ, ◌<◌, ◌∷◌, ◌≡◌}
 use Rattle.std.proofs.lemmas.Bool.{lt-ltb}
 use Rattle.adlb_unit.specs.Links.{is_within, place_of}
 use Rattle.adlb_unit.specs.declared.actors.Actor.TheVariants as by
@@ -12,7 +12,7 @@ use Rattle.adlb_unit.specs.declared.names.Rank.{Rank}
 use Rattle.adlb_unit.specs.declared.names.Server.{Server}
 use Rattle.adlb_unit.specs.declared.names.UnitId.{UnitId}
 use Rattle.bag_ledger.specs.Bag.{Bag, start as empty_bag}
-use Rattle.bag_ledger.specs.Runs.{IsRun}
+use Rattle.bag_ledger.specs.Runs.{IsRunWhere}
 use Rattle.bag_ledger.specs.declared.entries.Entry.TheVariants as enters
 use Rattle.bag_ledger.specs.declared.entries.Entry.{Entry}
 use Rattle.bag_law.specs.Counts.{promises_named}
@@ -101,14 +101,15 @@ heard_leaves w from me l rest shape h t front f is =
     let none = is.to_rank from me l.message in
     omega arith
 
-pub rank_pushed : (w : World) (me : Rank) (links : Links) (x : Made) (b n : Bag) → me.0 < w.config.ranks → AreWithin w.config x.sends
+pub rank_pushed : (rule : Bag → Bool) (w : World) (me : Rank) (links : Links) (x : Made) (b n : Bag) → me.0 < w.config.ranks
+    → AreWithin w.config x.sends
     → IsSquare (actors w.config) links → LeavesServers w links → OnLinks (λ from to l. IsOfPush b from to l.message) w.config links
-    → IsRun b x.entries n → Each (ChangesRank (client_of w me).me) x.entries → IsPushed w b → IsPushed (after_rank w me links x) n
-rank_pushed w me links x b n here are square sums letters run own pushed =
+    → IsRunWhere rule b x.entries n → Each (ChangesRank (client_of w me).me) x.entries → IsPushed w b → IsPushed (after_rank w me links x) n
+rank_pushed rule w me links x b n here are square sums letters run own pushed =
     let none = each_none x.entries (client_of w me).me own in
     let within : is_within w.config (by.Rank me) ≡ true = lt-ltb me.0 w.config.ranks here in
     let now = weaker (λ from to l. IsOfPush b from to l.message) (λ from to l. IsOfPush n from to l.message) w.config links
-    (λ from to l of. run_later x.entries b n from to l.message run (none_pushed x.entries from to l.message none) of)
+    (λ from to l of. run_later rule x.entries b n from to l.message run (none_pushed x.entries from to l.message none) of)
     letters in
     record {
       opens = λ id.
@@ -121,13 +122,13 @@ rank_pushed w me links x b n here are square sums letters run own pushed =
       rooms = λ id.
           let sent = posted_sum (promised_letter id) w.config links me x.sends (promises_of_servers id) here are square in
           let same = sums (promised_letter id) (promises_of_servers id) in
-          let stay = ap (λ rooms. promises_named id rooms) (run_promises x.entries b n run none) in
+          let stay = ap (λ rooms. promises_named id rooms) (run_promises rule x.entries b n run none) in
           let was = pushed.rooms id in
           omega arith;
       travels = λ id.
           let sent = posted_sum (travels_letter id) w.config links me x.sends (travels_of_servers id) here are square in
           let same = sums (travels_letter id) (travels_of_servers id) in
-          let stay = run_way id x.entries b n run none in
+          let stay = run_way rule id x.entries b n run none in
           let was = pushed.travels id in
           omega arith;
     }

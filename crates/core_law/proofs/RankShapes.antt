@@ -1,6 +1,6 @@
 -- What a step of a rank changes.
 use Rattle.rank_client.specs.Agreement.{holds}
-use Rattle.std.proofs.Common.{◌≡◌, ◌<◌, ℕ, ◌+◌, true, false, [], ◌∷◌, map, Some, None, refl, ap, ◌∙◌}
+use Rattle.std.proofs.Common.{◌≡◌, ◌<◌, ℕ, ◌+◌, Bool, true, false, [], ◌∷◌, map, Some, None, refl, ap, ◌∙◌}
 use Rattle.std.specs.Prelude.{All, Contains}
 use Rattle.std.specs.List.{range_with_len}
 use Rattle.adlb_unit.specs.declared.actors.Actor.{Actor}
@@ -73,9 +73,15 @@ pub record IsMade (s : ClientModel) (x : Made) : Type 0 where
   pub sent : rule.state.sent ≡ s.sent
   pub later : s.clock < rule.state.clock
 
--- the entry tells of this rank, and changes its state alone
+-- the entry changes the state of this rank, and at most says beside that the problem is done
+abbrev pub ChangesBag : Rank → Entry → Bag → Type 0
+ChangesBag me e b =
+    (f : RankState → RankState) × (is_done : Bool) × (after b e ≡ with_rank me f (record b { done = is_done }))
+    × (b.done ≡ true → is_done ≡ true)
+
+-- the entry tells of this rank, and changes no more than that
 abbrev pub ChangesRank : Rank → Entry → Type 0
-ChangesRank me e = (teller e ≡ Some me) × ((b : Bag) → (f : RankState → RankState) × (after b e ≡ with_rank me f b))
+ChangesRank me e = (teller e ≡ Some me) × ((b : Bag) → ChangesBag me e b)
 
 pub record Began (run : Config) (me : Rank) (s : ClientModel) (x : Made) : Type 0 where
   pub free : s.pending ≡ waits_for.Nothing
@@ -113,6 +119,7 @@ asked_request s (waits_for.Common request note common own) to m a = ap is_reques
 asked_request s (waits_for.Keep request common first tried) to m a = ap is_request a.0
 asked_request s (waits_for.Close request batch) to m a = ap is_request a.0
 asked_request s (waits_for.Count request kind) to m a = ap is_request a.0
+asked_request s (waits_for.SetDone request tried) to m a = ap is_request a.0
 
 pub asked_busy : (s : ClientModel) (p : Pending) (to : Server) (m : Message) → IsAsked s p to m → is_idle p ≡ false
 asked_busy s waits_for.Nothing to m a = absurd a
@@ -124,6 +131,7 @@ asked_busy s (waits_for.Common request note common own) to m a = refl
 asked_busy s (waits_for.Keep request common first tried) to m a = refl
 asked_busy s (waits_for.Close request batch) to m a = refl
 asked_busy s (waits_for.Count request kind) to m a = refl
+asked_busy s (waits_for.SetDone request tried) to m a = refl
 
 pub asked_number : (s : ClientModel) (p : Pending) (to : Server) (m : Message) → IsCall s p → IsAsked s p to m → request_of m + 1 ≡ s.next
 asked_number s waits_for.Nothing to m call a = absurd a
@@ -135,3 +143,4 @@ asked_number s (waits_for.Common request note common own) to m call a = ap (λ k
 asked_number s (waits_for.Keep request common first tried) to m call a = ap (λ k. request_of k + 1) a.0 ∙ call.0
 asked_number s (waits_for.Close request batch) to m call a = ap (λ k. request_of k + 1) a.0 ∙ call.0
 asked_number s (waits_for.Count request kind) to m call a = ap (λ k. request_of k + 1) a.0 ∙ call
+asked_number s (waits_for.SetDone request tried) to m call a = ap (λ k. request_of k + 1) a.0 ∙ call.0

@@ -1,5 +1,5 @@
 -- A step of a rank: what it leaves of the bag, of the servers and of the other ranks, and what becomes of its own seat.
-use Rattle.std.proofs.Common.{◌≡◌, ◌≢◌, ◌<◌, ◌⊎◌, inl, inr, false, ◌==◌, List, [], ◌∷◌, ◌++◌, Option, Some, None, refl, sym, ap, ◌∙◌, subst, arith, append-nil}
+use Rattle.std.proofs.Common.{◌≡◌, ◌≢◌, ◌<◌, ◌⊎◌, inl, inr, Bool, true, false, ◌==◌, List, [], ◌∷◌, ◌++◌, Option, Some, None, refl, sym, ap, ◌∙◌, subst, arith, append-nil}
 use Rattle.std.specs.Prelude.{All, Contains}
 use Rattle.std.proofs.lemmas.Bool.{cases_eq, eq-eqb, eqb-true, false_from_ne_true, lt-ltb}
 use Rattle.std.proofs.lemmas.List.{get_or-set_other, get_or-set_same}
@@ -12,25 +12,28 @@ use Rattle.adlb_unit.specs.declared.messages.Message.TheVariants as tells
 use Rattle.adlb_unit.specs.declared.names.Rank.{Rank}
 use Rattle.adlb_unit.specs.declared.names.Server.{Server}
 use Rattle.bag_ledger.specs.declared.entries.Entry.{Entry}
-use Rattle.bag_ledger.specs.Bag.{Bag, has_due, start as empty_bag, settled}
-use Rattle.bag_ledger.specs.Runs.{IsRun, calls, calls_from}
-use Rattle.bag_ledger.proofs.Calls.{calls_split}
-use Rattle.bag_ledger.proofs.Legal.{run_joined}
-use Rattle.bag_ledger.specs.Steps.{Steps}
+use Rattle.bag_ledger.specs.Bag.{Bag, has_due, start as empty_bag}
+use Rattle.bag_ledger.specs.Runs.{IsRunWhere, calls, calls_from}
+use Rattle.bag_ledger.proofs.Legal.{joined_where}
+use Rattle.bag_ledger.specs.Steps.{StepsWhere}
+use Rattle.bag_ledger.specs.declared.states.RankState.{RankState}
 use Rattle.bag_law.specs.Sound.{IsSoundBag}
 use Rattle.bag_law.proofs.Sound.{run_is_sound, step_keeps_sound}
 use Rattle.rank_client.specs.Agreement.{ClientAgrees, holds, said}
 use Rattle.rank_client.specs.State.{ClientModel, start as new_client}
 use Rattle.rank_client.specs.Step.{Made}
 use Rattle.server_law.specs.Agreement.{ServerAgrees}
+use Rattle.server_law.specs.State.{ServerModel}
 use Rattle.reserve_path.specs.declared.waits.Waiting.{Waiting}
 use Rattle.core_run.specs.World.{Links, World, actors, after_rank, client_of, pool_of, rank_named}
+use Rattle.core_law.specs.Found.{found_in}
 use Rattle.core_law.specs.Lawful.{IsLawful, IsOfCall, IsOfRemote, IsSeat, IsWaiting, OfCall}
 use Rattle.core_law.specs.OnLinks.{Each, OnLinks}
 use Rattle.core_law.specs.Letters.{call_letter, one, remote_letter}
 use Rattle.core_law.specs.Others.{teller, tells_of}
 use Rattle.core_law.specs.Own.{IsClient}
 use Rattle.core_law.specs.Well.{IsSquare, IsWell}
+use Rattle.core_law.proofs.RunsWhere.{split_where}
 use Rattle.core_law.proofs.Gone.{facts_of, facts_same}
 use Rattle.core_law.proofs.OtherCalls.{calls_stay}
 use Rattle.core_law.proofs.OtherRanks.{clients_stay}
@@ -45,18 +48,21 @@ use Rattle.core_law.proofs.RankPushes.{LeavesServers, rank_pushed}
 abbrev pub AreSilent : Rank → List Entry → Type 0
 AreSilent me es = Each (λ e. tells_of me (teller e) ≡ false) es
 
-pub sound_after : (b n : Bag) (e : Entry) → IsSoundBag b → Steps b e n → IsSoundBag n
-sound_after b n e sound step = rw step.2 (step_keeps_sound settled b e step.1 sound)
+pub sound_after : (found : Bag → Bool) (b n : Bag) (e : Entry) → IsSoundBag b → StepsWhere found b e n → IsSoundBag n
+sound_after found b n e sound step = rw step.2 (step_keeps_sound found b e step.1 sound)
 
-pub run_stands : (c : ClientModel) (coming : Option Message) (es : List Entry) (b n : Bag) → IsSoundBag b → AreSilent c.me es → IsRun b es n
-    → ClientAgrees c coming b → ClientAgrees c coming n
-run_stands c coming [] b n sound silent run stands = subst (ClientAgrees c coming) run stands
-run_stands c coming (e ∷ es) b n sound silent run stands =
-    run_stands c coming es run.0 n (sound_after b run.0 e sound run.1) silent.1 run.2 (clients_stay b run.0 e c coming sound run.1 silent.0 stands)
+pub run_stands : (found : Bag → Bool) (c : ClientModel) (coming : Option Message) (es : List Entry) (b n : Bag) → IsSoundBag b
+    → AreSilent c.me es → IsRunWhere found b es n → ClientAgrees c coming b → ClientAgrees c coming n
+run_stands found c coming [] b n sound silent run stands = subst (ClientAgrees c coming) run stands
+run_stands found c coming (e ∷ es) b n sound silent run stands =
+    run_stands found c coming es run.0 n (sound_after found b run.0 e sound run.1) silent.1 run.2
+    (clients_stay found b run.0 e c coming sound run.1 silent.0 stands)
 
-pub run_silent : (me : Rank) (es : List Entry) (b n : Bag) → AreSilent me es → IsRun b es n → calls_from b es me ≡ []
-run_silent me [] b n silent run = refl
-run_silent me (e ∷ es) b n silent run = calls_stay b run.0 e es me run.1 silent.0 ∙ run_silent me es run.0 n silent.1 run.2
+pub run_silent : (found : Bag → Bool) (me : Rank) (es : List Entry) (b n : Bag) → AreSilent me es → IsRunWhere found b es n
+    → calls_from b es me ≡ []
+run_silent found me [] b n silent run = refl
+run_silent found me (e ∷ es) b n silent run =
+    calls_stay found b run.0 e es me run.1 silent.0 ∙ run_silent found me es run.0 n silent.1 run.2
 
 other_rank : (me other : Rank) → other.0 ≢ me.0 → tells_of other (Some me) ≡ false
 other_rank me other differs = false_from_ne_true (me.0 == other.0) (λ same. differs (sym (eqb-true me.0 other.0 same)))
@@ -66,13 +72,40 @@ others_silent me other es differs each =
     each_weaker (ChangesRank me) (λ e. tells_of other (teller e) ≡ false)
     (λ e is. ap (tells_of other) is.0 ∙ other_rank me other differs) es each
 
--- Entries of a rank change the bag in its ranks alone.
-pub ranks_alone : (me : Rank) (es : List Entry) (b n : Bag) → Each (ChangesRank me) es → IsRun b es n → n ≡ record b { ranks = n.ranks }
-ranks_alone me [] b n each run = subst (λ (m : Bag). m ≡ record b { ranks = m.ranks }) run refl
-ranks_alone me (e ∷ es) b n each run =
+-- Entries of a rank change the bag in its ranks alone, and in that the problem is done.
+pub ranks_alone : (found : Bag → Bool) (me : Rank) (es : List Entry) (b n : Bag) → Each (ChangesRank me) es → IsRunWhere found b es n
+    → n ≡ record b { ranks = n.ranks; done = n.done }
+ranks_alone found me [] b n each run = subst (λ (m : Bag). m ≡ record b { ranks = m.ranks; done = m.done }) run refl
+ranks_alone found me (e ∷ es) b n each run =
     let f = each.0.1 b in
-    let later = ranks_alone me es run.0 n each.1 run.2 in
-    later ∙ ap (λ (m : Bag). record m { ranks = n.ranks }) (run.1.2 ∙ f.1)
+    let later = ranks_alone found me es run.0 n each.1 run.2 in
+    later ∙ ap (λ (m : Bag). record m { ranks = n.ranks; done = n.done }) (run.1.2 ∙ f.2)
+
+-- which it stays, once it is
+still_done : (found : Bag → Bool) (me : Rank) (es : List Entry) (b n : Bag) → Each (ChangesRank me) es → IsRunWhere found b es n
+    → b.done ≡ true → n.done ≡ true
+still_done found me [] b n each run done = ap (λ (m : Bag). m.done) (sym run) ∙ done
+still_done found me (e ∷ es) b n each run done =
+    let f = each.0.1 b in
+    still_done found me es run.0 n each.1 run.2 (ap (λ (m : Bag). m.done) (run.1.2 ∙ f.2) ∙ f.3 done)
+
+-- each server agrees with the bag still
+still_agrees : (b : Bag) (ranks : List RankState) (is_done : Bool) (s : ServerModel) → (b.done ≡ true → is_done ≡ true) → ServerAgrees b s
+    → ServerAgrees (record b { ranks = ranks; done = is_done }) s
+still_agrees b ranks is_done s done a = record {
+  servers = a.servers;
+  within = a.within;
+  limit = a.limit;
+  units = a.units;
+  promises = a.promises;
+  room = a.room;
+  single = a.single;
+  parts = a.parts;
+  common = a.common;
+  done = λ is. done (a.done is);
+  exhausted = a.exhausted;
+  found = a.found;
+}
 
 -- What a rank sends is of its call and of no other's.
 
@@ -136,9 +169,10 @@ pub record IsRankStep (w : World) (me : Rank) (links : Links) (coming : Option M
   pub notes : All (Contains (holds (client_of w me) coming)) (holds x.state None)
   pub after : Then (client_of w me) x
   pub within : AreWithin w.config x.sends
-  pub run : IsRun b x.entries n
+  pub run : IsRunWhere (found_in w.config) b x.entries n
   pub stands : ClientAgrees x.state None n
-  pub transcript : x.state.transcript ≡ said (client_of w me) (client_of w me).pending coming ++ calls_from b x.entries (client_of w me).me
+  pub transcript : said x.state x.state.pending None
+      ≡ said (client_of w me) (client_of w me).pending coming ++ calls_from b x.entries (client_of w me).me
 
 -- its own seat
 own_seat : (w : World) (me : Rank) (links : Links) (coming : Option Message) (x : Made) (b n : Bag) → IsWell w → IsLawful w b
@@ -147,7 +181,7 @@ own_seat w me links coming x b n well l seat is =
     let c = client_of w me in
     let next : client_of (after_rank w me links x) me ≡ x.state =
     get_or-set_same w.ranks me.0 x.state (new_client w.config me) (let e = (well.shape).ranks in let h = is.here in omega arith) in
-    let same = ranks_alone c.me x.entries b n is.entries is.run in
+    let same = ranks_alone (found_in w.config) c.me x.entries b n is.entries is.run in
     let units : n.units ≡ b.units = ap (λ (m : Bag). m.units) same in
     let named : x.state.me ≡ me = (is.own).me in
     let left =
@@ -160,7 +194,7 @@ own_seat w me links coming x b n well l seat is =
     let posted = posted_on (OfCall x.state None) w.config links (by.Rank me) x.sends is.square left rank is.within sent in
     let now = ap (λ s. s ++ calls_from b x.entries c.me) seat.said in
     let its = ap (λ r. calls w.config w.ledger me ++ calls_from b x.entries r) seat.named in
-    let grows = calls_split (empty_bag w.config) b w.ledger x.entries me l.run in
+    let grows = split_where (found_in w.config) (empty_bag w.config) b w.ledger x.entries me l.run in
     record {
       named = rw next named;
       stands = rw next is.stands;
@@ -182,7 +216,7 @@ other_seat w me links coming x b n left l named is r o differs seat =
     let c = client_of w r in
     let next : client_of (after_rank w me links x) r ≡ c = get_or-set_other w.ranks me.0 r.0 x.state (new_client w.config r) differs in
     let entries : Each (ChangesRank me) x.entries = subst (λ (q : Rank). Each (ChangesRank q) x.entries) named is.entries in
-    let same = ranks_alone me x.entries b n entries is.run in
+    let same = ranks_alone (found_in w.config) me x.entries b n entries is.run in
     let units : n.units ≡ b.units = ap (λ (m : Bag). m.units) same in
     let silent = others_silent me r x.entries differs entries in
     let apart : me ≢ c.me = λ e. differs (ap (λ (q : Rank). q.0) (sym seat.named ∙ sym e)) in
@@ -191,11 +225,12 @@ other_seat w me links coming x b n left l named is r o differs seat =
     let posted = posted_on (OfCall c o) w.config links (by.Rank me) x.sends is.square (left (OfCall c o) seat.letters) rank
     is.within sent in
     let quiet : AreSilent c.me x.entries = subst (λ (q : Rank). AreSilent q x.entries) (sym seat.named) silent in
-    let none = ap (λ s. calls w.config w.ledger r ++ s) (run_silent r x.entries b n silent is.run) in
-    let grows = calls_split (empty_bag w.config) b w.ledger x.entries r l.run in
+    let none = ap (λ s. calls w.config w.ledger r ++ s) (run_silent (found_in w.config) r x.entries b n silent is.run) in
+    let grows = split_where (found_in w.config) (empty_bag w.config) b w.ledger x.entries r l.run in
     record {
       named = rw next seat.named;
-      stands = rw next (run_stands c o x.entries b n (run_is_sound settled w.config w.ledger b l.run) quiet is.run seat.stands);
+      stands = rw next (run_stands (found_in w.config) c o x.entries b n (run_is_sound (found_in w.config) w.config w.ledger b l.run)
+          quiet is.run seat.stands);
       letters = rw next posted;
       waits = λ t there. rw next (seat.waits t there);
       said = rw next (seat.said ∙ sym (grows ∙ none ∙ append-nil (calls w.config w.ledger r)));
@@ -207,14 +242,17 @@ pub rank_lawful : (w : World) (me : Rank) (links : Links) (coming : Option Messa
     → ((P : Actor → Actor → Letter → Type 0) → OnLinks P w.config w.links → OnLinks P w.config links) → IsWell w → IsLawful w b
     → IsSeat w b me coming → IsRankStep w me links coming x b n → IsLawful (after_rank w me links x) n
 rank_lawful w me links coming x b n left well l seat is =
-    let same = ranks_alone (client_of w me).me x.entries b n is.entries is.run in
+    let found = found_in w.config in
+    let same = ranks_alone found (client_of w me).me x.entries b n is.entries is.run in
+    let done = still_done found (client_of w me).me x.entries b n is.entries is.run in
     record {
-      run = run_joined (empty_bag w.config) b n w.ledger x.entries l.run is.run;
+      run = joined_where found (empty_bag w.config) b n w.ledger x.entries l.run is.run;
       rests = ap has_due same ∙ l.rests;
-      pushed = rank_pushed w me links x b n is.here is.within is.square is.servers
+      pushed = rank_pushed found w me links x b n is.here is.within is.square is.servers
           (left (λ from to y. IsOfPush b from to y.message) (l.pushed).letters) is.run is.entries l.pushed;
       seats = λ r within. by_rank r within (cases_eq r.0 me.0);
-      pools = λ k there. subst (λ (m : Bag). ServerAgrees m (pool_of w k)) (sym same) (l.pools k there);
+      pools = λ k there. subst (λ (m : Bag). ServerAgrees m (pool_of w k)) (sym same)
+          (still_agrees b n.ranks n.done (pool_of w k) done (l.pools k there));
     }
   where
     by_rank : (r : Rank) → r.0 < w.config.ranks → (r.0 ≡ me.0) ⊎ (r.0 ≢ me.0)

@@ -1,14 +1,15 @@
--- Where the only server finds that all work is used up, the bag is settled.
-use Rattle.std.proofs.Common.{◌≡◌, ◌<◌, ◌≤◌, ◌⊎◌, inl, inr, ℕ, zero, suc, ◌%◌, Bool, true, false, List, [], ◌∷◌, length, get_or, Option, None, Some, refl, sym, ap, ◌∙◌, subst, arith}
+-- Where the only server finds that all work is used up, the bag is settled; and a token comes only where there are several.
+use Rattle.std.proofs.Common.{◌≡◌, ◌<◌, ◌≤◌, ◌⊎◌, inl, inr, ℕ, zero, suc, ◌%◌, ◌==◌, Bool, true, false, cond, not, List, [], ◌∷◌, length, get_or, Option, None, Some, refl, sym, ap, ◌∙◌, subst, arith}
 use Rattle.std.specs.Prelude.{IfSome}
-use Rattle.std.proofs.lemmas.Bool.{eq-eqb}
+use Rattle.std.proofs.lemmas.Bool.{and_parts, eq-eqb, eqb-true, ltb-true}
 use Rattle.std.proofs.lemmas.List.{length-replicate}
 use Rattle.std.proofs.lemmas.Option.{slice_get_within}
 use Rattle.adlb_unit.specs.declared.configs.Config.{Config}
 use Rattle.adlb_unit.specs.declared.names.Rank.{Rank}
 use Rattle.adlb_unit.specs.declared.names.Server.{Server}
+use Rattle.adlb_unit.specs.declared.tokens.Token.{Token}
 use Rattle.bag_ledger.specs.Bag.{Bag, fresh, rank_at, settled, start as empty_bag}
-use Rattle.bag_ledger.specs.Runs.{IsRun}
+use Rattle.bag_ledger.specs.Runs.{IsRunWhere}
 use Rattle.bag_ledger.specs.Steps.{after, change_at}
 use Rattle.bag_ledger.proofs.Turns.{IsTurn, turn}
 use Rattle.bag_ledger.specs.declared.entries.Entry.{Entry}
@@ -16,7 +17,7 @@ use Rattle.bag_ledger.specs.declared.states.RankState.{RankState}
 use Rattle.bag_ledger.specs.declared.states.Status.TheVariants as is_at
 use Rattle.bag_ledger.proofs.Tests.{some_is}
 use Rattle.rank_client.specs.Agreement.{rank_of}
-use Rattle.server_law.specs.Acts.{Finds}
+use Rattle.server_law.specs.Acts.{Finds, Finds_alone}
 use Rattle.server_law.specs.Expected.{IsHome, WaitsIdle}
 use Rattle.server_law.specs.Rest.{RestsAt, WaitsFor}
 use Rattle.reserve_path.specs.Parked.{IsOther}
@@ -27,6 +28,7 @@ use Rattle.server_law.proofs.Resting.{rest_is_settled}
 use Rattle.server_law.proofs.Tests.{quiet_is_tested}
 use Rattle.core_run.specs.World.{World, client_of, pool_of}
 use Rattle.core_law.specs.Acting.{IsAct}
+use Rattle.core_law.specs.Found.{found_in}
 use Rattle.core_law.specs.Lawful.{IsLawful, IsWaiting}
 use Rattle.core_law.specs.OnLinks.{Each}
 use Rattle.core_law.specs.Letters.{finishes, one}
@@ -38,9 +40,11 @@ use Rattle.core_law.proofs.Answering.{IsReserveHere, waiting_call}
 use Rattle.core_law.proofs.Deciding.{asks_now}
 use Rattle.core_law.proofs.Fifo.{part_le}
 use Rattle.core_law.proofs.Owed.{finishes_are}
+use Rattle.core_law.proofs.RunsWhere.{alone_run}
+use Rattle.core_law.proofs.Well.{fit_of}
 
 -- a rank whose Finish letter was handled has finished
-client_finished : (w : World) (k : Server) (rank : Rank) → IsWell w → rank.0 < w.config.ranks → k.0 < w.config.servers
+pub client_finished : (w : World) (k : Server) (rank : Rank) → IsWell w → rank.0 < w.config.ranks → k.0 < w.config.servers
     → is_finished (pool_of w k).kept rank ≡ true → (client_of w rank).finished ≡ true
 unfolding measure
 client_finished w k rank well within here handled =
@@ -65,10 +69,10 @@ length-changed f place [] = refl
 length-changed f zero (x ∷ xs) = refl
 length-changed f (suc place) (x ∷ xs) = ap suc (length-changed f place xs)
 
-ranks_stay : (b last : Bag) (es : List Entry) → IsRun b es last → length last.ranks ≡ length b.ranks
-ranks_stay b last [] run = ap (λ (x : Bag). length x.ranks) (sym run)
-ranks_stay b last (e ∷ es) run =
-    ranks_stay run.0 last es run.2 ∙ ap (λ (x : Bag). length x.ranks) run.1.2 ∙ by_turn (turn settled b e run.1.1)
+pub ranks_stay : (found : Bag → Bool) (b last : Bag) (es : List Entry) → IsRunWhere found b es last → length last.ranks ≡ length b.ranks
+ranks_stay found b last [] run = ap (λ (x : Bag). length x.ranks) (sym run)
+ranks_stay found b last (e ∷ es) run =
+    ranks_stay found run.0 last es run.2 ∙ ap (λ (x : Bag). length x.ranks) run.1.2 ∙ by_turn (turn found b e run.1.1)
   where
     by_turn : ((after b e).ranks ≡ b.ranks) ⊎ IsTurn b.ranks e (after b e).ranks → length (after b e).ranks ≡ length b.ranks
     by_turn (inl same) = ap length same
@@ -90,7 +94,7 @@ none_asked config k e alone here entry = by_asked e.asked refl entry.asked
         let same : to.0 ≡ k.0 = omega arith in
         absurd (other.1 same)
 
-module _ (w : World) (k : Server) (b : Bag) (well : IsWell w) (l : IsLawful w b) (is : IsAct w k Finds) where
+module _ (w : World) (k : Server) (b : Bag) (well : IsWell w) (l : IsLawful w b) (is : IsAct w k Finds_alone) where
   entry_at : (i : ℕ) (e : Waiting) → i < length (pool_of w k).kept.parked.waiting → get_or (pool_of w k).kept.parked.waiting i e ≡ e
       → IsEntry w.config k e
   entry_at i e within read =
@@ -129,7 +133,7 @@ module _ (w : World) (k : Server) (b : Bag) (well : IsWell w) (l : IsLawful w b)
 
   within_run : (rank : Rank) (r : RankState) → rank_at b rank ≡ Some r → rank.0 < w.config.ranks
   within_run rank r there =
-      let long = ranks_stay (empty_bag w.config) b w.ledger l.run in
+      let long = ranks_stay (found_in w.config) (empty_bag w.config) b w.ledger l.run in
       let all = length-replicate w.config.ranks fresh in
       let low = slice_get_within b.ranks rank.0 r there in
       omega arith
@@ -148,13 +152,13 @@ module _ (w : World) (k : Server) (b : Bag) (well : IsWell w) (l : IsLawful w b)
       let first_here = waits_at 0 sure.first some first_waits idle in
       record {
         agrees = l.pools k is.here;
-        all = one_has_all w.config w.ledger b (pool_of w k).me alone zeroth l.run;
+        all = one_has_all w.config w.ledger b (pool_of w k).me alone zeroth (alone_run w.config (empty_bag w.config) b w.ledger alone l.run);
         unpromised = alone_unpromised w b well alone l.pushed;
         ranks = λ rank r there.
             let within = within_run rank r there in
             let alike : (pool_of w k).config.ranks ≡ w.config.ranks = ap (λ (c : Config). c.ranks) pool.config in
             let home_is : IsHome (pool_of w k) rank = let one : rank.0 % 1 ≡ 0 = omega arith in rw (sure.alone, zeroth) one in
-            elim ((quiet_is_tested (pool_of w k)).0 sure.quiet rank (omega arith) home_is) [
+            elim (((quiet_is_tested (pool_of w k)).0 sure.quiet).rest rank (omega arith) home_is) [
               | inl waits ↦ inr (asking_in_bag rank r there waits)
               | inr finished ↦ inl (finished_in_bag rank r within there finished)
             ];
@@ -162,5 +166,27 @@ module _ (w : World) (k : Server) (b : Bag) (well : IsWell w) (l : IsLawful w b)
         unfit = sure.unfit;
       }
 
-  pub bag_is_settled : settled b ≡ true
-  bag_is_settled = rest_is_settled b (pool_of w k) rests
+  pub alone_is_found : found_in w.config b ≡ true
+  alone_is_found =
+      let sure = is.sure in
+      let pool = well.own.servers k is.here in
+      let alone : w.config.servers ≡ 1 = ap (λ (c : Config). c.servers) (sym pool.config) ∙ sure.alone in
+      let one : (w.config.servers == 1) ≡ true = eq-eqb w.config.servers 1 alone in
+      ap (λ t. cond t (settled b) true) one ∙ rest_is_settled b (pool_of w k) rests
+
+-- where there are several, nothing is asked; and no token comes where there is one
+pub token_is_found : (w : World) (k : Server) (b : Bag) (from : Server) (t : Token) → IsWell w → IsAct w k (Finds from t)
+    → found_in w.config b ≡ true
+token_is_found w k b from t well is = by_test (w.config.servers == 1) refl
+  where
+    by_test : (one : Bool) → (w.config.servers == 1) ≡ one → cond one (settled b) true ≡ true
+    by_test false several = refl
+    by_test true one =
+        let fit = fit_of w k (Finds from t) well is in
+        let other = (and_parts (not (from.0 == k.0)) _ fit.0.1).0 in
+        let there = ltb-true from.0 w.config.servers is.front.2 in
+        let here = is.here in
+        let alone = eqb-true w.config.servers 1 one in
+        let same : (from.0 == k.0) ≡ true = eq-eqb from.0 k.0 (omega arith) in
+        let no_one : true ≡ false = sym other ∙ ap not same in
+        absurd (cc)

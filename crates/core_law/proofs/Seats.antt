@@ -10,9 +10,8 @@ use Rattle.adlb_unit.specs.declared.messages.Message.{Message}
 use Rattle.adlb_unit.specs.declared.names.Rank.{Rank}
 use Rattle.adlb_unit.specs.declared.names.Server.{Server}
 use Rattle.bag_ledger.specs.declared.entries.Entry.{Entry}
-use Rattle.bag_ledger.specs.Bag.{Bag, start as empty_bag, settled}
-use Rattle.bag_ledger.specs.Runs.{IsRun, calls, calls_from}
-use Rattle.bag_ledger.proofs.Calls.{calls_split}
+use Rattle.bag_ledger.specs.Bag.{Bag, start as empty_bag}
+use Rattle.bag_ledger.specs.Runs.{IsRunWhere, calls, calls_from}
 use Rattle.bag_law.proofs.Sound.{run_is_sound}
 use Rattle.rank_client.specs.Agreement.{ClientAgrees, holds, said}
 use Rattle.rank_client.specs.Rules.{is_idle}
@@ -23,6 +22,7 @@ use Rattle.server_law.specs.Acts.{Act, comes, does, entries, goes, says, takes, 
 use Rattle.server_law.specs.Carried.{done, sends}
 use Rattle.core_run.specs.World.{World, client_of, pool_of}
 use Rattle.core_law.specs.Acting.{IsAct, IsOwn, acted, taken_off}
+use Rattle.core_law.specs.Found.{found_in}
 use Rattle.core_law.specs.Lawful.{IsFact, IsOfCall, IsSeat, IsWaiting, OfCall}
 use Rattle.core_law.specs.OnLinks.{Each, OnLinks}
 use Rattle.core_law.specs.Letters.{call_letter, call_waits, one, one_letter}
@@ -30,6 +30,7 @@ use Rattle.core_law.specs.Measures.{IsBalanced, heard_weight, links_weight, meas
 use Rattle.core_law.specs.Well.{IsShaped}
 use Rattle.core_law.proofs.Actors.{every_pool}
 use Rattle.core_law.proofs.Acts.{counted_kept, sent_each, sent_within, taken_off_on, taken_square, taken_weight}
+use Rattle.core_law.proofs.RunsWhere.{split_where}
 use Rattle.core_law.proofs.Fifo.{part_le}
 use Rattle.core_law.proofs.Owed.{letters_are, no_sum}
 use Rattle.core_law.proofs.RankSteps.{AreSilent, one_is, run_silent, run_stands, weighs_nothing}
@@ -70,8 +71,8 @@ pub record IsMade (w : World) (k : Server) (a : Act) (b n : Bag) : Type 0 where
   pub shape : IsShaped w
   pub is : IsAct w k a
   pub own : IsOwn w k a
-  pub run : IsRun (empty_bag w.config) w.ledger b
-  pub step : IsRun b (entries a (pool_of w k)) n
+  pub run : IsRunWhere (found_in w.config) (empty_bag w.config) w.ledger b
+  pub step : IsRunWhere (found_in w.config) b (entries a (pool_of w k)) n
 
 -- Nothing changes for the rank.
 
@@ -86,11 +87,12 @@ seat_stays w k a b n me coming m silent said come facts seat =
     let is = m.is in
     let shape = m.shape in
     let quiet : AreSilent c.me es = subst (λ (r : Rank). AreSilent r es) (sym seat.named) silent in
-    let none = run_silent me es b n silent m.step in
-    let grows = calls_split (empty_bag w.config) b w.ledger es me m.run in
+    let found = found_in w.config in
+    let none = run_silent found me es b n silent m.step in
+    let grows = split_where found (empty_bag w.config) b w.ledger es me m.run in
     record {
       named = seat.named;
-      stands = run_stands c coming es b n (run_is_sound settled w.config w.ledger b m.run) quiet m.step seat.stands;
+      stands = run_stands found c coming es b n (run_is_sound found w.config w.ledger b m.run) quiet m.step seat.stands;
       letters = letters_next (IsOfCall c coming) w k a m.shape m.is m.own
           (taken_off_on (OfCall c coming) w.config k w.links (takes a) is.here is.front shape.square seat.letters) said;
       waits = waits_next (IsWaiting c coming) w k a m.shape m.is seat.waits come;
@@ -188,7 +190,7 @@ seat_passes w k a b n me coming now m its d said seat =
     (λ from to l e. weighs_nothing c now me from to l.message seat.named e) nothing in
     let new : Each (IsWaiting c coming) (comes a s) = subst (λ (l : List Waiting). Each (IsWaiting c coming) l) (sym its.nobody) tt in
     let stay = waits_next (IsWaiting c coming) w k a m.shape m.is seat.waits new in
-    let grows = calls_split (empty_bag w.config) b w.ledger (entries a s) me m.run in
+    let grows = split_where (found_in w.config) (empty_bag w.config) b w.ledger (entries a s) me m.run in
     record {
       named = seat.named;
       stands = d.stands;

@@ -1,5 +1,5 @@
 -- Sums over lists and over all links, where one element is set or some letters are sent.
-use Rattle.std.proofs.Common.{◌≡◌, ◌≢◌, ◌≤◌, ◌<◌, ℕ, zero, suc, ◌+◌, ◌-◌, true, false, List, [], ◌∷◌, ◌++◌, length, set, get_or, ap, ◌∙◌, arith, refl, inl, inr, ltb}
+use Rattle.std.proofs.Common.{◌≡◌, ◌≢◌, ◌≤◌, ◌<◌, ℕ, zero, suc, ◌+◌, ◌-◌, true, false, List, [], ◌∷◌, ◌++◌, length, map, set, get_or, ap, ◌∙◌, arith, refl, inl, inr, ltb}
 use Rattle.std.proofs.lemmas.List.{length-set, get_or-set_same, get_or-set_other}
 use Rattle.std.proofs.lemmas.Bool.Decides.{nat_tests}
 use Rattle.std.proofs.lemmas.Bool.{ltb-true, cases_eq}
@@ -10,13 +10,28 @@ use Rattle.adlb_unit.specs.declared.configs.Config.{Config}
 use Rattle.adlb_unit.specs.declared.letters.Letter.{Letter}
 use Rattle.adlb_unit.specs.declared.letters.Sending.{Sending}
 use Rattle.adlb_unit.specs.declared.messages.Message.{Message}
+use Rattle.adlb_unit.specs.declared.names.Server.{Server}
+use Rattle.adlb_unit.specs.Ring.{others}
+use Rattle.server_law.specs.Acts.{to_others, to_server}
+use Rattle.server_law.specs.State.{ServerModel}
 use Rattle.core_run.specs.World.{Links, actors, link, post, put_link, row}
-use Rattle.core_law.specs.Measures.{Weights, actor, link_weight, links_weight, row_weight, sends_weight, weigh, weigh_at}
+use Rattle.core_law.specs.Measures.{Weights, actor, link_weight, links_weight, row_weight, said_weight, sends_weight, weigh, weigh_at}
 use Rattle.core_law.specs.Well.{IsSquare}
 
 pub weigh-append : {X : Type 0} (f : X → ℕ) (xs ys : List X) → weigh f (xs ++ ys) ≡ weigh f xs + weigh f ys
 weigh-append f [] ys = omega arith
 weigh-append f (x ∷ xs) ys = let h = weigh-append f xs ys in omega arith
+
+-- what is made of each element weighs nothing
+pub weigh-map_none : {X Y : Type 0} (f : Y → ℕ) (g : X → Y) (xs : List X) → ((x : X) → f (g x) ≡ 0) → weigh f (map g xs) ≡ 0
+weigh-map_none f g [] none = refl
+weigh-map_none f g (x ∷ xs) none = let here = none x in let later = weigh-map_none f g xs none in omega arith
+
+-- a message to each other server weighs nothing
+pub others_none : (f : Actor → Actor → Message → ℕ) (me : Server) (s : ServerModel) (m : Message)
+    → ((to : Server) → f (by.Server me) (by.Server to) m ≡ 0) → said_weight f me (to_others s m) ≡ 0
+others_none f me s m none =
+    weigh-map_none (λ y. f (by.Server me) y.to y.message) (λ to. to_server to m) (others s.config s.me) none
 
 -- a sum to which one place alone adds
 pub none_adds : {X : Type 0} (f : ℕ → X → ℕ) (xs : List X) → ((i : ℕ) (x : X) → f i x ≡ 0) → weigh_at f xs ≡ 0

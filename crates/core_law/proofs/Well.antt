@@ -1,12 +1,13 @@
 -- What holds of letters and of each actor alone is kept by each act of a server, and by the stamp of an event.
-use Rattle.std.proofs.Common.{◌≡◌, ◌<◌, ℕ, length, ◌∙◌, arith}
+use Rattle.std.proofs.Common.{◌≡◌, ◌≤◌, ◌<◌, ℕ, Bool, true, false, Option, Some, None, length, ◌∙◌, arith}
+use Rattle.std.specs.Prelude.{IfSome}
 use Rattle.std.proofs.lemmas.List.{length-set}
 use Rattle.adlb_unit.specs.declared.configs.Config.{Config}
 use Rattle.adlb_unit.specs.declared.names.Server.{Server}
 use Rattle.server_law.specs.Acts.{Act, says, takes}
 use Rattle.server_law.specs.Carried.{done}
 use Rattle.server_law.specs.State.{Kept, ServerModel, start as new_pool}
-use Rattle.server_law.specs.Step.{ticked}
+use Rattle.server_law.specs.Step.{raised, ticked}
 use Rattle.core_run.specs.World.{World, pool_of}
 use Rattle.core_law.specs.Acting.{IsAct, IsOwn, acted, ticks}
 use Rattle.core_law.specs.Letters.{any_remote, finishes, kinds, numbered, one_letter, remotes}
@@ -77,24 +78,32 @@ act_well w me a well is =
       number = λ rank next. even (numbered rank next) (numbers_even rank next a s) (well.number rank next);
     }
 
--- The stamp.
+-- The stamp, and the activity that the event raises or does not.
 
-same_sum : (f : ℕ → Kept → ℕ) (w : World) (me : Server) (stamp : ℕ) → me.0 < length w.servers
-    → weigh_at (server_weight f) (ticks w me stamp).servers ≡ weigh_at (server_weight f) w.servers
-same_sum f w me stamp here =
-    let h = weigh_at-set (server_weight f) w.servers me.0 (ticked (pool_of w me) stamp) (new_pool w.config me) here in omega arith
+same_sum : (f : ℕ → Kept → ℕ) (w : World) (me : Server) (stamp : ℕ) (up : Bool) → me.0 < length w.servers
+    → weigh_at (server_weight f) (ticks w me stamp up).servers ≡ weigh_at (server_weight f) w.servers
+same_sum f w me stamp up here =
+    let h = weigh_at-set (server_weight f) w.servers me.0 (ticked (pool_of w me) stamp up) (new_pool w.config me) here in omega arith
 
-tick_balance : (m : Weights) (w : World) (me : Server) (stamp : ℕ) → me.0 < length w.servers → IsBalanced m w
-    → IsBalanced m (ticks w me stamp)
+pub tick_balance : (m : Weights) (w : World) (me : Server) (stamp : ℕ) (up : Bool) → me.0 < length w.servers → IsBalanced m w
+    → IsBalanced m (ticks w me stamp up)
 unfolding measure due
-tick_balance m w me stamp here even =
-    let a = same_sum m.server w me stamp here in
-    let b = same_sum m.server_due w me stamp here in
+tick_balance m w me stamp up here even =
+    let a = same_sum m.server w me stamp up here in
+    let b = same_sum m.server_due w me stamp up here in
     let e = even.same in
     record { same = omega arith }
 
-tick_pool : (config : Config) (me : Server) (s : ServerModel) (stamp : ℕ) → IsPool config me s → IsPool config me (ticked s stamp)
-tick_pool config me s stamp own = record {
+raised_later : (up : Bool) (activity : ℕ) → activity ≤ raised up activity
+raised_later true activity = omega arith
+raised_later false activity = omega arith
+
+if_noted_later : (noted : Option ℕ) (before now : ℕ) → before ≤ now → IfSome noted (λ n. n ≤ before) → IfSome noted (λ n. n ≤ now)
+if_noted_later None before now later was = tt
+if_noted_later (Some n) before now later was = omega arith
+
+tick_pool : (config : Config) (me : Server) (s : ServerModel) (stamp : ℕ) (up : Bool) → IsPool config me s → IsPool config me (ticked s stamp up)
+tick_pool config me s stamp up own = record {
   config = own.config;
   me = own.me;
   finished = own.finished;
@@ -102,30 +111,33 @@ tick_pool config me s stamp own = record {
   wishes = own.wishes;
   pushing = own.pushing;
   owed = own.owed;
+  noted = if_noted_later s.kept.noted s.activity (raised up s.activity) (raised_later up s.activity) own.noted;
+  mark = let later = raised_later up s.activity in let mark = own.mark in omega arith;
   shut = own.shut;
+  alone = own.alone;
 }
 
-pub tick_well : (w : World) (me : Server) (stamp : ℕ) → me.0 < w.config.servers → IsWell w → IsWell (ticks w me stamp)
-tick_well w me stamp here well =
+pub tick_well : (w : World) (me : Server) (stamp : ℕ) (up : Bool) → me.0 < w.config.servers → IsWell w → IsWell (ticks w me stamp up)
+tick_well w me stamp up here well =
     let inside = inside_servers w me well here in
     let shape = well.shape in
-    let s = ticked (pool_of w me) stamp in
+    let s = ticked (pool_of w me) stamp up in
     record {
       shape = record { ranks = shape.ranks; servers = length-set w.servers me.0 s ∙ shape.servers; square = shape.square };
       own = record {
         ranks = well.own.ranks;
         servers =
-            every_pool (IsPool w.config) w me s inside (tick_pool w.config me (pool_of w me) stamp (well.own.servers me here))
+            every_pool (IsPool w.config) w me s inside (tick_pool w.config me (pool_of w me) stamp up (well.own.servers me here))
             (λ t there differs. well.own.servers t there);
       };
-      kind = tick_balance (kinds w.config) w me stamp inside well.kind;
-      one = λ rank. tick_balance (weights (one_letter rank)) w me stamp inside (well.one rank);
-      finish = λ rank server there. tick_balance (finishes rank server) w me stamp inside (well.finish rank server there);
-      remote = λ home asked rank request. tick_balance (weights (remotes home asked rank request)) w me stamp inside
+      kind = tick_balance (kinds w.config) w me stamp up inside well.kind;
+      one = λ rank. tick_balance (weights (one_letter rank)) w me stamp up inside (well.one rank);
+      finish = λ rank server there. tick_balance (finishes rank server) w me stamp up inside (well.finish rank server there);
+      remote = λ home asked rank request. tick_balance (weights (remotes home asked rank request)) w me stamp up inside
           (well.remote home asked rank request);
-      any = λ rank. tick_balance (weights (any_remote rank)) w me stamp inside (well.any rank);
-      push = λ from. tick_balance (push_weights (pushing from)) w me stamp inside (well.push from);
-      push_to = λ from to id sent. tick_balance (push_weights (pushing_to from to id sent)) w me stamp inside
+      any = λ rank. tick_balance (weights (any_remote rank)) w me stamp up inside (well.any rank);
+      push = λ from. tick_balance (push_weights (pushing from)) w me stamp up inside (well.push from);
+      push_to = λ from to id sent. tick_balance (push_weights (pushing_to from to id sent)) w me stamp up inside
           (well.push_to from to id sent);
-      number = λ rank next. tick_balance (weights (numbered rank next)) w me stamp inside (well.number rank next);
+      number = λ rank next. tick_balance (weights (numbered rank next)) w me stamp up inside (well.number rank next);
     }

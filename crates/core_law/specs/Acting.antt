@@ -1,5 +1,5 @@
 -- One act of a server in a world, and acts one after the other: the worlds between the beginning of a server's event and its end.
-use Rattle.std.specs.Prelude.{◌≡◌, ◌<◌, true, ℕ, List, [], ◌∷◌, ◌++◌, slice_set}
+use Rattle.std.specs.Prelude.{◌≡◌, ◌<◌, Bool, true, ℕ, List, [], ◌∷◌, ◌++◌, slice_set}
 use Rattle.adlb_unit.specs.Links.{is_within, place_of}
 use Rattle.adlb_unit.specs.declared.actors.Actor.TheVariants as by
 use Rattle.adlb_unit.specs.declared.configs.Config.{Config}
@@ -35,9 +35,9 @@ abbrev pub acted_all : World → Server → List Act → World
 acted_all w me [] = w
 acted_all w me (a ∷ more) = acted_all (acted w me a) me more
 
--- the event has its stamp
-abbrev pub ticks : World → Server → ℕ → World
-ticks w me stamp = record w { servers = slice_set w.servers me.0 (ticked (pool_of w me) stamp) }
+-- the event has its stamp, and raises the activity or does not
+abbrev pub ticks : World → Server → ℕ → Bool → World
+ticks w me stamp up = record w { servers = slice_set w.servers me.0 (ticked (pool_of w me) stamp up) }
 
 -- the letters that are taken stand at the front of their links
 abbrev pub AreFront : Config → Server → Links → List Heard → Type 0

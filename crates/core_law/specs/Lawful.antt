@@ -10,7 +10,7 @@ use Rattle.adlb_unit.specs.declared.names.Rank.{Rank}
 use Rattle.adlb_unit.specs.declared.names.Server.{Server}
 use Rattle.adlb_unit.specs.declared.notes.UnitNote.{UnitNote}
 use Rattle.bag_ledger.specs.Bag.{Bag, has_due, start as empty_bag, unit_of}
-use Rattle.bag_ledger.specs.Runs.{IsRun, calls, note_of}
+use Rattle.bag_ledger.specs.Runs.{IsRunWhere, calls, note_of}
 use Rattle.bag_ledger.specs.declared.states.Placed.{Placed as Lodged}
 use Rattle.rank_client.specs.declared.pendings.Pending.{Pending}
 use Rattle.rank_client.specs.declared.pendings.Pending.TheVariants as waits_for
@@ -23,6 +23,7 @@ use Rattle.reserve_path.specs.declared.waits.Waiting.{Waiting}
 use Rattle.core_run.specs.World.{World, client_of, pool_of}
 use Rattle.core_law.specs.Letters.{is_request}
 use Rattle.core_law.specs.OnLinks.{Each, OnLinks}
+use Rattle.core_law.specs.Found.{found_in}
 use Rattle.core_law.specs.Pushed.{IsPushed}
 
 -- Letters of a call.
@@ -38,6 +39,7 @@ IsAsked s (waits_for.Common request note common own) to m = (m ≡ tells.FetchCo
 IsAsked s (waits_for.Keep request common first tried) to m = (m ≡ tells.KeepCommon request common) × (to ≡ asked s first tried)
 IsAsked s (waits_for.Close request batch) to m = (m ≡ tells.CloseBatch request batch.batch s.accepted) × (to ≡ batch.server)
 IsAsked s (waits_for.Count request kind) to m = (m ≡ tells.Count request kind) × (to ≡ home s.config s.me)
+IsAsked s (waits_for.SetDone request tried) to m = (m ≡ tells.Done request) × (to ≡ looks_at s tried)
 
 -- Between servers, the home's request for the rank is of its pending call, where nothing is decided; an answer that there is a unit
 -- is what was decided, and the home's word of it is awaited; one that there is none decides nothing.
@@ -77,7 +79,7 @@ pub record IsSeat (w : World) (b : Bag) (me : Rank) (coming : Option Message) : 
   pub facts : All (IsFact b) (holds (client_of w me) coming)
 
 pub record IsLawful (w : World) (b : Bag) : Type 0 where
-  pub run : IsRun (empty_bag w.config) w.ledger b
+  pub run : IsRunWhere (found_in w.config) (empty_bag w.config) w.ledger b
   pub rests : has_due b ≡ false
   pub seats : (me : Rank) → me.0 < w.config.ranks → (coming : Option Message) × IsSeat w b me coming
   pub pools : (k : Server) → k.0 < w.config.servers → ServerAgrees b (pool_of w k)

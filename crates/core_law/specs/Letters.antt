@@ -8,6 +8,7 @@ use Rattle.adlb_unit.specs.declared.names.Rank.{Rank}
 use Rattle.adlb_unit.specs.declared.configs.Config.{Config}
 use Rattle.adlb_unit.specs.declared.names.Server.{Server}
 use Rattle.adlb_unit.specs.Kinds.{is_of_rank, is_to_rank}
+use Rattle.adlb_unit.specs.Ring.{behind}
 use Rattle.rank_client.specs.Rules.{is_idle}
 use Rattle.rank_client.specs.State.{ClientModel}
 use Rattle.reserve_path.specs.declared.waits.Waiting.{Waiting}
@@ -200,7 +201,8 @@ any_remote rank = record {
 }
 
 -- Kinds: a rank sends requests and Finish to servers, and a server answers to ranks. A rank's home asks other servers for it, and they
--- answer and hint to its home. Any server pushes to any other.
+-- answer and hint to its home. Any server pushes to any other. Notices and failures go to server 0, a token to the next server, and a
+-- verdict goes out from server 0.
 
 abbrev pub fits_between : Config → Server → Server → Message → Bool
 fits_between config from to (tells.Ask rank request types) = nat_lt rank.0 config.ranks && is_home config from rank
@@ -213,6 +215,11 @@ fits_between config from to (tells.PushNo id) = true
 fits_between config from to (tells.PushUnit unit) = true
 fits_between config from to (tells.PushCancel id) = true
 fits_between config from to (tells.PushAck id) = true
+fits_between config from to tells.Notice = to.0 == 0
+fits_between config from to (tells.Token t) = to.0 == (behind config from 1).0
+fits_between config from to (tells.Failed t why) = to.0 == 0
+fits_between config from to tells.Exhaust = from.0 == 0
+fits_between config from to tells.Shutdown = from.0 == 0
 fits_between config from to _ = false
 
 abbrev pub fits_link : Config → Actor → Actor → Message → Bool

@@ -1,4 +1,5 @@
 pub mod Acting
+pub mod Found
 pub mod Letters
 pub mod Lawful
 pub mod Lines

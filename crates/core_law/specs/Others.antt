@@ -6,7 +6,7 @@ use Rattle.bag_ledger.specs.declared.entries.Entry.{Entry}
 use Rattle.bag_ledger.specs.declared.entries.Entry.TheVariants as enters
 use Rattle.bag_ledger.specs.Bag.{Bag}
 use Rattle.bag_ledger.specs.Runs.{calls_from}
-use Rattle.bag_ledger.specs.Steps.{Steps}
+use Rattle.bag_ledger.specs.Steps.{StepsWhere}
 use Rattle.bag_law.specs.Sound.{IsSoundBag}
 use Rattle.rank_client.specs.Agreement.{ClientAgrees}
 use Rattle.rank_client.specs.State.{ClientModel}
@@ -48,10 +48,12 @@ tells_of rank (Some other) = other.0 == rank.0
 
 -- the law: a client that stands for its rank of a sound bag stands for it after a step that does not tell of this rank
 abbrev pub ClientsStay : Type 0
-ClientsStay = (b next : Bag) (e : Entry) (s : ClientModel) (coming : Option Message) → IsSoundBag b → Steps b e next
+ClientsStay = (found : Bag → Bool) (b next : Bag) (e : Entry) (s : ClientModel) (coming : Option Message) → IsSoundBag b
+    → StepsWhere found b e next
     → tells_of s.me (teller e) ≡ false → ClientAgrees s coming b → ClientAgrees s coming next
 
 -- the law: such a step adds nothing to what the ledger says of the rank's calls
 abbrev pub CallsStay : Type 0
-CallsStay = (b next : Bag) (e : Entry) (es : List Entry) (rank : Rank) → Steps b e next → tells_of rank (teller e) ≡ false
+CallsStay = (found : Bag → Bool) (b next : Bag) (e : Entry) (es : List Entry) (rank : Rank) → StepsWhere found b e next
+    → tells_of rank (teller e) ≡ false
     → calls_from b (e ∷ es) rank ≡ calls_from next es rank

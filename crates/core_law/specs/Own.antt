@@ -38,7 +38,7 @@ pub record IsNote (config : Config) (note : UnitNote) : Type 0 where
   pub common : IsAt config note.common
 
 -- the call that is pending is the last one. A put has not been refused by each server, nor has a common part, and not each server
--- has looked for a try; a unit that is fetched is no longer held
+-- has looked for a try, and not each has heard that the problem is done; a unit that is fetched is no longer held
 abbrev pub IsCall : ClientModel → Pending → Type 0
 IsCall s waits_for.Nothing = Prim.Unit {0}
 IsCall s (waits_for.Put unit first tried) = IsOffer s unit × (tried < s.config.servers)
@@ -50,6 +50,7 @@ IsCall s (waits_for.Keep request common first tried) =
     (request + 1 ≡ s.next) × (s.batch ≡ None) × (length common ≤ body_limit) × (tried < s.config.servers)
 IsCall s (waits_for.Close request batch) = (request + 1 ≡ s.next) × (s.batch ≡ Some batch)
 IsCall s (waits_for.Count request kind) = request + 1 ≡ s.next
+IsCall s (waits_for.SetDone request tried) = (request + 1 ≡ s.next) × (tried < s.config.servers)
 
 -- of the client of this rank
 pub record IsClient (run : Config) (rank : Rank) (s : ClientModel) : Type 0 where
@@ -83,8 +84,13 @@ pub record IsPool (run : Config) (server : Server) (s : ServerModel) : Type 0 wh
   -- a push goes to another server, and so does an acknowledgement
   pub pushing : IfSome s.kept.pushing.push (λ (p : StandingPush). IsOther run server p.to)
   pub owed : IfSome s.kept.owed (λ (d : Debt). IsOther run server d.to)
-  -- only a server that is alone is shut
-  pub shut : s.kept.shut ≡ true → run.servers ≡ 1
+  -- the last notice was of this activity or less, and so was the last mark
+  pub noted : IfSome s.kept.noted (λ n. n ≤ s.activity)
+  pub mark : s.kept.ring.mark ≤ s.activity
+  -- a server that is alone is shut only where each rank has finished
+  pub shut : run.servers ≡ 1 → s.kept.shut ≡ true → All (λ finished. finished ≡ true) s.kept.finished
+  -- a check of a server that is alone ends as it begins
+  pub alone : run.servers ≡ 1 → s.kept.ring.runs ≡ false
 
 -- of all actors of a world
 pub record AreOwn (w : World) : Type 0 where

@@ -1,5 +1,5 @@
--- What the bag has of a unit while a letter of its push is under way.
-use Rattle.std.specs.Prelude.{◌≡◌, ◌≤◌, ℕ, ◌&&◌, None, Some, Option, List, sum_by}
+-- What the bag has while a letter between servers is under way: of the unit of a push, and that exhaustion was found.
+use Rattle.std.specs.Prelude.{◌≡◌, ◌≤◌, ℕ, true, ◌&&◌, None, Some, Option, List, sum_by}
 use Rattle.adlb_unit.specs.Ids.{same_unit}
 use Rattle.adlb_unit.specs.declared.actors.Actor.{Actor}
 use Rattle.adlb_unit.specs.declared.actors.Actor.TheVariants as by
@@ -27,6 +27,8 @@ OfPush b from to (tells.PushYes id) = IsHeldAt b to id × IsPromisedAt b from id
 OfPush b from to (tells.PushNo id) = IsHeldAt b to id
 OfPush b from to (tells.PushUnit unit) = unit_of b unit.id ≡ Some (record { unit = unit; place = Travelling to })
 OfPush b from to (tells.PushCancel id) = IsHeldAt b from id × IsPromisedAt b to id
+-- server 0 has found that all work is used up
+OfPush b from to tells.Exhaust = b.exhausted ≡ true
 OfPush b from to _ = Unit {0}
 
 abbrev pub IsOfPush : Bag → Actor → Actor → Message → Type 0

@@ -5,7 +5,7 @@ use Rattle.adlb_unit.specs.declared.names.Rank.{Rank}
 use Rattle.adlb_unit.specs.declared.names.Server.{Server}
 use Rattle.adlb_unit.specs.declared.names.UnitId.{UnitId}
 use Rattle.bag_ledger.specs.Bag.{Bag, promise_of, start as empty_bag}
-use Rattle.bag_ledger.specs.Runs.{IsRun, calls}
+use Rattle.bag_ledger.specs.Runs.{IsRunWhere, calls}
 use Rattle.bag_ledger.specs.Steps.{Stands}
 use Rattle.bag_ledger.specs.declared.states.Placed.{Placed as Lodged}
 use Rattle.bag_ledger.specs.declared.states.Promise.{Promise as Room}
@@ -13,6 +13,7 @@ use Rattle.bag_ledger.specs.declared.states.UnitPlace.TheVariants.{Travelling}
 use Rattle.bag_law.specs.Counts.{promises_named}
 use Rattle.rank_client.specs.Agreement.{ClientAgrees, said}
 use Rattle.server_law.specs.Agreement.{ServerAgrees}
+use Rattle.core_law.specs.Found.{found_in}
 use Rattle.core_law.specs.Measures.{links_weight}
 use Rattle.core_law.specs.OnLinks.{OnLinks}
 use Rattle.core_law.specs.Pushed.{IsOfPush, letters_of, on_way}
@@ -44,7 +45,7 @@ pub record AreBrought (w : World) (b : Bag) : Type 0 where
 -- the ledger leads to this bag, in which each rank has its seat, with which each server agrees, and whose units between servers are
 -- under way
 pub record IsSeated (w : World) (b : Bag) : Type 0 where
-  pub run : IsRun (empty_bag w.config) w.ledger b
+  pub run : IsRunWhere (found_in w.config) (empty_bag w.config) w.ledger b
   pub ranks : (me : Rank) → me.0 < w.config.ranks → HasSeat w b me
   pub servers : (me : Server) → me.0 < w.config.servers → ServerAgrees b (pool_of w me)
   pub moving : AreMoving w b

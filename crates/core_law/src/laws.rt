@@ -5,10 +5,11 @@ ghost use Rattle.adlb_unit.specs.declared.configs.Config.{Config};
 ghost use Rattle.adlb_unit.specs.declared.names.Rank.{Rank};
 ghost use Rattle.adlb_unit.specs.declared.names.Server.{Server};
 ghost use Rattle.bag_ledger.specs.Bag.{Bag, start as empty_bag};
-ghost use Rattle.bag_ledger.specs.Runs.{IsLegal, IsRun};
+ghost use Rattle.bag_ledger.specs.Runs.{IsLegal, IsRunWhere};
 ghost use Rattle.server_law.specs.Agreement.{ServerAgrees};
 ghost use Rattle.server_law.specs.Calm.{IsCalm, WaitOnce};
 ghost use Rattle.core_run.specs.declared.events.Event.{Event};
+ghost use Rattle.core_law.specs.Found.{found_in};
 ghost use Rattle.core_law.specs.Others.{CallsStay, ClientsStay};
 ghost use Rattle.core_law.specs.Seats.{AreBrought, IsSeated};
 ghost use Rattle.core_run.specs.Runs.{NoneIsStuck, Runs, Tells, run};
@@ -22,25 +23,29 @@ pub fn other_laws()
 {}
 
 /// In every run, of every number of ranks and servers and whatever the order of calls and letters: the ledger so far is a
-/// legal run of the bag (`legal`), and the bag agrees with each server (`agrees`). Each rank's transcript is what the
+/// legal run of the bag (`legal`), where it is set aside what several servers find when they find that all work is used up
+/// (`found_in`); with one server nothing is (`legal_alone`). The bag agrees with each server (`agrees`). Each rank's transcript is what the
 /// ledger says of its calls, but for the pending one (`calls`). What each actor is to the bag, is told at once by
 /// `seated`. At each server no rank waits twice, and no free unit there is permitted to a rank that waits there and is idle
 /// (`calm`). Each letter of a push says what the bag has of its unit. Each unit of the bag that is between servers is
 /// brought by exactly one letter under way, and for each promise exactly one letter of promised room is: the answer that
 /// there is room, the unit, or the cancel (`moving`). The front letter of each list is expected, also between servers: where
-/// one asks another for a rank, is answered, or is told of a unit, and in each letter of a push; so no event is stuck while
-/// stamps are given (`expected`). A run as a relation is the one that the function `run` makes (`same_run`).
+/// one asks another for a rank, is answered, or is told of a unit, in each letter of a push, and in a notice and a verdict;
+/// so no event is stuck while stamps are given, but for tokens (`expected`). A run as a relation is the one that the function `run` makes (`same_run`).
 pub fn core_run_laws()
     ensures same_run { (w last : World) (events : List Event) → Runs w events last ↔ (run w events ≡ Some last) }
-    ensures legal { (config : Config) (events : List Event) (w : World) → Runs (start config) events w → IsLegal config w.ledger }
+    ensures legal { (config : Config) (events : List Event) (w : World) → Runs (start config) events w →
+        (b : Bag) × IsRunWhere (found_in config) (empty_bag config) w.ledger b }
+    ensures legal_alone { (config : Config) (events : List Event) (w : World) → config.servers ≡ 1 → Runs (start config) events w →
+        IsLegal config w.ledger }
     ensures agrees { (config : Config) (events : List Event) (w : World) → Runs (start config) events w →
-        (b : Bag) × IsRun (empty_bag config) w.ledger b × ((server : Server) → server.0 < config.servers
+        (b : Bag) × IsRunWhere (found_in config) (empty_bag config) w.ledger b × ((server : Server) → server.0 < config.servers
         → ServerAgrees b (pool_of w server)) }
     ensures calls { (config : Config) (events : List Event) (w : World) (rank : Rank) →
         rank.0 < config.ranks → Runs (start config) events w → Tells w rank }
     ensures seated { (config : Config) (events : List Event) (w : World) → Runs (start config) events w → (b : Bag) × IsSeated w b }
     ensures moving { (config : Config) (events : List Event) (w : World) → Runs (start config) events w →
-        (b : Bag) × IsRun (empty_bag config) w.ledger b × AreBrought w b }
+        (b : Bag) × IsRunWhere (found_in config) (empty_bag config) w.ledger b × AreBrought w b }
     ensures calm { (config : Config) (events : List Event) (w : World) (server : Server) →
         server.0 < config.servers → Runs (start config) events w → WaitOnce (pool_of w server) × IsCalm (pool_of w server) }
     ensures expected { (config : Config) (events : List Event) (w : World) → Runs (start config) events w → NoneIsStuck w }

@@ -19,8 +19,9 @@ ghost use Rattle.core_run.specs.Runs.{Runs};
 ghost use Rattle.core_run.specs.World.{World, pool_of, start};
 
 /// In every run, of every number of ranks and servers: each letter is of a kind that its sender sends to its receiver
-/// (`kinds`); servers write to each other about the ranks of the run alone, the rank's home to others or others to its
-/// home. While a call of a rank is pending, exactly one letter of it is under way, also between servers, or it waits at
+/// (`kinds`); servers write to each other about the ranks of the run, the rank's home to others or others to its home, of
+/// units that are pushed, and of checks: notices and failures to server 0, a token to the next server, and a verdict from
+/// server 0. While a call of a rank is pending, exactly one letter of it is under way, also between servers, or it waits at
 /// a server and is idle; otherwise none is (`one_letter`), with the number of the call (`numbered`). Between a home and
 /// another server there are as many letters about a rank's call as the rank waits at that home in this call with that
 /// server unanswered (`remotes`): by `one_letter` at most one. A Finish letter to a server, or that the server handled
@@ -32,7 +33,8 @@ ghost use Rattle.core_run.specs.World.{World, pool_of, start};
 /// or its answer, from then on the unit, the cancel or the acknowledgement (`pushes_to`). Between events no server owes an
 /// acknowledgement (`none_owes`). Each actor's own state is as `AreOwn` says (`own`): the ranks that wait at a server have
 /// their home there, and only other servers are asked for them; the ranks whose wishes it keeps have their homes elsewhere;
-/// a push goes to another server.
+/// a push goes to another server; the last notice and the last mark of a server were of its activity or less; with one
+/// server no check goes round, and it is shut only where each rank has finished.
 pub fn letter_laws()
     ensures kinds { (config : Config) (events : List Event) (w : World) →
         Runs (start config) events w → IsBalanced (kinds config) w }

@@ -1,5 +1,5 @@
 -- Runs, and what is read off them.
-use Rattle.std.specs.Prelude.{◌≡◌, ◌≤◌, List, [], ◌∷◌, ◌++◌, length, Option, Some, option_and_then, ◌<◌, true}
+use Rattle.std.specs.Prelude.{◌≡◌, ◌≤◌, Bool, List, [], ◌∷◌, ◌++◌, length, Option, Some, option_and_then, ◌<◌, true, false}
 use Rattle.adlb_unit.specs.Limits.{stamp_limit}
 use Rattle.adlb_unit.specs.Links.{is_within, place_of}
 use Rattle.adlb_unit.specs.declared.names.Rank.{Rank}
@@ -8,8 +8,11 @@ use Rattle.bag_ledger.specs.Runs.{calls}
 use Rattle.rank_client.specs.declared.pendings.Pending.TheVariants as waits_for
 use Rattle.core_run.specs.declared.events.Event.{Event}
 use Rattle.core_run.specs.declared.events.Event.TheVariants as occurs
-use Rattle.core_run.specs.World.{World, client_of, happens, link}
+use Rattle.core_run.specs.World.{World, client_of, happens, has_ended, link, pool_of}
 use Rattle.adlb_unit.specs.declared.actors.Actor.{Actor}
+use Rattle.adlb_unit.specs.declared.actors.Actor.TheVariants as by
+use Rattle.adlb_unit.specs.declared.messages.Message.{Message}
+use Rattle.adlb_unit.specs.declared.messages.Message.TheVariants as tells
 use Rattle.adlb_unit.specs.declared.letters.Letter.{Letter}
 
 -- the events, in order, lead from the first world to the last
@@ -36,9 +39,21 @@ Tells w rank =
     IsBehind (transcript w rank) (calls w.config w.ledger rank)
     × ((client_of w rank).pending ≡ waits_for.Nothing → calls w.config w.ledger rank ≡ transcript w rank)
 
--- the front letter of each list can be handled, where its stamp is one that is given
+-- a server that has ended handles nothing more
+abbrev pub is_over : World → Actor → Bool
+is_over w (by.Rank rank) = false
+is_over w (by.Server server) = has_ended (pool_of w server)
+
+-- a token goes round, or has failed
+abbrev pub is_of_check : Message → Bool
+is_of_check (tells.Token t) = true
+is_of_check (tells.Failed t why) = true
+is_of_check _ = false
+
+-- the front letter of each list can be handled, where its receiver has not ended and its stamp is one that is given; of tokens, and of
+-- those that have failed, it is not said
 abbrev pub NoneIsStuck : World → Type 0
 NoneIsStuck w =
     (from to : Actor) (letter : Letter) (rest : List Letter) → is_within w.config from ≡ true → is_within w.config to ≡ true
-    → link w.links (place_of w.config from) (place_of w.config to) ≡ letter ∷ rest → letter.stamp < stamp_limit
-    → (next : World) × (happens w (occurs.Deliver from to) ≡ Some next)
+    → link w.links (place_of w.config from) (place_of w.config to) ≡ letter ∷ rest → is_over w to ≡ false
+    → is_of_check letter.message ≡ false → letter.stamp < stamp_limit → (next : World) × (happens w (occurs.Deliver from to) ≡ Some next)

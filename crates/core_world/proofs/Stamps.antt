@@ -79,6 +79,7 @@ told_none s (waits_for.Common request note common own) from (tells.Broken troubl
 told_none s (waits_for.Keep request common first tried) from (tells.Broken trouble) some = absurd (cc)
 told_none s (waits_for.Close request batch) from (tells.Broken trouble) some = absurd (cc)
 told_none s (waits_for.Count request kind) from (tells.Broken trouble) some = absurd (cc)
+told_none s (waits_for.SetDone request tried) from (tells.Broken trouble) some = absurd (cc)
 told_none s pending from _ some = refl
 
 pub unmapped : {X Y : Type 0} (f : X → Y) (o : Option X) → IsSome (option_map f o) → IsSome o

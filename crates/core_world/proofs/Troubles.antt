@@ -25,7 +25,7 @@ use Rattle.rank_client.specs.Step as rank_step
 use Rattle.server_law.specs.Acts.{Act, ServerSaying, does, says}
 use Rattle.server_law.specs.Carried.{Served, all_counted, carried, counted, done}
 use Rattle.server_law.specs.State.{ServerModel}
-use Rattle.server_law.specs.Step.{acts, next_stamp, serve, ticked}
+use Rattle.server_law.specs.Step.{acts, at_event, serve}
 
 -- A rank.
 
@@ -71,8 +71,8 @@ call_leaves s (calls_to.Fetch id) = fetch_leaves s id (rank_rules.held s id)
 call_leaves s (calls_to.BeginBatch common) = leaves_if s.trouble _ (rank_rules.keep s common s.end) (keep_leaves s common s.end)
 call_leaves s calls_to.EndBatch = close_leaves s s.batch
 call_leaves s (calls_to.Count kind) = refl
+call_leaves s calls_to.SetDone = refl
 call_leaves s calls_to.Finish = leaves_if s.trouble _ (rank_rules.finish s) refl
-call_leaves s _ = tt
 
 refused_leaves : (s : ClientModel) (unit : Unit) (first : Server) (tried : ℕ) (more : Bool) → (rank_rules.refused s unit first tried more).state.trouble ≡ s.trouble
 refused_leaves s unit first tried true = refl
@@ -143,6 +143,17 @@ hear_count_leaves : (s : ClientModel) (request : ℕ) (kind : WorkType) (from : 
 hear_count_leaves s request kind from (tells.Counted to info) = leaves_if s.trouble _ _ refl
 hear_count_leaves s request kind from _ = tt
 
+told_done_leaves : (s : ClientModel) (request tried : ℕ) (more : Bool) → (rank_rules.told_done s request tried more).state.trouble ≡ s.trouble
+told_done_leaves s request tried true = refl
+told_done_leaves s request tried false = refl
+
+hear_done_leaves : (s : ClientModel) (request tried : ℕ) (from : Server) (message : Message)
+    → Leaves s.trouble (rank_rules.hear_done s request tried from message)
+hear_done_leaves s request tried from (tells.DoneHeard to) =
+    leaves_if s.trouble _ (rank_rules.told_done s request tried (nat_lt (tried + 1) s.config.servers))
+    (told_done_leaves s request tried (nat_lt (tried + 1) s.config.servers))
+hear_done_leaves s request tried from _ = tt
+
 answer_leaves : (s : ClientModel) (pending : Pending) (from : Server) (message : Message) → Leaves s.trouble (rank_rules.answer_call s pending from message)
 answer_leaves s waits_for.Nothing from message = tt
 answer_leaves s (waits_for.Put unit first tried) from message = hear_put_leaves s unit first tried from message
@@ -153,6 +164,7 @@ answer_leaves s (waits_for.Common request note common own) from message = hear_c
 answer_leaves s (waits_for.Keep request common first tried) from message = hear_keep_leaves s request common first tried from message
 answer_leaves s (waits_for.Close request batch) from message = hear_close_leaves s request batch from message
 answer_leaves s (waits_for.Count request kind) from message = hear_count_leaves s request kind from message
+answer_leaves s (waits_for.SetDone request tried) from message = hear_done_leaves s request tried from message
 
 -- letters leave it
 post_leaves : (x : rank_step.Made) (says : List rank_rules.ClientSaying) → (rank_step.post x says).state.trouble ≡ x.state.trouble
@@ -200,5 +212,5 @@ by_acts (Some list) s x is =
 
 pub serve_stays : (s : ServerModel) (from : Actor) (letter : Letter) (x : Served) → serve s from letter ≡ Some x → x.state.trouble ≡ s.trouble
 serve_stays s from letter x is =
-    let t : ServerModel = ticked s (next_stamp s letter) in
+    let t : ServerModel = at_event s letter in
     by_acts (acts t from letter.message) t x (where_true (is_within s.config from && nat_lt letter.stamp (2 ^ 48)) _ x is)

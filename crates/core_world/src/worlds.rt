@@ -1,6 +1,6 @@
 //! A run that is stepped by hand.
 
-ghost use Rattle.std.specs.Prelude.{◌≡◌, ◌<◌, IfOk, is_some, length};
+ghost use Rattle.std.specs.Prelude.{◌≡◌, ◌<◌, ◌↔◌, All, IfOk, IsTrue, is_some, length};
 ghost use Rattle.core_run.specs.Runs.{transcript};
 ghost use Rattle.core_run.specs.World.{client_of, pool_of};
 ghost use Rattle.core_world.specs.Seen.{new_world, under_way};
@@ -88,6 +88,15 @@ impl World {
         ensures { IfOk result (λ left. left.items ≡ left_of (pool_of self.now.world server)) }
     {
         self.stage.server_at(server).left()
+    }
+
+    /// A server of the run has ended: it is shut, and has handled each rank's Finish letter. It handles no letter more.
+    pub fn has_ended(&self, server: Server) -> bool
+        requires { server.0 < self.now.world.config.servers }
+        ensures { IsTrue result ↔ (IsTrue (pool_of self.now.world server).kept.shut ×
+            All IsTrue (pool_of self.now.world server).kept.finished) }
+    {
+        self.stage.server_at(server).ended()
     }
 
     /// The ledger, and the calls of a rank of the run that it has heard the answer of, in order, with the world used up.

@@ -21,30 +21,32 @@ enum Act {
     PutAt(u32, i32),
     // A put of `n` bytes is rejected.
     PutRejected(u8),
-    // A put is told that all work is used up.
-    PutOver,
+    // A put is told this end.
+    PutOver(PutFault),
     // A unit is reserved and fetched: it has these common bytes, and of its own this byte `n` times.
     Work(&'static str, u8, u8),
     // A unit is reserved and left.
     Leave,
-    // A reserve is told that all work is used up.
-    Exhausted,
+    // A reserve is told this end.
+    Over(EndFault),
     // A try finds no unit now.
     TryInVain,
     // A try is granted a unit, which is left.
     TryAndLeave,
-    // A try is told that all work is used up.
-    TryOver,
+    // A try is told this end.
+    TryOver(TryFault),
     // A count of this type tells so many units, this highest priority, and so many that have it.
     Count(u32, u64, Option<i32>, u64),
     // A batch with the common part `xy` begins.
     Begin,
     // The beginning of a batch with a common part of `n` bytes is rejected, and no batch is going on.
     BeginRejected(u8),
-    // The beginning of a batch is told that all work is used up, and no batch is going on.
-    BeginOver,
+    // The beginning of a batch is told this end, and no batch is going on.
+    BeginOver(PutFault),
     // The batch ends.
     End,
+    // The problem is called done, and each server has heard it.
+    SetDone,
 }
 
 // This byte `n` times.
@@ -81,6 +83,20 @@ fn attempt(world: &mut InlineWorld) -> Result<Handle, TryFault>
     world.ireserve(&Types::any())
 }
 
+// A reserve is answered by this fault.
+fn over(rt: &impl Abort, world: &mut InlineWorld, expected: EndFault)
+    requires { has_finished world.old.run.transcript ≡ false }
+    ensures { has_finished world.new.run.transcript ≡ false }
+{
+    match reserve(world) {
+        Ok(handle) => {
+            world.leave(handle);
+            panic!(rt; "a unit is left");
+        }
+        Err(fault) => assert_eq!(rt; fault, expected),
+    }
+}
+
 // A try is answered by this fault.
 fn refused(rt: &impl Abort, world: &mut InlineWorld, expected: TryFault)
     requires { has_finished world.old.run.transcript ≡ false }
@@ -100,6 +116,13 @@ fn count(world: &mut InlineWorld, kind: u32) -> Result<Info, Trouble>
     ensures { has_finished world.new.run.transcript ≡ false }
 {
     world.num_units(WorkType(kind))
+}
+
+fn set_done(world: &mut InlineWorld) -> Result<(), Trouble>
+    requires { has_finished world.old.run.transcript ≡ false }
+    ensures { has_finished world.new.run.transcript ≡ false }
+{
+    world.set_problem_done()
 }
 
 // The bytes of a unit that is reserved and fetched.
@@ -166,9 +189,9 @@ fn play_one(rt: &impl Abort, alloc: Global, world: &mut InlineWorld, act: Act) -
             let answer = put(world, 1, 0, body(alloc, 0, n)?);
             assert_eq!(rt; answer, Err(PutFault::Rejected));
         }
-        Act::PutOver => {
+        Act::PutOver(fault) => {
             let answer = put(world, 1, 0, body(alloc, 0, 1)?);
-            assert_eq!(rt; answer, Err(PutFault::Exhausted));
+            assert_eq!(rt; answer, Err(fault));
         }
         Act::Work(common, byte, n) => {
             let given = work(world)?;
@@ -179,19 +202,13 @@ fn play_one(rt: &impl Abort, alloc: Global, world: &mut InlineWorld, act: Act) -
             let handle = reserve(world)?;
             world.leave(handle);
         }
-        Act::Exhausted => match reserve(world) {
-            Ok(handle) => {
-                world.leave(handle);
-                panic!(rt; "a unit is left");
-            }
-            Err(fault) => assert_eq!(rt; fault, EndFault::Exhausted),
-        },
+        Act::Over(fault) => over(rt, world, fault),
         Act::TryInVain => refused(rt, world, TryFault::NoCurrentWork),
         Act::TryAndLeave => {
             let handle = attempt(world)?;
             world.leave(handle);
         }
-        Act::TryOver => refused(rt, world, TryFault::Exhausted),
+        Act::TryOver(fault) => refused(rt, world, fault),
         Act::Count(kind, free, top, at_top) => {
             let info = count(world, kind)?;
             assert_eq!(rt; info, Info { free, top, at_top });
@@ -201,11 +218,12 @@ fn play_one(rt: &impl Abort, alloc: Global, world: &mut InlineWorld, act: Act) -
             let answer = begin(rt, world, body(alloc, 0, n)?);
             assert_eq!(rt; answer, Err(PutFault::Rejected));
         }
-        Act::BeginOver => {
+        Act::BeginOver(fault) => {
             let answer = begin(rt, world, body(alloc, 0, 1)?);
-            assert_eq!(rt; answer, Err(PutFault::Exhausted));
+            assert_eq!(rt; answer, Err(fault));
         }
         Act::End => end(rt, world)?,
+        Act::SetDone => set_done(world)?,
     }
     Ok(())
 }
@@ -317,8 +335,8 @@ fn what_is_over_the_limit_is_rejected(rt: HostRuntime) -> Result<(), Fail> {
     let acts = [
         Act::PutRejected(93),
         Act::PutRejected(85),
-        Act::Exhausted,
-        Act::Exhausted,
+        Act::Over(EndFault::Exhausted),
+        Act::Over(EndFault::Exhausted),
     ];
     let ledger = [
         "Putting 0 0: type 1, 93 bytes, Some(0)",
@@ -375,7 +393,7 @@ fn free_units_of_a_type_are_counted_by_their_priority(rt: HostRuntime) -> Result
         Act::Leave,
         Act::Count(1, 0, None, 0),
         // After an end was told the home is asked as before.
-        Act::Exhausted,
+        Act::Over(EndFault::Exhausted),
         Act::Count(1, 0, None, 0),
     ];
     let ledger = [
@@ -427,8 +445,8 @@ fn a_try_is_granted_what_is_free(rt: HostRuntime) -> Result<(), Fail> {
         // The unit is pinned.
         Act::TryInVain,
         // Trying does not use up the work, and reserving does.
-        Act::Exhausted,
-        Act::TryOver,
+        Act::Over(EndFault::Exhausted),
+        Act::TryOver(TryFault::Exhausted),
     ];
     let ledger = [
         "Putting 0 0: type 1, 1 bytes, Some(97)",
@@ -529,11 +547,11 @@ fn a_batch_ends_after_an_end_was_told(rt: HostRuntime) -> Result<(), Fail> {
         Act::Begin,
         Act::Put(1, b'a', 1),
         Act::Work("xy", b'a', 1),
-        Act::Exhausted,
-        Act::PutOver,
+        Act::Over(EndFault::Exhausted),
+        Act::PutOver(PutFault::Exhausted),
         Act::End,
-        Act::BeginOver,
-        Act::Exhausted,
+        Act::BeginOver(PutFault::Exhausted),
+        Act::Over(EndFault::Exhausted),
     ];
     let ledger = [
         "Keeping 0 0: 2 bytes, Some(120)",
@@ -578,4 +596,62 @@ fn a_unit_that_is_left_keeps_its_common_part(rt: HostRuntime) -> Result<(), Fail
     ];
     let left = [unit(1, Some(Rank(0)))];
     check(&rt, rt.alloc(), 64, &acts, 5, &ledger, &left)
+}
+
+#[test]
+fn after_the_problem_is_done_no_call_gets_work(rt: HostRuntime) -> Result<(), Fail> {
+    let acts = [
+        Act::Put(1, b'a', 1),
+        Act::SetDone,
+        // The unit is free, and is not granted.
+        Act::Over(EndFault::NoMoreWork),
+        Act::TryOver(TryFault::NoMoreWork),
+        Act::PutOver(PutFault::NoMoreWork),
+        Act::BeginOver(PutFault::NoMoreWork),
+        Act::Count(1, 1, Some(0), 1),
+        // It can be said again.
+        Act::SetDone,
+    ];
+    let ledger = [
+        "Putting 0 0: type 1, 1 bytes, Some(97)",
+        "Accepted { server: Server(0), id: UnitId { rank: Rank(0), number: 0 } }",
+        "Done { rank: Rank(0), call: 1 }",
+        "Asked 0 2",
+        "Over { rank: Rank(0), call: 2, end: NoMoreWork }",
+        "Tried 0 3",
+        "Over { rank: Rank(0), call: 3, end: NoMoreWork }",
+        "Putting 0 4: type 1, 1 bytes, Some(0)",
+        "Over { rank: Rank(0), call: 4, end: NoMoreWork }",
+        "Keeping 0 5: 1 bytes, Some(0)",
+        "Over { rank: Rank(0), call: 5, end: NoMoreWork }",
+        "Counting { rank: Rank(0), call: 6, kind: WorkType(1) }",
+        "Counted { server: Server(0), rank: Rank(0), call: 6, info: Info { free: 1, top: Some(0), at_top: 1 } }",
+        "Done { rank: Rank(0), call: 7 }",
+        "Finished { rank: Rank(0), call: 8 }",
+    ];
+    check(&rt, rt.alloc(), 64, &acts, 9, &ledger, &[unit(0, None)])
+}
+
+#[test]
+fn a_batch_ends_after_the_problem_is_done(rt: HostRuntime) -> Result<(), Fail> {
+    let acts = [
+        Act::Begin,
+        Act::Put(1, b'a', 1),
+        Act::SetDone,
+        Act::PutOver(PutFault::NoMoreWork),
+        Act::End,
+    ];
+    let ledger = [
+        "Keeping 0 0: 2 bytes, Some(120)",
+        "Kept { server: Server(0), batch: BatchId { rank: Rank(0), number: 0 } }",
+        "Putting 0 1: type 1, 1 bytes, Some(97)",
+        "Accepted { server: Server(0), id: UnitId { rank: Rank(0), number: 1 } }",
+        "Done { rank: Rank(0), call: 2 }",
+        "Putting 0 3: type 1, 1 bytes, Some(0)",
+        "Over { rank: Rank(0), call: 3, end: NoMoreWork }",
+        "Closing { rank: Rank(0), call: 4 }",
+        "Closed { server: Server(0), batch: BatchId { rank: Rank(0), number: 0 } }",
+        "Finished { rank: Rank(0), call: 5 }",
+    ];
+    check(&rt, rt.alloc(), 64, &acts, 6, &ledger, &[unit(1, None)])
 }

@@ -36,40 +36,47 @@ impl Words {
     }
 }
 
-/// A call of a rank with this transcript. A unit that was granted is fetched at once, but for one of four.
+/// A call of a rank with this transcript, for which a batch is going on or not. A unit that was granted is fetched at once, but
+/// for one of four. Of some hundred calls one says that the problem is done.
 pub(crate) fn call(
     alloc: Global,
     words: &mut Words,
     config: Config,
     said: &[Said],
+    open: bool,
 ) -> Result<Call, Fail> {
     if let Some(id) = granted_last(said) {
         if words.below(4) > 0 {
             return Ok(Call::Fetch { id });
         }
     }
-    match words.below(9) {
-        0..=5 => put(alloc, words, config),
-        6 => Ok(Call::Reserve {
+    match words.below(400) {
+        0..=219 => put(alloc, words, config),
+        220..=259 => Ok(Call::Reserve {
             types: types(words)?,
         }),
-        7 => Ok(Call::Try {
+        260..=299 => Ok(Call::Try {
             types: types(words)?,
         }),
-        _ => Ok(Call::Count {
+        300..=329 => Ok(Call::Count {
             kind: WorkType(words.below(3)),
         }),
+        330..=397 if open => Ok(Call::EndBatch),
+        330..=397 => Ok(Call::BeginBatch {
+            common: body(alloc, words)?,
+        }),
+        _ => Ok(Call::SetDone),
     }
 }
 
-/// The last calls: the rank reserves until it is told an end, and finishes.
-pub(crate) fn last_call(ended: bool) -> Call {
-    if ended {
-        Call::Finish
-    } else {
-        Call::Reserve {
+/// The last calls: the rank reserves until it is told an end, ends its batch, if one is going on, and finishes.
+pub(crate) fn last_call(ended: bool, open: bool) -> Call {
+    match (ended, open) {
+        (false, _) => Call::Reserve {
             types: Types::any(),
-        }
+        },
+        (true, true) => Call::EndBatch,
+        (true, false) => Call::Finish,
     }
 }
 

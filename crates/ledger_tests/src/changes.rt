@@ -1,6 +1,6 @@
 //! Entries with one change.
 
-use adlb_unit::{End, Info, Rank, UnitId};
+use adlb_unit::{BatchId, End, Info, Rank, UnitId};
 use bag_ledger::Entry;
 use std::alloc::Global;
 use std::test::Fail;
@@ -22,7 +22,22 @@ fn one_more(info: Info) -> Info {
     }
 }
 
-/// A copy of the entry, of the kinds that one rank's run has.
+// The batch with another number.
+fn other_batch(batch: BatchId) -> BatchId {
+    BatchId {
+        rank: batch.rank,
+        number: batch.number.wrapping_add(1000),
+    }
+}
+
+fn other_end(end: End) -> End {
+    match end {
+        End::NoMoreWork => End::Exhausted,
+        End::Exhausted => End::NoMoreWork,
+    }
+}
+
+/// A copy of the entry.
 pub(crate) fn copied(alloc: Global, entry: &Entry) -> Result<Entry, Fail> {
     let copy = match entry {
         Entry::Putting {
@@ -51,6 +66,11 @@ pub(crate) fn copied(alloc: Global, entry: &Entry) -> Result<Entry, Fail> {
             rank: *rank,
             call: *call,
             types: types.twin(),
+        },
+        Entry::Keeping { rank, call, common } => Entry::Keeping {
+            rank: *rank,
+            call: *call,
+            common: common.twin(alloc)?,
         },
         Entry::Exhausted => Entry::Exhausted,
         plain => return plain_copy(plain),
@@ -91,8 +111,30 @@ fn plain_copy(entry: &Entry) -> Result<Entry, Fail> {
             call,
             info,
         },
+        Entry::Done { rank, call } => Entry::Done { rank, call },
         Entry::Over { rank, call, end } => Entry::Over { rank, call, end },
         Entry::Finished { rank, call } => Entry::Finished { rank, call },
+        _ => return part_copy(entry),
+    };
+    Ok(copy)
+}
+
+// A copy of an entry about a batch that has begun.
+fn part_copy(entry: &Entry) -> Result<Entry, Fail> {
+    let copy = match *entry {
+        Entry::Kept { server, batch } => Entry::Kept { server, batch },
+        Entry::Closing { rank, call } => Entry::Closing { rank, call },
+        Entry::Closed { server, batch } => Entry::Closed { server, batch },
+        Entry::Freed { server, batch } => Entry::Freed { server, batch },
+        Entry::CommonFetched {
+            server,
+            rank,
+            batch,
+        } => Entry::CommonFetched {
+            server,
+            rank,
+            batch,
+        },
         _ => return moving_copy(entry),
     };
     Ok(copy)
@@ -111,7 +153,8 @@ fn moving_copy(entry: &Entry) -> Result<Entry, Fail> {
 }
 
 /// The entry with one change, by which it is no step where it was one: a call of another number, a unit that was not put,
-/// another charge, another number of free units, another end; an end in place of exhaustion, and a Finish in place of a put.
+/// or a batch that was not begun, another charge, another number of free units, another end; an end in place of exhaustion, and a
+/// Finish in place of a put or of the beginning of a batch.
 pub(crate) fn changed(entry: &Entry) -> Result<Entry, Fail> {
     let changed = match entry {
         Entry::Asked { rank, call, types } => Entry::Asked {
@@ -124,7 +167,7 @@ pub(crate) fn changed(entry: &Entry) -> Result<Entry, Fail> {
             call: call.wrapping_add(1),
             types: types.twin(),
         },
-        Entry::Putting { rank, call, .. } => Entry::Finished {
+        Entry::Putting { rank, call, .. } | Entry::Keeping { rank, call, .. } => Entry::Finished {
             rank: *rank,
             call: call.wrapping_add(1),
         },
@@ -175,14 +218,51 @@ fn changed_plain(entry: &Entry) -> Result<Entry, Fail> {
             call,
             info: one_more(info),
         },
-        Entry::Over { rank, call, .. } => Entry::Over {
+        Entry::Over { rank, call, end } => Entry::Over {
             rank,
             call,
-            end: End::NoMoreWork,
+            end: other_end(end),
+        },
+        Entry::Closing { rank, call } => Entry::Closing {
+            rank,
+            call: call.wrapping_add(1),
+        },
+        Entry::Done { rank, call } => Entry::Done {
+            rank,
+            call: call.wrapping_add(1),
         },
         Entry::Finished { rank, call } => Entry::Finished {
             rank,
             call: call.wrapping_add(1),
+        },
+        _ => return with_other_batch(entry),
+    };
+    Ok(changed)
+}
+
+// An entry about a batch, with another batch.
+fn with_other_batch(entry: &Entry) -> Result<Entry, Fail> {
+    let changed = match *entry {
+        Entry::Kept { server, batch } => Entry::Kept {
+            server,
+            batch: other_batch(batch),
+        },
+        Entry::Closed { server, batch } => Entry::Closed {
+            server,
+            batch: other_batch(batch),
+        },
+        Entry::Freed { server, batch } => Entry::Freed {
+            server,
+            batch: other_batch(batch),
+        },
+        Entry::CommonFetched {
+            server,
+            rank,
+            batch,
+        } => Entry::CommonFetched {
+            server,
+            rank,
+            batch: other_batch(batch),
         },
         _ => return with_other_unit(entry),
     };

@@ -1,4 +1,4 @@
-//! Runs that are driven at random, 200 of them with several servers, and each with one entry changed.
+//! Runs that are driven at random, three of four with several servers, and each with one entry changed.
 
 use crate::calls::Words;
 use crate::changes::{changed, copied};
@@ -10,7 +10,7 @@ use std::alloc::Global;
 use std::test::Fail;
 
 /// How many runs.
-const RUNS: u64 = 272;
+const RUNS: u64 = 2000;
 
 // The ledger of these entries, the one at this place changed.
 fn with_change(alloc: Global, entries: &[Entry], place: usize) -> Result<Ledger, Fail> {
@@ -37,10 +37,10 @@ fn config_of(number: u64) -> Result<Config, Fail> {
     }
 }
 
-// Each of so many ranks was told that all work is used up.
-fn all_are_told(entries: &[Entry], ranks: u32) -> bool {
+// Each of so many ranks was told an end, and has finished.
+fn all_have_finished(entries: &[Entry], ranks: u32) -> bool {
     for rank in 0..ranks {
-        if !entries.iter().any(|e| tells_of(e, rank)) {
+        if !entries.iter().any(|e| tells_of(e, rank)) || !entries.iter().any(|e| ends(e, rank)) {
             return false;
         }
     }
@@ -49,11 +49,14 @@ fn all_are_told(entries: &[Entry], ranks: u32) -> bool {
 
 fn tells_of(entry: &Entry, number: u32) -> bool {
     match entry {
-        Entry::Over {
-            rank,
-            end: End::Exhausted,
-            ..
-        } => rank.0 == number,
+        Entry::Over { rank, .. } => rank.0 == number,
+        _ => false,
+    }
+}
+
+fn ends(entry: &Entry, number: u32) -> bool {
+    match entry {
+        Entry::Finished { rank, .. } => rank.0 == number,
         _ => false,
     }
 }
@@ -71,8 +74,9 @@ fn is_judged(alloc: Global, ledger: &Ledger, config: &Config, number: u64) -> Re
 
 // What some run has shown: a put that each server refused; a unit that went to a waiting rank as it came; a count of some unit; a
 // look at one server behind another; a try with several servers that was granted; a unit that another server than the home had for a
-// rank that reserved, and one that came there only after the rank had asked; a unit that moved, and a push that was taken back; and in
-// how many runs with several servers a unit moved; and how many entries all have.
+// rank that reserved, and one that came there only after the rank had asked; a push that was taken back; in how many runs with several
+// servers a unit moved, in how many these found that all work is used up, in how many the problem was done, and in how many a common
+// part was freed; and how many entries all have.
 #[derive(Debug, Default, Drop)]
 struct Seen {
     rejects: bool,
@@ -84,6 +88,9 @@ struct Seen {
     hinted: bool,
     withdrawn: bool,
     moved: u32,
+    found: u32,
+    done: u32,
+    freed: u32,
     entries: usize,
 }
 
@@ -95,9 +102,14 @@ impl Seen {
         self.counts |= entries.iter().any(is_count);
         self.looks_on |= entries.windows(2).any(is_look_on);
         self.withdrawn |= entries.iter().any(|e| matches!(e, Entry::Withdrawn { .. }));
-        if entries.iter().any(|e| matches!(e, Entry::Arrived { .. })) {
-            self.moved = self.moved.saturating_add(1);
-        }
+        let moves = entries.iter().any(|e| matches!(e, Entry::Arrived { .. }));
+        let is_done = entries.iter().any(|e| matches!(e, Entry::Done { .. }));
+        let frees = entries.iter().any(|e| matches!(e, Entry::Freed { .. }));
+        let finds = entries.iter().any(|e| matches!(e, Entry::Exhausted));
+        self.moved = more_if(self.moved, moves);
+        self.done = more_if(self.done, is_done);
+        self.freed = more_if(self.freed, frees);
+        self.found = more_if(self.found, finds && servers > 1);
         for (place, entry) in entries.iter().enumerate() {
             if let Entry::Granted {
                 server,
@@ -125,8 +137,20 @@ impl Seen {
             && self.far
             && self.hinted
             && self.withdrawn
-            && self.moved > 150
-            && self.entries > 8000
+            && self.moved > 800
+            && self.found > 1000
+            && self.done > 300
+            && self.freed > 1200
+            && self.entries > 200000
+    }
+}
+
+// One more, if it is so.
+fn more_if(count: u32, is_so: bool) -> u32 {
+    if is_so {
+        count.saturating_add(1)
+    } else {
+        count
     }
 }
 
@@ -152,7 +176,7 @@ fn driven_runs_are_legal_and_one_change_shows(rt: HostRuntime) -> Result<(), Fai
         let world = driven(rt.alloc(), config, number)?;
         let entries = world.ledger().entries();
         let judged = is_judged(rt.alloc(), world.ledger(), &config, number)?;
-        let told = config.servers > 1 || all_are_told(entries, config.ranks);
+        let told = all_have_finished(entries, config.ranks);
         seen.look(entries, config.servers);
         assert!(rt; judged && told, "run {number}");
     }

@@ -1,10 +1,13 @@
-//! Runs by hand in which homes ask other servers for their ranks, and units move to where there is room.
+//! Runs by hand in which homes ask other servers for their ranks, units move to where there is room, and all work is found used up.
 
-use adlb_unit::{Actor, Config, Payload, Rank, Server, Target, Types, UnitId, WorkType};
+ghost use Rattle.std.specs.Prelude.{◌≡◌};
+
+use adlb_unit::{Actor, Config, End, Payload, Rank, Server, Target, Types, UnitId, WorkType};
 use bag_ledger::{Call, Entry};
 use core_run::Event;
 use core_world::World;
 use ledger_checker::first_illegal;
+use server_core::LeftUnit;
 use std::alloc::Global;
 use std::test::Fail;
 
@@ -20,12 +23,18 @@ enum Does {
     // The rank reserves a unit of any type, or of this one.
     Reserves(u32),
     ReservesOf(u32, u32),
+    // The rank tries for a unit of any type; says that the problem is done; and finishes.
+    Tries(u32),
+    SetsDone(u32),
+    Finishes(u32),
     Up(u32, u32),
     Across(u32, u32),
     Down(u32, u32),
 }
 
-use Does::{Across, Down, Fetches, Puts, PutsLong, Reserves, ReservesOf, Up};
+use Does::{
+    Across, Down, Fetches, Finishes, Puts, PutsLong, Reserves, ReservesOf, SetsDone, Tries, Up,
+};
 
 // What happens in a run of so many ranks and servers, the ledger that it leaves, each entry as `row` has it, and how many letters are
 // under way at its end.
@@ -37,27 +46,7 @@ struct Scene {
     letters: u64,
 }
 
-const SCENES: [Scene; 15] = [
-    // Rank 1 is idle when rank 0 puts a unit at the other server, which hints: the home asks again, and the unit is granted there.
-    Scene {
-        ranks: 2,
-        servers: 2,
-        events: &[
-            Reserves(1),
-            Up(1, 1),
-            Across(1, 0),
-            Across(0, 1),
-            Puts(0, 1, Target::Any),
-            Up(0, 0),
-            Down(0, 0),
-            Across(0, 1),
-            Across(1, 0),
-            Across(0, 1),
-            Down(1, 1),
-        ],
-        ledger: "asked 1; putting 0; accepted 0; granted 0 to 1; ",
-        letters: 0,
-    },
+const SCENES: [Scene; 21] = [
     // The home looks at its own queue again after the other server had none: the unit that came meanwhile is granted, not before.
     Scene {
         ranks: 2,
@@ -92,7 +81,7 @@ const SCENES: [Scene; 15] = [
         ledger: "putting 2; accepted 2; asked 0; granted 2 to 0; ",
         letters: 1,
     },
-    // No server has one: the rank is idle, and nothing is under way.
+    // No server has one: the rank is idle, and a check is begun.
     Scene {
         ranks: 3,
         servers: 3,
@@ -105,7 +94,7 @@ const SCENES: [Scene; 15] = [
             Across(2, 0),
         ],
         ledger: "asked 0; ",
-        letters: 0,
+        letters: 1,
     },
     // While the third server is asked, the second hints: it is asked again after the third.
     Scene {
@@ -148,7 +137,7 @@ const SCENES: [Scene; 15] = [
             Across(0, 1),
         ],
         ledger: "asked 1; putting 0; accepted 1; granted 1 to 1; putting 0; accepted 1; putting 0; accepted 0; ",
-        letters: 2,
+        letters: 3,
     },
     // A unit that is another rank's alone, or of another type, is not granted to a rank that is asked for.
     Scene {
@@ -185,6 +174,7 @@ const SCENES: [Scene; 15] = [
             Up(0, 0),
             Across(0, 1),
             Across(0, 1),
+            Across(1, 0),
             Across(1, 0),
             Across(1, 0),
             Across(0, 1),
@@ -352,6 +342,224 @@ const SCENES: [Scene; 15] = [
             arrived 0; ",
         letters: 2,
     },
+    // Rank 1 is idle when rank 0 puts a unit at the other server, which hints: the home asks again, and the unit is granted there.
+    // Rank 0 then finds none at either server.
+    Scene {
+        ranks: 2,
+        servers: 2,
+        events: &[
+            Reserves(1),
+            Up(1, 1),
+            Across(1, 0),
+            Across(0, 1),
+            Puts(0, 1, Target::Any),
+            Up(0, 0),
+            Down(0, 0),
+            Across(0, 1),
+            Across(1, 0),
+            Across(1, 0),
+            Across(0, 1),
+            Down(1, 1),
+            Tries(0),
+            Up(0, 0),
+            Down(0, 0),
+            Up(0, 1),
+            Down(1, 0),
+        ],
+        ledger: "asked 1; putting 0; accepted 0; granted 0 to 1; tried 0; looked 0; looked 1; no current 0; ",
+        letters: 0,
+    },
+    // Rank 0 says that the problem is done: the rank that waits at the other server is told, and so is each later call.
+    Scene {
+        ranks: 2,
+        servers: 2,
+        events: &[
+            Reserves(1),
+            Up(1, 1),
+            Across(1, 0),
+            Across(0, 1),
+            SetsDone(0),
+            Up(0, 0),
+            Down(0, 0),
+            Up(0, 1),
+            Down(1, 1),
+            Down(1, 0),
+            Puts(0, 1, Target::Any),
+            Up(0, 0),
+            Down(0, 0),
+            Reserves(0),
+        ],
+        ledger: "asked 1; done 0; no more 1; putting 0; no more 0; asked 0; no more 0; ",
+        letters: 1,
+    },
+    // A rank for which another server is asked is told only once that server has answered.
+    Scene {
+        ranks: 2,
+        servers: 2,
+        events: &[
+            Reserves(1),
+            Up(1, 1),
+            SetsDone(0),
+            Up(0, 0),
+            Down(0, 0),
+            Up(0, 1),
+            Down(1, 0),
+            Across(1, 0),
+            Across(0, 1),
+            Down(1, 1),
+        ],
+        ledger: "asked 1; done 0; no more 1; ",
+        letters: 0,
+    },
+    // One rank looks at each of three servers, before and after it says that the problem is done.
+    Scene {
+        ranks: 1,
+        servers: 3,
+        events: &[
+            Tries(0),
+            Up(0, 0),
+            Down(0, 0),
+            Up(0, 1),
+            Down(1, 0),
+            Up(0, 2),
+            Down(2, 0),
+            SetsDone(0),
+            Up(0, 0),
+            Down(0, 0),
+            Up(0, 1),
+            Down(1, 0),
+            Up(0, 2),
+            Down(2, 0),
+            Tries(0),
+            Up(0, 0),
+            Down(0, 0),
+            Puts(0, 1, Target::Any),
+        ],
+        ledger: "tried 0; looked 0; looked 1; looked 2; no current 0; done 0; tried 0; no more 0; putting 0; no more 0; ",
+        letters: 4,
+    },
+    // All ranks wait while a unit travels: two checks fail, since its server is busy, and the third finds that all work is used up.
+    Scene {
+        ranks: 2,
+        servers: 2,
+        events: &[
+            ReservesOf(0, 2),
+            Up(0, 0),
+            Across(0, 1),
+            Across(1, 0),
+            PutsLong(1, 60, 0),
+            Up(1, 1),
+            Down(1, 1),
+            ReservesOf(1, 2),
+            Up(1, 1),
+            Across(1, 0),
+            Across(1, 0),
+            Across(0, 1),
+            Across(0, 1),
+            Across(0, 1),
+            Across(1, 0),
+            Across(0, 1),
+            Across(1, 0),
+            Across(1, 0),
+            Across(0, 1),
+            Across(0, 1),
+            Across(1, 0),
+            Across(1, 0),
+            Across(0, 1),
+            Across(1, 0),
+            Across(0, 1),
+            Down(0, 0),
+            Down(1, 1),
+        ],
+        ledger: "asked 0; putting 1; accepted 1; asked 1; promised 0; left 1 to 0; arrived 0; exhausted; used up 0; used up 1; ",
+        letters: 0,
+    },
+    // Of three servers the last has a push that is open as the token comes: the check fails. The next one finds that all is used up.
+    Scene {
+        ranks: 3,
+        servers: 3,
+        events: &[
+            PutsLong(2, 60, 0),
+            Up(2, 2),
+            Down(2, 2),
+            ReservesOf(0, 2),
+            Up(0, 0),
+            ReservesOf(1, 2),
+            Up(1, 1),
+            ReservesOf(2, 2),
+            Up(2, 2),
+            Across(0, 1),
+            Across(1, 0),
+            Across(0, 2),
+            Across(1, 2),
+            Across(2, 1),
+            Across(1, 0),
+            Across(0, 1),
+            Across(2, 0),
+            Across(2, 0),
+            Across(0, 2),
+            Across(0, 2),
+            Across(2, 1),
+            Across(1, 2),
+            Across(2, 0),
+            Across(0, 1),
+            Across(1, 2),
+            Across(2, 0),
+            Across(2, 0),
+            Across(0, 2),
+            Across(0, 1),
+            Across(1, 2),
+            Across(2, 0),
+            Across(2, 0),
+            Across(0, 1),
+            Across(1, 2),
+            Across(2, 0),
+            Across(0, 1),
+            Across(0, 2),
+        ],
+        ledger: "putting 2; accepted 2; asked 0; asked 1; asked 2; promised 0; left 2 to 0; arrived 0; exhausted; used up 0; \
+            used up 1; used up 2; ",
+        letters: 5,
+    },
+    // A hint is under way for a unit that fits rank 0 as the token goes round: the check fails where the unit is, and rank 0 gets it.
+    Scene {
+        ranks: 3,
+        servers: 3,
+        events: &[
+            ReservesOf(1, 2),
+            Up(1, 1),
+            Across(1, 2),
+            Across(2, 1),
+            Across(1, 0),
+            Across(0, 1),
+            ReservesOf(0, 1),
+            Up(0, 0),
+            Across(0, 1),
+            Across(1, 0),
+            Across(1, 0),
+            Puts(2, 1, Target::Soft(Rank(1))),
+            Up(2, 1),
+            Down(1, 2),
+            ReservesOf(2, 2),
+            Up(2, 2),
+            Across(2, 0),
+            Across(0, 2),
+            Across(0, 2),
+            Across(2, 1),
+            Across(1, 2),
+            Across(2, 0),
+            Across(2, 0),
+            Across(0, 1),
+            Across(1, 2),
+            Across(2, 0),
+            Across(0, 1),
+            Across(1, 0),
+            Across(1, 0),
+            Across(0, 1),
+        ],
+        ledger: "asked 1; asked 0; putting 2; accepted 1; asked 2; granted 1 to 0; ",
+        letters: 5,
+    },
 ];
 
 fn event(alloc: Global, does: Does) -> Result<Event, Fail> {
@@ -372,6 +580,14 @@ fn event(alloc: Global, does: Does) -> Result<Event, Fail> {
             };
             reserve(rank, types)
         }
+        Tries(rank) => Event::Call(
+            Rank(rank),
+            Call::Try {
+                types: Types::any(),
+            },
+        ),
+        SetsDone(rank) => Event::Call(Rank(rank), Call::SetDone),
+        Finishes(rank) => Event::Call(Rank(rank), Call::Finish),
         Up(rank, server) => Event::Deliver(a_rank(rank), a_server(server)),
         Across(from, to) => Event::Deliver(a_server(from), a_server(to)),
         Down(server, rank) => Event::Deliver(a_server(server), a_rank(rank)),
@@ -426,6 +642,9 @@ fn row(alloc: Global, entry: &Entry) -> Result<String, Fail> {
             format!(in alloc; "refused {} by {used}; ", server.0)?
         }
         Entry::Rejected { rank, .. } => format!(in alloc; "rejected {}; ", rank.0)?,
+        Entry::Tried { rank, .. } => format!(in alloc; "tried {}; ", rank.0)?,
+        Entry::Looked { server, .. } => format!(in alloc; "looked {}; ", server.0)?,
+        Entry::NoCurrent { rank, .. } => format!(in alloc; "no current {}; ", rank.0)?,
         moving => moving_row(alloc, moving)?,
     })
 }
@@ -437,6 +656,26 @@ fn moving_row(alloc: Global, entry: &Entry) -> Result<String, Fail> {
         Entry::Left { server, to, .. } => format!(in alloc; "left {} to {}; ", server.0, to.0)?,
         Entry::Arrived { server, .. } => format!(in alloc; "arrived {}; ", server.0)?,
         Entry::Withdrawn { server, .. } => format!(in alloc; "withdrawn {}; ", server.0)?,
+        ending => ending_row(alloc, ending)?,
+    })
+}
+
+// Of what ends calls and runs, the rank, and of an end which one it is.
+fn ending_row(alloc: Global, entry: &Entry) -> Result<String, Fail> {
+    Ok(match entry {
+        Entry::Done { rank, .. } => format!(in alloc; "done {}; ", rank.0)?,
+        Entry::Exhausted => format!(in alloc; "exhausted; ")?,
+        Entry::Over {
+            rank,
+            end: End::Exhausted,
+            ..
+        } => format!(in alloc; "used up {}; ", rank.0)?,
+        Entry::Over {
+            rank,
+            end: End::NoMoreWork,
+            ..
+        } => format!(in alloc; "no more {}; ", rank.0)?,
+        Entry::Finished { rank, .. } => format!(in alloc; "finished {}; ", rank.0)?,
         _ => format!(in alloc; "another entry; ")?,
     })
 }
@@ -471,9 +710,9 @@ fn shown(alloc: Global, scene: &Scene) -> Result<String, Fail> {
         return Err("no configuration".into());
     };
     let mut world = World::new(alloc, config)?;
-    for does in scene.events {
+    for (at, does) in scene.events.iter().enumerate() {
         if world.apply(event(alloc, *does)?).is_err() {
-            return Err("an event was refused".into());
+            return Ok(format!(in alloc; "event {at} was refused")?);
         }
     }
     if first_illegal(alloc, world.ledger(), &config) != Ok(None) {
@@ -482,6 +721,55 @@ fn shown(alloc: Global, scene: &Scene) -> Result<String, Fail> {
     let rows = rows(alloc, world.ledger().entries())?;
     let letters = letters(&world, scene.ranks, scene.servers);
     Ok(format!(in alloc; "{rows}{letters}")?)
+}
+
+// Where all work is found used up while a unit is left: at server 0, not pinned, and nothing at server 1.
+const LEFT: usize = 18;
+
+// A world that is stepped, whose configuration stays.
+#[derive(Drop)]
+struct Stepped {
+    world: World,
+    config: Config,
+    ghost stepped_is: { world.world.config ≡ config },
+}
+
+impl Stepped {
+    fn apply(&mut self, event: Event) -> Result<(), Fail> {
+        if self.world.apply(event).is_err() {
+            return Err("an event was refused".into());
+        }
+        Ok(())
+    }
+
+    // The units at the server of this number.
+    fn left(&self, number: u32) -> Result<Vec<LeftUnit>, Fail> {
+        if number >= self.config.servers {
+            return Err("no such server".into());
+        }
+        Ok(self.world.left(Server(number))?)
+    }
+}
+
+#[test]
+fn what_is_left_is_told(rt: HostRuntime) -> Result<(), Fail> {
+    let Ok(config) = Config::new(2, 2, 64) else {
+        return Err("no configuration".into());
+    };
+    let mut stepped = Stepped {
+        world: World::new(rt.alloc(), config)?,
+        config,
+    };
+    for does in SCENES[LEFT].events {
+        stepped.apply(event(rt.alloc(), *does)?)?;
+    }
+    let first = stepped.left(0)?;
+    let second = stepped.left(1)?;
+    assert!(rt; first.len() == 1 && second.is_empty());
+    assert!(rt;
+        first.iter().all(|unit| unit.id.rank.0 == 1 && unit.server.0 == 0 && unit.pinned.is_none())
+    );
+    Ok(())
 }
 
 #[test]

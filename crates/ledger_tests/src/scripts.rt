@@ -14,7 +14,7 @@ use std::test::Fail;
 const CALLS: u64 = 16;
 
 /// More events than a run has.
-const EVENTS: u32 = 4000;
+const EVENTS: u32 = 20000;
 
 // What can happen next.
 #[derive(Clone, Copy)]
@@ -35,7 +35,7 @@ struct GoingRun {
     ghost run_is: { world.world.config ≡ config },
 }
 
-/// The world in which nothing is enabled any more, after events that this number chooses.
+/// The world in which nothing is enabled any more, after events that this number chooses, and in which each server has ended.
 pub(crate) fn driven(alloc: Global, config: Config, number: u64) -> Result<World, Fail> {
     let mut run = GoingRun {
         world: World::new(alloc, config)?,
@@ -45,7 +45,11 @@ pub(crate) fn driven(alloc: Global, config: Config, number: u64) -> Result<World
     };
     for _ in 0..EVENTS {
         if !run.goes_on(alloc)? {
-            return Ok(run.world);
+            return if run.all_have_ended() {
+                Ok(run.world)
+            } else {
+                Err("a server has not ended".into())
+            };
         }
     }
     Err("the run goes on".into())
@@ -83,7 +87,7 @@ impl GoingRun {
         for place in 0..actors * actors {
             let from = self.actor(place / actors.max(1));
             let to = self.actor(place % actors.max(1));
-            if self.world.waiting(from, to) > 0 {
+            if self.world.waiting(from, to) > 0 && !self.has_ended(to) {
                 choices.push(Choice::Delivers(from, to))?;
             }
         }
@@ -93,6 +97,26 @@ impl GoingRun {
             }
         }
         Ok(choices)
+    }
+
+    // Each server is shut, and has handled each rank's Finish letter.
+    fn all_have_ended(&self) -> bool {
+        for number in 0..self.config.servers {
+            if !self.has_ended(Actor::Server(Server(number))) {
+                return false;
+            }
+        }
+        true
+    }
+
+    // It is a server that handles no letter more.
+    fn has_ended(&self, actor: Actor) -> bool {
+        match actor {
+            Actor::Rank(_) => false,
+            Actor::Server(server) => {
+                server.0 < self.config.servers && self.world.has_ended(server)
+            }
+        }
     }
 
     // The actor of this number, the ranks before the servers.
@@ -123,11 +147,12 @@ impl GoingRun {
         let made = *begun;
         *begun = made.saturating_add(1);
         let said = self.world.transcript(rank);
+        let open = self.world.batch_open(rank);
         let ended = is_ended(said);
         if made < CALLS && !ended {
-            call(alloc, &mut self.words, self.config, said)
+            call(alloc, &mut self.words, self.config, said, open)
         } else {
-            Ok(last_call(ended))
+            Ok(last_call(ended, open))
         }
     }
 }

@@ -1,0 +1,7 @@
+-- What is asked of the bag where exhaustion is found: with one server that all is settled; with several nothing, which is set aside here.
+use Rattle.std.specs.Prelude.{◌==◌, Bool, true, if◌then◌else◌}
+use Rattle.adlb_unit.specs.declared.configs.Config.{Config}
+use Rattle.bag_ledger.specs.Bag.{Bag, settled}
+
+abbrev pub found_in : Config → Bag → Bool
+found_in config b = if config.servers == 1 then settled b else true
