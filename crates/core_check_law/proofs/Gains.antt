@@ -1,0 +1,226 @@
+-- Once it is over no rank gains anything.
+use Rattle.std.proofs.Common.{◌≡◌, ◌<◌, ◌⊎◌, inl, inr, ℕ, Bool, true, false, ◌||◌, List, [], ◌∷◌, ◌++◌, length, Option, None, Some, refl, sym, ap, ◌∙◌, subst, arith}
+use Rattle.std.specs.List.{list_any}
+use Rattle.std.proofs.lemmas.List.{length-replicate}
+use Rattle.std.proofs.lemmas.Option.{slice_get_within}
+use Rattle.adlb_unit.specs.Ids.{same_unit}
+use Rattle.adlb_unit.specs.declared.configs.Config.{Config}
+use Rattle.adlb_unit.specs.declared.messages.Message.{Message}
+use Rattle.adlb_unit.specs.declared.messages.Message.TheVariants as tells
+use Rattle.adlb_unit.specs.declared.names.CommonRef.{CommonRef}
+use Rattle.adlb_unit.specs.declared.names.Rank.{Rank}
+use Rattle.adlb_unit.specs.declared.names.WorkType.{WorkType}
+use Rattle.adlb_unit.specs.declared.notes.End.{End}
+use Rattle.adlb_unit.specs.declared.notes.UnitNote.{UnitNote}
+use Rattle.bag_ledger.specs.Bag.{Bag, open_call, rank_at, settled, start as empty_bag, wish}
+use Rattle.bag_ledger.specs.Runs.{IsRun, IsRunWhere}
+use Rattle.bag_ledger.specs.Steps.{LegalWhere, after}
+use Rattle.bag_ledger.specs.declared.entries.Entry.{Entry}
+use Rattle.bag_ledger.specs.declared.entries.Entry.TheVariants as enters
+use Rattle.bag_ledger.specs.declared.states.Placed.{Placed}
+use Rattle.bag_ledger.specs.declared.states.RankState.{RankState}
+use Rattle.bag_ledger.specs.declared.states.Status.{Status}
+use Rattle.bag_ledger.specs.declared.states.Status.TheVariants as is_at
+use Rattle.bag_law.proofs.Plain.{accepted_is, kept_is}
+use Rattle.rank_client.specs.Agreement.{in_call, own_fetched, rank_of}
+use Rattle.rank_client.specs.State.{ClientModel}
+use Rattle.rank_client.specs.declared.pendings.Pending.{Pending}
+use Rattle.rank_client.specs.declared.pendings.Pending.TheVariants as waits_for
+use Rattle.core_law.proofs.Onward.{still_exhausted}
+use Rattle.core_law.proofs.Resting.{ranks_stay}
+use Rattle.core_law.proofs.UnderWay.{each_append, each_parts}
+use Rattle.core_check_law.specs.After.{AllOver, AreIdle, IsOver, IsTold, gains}
+use Rattle.core_check_law.proofs.Modest.{is_open}
+use Rattle.core_check_law.proofs.Runs.{is_finding}
+use Rattle.core_check_law.proofs.Over.{grant_stirs, is_coming, over_stays, settled_over}
+
+-- A rank that was told an end has no call pending that brings or wants something.
+
+abbrev pub IsClosed : RankState → Type 0
+IsClosed x = IsTold x → open_call x.status ≡ None
+
+-- of each rank
+abbrev pub AllClosed : Bag → Type 0
+AllClosed b = (rank : Rank) (x : RankState) → rank_at b rank ≡ Some x → IsClosed x
+
+abbrev ClosesIn : ClientModel → Pending → Type 0
+ClosesIn c p = (end : End) → c.end ≡ Some end → is_open p ≡ false
+
+no_more : {X : Type 0} (c : ClientModel) (p : Pending) → ClosesIn c p → is_open p ≡ true → (end : End) → c.end ≡ Some end → X
+no_more c p modest opens end told = let closed = modest end told in let both : true ≡ false = sym opens ∙ closed in absurd (cc)
+
+fetch_closed : (c : ClientModel) (request : ℕ) (note : UnitNote) (o : Option CommonRef) → IsClosed (own_fetched c request note o)
+fetch_closed c request note None told = refl
+fetch_closed c request note (Some common) told = refl
+
+call_closed : (c : ClientModel) (p : Pending) (coming : Option Message) → ClosesIn c p → IsClosed (in_call c p coming)
+call_closed c waits_for.Nothing coming modest told = refl
+call_closed c (waits_for.Put unit first tried) None modest told = no_more c (waits_for.Put unit first tried) modest refl told.0 told.1
+call_closed c (waits_for.Put unit first tried) (Some (tells.Full to charge)) modest told =
+    no_more c (waits_for.Put unit first tried) modest refl told.0 told.1
+call_closed c (waits_for.Put unit first tried) (Some (tells.Ended to end)) modest told = refl
+call_closed c (waits_for.Put unit first tried) (Some _) modest told = refl
+call_closed c (waits_for.Reserve request types) None modest told = no_more c (waits_for.Reserve request types) modest refl told.0 told.1
+call_closed c (waits_for.Reserve request types) (Some (tells.Ended to end)) modest told = refl
+call_closed c (waits_for.Reserve request types) (Some _) modest told = refl
+call_closed c (waits_for.Try request types tried) None modest told = no_more c (waits_for.Try request types tried) modest refl told.0 told.1
+call_closed c (waits_for.Try request types tried) (Some (tells.Nothing to)) modest told =
+    no_more c (waits_for.Try request types tried) modest refl told.0 told.1
+call_closed c (waits_for.Try request types tried) (Some (tells.Ended to end)) modest told = refl
+call_closed c (waits_for.Try request types tried) (Some _) modest told = refl
+call_closed c (waits_for.Fetch request note) None modest told = refl
+call_closed c (waits_for.Fetch request note) (Some m) modest told = fetch_closed c request note note.common told
+call_closed c (waits_for.Common request note common own) None modest told = refl
+call_closed c (waits_for.Common request note common own) (Some m) modest told = refl
+call_closed c (waits_for.Keep request common first tried) None modest told =
+    no_more c (waits_for.Keep request common first tried) modest refl told.0 told.1
+call_closed c (waits_for.Keep request common first tried) (Some (tells.Full to charge)) modest told =
+    no_more c (waits_for.Keep request common first tried) modest refl told.0 told.1
+call_closed c (waits_for.Keep request common first tried) (Some (tells.Ended to end)) modest told = refl
+call_closed c (waits_for.Keep request common first tried) (Some _) modest told = refl
+call_closed c (waits_for.Close request batch) None modest told = refl
+call_closed c (waits_for.Close request batch) (Some m) modest told = refl
+call_closed c (waits_for.Count request kind) None modest told = refl
+call_closed c (waits_for.Count request kind) (Some m) modest told = refl
+call_closed c (waits_for.SetDone request tried) coming modest told = refl
+
+pub client_closed : (c : ClientModel) (finished : Bool) (coming : Option Message) → ClosesIn c c.pending
+    → IsClosed (rank_of c finished coming)
+client_closed c true coming modest told = refl
+client_closed c false coming modest told = call_closed c c.pending coming modest told
+
+pub rank_inside : (found : Bag → Bool) (config : Config) (es : List Entry) (b : Bag) (rank : Rank) (x : RankState)
+    → IsRunWhere found (empty_bag config) es b → rank_at b rank ≡ Some x → rank.0 < config.ranks
+rank_inside found config es b rank x run here =
+    let low = slice_get_within b.ranks rank.0 x here in
+    let count = ranks_stay found (empty_bag config) b es run in
+    let all : length (empty_bag config).ranks ≡ config.ranks = length-replicate config.ranks _ in
+    omega arith
+
+-- No gain.
+
+wish_open : (s : Status) (p : ℕ × Option (List WorkType)) → wish s ≡ Some p → open_call s ≡ None → ⊥
+wish_open (is_at.Asking call types) p wants closed = absurd (cc)
+wish_open (is_at.Trying call types) p wants closed = absurd (cc)
+wish_open _ p wants closed = absurd (cc)
+
+-- it brings something: so it has neither finished nor asks, and was told no end
+brings_none : (b : Bag) (rank : Rank) (x : RankState) (call : ℕ) → IsOver b rank x → IsClosed x → open_call x.status ≡ Some call
+    → wish x.status ≡ None → ⊥
+brings_none b rank x call (inl e) closed opens other =
+    let none : open_call is_at.Finished ≡ Some call = ap open_call (sym e) ∙ opens in absurd (cc)
+brings_none b rank x call (inr (inl vain)) closed opens other =
+    let some : wish (is_at.Asking vain.0 vain.1) ≡ None = ap wish (sym vain.2) ∙ other in absurd (cc)
+brings_none b rank x call (inr (inr told)) closed opens other =
+    let none : Some call ≡ None = sym opens ∙ closed told in absurd (cc)
+
+pub no_gain : (found : Bag → Bool) (b : Bag) (e : Entry) → LegalWhere found b e → AllOver b → AllClosed b → gains e ≡ false
+no_gain found b (enters.Accepted server id) l over closed =
+    absurd (brings_none b id.rank l.0 (l.1).id.number (over id.rank l.0 l.2) (closed id.rank l.0 l.2) (ap open_call l.3) (ap wish l.3))
+no_gain found b (enters.Kept server batch) l over closed =
+    absurd (brings_none b batch.rank l.0 batch.number (over batch.rank l.0 l.2) (closed batch.rank l.0 l.2) (ap open_call l.3)
+    (ap wish l.3))
+no_gain found b (enters.Granted server rank call id) l over closed = absurd (by_over (over rank l.0 l.3))
+  where
+    by_over : IsOver b rank l.0 → ⊥
+    by_over (inl e) =
+        grant_stirs b rank l.0 call l.1 l.2 server l.4 (λ (u : Placed). same_unit u.unit.id id) l.6.0 l.6.1 l.7 (inl e)
+    by_over (inr (inl vain)) =
+        grant_stirs b rank l.0 call l.1 l.2 server l.4 (λ (u : Placed). same_unit u.unit.id id) l.6.0 l.6.1 l.7 (inr vain)
+    by_over (inr (inr told)) = wish_open (l.0).status (call, l.1) l.4 (closed rank l.0 l.3 told)
+no_gain found b _ l over closed = refl
+
+-- Along a run.
+
+pub idle_stays : (e : Entry) → gains e ≡ false → is_coming e ≡ false
+idle_stays (enters.Accepted server id) idle = absurd (cc)
+idle_stays _ idle = refl
+
+exhausted_same : (found : Bag → Bool) (b : Bag) (e : Entry) → LegalWhere found b e → is_finding e ≡ false
+    → (after b e).exhausted ≡ b.exhausted
+exhausted_same found b (enters.Accepted server id) l other = (accepted_is b server id l).exhausted
+exhausted_same found b (enters.Kept server batch) l other = ap (λ (x : Bag). x.exhausted) (kept_is b server batch l)
+exhausted_same found b enters.Exhausted l other = absurd (cc)
+exhausted_same found b _ l other = refl
+
+-- once it is found that all work is used up, it is over
+abbrev pub IsX : Bag → Type 0
+IsX b = b.exhausted ≡ true → AllOver b
+
+pub x_step : (b : Bag) (e : Entry) → LegalWhere settled b e → (b.exhausted ≡ true → is_coming e ≡ false) → IsX b → IsX (after b e)
+x_step b e l old x now = by_flag b.exhausted refl
+  where
+    by_entry : (e : Entry) (t : Bool) → LegalWhere settled b e → b.exhausted ≡ false → is_finding e ≡ t → (after b e).exhausted ≡ true
+        → AllOver (after b e)
+    by_entry enters.Exhausted t l off is now = over_stays settled b enters.Exhausted l refl (settled_over b l.0)
+    by_entry e true l off is now = absurd (cc)
+    by_entry e false l off is now =
+        let same : false ≡ true = sym off ∙ sym (exhausted_same settled b e l is) ∙ now in absurd (cc)
+
+    by_flag : (t : Bool) → b.exhausted ≡ t → AllOver (after b e)
+    by_flag true is = over_stays settled b e l (old is) (x is)
+    by_flag false is = by_entry e (is_finding e) l is refl now
+
+pub x_run : (es : List Entry) (b n : Bag) → IsRun b es n → AreIdle es → IsX b → IsX n
+x_run [] b n run idle x = subst IsX run x
+x_run (e ∷ es) b n run idle x =
+    let next : IsX run.0 = subst IsX (sym run.1.2) (x_step b e run.1.1 (λ found. idle_stays e idle.0) x) in
+    x_run es run.0 n run.2 idle.1 next
+
+-- Of the ledger.
+
+-- no entry behind that one is of a gain
+abbrev pub IdleBehind : Entry → List Entry → Type 0 → Type 0
+IdleBehind enters.Exhausted es rest = AreIdle es
+IdleBehind _ es rest = rest
+
+abbrev pub IdleAfter : List Entry → Type 0
+IdleAfter [] = Unit {0}
+IdleAfter (e ∷ es) = IdleBehind e es (IdleAfter es)
+
+pub found_run : (found : Bag → Bool) (es : List Entry) (b n : Bag) → IsRunWhere found b es n
+    → (b.exhausted ≡ true) ⊎ (list_any is_finding es ≡ true)
+    → n.exhausted ≡ true
+found_run found [] b n run (inl was) = ap (λ (x : Bag). x.exhausted) (sym run) ∙ was
+found_run found [] b n run (inr any) = absurd (cc)
+found_run found (e ∷ es) b n run (inl was) =
+    found_run found es run.0 n run.2 (inl (ap (λ (x : Bag). x.exhausted) run.1.2 ∙ still_exhausted b e was))
+found_run found (e ∷ es) b n run (inr any) = found_run found es run.0 n run.2 (by_entry e any run.1.2)
+  where
+    by_entry : (e : Entry) → (is_finding e || list_any is_finding es) ≡ true → run.0 ≡ after b e
+        → ((run.0).exhausted ≡ true) ⊎ (list_any is_finding es ≡ true)
+    by_entry enters.Exhausted any is = inl (ap (λ (x : Bag). x.exhausted) is)
+    by_entry _ any is = inr any
+
+first_idle : (e : Entry) (es : List Entry) → AreIdle es → IdleAfter es → IdleBehind e es (IdleAfter es)
+first_idle enters.Exhausted es idle rest = idle
+first_idle _ es idle rest = rest
+
+pub idle_after : (es : List Entry) → AreIdle es → IdleAfter es
+idle_after [] idle = tt
+idle_after (e ∷ es) idle = first_idle e es idle.1 (idle_after es idle.1)
+
+pub begun_idle : (e : Entry) (es : List Entry) → AreIdle es → IdleAfter (e ∷ es)
+begun_idle e es idle = first_idle e es idle (idle_after es idle)
+
+pub idle_grows : (ledger es : List Entry) → IdleAfter ledger → (list_any is_finding ledger ≡ true → AreIdle es) → IdleAfter es
+    → IdleAfter (ledger ++ es)
+idle_grows [] es was idle new = new
+idle_grows (e ∷ ledger) es was idle new = by_entry e was idle (λ rest later. idle_grows ledger es rest later new)
+  where
+    by_entry : (e : Entry) → IdleBehind e ledger (IdleAfter ledger) → ((is_finding e || list_any is_finding ledger) ≡ true → AreIdle es)
+        → (IdleAfter ledger → (list_any is_finding ledger ≡ true → AreIdle es) → IdleAfter (ledger ++ es))
+        → IdleBehind e (ledger ++ es) (IdleAfter (ledger ++ es))
+    by_entry enters.Exhausted was idle rest = each_append (λ (x : Entry). gains x ≡ false) ledger es was (idle refl)
+    by_entry _ was idle rest = rest was idle
+
+-- what stands behind the entry
+pub idle_behind : (before behind : List Entry) → IdleAfter (before ++ enters.Exhausted ∷ behind) → AreIdle behind
+idle_behind [] behind all = all
+idle_behind (e ∷ before) behind all = by_entry e all (idle_behind before behind)
+  where
+    by_entry : (e : Entry) → IdleBehind e (before ++ enters.Exhausted ∷ behind) (IdleAfter (before ++ enters.Exhausted ∷ behind))
+        → (IdleAfter (before ++ enters.Exhausted ∷ behind) → AreIdle behind) → AreIdle behind
+    by_entry enters.Exhausted idle later =
+        (each_parts (λ (x : Entry). gains x ≡ false) before (enters.Exhausted ∷ behind) idle).1.1
+    by_entry _ idle later = later idle

@@ -1,0 +1,50 @@
+-- What is so once all work was found used up: each rank has finished, or asks in vain, or was told an end.
+use Rattle.std.specs.Prelude.{◌≡◌, ◌⊎◌, ℕ, Bool, true, false, ◌||◌, List, Option, Some}
+use Rattle.adlb_unit.specs.Permit.{permitted}
+use Rattle.adlb_unit.specs.declared.names.Rank.{Rank}
+use Rattle.adlb_unit.specs.declared.names.WorkType.{WorkType}
+use Rattle.adlb_unit.specs.declared.notes.End.{End}
+use Rattle.bag_ledger.specs.Bag.{Bag, is_free, is_travelling, rank_at}
+use Rattle.bag_ledger.specs.declared.entries.Entry.{Entry}
+use Rattle.bag_ledger.specs.declared.entries.Entry.TheVariants as enters
+use Rattle.bag_ledger.specs.declared.states.Placed.{Placed}
+use Rattle.bag_ledger.specs.declared.states.RankState.{RankState}
+use Rattle.bag_ledger.specs.declared.states.Status.TheVariants as is_at
+use Rattle.bag_ledger.specs.declared.states.UnitPlace.{UnitPlace}
+use Rattle.core_law.specs.OnLinks.{Each}
+
+-- the unit is free, or on its way to where it will be
+abbrev pub is_loose : UnitPlace → Bool
+is_loose place = is_free place || is_travelling place
+
+-- no such unit is permitted to the rank
+abbrev pub NotFor : Rank → Option (List WorkType) → Placed → Type 0
+NotFor rank types u = is_loose u.place ≡ true → permitted rank types u.unit.kind u.unit.target ≡ false
+
+abbrev pub NoneFor : Rank → Option (List WorkType) → List Placed → Type 0
+NoneFor rank types units = Each (NotFor rank types) units
+
+abbrev pub IsTold : RankState → Type 0
+IsTold x = (end : End) × (x.end ≡ Some end)
+
+abbrev pub AsksInVain : Bag → Rank → RankState → Type 0
+AsksInVain b rank x = (call : ℕ) × (types : Option (List WorkType)) × (x.status ≡ is_at.Asking call types) × NoneFor rank types b.units
+
+abbrev pub IsOver : Bag → Rank → RankState → Type 0
+IsOver b rank x = (x.status ≡ is_at.Finished) ⊎ AsksInVain b rank x ⊎ IsTold x
+
+-- of each rank
+abbrev pub AllOver : Bag → Type 0
+AllOver b = (rank : Rank) (x : RankState) → rank_at b rank ≡ Some x → IsOver b rank x
+
+-- Of the ledger.
+
+-- a rank gets a unit, or puts one with success, or begins a batch
+abbrev pub gains : Entry → Bool
+gains (enters.Accepted server id) = true
+gains (enters.Kept server batch) = true
+gains (enters.Granted server rank call id) = true
+gains _ = false
+
+abbrev pub AreIdle : List Entry → Type 0
+AreIdle es = Each (λ e. gains e ≡ false) es
