@@ -137,7 +137,3 @@ met_left config met stopped fault left is = record {
   shown = ap found_in left ∙ shown_of met ∙ sym (ap (λ (f : RunFault). found_by (Some f)) fault);
   found = subst (λ (u : Option Unconfirmed). IfSome u (IsFoundOf config)) (sym left) (found_of config met is);
 }
-
--- a thread for each rank and one for the server are a thread for each rank and for each server
-pub all_started : (config : Config) (before now : ℕ) → config.servers ≡ 1 → RisesBy (config.ranks + 1) before now → HasStarted config before now
-all_started config before now one rises = subst (λ (n : ℕ). RisesBy (config.ranks + n) before now) (sym one) rises

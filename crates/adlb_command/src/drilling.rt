@@ -51,7 +51,7 @@ pub fn drill_inline<K: Sink>(
     }
 }
 
-/// As `drill_inline`, with a thread for each rank and for the server, as `solve_threads` works an input.
+/// As `drill_inline`, with a thread for each rank and for each server, as `solve_threads` works an input.
 pub fn drill_threads<K: Sink, T: Spawner, G: Gate + Send + Drop + 'static>(
     alloc: Global,
     config: Config,
@@ -62,7 +62,6 @@ pub fn drill_threads<K: Sink, T: Spawner, G: Gate + Send + Drop + 'static>(
     threads: &mut T,
     gate: G,
 ) -> RunEnd
-    requires one_server { config.servers ≡ 1 }
     requires few { count ≤ 100000 }
     ensures status { result.status ≡ status_of result.fault }
     ensures config { IfSome result.report (λ r. r.config ≡ config) }
@@ -118,7 +117,6 @@ fn drilled_threads<T: Spawner, G: Gate + Send + Drop + 'static>(
     threads: &mut T,
     gate: G,
 ) -> Result<Answer, Stopped>
-    requires one_server { config.servers ≡ 1 }
     requires few { count ≤ 100000 }
     ensures answered { IfOk result (λ a.
         IsAnswered settings (Wanted.Summary count seed) (Some (made_text count seed)) a.report a.text.items) }

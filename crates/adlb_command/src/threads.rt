@@ -1,4 +1,4 @@
-//! A run with threads: each rank and the server in a thread of its own.
+//! A run with threads: each rank and each server in a thread of its own.
 
 ghost use Rattle.std.specs.Prelude.{◌≡◌, ◌≤◌, ◌<◌, [], ℕ, All, IfOk, OnOk, IfErr, IfSome, IsSome, length};
 ghost use Rattle.adlb_io.specs.Inputs.{IsAtEnd};
@@ -23,8 +23,8 @@ use job_text::Jobs;
 use puzzle_app::{PuzzleProgram, Settings};
 use std::alloc::Global;
 
-/// Reads the input's puzzles and batches, works them by the programs of as many ranks as the configuration has over its one server, each
-/// in a thread of its own, and writes the report, and behind it what `extras` asks for, as `solve_inline` does. Nothing is written before
+/// Reads the input's puzzles and batches, works them by the programs of as many ranks as the configuration has over its servers, each in
+/// a thread of its own, and writes the report, and behind it what `extras` asks for, as `solve_inline` does. Nothing is written before
 /// all threads were joined and the run was confirmed: its ledger is legal, each rank was told what it says, and nothing is left. It
 /// waits for its threads.
 ///
@@ -41,7 +41,6 @@ pub fn solve_threads<S: Source, K: Sink, T: Spawner, G: Gate + Send + Drop + 'st
     threads: &mut T,
     gate: G,
 ) -> RunEnd
-    requires one_server { config.servers ≡ 1 }
     ensures status { result.status ≡ status_of result.fault }
     ensures config { IfSome result.report (λ r. r.config ≡ config) }
     ensures ends { EndsBy settings (Wanted.Report extras)
@@ -73,7 +72,6 @@ fn answer_input<S: Source, T: Spawner, G: Gate + Send + Drop + 'static>(
     threads: &mut T,
     gate: G,
 ) -> Result<Answer, Stopped>
-    requires one_server { config.servers ≡ 1 }
     ensures answered { IfOk result (λ a. IsAnswered settings (Wanted.Report extras) (S.left input.old) a.report a.text.items) }
     ensures config { IfOk result (λ a. a.report.config ≡ config) }
     ensures end { OnOk result (IsAtEnd (S.left input.new)) }
@@ -106,7 +104,6 @@ pub fn answer_threads<T: Spawner, G: Gate + Send + Drop + 'static>(
     threads: &mut T,
     gate: G,
 ) -> Result<Answer, Stopped>
-    requires one_server { config.servers ≡ 1 }
     requires shown { asked.shown ≡ asked.jobs }
     requires grids { All HasGrid asked.jobs }
     ensures kept { IfOk result (λ a. IsKept settings asked.jobs a.report) }
@@ -123,7 +120,7 @@ pub fn answer_threads<T: Spawner, G: Gate + Send + Drop + 'static>(
     Ok(answer_of(alloc, wanted, &shown, report)?)
 }
 
-// Runs the programs of these jobs, each rank and the server in a thread of its own. What it gives is kept whole (`IsKept`).
+// Runs the programs of these jobs, each rank and each server in a thread of its own. What it gives is kept whole (`IsKept`).
 fn run_threads<T: Spawner, G: Gate + Send + Drop + 'static>(
     alloc: Global,
     config: Config,
@@ -132,7 +129,6 @@ fn run_threads<T: Spawner, G: Gate + Send + Drop + 'static>(
     threads: &mut T,
     gate: G,
 ) -> Result<Report<Outcome>, Stopped>
-    requires one_server { config.servers ≡ 1 }
     ensures kept { IfOk result (IsKept settings jobs) }
     ensures config { IfOk result (λ r. r.config ≡ config) }
     ensures history { IfOk result (λ r. r.history ≡ []) }

@@ -33,32 +33,21 @@ pub fn report<O: Drop>(
     alloc: Global,
     config: Config,
     ended: Vec<RankEnd<O>>,
-    served: ServerEnd,
+    served: Vec<ServerEnd>,
 ) -> Result<Report<O>, RanFault>
     requires ranks { vec_len ended ≡ config.ranks }
     requires late { All (λ e. IfSome e.trouble IsLate) ended.items }
-    requires served { IfSome served.trouble IsLate }
+    requires served { All (λ e. IfSome e.trouble IsLate) served.items }
     ensures report { IfOk result (IsReport config ended.items) }
     ensures faults { IfErr result (IsFaultOf config) }
     ensures no_thread { result ≡ Err RanFault.NoThread → ⊥ }
 {
-    let ServerEnd {
-        journal,
-        left,
-        trouble,
-        ..
-    } = served;
-    if let Some(trouble) = trouble {
-        return Err(fault_of(trouble));
-    }
     let Kept {
         transcripts,
         outcomes,
         mut journals,
     } = gathered(alloc, ended)?;
-    if journals.push(journal).is_err() {
-        return Err(RanFault::Memory);
-    }
+    let left = gathered_left(alloc, served, &mut journals)?;
     let Ok(ledger) = merged(alloc, journals) else {
         return Err(RanFault::Memory);
     };
@@ -150,6 +139,37 @@ fn gathered<O: Drop>(alloc: Global, ended: Vec<RankEnd<O>>) -> Result<Kept<O>, R
         outcomes,
         journals,
     })
+}
+
+// The units that are left at the servers, by server, if no server met trouble. The servers' journals come behind the others.
+fn gathered_left(
+    alloc: Global,
+    served: Vec<ServerEnd>,
+    journals: &mut Vec<Vec<Entered>>,
+) -> Result<Vec<LeftUnit>, RanFault>
+    requires late { All (λ e. IfSome e.trouble IsLate) served.items }
+    ensures faults { IfErr result (λ fault. (config : Config) → IsFaultOf config fault) }
+    ensures no_thread { result ≡ Err RanFault.NoThread → ⊥ }
+{
+    let mut left = Vec::new(alloc);
+    for end in served {
+        let ServerEnd {
+            journal,
+            left: units,
+            trouble,
+            ..
+        } = end;
+        if let Some(trouble) = trouble {
+            return Err(fault_of(trouble));
+        }
+        let (Ok(()), Ok(())) = (
+            journals.push(journal),
+            left.extend_from_slice(units.as_slice()),
+        ) else {
+            return Err(RanFault::Memory);
+        };
+    }
+    Ok(left)
 }
 
 // The fault of a run in which an actor met this trouble.

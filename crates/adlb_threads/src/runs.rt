@@ -1,4 +1,4 @@
-//! A run of ranks and a server in threads, which is confirmed before it is reported.
+//! A run of ranks and servers in threads, which is confirmed before it is reported.
 
 ghost use Rattle.std.specs.Prelude.{◌≡◌, ◌≤◌, ◌+◌, ℕ, Some, Err, IfOk, IfErr, OnOk, slice_get, vec_len};
 ghost use Rattle.adlb_io.specs.Outside.{Rises};
@@ -14,7 +14,7 @@ use adlb_unit::Config;
 use rank_client::RankProgram;
 use std::alloc::Global;
 
-/// Runs the programs, one a rank in the order of ranks, over one server, each in a thread of its own, and waits for all of
+/// Runs the programs, one a rank in the order of ranks, over the servers, each in a thread of its own, and waits for all of
 /// them. It reports a run only if the ledger, the transcripts and the units left that were kept of it confirm it
 /// (`IsConfirmed`); otherwise it fails with these and with what was found of them (`Unconfirmed`). `NoThread` comes only if
 /// a start was refused, which the count of faults shows; then each thread that was started has ended. `TooLong` has the
@@ -31,7 +31,6 @@ where
     P::Outcome: Send + Drop + 'static,
     T: Spawner,
     G: Gate + Send + Drop + 'static,
-    requires one_server { config.servers ≡ 1 }
     requires programs { vec_len programs ≡ config.ranks }
     requires fits { (k : ℕ) (p : P) → slice_get programs.items k ≡ Some p → P.fits p config.ranks }
     ensures confirmed { IfOk result (λ r. IsConfirmed config P.follows programs.items r) }
@@ -39,7 +38,7 @@ where
 
     // What is told of the starts.
     ensures no_thread { result ≡ Err RanFault.NoThread → Rises (T.faults threads.old) (T.faults threads.new) }
-    ensures started { OnOk result (RisesBy (config.ranks + 1) (T.starts threads.old) (T.starts threads.new)) }
+    ensures started { OnOk result (RisesBy (config.ranks + config.servers) (T.starts threads.old) (T.starts threads.new)) }
     ensures later { T.faults threads.old ≤ T.faults threads.new }
 {
     let Ok(jobs) = make_jobs(alloc, config, programs, threads.waits(), gate) else {

@@ -1,4 +1,4 @@
-//! The server's thread.
+//! A server's thread.
 
 ghost use Rattle.std.specs.Prelude.{◌≡◌, ◌<◌, IfSome, None};
 ghost use Rattle.thread_client.specs.Jobs.{IsLate};
@@ -34,17 +34,19 @@ impl Promise<ServerEnd> for Serves {
     ghost kept_by = { λ p r. IfSome r.trouble IsLate };
 }
 
-/// The only server of a run, with its mailboxes.
+/// One server of a run, with its mailboxes.
 ///
-/// It handles letters until each rank is over: the rank's last letter came, Finish or Gone, or the rank was never started. At
-/// the first trouble it is broken, and tells each rank that is not over, once: so a rank that waits hears of it, and so does
-/// a rank at its next call. From then on it reads letters only to learn who is over. The trouble is its own, that of a rank
-/// (Gone), or that of the caller, who sends Abort when a rank could not be started. Of what it sends nothing is claimed.
+/// It handles letters until it has ended. At the first trouble it is broken, and tells each other server, and each rank that is
+/// not over, once: so a rank that waits hears of it, and so does a rank at its next call. From then on it reads letters only to
+/// learn who is over, until each rank is: the rank's last letter came, Finish or Gone, or the rank was never started. The trouble
+/// is its own, that of a rank (Gone), that of another server (Abort), or that of the caller, who sends Abort when a thread could
+/// not be started. Of what it sends nothing is claimed.
 #[derive(Drop)]
 pub struct ServerJob<R: Wait> {
     rt: R,
     alloc: Global,
     config: Config,
+    me: Server,
     state: ServerState,
     post: Post,
     inbox: Inbox,
@@ -56,21 +58,25 @@ pub struct ServerJob<R: Wait> {
 }
 
 impl<R: Wait + Copy> ServerJob<R> {
-    /// The server of a run at its start. The actors of the mailboxes are the ranks by their numbers, then the server, whose
-    /// post and inbox these are, then the caller. Its only error is `NoMemory`.
+    /// One of the servers of a run, at its start, whose post and inbox these are. The actors of the mailboxes are the ranks by
+    /// their numbers, then the servers by theirs, then the caller. Its only error is `NoMemory`.
     pub fn new(
         alloc: Global,
         rt: R,
         config: Config,
+        me: Server,
         post: Post,
         inbox: Inbox,
-    ) -> Result<ServerJob<R>, NoMemory> {
-        let state = ServerState::new(alloc, config, Server(0))?;
+    ) -> Result<ServerJob<R>, NoMemory>
+        requires server { me.0 < config.servers }
+    {
+        let state = ServerState::new(alloc, config, me)?;
         let over = or_no_memory(vec![in alloc; false; config.ranks as usize])?;
         Ok(ServerJob {
             rt,
             alloc,
             config,
+            me,
             state,
             post,
             inbox,
@@ -81,14 +87,14 @@ impl<R: Wait + Copy> ServerJob<R> {
         })
     }
 
-    /// Handles letters until each rank is over.
+    /// Handles letters until it has ended, or is broken and each rank is over.
     pub fn run(self) -> ServerEnd
         ensures { IfSome result.trouble IsLate }
     {
         let mut job = self;
         let rt = job.rt;
         for _ in rt.forever() {
-            if job.over.iter().all(|over| *over) {
+            if job.is_through() {
                 break;
             }
             let (from, letter) = job.inbox.receive(&rt);
@@ -97,10 +103,18 @@ impl<R: Wait + Copy> ServerJob<R> {
         job.end()
     }
 
+    // No more letters are to be read.
+    fn is_through(&self) -> bool {
+        match self.trouble {
+            None => self.state.ended(),
+            Some(_) => self.over.iter().all(|over| *over),
+        }
+    }
+
     // Takes a letter of the actor of this number.
     fn take(&mut self, from: u32, letter: Letter) {
         match &letter.message {
-            Message::Abort { trouble, absent } if from > self.config.ranks => {
+            Message::Abort { trouble, absent } if from >= self.config.ranks => {
                 self.abort(*trouble, *absent);
             }
             Message::Gone { trouble } => {
@@ -120,15 +134,26 @@ impl<R: Wait + Copy> ServerJob<R> {
 
     // Handles a letter for a server that is not broken. One that is not expected is kept.
     fn handle(&mut self, from: u32, letter: Letter) {
-        let actor = Actor::Rank(Rank(from));
-        if self.state.broken().is_some() || !self.state.expects(actor, &letter) {
-            self.strange = Some((from, letter));
-            self.break_by(Trouble::Memory);
-            return;
+        match self.actor(from) {
+            Some(actor) if self.state.broken().is_none() && self.state.expects(actor, &letter) => {
+                match self.state.step(actor, letter) {
+                    Ok(step) => self.keep(step),
+                    Err(trouble) => self.break_by(trouble),
+                }
+            }
+            _ => {
+                self.strange = Some((from, letter));
+                self.break_by(Trouble::Memory);
+            }
         }
-        match self.state.step(actor, letter) {
-            Ok(step) => self.keep(step),
-            Err(trouble) => self.break_by(trouble),
+    }
+
+    // The rank or the server of this number, if it is one.
+    fn actor(&self, number: u32) -> Option<Actor> {
+        match number.checked_sub(self.config.ranks) {
+            None => Some(Actor::Rank(Rank(number))),
+            Some(server) if server < self.config.servers => Some(Actor::Server(Server(server))),
+            Some(_) => None,
         }
     }
 
@@ -147,9 +172,7 @@ impl<R: Wait + Copy> ServerJob<R> {
         }
         for sending in sends {
             let Sending { to, letter } = sending;
-            if let Actor::Rank(rank) = to {
-                self.send(rank, letter);
-            }
+            self.send(to, letter);
         }
     }
 
@@ -168,29 +191,44 @@ impl<R: Wait + Copy> ServerJob<R> {
         }
     }
 
-    // The server is broken, unless it is already: each rank that is not over is told. No event sends these letters.
+    // The server is broken, unless it is already: each other server is told, and each rank that is not over.
     fn break_by(&mut self, trouble: Trouble) {
         if self.trouble.is_some() {
             return;
         }
         self.trouble = Some(trouble);
+        for number in 0..self.config.servers {
+            if number != self.me.0 {
+                let message = Message::Abort { trouble, absent: 0 };
+                self.tell(Actor::Server(Server(number)), message);
+            }
+        }
         for number in 0..self.config.ranks {
             if self.over.get(number as usize) == Some(&false) {
-                let letter = Letter {
-                    stamp: 0,
-                    place: 0,
-                    message: Message::Broken { trouble },
-                };
-                self.send(Rank(number), letter);
+                self.tell(Actor::Rank(Rank(number)), Message::Broken { trouble });
             }
         }
     }
 
-    // Sends a letter to a rank.
-    fn send(&mut self, to: Rank, letter: Letter) {
-        if self.post.reaches(to.0) {
+    // Sends a message that no event sends.
+    fn tell(&mut self, to: Actor, message: Message) {
+        let letter = Letter {
+            stamp: 0,
+            place: 0,
+            message,
+        };
+        self.send(to, letter);
+    }
+
+    // Sends a letter to an actor of the run.
+    fn send(&mut self, to: Actor, letter: Letter) {
+        let number = match to {
+            Actor::Rank(rank) => rank.0,
+            Actor::Server(server) => self.config.ranks.saturating_add(server.0),
+        };
+        if self.post.reaches(number) {
             let rt = self.rt;
-            self.post.send(&rt, to.0, letter);
+            self.post.send(&rt, number, letter);
         }
     }
 

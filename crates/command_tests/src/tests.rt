@@ -28,8 +28,13 @@ const NO_EXTRAS: Extras = Extras {
     ledger: false,
 };
 
-/// Each way to run: in line, and with two and four ranks in threads.
-const WAYS: [&str; 3] = ["solve --inline", "solve --ranks 2", "solve"];
+/// Each way to run: in line, and with two, three and four ranks in threads, over one, eight and two servers.
+const WAYS: [&str; 4] = [
+    "solve --inline",
+    "solve --ranks 2 --servers 1",
+    "solve --ranks 3 --servers 8",
+    "solve",
+];
 
 /// A puzzle in which every cell is forced.
 const FORCED: &str =
@@ -429,7 +434,8 @@ fn refuses_other_words(rt: HostRuntime) -> Result<(), Fail> {
         "frob",
         "solve --ranks 33",
         "solve --ranks 0",
-        "solve --servers 2",
+        "solve --servers 0",
+        "solve --servers 9",
         "solve --stats --stats",
         "solve --limit 63",
         "solve --grain 0",
@@ -465,7 +471,11 @@ fn the_words_give_limit_budget_and_grain(rt: HostRuntime) -> Result<(), Fail> {
         ("solve --budget 1 --inline --ranks 32", "paqgfFqxo."),
         ("solve --budget=1 --limit 64 --inline", "prRqxo."),
         ("solve --budget 1 --ranks=1", "paqgfFqxo."),
-        ("solve --budget 1 --limit 64 --ranks 1", "prRqxo."),
+        ("solve --budget 1 --limit 64 --ranks 1", "prrRqxo."),
+        (
+            "solve --budget 1 --limit 64 --ranks 1 --servers 3",
+            "prrrRqxo.",
+        ),
     ];
     for (line, ledger) in rows {
         let ran = run_words(rt.alloc(), &mut threads, line, TWO.as_bytes())?;
@@ -499,7 +509,11 @@ fn counts_and_the_ledger_follow_the_report(rt: HostRuntime) -> Result<(), Fail> 
     let mut threads = RealThreads::new(rt);
     let rows = [
         ("solve --ledger --inline", "", NO_JOBS),
-        ("solve --ledger --stats --ranks 1", "", BOTH_EXTRAS),
+        (
+            "solve --ledger --stats --ranks 1 --servers 1",
+            "",
+            BOTH_EXTRAS,
+        ),
         (
             "solve --stats",
             FORCED,
@@ -508,7 +522,7 @@ fn counts_and_the_ledger_follow_the_report(rt: HostRuntime) -> Result<(), Fail> 
         (
             "solve --stats --limit 64",
             FORCED,
-            "stats\naccepted 0\nrefused 2\nrejected 2\ngranted 0\npushed 0\nleft 0\n",
+            "stats\naccepted 0\nrefused 4\nrejected 2\ngranted 0\npushed 0\nleft 0\n",
         ),
         (
             "solve --stats",
@@ -553,6 +567,7 @@ fn a_written_ledger_is_legal(rt: HostRuntime) -> Result<(), Fail> {
         ("solve --ledger --inline --limit 64", FORCED, "legal 10\n"),
         ("solve --ledger --ranks 1", FORCED, "legal 16\n"),
         ("solve --ledger", FORCED, "legal 25\n"),
+        ("solve --ledger --servers 8", FORCED, "legal 25\n"),
     ];
     for (line, input, wanted) in rows {
         let told = checked(rt.alloc(), &mut threads, line, input)?;

@@ -20,7 +20,7 @@ unfolding clap_on_literals
 each_option = refl
 
 one_rank : command_of (codes "solve" ∷ codes "--ranks" ∷ codes "1" ∷ codes "--servers=1" ∷ [])
-    ≡ Some (Solve (record { options = record default_run { ranks = 1 }; stats = false; ledger = false }))
+    ≡ Some (Solve (record { options = record default_run { ranks = 1; servers = 1 }; stats = false; ledger = false }))
 unfolding clap_on_literals
 one_rank = refl
 
@@ -28,9 +28,14 @@ many_ranks : command_of (codes "solve" ∷ codes "--ranks=33" ∷ []) ≡ None
 unfolding clap_on_literals
 many_ranks = refl
 
-two_servers : command_of (codes "solve" ∷ codes "--servers=2" ∷ []) ≡ None
+eight_servers : command_of (codes "solve" ∷ codes "--servers=8" ∷ [])
+    ≡ Some (Solve (record { options = record default_run { servers = 8 }; stats = false; ledger = false }))
 unfolding clap_on_literals
-two_servers = refl
+eight_servers = refl
+
+many_servers : command_of (codes "solve" ∷ codes "--servers=9" ∷ []) ≡ None
+unfolding clap_on_literals
+many_servers = refl
 
 below : command_of (codes "solve" ∷ codes "--limit=63" ∷ []) ≡ None
 unfolding clap_on_literals

@@ -12,7 +12,7 @@ abbrev pub rank_counts : Range
 rank_counts = record { low = 1; high = 32; default = 4 }
 
 abbrev pub server_counts : Range
-server_counts = record { low = 1; high = 1; default = 1 }
+server_counts = record { low = 1; high = 8; default = 2 }
 
 abbrev pub limits : Range
 limits = record { low = 64; high = 2 ^ 30; default = 2 ^ 26 }

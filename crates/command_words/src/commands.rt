@@ -10,7 +10,7 @@ use thiserror::Error;
 pub struct RunOptions {
     /// How many ranks there are: 1 to 32.
     pub ranks: u32,
-    /// How many servers there are: 1.
+    /// How many servers there are: 1 to 8.
     pub servers: u32,
     /// The bytes that a server takes at most: 64 to 2^30.
     pub limit: u64,

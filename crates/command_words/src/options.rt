@@ -61,7 +61,7 @@ fn with_actors<'a>(alloc: Global, command: Command<'a>) -> Result<Command<'a>, A
     ensures { IfOk result (λ c. app_of c ≡ with_actors (app_of command.entry)) }
 {
     let command = command.arg(option(alloc, "ranks", 1, 32))?;
-    command.arg(option(alloc, "servers", 1, 1))
+    command.arg(option(alloc, "servers", 1, 8))
 }
 
 fn with_numbers<'a>(alloc: Global, command: Command<'a>) -> Result<Command<'a>, AllocError>

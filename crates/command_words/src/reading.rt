@@ -59,7 +59,7 @@ fn actors_of(matches: &ArgMatches<'_>) -> (u32, u32)
 {
     (
         number_of(matches, "ranks", 4) as u32,
-        number_of(matches, "servers", 1) as u32,
+        number_of(matches, "servers", 2) as u32,
     )
 }
 

@@ -7,18 +7,22 @@ use std::test::Fail;
 
 /// Each list of words, with blanks between, and what it says: the command, N and SEED, then ranks, servers, limit, budget,
 /// grain and inline, then stats and ledger. It says nothing if it is refused.
-const ROWS: [(&str, &str); 64] = [
+const ROWS: [(&str, &str); 65] = [
     (
         "solve",
-        "solve 4 1 67108864 16777216 65536 false false false",
+        "solve 4 2 67108864 16777216 65536 false false false",
     ),
     (
         "solve --",
-        "solve 4 1 67108864 16777216 65536 false false false",
+        "solve 4 2 67108864 16777216 65536 false false false",
     ),
     (
         "solve --ranks 1 --servers 1",
         "solve 1 1 67108864 16777216 65536 false false false",
+    ),
+    (
+        "solve --servers 8",
+        "solve 4 8 67108864 16777216 65536 false false false",
     ),
     (
         "solve --ranks=32 --servers=1 --inline",
@@ -26,27 +30,27 @@ const ROWS: [(&str, &str); 64] = [
     ),
     (
         "solve --limit 64 --budget 1 --grain 1",
-        "solve 4 1 64 1 1 false false false",
+        "solve 4 2 64 1 1 false false false",
     ),
     (
         "solve --limit=1073741824 --budget=4294967296 --grain=4294967296",
-        "solve 4 1 1073741824 4294967296 4294967296 false false false",
+        "solve 4 2 1073741824 4294967296 4294967296 false false false",
     ),
     (
         "solve --inline",
-        "solve 4 1 67108864 16777216 65536 true false false",
+        "solve 4 2 67108864 16777216 65536 true false false",
     ),
     (
         "solve --stats",
-        "solve 4 1 67108864 16777216 65536 false true false",
+        "solve 4 2 67108864 16777216 65536 false true false",
     ),
     (
         "solve --ledger",
-        "solve 4 1 67108864 16777216 65536 false false true",
+        "solve 4 2 67108864 16777216 65536 false false true",
     ),
     (
         "solve --ledger --grain=007 --stats --inline --budget +9",
-        "solve 4 1 67108864 9 7 true true true",
+        "solve 4 2 67108864 9 7 true true true",
     ),
     ("check", "check"),
     ("make 0 7", "make 0 7"),
@@ -54,18 +58,18 @@ const ROWS: [(&str, &str); 64] = [
         "make 100000 18446744073709551615",
         "make 100000 18446744073709551615",
     ),
-    ("drill 64 1", "drill 64 1 4 1 67108864 16777216 65536 false"),
+    ("drill 64 1", "drill 64 1 4 2 67108864 16777216 65536 false"),
     (
         "drill +3 004",
-        "drill 3 4 4 1 67108864 16777216 65536 false",
+        "drill 3 4 4 2 67108864 16777216 65536 false",
     ),
     (
         "drill --budget 100 8 --inline --limit=64 2 --grain=3",
-        "drill 8 2 4 1 64 100 3 true",
+        "drill 8 2 4 2 64 100 3 true",
     ),
     (
         "drill --ranks 2 8 1",
-        "drill 8 1 2 1 67108864 16777216 65536 false",
+        "drill 8 1 2 2 67108864 16777216 65536 false",
     ),
     ("", ""),
     ("frob", ""),
@@ -97,7 +101,7 @@ const ROWS: [(&str, &str); 64] = [
     ("solve --ranks=4294967297", ""),
     ("solve --ranks 2 --ranks 2", ""),
     ("solve --servers 0", ""),
-    ("solve --servers 2", ""),
+    ("solve --servers 9", ""),
     ("make 8 1 --ranks 2", ""),
     ("check --servers 1", ""),
     ("solve --help", ""),

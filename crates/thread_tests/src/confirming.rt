@@ -118,8 +118,8 @@ fn found_of(ran: Result<Report<u32>, RanFault>) -> Result<Option<Found>, Fail> {
 // What is found of a run of one rank that ends like this.
 fn found(alloc: Global, finished: bool, kept: Kept, left: bool) -> Result<Option<Found>, Fail> {
     let config = Config::new(1, 1, 64)?;
-    let served = server_end(alloc, journal(alloc, kept)?, units(alloc, left)?)?;
-    let mut ended = Vec::new(alloc);
+    let (mut ended, mut served) = (Vec::new(alloc), Vec::new(alloc));
+    served.push(server_end(alloc, journal(alloc, kept)?, units(alloc, left)?)?)?;
     ended.push(rank_end(alloc, said(alloc, finished)?)?)?;
     found_of(report(alloc, config, ended, served))
 }

@@ -158,15 +158,15 @@ fn workers(alloc: Global, ranks: u32, puts: u32, failing: u32) -> Result<Vec<Wor
     Ok(programs)
 }
 
-// How a run of these workers ends.
+// How a run of these workers over this many servers ends.
 fn run<T: Spawner>(
     alloc: Global,
     threads: &mut T,
-    ranks: u32,
+    (ranks, servers): (u32, u32),
     puts: u32,
     failing: u32,
 ) -> Result<RunEnd, Fail> {
-    let config = Config::new(ranks, 1, 1 << 20)?;
+    let config = Config::new(ranks, servers, 1 << 20)?;
     let programs = workers(alloc, ranks, puts, failing)?;
     if programs.len() != ranks as usize {
         return Err("programs".into());
@@ -180,7 +180,7 @@ const NONE: u32 = 99;
 fn all_that_is_put_is_taken(rt: HostRuntime) -> Result<(), Fail> {
     for ranks in [1u32, 2, 5, 32] {
         let mut threads = RealThreads::new(rt);
-        let ran = run(rt.alloc(), &mut threads, ranks, 3, NONE)?;
+        let ran = run(rt.alloc(), &mut threads, (ranks, 1), 3, NONE)?;
         assert_eq!(rt; ran, RunEnd::Took(3 * u64::from(ranks), 0));
     }
     Ok(())
@@ -190,19 +190,20 @@ fn all_that_is_put_is_taken(rt: HostRuntime) -> Result<(), Fail> {
 fn refused<R: Threads + Wait + Send + Copy + 'static>(
     rt: R,
     alloc: Global,
-    ranks: u32,
+    (ranks, servers): (u32, u32),
     start: u32,
 ) -> Result<RunEnd, Fail> {
     let fails = vec![in alloc; u64::from(start); 1]?;
     let mut threads = ListedThreads::new(rt, fails);
-    run(alloc, &mut threads, ranks, 3, NONE)
+    run(alloc, &mut threads, (ranks, servers), 3, NONE)
 }
 
 #[test]
 fn a_refused_start_ends_the_run(rt: HostRuntime) -> Result<(), Fail> {
-    for ranks in [2u32, 32] {
-        for start in 1..ranks + 2 {
-            assert_eq!(rt; refused(rt, rt.alloc(), ranks, start)?, RunEnd::NoThread);
+    for (ranks, servers) in [(2u32, 1u32), (32, 1), (1, 2), (3, 8), (32, 8)] {
+        for start in 1..ranks + servers + 1 {
+            let ran = refused(rt, rt.alloc(), (ranks, servers), start)?;
+            assert_eq!(rt; ran, RunEnd::NoThread);
         }
     }
     Ok(())
@@ -210,10 +211,18 @@ fn a_refused_start_ends_the_run(rt: HostRuntime) -> Result<(), Fail> {
 
 #[test]
 fn a_rank_that_fails_ends_the_run(rt: HostRuntime) -> Result<(), Fail> {
-    for (ranks, failing) in [(1, 0), (2, 1), (5, 4), (32, 31)] {
+    for (ranks, servers, failing) in [
+        (1, 1, 0),
+        (2, 1, 1),
+        (5, 1, 4),
+        (32, 1, 31),
+        (1, 2, 0),
+        (5, 8, 4),
+        (32, 8, 31),
+    ] {
         for puts in [0, 3] {
             let mut threads = RealThreads::new(rt);
-            let ran = run(rt.alloc(), &mut threads, ranks, puts, failing)?;
+            let ran = run(rt.alloc(), &mut threads, (ranks, servers), puts, failing)?;
             assert_eq!(rt; ran, RunEnd::Memory);
         }
     }

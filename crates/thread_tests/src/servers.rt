@@ -2,7 +2,7 @@
 
 use crate::mail::{Ends, first_and_second};
 use adlb_threads::{ServerEnd, ServerJob};
-use adlb_unit::{Config, Letter, Message, NoMemory, Payload, STAMP_LIMIT, Trouble, Types};
+use adlb_unit::{Config, Letter, Message, NoMemory, Payload, STAMP_LIMIT, Server, Trouble, Types};
 use std::alloc::Global;
 use std::sync::Wait;
 use std::test::Fail;
@@ -49,7 +49,7 @@ struct Wanted {
 fn end<R: Wait + Copy>(rt: R, alloc: Global, server: Ends) -> Result<ServerEnd, Fail> {
     let config = Config::new(1, 1, 64)?;
     let Ends { post, inbox } = server;
-    Ok(ServerJob::new(alloc, rt, config, post, inbox)?.run())
+    Ok(ServerJob::new(alloc, rt, config, Server(0), post, inbox)?.run())
 }
 
 fn has_ended(end: &ServerEnd, wanted: &Wanted) -> bool {

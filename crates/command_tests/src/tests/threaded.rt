@@ -18,12 +18,12 @@ fn refusing<R: Threads + Drop>(alloc: Global, rt: R, start: u64) -> Result<Liste
 #[test]
 fn each_refused_start_writes_nothing(rt: HostRuntime) -> Result<(), Fail> {
     let alloc = rt.alloc();
-    for (line, ranks) in [
-        ("solve --ranks 2", 2),
-        ("solve --ranks 32", 32),
-        ("solve", 4),
+    for (line, actors) in [
+        ("solve --ranks 2 --servers 1", 3),
+        ("solve --ranks 32 --servers 8", 40),
+        ("solve", 6),
     ] {
-        for start in 1..ranks + 2 {
+        for start in 1..actors + 1 {
             let mut threads = refusing(alloc, rt, start)?;
             let ran = run_words(alloc, &mut threads, line, FORCED.as_bytes())?;
             assert_eq!(rt;
@@ -36,8 +36,8 @@ fn each_refused_start_writes_nothing(rt: HostRuntime) -> Result<(), Fail> {
                 "{line}, start {start}"
             );
         }
-        // There is no start of a later number: one for each rank, and one for the server.
-        let mut threads = refusing(alloc, rt, ranks + 2)?;
+        // There is no start of a later number: one for each rank, and one for each server.
+        let mut threads = refusing(alloc, rt, actors + 1)?;
         let ran = run_words(alloc, &mut threads, line, FORCED.as_bytes())?;
         assert_eq!(rt; ran.status, 0, "{line}");
     }

@@ -1,15 +1,17 @@
 use Rattle.std.proofs.Common.{rules, ◌≡◌, length, vec_len, refl, sym, ap, ◌∙◌}
-use Rattle.std.proofs.lemmas.Option.{MatchOption-at_none, MatchOption-at_some}
+use Rattle.std.proofs.lemmas.Option.{MatchOption-at_none}
 use Rattle.std.proofs.lemmas.Result.{err_from_is_err_and}
 use Rattle.adlb_threads.proofs.Kept.{same_length}
 use Rattle.adlb_threads.proofs.confirming.report.Goals as goal
 
-pub returns-in-Some-clause-faults : goal.returns-in-Some-clause-faults
-returns-in-Some-clause-faults g c = c.fault_of.ensures.fault c.args.config
-
 pub returns-in_err-transcripts-clause-faults : goal.returns-in_err-transcripts-clause-faults
 returns-in_err-transcripts-clause-faults g c =
     let p = err_from_is_err_and c.from_residual.result c.from_residual.ensures.1 in rw (p.1, p.2) (c.in_err-transcripts.ensures.faults c.args.config)
+
+pub returns-in_err-left-clause-faults : goal.returns-in_err-left-clause-faults
+returns-in_err-left-clause-faults g c =
+    let p = err_from_is_err_and c.from_residual-in_err-left.result c.from_residual-in_err-left.ensures.1 in
+    rw (p.1, p.2) (c.in_err-left.ensures.faults c.args.config)
 
 pub found-requires : goal.found-requires
 found-requires g c =
@@ -28,8 +30,3 @@ returns-in-None-clause-report g c =
       history = c.empty.ensures;
       left = sym c.as_slice-2.ensures.value ∙ found.1;
     }
-
-pub returns-clause-faults : goal.returns-clause-faults
-returns-clause-faults g c =
-    let found = MatchOption-at_some _ _ c.in-Some-found.found c.in-Some-found.is c.in-Ok-found.ensures in
-    rw (sym c.as_slice.ensures.value, sym c.as_slice-2.ensures.value) found

@@ -1,4 +1,4 @@
-use Rattle.std.proofs.Common.{rules, arith, ◌≡◌, ◌+◌, ℕ, IfSome, Some, length, slice_get, vec_len, ap, sym, subst}
+use Rattle.std.proofs.Common.{rules, arith, ◌≡◌, ℕ, IfSome, Some, length, slice_get, vec_len, sym, subst}
 use Rattle.std.proofs.lemmas.Option.{slice_get_within}
 use Rattle.std.proofs.lemmas.Result.{IfOk-weaker, err_from_is_err_and}
 use Rattle.adlb_unit.specs.declared.configs.Config.{Config}
@@ -17,7 +17,7 @@ run_jobs-requires-clause-fits g c =
     let same : length jobs ≡ vec_len c.in-Ok.jobs.ranks = search rules in
     let whole : length programs ≡ vec_len c.args.programs = search rules in
     let h : (k : ℕ) (j : _) → slice_get jobs k ≡ Some j → g.P.RankProgram.fits j.program j.link.run.config.ranks = λ k j at.
-    let p = there programs k (let low = slice_get_within jobs k j at in omega (arith, low, same, whole, made.len, c.requires.programs)) in
+    let p = there programs k (let low = slice_get_within jobs k j at in omega (arith, low, same, whole, made.len.0, c.requires.programs)) in
     let is = made.each k p.0 j p.1 at in
     subst (λ (y : _ × Config). g.P.RankProgram.fits y.0 y.1.ranks) (λ i. (sym is.0 i, sym is.2 i)) (c.requires.fits k p.0 p.1) in
     search (rules, h)
@@ -39,14 +39,14 @@ returns-clause-confirmed g c =
     let whole : length programs ≡ vec_len c.args.programs = search rules in
     let long : length ended ≡ vec_len c.in_ok-ended.ended = search rules in
     let well = of_programs (λ p rank e. EndsWell (g.P.RankProgram.follows p rank) e) (λ j. j.program) (λ j. j.link.me) programs jobs ended
-    (omega (arith, same, whole, made.len, c.requires.programs)) (λ k p j a b. let is = made.each k p j a b in (is.0, is.1)) run.kept in
+    (omega (arith, same, whole, made.len.0, c.requires.programs)) (λ k p j a b. let is = made.each k p j a b in (is.0, is.1)) run.kept in
     IfOk-weaker c.report.result (IsReport c.args.config ended) (IsConfirmed c.args.config g.P.RankProgram.follows programs)
     (λ r is. confirmed c.args.config g.P.RankProgram.follows programs ended r (omega (arith, whole, c.requires.programs))
-    (omega (arith, long, run.len, made.len)) well is) c.report.ensures.report
+    (omega (arith, long, run.len, made.len.0)) well is) c.report.ensures.report
 
 pub returns-clause-started : goal.returns-clause-started
 returns-clause-started g c =
-    on_ok c.report.result (rises_as_much _ _ _ _ (ap (λ n. n + 1) c.in-Ok.ensures.len) c.in_ok-ended.ensures.started)
+    on_ok c.report.result (rises_as_much _ _ _ _ (omega (arith, c.in-Ok.ensures.len.0, c.in-Ok.ensures.len.1)) c.in_ok-ended.ensures.started)
 
 pub returns-in_err-ended-clause-faults : goal.returns-in_err-ended-clause-faults
 returns-in_err-ended-clause-faults g c =

@@ -1,10 +1,11 @@
-use Rattle.std.proofs.Common.{rules, arith, ◌≡◌, ◌∷◌, inl, length, vec_len, drop, refl, sym, ap, subst, ◌∙◌, add-one}
+use Rattle.std.proofs.Common.{rules, arith, ◌≡◌, ◌∷◌, inl, IfSome, length, vec_len, drop, refl, sym, ap, subst, ◌∙◌, add-one}
 use Rattle.std.proofs.lemmas.Option.{slice_get_within}
 use Rattle.std.specs.Vec.Iter.{into_iter_items, into_iter_len}
 use Rattle.rank_mail.proofs.Lists.{get_of_drop, rest_of_drop, there}
+use Rattle.thread_client.specs.Jobs.{IsLate}
 use Rattle.adlb_threads.specs.Inside.{EndsWell}
 use Rattle.adlb_threads.proofs.Counts.{rises_as_much, rises_from, rises_more}
-use Rattle.adlb_threads.proofs.Kept.{kept_snoc}
+use Rattle.adlb_threads.proofs.Kept.{all_of, kept_snoc}
 use Rattle.adlb_threads.proofs.starts.run_ranks_beside.Goals as goal
 
 pub start-requires-clause-runs : goal.start-requires-clause-runs
@@ -22,6 +23,7 @@ loop-job-init g c =
       count = omega (arith, whole, c.requires.empty.0);
       rest = rw c.requires.empty.0 (search rules);
       kept = λ k j t at here. absurd (let low = slice_get_within c.args.tasks.items k t here in omega (arith, low, same, c.requires.empty.0));
+      reach = refl;
       faults = refl;
       started = inl (omega (arith, c.requires.empty.0));
       later = omega arith;
@@ -40,6 +42,7 @@ loop-job-preserved g c =
       kept = rw pushed.items (kept_snoc (λ k j t. (t.handle.promise.program.value ≡ j.program) × (t.handle.promise.rank ≡ j.link.me)) ranks c.loop-job.tasks.items
           c.in-Some.job c.in-Ok.task (rw len (get_of_drop ranks _ n _ first))
           (ap (λ p. p.program.value) begun.task ∙ c.of.ensures, ap (λ p. p.rank) begun.task ∙ c.rank.ensures) was.kept);
+      reach = was.reach;
       faults = begun.started.1 ∙ was.faults;
       started = rw pushed.len (rises_more n _ _ _ was.started begun.started.0 c.start.ensures.later.1 begun.last_start);
       later = omega (arith, was.later, c.start.ensures.later.1);
@@ -62,3 +65,12 @@ pub returns-clause-started : goal.returns-clause-started
 returns-clause-started g c =
     let was = c.loop-job.invariant in
     rises_as_much (vec_len c.loop-job.tasks) (vec_len c.args.ranks) _ _ (omega (arith, was.count, c.in-None.ensures.steps.0)) was.started
+
+pub returns-clause-served : goal.returns-clause-served
+returns-clause-served g c =
+    let tasks = c.args.servers.0.items in let joined = c.join_all-2.ensures in let ended = c.join_all-2.result.items in
+    let same : length tasks ≡ vec_len c.args.servers.0 = search rules in
+    let end : length ended ≡ vec_len c.join_all-2.result = search rules in
+    all_of (λ e. IfSome e.trouble IsLate) ended (λ k e at.
+    let t = there tasks k (let low = slice_get_within ended k e at in omega (arith, low, same, end, joined.len)) in
+    joined.kept k t.0 e t.1 at)
