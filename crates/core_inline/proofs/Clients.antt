@@ -25,8 +25,8 @@ use Rattle.rank_client.specs.Step.{Made, begin, call_stamp, hear, letter_stamp, 
 use Rattle.rank_client.proofs.Granted.{if_is}
 use Rattle.rank_client.proofs.StepsTell.{steps_tell}
 use Rattle.rank_client.proofs.Transcripts.{finished_more}
+use Rattle.core_world.proofs.Reached.{mapped_if}
 use Rattle.core_inline.specs.inside.Pairs.{first_server, with_call}
-use Rattle.core_inline.proofs.Reached.{mapped_if}
 
 -- the common bytes of a unit are awaited
 abbrev pub is_common : Pending → Bool

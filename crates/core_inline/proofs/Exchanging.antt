@@ -26,14 +26,15 @@ use Rattle.core_run.specs.declared.events.Event.TheVariants as occurs
 use Rattle.core_run.specs.World.{World, after_rank, client_of, happens, pool_of}
 use Rattle.core_world.specs.Applied.{event_answer, event_stamp}
 use Rattle.core_world.specs.Seen.{Seen}
+use Rattle.core_world.proofs.Troubles.{serve_stays}
 use Rattle.core_inline.specs.Inline.{zeroth}
 use Rattle.core_inline.specs.inside.Pairs.{IsAnswered, IsFinished, IsIdle, IsLone, IsReady, IsTrue, first_server, rank_in, server_in}
 use Rattle.core_inline.specs.inside.Pairs.{with_call, is_ended}
 use Rattle.core_inline.proofs.Clients.{GoesBy, IsBegun, IsEnded, IsPending, call_begins, call_ends, call_goes, is_common}
 use Rattle.core_inline.proofs.Failing.{IsStage}
-use Rattle.core_inline.proofs.Hosts.{IsAlone, finish_ends, goes_on, nobody_waits, own_alone, serve_clock}
+use Rattle.core_inline.proofs.Hosts.{IsAlone, finish_ends, goes_on, nobody_waits, own_alone}
 use Rattle.core_inline.proofs.Reached.{IsCalled, IsHeard, IsServed, asked, facts, lone_next, one_false, one_of, rank_own, server_own}
-use Rattle.core_inline.proofs.Reached.{to_rank, to_server, told}
+use Rattle.core_inline.proofs.Reached.{by_rank, to_rank, to_server, told}
 use Rattle.core_inline.proofs.Told.{Behind, Before, IsAt, Within, true_idle}
 
 none_of : {X : Type 0} (xs : List X) → length xs ≡ 0 → xs ≡ []
@@ -304,7 +305,7 @@ module _ (first : Bool) (said : List Said) (call : Call) (w : World) (i : IsAske
   replied other now happened early =
       let s = it_served now happened in
       let server = pool_of w first_server in
-      let clock = ap (λ (v : ServerModel). v.clock) s.pool ∙ serve_clock server asked_letter.0 s.x s.does in
+      let clock = ap (λ (v : ServerModel). v.clock) s.pool ∙ (serve_stays server by_rank asked_letter.0 s.x s.does).1 in
       let rank = ap (λ (k : ClientModel). k.clock) s.rank in
       let lone = lone_next w now to_server i.lone happened in
       let nobody = ap (λ (v : ServerModel). v.kept.parked.waiting) s.pool

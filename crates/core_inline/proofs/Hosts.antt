@@ -14,9 +14,9 @@ use Rattle.work_queue.specs.Fits.{asked_for}
 use Rattle.work_queue.specs.Queue.{id_of}
 use Rattle.work_queue.specs.declared.placing.Placed.{Placed}
 use Rattle.server_law.specs.Acts.{Act, Around, Asks_on, Ends_reserve, Finds_alone, Grants, Heard, Is_hinted, Notes_finish, Notes_own}
-use Rattle.server_law.specs.Acts.{Parks, ServerSaying, Shuts_alone, Wakes, check_alone, comes, does, fit_among, of_rank, says, takes}
+use Rattle.server_law.specs.Acts.{Parks, Shuts_alone, Wakes, check_alone, comes, does, fit_among, of_rank, says, takes}
 use Rattle.server_law.specs.Acts.{waiting_after}
-use Rattle.server_law.specs.Carried.{Served, all_counted, all_done, carried, done, counted}
+use Rattle.server_law.specs.Carried.{Served, all_done, carried, done}
 use Rattle.server_law.proofs.Carrying.{carried_state}
 use Rattle.core_inline.proofs.AloneChecks.{alone_finds, alone_follows, alone_shuts, none_for_nobody}
 use Rattle.server_law.proofs.BestFits.{nothing_fits}
@@ -89,21 +89,6 @@ raises_of t (tells.Token k) list is = absurd (cc)
 raises_of t (tells.Failed k why) list is = absurd (cc)
 raises_of t tells.Shutdown list is = absurd (cc)
 raises_of t _ list is = refl
-
--- The clock.
-
-counted_clock : (s : ServerModel) (said : List ServerSaying) → (all_counted s said).clock ≡ s.clock
-counted_clock s [] = refl
-counted_clock s (y ∷ said) = counted_clock (counted s y.to) said
-
-done_clock : (list : List Act) (s : ServerModel) → (all_done list s).clock ≡ s.clock
-done_clock [] s = refl
-done_clock (a ∷ list) s = done_clock list (done a s) ∙ counted_clock (does a s) (says a s)
-
-pub serve_clock : (s : ServerModel) (letter : Letter) (x : Served) → serve s by_rank letter ≡ Some x → x.state.clock ≡ next_stamp s letter
-serve_clock s letter x serves =
-    let step = steps s letter x serves in
-    ap (λ (v : ServerModel). v.clock) step.state ∙ done_clock step.list (at_event s letter)
 
 -- Who waits.
 

@@ -1,5 +1,5 @@
 -- What holds of each world of one rank and one server to which a run leads: which letters are under way, and what an event leaves.
-use Rattle.std.proofs.Common.{◌≡◌, ℕ, ◌+◌, ◌==◌, ◌<◌, ◌≤◌, Bool, true, false, ◌&&◌, ◌||◌, cond, not, List, [], ◌∷◌, ◌++◌, length, Option, None, Some, refl, sym, ap, ◌∙◌, subst, arith}
+use Rattle.std.proofs.Common.{◌≡◌, ℕ, ◌+◌, ◌==◌, ◌<◌, ◌≤◌, Bool, true, false, ◌&&◌, ◌||◌, not, List, [], ◌∷◌, ◌++◌, length, Some, refl, sym, ap, ◌∙◌, subst, arith}
 use Rattle.std.specs.Prelude.{option_and_then}
 use Rattle.std.specs.Option.{option_map}
 use Rattle.adlb_unit.specs.Limits.{stamp_limit, InRanks, InServers, InLimit}
@@ -12,7 +12,6 @@ use Rattle.adlb_unit.specs.declared.letters.Letter.{Letter}
 use Rattle.adlb_unit.specs.declared.messages.Message.{Message}
 use Rattle.adlb_unit.specs.declared.messages.Message.TheVariants as tells
 use Rattle.bag_ledger.specs.declared.entries.Call.{Call}
-use Rattle.bag_ledger.proofs.Tests.{some_is}
 use Rattle.bag_ledger.specs.declared.entries.Entry.{Entry}
 use Rattle.rank_client.specs.Rules.{is_idle}
 use Rattle.rank_client.specs.Step.{Made, begin, hear, letter_stamp}
@@ -27,7 +26,6 @@ use Rattle.core_run.specs.Runs.{Runs, is_of_check}
 use Rattle.core_run.specs.World.{Links, World, after_rank, after_server, client_of, handle, happens, has_ended, link, pool_of, start, taken}
 use Rattle.core_run.specs.World.{row}
 use Rattle.core_law.specs.Letters.{is_finish, is_request, misfit, one, call_waits, remote_letter}
-use Rattle.core_law.specs.Lines.{AreStamped}
 use Rattle.core_law.specs.Measures.{measure, weigh}
 use Rattle.core_law.specs.Own.{IsClient, IsPool}
 use Rattle.core_law.specs.Well.{IsSquare}
@@ -38,6 +36,8 @@ use Rattle.core_law.proofs.InLine.{every_run_in_line}
 use Rattle.core_law.proofs.Owed.{finishes_are, letters_are, no_kinds}
 use Rattle.core_law.proofs.Steps.{happens_does, same_config}
 use Rattle.core_world.specs.Applied.{event_answer, event_stamp, front_answer, front_stamp}
+use Rattle.core_world.proofs.Reached.{mapped, mapped_unless, sent_before}
+use Rattle.core_world.proofs.Running.{runs_more}
 use Rattle.core_inline.specs.Inline.{zeroth}
 use Rattle.core_inline.specs.inside.Pairs.{IsLone, first_server}
 
@@ -173,31 +173,6 @@ told_no_check (tells.Token t) fits = absurd (omega (arith, fits))
 told_no_check (tells.Failed t why) fits = absurd (omega (arith, fits))
 told_no_check _ fits = refl
 
-stamped_below : (low last : ℕ) (letters : List Letter) → AreStamped low letters last → low ≤ last
-stamped_below low last [] stamped = stamped
-stamped_below low last (l ∷ letters) stamped = omega (arith, stamped.1, stamped_below l.stamp last letters stamped.2)
-
--- a letter at the front was sent before
-sent_before : (letters rest : List Letter) (letter : Letter) (last : ℕ) → AreStamped 0 letters last → letters ≡ letter ∷ rest
-    → letter.stamp ≤ last
-sent_before letters rest letter last stamped is =
-    let front : AreStamped 0 (letter ∷ rest) last = subst (λ k. AreStamped 0 k last) is stamped in
-    stamped_below letter.stamp last rest front.2
-
-mapped : {X Y : Type 0} (f : X → Y) (o : Option X) (y : Y) → option_map f o ≡ Some y → (x : X) × (o ≡ Some x) × (y ≡ f x)
-mapped f None y e = absurd (cc)
-mapped f (Some x) y e = (x, refl, sym (some_is e))
-
-pub mapped_if : {X Y : Type 0} (t : Bool) (f : X → Y) (o : Option X) (y : Y) → cond t (option_map f o) None ≡ Some y
-    → (x : X) × (o ≡ Some x) × (y ≡ f x)
-mapped_if true f o y e = mapped f o y e
-mapped_if false f o y e = absurd (cc)
-
-mapped_unless : {X Y : Type 0} (t : Bool) (f : X → Y) (o : Option X) (y : Y) → cond t None (option_map f o) ≡ Some y
-    → (x : X) × (o ≡ Some x) × (y ≡ f x)
-mapped_unless true f o y e = absurd (cc)
-mapped_unless false f o y e = mapped f o y e
-
 -- What an event does.
 
 -- the server has handled this letter, and none is under way to it any more
@@ -332,11 +307,6 @@ facts w l = by_world (λ v. IsLone v → AreFacts v) (λ limit a b d c s rr rs s
 
 -- Along a run.
 
-run_more : (w middle next : World) (events : List Event) (e : Event) → Runs w events middle → happens middle e ≡ Some next
-    → Runs w (events ++ e ∷ []) next
-run_more w middle next [] e run happened = (next, ap (λ v. happens v e) run ∙ happened, refl)
-run_more w middle next (d ∷ events) e run happened = (run.0, run.1, run_more run.0 middle next events e run.2 happened)
-
 pub config_next : (w next : World) (e : Event) → happens w e ≡ Some next → next.config ≡ w.config
 config_next w next e happened = same_config w next (happens_does w next e happened)
 
@@ -348,7 +318,7 @@ lone_next w next e l happened =
       one_server = ap (λ (g : Config). g.servers) same ∙ l.one_server;
       events = l.events ++ e ∷ [];
       run = subst (λ (g : Config). Runs (start g) (l.events ++ e ∷ []) next) (sym same)
-          (run_more (start w.config) w next l.events e l.run happened);
+          (runs_more (start w.config) w next l.events e l.run happened);
     }
 
 -- the numbers of each actor are those of the run

@@ -1,5 +1,7 @@
 pub mod Ended
 pub mod Posting
+pub mod Reached
+pub mod Refused
 pub mod Running
 pub mod Stamps
 pub mod Starting

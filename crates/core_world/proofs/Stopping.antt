@@ -194,7 +194,7 @@ handled_as : (w : World) (from : Actor) (to : Server) (letter : Letter) (rest : 
 handled_as w (by.Rank from) to letter rest = refl
 handled_as w (by.Server from) to letter rest = refl
 
-some_same : {X : Type 0} {x y : X} → Some x ≡ Some y → x ≡ y
+pub some_same : {X : Type 0} {x y : X} → Some x ≡ Some y → x ≡ y
 some_same is = cc
 
 same_transcript : (w now : World) (rank : Rank) → now.ranks ≡ w.ranks → now.config ≡ w.config → transcript now rank ≡ transcript w rank

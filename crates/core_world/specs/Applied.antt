@@ -1,7 +1,8 @@
 -- What applying an event does, why it is refused, and what stands then.
-use Rattle.std.specs.Prelude.{◌≡◌, ◌⊎◌, ◌<◌, ◌≤◌, ℕ, List, [], ◌∷◌, ◌++◌, Option, None, Some, IsSome, take, option_and_then}
+use Rattle.std.specs.Prelude.{◌≡◌, ◌⊎◌, ◌<◌, ◌≤◌, ℕ, true, false, List, [], ◌∷◌, ◌++◌, Option, None, Some, IsSome, take, option_and_then}
 use Rattle.std.specs.List.{slice_get}
 use Rattle.adlb_unit.specs.Limits.{stamp_limit}
+use Rattle.adlb_unit.specs.Links.{is_within}
 use Rattle.adlb_unit.specs.declared.actors.Actor.{Actor}
 use Rattle.adlb_unit.specs.declared.actors.Actor.TheVariants as by
 use Rattle.adlb_unit.specs.declared.letters.Letter.{Letter}
@@ -14,7 +15,7 @@ use Rattle.rank_client.specs.Step.{begin, call_stamp, hear, letter_stamp}
 use Rattle.server_law.specs.Step.{next_stamp}
 use Rattle.core_run.specs.declared.events.Event.{Event}
 use Rattle.core_run.specs.declared.events.Event.TheVariants as occurs
-use Rattle.core_run.specs.Runs.{run, transcript}
+use Rattle.core_run.specs.Runs.{is_over, run, transcript}
 use Rattle.core_run.specs.World.{World, client_of, happens, pool_of}
 use Rattle.core_world.specs.declared.faults.ApplyFault.{ApplyFault}
 use Rattle.core_world.specs.declared.faults.ApplyFault.TheVariants as faults
@@ -46,6 +47,13 @@ event_answer w (occurs.Deliver from to) = front_answer w from to (under_way w fr
 -- there is such an event now
 abbrev pub IsEnabled : World → Event → Type 0
 IsEnabled w event = IsSome (happens w event)
+
+-- The rank is not in the run, or not ready for the call; one of the two actors is not in the run, no letter is under way from the one to
+-- the other, or the receiver has ended. In a world to which a run leads, there is no such event exactly then.
+abbrev pub HasNone : World → Event → Type 0
+HasNone w (occurs.Call rank call) = (is_within w.config (by.Rank rank) ≡ false) ⊎ (begin (client_of w rank) call ≡ None)
+HasNone w (occurs.Deliver from to) =
+    (is_within w.config from ≡ false) ⊎ (is_within w.config to ≡ false) ⊎ (under_way w from to ≡ []) ⊎ (is_over w to ≡ true)
 
 -- what makes an actor fail in an event of this stamp: want of memory, or a stamp that is not given
 abbrev pub Causes : ℕ → Trouble → Type 0

@@ -1,10 +1,15 @@
 -- The fields of a world.
-use Rattle.std.specs.Prelude.{◌≡◌, length, slice_set, None, All}
+use Rattle.std.specs.Prelude.{◌≡◌, ◌<◌, List, length, slice_set, None, All}
+use Rattle.adlb_unit.specs.Limits.{stamp_limit}
+use Rattle.adlb_unit.specs.declared.actors.Actor.{Actor}
 use Rattle.adlb_unit.specs.declared.names.Rank.{Rank}
 use Rattle.adlb_unit.specs.declared.names.Server.{Server}
 use Rattle.rank_client.specs.State.{ClientModel}
 use Rattle.server_law.specs.State.{ServerModel}
-use Rattle.core_run.specs.World.{World}
+use Rattle.core_run.specs.declared.events.Event.{Event}
+use Rattle.core_run.specs.Runs.{Runs}
+use Rattle.core_run.specs.World.{World, start}
+use Rattle.core_law.specs.Lines.{clock_of}
 use Rattle.core_world.specs.declared.stages.Stage.TheInside.{Inside}
 
 abbrev pub world_of : Inside → World
@@ -35,3 +40,9 @@ IsInside i = IsFull (world_of i)
 pub record IsWhole (w : World) : Type 0 where
   pub ranks : All (λ (c : ClientModel). c.trouble ≡ None) w.ranks
   pub servers : All (λ (s : ServerModel). s.trouble ≡ None) w.servers
+
+-- a run leads to it from the start, and the last stamp of each actor is one that is given
+pub record IsReached (w : World) : Type 0 where
+  pub events : List Event
+  pub run : Runs (start w.config) events w
+  pub early : (actor : Actor) → clock_of w actor < stamp_limit

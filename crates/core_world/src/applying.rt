@@ -6,7 +6,7 @@ ghost use Rattle.adlb_unit.specs.declared.notes.Trouble.{Trouble};
 ghost use Rattle.core_run.specs.declared.events.Event.{Event};
 ghost use Rattle.core_run.specs.Runs.{run};
 ghost use Rattle.core_run.specs.World.{happens};
-ghost use Rattle.core_world.specs.Applied.{Applies, IsEnabled, Refuses, Stops, StopsAt, event_answer, event_stamp, fault_of};
+ghost use Rattle.core_world.specs.Applied.{Applies, HasNone, IsEnabled, Refuses, Stops, StopsAt, event_answer, event_stamp, fault_of};
 
 use crate::faults::ApplyFault;
 use crate::worlds::World;
@@ -15,8 +15,10 @@ use bag_ledger::Answer;
 use core_run::Event;
 
 impl World {
-    /// Carries out an event, as `happens` says: a rank begins a call, or an actor handles the front letter of a list. Where there
-    /// is no such event now, it answers `NotEnabled` with the event, and nothing has changed; this is tested first. It answers
+    /// Carries out an event, as `happens` says: a rank begins a call, or an actor handles the front letter of a list. If there
+    /// is no such event now, it answers `NotEnabled` with the event, and nothing has changed; this is tested first. It is so
+    /// exactly if the rank or an actor is not in the run, the rank is not ready, no letter is under way, or the receiver has
+    /// ended (`HasNone`): every other front letter is expected, since a run leads to the world. It answers
     /// `TooLong` exactly when the event is enabled and its stamp would reach `2^48`; the only other error is `Memory`.
     /// After one of these two the world has failed, and answers the same to every event; what stands then is said by `Stops`.
     pub fn apply(&mut self, event: Event) -> Result<(), ApplyFault>
@@ -26,6 +28,8 @@ impl World {
         // When each refusal comes.
         ensures not_enabled { (given : Event) → (result ≡ Err (ApplyFault.NotEnabled given)) ↔
             ((self.old.trouble ≡ None) × (happens self.old.world event ≡ None) × (given ≡ event)) }
+        ensures none_now { (given : Event) → (result ≡ Err (ApplyFault.NotEnabled given)) ↔
+            ((self.old.trouble ≡ None) × HasNone self.old.world event × (given ≡ event)) }
         ensures too_long { self.old.trouble ≡ None → (stamp : ℕ) → (result ≡ Err (ApplyFault.TooLong stamp)) ↔
             (IsEnabled self.old.world event × (stamp_limit ≤ stamp) × (stamp ≡ event_stamp self.old.world event)) }
         ensures failed { (trouble : Trouble) → self.old.trouble ≡ Some trouble → result ≡ Err (fault_of trouble) }

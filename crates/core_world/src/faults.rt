@@ -10,8 +10,8 @@ use thiserror::Error;
 /// Why a world does not apply an event.
 #[derive(Debug, Drop, Error)]
 pub enum ApplyFault {
-    /// There is no such event now: the rank is not ready for the call, or the list has no letter, or its actor has ended or
-    /// does not expect the letter.
+    /// There is no such event now: the rank is not in the run or not ready for the call; or an actor is not in the run, no
+    /// letter is under way from the one to the other, or the receiver has ended.
     #[error("not enabled now: {event:?}")]
     NotEnabled { event: Event },
     /// There is no memory.

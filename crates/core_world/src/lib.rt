@@ -2,7 +2,8 @@
 //!
 //! `World` is a run whose events are applied one by one, as a caller chooses them. It stands on the client of `rank_client`, the
 //! server of `server_core` and the run of `core_run`, whose definitions say what happens at an event; `specs/Seen.antt` is what
-//! contracts see of a world, and `specs/Applied.antt` says what applying an event does and why it is refused.
+//! contracts see of a world, and `specs/Applied.antt` says what applying an event does and why it is refused. A world keeps that
+//! a run leads to it, so by the laws of `core_law` and `core_check_law` each letter that it handles is expected.
 #![tactic(auto)]
 
 mod applying;

@@ -46,12 +46,6 @@ impl Link {
         self.letters.pop_front()
     }
 
-    fn front(&self) -> Option<&Letter>
-        ensures { MatchOption result (self.now ≡ []) (λ letter. (rest : List Letter) × (self.now ≡ letter.now ∷ rest)) }
-    {
-        self.letters.front()
-    }
-
     fn len(&self) -> u64
         ensures { result ≡ length self.now }
     {
@@ -148,16 +142,6 @@ impl Links {
         match self.at(from, to) {
             Some(link) => link.len(),
             None => 0,
-        }
-    }
-
-    // The front letter of the list.
-    pub(crate) fn front(&self, from: usize, to: usize) -> Option<&Letter>
-        ensures { MatchOption result (link self.now from to ≡ []) (λ letter. (rest : List Letter) × (link self.now from to ≡ letter.now ∷ rest)) }
-    {
-        match self.at(from, to) {
-            Some(link) => link.front(),
-            None => None,
         }
     }
 

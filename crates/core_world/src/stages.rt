@@ -1,16 +1,15 @@
 //! All actors, the letters between them and the ledger.
 
-ghost use Rattle.std.specs.Prelude.{◌≡◌, ◌<◌, ◌∷◌, ◌↔◌, List, true, IfOk, IsSome, IsTrue, length};
-ghost use Rattle.adlb_unit.specs.declared.letters.Letter.{Letter};
-ghost use Rattle.core_run.specs.Runs.{transcript};
-ghost use Rattle.core_run.specs.World.{client_of, handle, pool_of, start};
+ghost use Rattle.std.specs.Prelude.{◌≡◌, ◌<◌, ◌↔◌, true, IfOk, IsTrue, length};
+ghost use Rattle.core_run.specs.Runs.{is_over, transcript};
+ghost use Rattle.core_run.specs.World.{client_of, pool_of, start};
 ghost use Rattle.adlb_unit.specs.Links.{is_within};
 ghost use Rattle.core_world.specs.Applied.{IsEnabled};
 ghost use Rattle.core_world.specs.Seen.{under_way};
-ghost use Rattle.core_world.specs.Stage.{IsWhole};
+ghost use Rattle.core_world.specs.Stage.{IsReached, IsWhole};
 
 use crate::links::{Links, place_of};
-use adlb_unit::{Actor, Config, Letter, NoMemory, Rank, Server};
+use adlb_unit::{Actor, Config, NoMemory, Rank, Server};
 use bag_ledger::{Ledger, Said};
 use core_run::Event;
 use rank_client::ClientCore;
@@ -111,6 +110,7 @@ impl Stage {
 
     // There is such an event now.
     pub(crate) fn enables(&self, event: &Event) -> bool
+        requires { IsReached self.now }
         ensures { IsTrue result ↔ IsEnabled self.now event.now }
     {
         match event {
@@ -121,36 +121,22 @@ impl Stage {
         }
     }
 
-    // There is a front letter, and it is expected.
+    // There is a front letter, and the receiver goes on.
     fn can_deliver(&self, from: Actor, to: Actor) -> bool
+        requires { IsReached self.now }
         ensures { IsTrue result ↔ IsEnabled self.now (Event.Deliver from to) }
     {
-        if !self.has_actor(from) || !self.has_actor(to) {
-            return false;
-        }
-        match self
-            .links
-            .front(place_of(&self.config, from), place_of(&self.config, to))
-        {
-            Some(letter) => self.expects(from, to, letter),
-            None => false,
-        }
+        self.waiting(from, to) > 0 && !self.is_over(to)
     }
 
-    // The actor handles such a letter.
-    fn expects(&self, from: Actor, to: Actor, letter: &Letter) -> bool
-        requires { is_within self.now.config to ≡ true }
-        ensures { (rest : List Letter) → IsTrue result ↔ IsSome (handle self.now from to (letter.now ∷ rest)) }
+    // It is a server that has ended.
+    fn is_over(&self, actor: Actor) -> bool
+        requires { is_within self.now.config actor ≡ true }
+        ensures { result ≡ is_over self.now actor }
     {
-        match to {
-            Actor::Rank(to) => match from {
-                Actor::Server(from) => self.client_at(to).expects(from, letter),
-                Actor::Rank(_) => false,
-            },
-            Actor::Server(to) => {
-                let server = self.server_at(to);
-                !server.ended() && server.expects(from, letter)
-            }
+        match actor {
+            Actor::Rank(_) => false,
+            Actor::Server(server) => self.server_at(server).ended(),
         }
     }
 }

@@ -10,7 +10,7 @@ use std::alloc::Global;
 use std::test::Fail;
 
 /// How many runs.
-const RUNS: u64 = 2000;
+const RUNS: u64 = 10000;
 
 // The ledger of these entries, the one at this place changed.
 fn with_change(alloc: Global, entries: &[Entry], place: usize) -> Result<Ledger, Fail> {
@@ -137,11 +137,11 @@ impl Seen {
             && self.far
             && self.hinted
             && self.withdrawn
-            && self.moved > 800
-            && self.found > 1000
-            && self.done > 300
-            && self.freed > 1200
-            && self.entries > 200000
+            && self.moved > 4000
+            && self.found > 5000
+            && self.done > 1500
+            && self.freed > 6000
+            && self.entries > 1000000
     }
 }
 

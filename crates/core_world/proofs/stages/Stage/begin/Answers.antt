@@ -16,6 +16,6 @@ pub returns-clause-whole : goal.returns-clause-whole
 returns-clause-whole c =
     let w = c.args.self.now in
     let b = c.in_ok-sends.ensures.begun in
-    let fine : b.0.trouble ≡ None = begin_leaves (client_of w c.args.rank) c.args.call (gives b.0 c.in_ok-sends.field-0) b.1 ∙ whole_rank w c.args.rank c.requires.whole in
+    let fine : b.0.trouble ≡ None = (begin_leaves (client_of w c.args.rank) c.args.call (gives b.0 c.in_ok-sends.field-0) b.1).0 ∙ whole_rank w c.args.rank c.requires.whole in
     let is = c.in_ok-give.ensures.given in
     whole_client w c.client_begins.new.self c.give.new.self c.args.rank b.0 c.requires.whole fine b.2 (ap (λ (v : World). v.ranks) is) (ap (λ (v : World). v.servers) is)

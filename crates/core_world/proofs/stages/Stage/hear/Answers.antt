@@ -24,6 +24,6 @@ returns-clause-whole c =
     let w = c.take-letter.new.self in
     let b = c.in_ok-sends.ensures.heard in
     let whole : IsWhole w = whole_taken c.args.self.now w _ c.requires.whole c.take-letter.ensures.2 in
-    let fine : b.0.trouble ≡ None = hear_leaves (client_of w c.args.to) c.args.from c.take-letter.result (gives b.0 c.in_ok-sends.field-0) b.1 ∙ whole_rank w c.args.to whole in
+    let fine : b.0.trouble ≡ None = (hear_leaves (client_of w c.args.to) c.args.from c.take-letter.result (gives b.0 c.in_ok-sends.field-0) b.1).0 ∙ whole_rank w c.args.to whole in
     let is = c.in_ok-give.ensures.given in
     whole_client w c.client_hears.new.self c.give.new.self c.args.to b.0 whole fine b.2 (ap (λ (v : World). v.ranks) is) (ap (λ (v : World). v.servers) is)

@@ -24,7 +24,7 @@ returns-clause-whole c =
     let w = c.take-letter.new.self in
     let b = c.in_ok-sends.ensures.served in
     let whole : IsWhole w = whole_taken c.args.self.now w _ c.requires.whole c.take-letter.ensures.2 in
-    let fine : b.0.trouble ≡ None = serve_stays (pool_of w c.args.to) c.args.from c.take-letter.result _ b.1 ∙ whole_pool w c.args.to whole in
+    let fine : b.0.trouble ≡ None = (serve_stays (pool_of w c.args.to) c.args.from c.take-letter.result _ b.1).0 ∙ whole_pool w c.args.to whole in
     let is = c.in_ok-give.ensures.given in
     whole_server w c.server_steps.new.self c.give.new.self c.args.to b.0 whole fine b.2 (ap (λ (v : World). v.ranks) is) (ap (λ (v : World). v.servers) is)
 
