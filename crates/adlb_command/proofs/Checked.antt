@@ -14,7 +14,7 @@ use Rattle.ledger_command.specs.declared.faults.CheckFault.TheVariants as checks
 use Rattle.ledger_command.specs.declared.verdicts.Verdict.{Verdict}
 use Rattle.ledger_command.proofs.Ending.{RefusesNone, overlong_told, refused_there, text_told}
 use Rattle.ledger_file.specs.Lines.{IsFirstBad, IsText}
-use Rattle.adlb_command.specs.Ends.{fault_at_check, fault_told, found_by}
+use Rattle.adlb_command.specs.Ends.{fault_at_check, fault_told}
 use Rattle.adlb_command.specs.Top.{EndsAsChecked}
 use Rattle.adlb_command.specs.declared.ends.RunFault.{RunFault}
 use Rattle.adlb_command.specs.declared.ends.RunFault.TheVariants.{Entry, Memory, TooLarge, Usage}
@@ -41,14 +41,6 @@ no_usage (Err (checks.Entry line)) e = absurd (cc)
 pub never_usage : (before after : Seen) (fault : Option RunFault) (report : Option (Reported Outcome)) →
     EndsAsChecked before after fault report → fault ≡ Some Usage → ⊥
 never_usage before after fault report ends is = no_usage ends.checked (sym is ∙ ends.fault_is)
-
--- no check tells of a run that is not confirmed
-pub check_plain : (met : CheckFault) → found_by (Some (fault_at_check met)) ≡ None
-check_plain checks.Read = refl
-check_plain checks.Write = refl
-check_plain checks.Memory = refl
-check_plain (checks.TooLarge taken) = refl
-check_plain (checks.Entry line) = refl
 
 fine_or : (checked : Result Verdict CheckFault) (config : Config) (ledger : List of.Entry) →
     MatchResult checked (IsVerdict config ledger) (λ fault. fault ≡ checks.Memory) → (fault_told checked ≡ None) ⊎ (fault_told checked ≡ Some Memory)

@@ -12,7 +12,7 @@ use Rattle.adlb_command.specs.Top.{EndsAsDrilled, Scene}
 use Rattle.adlb_command.specs.Words.{Say}
 use Rattle.adlb_command.specs.Inside.{Refuses, RefusesBytes}
 use Rattle.adlb_command.specs.declared.ends.RunFault.{RunFault}
-use Rattle.adlb_command.specs.declared.ends.RunFault.TheVariants.{Input, Usage, Read, Write, NoThread, Memory, TooLong, TooLarge, NotConfirmed, Entry}
+use Rattle.adlb_command.specs.declared.ends.RunFault.TheVariants.{Input, Usage, Read, Write, NoThread, Memory, TooLong, TooLarge, Entry}
 
 -- no read failed
 pub no_more : Rises 0 0 → ⊥
@@ -31,7 +31,6 @@ text_refuses text short Usage is = absurd is
 text_refuses text short Read is = absurd is
 text_refuses text short Write is = absurd is
 text_refuses text short NoThread is = absurd is
-text_refuses text short (NotConfirmed found) is = absurd is
 text_refuses text short (TooLong stamp) is = absurd is
 text_refuses text short (TooLarge taken) is = absurd is
 text_refuses text short (Entry line) is = absurd is

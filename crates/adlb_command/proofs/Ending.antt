@@ -1,5 +1,5 @@
 -- How a run ends: with a fault before anything is written, or as the writing of its report ended.
-use Rattle.std.proofs.Common.{◌≡◌, ◌⊎◌, ◌<◌, ◌≤◌, ◌+◌, ◌==◌, ℕ, List, ◌++◌, length, take, Option, Some, None, refl, sym, ap, ◌∙◌, subst, inl, inr, arith, length-append, append-nil}
+use Rattle.std.proofs.Common.{◌≡◌, ◌⊎◌, ◌<◌, ◌≤◌, ◌+◌, ◌==◌, ℕ, Bool, List, ◌++◌, length, take, Option, Some, None, IfSome, refl, sym, ap, ◌∙◌, subst, inl, inr, arith, length-append, append-nil}
 use Rattle.std.proofs.lemmas.List.{length-take-le}
 use Rattle.std.proofs.lemmas.Bool.{cases_eq, cond-false, ne_eqb}
 use Rattle.adlb_io.specs.Inputs.{IsAtEnd}
@@ -11,9 +11,8 @@ use Rattle.adlb_threads.specs.Reports.{Reported}
 use Rattle.job_report.specs.declared.outcomes.Outcome.{Outcome}
 use Rattle.puzzle_app.specs.declared.outcomes.Settings.{Settings}
 use Rattle.adlb_command.specs.declared.ends.RunFault.{RunFault}
-use Rattle.adlb_command.specs.declared.ends.RunFault.TheVariants.{Input, Usage, Read, Write, NoThread, Memory, TooLong, TooLarge, NotConfirmed, Entry}
-use Rattle.adlb_threads.specs.declared.faults.Unconfirmed.{Unconfirmed}
-use Rattle.adlb_command.specs.Ends.{IsFine, fault_of, found_by, found_in}
+use Rattle.adlb_command.specs.declared.ends.RunFault.TheVariants.{Input, Usage, Read, Write, NoThread, Memory, TooLong, TooLarge, Entry}
+use Rattle.adlb_command.specs.Ends.{IsFine, fault_of}
 use Rattle.job_text.specs.Jobs.{input_refused}
 use Rattle.job_text.specs.declared.faults.LineWhy.{LineWhy}
 use Rattle.adlb_command.specs.Input.{HasAccepted, IsAccepted, input_limit}
@@ -36,36 +35,16 @@ ends_early settings wanted before after Read is same = (is, record { nothing = s
 ends_early settings wanted before after Write is same = absurd is
 ends_early settings wanted before after (Entry line) is same = absurd is
 ends_early settings wanted before after NoThread is same = absurd is
-ends_early settings wanted before after (NotConfirmed found) is same = absurd is
 ends_early settings wanted before after Memory is same =
     record { nothing = λ e. same; front = λ some. absurd (cc); kept = none_begun before.taken after.taken same }
 ends_early settings wanted before after (TooLong stamp) is same = (is.0, is.1, record { nothing = same; none_kept = refl })
 ends_early settings wanted before after (TooLarge taken) is same = (is.0, is.1, is.2, record { nothing = same; none_kept = refl })
-
--- and it is none that a run with threads alone ends by
-pub plain_refusal : (left : Option (List ℕ)) (reads now : ℕ) (fault : RunFault) → Refuses left reads now fault → found_by (Some fault) ≡ None
-plain_refusal left reads now (Input line why) is = refl
-plain_refusal left reads now Usage is = refl
-plain_refusal left reads now (Entry line) is = refl
-plain_refusal left reads now Read is = refl
-plain_refusal left reads now Write is = refl
-plain_refusal left reads now NoThread is = refl
-plain_refusal left reads now Memory is = refl
-plain_refusal left reads now (TooLong stamp) is = refl
-plain_refusal left reads now (TooLarge taken) is = refl
-plain_refusal left reads now (NotConfirmed found) is = absurd is
-
--- nothing was found, and none is left
-pub none_shown : (unconfirmed : Option Unconfirmed) (fault : Option RunFault) → unconfirmed ≡ None → found_by fault ≡ None →
-    found_in unconfirmed ≡ found_by fault
-none_shown unconfirmed fault none plain = ap found_in none ∙ sym plain
 
 -- and where threads were to run
 pub ends_stopped : (settings : Settings) (wanted : Wanted) (before after : Scene) (fault : RunFault) →
     Stops before.left before.reads after.reads before.refused after.refused fault → after.taken ≡ before.taken →
     EndsBy settings wanted before after (Some fault) None
 ends_stopped settings wanted before after NoThread is same = (is.0, is.1, record { nothing = same; none_kept = refl })
-ends_stopped settings wanted before after (NotConfirmed found) is same = (is, record { nothing = same; none_kept = refl })
 ends_stopped settings wanted before after (Input line why) is same = ends_early settings wanted before after (Input line why) is same
 ends_stopped settings wanted before after Usage is same = ends_early settings wanted before after Usage is same
 ends_stopped settings wanted before after (Entry line) is same = ends_early settings wanted before after (Entry line) is same
@@ -124,6 +103,23 @@ module _ (settings : Settings) (wanted : Wanted) (before after : Scene) (report 
     ends_answered fault kept (inl w) = rw (w.fine, w.keeps) (at_end, (text, answers, w.taken), w.flush)
     ends_answered fault kept (inr w) = rw (w.fails, w.keeps) (cut_off w.unwritten.fault w.unwritten.taken w.part w.taken w.cause)
 
+-- what is so of the report is so of the one that is kept
+module _ (P : Reported Outcome → Type 0) (report : Reported Outcome) (is : P report) where
+  kept_cut : (met : SinkFault) (n : ℕ) → IfSome (kept_of met n report) P
+  kept_cut sinks.Failed n = is
+  kept_cut sinks.Memory n = elim (cases_eq n 0) [
+    | inl e ↦ let keeps : kept_of sinks.Memory n report ≡ None = rw e refl in subst (λ k. IfSome k P) (sym keeps) tt
+    | inr differs ↦
+        let keeps : kept_of sinks.Memory n report ≡ Some report = cond-false (n == 0) None (Some report) (ne_eqb n 0 differs) in
+        subst (λ k. IfSome k P) (sym keeps) is
+  ]
+
+  pub kept_has : (text : List ℕ) (before after : Option (List ℕ)) (faults now : ℕ) (flushed : Bool) (fault : Option RunFault)
+      (kept : Option (Reported Outcome)) → Writes report text before after faults now flushed fault kept → IfSome kept P
+  kept_has text before after faults now flushed fault kept (inl w) = subst (λ k. IfSome k P) (sym w.keeps) is
+  kept_has text before after faults now flushed fault kept (inr w) =
+      subst (λ k. IfSome k P) (sym w.keeps) (kept_cut w.unwritten.fault w.unwritten.taken)
+
 -- something is not nothing
 not_both : {X : Type 0} (o : Option X) (x : X) → o ≡ Some x → o ≡ None → ⊥
 not_both None x some none = absurd (cc)
@@ -150,7 +146,6 @@ module _ (settings : Settings) (wanted : Wanted) (before after : Scene) (report 
   accepted_fine no_write no_refusal (Some Read) ends accepted = absurd (no_read ends.0)
   accepted_fine no_write no_refusal (Some Write) ends accepted = absurd (no_write ends.0)
   accepted_fine no_write no_refusal (Some NoThread) ends accepted = absurd (no_refusal ends.0)
-  accepted_fine no_write no_refusal (Some (NotConfirmed found)) ends accepted = tt
   accepted_fine no_write no_refusal (Some Memory) ends accepted = tt
   accepted_fine no_write no_refusal (Some (TooLong stamp)) ends accepted = tt
   accepted_fine no_write no_refusal (Some (TooLarge taken)) ends accepted = absurd (omega (arith, ends.1 bytes told, accepted.short))
@@ -177,8 +172,6 @@ module _ (settings : Settings) (wanted : Wanted) (before after : Scene) (report 
       absurd (not_both (input_refused bytes) (line, why) is accepts.fine)
   refused_there (Some NoThread) ends line why short is =
       absurd (not_both (input_refused bytes) (line, why) is (ends.1 bytes told).fine)
-  refused_there (Some (NotConfirmed found)) ends line why short is =
-      absurd (not_both (input_refused bytes) (line, why) is (ends.0 bytes told).fine)
   refused_there (Some Memory) ends line why short is = inr refl
   refused_there (Some (TooLong stamp)) ends line why short is =
       absurd (not_both (input_refused bytes) (line, why) is (ends.1 bytes told).fine)
@@ -196,7 +189,6 @@ module _ (settings : Settings) (wanted : Wanted) (before after : Scene) (report 
   overlong_told (Some Write) ends long =
       let accepts = answered_accepts settings wanted before.left _ report ends.1 bytes told in absurd (omega (arith, long, accepts.short))
   overlong_told (Some NoThread) ends long = absurd (omega (arith, long, (ends.1 bytes told).short))
-  overlong_told (Some (NotConfirmed found)) ends long = absurd (omega (arith, long, (ends.0 bytes told).short))
   overlong_told (Some Memory) ends long = inr refl
   overlong_told (Some (TooLong stamp)) ends long = absurd (omega (arith, long, (ends.1 bytes told).short))
   overlong_told (Some (TooLarge taken)) ends long = inl (ap (λ n. Some (TooLarge n)) ends.0)

@@ -14,7 +14,7 @@ use Rattle.adlb_command.specs.Input.{AreJobs, input_limit}
 use Rattle.adlb_command.specs.Inside.{Refuses, RefusesBytes}
 use Rattle.adlb_command.specs.declared.reading.Asked.{Asked}
 use Rattle.adlb_command.specs.declared.ends.RunFault.{RunFault}
-use Rattle.adlb_command.specs.declared.ends.RunFault.TheVariants.{Input, Usage, Read, Write, NoThread, Memory, TooLong, TooLarge, NotConfirmed, Entry}
+use Rattle.adlb_command.specs.declared.ends.RunFault.TheVariants.{Input, Usage, Read, Write, NoThread, Memory, TooLong, TooLarge, Entry}
 
 module _ (before after : Option (List ℕ)) (read : List ℕ) (reads : Reads before after (input_limit + 1) read) where
   whole : (all : List ℕ) → length read ≤ input_limit → before ≡ Some all → read ≡ all
@@ -38,7 +38,6 @@ module _ (before after : Option (List ℕ)) (read : List ℕ) (reads : Reads bef
   read_refuses short faults now same Read is = absurd is
   read_refuses short faults now same Write is = absurd is
   read_refuses short faults now same NoThread is = absurd is
-  read_refuses short faults now same (NotConfirmed found) is = absurd is
   read_refuses short faults now same (TooLong stamp) is = absurd is
   read_refuses short faults now same (TooLarge taken) is = absurd is
   read_refuses short faults now same (Entry line) is = absurd is

@@ -2,8 +2,8 @@ pub mod Ending
 pub mod Forms
 pub mod Keeping
 pub mod Checked
-pub mod Confirming
 pub mod Made
 pub mod Drilled
+pub mod RunKept
 pub mod Running
 pub mod Stopping

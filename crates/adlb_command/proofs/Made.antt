@@ -9,7 +9,7 @@ use Rattle.made_jobs.specs.Ends.{MakesTo, SinkSeen, sink_seen}
 use Rattle.made_jobs.specs.Made.{made_text}
 use Rattle.made_jobs.specs.declared.faults.MadeFault.{MadeFault}
 use Rattle.made_jobs.specs.declared.faults.MadeFault.TheVariants as makes
-use Rattle.adlb_command.specs.Ends.{fault_at_making, fault_made, found_by}
+use Rattle.adlb_command.specs.Ends.{fault_made}
 use Rattle.adlb_command.specs.Top.{EndsAsMade}
 use Rattle.adlb_command.specs.declared.ends.RunFault.{RunFault}
 use Rattle.adlb_command.specs.declared.ends.RunFault.TheVariants.{Memory, Usage}
@@ -39,11 +39,6 @@ no_usage (Err makes.Memory) e = absurd (cc)
 pub never_usage_made : (count seed : ℕ) (before after : Seen) (fault : Option RunFault) (report : Option (Reported Outcome)) →
     EndsAsMade count seed before after fault report → fault ≡ Some Usage → ⊥
 never_usage_made count seed before after fault report ends is = no_usage ends.made (sym is ∙ ends.fault_is)
-
--- no making tells of a run that is not confirmed
-pub make_plain : (met : MadeFault) → found_by (Some (fault_at_making met)) ≡ None
-make_plain makes.Write = refl
-make_plain makes.Memory = refl
 
 -- the whole text was written, unless a write or memory failed
 fine_or : (text : List ℕ) (before after : SinkSeen) (made : Result (Unit {0}) MadeFault) → MakesTo text before after made →

@@ -13,12 +13,10 @@ use Rattle.ledger_command.specs.declared.faults.CheckFault.TheVariants as checks
 use Rattle.ledger_command.specs.declared.verdicts.Verdict.{Verdict}
 use Rattle.made_jobs.specs.declared.faults.MadeFault.{MadeFault}
 use Rattle.made_jobs.specs.declared.faults.MadeFault.TheVariants as makes
-use Rattle.adlb_threads.specs.declared.faults.Found.{Found}
 use Rattle.adlb_threads.specs.declared.faults.RanFault.{RanFault}
 use Rattle.adlb_threads.specs.declared.faults.RanFault.TheVariants as runs
-use Rattle.adlb_threads.specs.declared.faults.Unconfirmed.{Unconfirmed}
 use Rattle.adlb_command.specs.declared.ends.RunFault.{RunFault}
-use Rattle.adlb_command.specs.declared.ends.RunFault.TheVariants.{Input, Usage, Read, Write, NoThread, Memory, TooLong, TooLarge, NotConfirmed, Entry}
+use Rattle.adlb_command.specs.declared.ends.RunFault.TheVariants.{Input, Usage, Read, Write, NoThread, Memory, TooLong, TooLarge, Entry}
 
 abbrev pub status_of : Option RunFault → ℕ
 status_of None = 0
@@ -30,7 +28,6 @@ status_of (Some NoThread) = 5
 status_of (Some Memory) = 6
 status_of (Some (TooLong stamp)) = 7
 status_of (Some (TooLarge taken)) = 8
-status_of (Some (NotConfirmed found)) = 9
 status_of (Some (Entry line)) = 1
 
 -- there is no fault, or one that neither the outside nor the input brings about
@@ -38,17 +35,7 @@ abbrev pub IsFine : Option RunFault → Type 0
 IsFine None = Unit {0}
 IsFine (Some Memory) = Unit {0}
 IsFine (Some (TooLong stamp)) = Unit {0}
-IsFine (Some (NotConfirmed found)) = Unit {0}
 IsFine fault = ⊥
-
--- what was found of a run that was not confirmed: as the fault says it, and as what the run left shows it
-abbrev pub found_by : Option RunFault → Option Found
-found_by (Some (NotConfirmed found)) = Some found
-found_by fault = None
-
-abbrev pub found_in : Option Unconfirmed → Option Found
-found_in None = None
-found_in (Some u) = Some u.found
 
 -- Which fault a trouble of the world, a refusal of the input, a fault of the source and one of the sink is to a run.
 
@@ -68,17 +55,12 @@ abbrev pub fault_of : SinkFault → RunFault
 fault_of sinks.Failed = Write
 fault_of sinks.Memory = Memory
 
--- Which fault one of a run with threads is, and what it leaves.
+-- Which fault one of a run with threads is.
 
 abbrev pub fault_ran : RanFault → RunFault
 fault_ran runs.NoThread = NoThread
 fault_ran runs.Memory = Memory
 fault_ran (runs.TooLong stamp) = TooLong stamp
-fault_ran (runs.Unconfirmed u) = NotConfirmed u.found
-
-abbrev pub left_by : RanFault → Option Unconfirmed
-left_by (runs.Unconfirmed u) = Some u
-left_by fault = None
 
 -- Which fault one of a check is, and that of its end.
 

@@ -1,5 +1,5 @@
 -- What stands between the parts of a run: why its input gave no answer, what its world was, and how the writing ended.
-use Rattle.std.specs.Prelude.{◌≡◌, ◌≤◌, ◌+◌, ◌^◌, ◌⊎◌, ◌==◌, ℕ, Bool, true, List, [], ◌∷◌, length, take, Option, Some, None, IfSome, Result, Ok, if◌then◌else◌, slice_get}
+use Rattle.std.specs.Prelude.{◌≡◌, ◌≤◌, ◌+◌, ◌^◌, ◌⊎◌, ◌==◌, ℕ, Bool, true, List, [], ◌∷◌, length, take, Option, Some, None, Result, Ok, if◌then◌else◌, slice_get}
 use Rattle.adlb_io.specs.Outside.{Rises, Takes}
 use Rattle.adlb_io.specs.declared.sinks.SinkFault.{SinkFault}
 use Rattle.adlb_io.specs.declared.sinks.SinkFault.TheVariants as sinks
@@ -20,15 +20,13 @@ use Rattle.server_core.specs.declared.states.LeftUnit.{LeftUnit}
 use Rattle.command_words.specs.Ranges.{IsIn, counts}
 use Rattle.command_words.specs.Said.{IsRunWithin}
 use Rattle.command_words.specs.declared.commands.Command.TheVariants.{Solve, Check, Make, Drill}
-use Rattle.adlb_command.specs.Ends.{fault_of, found_by, found_in}
-use Rattle.adlb_command.specs.Top.{IsFoundOf}
-use Rattle.adlb_command.specs.declared.stops.Stopped.{Stopped}
+use Rattle.adlb_command.specs.Ends.{fault_of}
 use Rattle.adlb_command.specs.Words.{Say}
 use Rattle.adlb_command.specs.declared.words.Accepted.{Accepted}
 use Rattle.adlb_command.specs.declared.words.Accepted.TheVariants as accepted
 use Rattle.adlb_command.specs.Input.{HasAccepted, IsRefusedAt, IsTooLong, input_limit}
 use Rattle.adlb_command.specs.declared.ends.RunFault.{RunFault}
-use Rattle.adlb_command.specs.declared.ends.RunFault.TheVariants.{Input, Read, NoThread, Memory, TooLong, TooLarge, NotConfirmed}
+use Rattle.adlb_command.specs.declared.ends.RunFault.TheVariants.{Input, Read, NoThread, Memory, TooLong, TooLarge}
 
 -- Why there was no answer.
 
@@ -50,7 +48,6 @@ Refuses left reads reads' fault = ⊥
 -- why an input gave no answer where threads were to run, with the spawner's counts of refused starts
 abbrev pub Stops : Option (List ℕ) → ℕ → ℕ → ℕ → ℕ → RunFault → Type 0
 Stops left reads reads' refused refused' NoThread = Rises refused refused' × HasAccepted left
-Stops left reads reads' refused refused' (NotConfirmed found) = HasAccepted left
 Stops left reads reads' refused refused' fault = Refuses left reads reads' fault
 
 -- why a run in line over jobs gave no answer
@@ -62,13 +59,7 @@ IsRunFault fault = ⊥
 -- and one with threads
 abbrev pub IsThreadFault : ℕ → ℕ → RunFault → Type 0
 IsThreadFault refused refused' NoThread = Rises refused refused'
-IsThreadFault refused refused' (NotConfirmed found) = Unit {0}
 IsThreadFault refused refused' fault = IsRunFault fault
-
--- what such a run leaves shows what its fault says, and was found of it
-pub record IsLeftBy (config : Config) (stopped : Stopped) : Type 0 where
-  pub shown : found_in stopped.unconfirmed ≡ found_by (Some stopped.fault)
-  pub found : IfSome stopped.unconfirmed (IsFoundOf config)
 
 -- the program of the rank of this number, and those of all ranks: the first has the jobs
 pub record IsProgramOf (settings : Settings) (jobs : List Job) (number : ℕ) (program : PuzzleProgram) : Type 0 where

@@ -1,11 +1,10 @@
 -- How a command ends: what it wrote, what it keeps, and why.
-use Rattle.std.specs.Prelude.{◌≡◌, ◌↔◌, ◌≤◌, ◌<◌, ◌+◌, ◌^◌, ◌++◌, ℕ, Bool, true, false, List, [], length, map, Option, Some, None, IsSome, IfSome, Result, if◌then◌else◌, codes, decimal}
+use Rattle.std.specs.Prelude.{◌≡◌, ◌↔◌, ◌≤◌, ◌<◌, ◌+◌, ◌^◌, ◌++◌, ℕ, Bool, true, false, List, [], length, Option, Some, None, IsSome, IfSome, Result, if◌then◌else◌, codes, decimal}
 use Rattle.adlb_io.specs.Inputs.{IsAtEnd, Seen}
 use Rattle.adlb_io.specs.Outside.{Rises, Takes}
 use Rattle.adlb_io.specs.Whole.{TakesPrefix}
-use Rattle.adlb_threads.specs.Confirmed.{IsFound, RisesBy}
 use Rattle.adlb_threads.specs.Reports.{Reported}
-use Rattle.adlb_threads.specs.declared.faults.Unconfirmed.{Unconfirmed}
+use Rattle.adlb_threads.specs.Runs.{RisesBy}
 use Rattle.adlb_unit.specs.declared.configs.Config.{Config}
 use Rattle.command_words.specs.declared.commands.RunOptions.{RunOptions}
 use Rattle.job_text.specs.declared.jobs.Job.{Job}
@@ -29,7 +28,7 @@ use Rattle.adlb_command.specs.declared.wanted.Wanted.{Wanted}
 use Rattle.adlb_command.specs.declared.wanted.Wanted.TheVariants.{Report, Summary}
 use Rattle.job_report.specs.Summary.{summary}
 use Rattle.adlb_command.specs.declared.ends.RunFault.{RunFault}
-use Rattle.adlb_command.specs.declared.ends.RunFault.TheVariants.{Input, Usage, Read, Write, NoThread, Memory, TooLong, TooLarge, NotConfirmed, Entry}
+use Rattle.adlb_command.specs.declared.ends.RunFault.TheVariants.{Input, Usage, Read, Write, NoThread, Memory, TooLong, TooLarge, Entry}
 
 -- what is seen of the outside: what the source has left and the sink took, their counts of faults, that all is flushed, and how many
 -- starts of threads were refused and how many were not
@@ -74,12 +73,11 @@ IsTold settings (Report extras) jobs r told =
     (report : List ℕ) × IsReport settings.budget settings.grain jobs report × (told ≡ report ++ behind extras r)
 IsTold settings (Summary count seed) jobs r told = told ≡ drill_line count seed ++ summary settings.budget settings.grain jobs
 
--- the input's jobs were run with these settings: this is the text, and this is kept, with no history of events
+-- the input's jobs were run with these settings: this is the text, and this is kept
 pub record IsAnswered (settings : Settings) (wanted : Wanted) (left : Option (List ℕ)) (r : Reported Outcome) (told : List ℕ) : Type 0 where
   pub jobs : List Job
   pub read : (bytes : List ℕ) → left ≡ Some bytes → AreJobs bytes jobs
   pub kept : IsKept settings jobs r
-  pub history : r.history ≡ []
   pub text : IsTold settings wanted jobs r told
 
 -- a report is kept, and its text was written so
@@ -121,7 +119,6 @@ EndsBy settings wanted before after (Some (TooLong stamp)) report =
     (2 ^ 48 ≤ stamp) × HasAccepted before.left × IsSilent before after report
 EndsBy settings wanted before after (Some (TooLarge taken)) report =
     (taken ≡ input_limit + 1) × IsTooLong before.left × (after.reads ≡ before.reads) × IsSilent before after report
-EndsBy settings wanted before after (Some (NotConfirmed found)) report = HasAccepted before.left × IsSilent before after report
 
 -- the ends of `check`: it ends as the check of the ledger did, and keeps no report
 pub record EndsAsChecked (before after : Seen) (fault : Option RunFault) (report : Option (Reported Outcome)) : Type 0 where
@@ -146,24 +143,16 @@ EndsAsDrilled settings count seed before after fault report =
     (scene (Some (made_text count seed)) 0 before.taken before.writes before.flushed before.refused before.started)
     (scene (Some []) 0 after.taken after.writes after.flushed after.refused after.started) fault report
 
--- What a run with threads starts, and what it leaves if it was not confirmed.
+-- What a run keeps and starts, by its options.
 
 -- a thread for each rank and for each server was started, or the count stands at its last value
 abbrev pub HasStarted : Config → ℕ → ℕ → Type 0
 HasStarted config before now = RisesBy (config.ranks + config.servers) before now
 
--- this was found of its ledger, of what its ranks were told, and of the units that are left
-abbrev pub IsFoundOf : Config → Unconfirmed → Type 0
-IsFoundOf config u = IsFound config u.ledger (map (λ said. said.items) u.transcripts.items) u.left.items u.found
-
--- that of a run with the numbers that these options say
-abbrev pub IsFoundAs : RunOptions → Unconfirmed → Type 0
-IsFoundAs options u = (config : Config) × IsConfigOf options config × IsFoundOf config u
-
--- a run with these options: what it keeps or leaves is of the numbers that they say; one that is reported started its threads, unless
--- it was in line, which leaves the spawner alone
-pub record IsRunOf (options : RunOptions) (before after : Scene) (report : Option (Reported Outcome)) (unconfirmed : Option Unconfirmed) : Type 0 where
+-- a run with these options: what it keeps is of the numbers that they say. With threads, one that is reported started a thread for each
+-- rank and for each server. One in line leaves the spawner alone, and keeps no history of events.
+pub record IsRunWith (options : RunOptions) (before after : Scene) (report : Option (Reported Outcome)) : Type 0 where
   pub kept : IfSome report (λ r. IsConfigOf options r.config)
-  pub left : IfSome unconfirmed (IsFoundAs options)
   pub started : options.inline ≡ false → IfSome report (λ r. HasStarted r.config before.started after.started)
   pub untouched : options.inline ≡ true → (after.refused ≡ before.refused) × (after.started ≡ before.started)
+  pub no_history : options.inline ≡ true → IfSome report (λ r. r.history ≡ [])

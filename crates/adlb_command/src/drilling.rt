@@ -1,19 +1,19 @@
 //! Runs over a made input.
 
-ghost use Rattle.std.specs.Prelude.{◌≡◌, ◌≤◌, ◌^◌, ℕ, List, Option, Some, None, All, IfErr, IfOk, IfSome, IsSome, length, OnOk};
+ghost use Rattle.std.specs.Prelude.{◌≡◌, ◌≤◌, ◌^◌, ℕ, List, [], Option, Some, All, IfErr, IfOk, IfSome, IsSome, length, OnOk};
 ghost use Rattle.job_text.specs.Jobs.{HasGrid};
 ghost use Rattle.made_jobs.specs.Made.{made_text};
-ghost use Rattle.adlb_command.specs.Ends.{found_by, found_in, status_of};
+ghost use Rattle.adlb_threads.specs.Runs.{IsOneRun};
+ghost use Rattle.adlb_command.specs.Ends.{status_of};
 ghost use Rattle.adlb_command.specs.Input.{AreJobs};
-ghost use Rattle.adlb_command.specs.Inside.{IsLeftBy, Refuses, Stops};
-ghost use Rattle.adlb_command.specs.Top.{EndsAsDrilled, HasStarted, IsAnswered, IsFoundOf, scene};
+ghost use Rattle.adlb_command.specs.Inside.{Refuses, Stops};
+ghost use Rattle.adlb_command.specs.Top.{EndsAsDrilled, HasStarted, IsAnswered, scene};
 ghost use Rattle.adlb_command.specs.declared.wanted.Wanted.{Wanted};
 
 use crate::answers::Answer;
 use crate::ends::{RunEnd, RunFault};
 use crate::inline::answer_inline;
 use crate::reading::{Asked, read_twice};
-use crate::stops::Stopped;
 use crate::threads::answer_threads;
 use crate::wanted::Wanted;
 use crate::writing::write_answer;
@@ -24,7 +24,7 @@ use puzzle_app::Settings;
 use std::alloc::Global;
 
 /// Works the made text of `count` puzzles, at most 100,000, from `seed` as `solve_inline` works an input, and writes the summary in
-/// place of the report (`EndsAsDrilled`).
+/// place of the report (`EndsAsDrilled`). It keeps no history of events.
 pub fn drill_inline<K: Sink>(
     alloc: Global,
     config: Config,
@@ -42,7 +42,7 @@ pub fn drill_inline<K: Sink>(
         (scene left reads (K.taken output.old) (K.faults output.old) (K.all_flushed output.old) refused started)
         (scene left reads (K.taken output.new) (K.faults output.new) (K.all_flushed output.new) refused' started')
         result.fault result.report }
-    ensures confirmed { (result.unconfirmed ≡ None) × (found_by result.fault ≡ None) }
+    ensures history { IfSome result.report (λ r. r.history ≡ []) }
     ensures sink { K.faults output.old ≤ K.faults output.new }
 {
     match drilled_inline(alloc, config, settings, count, seed) {
@@ -51,7 +51,8 @@ pub fn drill_inline<K: Sink>(
     }
 }
 
-/// As `drill_inline`, with a thread for each rank and for each server, as `solve_threads` works an input.
+/// As `drill_inline`, with a thread for each rank and for each server, as `solve_threads` works an input. A report that is kept is one
+/// run of all actors (`IsOneRun`).
 pub fn drill_threads<K: Sink, T: Spawner, G: Gate + Send + Drop + 'static>(
     alloc: Global,
     config: Config,
@@ -69,15 +70,14 @@ pub fn drill_threads<K: Sink, T: Spawner, G: Gate + Send + Drop + 'static>(
         (scene left reads (K.taken output.old) (K.faults output.old) (K.all_flushed output.old) (T.faults threads.old) (T.starts threads.old))
         (scene left reads (K.taken output.new) (K.faults output.new) (K.all_flushed output.new) (T.faults threads.new) (T.starts threads.new))
         result.fault result.report }
-    ensures shown { found_in result.unconfirmed ≡ found_by result.fault }
-    ensures found { IfSome result.unconfirmed (IsFoundOf config) }
+    ensures run { IfSome result.report (IsOneRun config) }
     ensures started { IsSome result.report → HasStarted config (T.starts threads.old) (T.starts threads.new) }
     ensures sink { K.faults output.old ≤ K.faults output.new }
     ensures threads { T.faults threads.old ≤ T.faults threads.new }
 {
     match drilled_threads(alloc, config, settings, count, seed, threads, gate) {
         Ok(answer) => write_answer(output, answer),
-        Err(stopped) => RunEnd::stopped(stopped),
+        Err(fault) => RunEnd::new(Some(fault), None),
     }
 }
 
@@ -95,6 +95,7 @@ fn drilled_inline(
     ensures answered { IfOk result (λ a.
         IsAnswered settings (Wanted.Summary count seed) (Some (made_text count seed)) a.report a.text.items) }
     ensures config { IfOk result (λ a. a.report.config ≡ config) }
+    ensures history { IfOk result (λ a. a.report.history ≡ []) }
     ensures faults { IfErr result (Refuses (Some (made_text count seed)) 0 0) }
 {
     let asked = ask_made(alloc, count, seed)?;
@@ -116,14 +117,13 @@ fn drilled_threads<T: Spawner, G: Gate + Send + Drop + 'static>(
     seed: u64,
     threads: &mut T,
     gate: G,
-) -> Result<Answer, Stopped>
+) -> Result<Answer, RunFault>
     requires few { count ≤ 100000 }
     ensures answered { IfOk result (λ a.
         IsAnswered settings (Wanted.Summary count seed) (Some (made_text count seed)) a.report a.text.items) }
     ensures config { IfOk result (λ a. a.report.config ≡ config) }
-    ensures faults { IfErr result (λ s.
-        Stops (Some (made_text count seed)) 0 0 (T.faults threads.old) (T.faults threads.new) s.fault) }
-    ensures left { IfErr result (IsLeftBy config) }
+    ensures run { IfOk result (λ a. IsOneRun config a.report) }
+    ensures faults { IfErr result (Stops (Some (made_text count seed)) 0 0 (T.faults threads.old) (T.faults threads.new)) }
     ensures started { OnOk result (HasStarted config (T.starts threads.old) (T.starts threads.new)) }
     ensures later { T.faults threads.old ≤ T.faults threads.new }
 {

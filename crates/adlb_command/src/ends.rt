@@ -2,9 +2,8 @@
 
 ghost use Rattle.std.specs.Prelude.{◌≡◌, ◌⊎◌, Some};
 
-use crate::stops::Stopped;
 use adlb_io::{SinkFault, SourceFault};
-use adlb_threads::{Found, Report, Unconfirmed};
+use adlb_threads::{RanFault, Report};
 use adlb_unit::{NoMemory, Trouble};
 use command_words::WordsFault;
 use job_report::Outcome;
@@ -43,9 +42,6 @@ pub enum RunFault {
     /// A start of a thread was refused.
     #[error("a thread could not be started")]
     NoThread,
-    /// The ledger and the transcripts of a run with threads do not confirm it: what is wrong with them.
-    #[error("run not confirmed")]
-    NotConfirmed { found: Found },
 }
 
 impl RunFault {
@@ -64,7 +60,6 @@ impl RunFault {
             RunFault::Memory => 6,
             RunFault::TooLong { .. } => 7,
             RunFault::TooLarge { .. } => 8,
-            RunFault::NotConfirmed { .. } => 9,
         }
     }
 }
@@ -101,6 +96,20 @@ impl From<JobsFault> for RunFault {
         match refusal {
             JobsFault::Refused { line, why } => RunFault::Input { line, why },
             JobsFault::Memory => RunFault::Memory,
+        }
+    }
+}
+
+impl From<RanFault> for RunFault {
+    ghost use Rattle.adlb_command.specs.Ends.{fault_ran};
+
+    ghost from_gives = { λ met fault. fault ≡ fault_ran met };
+
+    fn from(met: RanFault) -> RunFault {
+        match met {
+            RanFault::NoThread => RunFault::NoThread,
+            RanFault::Memory => RunFault::Memory,
+            RanFault::TooLong { stamp } => RunFault::TooLong { stamp },
         }
     }
 }
@@ -175,17 +184,15 @@ impl From<MadeFault> for RunFault {
 }
 
 /// How a command ended: its exit status, why it did not write its whole output, if so, and what it kept: a report of a run if some of
-/// it was written, or if a write failed; and what a run left that was not confirmed, which is there exactly at status 9.
+/// it was written, or if a write failed.
 #[derive(Debug, Drop)]
 pub struct RunEnd {
     pub status: u8,
     pub fault: Option<RunFault>,
     pub report: Option<Report<Outcome>>,
-    pub unconfirmed: Option<Unconfirmed>,
 }
 
 impl RunEnd {
-    ghost use Rattle.std.specs.Prelude.{None};
     ghost use Rattle.adlb_command.specs.Ends.{status_of};
 
     /// The end of a run with this fault, if there is one, and this report, if one is kept.
@@ -193,7 +200,6 @@ impl RunEnd {
         ensures status { result.status ≡ status_of fault }
         ensures fault { result.fault ≡ fault }
         ensures report { result.report ≡ report }
-        ensures unconfirmed { result.unconfirmed ≡ None }
     {
         let status = match &fault {
             None => 0,
@@ -203,23 +209,6 @@ impl RunEnd {
             status,
             fault,
             report,
-            unconfirmed: None,
-        }
-    }
-
-    /// The end of a run that stopped before anything was written.
-    pub fn stopped(stopped: Stopped) -> RunEnd
-        ensures status { result.status ≡ status_of (Some stopped.fault) }
-        ensures fault { result.fault ≡ Some stopped.fault }
-        ensures report { result.report ≡ None }
-        ensures unconfirmed { result.unconfirmed ≡ stopped.unconfirmed }
-    {
-        let Stopped { fault, unconfirmed } = stopped;
-        RunEnd {
-            status: fault.status(),
-            fault: Some(fault),
-            report: None,
-            unconfirmed,
         }
     }
 }

@@ -24,7 +24,7 @@ use made_law::made_is_accepted;
 
 /// What follows of a source that tells its bytes, if no read failed. `solve`: an accepted input is answered, if no write failed and no
 /// start was refused either (`complete`), a refused one is refused at its first such line (`refused`), and one that is too long is told as
-/// such (`overlong`), unless memory fails; besides, only the stamps can end, and a run with threads be one that is not confirmed.
+/// such (`overlong`), unless memory fails; besides, only the stamps can end.
 /// `check`: a text of a ledger is told (`checked`), any other input is refused at its first line that is not what is due (`bad`), and one
 /// that is too long is told as such (`long`), unless memory fails. `make`: if no write failed, the whole text was written, unless memory
 /// fails (`made`). `drill`: if no write failed and no start was refused, the summary was written, but for the ends that `complete` leaves

@@ -1,18 +1,18 @@
 //! A run with threads: each rank and each server in a thread of its own.
 
-ghost use Rattle.std.specs.Prelude.{◌≡◌, ◌≤◌, ◌<◌, [], ℕ, All, IfOk, OnOk, IfErr, IfSome, IsSome, length};
+ghost use Rattle.std.specs.Prelude.{◌≡◌, ◌≤◌, ◌<◌, All, IfOk, OnOk, IfErr, IfSome, IsSome, length};
 ghost use Rattle.adlb_io.specs.Inputs.{IsAtEnd};
 ghost use Rattle.job_text.specs.Jobs.{HasGrid};
-ghost use Rattle.adlb_command.specs.Ends.{found_by, found_in, status_of};
-ghost use Rattle.adlb_command.specs.Inside.{ArePrograms, IsLeftBy, IsThreadFault, Stops};
+ghost use Rattle.adlb_threads.specs.Runs.{IsOneRun};
+ghost use Rattle.adlb_command.specs.Ends.{status_of};
+ghost use Rattle.adlb_command.specs.Inside.{ArePrograms, IsThreadFault, Stops};
 ghost use Rattle.adlb_command.specs.Kept.{IsKept};
-ghost use Rattle.adlb_command.specs.Top.{EndsBy, HasStarted, IsAnswered, IsFoundOf, IsTold, scene};
+ghost use Rattle.adlb_command.specs.Top.{EndsBy, HasStarted, IsAnswered, IsTold, scene};
 
 use crate::answers::{Answer, answer_of};
-use crate::ends::RunEnd;
+use crate::ends::{RunEnd, RunFault};
 use crate::extras::Extras;
 use crate::reading::{Asked, read_input};
-use crate::stops::Stopped;
 use crate::wanted::Wanted;
 use crate::writing::write_answer;
 use adlb_io::{Gate, Sink, Source, Spawner};
@@ -25,12 +25,10 @@ use std::alloc::Global;
 
 /// Reads the input's puzzles and batches, works them by the programs of as many ranks as the configuration has over its servers, each in
 /// a thread of its own, and writes the report, and behind it what `extras` asks for, as `solve_inline` does. Nothing is written before
-/// all threads were joined and the run was confirmed: its ledger is legal, each rank was told what it says, and nothing is left. It
-/// waits for its threads.
+/// all threads were joined. It waits for its threads.
 ///
-/// `EndsBy` says of each end what was written and kept and why it came, as of a run in line, and two ends besides. `NoThread`: the
-/// spawner's count of faults rose (or stands at its last value). `NotConfirmed`: the run was not confirmed; it leaves its ledger, what
-/// its ranks were told and what is left (`unconfirmed`), of which what was found holds (`IsFoundOf`).
+/// `EndsBy` says of each end what was written and kept and why it came, as of a run in line, and one end besides. `NoThread`: the
+/// spawner's count of faults rose (or stands at its last value). A report that is kept is one run of all actors (`IsOneRun`).
 pub fn solve_threads<S: Source, K: Sink, T: Spawner, G: Gate + Send + Drop + 'static>(
     alloc: Global,
     config: Config,
@@ -49,8 +47,7 @@ pub fn solve_threads<S: Source, K: Sink, T: Spawner, G: Gate + Send + Drop + 'st
         (scene (S.left input.new) (S.faults input.new) (K.taken output.new) (K.faults output.new) (K.all_flushed output.new)
         (T.faults threads.new) (T.starts threads.new))
         result.fault result.report }
-    ensures shown { found_in result.unconfirmed ≡ found_by result.fault }
-    ensures found { IfSome result.unconfirmed (IsFoundOf config) }
+    ensures run { IfSome result.report (IsOneRun config) }
     ensures started { IsSome result.report → HasStarted config (T.starts threads.old) (T.starts threads.new) }
     ensures source { S.faults input.old ≤ S.faults input.new }
     ensures sink { K.faults output.old ≤ K.faults output.new }
@@ -58,7 +55,7 @@ pub fn solve_threads<S: Source, K: Sink, T: Spawner, G: Gate + Send + Drop + 'st
 {
     match answer_input(alloc, config, settings, extras, input, threads, gate) {
         Ok(answer) => write_answer(output, answer),
-        Err(stopped) => RunEnd::stopped(stopped),
+        Err(fault) => RunEnd::new(Some(fault), None),
     }
 }
 
@@ -71,13 +68,13 @@ fn answer_input<S: Source, T: Spawner, G: Gate + Send + Drop + 'static>(
     input: &mut S,
     threads: &mut T,
     gate: G,
-) -> Result<Answer, Stopped>
+) -> Result<Answer, RunFault>
     ensures answered { IfOk result (λ a. IsAnswered settings (Wanted.Report extras) (S.left input.old) a.report a.text.items) }
     ensures config { IfOk result (λ a. a.report.config ≡ config) }
+    ensures run { IfOk result (λ a. IsOneRun config a.report) }
     ensures end { OnOk result (IsAtEnd (S.left input.new)) }
-    ensures stopped { IfErr result (λ s. Stops (S.left input.old) (S.faults input.old) (S.faults input.new)
-        (T.faults threads.old) (T.faults threads.new) s.fault) }
-    ensures left { IfErr result (IsLeftBy config) }
+    ensures stopped { IfErr result (Stops (S.left input.old) (S.faults input.old) (S.faults input.new)
+        (T.faults threads.old) (T.faults threads.new)) }
     ensures started { OnOk result (HasStarted config (T.starts threads.old) (T.starts threads.new)) }
     ensures source { S.faults input.old ≤ S.faults input.new }
     ensures later { T.faults threads.old ≤ T.faults threads.new }
@@ -103,15 +100,14 @@ pub fn answer_threads<T: Spawner, G: Gate + Send + Drop + 'static>(
     asked: Asked,
     threads: &mut T,
     gate: G,
-) -> Result<Answer, Stopped>
+) -> Result<Answer, RunFault>
     requires shown { asked.shown ≡ asked.jobs }
     requires grids { All HasGrid asked.jobs }
     ensures kept { IfOk result (λ a. IsKept settings asked.jobs a.report) }
     ensures told { IfOk result (λ a. IsTold settings wanted asked.jobs a.report a.text.items) }
     ensures config { IfOk result (λ a. a.report.config ≡ config) }
-    ensures history { IfOk result (λ a. a.report.history ≡ []) }
-    ensures faults { IfErr result (λ s. IsThreadFault (T.faults threads.old) (T.faults threads.new) s.fault) }
-    ensures left { IfErr result (IsLeftBy config) }
+    ensures run { IfOk result (λ a. IsOneRun config a.report) }
+    ensures faults { IfErr result (IsThreadFault (T.faults threads.old) (T.faults threads.new)) }
     ensures started { OnOk result (HasStarted config (T.starts threads.old) (T.starts threads.new)) }
     ensures later { T.faults threads.old ≤ T.faults threads.new }
 {
@@ -128,19 +124,18 @@ fn run_threads<T: Spawner, G: Gate + Send + Drop + 'static>(
     jobs: Jobs,
     threads: &mut T,
     gate: G,
-) -> Result<Report<Outcome>, Stopped>
+) -> Result<Report<Outcome>, RunFault>
     ensures kept { IfOk result (IsKept settings jobs) }
     ensures config { IfOk result (λ r. r.config ≡ config) }
-    ensures history { IfOk result (λ r. r.history ≡ []) }
-    ensures faults { IfErr result (λ s. IsThreadFault (T.faults threads.old) (T.faults threads.new) s.fault) }
-    ensures left { IfErr result (IsLeftBy config) }
+    ensures run { IfOk result (IsOneRun config) }
+    ensures faults { IfErr result (IsThreadFault (T.faults threads.old) (T.faults threads.new)) }
     ensures started { OnOk result (HasStarted config (T.starts threads.old) (T.starts threads.new)) }
     ensures later { T.faults threads.old ≤ T.faults threads.new }
 {
     let programs = programs_of(alloc, settings, jobs, config.ranks)?;
     match run_ranks(alloc, config, programs, threads, gate) {
         Ok(report) => Ok(report),
-        Err(met) => Err(Stopped::from(met)),
+        Err(met) => Err(RunFault::from(met)),
     }
 }
 

@@ -8,8 +8,8 @@ ghost use Rattle.command_words.specs.declared.commands.RunOptions.{RunOptions};
 ghost use Rattle.command_words.specs.declared.commands.SolveWords.{SolveWords};
 ghost use Rattle.adlb_io.specs.Inputs.{seen};
 ghost use Rattle.adlb_command.specs.declared.ends.RunFault.{RunFault};
-ghost use Rattle.adlb_command.specs.Ends.{found_by, found_in, status_of};
-ghost use Rattle.adlb_command.specs.Top.{EndsAsChecked, EndsAsDrilled, EndsAsMade, EndsBy, IsRunOf, scene};
+ghost use Rattle.adlb_command.specs.Ends.{status_of};
+ghost use Rattle.adlb_command.specs.Top.{EndsAsChecked, EndsAsDrilled, EndsAsMade, EndsBy, IsRunWith, scene};
 ghost use Rattle.adlb_command.specs.declared.wanted.Wanted.TheVariants.{Report};
 ghost use Rattle.adlb_command.specs.Words.{AreAccepted, Say, extras_of, settings_of};
 
@@ -31,7 +31,7 @@ use std::alloc::Global;
 /// `--inline`. Status 0 says that the whole output was written and flushed.
 ///
 /// `Usage` comes if the words are refused; nothing is read or written then. `solve` ends by its row of `EndsBy`, with the options of the
-/// words, and so does `drill` (`EndsAsDrilled`); what both keep, leave and start is that of the options (`IsRunOf`). `make` ends as
+/// words, and so does `drill` (`EndsAsDrilled`); what both keep and start is that of the options (`IsRunWith`). `make` ends as
 /// `write_made` does (`EndsAsMade`), and `check` as `check_ledger` does (`EndsAsChecked`). Each fault that has its cause yields to
 /// `Memory`. What follows of accepted and refused inputs is in `end_laws`.
 pub fn run_adlb<S: Source, K: Sink, T: Spawner, G: Gate + Send + Drop + 'static>(
@@ -58,12 +58,12 @@ pub fn run_adlb<S: Source, K: Sink, T: Spawner, G: Gate + Send + Drop + 'static>
         (scene (S.left input.new) (S.faults input.new) (K.taken output.new) (K.faults output.new) (K.all_flushed output.new)
         (T.faults threads.new) (T.starts threads.new))
         result.fault result.report }
-    ensures ran { (w : SolveWords) → Say (map string_bytes words.now) (Command.Solve w) → IsRunOf w.options
+    ensures ran { (w : SolveWords) → Say (map string_bytes words.now) (Command.Solve w) → IsRunWith w.options
         (scene (S.left input.old) (S.faults input.old) (K.taken output.old) (K.faults output.old) (K.all_flushed output.old)
         (T.faults threads.old) (T.starts threads.old))
         (scene (S.left input.new) (S.faults input.new) (K.taken output.new) (K.faults output.new) (K.all_flushed output.new)
         (T.faults threads.new) (T.starts threads.new))
-        result.report result.unconfirmed }
+        result.report }
 
     // What `make` writes, and why it ends.
     ensures made { (count seed : ℕ) → Say (map string_bytes words.now) (Command.Make count seed) → EndsAsMade count seed
@@ -79,21 +79,18 @@ pub fn run_adlb<S: Source, K: Sink, T: Spawner, G: Gate + Send + Drop + 'static>
         (scene (S.left input.new) (S.faults input.new) (K.taken output.new) (K.faults output.new) (K.all_flushed output.new)
         (T.faults threads.new) (T.starts threads.new))
         result.fault result.report }
-    ensures drill_ran { (count seed : ℕ) (o : RunOptions) → Say (map string_bytes words.now) (Command.Drill count seed o) → IsRunOf o
+    ensures drill_ran { (count seed : ℕ) (o : RunOptions) → Say (map string_bytes words.now) (Command.Drill count seed o) → IsRunWith o
         (scene (S.left input.old) (S.faults input.old) (K.taken output.old) (K.faults output.old) (K.all_flushed output.old)
         (T.faults threads.old) (T.starts threads.old))
         (scene (S.left input.new) (S.faults input.new) (K.taken output.new) (K.faults output.new) (K.all_flushed output.new)
         (T.faults threads.new) (T.starts threads.new))
-        result.report result.unconfirmed }
+        result.report }
 
     // What `check` reads and writes, and why it ends.
     ensures checked { Say (map string_bytes words.now) Command.Check → EndsAsChecked
         (seen (S.left input.old) (S.faults input.old) (K.taken output.old) (K.faults output.old) (K.all_flushed output.old))
         (seen (S.left input.new) (S.faults input.new) (K.taken output.new) (K.faults output.new) (K.all_flushed output.new))
         result.fault result.report }
-
-    // What is left of a run that was not confirmed.
-    ensures shown { found_in result.unconfirmed ≡ found_by result.fault }
 
     ensures source { S.faults input.old ≤ S.faults input.new }
     ensures sink { K.faults output.old ≤ K.faults output.new }
@@ -131,13 +128,12 @@ fn solve<S: Source, K: Sink, T: Spawner, G: Gate + Send + Drop + 'static>(
         (scene (S.left input.new) (S.faults input.new) (K.taken output.new) (K.faults output.new) (K.all_flushed output.new)
         (T.faults threads.new) (T.starts threads.new))
         result.fault result.report }
-    ensures ran { IsRunOf words.now.options
+    ensures ran { IsRunWith words.now.options
         (scene (S.left input.old) (S.faults input.old) (K.taken output.old) (K.faults output.old) (K.all_flushed output.old)
         (T.faults threads.old) (T.starts threads.old))
         (scene (S.left input.new) (S.faults input.new) (K.taken output.new) (K.faults output.new) (K.all_flushed output.new)
         (T.faults threads.new) (T.starts threads.new))
-        result.report result.unconfirmed }
-    ensures shown { found_in result.unconfirmed ≡ found_by result.fault }
+        result.report }
     ensures source { S.faults input.old ≤ S.faults input.new }
     ensures sink { K.faults output.old ≤ K.faults output.new }
     ensures threads { T.faults threads.old ≤ T.faults threads.new }
@@ -170,11 +166,10 @@ fn drill<K: Sink, T: Spawner, G: Gate + Send + Drop + 'static>(
         (scene left reads (K.taken output.old) (K.faults output.old) (K.all_flushed output.old) (T.faults threads.old) (T.starts threads.old))
         (scene left reads (K.taken output.new) (K.faults output.new) (K.all_flushed output.new) (T.faults threads.new) (T.starts threads.new))
         result.fault result.report }
-    ensures ran { (left : Option (List ℕ)) (reads : ℕ) → IsRunOf options.now
+    ensures ran { (left : Option (List ℕ)) (reads : ℕ) → IsRunWith options.now
         (scene left reads (K.taken output.old) (K.faults output.old) (K.all_flushed output.old) (T.faults threads.old) (T.starts threads.old))
         (scene left reads (K.taken output.new) (K.faults output.new) (K.all_flushed output.new) (T.faults threads.new) (T.starts threads.new))
-        result.report result.unconfirmed }
-    ensures shown { found_in result.unconfirmed ≡ found_by result.fault }
+        result.report }
     ensures sink { K.faults output.old ≤ K.faults output.new }
     ensures threads { T.faults threads.old ≤ T.faults threads.new }
 {
@@ -194,7 +189,6 @@ fn check<S: Source, K: Sink>(alloc: Global, input: &mut S, output: &mut K) -> Ru
         (seen (S.left input.new) (S.faults input.new) (K.taken output.new) (K.faults output.new) (K.all_flushed output.new))
         result.fault result.report }
     ensures not_usage { result.fault ≡ Some RunFault.Usage → ⊥ }
-    ensures shown { found_in result.unconfirmed ≡ found_by result.fault }
     ensures source { S.faults input.old ≤ S.faults input.new }
     ensures sink { K.faults output.old ≤ K.faults output.new }
 {
@@ -212,7 +206,6 @@ fn make<K: Sink>(alloc: Global, count: u32, seed: u64, output: &mut K) -> RunEnd
         (seen left reads (K.taken output.new) (K.faults output.new) (K.all_flushed output.new))
         result.fault result.report }
     ensures not_usage { result.fault ≡ Some RunFault.Usage → ⊥ }
-    ensures shown { found_in result.unconfirmed ≡ found_by result.fault }
     ensures sink { K.faults output.old ≤ K.faults output.new }
 {
     match write_made(alloc, count, seed, output) {

@@ -1,7 +1,7 @@
 //! The writing of a report.
 
-ghost use Rattle.std.specs.Prelude.{◌≡◌, ◌≤◌, Some, None};
-ghost use Rattle.adlb_command.specs.Ends.{fault_of, found_by, status_of};
+ghost use Rattle.std.specs.Prelude.{◌≡◌, ◌≤◌, Some};
+ghost use Rattle.adlb_command.specs.Ends.{fault_of, status_of};
 ghost use Rattle.adlb_command.specs.Inside.{Writes, kept_of};
 
 use crate::answers::Answer;
@@ -16,7 +16,6 @@ pub fn write_answer<K: Sink>(output: &mut K, answer: Answer) -> RunEnd
     ensures written { Writes answer.report answer.text.items (K.taken output.old) (K.taken output.new) (K.faults output.old) (K.faults output.new) (K.all_flushed output.new) result.fault result.report }
     ensures later { K.faults output.old ≤ K.faults output.new }
     ensures status { result.status ≡ status_of result.fault }
-    ensures confirmed { (result.unconfirmed ≡ None) × (found_by result.fault ≡ None) }
 {
     let Answer { report, text } = answer;
     match write_all(output, &text) {
@@ -30,7 +29,6 @@ fn cut_off(unwritten: Unwritten, report: Report<Outcome>) -> RunEnd
     ensures fault { result.fault ≡ Some (fault_of unwritten.fault) }
     ensures report { result.report ≡ kept_of unwritten.fault unwritten.taken report }
     ensures status { result.status ≡ status_of result.fault }
-    ensures confirmed { (result.unconfirmed ≡ None) × (found_by result.fault ≡ None) }
 {
     let fault = RunFault::from(unwritten.fault);
     match unwritten.fault {

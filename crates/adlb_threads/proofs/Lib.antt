@@ -1,3 +1,9 @@
 mod Counts
+mod Endings
+mod Gathering
+mod Journals
 mod Kept
+mod LawOfRun
+mod OwnRuns
 mod Reporting
+mod Stamps

@@ -1,3 +1,3 @@
-pub mod Confirmed
 pub mod Inside
 pub mod Reports
+pub mod Runs

@@ -1,11 +1,9 @@
-//! Ledgers that are checked, counted and confirmed, by example.
+//! Ledgers that are checked and counted, by example.
 //!
 //! It holds tests alone, in a crate of their own so that what they test is not proved again with them.
 #![tactic(auto)]
 
 #[cfg(test)]
 mod command;
-#[cfg(test)]
-mod confirmed;
 #[cfg(test)]
 mod counts;

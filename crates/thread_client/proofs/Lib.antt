@@ -1,4 +1,8 @@
 mod Called
+mod Entering
 mod Exchanges
-mod FewEntries
+mod Finishing
+mod Seats
+mod Silent
 mod Steps
+mod Walks

@@ -7,9 +7,11 @@ ghost use Rattle.bag_ledger.specs.declared.entries.Answer.{Answer};
 ghost use Rattle.bag_ledger.specs.declared.entries.Call.{Call};
 ghost use Rattle.rank_client.specs.Calls.{has_finished, is_open, plus};
 ghost use Rattle.rank_client.specs.Remembered.{pending_call};
-ghost use Rattle.thread_client.specs.Jobs.{IsLate};
+ghost use Rattle.actor_desk.specs.Desks.{DeskModel, IsNew};
+ghost use Rattle.thread_client.specs.Jobs.{IsLate, IsRankRun};
 
 use crate::runs::{LinkEnd, RankRun};
+use actor_desk::{Desk, Mailing};
 use adlb_io::{Gate, GatePoint};
 use adlb_unit::{Config, Handle, Info, NoMemory, Payload, Rank, Target, Trouble, Types, WorkType};
 use bag_ledger::{Answer, Body, Call, Said};
@@ -17,7 +19,6 @@ use rank_client::{
     Adlb, EndFault, PutFault, TryFault, count_result, done_result, fetch_result, put_result,
     reserve_result, try_result,
 };
-use rank_mail::{Inbox, Post};
 use std::alloc::Global;
 use std::sync::Wait;
 
@@ -25,38 +26,45 @@ use std::sync::Wait;
 /// It fails if its client does, if memory for the journal is missing, if a server tells that it has failed, or if a letter comes
 /// that is not expected, which is kept. A gate is passed after each grant and each fetch.
 #[derive(Drop)]
-pub struct ThreadedLink<R: Wait, G: Gate> {
-    pub(crate) run: RankRun<R>,
+pub struct ThreadedLink<R: Wait, G: Gate, M: Mailing> {
+    pub(crate) run: RankRun<R, M>,
     gate: G,
     pub(crate) me: Rank,
     pub ghost short: { length run.core.transcript < stamp_limit },
     pub ghost late: { IfSome run.core.trouble IsLate } by { Prim.hlevel props },
+    pub ghost me_is: { run.core.me ≡ me },
 }
 
-impl<R: Wait + Copy, G: Gate + Drop> ThreadedLink<R, G> {
-    /// The link of the rank `me` at the start of a run. The actors of the mailboxes are the ranks by their numbers, and then the
-    /// servers by theirs; the post and the inbox are the rank's. Its only error is `NoMemory`.
+impl<R: Wait + Copy, G: Gate + Drop, M: Mailing> ThreadedLink<R, G, M> {
+    /// The link of the rank `me` at the start of a run, at its desk. Its only error is `NoMemory`.
     pub fn new(
         alloc: Global,
         rt: R,
         config: Config,
         me: Rank,
-        post: Post,
-        inbox: Inbox,
+        desk: Desk<M>,
         gate: G,
-    ) -> Result<ThreadedLink<R, G>, NoMemory>
+    ) -> Result<ThreadedLink<R, G, M>, NoMemory>
         requires rank { me.0 < config.ranks }
-        requires reach { config.ranks + config.servers ≤ length post.places }
+        requires desk { IsNew config me.0 desk }
         ensures config { IfOk result (λ l. l.run.config ≡ config) }
         ensures me { IfOk result (λ l. l.me ≡ me) }
+        ensures desk { IfOk result (λ l. (l.run.desk.config ≡ config) × (l.run.desk.number ≡ me.0)) }
         ensures empty { IfOk result (λ l. l.run.core.transcript ≡ []) }
         ensures whole { IfOk result (λ l. l.run.core.trouble ≡ None) }
     {
         Ok(ThreadedLink {
-            run: RankRun::new(alloc, rt, config, me, post, inbox)?,
+            run: RankRun::new(alloc, rt, config, me, desk)?,
             gate,
             me,
         })
+    }
+
+    // The numbers of the run.
+    pub(crate) fn config(&self) -> Config
+        ensures { result ≡ self.now.run.config }
+    {
+        self.run.config()
     }
 
     // The link fails with this trouble, if it has not failed before.
@@ -70,12 +78,15 @@ impl<R: Wait + Copy, G: Gate + Drop> ThreadedLink<R, G> {
         self.run.fail(trouble);
     }
 
-    /// Leaves the run, as `finish` does, and gives back what the link kept. If it has not failed the transcript ends with Finish.
-    pub fn end(self) -> LinkEnd
+    /// Leaves the run, as `finish` does, and gives back what the link kept. If it has not failed the transcript ends with Finish, and
+    /// the journal is the rank's own run (`IsRankRun`).
+    pub fn end(self) -> LinkEnd<M>
         requires running { has_finished self.run.core.transcript ≡ false }
         requires closed { (is_open self.run.core.transcript && is_none self.run.core.trouble) ≡ false }
         ensures finished { result.trouble ≡ None → result.said.items ≡ plus self.run.core.transcript Call.Finish (Some Answer.Fine) }
         ensures late { IfSome result.trouble IsLate }
+        ensures desk { (result.desk.config ≡ self.run.config) × (result.desk.number ≡ self.me.0) }
+        ensures own { result.trouble ≡ None → IsRankRun self.run.config self.me result.desk result.said.items }
     {
         self.run.end()
     }
@@ -90,7 +101,7 @@ impl<R: Wait + Copy, G: Gate + Drop> ThreadedLink<R, G> {
     }
 }
 
-impl<R: Wait + Copy, G: Gate + Drop> Adlb for ThreadedLink<R, G> {
+impl<R: Wait + Copy, G: Gate + Drop, M: Mailing> Adlb for ThreadedLink<R, G, M> {
     ghost seat = { λ l. record { ranks = l.run.config.ranks; servers = l.run.config.servers; limit = l.run.config.limit; me = l.me } };
 
     ghost transcript = { λ l. l.run.core.transcript };

@@ -1,100 +1,96 @@
 //! A rank's run of calls.
 
-ghost use Rattle.std.specs.Prelude.{◌≡◌, ◌<◌, ◌≤◌, ◌+◌, ◌&&◌, [], length, true, false, None, Some, IfOk, IfSome, is_none};
-ghost use Rattle.std.specs.Vec.{vec_len, vec_capacity};
+ghost use Rattle.std.specs.Prelude.{◌≡◌, ◌<◌, ◌≤◌, ◌&&◌, [], length, true, false, None, Some, IfOk, IfSome, is_none};
 ghost use Rattle.adlb_unit.specs.Limits.{stamp_limit};
 ghost use Rattle.bag_ledger.specs.declared.entries.Answer.{Answer};
 ghost use Rattle.bag_ledger.specs.declared.entries.Call.{Call};
 ghost use Rattle.rank_client.specs.Answers.{CanCall, IsAnswer, answered, answers_call, heeds_end, troubled};
 ghost use Rattle.rank_client.specs.Calls.{Began, Repeats, TellsAgain, end_told, has_finished, is_open, plus};
 ghost use Rattle.rank_client.specs.Remembered.{pending_call};
-ghost use Rattle.thread_client.specs.Jobs.{IsLate};
+ghost use Rattle.actor_desk.specs.Desks.{DeskModel, IsNew};
+ghost use Rattle.rank_client.specs.Calls.{is_finish};
+ghost use Rattle.thread_client.specs.Jobs.{IsLate, IsRankRun};
 
-use crate::entered::Entered;
-use crate::wires::{EVENT_ENTRIES, Wire};
-use adlb_unit::{Config, Letter, NoMemory, Rank, Trouble, or_no_memory};
+use crate::wires::Wire;
+use actor_desk::{Desk, Mailing};
+use adlb_unit::{Config, Letter, NoMemory, Rank, Trouble};
 use bag_ledger::{Answer, Call, Said};
 use rank_client::ClientCore;
-use rank_mail::{Inbox, Post};
 use std::alloc::Global;
 use std::marker::Model;
 use std::sync::Wait;
 
-/// What a link leaves at its end: its transcript, its journal, what made it fail, if anything did, the letter that it did not
-/// expect, if one came, with the number of its sender, and its mailboxes.
+/// What a link leaves at its end: its transcript, what made it fail, if anything did, the letter that it did not expect, if one
+/// came, with the number of its sender, and its desk.
 #[derive(Drop)]
-pub struct LinkEnd {
+pub struct LinkEnd<M: Mailing> {
     pub said: Vec<Said>,
-    pub journal: Vec<Entered>,
     pub trouble: Option<Trouble>,
     pub strange: Option<(u32, Letter)>,
-    pub post: Post,
-    pub inbox: Inbox,
+    pub desk: Desk<M>,
 }
 
-/// A rank's client with its mailboxes and its journal, between two calls. The journal keeps room for the event of Finish.
+/// A rank's client with its desk, between two calls. While it has not failed, its journal is its own run.
 #[derive(Drop)]
-pub struct RankRun<R: Wait> {
-    wire: Wire<R>,
+pub struct RankRun<R: Wait, M: Mailing> {
+    wire: Wire<R, M>,
 }
 
-impl<R: Wait> Model for RankRun<R> {
-    ghost use Rattle.std.specs.Prelude.{◌≤◌, ◌+◌};
-    ghost use Rattle.std.specs.Vec.{vec_len, vec_capacity};
+impl<R: Wait, M: Mailing> Model for RankRun<R, M> {
+    ghost use Rattle.std.specs.Prelude.{[]};
     ghost use Rattle.thread_client.specs.Run.{RankRunModel};
 
     ghost Value = { RankRunModel };
 
-    ghost use Rattle.thread_client.specs.inside.Wires.{Rests};
+    ghost use Rattle.thread_client.specs.inside.Wires.{IsRecorded, Rests};
 
-    ghost view = { λ r. record { config = r.wire.config; core = r.wire.core } };
+    ghost view = { λ r. record { config = r.wire.config; core = r.wire.core; desk = r.wire.desk } };
 
-    ghost invariant = { λ r. Rests r.wire.core × (vec_len r.wire.journal + 2 ≤ vec_capacity r.wire.journal) };
+    ghost invariant = { λ r. Rests r.wire.core × IsRecorded r.wire.desk [] r.wire.core };
 }
 
-// A journal with room for one event.
-fn empty_journal(alloc: Global) -> Result<Vec<Entered>, NoMemory>
-    ensures { IfOk result (λ v. vec_len v + 2 ≤ vec_capacity v) }
-{
-    or_no_memory(Vec::with_capacity(alloc, EVENT_ENTRIES))
-}
+impl<R: Wait + Copy, M: Mailing> RankRun<R, M> {
+    // The numbers of the run.
+    pub(crate) fn config(&self) -> Config
+        ensures { result ≡ self.now.config }
+    {
+        self.wire.config
+    }
 
-impl<R: Wait + Copy> RankRun<R> {
-    // The run of the rank `me` at the start.
+    // The run of the rank `me` at the start, at this desk.
     pub(crate) fn new(
         alloc: Global,
         rt: R,
         config: Config,
         me: Rank,
-        post: Post,
-        inbox: Inbox,
-    ) -> Result<RankRun<R>, NoMemory>
+        desk: Desk<M>,
+    ) -> Result<RankRun<R, M>, NoMemory>
         requires rank { me.0 < config.ranks }
-        requires reach { config.ranks + config.servers ≤ length post.places }
+        requires desk { IsNew config me.0 desk }
         ensures config { IfOk result (λ r. r.config ≡ config) }
         ensures me { IfOk result (λ r. r.core.me ≡ me) }
         ensures empty { IfOk result (λ r. r.core.transcript ≡ []) }
         ensures whole { IfOk result (λ r. r.core.trouble ≡ None) }
+        ensures desk { IfOk result (λ r. (r.desk.config ≡ config) × (r.desk.number ≡ me.0)) }
     {
         let core = ClientCore::new(alloc, config, me)?;
-        let journal = empty_journal(alloc)?;
         Ok(RankRun {
             wire: Wire {
                 rt,
+                alloc,
                 config,
                 core,
-                post,
-                inbox,
-                journal,
+                desk,
                 strange: None,
             },
         })
     }
 
-    // One call, from its beginning to its answer.
+    // One call other than Finish, from its beginning to its answer.
     pub(crate) fn call(&mut self, call: Call) -> Result<Answer, Trouble>
         requires running { has_finished self.old.core.transcript ≡ false }
         requires can { self.old.core.trouble ≡ None → CanCall self.old.config.ranks self.old.config.servers self.old.core.transcript call }
+        requires other { is_finish call ≡ false }
         ensures says { self.new.core.transcript ≡ plus self.old.core.transcript call (answered result) }
         ensures kind { IfOk result (λ a. answers_call call a ≡ true) }
         ensures known { IfOk result (λ a. IsAnswer self.old.core.transcript call a) }
@@ -145,29 +141,27 @@ impl<R: Wait + Copy> RankRun<R> {
     }
 
     // The rank leaves the run: if it has not failed the transcript ends with Finish.
-    pub(crate) fn end(self) -> LinkEnd
+    pub(crate) fn end(self) -> LinkEnd<M>
         requires running { has_finished self.core.transcript ≡ false }
         requires closed { (is_open self.core.transcript && is_none self.core.trouble) ≡ false }
         ensures finished { result.trouble ≡ None → result.said.items ≡ plus self.core.transcript Call.Finish (Some Answer.Fine) }
         ensures late { IfSome result.trouble IsLate }
+        ensures desk { (result.desk.config ≡ self.config) × (result.desk.number ≡ self.core.me.0) }
+        ensures own { result.trouble ≡ None → IsRankRun self.config self.core.me result.desk result.said.items }
     {
         let RankRun { mut wire } = self;
         wire.finish();
         let Wire {
             core,
-            post,
-            inbox,
-            journal,
+            desk,
             strange,
             ..
         } = wire;
         LinkEnd {
             trouble: core.failed(),
             said: core.into_transcript(),
-            journal,
             strange,
-            post,
-            inbox,
+            desk,
         }
     }
 }

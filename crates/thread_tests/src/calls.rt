@@ -2,17 +2,20 @@
 
 ghost use Rattle.std.specs.Prelude.{◌≡◌, false, IfOk};
 ghost use Rattle.rank_client.specs.Calls.{granted, has_finished, is_fetched};
+ghost use Rattle.rank_mail.specs.Mailboxes.{places_of};
 
-use crate::mail::{Ends, first_and_third};
+use crate::mail::{Mail, Three, send, three_desks};
+use actor_desk::{Desk, Mailing};
 use adlb_io::{Gate, GatePoint};
 use adlb_unit::{
-    BatchId, CommonRef, Config, End, Handle, Letter, Message, NoMemory, Payload, Rank, Server,
-    Target, Trouble, Types, UnitId, UnitNote, WorkType, or_no_memory,
+    Actor, BatchId, CommonRef, Config, End, Handle, Letter, Message, NoMemory, Payload, Rank,
+    Server, Target, Trouble, Types, UnitId, UnitNote, WorkType, or_no_memory,
 };
 use bag_ledger::Body;
 use crossbeam_channel::{Receiver, Sender, bounded};
 use rank_client::{Adlb, EndFault, PutFault};
 use std::alloc::Global;
+use std::marker::Brand;
 use std::sync::Wait;
 use std::test::Fail;
 use thread_client::{LinkEnd, ThreadedLink};
@@ -37,7 +40,7 @@ impl<R: Wait + Copy> Gate for SeenGate<R> {
     }
 }
 
-type Link<R> = ThreadedLink<R, SeenGate<R>>;
+type Link<R, M> = ThreadedLink<R, SeenGate<R>, M>;
 
 // What the server of a run of two ranks has said to rank 0.
 #[derive(Clone, Copy)]
@@ -124,11 +127,11 @@ fn heard_of(from: u32, message: &Message) -> Heard {
 
 // The server of the run, actor 2.
 #[derive(Drop)]
-pub struct Host {
-    pub ends: Ends,
+pub struct Host<M: Mailing> {
+    pub desk: Desk<M>,
 }
 
-impl Host {
+impl<M: Mailing> Host<M> {
     // Puts letters into the mailbox of rank 0.
     fn say_all<R: Wait + Copy>(
         &mut self,
@@ -137,14 +140,15 @@ impl Host {
         says: &[Says],
     ) -> Result<(), NoMemory> {
         for said in says {
-            self.ends.send(rt, 0, 7, message(alloc, *said)?);
+            let message = message(alloc, *said)?;
+            send(rt, alloc, &mut self.desk, Actor::Rank(Rank(0)), 7, message)?;
         }
         Ok(())
     }
 
     // The next letter is of rank 0 and says this.
     pub fn is_told<R: Wait + Copy>(&mut self, rt: &R, wanted: Heard) -> bool {
-        let (from, letter) = self.ends.inbox.receive(rt);
+        let (from, letter) = self.desk.receive(rt);
         heard_of(from, &letter.message) == wanted
     }
 
@@ -165,26 +169,30 @@ pub fn two_ranks() -> Result<Config, Fail>
     Ok(Config::new(2, 1, 64)?)
 }
 
-// The link of rank 0 at the start, the server's mailboxes, and the points that the rank passes.
+// The link of rank 0 at the start, the server's desk, and the points that the rank passes.
 #[derive(Drop)]
-struct Scene<R: Wait + Copy> {
-    link: Link<R>,
-    host: Host,
+struct Scene<R: Wait + Copy, M: Mailing> {
+    link: Link<R, M>,
+    host: Host<M>,
     points: Receiver<(u32, GatePoint), Global>,
 }
 
-fn make_scene<R: Wait + Copy>(rt: R, alloc: Global) -> Result<Scene<R>, Fail>
+fn make_scene<R: Wait + Copy, M: Mailing>(
+    rt: R,
+    alloc: Global,
+    mail: Mail,
+) -> Result<Scene<R, M>, Fail>
+    requires mail { M.places ≡ places_of mail.inboxes.items }
     ensures { IfOk result (λ s. has_finished s.link.run.core.transcript ≡ false) }
 {
     let config = two_ranks()?;
-    let (rank, server) = first_and_third(alloc)?;
+    let Three { first, third, .. } = three_desks::<M>(alloc, config, mail)?;
     let (seen, points) = bounded(alloc, 16)?;
-    let Ends { post, inbox } = rank;
     let gate = SeenGate { rt, seen };
-    let link = ThreadedLink::new(alloc, rt, config, Rank(0), post, inbox, gate)?;
+    let link = ThreadedLink::new(alloc, rt, config, Rank(0), first, gate)?;
     Ok(Scene {
         link,
-        host: Host { ends: server },
+        host: Host { desk: third },
         points,
     })
 }
@@ -369,21 +377,18 @@ enum Strange {
     Grant { request: u64 },
 }
 
-// What a link leaves: its trouble, the letter that it did not expect, how many calls it keeps, and the stamps of its journal, if
-// they are looked at.
+// What a link leaves: its trouble, the letter that it did not expect, and how many calls it keeps.
 #[derive(Clone, Copy)]
 struct Leaves {
     trouble: Option<Trouble>,
     strange: Strange,
     said: usize,
-    stamps: Option<[u64; 2]>,
 }
 
-fn is_left(end: &LinkEnd, leaves: &Leaves) -> bool {
+fn is_left<M: Mailing>(end: &LinkEnd<M>, leaves: &Leaves) -> bool {
     end.trouble == leaves.trouble
         && is_strange(&end.strange, leaves.strange)
         && end.said.len() == leaves.said
-        && is_stamped(end, leaves.stamps)
 }
 
 fn is_strange(kept: &Option<(u32, Letter)>, wanted: Strange) -> bool {
@@ -403,22 +408,8 @@ fn is_of(message: &Message, wanted: Strange) -> bool {
     }
 }
 
-fn is_stamped(end: &LinkEnd, stamps: Option<[u64; 2]>) -> bool {
-    match stamps {
-        None => true,
-        Some(stamps) => {
-            let alike = end
-                .journal
-                .iter()
-                .zip(stamps)
-                .all(|(e, stamp)| e.stamp == stamp);
-            alike && end.journal.len() == 2
-        }
-    }
-}
-
 // The link leaves this at its end; if nothing, a batch is going on.
-fn is_end<R: Wait + Copy>(link: Link<R>, wanted: &Option<Leaves>) -> bool
+fn is_end<R: Wait + Copy, M: Mailing>(link: Link<R, M>, wanted: &Option<Leaves>) -> bool
     requires { has_finished link.run.core.transcript ≡ false }
 {
     let open = link.batch_open();
@@ -429,10 +420,10 @@ fn is_end<R: Wait + Copy>(link: Link<R>, wanted: &Option<Leaves>) -> bool
 }
 
 // The calls are told and the points are passed as the play says.
-fn are_played<R: Wait + Copy>(
+fn are_played<R: Wait + Copy, M: Mailing>(
     rt: R,
     alloc: Global,
-    scene: &mut Scene<R>,
+    scene: &mut Scene<R, M>,
     play: &Play,
 ) -> Result<bool, NoMemory>
     requires { has_finished scene.old.link.run.core.transcript ≡ false }
@@ -443,7 +434,18 @@ fn are_played<R: Wait + Copy>(
 }
 
 fn is_played<R: Wait + Copy>(rt: R, alloc: Global, play: &Play) -> Result<bool, Fail> {
-    let mut scene = make_scene(rt, alloc)?;
+    is_played_over::<R, Brand>(rt, alloc, play, Mail::new(alloc)?)
+}
+
+fn is_played_over<R: Wait + Copy, M: Mailing>(
+    rt: R,
+    alloc: Global,
+    play: &Play,
+    mail: Mail,
+) -> Result<bool, Fail>
+    requires mail { M.places ≡ places_of mail.inboxes.items }
+{
+    let mut scene = make_scene::<R, M>(rt, alloc, mail)?;
     if !are_played(rt, alloc, &mut scene, play)? {
         return Ok(false);
     }
@@ -452,12 +454,11 @@ fn is_played<R: Wait + Copy>(rt: R, alloc: Global, play: &Play) -> Result<bool, 
 }
 
 // A link that ends well, after this many calls.
-const fn well(said: usize, stamps: Option<[u64; 2]>) -> Option<Leaves> {
+const fn well(said: usize) -> Option<Leaves> {
     Some(Leaves {
         trouble: None,
         strange: Strange::Nothing,
         said,
-        stamps,
     })
 }
 
@@ -467,7 +468,6 @@ const fn failed(trouble: Trouble, strange: Strange, said: usize) -> Option<Leave
         trouble: Some(trouble),
         strange,
         said,
-        stamps: None,
     })
 }
 
@@ -483,7 +483,7 @@ fn calls_are_told_what_their_server_said(rt: HostRuntime) -> Result<(), Fail> {
             calls: &[(Does::Put, Told::Fine)],
             passes: &[],
             heard: &[Heard::Put, Heard::Finish],
-            leaves: well(2, Some([1, 9])),
+            leaves: well(2),
         },
         Play {
             shows: "a unit is granted and fetched, and the gate is passed",
@@ -498,7 +498,7 @@ fn calls_are_told_what_their_server_said(rt: HostRuntime) -> Result<(), Fail> {
                 GatePoint::Fetched { call: 1 },
             ],
             heard: &[],
-            leaves: well(3, None),
+            leaves: well(3),
         },
         Play {
             shows: "an end is told again without a letter",
@@ -510,7 +510,7 @@ fn calls_are_told_what_their_server_said(rt: HostRuntime) -> Result<(), Fail> {
             ],
             passes: &[],
             heard: &[Heard::Other, Heard::Finish],
-            leaves: well(4, None),
+            leaves: well(4),
         },
         Play {
             shows: "a failed server is told once, and the rank is gone",

@@ -1,14 +1,12 @@
-//! Ranks and a server in threads, by example.
+//! Ranks and servers in threads, by example.
 //!
-//! It holds tests alone, of `thread_client` and of `adlb_threads`: what a rank's calls are told if its server said this or that
-//! beforehand, what a rank's thread leaves, how a server ends that hears what it does not expect, runs that end well and runs
-//! that do not, and which runs are not confirmed.
+//! It holds tests alone, of `thread_client`, `thread_server` and `adlb_threads`: what a rank's calls are told if its server said
+//! this or that beforehand, what a rank's thread leaves, how a server ends that hears what it does not expect, and runs that end
+//! well and runs that do not.
 #![tactic(auto)]
 
 #[cfg(test)]
 mod calls;
-#[cfg(test)]
-mod confirming;
 #[cfg(test)]
 mod mail;
 #[cfg(test)]

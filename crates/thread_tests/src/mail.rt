@@ -1,66 +1,83 @@
-//! Mailboxes of three actors.
+//! Desks of three actors.
 
-ghost use Rattle.std.specs.Prelude.{◌<◌, ◌≤◌, length};
+ghost use Rattle.std.specs.Prelude.{◌≡◌, ◌≤◌, ◌+◌, ℕ, IfOk, Some, map, slice_get, vec_len};
+ghost use Rattle.actor_desk.specs.Desks.{IsNew};
+ghost use Rattle.rank_mail.specs.Mailboxes.{PostModel, fresh_inbox, fresh_post, places_of};
 
-use adlb_unit::{Letter, Message};
+use actor_desk::{Desk, Mailing, desks};
+use adlb_unit::{Actor, Config, Letter, Message, NoMemory, Sending, or_no_memory};
+use bag_ledger::Call;
+use merge_history::Cause;
 use rank_mail::{Inbox, Post, mailboxes};
 use std::alloc::Global;
 use std::sync::Wait;
 use std::test::Fail;
 
-/// The mailboxes of an actor of a run of three.
+/// The mailboxes of three actors, of one making.
 #[derive(Drop)]
-pub struct Ends {
-    pub post: Post,
-    pub inbox: Inbox,
-    pub ghost reach: { 3 ≤ length post.places },
+pub struct Mail {
+    pub posts: Vec<Post>,
+    pub inboxes: Vec<Inbox>,
+    pub ghost three: { (vec_len posts ≡ 3) × (vec_len inboxes ≡ 3) },
+    pub ghost fresh: { inboxes.items ≡ map (fresh_inbox 3) (places_of inboxes.items) },
+    pub ghost numbered: { (k : ℕ) (p : PostModel) → slice_get posts.items k ≡ Some p → p ≡ fresh_post k (places_of inboxes.items) },
 }
 
-impl Ends {
-    /// Sends a letter to one of the first three actors.
-    pub fn send<R: Wait>(&mut self, rt: &R, to: u32, stamp: u64, message: Message)
-        requires { to < 3 }
-    {
-        let letter = Letter {
-            stamp,
-            place: 0,
-            message,
-        };
-        self.post.send(rt, to, letter);
+impl Mail {
+    pub fn new(alloc: Global) -> Result<Mail, Fail> {
+        let (posts, inboxes) = mailboxes(alloc, 3, 16)?;
+        Ok(Mail { posts, inboxes })
     }
 }
 
-/// Takes out the mailboxes of the last actor.
-fn last(posts: &mut Vec<Post>, inboxes: &mut Vec<Inbox>) -> Result<Ends, Fail> {
-    let (Some(post), Some(inbox)) = (posts.pop(), inboxes.pop()) else {
+/// The desks of three actors.
+#[derive(Drop)]
+pub struct Three<M: Mailing> {
+    pub first: Desk<M>,
+    pub second: Desk<M>,
+    pub third: Desk<M>,
+}
+
+/// The desks of three actors at the start of a run: its actors, and whoever made it if they are two.
+pub fn three_desks<M: Mailing>(alloc: Global, config: Config, mail: Mail) -> Result<Three<M>, Fail>
+    requires reach { config.ranks + config.servers ≤ 3 }
+    requires mail { M.places ≡ places_of mail.inboxes.items }
+    ensures first { IfOk result (λ all. IsNew config 0 all.first) }
+    ensures second { IfOk result (λ all. IsNew config 1 all.second) }
+{
+    let Mail { posts, inboxes } = mail;
+    let mut all = desks::<M>(alloc, config, posts, inboxes)?.into_iter();
+    let (Some(first), Some(second), Some(third)) = (all.next(), all.next(), all.next()) else {
         return Err("an actor is missing".into());
     };
-    if !post.reaches(2) {
-        return Err("an actor is missing".into());
-    }
-    Ok(Ends { post, inbox })
+    Ok(Three {
+        first,
+        second,
+        third,
+    })
 }
 
-/// The mailboxes of the actors 0 and 2.
-pub fn first_and_third(alloc: Global) -> Result<(Ends, Ends), Fail> {
-    let (mut posts, mut inboxes) = mailboxes(alloc, 3, 16)?;
-    let third = last(&mut posts, &mut inboxes)?;
-    last(&mut posts, &mut inboxes)?;
-    let first = last(&mut posts, &mut inboxes)?;
-    Ok((first, third))
-}
-
-/// The mailboxes of the actors 0 and 1.
-pub fn first_and_second(alloc: Global) -> Result<(Ends, Ends), Fail> {
-    let (mut posts, mut inboxes) = mailboxes(alloc, 3, 16)?;
-    last(&mut posts, &mut inboxes)?;
-    let second = last(&mut posts, &mut inboxes)?;
-    let first = last(&mut posts, &mut inboxes)?;
-    Ok((first, second))
-}
-
-/// The mailboxes of the actor 2.
-pub fn third(alloc: Global) -> Result<Ends, Fail> {
-    let (mut posts, mut inboxes) = mailboxes(alloc, 3, 16)?;
-    last(&mut posts, &mut inboxes)
+/// Sends a letter of this stamp to an actor, as an event of the desk.
+pub fn send<M: Mailing, R: Wait>(
+    rt: &R,
+    alloc: Global,
+    desk: &mut Desk<M>,
+    to: Actor,
+    stamp: u64,
+    message: Message,
+) -> Result<(), NoMemory> {
+    let letter = Letter {
+        stamp,
+        place: 0,
+        message,
+    };
+    let sends = or_no_memory(vec![in alloc; Sending { to, letter }])?;
+    desk.make_room()?;
+    desk.enter(
+        rt,
+        stamp,
+        Cause::Called(Call::Finish),
+        sends,
+        Vec::new(alloc),
+    )
 }

@@ -1,14 +1,17 @@
 //! What a rank's thread leaves.
 
 ghost use Rattle.std.specs.Prelude.{◌≡◌, []};
+ghost use Rattle.rank_mail.specs.Mailboxes.{places_of};
 
 use crate::calls::{Heard, Host, two_ranks};
-use crate::mail::{Ends, first_and_third};
+use crate::mail::{Mail, Three, three_desks};
+use actor_desk::Mailing;
 use adlb_io::FreeGate;
 use adlb_unit::{Rank, Trouble};
 use bag_ledger::{Answer, Call};
 use rank_client::{Adlb, RankProgram};
 use std::alloc::Global;
+use std::marker::Brand;
 use std::sync::Wait;
 use std::test::Fail;
 use thread_client::{RankEnd, RankJob};
@@ -36,30 +39,35 @@ impl RankProgram for Idle {
     }
 }
 
-// The program of rank 0, and the server's mailboxes.
+// The program of rank 0, and the server's desk.
 #[derive(Drop)]
-struct Idling<R: Wait> {
-    job: RankJob<Idle, R, FreeGate>,
-    host: Host,
+struct Idling<R: Wait, M: Mailing> {
+    job: RankJob<Idle, R, FreeGate, M>,
+    host: Host<M>,
 }
 
-fn job<R: Wait + Copy>(rt: R, alloc: Global, fails: bool) -> Result<Idling<R>, Fail> {
+fn job<R: Wait + Copy, M: Mailing>(
+    rt: R,
+    alloc: Global,
+    fails: bool,
+    mail: Mail,
+) -> Result<Idling<R, M>, Fail>
+    requires mail { M.places ≡ places_of mail.inboxes.items }
+{
     let config = two_ranks()?;
-    let (rank, server) = first_and_third(alloc)?;
-    let Ends { post, inbox } = rank;
+    let Three { first, third, .. } = three_desks::<M>(alloc, config, mail)?;
     let job = RankJob::new(
         alloc,
         rt,
         config,
         Rank(0),
         Idle { fails },
-        post,
-        inbox,
+        first,
         FreeGate {},
     )?;
     Ok(Idling {
         job,
-        host: Host { ends: server },
+        host: Host { desk: third },
     })
 }
 
@@ -72,12 +80,12 @@ struct Ended {
     heard: Heard,
 }
 
-fn has_ended(end: &RankEnd<u32>, wanted: &Ended) -> bool {
+fn has_ended<M: Mailing>(end: &RankEnd<u32, M>, wanted: &Ended) -> bool {
     end.outcome == wanted.outcome && end.trouble == wanted.trouble && said_finish(end, wanted.said)
 }
 
 // It said Finish this many times, and nothing else.
-fn said_finish(end: &RankEnd<u32>, said: usize) -> bool {
+fn said_finish<M: Mailing>(end: &RankEnd<u32, M>, said: usize) -> bool {
     let finish = end.said.iter().all(|s| matches!(
         (&s.call, &s.answer),
         (Call::Finish, Answer::Fine)
@@ -86,7 +94,19 @@ fn said_finish(end: &RankEnd<u32>, said: usize) -> bool {
 }
 
 fn is_run<R: Wait + Copy>(rt: R, alloc: Global, fails: bool, wanted: &Ended) -> Result<bool, Fail> {
-    let Idling { job, mut host } = job(rt, alloc, fails)?;
+    is_run_over::<R, Brand>(rt, alloc, fails, wanted, Mail::new(alloc)?)
+}
+
+fn is_run_over<R: Wait + Copy, M: Mailing>(
+    rt: R,
+    alloc: Global,
+    fails: bool,
+    wanted: &Ended,
+    mail: Mail,
+) -> Result<bool, Fail>
+    requires mail { M.places ≡ places_of mail.inboxes.items }
+{
+    let Idling { job, mut host } = job::<R, M>(rt, alloc, fails, mail)?;
     let ended = has_ended(&job.run(), wanted);
     Ok(ended && host.is_told(&rt, wanted.heard))
 }

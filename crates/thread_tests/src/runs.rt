@@ -5,7 +5,8 @@ ghost use Rattle.rank_client.specs.Calls.{has_finished};
 
 use adlb_io::{FreeGate, ListedThreads, RealThreads, Spawner};
 use adlb_threads::{RanFault, Report, run_ranks};
-use adlb_unit::{Config, Payload, Rank, Target, Trouble, Types, WorkType};
+use adlb_unit::{Config, NoMemory, Payload, Rank, Target, Trouble, Types, WorkType};
+use ledger_checker::first_illegal;
 use rank_client::{Adlb, EndFault, PutFault, RankProgram};
 use std::alloc::Global;
 use std::sync::Wait;
@@ -117,24 +118,37 @@ fn take_one<A: Adlb>(link: &mut A) -> Result<bool, Trouble>
 // How a run of workers ends.
 #[derive(Clone, Copy, Debug, PartialEq, Eq)]
 enum RunEnd {
-    // The ranks took this many units together, and this many are left.
+    // The ranks took this many units together, and this many are left. The history has events, and the ledger is legal.
     Took(u64, usize),
+    // The report has no events, or its ledger is not legal.
+    Unkept,
     NoThread,
     Memory,
     TooLong,
-    Unconfirmed,
 }
 
 impl RunEnd {
-    fn of(report: Result<Report<u32>, RanFault>) -> RunEnd {
-        match report {
-            Ok(report) => RunEnd::Took(total(report.outcomes.as_slice()), report.left.len()),
-            Err(RanFault::NoThread) => RunEnd::NoThread,
-            Err(RanFault::Memory) => RunEnd::Memory,
-            Err(RanFault::TooLong { .. }) => RunEnd::TooLong,
-            Err(RanFault::Unconfirmed(_)) => RunEnd::Unconfirmed,
+    fn of(alloc: Global, ran: Result<Report<u32>, RanFault>) -> Result<RunEnd, Fail> {
+        match ran {
+            Ok(report) => RunEnd::of_report(alloc, &report),
+            Err(RanFault::NoThread) => Ok(RunEnd::NoThread),
+            Err(RanFault::Memory) => Ok(RunEnd::Memory),
+            Err(RanFault::TooLong { .. }) => Ok(RunEnd::TooLong),
         }
     }
+
+    fn of_report(alloc: Global, report: &Report<u32>) -> Result<RunEnd, Fail> {
+        if is_kept(alloc, report)? {
+            let taken = total(report.outcomes.as_slice());
+            return Ok(RunEnd::Took(taken, report.left.len()));
+        }
+        Ok(RunEnd::Unkept)
+    }
+}
+
+fn is_kept(alloc: Global, report: &Report<u32>) -> Result<bool, NoMemory> {
+    let illegal = first_illegal(alloc, &report.ledger, &report.config)?;
+    Ok(illegal.is_none() && !report.history.events.is_empty())
 }
 
 fn total(outcomes: &[u32]) -> u64 {
@@ -171,16 +185,27 @@ fn run<T: Spawner>(
     if programs.len() != ranks as usize {
         return Err("programs".into());
     }
-    Ok(RunEnd::of(run_ranks(alloc, config, programs, threads, FreeGate {})))
+    RunEnd::of(
+        alloc,
+        run_ranks(alloc, config, programs, threads, FreeGate {}),
+    )
 }
 
 const NONE: u32 = 99;
 
 #[test]
 fn all_that_is_put_is_taken(rt: HostRuntime) -> Result<(), Fail> {
-    for ranks in [1u32, 2, 5, 32] {
+    for (ranks, servers) in [
+        (1u32, 1u32),
+        (2, 1),
+        (5, 1),
+        (32, 1),
+        (1, 2),
+        (5, 3),
+        (32, 8),
+    ] {
         let mut threads = RealThreads::new(rt);
-        let ran = run(rt.alloc(), &mut threads, (ranks, 1), 3, NONE)?;
+        let ran = run(rt.alloc(), &mut threads, (ranks, servers), 3, NONE)?;
         assert_eq!(rt; ran, RunEnd::Took(3 * u64::from(ranks), 0));
     }
     Ok(())

@@ -1,11 +1,18 @@
 //! How the server of one rank ends.
 
-use crate::mail::{Ends, first_and_second};
-use adlb_threads::{ServerEnd, ServerJob};
-use adlb_unit::{Config, Letter, Message, NoMemory, Payload, STAMP_LIMIT, Server, Trouble, Types};
+ghost use Rattle.std.specs.Prelude.{◌≡◌};
+ghost use Rattle.rank_mail.specs.Mailboxes.{places_of};
+
+use crate::mail::{Mail, Three, send, three_desks};
+use actor_desk::{Desk, Mailing};
+use adlb_unit::{
+    Actor, Config, Letter, Message, NoMemory, Payload, STAMP_LIMIT, Server, Trouble, Types,
+};
 use std::alloc::Global;
+use std::marker::Brand;
 use std::sync::Wait;
 use std::test::Fail;
+use thread_server::{ServerEnd, ServerJob};
 
 // What the rank sends.
 #[derive(Clone, Copy)]
@@ -16,24 +23,31 @@ enum Sent {
     Finish { stamp: u64 },
 }
 
-fn send<R: Wait + Copy>(
+fn send_all<R: Wait + Copy, M: Mailing>(
     rt: &R,
     alloc: Global,
-    rank: &mut Ends,
+    rank: &mut Desk<M>,
     sent: Sent,
 ) -> Result<(), NoMemory> {
+    let to = Actor::Server(Server(0));
     match sent {
         Sent::Strange => {
             let body = Payload::copy(alloc, b"abc")?;
-            rank.send(rt, 1, 1, Message::Bytes { request: 7, body });
+            send(rt, alloc, rank, to, 1, Message::Bytes { request: 7, body })?;
             let types = Types::any();
-            rank.send(rt, 1, 1, Message::Reserve { request: 0, types });
+            send(
+                rt,
+                alloc,
+                rank,
+                to,
+                1,
+                Message::Reserve { request: 0, types },
+            )?;
             let trouble = Trouble::Memory;
-            rank.send(rt, 1, 1, Message::Gone { trouble });
+            send(rt, alloc, rank, to, 1, Message::Gone { trouble })
         }
-        Sent::Finish { stamp } => rank.send(rt, 1, stamp, Message::Finish),
+        Sent::Finish { stamp } => send(rt, alloc, rank, to, stamp, Message::Finish),
     }
-    Ok(())
 }
 
 // How the server ends.
@@ -46,16 +60,8 @@ struct Wanted {
     told: Option<Trouble>,
 }
 
-fn end<R: Wait + Copy>(rt: R, alloc: Global, server: Ends) -> Result<ServerEnd, Fail> {
-    let config = Config::new(1, 1, 64)?;
-    let Ends { post, inbox } = server;
-    Ok(ServerJob::new(alloc, rt, config, Server(0), post, inbox)?.run())
-}
-
-fn has_ended(end: &ServerEnd, wanted: &Wanted) -> bool {
-    end.trouble == wanted.trouble
-        && is_strange(&end.strange) == wanted.strange
-        && end.journal.is_empty()
+fn has_ended<M: Mailing>(end: &ServerEnd<M>, wanted: &Wanted) -> bool {
+    end.trouble == wanted.trouble && is_strange(&end.strange) == wanted.strange
 }
 
 fn is_strange(letter: &Option<(u32, Letter)>) -> bool {
@@ -73,11 +79,11 @@ fn broken(from: u32, message: &Message) -> Option<Trouble> {
     }
 }
 
-fn is_told<R: Wait + Copy>(rt: &R, rank: &mut Ends, told: Option<Trouble>) -> bool {
+fn is_told<R: Wait + Copy, M: Mailing>(rt: &R, rank: &mut Desk<M>, told: Option<Trouble>) -> bool {
     if told.is_none() {
         return true;
     }
-    let (from, letter) = rank.inbox.receive(rt);
+    let (from, letter) = rank.receive(rt);
     broken(from, &letter.message) == told
 }
 
@@ -87,9 +93,27 @@ fn is_served<R: Wait + Copy>(
     sent: Sent,
     wanted: &Wanted,
 ) -> Result<bool, Fail> {
-    let (mut rank, server) = first_and_second(alloc)?;
-    send(&rt, alloc, &mut rank, sent)?;
-    let ended = has_ended(&end(rt, alloc, server)?, wanted);
+    is_served_over::<R, Brand>(rt, alloc, sent, wanted, Mail::new(alloc)?)
+}
+
+fn is_served_over<R: Wait + Copy, M: Mailing>(
+    rt: R,
+    alloc: Global,
+    sent: Sent,
+    wanted: &Wanted,
+    mail: Mail,
+) -> Result<bool, Fail>
+    requires mail { M.places ≡ places_of mail.inboxes.items }
+{
+    let config = Config::new(1, 1, 64)?;
+    let Three {
+        first: mut rank,
+        second: server,
+        ..
+    } = three_desks::<M>(alloc, config, mail)?;
+    send_all(&rt, alloc, &mut rank, sent)?;
+    let end = ServerJob::new(alloc, rt, config, Server(0), server)?.run();
+    let ended = has_ended(&end, wanted);
     Ok(ended && is_told(&rt, &mut rank, wanted.told))
 }
 

@@ -1,8 +1,14 @@
-//! Starts that are refused, and two ranks that really interleave.
+//! Starts that are refused, two ranks that really interleave, and many runs, each with a legal ledger.
 
-use super::{FORCED, FULL, OTHER, TWO, run_gated, run_words};
-use adlb_io::{Gate, GatePoint, ListedThreads, RealThreads};
+use super::{FORCED, FULL, OTHER, TWO, run_gated, run_words, words};
+use adlb_command::run_adlb;
+use adlb_io::{
+    FreeGate, Gate, GatePoint, ListedThreads, RealThreads, Spawner, SteadySink, SteadySource,
+};
 use adlb_unit::{NoMemory, Rank, or_no_memory};
+use ledger_checker::first_illegal;
+use rand_core::utils::NextWord;
+use rand_pcg::Pcg32;
 use std::alloc::Global;
 use std::hint;
 use std::sync::Arc;
@@ -164,5 +170,197 @@ fn two_ranks_interleave(rt: HostRuntime) -> Result<(), Fail> {
         }
     }
     assert!(rt; met, "no rank saw the other");
+    Ok(())
+}
+
+/// The stream of the generator.
+const STREAM: u64 = 7;
+
+/// How many inputs a test makes, and how many runs with threads there are over each: in ten tests 5,000 runs. A test may take a minute.
+const INPUTS: u32 = 25;
+
+const RUNS: u32 = 20;
+
+/// Numbers as a seed gives them.
+#[derive(Drop)]
+struct Draws {
+    generator: Pcg32,
+}
+
+impl Draws {
+    fn new(seed: u64) -> Draws {
+        Draws {
+            generator: Pcg32::new(seed, STREAM),
+        }
+    }
+
+    // One of the numbers below this one, and 0 below 0.
+    fn below(&mut self, count: u32) -> u32 {
+        let word: u32 = self.generator.next_word();
+        word % count.max(1)
+    }
+}
+
+// The words of a run with threads that splits boards at this grain.
+fn drawn_line(alloc: Global, draws: &mut Draws, grain: u32) -> Result<String, Fail> {
+    let ranks = draws.below(32);
+    let servers = draws.below(8);
+    let limit = draws.below(1000);
+    let line = format!(in alloc;
+        "solve --ranks {} --servers {} --limit {} --grain {grain}",
+        ranks as u64 + 1,
+        servers as u64 + 1,
+        limit as u64 + 64
+    )?;
+    Ok(line)
+}
+
+// A run with these words on this input writes this report, and keeps a ledger that is a legal run.
+fn is_legal<T: Spawner>(
+    alloc: Global,
+    threads: &mut T,
+    line: &str,
+    input: &str,
+    report: &str,
+) -> Result<bool, Fail> {
+    let words = words(alloc, line)?;
+    let mut input = SteadySource::new(input.as_bytes().to_vec(alloc)?);
+    let mut output = SteadySink::new(alloc);
+    let end = run_adlb(
+        alloc,
+        words.as_slice(),
+        &mut input,
+        &mut output,
+        threads,
+        FreeGate {},
+    );
+    let Some(kept) = &end.report else {
+        return Ok(false);
+    };
+    let illegal = first_illegal(alloc, &kept.ledger, &kept.config)?;
+    Ok(end.status == 0 && illegal.is_none() && output.taken() == report.as_bytes())
+}
+
+// The words of the first run over one made input that is not legal or does not write the report of the run in line.
+fn bad_run<T: Spawner>(
+    alloc: Global,
+    threads: &mut T,
+    draws: &mut Draws,
+) -> Result<Option<String>, Fail> {
+    let (count, seed) = (draws.below(10), draws.below(1000));
+    let grain = match draws.below(3) {
+        0 => 1,
+        1 => 16,
+        _ => 0x1_0000,
+    };
+    let making = format!(in alloc; "make {count} {seed}")?;
+    let made = run_words(alloc, threads, making.as_str(), b"")?;
+    let input = made.written.as_str();
+    let inline = format!(in alloc; "solve --inline --grain {grain}")?;
+    let inline = run_words(alloc, threads, inline.as_str(), input.as_bytes())?;
+    for _ in 0..RUNS {
+        let line = drawn_line(alloc, draws, grain)?;
+        if !is_legal(
+            alloc,
+            threads,
+            line.as_str(),
+            input,
+            inline.written.as_str(),
+        )? {
+            return Ok(Some(line));
+        }
+    }
+    Ok(None)
+}
+
+// The words of the first such run over inputs that are made from this seed.
+fn bad_from<T: Spawner>(alloc: Global, threads: &mut T, seed: u64) -> Result<Option<String>, Fail> {
+    let mut draws = Draws::new(seed);
+    for _ in 0..INPUTS {
+        let bad = bad_run(alloc, threads, &mut draws)?;
+        if bad.is_some() {
+            return Ok(bad);
+        }
+    }
+    Ok(None)
+}
+
+#[test]
+fn each_ledger_is_legal_of_the_first_part(rt: HostRuntime) -> Result<(), Fail> {
+    let mut threads = RealThreads::new(rt);
+    let bad = bad_from(rt.alloc(), &mut threads, 1)?;
+    assert!(rt; bad.is_none(), "{bad:?}");
+    Ok(())
+}
+
+#[test]
+fn each_ledger_is_legal_of_the_second_part(rt: HostRuntime) -> Result<(), Fail> {
+    let mut threads = RealThreads::new(rt);
+    let bad = bad_from(rt.alloc(), &mut threads, 2)?;
+    assert!(rt; bad.is_none(), "{bad:?}");
+    Ok(())
+}
+
+#[test]
+fn each_ledger_is_legal_of_the_third_part(rt: HostRuntime) -> Result<(), Fail> {
+    let mut threads = RealThreads::new(rt);
+    let bad = bad_from(rt.alloc(), &mut threads, 3)?;
+    assert!(rt; bad.is_none(), "{bad:?}");
+    Ok(())
+}
+
+#[test]
+fn each_ledger_is_legal_of_the_fourth_part(rt: HostRuntime) -> Result<(), Fail> {
+    let mut threads = RealThreads::new(rt);
+    let bad = bad_from(rt.alloc(), &mut threads, 4)?;
+    assert!(rt; bad.is_none(), "{bad:?}");
+    Ok(())
+}
+
+#[test]
+fn each_ledger_is_legal_of_the_fifth_part(rt: HostRuntime) -> Result<(), Fail> {
+    let mut threads = RealThreads::new(rt);
+    let bad = bad_from(rt.alloc(), &mut threads, 5)?;
+    assert!(rt; bad.is_none(), "{bad:?}");
+    Ok(())
+}
+
+#[test]
+fn each_ledger_is_legal_of_the_sixth_part(rt: HostRuntime) -> Result<(), Fail> {
+    let mut threads = RealThreads::new(rt);
+    let bad = bad_from(rt.alloc(), &mut threads, 6)?;
+    assert!(rt; bad.is_none(), "{bad:?}");
+    Ok(())
+}
+
+#[test]
+fn each_ledger_is_legal_of_the_seventh_part(rt: HostRuntime) -> Result<(), Fail> {
+    let mut threads = RealThreads::new(rt);
+    let bad = bad_from(rt.alloc(), &mut threads, 7)?;
+    assert!(rt; bad.is_none(), "{bad:?}");
+    Ok(())
+}
+
+#[test]
+fn each_ledger_is_legal_of_the_eighth_part(rt: HostRuntime) -> Result<(), Fail> {
+    let mut threads = RealThreads::new(rt);
+    let bad = bad_from(rt.alloc(), &mut threads, 8)?;
+    assert!(rt; bad.is_none(), "{bad:?}");
+    Ok(())
+}
+
+#[test]
+fn each_ledger_is_legal_of_the_ninth_part(rt: HostRuntime) -> Result<(), Fail> {
+    let mut threads = RealThreads::new(rt);
+    let bad = bad_from(rt.alloc(), &mut threads, 9)?;
+    assert!(rt; bad.is_none(), "{bad:?}");
+    Ok(())
+}
+
+#[test]
+fn each_ledger_is_legal_of_the_tenth_part(rt: HostRuntime) -> Result<(), Fail> {
+    let mut threads = RealThreads::new(rt);
+    let bad = bad_from(rt.alloc(), &mut threads, 10)?;
+    assert!(rt; bad.is_none(), "{bad:?}");
     Ok(())
 }

@@ -1,8 +1,7 @@
-use Rattle.std.proofs.Common.{[], Some, refl, ap, ◌∙◌}
+use Rattle.std.proofs.Common.{[], Some, refl}
 use Rattle.made_jobs.specs.Made.{made_text}
-use Rattle.adlb_command.proofs.Ending.{ends_answered, plain_refusal}
+use Rattle.adlb_command.proofs.Ending.{ends_answered}
 use Rattle.adlb_command.proofs.Stopping.{ends_as_refused}
-use Rattle.adlb_command.specs.Ends.{found_by}
 use Rattle.adlb_command.specs.Top.{scene}
 use Rattle.adlb_command.specs.declared.wanted.Wanted.TheVariants.{Summary}
 use Rattle.adlb_command.proofs.drilling.drill_inline.Goals as goal
@@ -24,7 +23,3 @@ returns-in-Err-clause-ends g c = λ left reads refused started refused' started'
     (scene (Some []) 0 (g.K.Sink.taken c.args.output.now) (g.K.Sink.faults c.args.output.now) (g.K.Sink.all_flushed c.args.output.now)
     refused' started')
     c.in-Err.fault c.new.result.fault c.new.result.report c.new.ensures.fault c.new.ensures.report c.in-Err.ensures.faults refl
-
-pub returns-in-Err-clause-confirmed : goal.returns-in-Err-clause-confirmed
-returns-in-Err-clause-confirmed g c =
-    (c.new.ensures.unconfirmed, ap found_by c.new.ensures.fault ∙ plain_refusal _ _ _ c.in-Err.fault c.in-Err.ensures.faults)

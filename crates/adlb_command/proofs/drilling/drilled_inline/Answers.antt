@@ -10,7 +10,7 @@ returns-clause-answered c =
     let told = c.answer_inline.ensures in
     answers_input c.args.settings (Summary c.args.count c.args.seed) (Some (made_text c.args.count c.args.seed)) c.in_ok-asked.asked.jobs
     c.answer_inline.result (told_jobs (made_text c.args.count c.args.seed) c.in_ok-asked.asked.jobs c.in_ok-asked.ensures.jobs)
-    told.kept told.history told.told
+    told.kept told.told
 
 pub returns-clause-faults : goal.returns-clause-faults
 returns-clause-faults c =

@@ -7,7 +7,7 @@ pub returns-clause-answered : goal.returns-clause-answered
 returns-clause-answered g c =
     let told = c.answer_inline.ensures in
     answers_input c.args.settings (Report c.args.extras) (g.S.Source.left c.args.input.now) c.in_ok-asked.asked.jobs c.answer_inline.result
-    c.in_ok-asked.ensures.jobs told.kept told.history told.told
+    c.in_ok-asked.ensures.jobs told.kept told.told
 
 pub returns-clause-refused : goal.returns-clause-refused
 returns-clause-refused g c =

@@ -1,8 +1,7 @@
-use Rattle.std.proofs.Common.{◌∙◌, ap, refl}
-use Rattle.adlb_command.specs.Ends.{found_by}
+use Rattle.std.proofs.Common.{refl}
 use Rattle.adlb_command.specs.Top.{scene}
 use Rattle.adlb_command.specs.declared.wanted.Wanted.TheVariants.{Report}
-use Rattle.adlb_command.proofs.Ending.{ends_answered, plain_refusal}
+use Rattle.adlb_command.proofs.Ending.{ends_answered}
 use Rattle.adlb_command.proofs.Stopping.{ends_as_refused}
 use Rattle.adlb_command.proofs.inline.solve_inline.Goals as goal
 
@@ -23,7 +22,3 @@ returns-in-Err-clause-ends g c = λ refused started refused' started'.
     (scene (g.S.Source.left c.answer_input.new.input) (g.S.Source.faults c.answer_input.new.input) (g.K.Sink.taken c.args.output.now)
     (g.K.Sink.faults c.args.output.now) (g.K.Sink.all_flushed c.args.output.now) refused' started')
     c.in-Err.fault c.new.result.fault c.new.result.report c.new.ensures.fault c.new.ensures.report c.in-Err.ensures.refused refl
-
-pub returns-in-Err-clause-confirmed : goal.returns-in-Err-clause-confirmed
-returns-in-Err-clause-confirmed g c =
-    (c.new.ensures.unconfirmed, ap found_by c.new.ensures.fault ∙ plain_refusal _ _ _ c.in-Err.fault c.in-Err.ensures.refused)

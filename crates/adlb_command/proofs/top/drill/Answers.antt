@@ -33,5 +33,5 @@ returns-else-options-clause-ran g c = λ left reads.
     (scene left reads (g.K.Sink.taken c.drill_threads.new.output) (g.K.Sink.faults c.drill_threads.new.output)
     (g.K.Sink.all_flushed c.drill_threads.new.output) (g.T.Spawner.faults c.drill_threads.new.threads)
     (g.T.Spawner.starts c.drill_threads.new.threads))
-    c.config-config.result c.config-config.ensures c.drill_threads.result.report c.drill_threads.result.unconfirmed c.if-options.false
-    c.drill_threads.ensures.config c.drill_threads.ensures.found c.drill_threads.ensures.started
+    c.config-config.result c.config-config.ensures c.drill_threads.result.report c.if-options.false
+    c.drill_threads.ensures.config c.drill_threads.ensures.started

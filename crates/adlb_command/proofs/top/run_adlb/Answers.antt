@@ -2,7 +2,7 @@ use Rattle.std.proofs.Common.{ℕ, None, Err, refl, ap, subst, map}
 use Rattle.std.specs.String.{string_bytes}
 use Rattle.command_words.specs.declared.commands.Command.TheVariants.{Check, Make}
 use Rattle.adlb_io.specs.Inputs.{Seen, seen}
-use Rattle.adlb_command.specs.Top.{EndsAsChecked, EndsAsDrilled, EndsAsMade, IsRunOf, Scene, scene}
+use Rattle.adlb_command.specs.Top.{EndsAsChecked, EndsAsDrilled, EndsAsMade, IsRunWith, Scene, scene}
 use Rattle.adlb_command.specs.Inside.{IsAcceptedAs}
 use Rattle.adlb_command.specs.Words.{settings_of}
 use Rattle.adlb_command.proofs.Checked.{checks_early}
@@ -41,16 +41,16 @@ returns-in-Ok-Drill-clause-drill_ran g c = λ count seed o says.
     (g.K.Sink.all_flushed c.args.output.now) (g.T.Spawner.faults c.args.threads.now) (g.T.Spawner.starts c.args.threads.now) in
     let after : Scene = scene left reads (g.K.Sink.taken c.drill.new.output) (g.K.Sink.faults c.drill.new.output)
     (g.K.Sink.all_flushed c.drill.new.output) (g.T.Spawner.faults c.drill.new.threads) (g.T.Spawner.starts c.drill.new.threads) in
-    same_drill (λ a b p. IsRunOf p before after c.drill.result.report c.drill.result.unconfirmed)
+    same_drill (λ a b p. IsRunWith p before after c.drill.result.report)
     (map string_bytes c.args.words.now) c.in-Ok-Drill.count c.in-Ok-Drill.seed count seed c.in-Ok-Drill.options o
     (subst (λ a. IsAcceptedAs (map string_bytes c.args.words.now) a) c.in-Ok-Drill.field-0-is c.in-Ok-Drill.ensures.said).0 says
     (c.drill.ensures.ran left reads)
 
 pub returns-in-Err-clause-ran : goal.returns-in-Err-clause-ran
-returns-in-Err-clause-ran g c = λ w says. none_ran w.options _ _ _ c.new.ensures.report c.new.ensures.unconfirmed
+returns-in-Err-clause-ran g c = λ w says. none_ran w.options _ _ c.new.ensures.report
 
 pub returns-in-Err-clause-drill_ran : goal.returns-in-Err-clause-drill_ran
-returns-in-Err-clause-drill_ran g c = λ count seed o says. none_ran o _ _ _ c.new.ensures.report c.new.ensures.unconfirmed
+returns-in-Err-clause-drill_ran g c = λ count seed o says. none_ran o _ _ c.new.ensures.report
 
 pub returns-in-Err-clause-made : goal.returns-in-Err-clause-made
 returns-in-Err-clause-made g c = λ count seed says.

@@ -11,5 +11,5 @@ returns-else-options-clause-ran g c =
     (scene (g.S.Source.left c.solve_threads.new.input) (g.S.Source.faults c.solve_threads.new.input) (g.K.Sink.taken c.solve_threads.new.output)
     (g.K.Sink.faults c.solve_threads.new.output) (g.K.Sink.all_flushed c.solve_threads.new.output)
     (g.T.Spawner.faults c.solve_threads.new.threads) (g.T.Spawner.starts c.solve_threads.new.threads))
-    c.config-config.result c.config-config.ensures c.solve_threads.result.report c.solve_threads.result.unconfirmed c.if-options.false
-    c.solve_threads.ensures.config c.solve_threads.ensures.found c.solve_threads.ensures.started
+    c.config-config.result c.config-config.ensures c.solve_threads.result.report c.if-options.false
+    c.solve_threads.ensures.config c.solve_threads.ensures.started

@@ -1,63 +1,94 @@
-use Rattle.std.proofs.Common.{rules, ◌∙◌, ap, arith}
+use Rattle.std.proofs.Common.{rules, ◌≡◌, ◌<◌, ◌∙◌, List, [], Some, ap, refl, sym, subst}
+use Rattle.adlb_unit.specs.declared.configs.Config.{Config}
+use Rattle.actor_desk.specs.Desks.{received}
+use Rattle.bag_ledger.specs.declared.entries.Call.{Call}
+use Rattle.rank_client.specs.Inside.{gives}
 use Rattle.rank_client.specs.Remembered.{pending_call}
 use Rattle.rank_client.specs.State.{ClientModel}
-use Rattle.thread_client.proofs.Steps.{failed_knows, heard, heard_says, letter_late}
-use Rattle.thread_client.proofs.Exchanges.{hear_config, not_broken, same_knows, same_says, same_whole}
+use Rattle.rank_client.specs.Step.{letter_trouble}
+use Rattle.rank_mail.specs.declared.posted.Posted.{Posted}
+use Rattle.thread_client.specs.inside.Wires.{HasFailed, IsRecorded}
+use Rattle.thread_client.proofs.Entering.{HasEntered, entered_failed_all, entered_knows, entered_me, entered_recorded, entered_says_all, entered_whole}
+use Rattle.thread_client.proofs.Exchanges.{hear_numbers, not_broken, same_heard, same_hears, same_knows, same_whole}
+use Rattle.thread_client.proofs.Silent.{hear_quiet}
+use Rattle.thread_client.proofs.Steps.{failed_knows, heard, heard_says, letter_late, waiting_failed}
+use Rattle.thread_client.proofs.Walks.{failed_recorded, got_received, got_step}
 use Rattle.thread_client.proofs.wires.Wire.hear.Goals as goal
 
 pub invariant_of-self-in-Some : goal.invariant_of-self-in-Some
 invariant_of-self-in-Some g c =
-    let w = c.make_room.new.self in
-    let ok = c.in_ok-make_room.ensures.ok in
-    record {
-      run_is =
-          hear_config w.core c.hear.new.self c.in-Some.server c.args.letter c.hear.result (same_knows _ _ ok c.requires.knows)
-          (same_whole _ _ ok c.requires.whole) c.hear.ensures.heard c.hear.ensures.whole c.hear.ensures.failed ∙ w.run_is;
-      reach = w.reach;
-    }
+    let w = c.got.new.self in
+    let p = c.in-Ok.ensures in
+    let h = c.hear.ensures in
+    let n =
+    hear_numbers w.core c.hear.new.self c.in-Some.server c.args.letter c.hear.result (same_knows _ _ p.core c.requires.knows)
+    (same_whole _ _ p.core c.requires.whole) h.heard h.whole h.failed in
+    record { run_is = n.0 ∙ w.run_is; desk_is = (w.desk_is.0, w.desk_is.1 ∙ sym (ap (λ r. r.0) n.1)) }
 
 pub returns-in_err-step-in-Some : goal.returns-in_err-step-in-Some
 returns-in_err-step-in-Some g c =
-    let s = c.make_room.new.self.core in
-    let ok = c.in_ok-make_room.ensures.ok in
+    let s = c.args.self.now.core in
+    let t = c.hear.new.self in
+    let p = c.in-Ok.ensures in
     let e = c.in_err-step-in-Some.ensures in
-    let late = letter_late s c.args.letter _ (same_whole _ _ ok c.requires.whole) (not_broken _ c.in_default.not-Broken) e.troubled in
-    let knows = failed_knows s c.hear.new.self _ e.failed late (same_knows _ _ ok c.requires.knows) in
-    search (rules, knows, ok)
+    let trouble = c.in_err-step-in-Some.field-0.0 in
+    let failed = subst (λ (u : ClientModel). t ≡ record u { trouble = Some trouble }) p.core e.failed in
+    let late =
+    letter_late s c.args.letter trouble c.requires.whole (not_broken _ c.in_default.not-Broken)
+    (subst (λ (u : ClientModel). letter_trouble u c.args.letter ≡ Some trouble) p.core e.troubled) in
+    let knows = failed_knows s t trouble failed late c.requires.knows in
+    let recorded = failed_recorded c.got.new.self.desk [] t trouble (ap (λ (u : ClientModel). u.trouble) failed) in
+    let fails : (call : Call) → pending_call s.pending ≡ Some call → HasFailed s.transcript call trouble t =
+    λ call waits. waiting_failed s t trouble failed s.transcript call refl waits in
+    let me = ap (λ (u : ClientModel). u.me) failed in
+    search (rules, knows, recorded, fails, me)
 
-pub keep-requires : goal.keep-requires
-keep-requires g c =
-    let w = c.make_room.new.self in
-    let ok = c.in_ok-make_room.ensures.ok in
+pub enter-requires : goal.enter-requires
+enter-requires g c =
+    let w = c.args.self.now in
+    let p = c.in-Ok.ensures in
     let e = c.in_ok-step-in-Some.ensures in
-    let h =
-    heard w.core c.in-Some.server c.args.letter _ e.heard (same_knows _ _ ok c.requires.knows) (same_whole _ _ ok c.requires.whole)
-    e.whole in
-    let few = h.few in
-    let more = c.in_ok-make_room.ensures.more in
-    record { room = omega (arith, few, more) }
+    let x = gives c.hear.new.self c.in_ok-step-in-Some.step in
+    let hears = same_hears w.core c.got.new.self.core c.in-Some.server c.args.letter x p.core e.heard in
+    record {
+      whole =
+          (heard w.core c.in-Some.server c.args.letter x hears c.requires.knows c.requires.whole (same_heard _ _ c.args.letter p.core e.whole)).whole;
+      room = p.room;
+    }
 
 pub returns-in_ok-step-in-Some : goal.returns-in_ok-step-in-Some
 returns-in_ok-step-in-Some g c =
-    let w = c.make_room.new.self in
-    let ok = c.in_ok-make_room.ensures.ok in
-    let e = c.in_ok-step-in-Some.ensures in
-    let k = c.keep.ensures in
-    let knows = same_knows _ _ ok c.requires.knows in
-    let h = heard w.core c.in-Some.server c.args.letter _ e.heard knows (same_whole _ _ ok c.requires.whole) e.whole in
-    let few = h.few in
-    let more = c.in_ok-make_room.ensures.more in
-    let len = k.len in
-    let capacity = k.capacity in
+    let w = c.args.self.now in
+    let p = c.in-Ok.ensures in
+    let b = c.in_ok-step-in-Some.ensures in
+    let step = c.in_ok-step-in-Some.step in
+    let x = gives c.hear.new.self step in
+    let server = c.in-Some.server in
+    let letter = c.args.letter in
+    let hears = same_hears w.core c.got.new.self.core server letter x p.core b.heard in
+    let h = heard w.core server letter x hears c.requires.knows c.requires.whole (same_heard _ _ letter p.core b.whole) in
+    let r = c.enter.result in
+    let t = c.enter.new.self.core in
+    let e : HasEntered x r t = record { answer = c.enter.ensures.answer; same = c.enter.ensures.core; refused = c.enter.ensures.refused } in
+    let says = heard_says w.core server letter x hears c.requires.knows in
+    let desk = c.got.new.self.desk in
+    let config = c.got.new.self.config in
+    let cause = c.in-Ok.cause in
+    let recorded =
+    subst (λ (more : List Posted). IsRecorded w.desk more w.core)
+    (got_received w.config config server letter cause c.args.from p.config p.cause c.in-Some.ensures.1) c.requires.recorded in
+    let within = subst (λ (k : Config). server.0 < k.servers) (sym w.desk_is.0) c.in-Some.ensures.0 in
     record {
-      says = λ call waits.
-          same_says c.args.self.now.core w.core c.hear.new.self c.keep.new.self.core call _ _ ok k.core k.answer
-          (heard_says w.core c.in-Some.server c.args.letter _ e.heard knows call
-          (ap (λ (u : ClientModel). pending_call u.pending) ok ∙ waits));
-      whole = same_whole _ _ k.core h.whole;
-      failed = tt;
-      knows = same_knows _ _ k.core h.knows;
-      room = omega (arith, few, more, len, capacity);
-      config = k.config ∙ c.in_ok-make_room.ensures.config;
-      me = ap (λ (u : ClientModel). u.me) k.core ∙ h.me ∙ ap (λ (u : ClientModel). u.me) ok;
+      says = entered_says_all w.core.transcript (pending_call w.core.pending) x r t e says;
+      whole = entered_whole x r t e h.whole;
+      failed = entered_failed_all w.core.transcript (pending_call w.core.pending) x r t e says (hear_quiet w.core server letter x hears);
+      knows = entered_knows x r t e h.knows;
+      recorded =
+          entered_recorded x r t e w.desk desk c.enter.new.self.desk (received config cause) w.core
+          (record { stamp = step.stamp; cause = cause; sends = step.sends.items; entries = step.entries.items })
+          c.requires.whole recorded p.desk
+          (record { step = got_step w.desk.config w.core server letter cause x p.cause within hears; stamp = b.stamp; sends = refl; entries = refl })
+          h.me c.enter.ensures.entered c.enter.ensures.tallies;
+      config = c.enter.ensures.config ∙ p.config;
+      me = entered_me x r t e ∙ h.me;
     }

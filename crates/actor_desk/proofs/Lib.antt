@@ -1,0 +1,4 @@
+mod Apart
+pub mod Counted
+pub mod Letters
+mod Sent

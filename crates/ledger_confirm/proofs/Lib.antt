@@ -1,4 +1,0 @@
-mod Equal
-mod Found
-mod Hearing
-mod Small
