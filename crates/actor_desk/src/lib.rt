@@ -13,6 +13,3 @@ mod sending;
 pub use clearing::clear;
 pub use desk::{Desk, desks};
 pub use mailing::Mailing;
-
-#[cfg(test)]
-mod tests;

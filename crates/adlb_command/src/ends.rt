@@ -13,7 +13,7 @@ use made_jobs::MadeFault;
 use thiserror::Error;
 
 /// Why a command did not write its whole output. Its text is what the user is told.
-#[derive(Clone, Copy, Debug, PartialEq, Eq, Error)]
+#[derive(Clone, Copy, Debug, Error)]
 pub enum RunFault {
     /// A line of the input is refused: the first such line, from 1, and why.
     #[error("line {line}: {why}")]
@@ -185,7 +185,7 @@ impl From<MadeFault> for RunFault {
 
 /// How a command ended: its exit status, why it did not write its whole output, if so, and what it kept: a report of a run if some of
 /// it was written, or if a write failed.
-#[derive(Debug, Drop)]
+#[derive(Drop)]
 pub struct RunEnd {
     pub status: u8,
     pub fault: Option<RunFault>,

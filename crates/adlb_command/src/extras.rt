@@ -11,7 +11,7 @@ use ledger_stats::append_stats;
 use std::alloc::Global;
 
 /// What is written behind the report.
-#[derive(Clone, Copy, Debug, PartialEq, Eq)]
+#[derive(Clone, Copy)]
 pub struct Extras {
     /// Counts of the kept ledger.
     pub stats: bool,

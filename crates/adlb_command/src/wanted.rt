@@ -14,7 +14,7 @@ use puzzle_app::Settings;
 use std::alloc::Global;
 
 /// What is written of a run.
-#[derive(Clone, Copy, Debug, PartialEq, Eq)]
+#[derive(Clone, Copy)]
 pub enum Wanted {
     /// The report of its jobs, and these behind it.
     Report(Extras),

@@ -14,7 +14,7 @@ use puzzle_app::Settings;
 use std::alloc::Global;
 
 /// A command that is carried out.
-#[derive(Clone, Copy, Debug, PartialEq, Eq)]
+#[derive(Clone, Copy)]
 pub enum Accepted {
     Solve(SolveWords),
     Check,

@@ -3,7 +3,7 @@
 use adlb_unit::{NoMemory, Rank};
 
 /// What a rank has just got, with the number of its call.
-#[derive(Clone, Copy, Debug, PartialEq, Eq)]
+#[derive(Clone, Copy, PartialEq, Eq)]
 pub enum GatePoint {
     /// A unit was granted.
     Granted { call: u64 },
@@ -21,7 +21,7 @@ pub trait Gate {
 }
 
 /// A gate that is always open.
-#[derive(Clone, Copy, Debug, PartialEq, Eq)]
+#[derive(Clone, Copy)]
 pub struct FreeGate {}
 
 impl Gate for FreeGate {

@@ -20,7 +20,7 @@ impl fmt::Display for Failed {
 impl Error for Failed {}
 
 /// Why bytes were not read.
-#[derive(Clone, Copy, Debug, PartialEq, Eq)]
+#[derive(Clone, Copy, PartialEq, Eq)]
 pub enum SourceFault {
     /// The source failed.
     Failed,

@@ -24,7 +24,7 @@ pub struct Rank(pub u32);
 pub struct Server(pub u32);
 
 /// A work type: what kind of work a unit is, in the program's own numbering.
-#[derive(Clone, Copy, Debug, PartialEq, Eq, PartialOrd, Ord)]
+#[derive(Clone, Copy, Debug, PartialEq, Eq)]
 pub struct WorkType(pub u32);
 
 /// Whom a unit is for.
@@ -39,7 +39,7 @@ pub enum Target {
 }
 
 /// A unit, by the rank that put it and the number of that rank's call.
-#[derive(Clone, Copy, Debug, PartialEq, Eq, PartialOrd, Ord)]
+#[derive(Clone, Copy, Debug, PartialEq, Eq)]
 pub struct UnitId {
     pub rank: Rank,
     pub number: u64,

@@ -209,7 +209,7 @@ pub enum Answer {
 }
 
 /// A call with its answer.
-#[derive(Debug, Drop)]
+#[derive(Drop)]
 pub struct Said {
     pub call: Call,
     pub answer: Answer,

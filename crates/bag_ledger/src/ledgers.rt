@@ -8,7 +8,7 @@ use std::alloc::Global;
 use std::marker::Model;
 
 /// The entries of a run, in order. It is seen as their list.
-#[derive(Debug, Drop)]
+#[derive(Drop)]
 pub struct Ledger {
     held: Vec<Entry>,
 }
@@ -48,57 +48,5 @@ impl Ledger {
         ensures { result.now ≡ self.now }
     {
         self.held.as_slice()
-    }
-}
-
-#[cfg(test)]
-mod tests {
-    use super::*;
-    use adlb_unit::{Payload, Rank, Server, Target, Types, UnitId, WorkType};
-    use std::test::Fail;
-
-    const UNIT: UnitId = UnitId {
-        rank: Rank(0),
-        number: 0,
-    };
-
-    #[test]
-    fn entries_are_what_was_pushed(rt: HostRuntime) -> Result<(), Fail> {
-        let mut ledger = Ledger::new(rt.alloc());
-        assert!(rt; ledger.entries().is_empty());
-        ledger.push(Entry::Putting {
-            rank: Rank(0),
-            call: 0,
-            kind: WorkType(1),
-            prio: 0,
-            target: Target::Any,
-            answer: None,
-            body: Payload::copy(rt.alloc(), b"ab")?,
-        })?;
-        ledger.push(Entry::Accepted {
-            server: Server(0),
-            id: UNIT,
-        })?;
-        ledger.push(Entry::Asked {
-            rank: Rank(0),
-            call: 1,
-            types: Types::any(),
-        })?;
-        ledger.push(Entry::Granted {
-            server: Server(0),
-            rank: Rank(0),
-            call: 1,
-            id: UNIT,
-        })?;
-        assert_eq!(rt; ledger.entries().len(), 4);
-        let body = match &ledger.entries()[0] {
-            Entry::Putting { body, .. } => body.bytes(),
-            _ => b"".as_slice(),
-        };
-        assert_eq!(rt; body, b"ab".as_slice());
-        assert!(rt; matches!(&ledger.entries()[1], Entry::Accepted { id, .. } if *id == UNIT));
-        assert!(rt; matches!(&ledger.entries()[2], Entry::Asked { call: 1, .. }));
-        assert!(rt; matches!(&ledger.entries()[3], Entry::Granted { call: 1, .. }));
-        Ok(())
     }
 }

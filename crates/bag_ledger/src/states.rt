@@ -10,7 +10,7 @@ use std::alloc::Global;
 use std::marker::Model;
 
 /// What a rank does: it runs, has a call pending (with that call's number), or has finished.
-#[derive(Debug, Drop)]
+#[derive(Drop)]
 pub enum Status {
     Running,
     /// It puts the unit; the unit's id has the number of the call.
@@ -31,7 +31,7 @@ pub enum Status {
 }
 
 /// A list of servers.
-#[derive(Debug, Drop)]
+#[derive(Drop)]
 pub struct Servers {
     held: Vec<Server>,
 }
@@ -90,7 +90,7 @@ impl Servers {
 
 /// A rank: what it does, the servers that declined its pending call (refused what it brings, or looked in vain), the
 /// number of its next call, the batch that is going on, and the end that it was told last.
-#[derive(Debug, Drop)]
+#[derive(Drop)]
 pub struct RankState {
     pub status: Status,
     pub declined: Servers,
@@ -101,7 +101,7 @@ pub struct RankState {
 
 /// Where a unit is: free at a server, on the way to one, pinned at a server to the rank that it was granted to, or
 /// fetched.
-#[derive(Clone, Copy, Debug, PartialEq, Eq)]
+#[derive(Clone, Copy)]
 pub enum UnitPlace {
     Free(Server),
     Travelling(Server),
@@ -110,7 +110,7 @@ pub enum UnitPlace {
 }
 
 /// An accepted unit and its place.
-#[derive(Debug, Drop)]
+#[derive(Drop)]
 pub struct Placed {
     pub unit: Unit,
     pub place: UnitPlace,
@@ -118,7 +118,7 @@ pub struct Placed {
 
 /// The common part of a batch, kept at a server: how many units of the batch were accepted, how often it was fetched,
 /// and whether it was closed and freed.
-#[derive(Debug, Drop)]
+#[derive(Drop)]
 pub struct Part {
     pub batch: BatchId,
     pub server: Server,
@@ -130,7 +130,7 @@ pub struct Part {
 }
 
 /// Room that a server promised for a unit of this length.
-#[derive(Clone, Copy, Debug, PartialEq, Eq)]
+#[derive(Clone, Copy)]
 pub struct Promise {
     pub server: Server,
     pub id: UnitId,

@@ -23,7 +23,7 @@ pub enum RankChange {
 }
 
 /// A change of one common part.
-#[derive(Clone, Copy, Debug, PartialEq, Eq)]
+#[derive(Clone, Copy)]
 pub enum PartChange {
     /// It is closed.
     Closed,

@@ -6,7 +6,7 @@ use std::alloc::AllocError;
 use thiserror::Error;
 
 /// How a run is done.
-#[derive(Clone, Copy, Debug, PartialEq, Eq)]
+#[derive(Clone, Copy)]
 pub struct RunOptions {
     /// How many ranks there are: 1 to 32.
     pub ranks: u32,
@@ -23,7 +23,7 @@ pub struct RunOptions {
 }
 
 /// What `solve` is told.
-#[derive(Clone, Copy, Debug, PartialEq, Eq)]
+#[derive(Clone, Copy)]
 pub struct SolveWords {
     pub options: RunOptions,
     /// Counts of the kept ledger follow the report.
@@ -33,7 +33,7 @@ pub struct SolveWords {
 }
 
 /// A command with its words.
-#[derive(Clone, Copy, Debug, PartialEq, Eq)]
+#[derive(Clone, Copy)]
 pub enum Command {
     /// Solve the input.
     Solve(SolveWords),
@@ -53,7 +53,7 @@ pub enum Command {
 }
 
 /// Why the words give no command.
-#[derive(Clone, Copy, Debug, PartialEq, Eq, Error)]
+#[derive(Clone, Copy, Debug, Error)]
 pub enum WordsFault {
     /// The words are refused.
     #[error("words refused")]

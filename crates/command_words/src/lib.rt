@@ -8,8 +8,6 @@
 mod commands;
 mod options;
 mod reading;
-#[cfg(test)]
-mod tests;
 
 pub use commands::{Command, RunOptions, SolveWords, WordsFault};
 pub use reading::read_words;

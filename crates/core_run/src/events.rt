@@ -4,7 +4,7 @@ use adlb_unit::{Actor, Rank};
 use bag_ledger::Call;
 
 /// One event of a run: a rank begins a call, or an actor handles a letter.
-#[derive(Debug, Drop)]
+#[derive(Drop)]
 pub enum Event {
     /// The rank begins this call.
     Call(Rank, Call),

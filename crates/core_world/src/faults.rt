@@ -5,14 +5,15 @@ ghost use Rattle.core_world.specs.Applied.{fault_of};
 
 use adlb_unit::Trouble;
 use core_run::Event;
+use std::fmt;
 use thiserror::Error;
 
 /// Why a world does not apply an event.
-#[derive(Debug, Drop, Error)]
+#[derive(Drop, Error)]
 pub enum ApplyFault {
     /// There is no such event now: the rank is not in the run or not ready for the call; or an actor is not in the run, no
     /// letter is under way from the one to the other, or the receiver has ended.
-    #[error("not enabled now: {event:?}")]
+    #[error("the event is not enabled now")]
     NotEnabled { event: Event },
     /// There is no memory.
     #[error("out of memory")]
@@ -20,6 +21,13 @@ pub enum ApplyFault {
     /// The event would have this stamp, which is past the last one that is given.
     #[error("the run is too long: an event would have stamp {stamp}")]
     TooLong { stamp: u64 },
+}
+
+// As it is displayed: an event is not shown letter by letter.
+impl fmt::Debug for ApplyFault {
+    fn fmt<W: fmt::Write>(&self, f: &mut fmt::Formatter<W>) -> fmt::Result {
+        fmt::Display::fmt(self, f)
+    }
 }
 
 impl ApplyFault {

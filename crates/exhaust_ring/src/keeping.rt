@@ -9,7 +9,7 @@ use std::alloc::Global;
 use std::marker::Model;
 
 /// One server of the ring. Contracts see it as a `RingModel` of `specs/Ring.antt`. No call but `new` takes memory.
-#[derive(Debug, Drop)]
+#[derive(Drop)]
 pub struct Ring {
     pub(crate) config: Config,
     pub(crate) me: Server,

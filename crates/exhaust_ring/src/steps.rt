@@ -3,7 +3,7 @@
 use adlb_unit::{Token, Why};
 
 /// What becomes of a check.
-#[derive(Debug, Drop)]
+#[derive(Drop)]
 pub enum RingStep {
     /// The token goes on to the next server.
     Pass(Token),

@@ -3,7 +3,7 @@
 use sudoku_rules::Grid;
 
 /// What a rank has at its end. Puzzles, batches and the items of a batch are numbered from 1.
-#[derive(Debug, Drop)]
+#[derive(Drop)]
 pub struct Outcome {
     /// The solutions that it fetched and those that no server took, each with the number of its puzzle.
     pub solutions: Vec<(u32, Grid)>,

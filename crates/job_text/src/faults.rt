@@ -4,7 +4,7 @@ use adlb_unit::NoMemory;
 use thiserror::Error;
 
 /// Why a line is refused.
-#[derive(Clone, Copy, Debug, PartialEq, Eq, Error)]
+#[derive(Clone, Copy, Debug, Error)]
 pub enum LineWhy {
     /// It has more than 2^20 bytes.
     #[error("long")]
@@ -27,7 +27,7 @@ pub enum LineWhy {
 }
 
 /// Why no jobs were read.
-#[derive(Clone, Copy, Debug, PartialEq, Eq, Error)]
+#[derive(Clone, Copy, Debug, Error)]
 pub enum JobsFault {
     /// The first line that is refused, counted from 1, and why.
     #[error("line {line}: {why}")]

@@ -7,7 +7,7 @@ use crate::words::{byte_number, cut_word};
 use std::marker::Model;
 
 /// What is asked of the bytes of a batch: how many are from `lo` to `hi`, their sum, or the greatest.
-#[derive(Clone, Copy, Debug, PartialEq, Eq)]
+#[derive(Clone, Copy, PartialEq, Eq)]
 pub enum Item {
     Count { lo: u8, hi: u8 },
     Sum,
@@ -15,7 +15,7 @@ pub enum Item {
 }
 
 /// The items of a batch, in input order, at most 2^24. They are seen as their list.
-#[derive(Debug, Drop)]
+#[derive(Drop)]
 pub struct Items {
     list: Vec<Item>,
 }

@@ -13,7 +13,7 @@ use std::marker::Model;
 use sudoku_rules::Grid;
 
 /// A job: a puzzle, or a batch of items over common bytes.
-#[derive(Debug, Drop)]
+#[derive(Drop)]
 pub enum Job {
     Puzzle(Grid),
     Batch { common: Payload, items: Items },
@@ -21,7 +21,7 @@ pub enum Job {
 
 /// The jobs of an input, in its order: at most 2^24, each batch of at most 2^20 bytes. They are made by `read_jobs`
 /// alone, and seen as their list.
-#[derive(Debug, Drop)]
+#[derive(Drop)]
 pub struct Jobs {
     list: Vec<Job>,
 }

@@ -14,7 +14,7 @@ use std::alloc::Global;
 const BYTES: usize = 16;
 
 /// The value that answers an item of a batch. Batches, and the items of a batch, are numbered from 1.
-#[derive(Clone, Copy, Debug, PartialEq, Eq)]
+#[derive(Clone, Copy, PartialEq, Eq)]
 pub struct Answer {
     pub batch: u32,
     pub number: u32,

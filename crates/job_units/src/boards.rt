@@ -16,7 +16,7 @@ use sudoku_rules::Grid;
 const HEAD: usize = 12;
 
 /// A board: a grid of a puzzle with the budget for its tree. Puzzles are numbered from 1.
-#[derive(Clone, Copy, Debug, PartialEq, Eq)]
+#[derive(Clone, Copy, PartialEq, Eq)]
 pub struct Board {
     pub puzzle: u32,
     pub budget: u64,

@@ -20,7 +20,7 @@ use std::alloc::Global;
 const BYTES: usize = 11;
 
 /// A job: an item of a batch. Batches, and the items of a batch, are numbered from 1.
-#[derive(Clone, Copy, Debug, PartialEq, Eq)]
+#[derive(Clone, Copy, PartialEq, Eq)]
 pub struct Job {
     pub batch: u32,
     pub number: u32,

@@ -16,7 +16,7 @@ const JOB_PRIORITY: i32 = 50;
 const RESULT_PRIORITY: i32 = 100;
 
 /// How a unit is put.
-#[derive(Debug, Drop)]
+#[derive(Drop)]
 pub struct Putting {
     pub kind: WorkType,
     pub prio: i32,

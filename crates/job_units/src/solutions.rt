@@ -16,7 +16,7 @@ use sudoku_rules::Grid;
 const HEAD: usize = 4;
 
 /// A solution node of a puzzle's tree. Puzzles are numbered from 1.
-#[derive(Clone, Copy, Debug, PartialEq, Eq)]
+#[derive(Clone, Copy, PartialEq, Eq)]
 pub struct Solution {
     pub puzzle: u32,
     pub grid: Grid,

@@ -29,7 +29,7 @@ pub const JOB: WorkType = WorkType(2);
 pub const ANSWER: WorkType = WorkType(3);
 
 /// A unit that is made of the jobs of an input, or by the work on a unit.
-#[derive(Clone, Copy, Debug, PartialEq, Eq)]
+#[derive(Clone, Copy, PartialEq, Eq)]
 pub enum Made {
     Board(Board),
     Solution(Solution),

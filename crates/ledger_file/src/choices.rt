@@ -1,5 +1,6 @@
 //! Words that are one of some: targets, what may be none, ends.
 
+ghost use Rattle.std.specs.Prelude.{◌≡◌, ◌++◌, ℕ, List, None, IfSome};
 ghost use Rattle.ledger_file.specs.Fields.{aim, rank_or_none, prio_or_none, told};
 ghost use Rattle.ledger_file.specs.Inside.Reading.{Finds};
 
@@ -14,11 +15,24 @@ pub fn target(word: &[u8]) -> Result<Target, LineFault>
     if word == b"any".as_slice() {
         return Ok(Target::Any);
     }
-    match word {
-        [b'o', b'n', b'l', b'y', b':', rank @ ..] => Ok(Target::Only(Rank(short(rank)?))),
-        [b's', b'o', b'f', b't', b':', rank @ ..] => Ok(Target::Soft(Rank(short(rank)?))),
-        _ => Err(LineFault::Bad),
+    if let Some(rank) = behind(word, b"only:") {
+        return Ok(Target::Only(Rank(short(rank)?)));
     }
+    if let Some(rank) = behind(word, b"soft:") {
+        return Ok(Target::Soft(Rank(short(rank)?)));
+    }
+    Err(LineFault::Bad)
+}
+
+// What stands behind this front, if the word begins with it.
+fn behind<'a>(word: &'a [u8], front: &[u8]) -> Option<&'a [u8]>
+    ensures joined { IfSome result (λ rest. word.now ≡ front.now ++ rest.now) }
+    ensures another { result ≡ None → (rest : List ℕ) → word.now ≡ front.now ++ rest → ⊥ }
+{
+    if word.len() >= front.len() && &word[..front.len()] == front {
+        return Some(&word[front.len()..]);
+    }
+    None
 }
 
 /// The rank that is written so, or that none is. `Bad` exactly if neither is.

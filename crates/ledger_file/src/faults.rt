@@ -4,7 +4,7 @@ use thiserror::Error;
 
 /// Why a line, or a word of it, is not read: it is not what is due at its place, or memory ran out. Contracts never
 /// say when memory runs out; otherwise `Bad` comes exactly when they say.
-#[derive(Clone, Copy, Debug, PartialEq, Eq)]
+#[derive(Clone, Copy)]
 pub enum LineFault {
     Bad,
     Memory,
@@ -12,7 +12,7 @@ pub enum LineFault {
 
 /// Why no configuration and ledger were read: a line, counted from 1, is not what is due at its place, or memory ran
 /// out.
-#[derive(Clone, Copy, Debug, PartialEq, Eq, Error)]
+#[derive(Clone, Copy, Debug, Error)]
 pub enum LedgerFault {
     /// The line of this number is not what is due at its place.
     #[error("line {line} is not what is due")]

@@ -6,7 +6,7 @@ use bag_ledger::Entry;
 use std::marker::Model;
 
 /// One event: its stamp, what brought it about, the letters that it sent and the entries that it made, each in order.
-#[derive(Debug, Drop)]
+#[derive(Drop)]
 pub struct Happened {
     pub stamp: u64,
     pub cause: Cause,

@@ -6,7 +6,7 @@ use std::alloc::Global;
 use std::marker::Model;
 
 /// What all actors did in a run: the events in order of stamp and then of actor. A run in line keeps none.
-#[derive(Debug, Drop)]
+#[derive(Drop)]
 pub struct History {
     pub events: Vec<(Actor, Happened)>,
 }

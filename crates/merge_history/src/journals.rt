@@ -5,7 +5,7 @@ use adlb_unit::Actor;
 use std::marker::Model;
 
 /// What one actor did in a run: its events, in order.
-#[derive(Debug, Drop)]
+#[derive(Drop)]
 pub struct Journal {
     pub actor: Actor,
     pub events: Vec<Happened>,

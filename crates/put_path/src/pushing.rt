@@ -11,7 +11,7 @@ use std::marker::Model;
 use work_queue::WorkQueue;
 
 /// What a server asks of another: room for its unit of this id, whose body has `length` bytes.
-#[derive(Clone, Copy, Debug, PartialEq, Eq)]
+#[derive(Clone, Copy)]
 pub struct PushQuery {
     pub to: Server,
     pub id: UnitId,
@@ -19,7 +19,7 @@ pub struct PushQuery {
 }
 
 /// What goes to a server that promised room.
-#[derive(Debug, Drop)]
+#[derive(Drop)]
 pub enum Push {
     /// The unit, which is taken out of the queue.
     Go(Server, Unit),
@@ -29,7 +29,7 @@ pub enum Push {
 
 /// One server as the sender of pushes. At most one push of it stands: first as a query, from the answer on as sent,
 /// until it is acknowledged. Contracts see it as a `PushModel` of `specs/Pushes.antt`. No call takes memory.
-#[derive(Debug, Drop)]
+#[derive(Drop)]
 pub struct PushState {
     pub(crate) config: Config,
     pub(crate) me: Server,

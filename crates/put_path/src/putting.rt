@@ -9,7 +9,7 @@ use adlb_unit::{NoMemory, Unit};
 use work_queue::{AddFault, WorkQueue};
 
 /// What a put came to.
-#[derive(Clone, Copy, Debug, PartialEq, Eq)]
+#[derive(Clone, Copy, Debug)]
 pub enum PutStep {
     /// The unit is in the queue, free.
     Accepted,

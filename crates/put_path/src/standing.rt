@@ -7,7 +7,7 @@ use adlb_unit::{Server, UnitId};
 
 // A push of one server: to which server it goes, of which unit, and how many bytes that unit has. First it is a query,
 // which asks for room; then the unit, or a cancel of it, was sent, and the acknowledgement is awaited.
-#[derive(Clone, Copy, Debug, PartialEq, Eq)]
+#[derive(Clone, Copy)]
 pub struct StandingPush {
     pub to: Server,
     pub id: UnitId,

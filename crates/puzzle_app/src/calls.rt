@@ -15,7 +15,7 @@ use rank_client::{Adlb, EndFault, PutFault};
 use std::alloc::Global;
 
 /// What a put or the beginning of a batch comes to.
-#[derive(Clone, Copy, Debug, PartialEq, Eq)]
+#[derive(Clone, Copy)]
 pub enum Reply {
     Accepted,
     Rejected,
@@ -23,7 +23,7 @@ pub enum Reply {
 }
 
 /// What a reservation comes to: a unit and its bytes, or an end.
-#[derive(Debug, Drop)]
+#[derive(Drop)]
 pub enum Taken {
     Unit(UnitNote, Body),
     Ended(End),

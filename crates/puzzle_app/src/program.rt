@@ -33,7 +33,7 @@ pub struct PuzzleProgram {
 }
 
 /// The numbers of the next puzzle and of the next batch.
-#[derive(Clone, Copy, Debug)]
+#[derive(Clone, Copy)]
 pub struct Place {
     pub puzzle: u32,
     pub batch: u32,

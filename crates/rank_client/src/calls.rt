@@ -3,7 +3,7 @@
 ghost use Rattle.std.specs.Prelude.{◌≡◌, ◌⊎◌, ◌<◌, ◌≤◌, ◌+◌, ◌^◌, ◌↔◌, ◌∷◌, ◌++◌, [], ℕ, true, false, length, map, find, All, Some, None, Err, IsSome, IsTrue, IfOk, IfErr, OnOk, OnErr, is_none, nat_le, slice_index_or};
 ghost use Rattle.std.specs.Option.{option_map};
 ghost use Rattle.std.specs.List.{range_with_len};
-ghost use Rattle.std.specs.Vec.{vec_capacity};
+ghost use Rattle.std.specs.Vec.{vec_capacity, vec_len};
 ghost use Rattle.adlb_unit.specs.declared.notes.Trouble.{Trouble};
 ghost use Rattle.rank_client.specs.Calls.{is_finish};
 ghost use Rattle.rank_client.specs.Inside.{HasRoom, IsFresh, gives};
@@ -14,6 +14,7 @@ ghost use Rattle.rank_client.specs.Step.{Made, begin, call_stamp, call_trouble, 
 use crate::clients::{ClientCore, write};
 use crate::pendings::Pending;
 use crate::rooms::{Farewell, Room};
+use crate::said::Transcript;
 use crate::steps::ClientStep;
 use adlb_unit::{
     BODY_LIMIT, End, Message, NoMemory, STAMP_LIMIT, Sending, Server, Trouble, Types, UnitId,
@@ -29,6 +30,31 @@ pub(crate) fn with_room<T>(alloc: Global, room: usize) -> Result<Vec<T>, NoMemor
     ensures room { IfOk result (λ v. vec_capacity v ≡ room) }
 {
     or_no_memory(Vec::with_capacity(alloc, room))
+}
+
+// The lists of a call that goes to a server, with room for one letter and one entry. Its answer has room among the calls, and a unit
+// that is granted among those that are held.
+fn asking(
+    alloc: Global,
+    said: &mut Transcript,
+    handles: &mut Vec<UnitNote>,
+) -> Result<(Vec<Sending>, Vec<Entry>), NoMemory>
+    ensures sends { IfOk result (λ lists. (lists.0.items ≡ []) × (vec_capacity lists.0 ≡ 1)) }
+    ensures entries { IfOk result (λ lists. (lists.1.items ≡ []) × (vec_capacity lists.1 ≡ 1)) }
+    ensures said { said.new.items ≡ said.old.items }
+    ensures places { OnOk result (2 ≤ said.new.places) }
+    ensures ids { OnOk result (4 ≤ said.new.ids) }
+    ensures no_fewer_places { said.old.places ≤ said.new.places }
+    ensures no_fewer_ids { said.old.ids ≤ said.new.ids }
+    ensures handles { handles.new.items ≡ handles.old.items }
+    ensures held { OnOk result (vec_len handles.new + 1 ≤ vec_capacity handles.new) }
+    ensures no_less { vec_capacity handles.old ≤ vec_capacity handles.new }
+{
+    let sends = with_room(alloc, 1)?;
+    let entries = with_room(alloc, 1)?;
+    said.make_room()?;
+    or_no_memory(handles.reserve(1))?;
+    Ok((sends, entries))
 }
 
 // Writes a Finish letter to each server, from 0 on.
@@ -133,12 +159,7 @@ impl ClientCore {
         ensures stamp { IfOk result (λ x. x.stamp ≡ self.new.clock) }
         ensures err { OnErr result (self.new ≡ self.old) }
     {
-        let mut sends = with_room(self.alloc, 1)?;
-        let mut entries = with_room(self.alloc, 1)?;
-        self.said.make_room()?;
-        if self.handles.reserve(1).is_err() {
-            return Err(NoMemory);
-        }
+        let (mut sends, mut entries) = asking(self.alloc, &mut self.said, &mut self.handles)?;
         sends.push_reserved(write(&mut self.sent, self.clock, to, message));
         entries.push_reserved(entry);
         self.next += 1;

@@ -5,7 +5,7 @@ use adlb_unit::{CommonRef, Payload, Server, Types, Unit, UnitNote, WorkType};
 /// The pending call. A put or a common part has gone to its first server and, after so many of them refused it, to the next in
 /// ring order. A try has gone to the home and, after so many servers looked in vain, to the next; and so has that the problem is
 /// done, after so many have heard it.
-#[derive(Debug, Drop)]
+#[derive(Drop)]
 pub enum Pending {
     /// No call is pending.
     Nothing,

@@ -5,7 +5,7 @@ use bag_ledger::{Answer, Entry};
 
 /// What a call or a letter gave: the stamp of its event, the letters that go out and the entries for the ledger, each in order,
 /// and the answer if the call has ended.
-#[derive(Debug, Drop)]
+#[derive(Drop)]
 pub struct ClientStep {
     pub stamp: u64,
     pub sends: Vec<Sending>,

@@ -13,8 +13,6 @@ mod lines;
 mod posted;
 mod posts;
 mod rule;
-#[cfg(test)]
-mod tests;
 
 pub use closing::{Closed, close, mailboxes};
 pub use inboxes::Inbox;

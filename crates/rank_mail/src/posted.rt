@@ -4,7 +4,7 @@ use adlb_unit::Letter;
 use std::collections::LinkedList;
 
 /// A letter with the number of its sender.
-#[derive(Debug, Drop)]
+#[derive(Drop)]
 pub struct Posted {
     pub from: u32,
     pub letter: Letter,

@@ -9,7 +9,7 @@ use adlb_unit::{Config, SERVER_LIMIT, Server};
 use std::marker::Model;
 
 /// Servers in the order in which they are to be asked: at most 8, held in place. Contracts see the list of them.
-#[derive(Debug, Drop)]
+#[derive(Drop)]
 pub struct ToAsk {
     servers: [Server; SERVER_LIMIT as usize],
     count: usize,

@@ -6,7 +6,7 @@ ghost use Rattle.reserve_path.specs.Calls.{step_of};
 use adlb_unit::{Server, UnitNote};
 
 /// What becomes of a rank that reserves, at its home.
-#[derive(Clone, Copy, Debug, PartialEq, Eq)]
+#[derive(Clone, Copy)]
 pub enum ReserveStep {
     /// The unit is pinned to the rank, which waits no longer.
     Granted(UnitNote),

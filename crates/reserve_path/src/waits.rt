@@ -11,7 +11,7 @@ use crate::wishes::{Wish, is_soft_for};
 use adlb_unit::{Config, Server, Target, WorkType};
 
 /// A rank that waits at its home.
-#[derive(Debug, Drop)]
+#[derive(Drop)]
 pub struct Waiting {
     /// What it wants.
     pub wish: Wish,

@@ -6,7 +6,7 @@ ghost use Rattle.reserve_path.specs.Calls.{hints_next, is_soft_for, suits, suits
 use adlb_unit::{Rank, Target, Types, WorkType, permits};
 
 /// What a rank wants: in its call of this number, a unit of these types.
-#[derive(Debug, Drop)]
+#[derive(Drop)]
 pub struct Wish {
     pub rank: Rank,
     pub request: u64,

@@ -15,7 +15,7 @@ use adlb_unit::{Actor, Letter, Message, NoMemory, Rank, STAMP_LIMIT, Sending, Se
 use bag_ledger::Entry;
 
 /// What a step gave: its stamp, the letters that go out, and the entries for the ledger, each in order.
-#[derive(Debug, Drop)]
+#[derive(Drop)]
 pub struct Step {
     pub stamp: u64,
     pub sends: Vec<Sending>,

@@ -19,7 +19,7 @@ pub enum GridFault {
 }
 
 /// The text of a grid, held in place. It is seen as its bytes.
-#[derive(Debug, Drop)]
+#[derive(Drop)]
 pub struct GridText {
     bytes: [u8; 256],
     count: usize,

@@ -1,13 +1,25 @@
 //! Calls whose bytes are shared, and their twins.
 
 ghost use Rattle.std.specs.Prelude.{◌≡◌, IfOk};
+ghost use Rattle.merge_history.specs.declared.causes.Cause.{Cause};
 
 use adlb_unit::NoMemory;
 use bag_ledger::Call;
+use merge_history::Cause;
 use std::alloc::Global;
 
+// The call, whose bytes are shared, and that it is made as a cause. Its only error is `NoMemory`.
+pub(crate) fn caused(alloc: Global, call: Call) -> Result<(Call, Cause), NoMemory>
+    ensures call { IfOk result (λ made. made.0 ≡ call) }
+    ensures cause { IfOk result (λ made. made.1 ≡ Cause.Called call) }
+{
+    let call = shared(alloc, call)?;
+    let cause = Cause::Called(twin(alloc, &call)?);
+    Ok((call, cause))
+}
+
 // The same call, whose twins will share its bytes. Its only error is `NoMemory`.
-pub(crate) fn shared(alloc: Global, call: Call) -> Result<Call, NoMemory>
+fn shared(alloc: Global, call: Call) -> Result<Call, NoMemory>
     ensures { IfOk result (λ c. c ≡ call) }
 {
     Ok(match call {
@@ -32,7 +44,7 @@ pub(crate) fn shared(alloc: Global, call: Call) -> Result<Call, NoMemory>
 }
 
 // An equal call. Its only error is `NoMemory`.
-pub(crate) fn twin(alloc: Global, call: &Call) -> Result<Call, NoMemory>
+fn twin(alloc: Global, call: &Call) -> Result<Call, NoMemory>
     ensures { IfOk result (λ twin. twin ≡ call.now) }
 {
     Ok(match call {

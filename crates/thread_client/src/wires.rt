@@ -1,6 +1,6 @@
 //! A rank's client with its desk.
 
-ghost use Rattle.std.specs.Prelude.{◌≡◌, ◌≢◌, ◌<◌, ◌≤◌, ◌+◌, ◌∷◌, [], length, true, false, None, Some, IfOk, IfErr, IfSome, OnOk};
+ghost use Rattle.std.specs.Prelude.{◌≡◌, ◌≢◌, ◌<◌, ◌≤◌, ◌+◌, ◌∷◌, [], length, true, false, None, Some, IfOk, IfErr, IfSome, IsSome, OnOk};
 ghost use Rattle.adlb_unit.specs.declared.notes.Trouble.{Trouble};
 ghost use Rattle.bag_ledger.specs.declared.entries.Answer.{Answer};
 ghost use Rattle.bag_ledger.specs.declared.entries.Call.{Call};
@@ -8,6 +8,7 @@ ghost use Rattle.rank_client.specs.Answers.{CanCall};
 ghost use Rattle.rank_client.specs.Calls.{has_finished, is_finish, is_open, plus};
 ghost use Rattle.rank_client.specs.Remembered.{pending_call};
 ghost use Rattle.rank_client.specs.Says.{Says};
+ghost use Rattle.rank_client.specs.Step.{hear, told_trouble};
 ghost use Rattle.actor_desk.specs.Desks.{IsEntered, Tallies, received, with_room};
 ghost use Rattle.adlb_unit.specs.declared.actors.Actor.{Actor};
 ghost use Rattle.merge_history.specs.declared.causes.Cause.{Cause};
@@ -16,7 +17,7 @@ ghost use Rattle.thread_client.specs.Jobs.{IsLate};
 ghost use Rattle.thread_client.specs.inside.Wires.{HasFailed, IsDone, IsFailure, IsRecorded, Knows, Rests};
 
 use crate::troubles::late;
-use crate::twins::{shared, twin};
+use crate::twins::caused;
 use actor_desk::{Desk, Mailing};
 use adlb_unit::{Actor, Config, Letter, Message, NoMemory, Server, Trouble};
 use bag_ledger::{Answer, Call};
@@ -100,9 +101,7 @@ impl<R: Wait + Copy, M: Mailing> Wire<R, M> {
         ensures config { self.new.config ≡ self.old.config }
     {
         self.desk.make_room()?;
-        let call = shared(self.alloc, call)?;
-        let cause = Cause::Called(twin(self.alloc, &call)?);
-        Ok((call, cause))
+        caused(self.alloc, call)
     }
 
     // Hears a letter of a server. One that is not expected is kept as it is, and the client fails.
@@ -122,18 +121,35 @@ impl<R: Wait + Copy, M: Mailing> Wire<R, M> {
             return Err(self.core.fail(late(trouble)));
         }
         match self.server(from) {
-            Some(server) if self.core.expects(server, &letter) => {
-                let Ok(cause) = self.got(server, &letter) else {
-                    return Err(self.core.fail(Trouble::Memory));
-                };
-                let step = self.core.hear(server, letter)?;
-                self.enter(cause, step)
-            }
+            Some(server) if self.core.expects(server, &letter) => self.take_in(server, letter),
             _ => {
                 self.strange = Some((from, letter));
                 Err(self.core.fail(Trouble::Memory))
             }
         }
+    }
+
+    // Hears a letter that is expected, and tells no trouble.
+    fn take_in(&mut self, from: Server, letter: Letter) -> Result<Option<Answer>, Trouble>
+        requires whole { self.old.core.trouble ≡ None }
+        requires knows { Knows self.old.core }
+        requires expected { IsSome (hear self.old.core from letter) }
+        requires untold { told_trouble letter.message ≡ None }
+        requires server { from.0 < self.old.config.servers }
+        requires recorded { IsRecorded self.old.desk (record { from = self.old.config.ranks + from.0; letter = letter } ∷ []) self.old.core }
+        ensures says { IfOk result (λ answer. (call : Call) → pending_call self.old.core.pending ≡ Some call → Says self.old.core.transcript call answer self.new.core) }
+        ensures whole { OnOk result (self.new.core.trouble ≡ None) }
+        ensures failed { IfErr result (λ t. (call : Call) → pending_call self.old.core.pending ≡ Some call → HasFailed self.old.core.transcript call t self.new.core) }
+        ensures knows { Knows self.new.core }
+        ensures recorded { IsRecorded self.new.desk [] self.new.core }
+        ensures config { self.new.config ≡ self.old.config }
+        ensures me { self.new.core.me ≡ self.old.core.me }
+    {
+        let Ok(cause) = self.got(from, &letter) else {
+            return Err(self.core.fail(Trouble::Memory));
+        };
+        let step = self.core.hear(from, letter)?;
+        self.enter(cause, step)
     }
 
     // The letter of the server as a cause. There is room for its event.

@@ -1,14 +1,18 @@
 //! Ranks and servers in threads, by example.
 //!
-//! It holds tests alone, of `thread_client`, `thread_server` and `adlb_threads`: what a rank's calls are told if its server said
-//! this or that beforehand, what a rank's thread leaves, how a server ends that hears what it does not expect, and runs that end
-//! well and runs that do not.
+//! It holds tests alone, of `rank_mail`, `actor_desk`, `thread_client`, `thread_server` and `adlb_threads`: that letters arrive in
+//! order, what a desk enters and sends, what a rank's calls are told if its server said this or that beforehand, what a rank's
+//! thread leaves, how a server ends that hears what it does not expect, and runs that end well and runs that do not.
 #![tactic(auto)]
 
 #[cfg(test)]
 mod calls;
 #[cfg(test)]
+mod desks;
+#[cfg(test)]
 mod mail;
+#[cfg(test)]
+mod mailboxes;
 #[cfg(test)]
 mod ranks;
 #[cfg(test)]

@@ -1,13 +1,20 @@
-//! Units, letters and the text of ledgers, by example.
+//! Units, letters, bytes, threads, words and the text of ledgers, by example.
 //!
-//! It holds tests alone, of `adlb_unit` and of `ledger_file`: which numbers and targets are taken, what is permitted, that what
-//! is heavy has a twin, and which lines of a text are refused.
+//! It holds tests alone, of `adlb_unit`, `adlb_io`, `bag_ledger`, `command_words` and `ledger_file`: which numbers and targets are
+//! taken, what is permitted, that what is heavy has a twin, how bytes are read and written and threads started, which words are
+//! accepted, and which lines of a text are refused.
 #![tactic(auto)]
 
+#[cfg(test)]
+mod bodies;
+#[cfg(test)]
+mod bytes;
 #[cfg(test)]
 mod configs;
 #[cfg(test)]
 mod handles;
+#[cfg(test)]
+mod ledgers;
 #[cfg(test)]
 mod letters;
 #[cfg(test)]
@@ -15,6 +22,10 @@ mod payloads;
 #[cfg(test)]
 mod texts;
 #[cfg(test)]
+mod threads;
+#[cfg(test)]
 mod tokens;
 #[cfg(test)]
 mod wanted;
+#[cfg(test)]
+mod words;

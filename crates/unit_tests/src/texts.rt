@@ -108,46 +108,61 @@ over 0 7 exhausted\n\
 finished 0 8\n\
 end 31\n";
 
+// The entries are those of the text, by three of them.
+fn are_each_entry(entries: &[Entry]) -> bool {
+    entries.len() == 31
+        && is_put_for_any(&entries[0])
+        && is_put_softly(&entries[2])
+        && is_counted(&entries[25])
+}
+
+fn is_put_for_any(entry: &Entry) -> bool {
+    matches!(
+        entry,
+        Entry::Putting {
+            prio: -2147483648,
+            target: Target::Any,
+            answer: None,
+            ..
+        }
+    )
+}
+
+fn is_put_softly(entry: &Entry) -> bool {
+    matches!(
+        entry,
+        Entry::Putting {
+            target: Target::Soft(_),
+            answer: Some(Rank(12)),
+            ..
+        }
+    )
+}
+
+fn is_counted(entry: &Entry) -> bool {
+    matches!(
+        entry,
+        Entry::Counted {
+            info: Info {
+                free: 3,
+                top: Some(-1),
+                at_top: 2
+            },
+            ..
+        }
+    )
+}
+
 #[test]
-fn each_entry_is_read_and_written(rt: HostRuntime) -> Result<(), Fail> {
+fn each_entry_is_read(rt: HostRuntime) -> Result<(), Fail> {
+    let expected = Config::new(32, 8, 1073741824)?;
     let (config, ledger) = read_ledger(rt.alloc(), EACH_ENTRY)?;
-    let entries = ledger.entries();
-    assert_eq!(rt; config, Config::new(32, 8, 1073741824)?);
-    assert_eq!(rt; entries.len(), 31);
-    assert!(rt;
-        matches!(
-            &entries[0],
-            Entry::Putting {
-                prio: -2147483648,
-                target: Target::Any,
-                answer: None,
-                ..
-            }
-        )
-    );
-    assert!(rt;
-        matches!(
-            &entries[2],
-            Entry::Putting {
-                target: Target::Soft(_),
-                answer: Some(Rank(12)),
-                ..
-            }
-        )
-    );
-    assert!(rt;
-        matches!(
-            &entries[25],
-            Entry::Counted {
-                info: Info {
-                    free: 3,
-                    top: Some(-1),
-                    at_top: 2
-                },
-                ..
-            }
-        )
-    );
+    assert!(rt; config == expected && are_each_entry(ledger.entries()));
+    Ok(())
+}
+
+#[test]
+fn each_entry_is_written(rt: HostRuntime) -> Result<(), Fail> {
     let written = written_again(rt.alloc(), EACH_ENTRY)?;
     assert_eq!(rt; written.as_slice(), EACH_ENTRY);
     Ok(())
@@ -200,15 +215,19 @@ fn bad_texts_are_refused_at_their_line(rt: HostRuntime) {
     }
 }
 
+// The limit and the number of the entries that the text has.
+fn counted(alloc: Global, text: &[u8]) -> Result<(u64, usize), LedgerFault> {
+    let (config, ledger) = read_ledger(alloc, text)?;
+    Ok((config.limit, ledger.entries().len()))
+}
+
 #[test]
 fn the_end_line_counts_the_entries(rt: HostRuntime) -> Result<(), Fail> {
     let good =
         b"ledger 2 1 64\nputting 0 0 1 0 any none 6162\naccepted 0 0.0\nasked 0 1 any\ngranted 0 0 1 0.0\nasked 1 0 any\nend 5\n";
     let bad =
         b"ledger 2 1 64\nputting 0 0 1 0 any none 6162\naccepted 0 0.0\nasked 0 1 any\ngranted 0 0 1 0.0\nasked 1 0 any\nend 6\n";
-    let (config, ledger) = read_ledger(rt.alloc(), good)?;
-    assert_eq!(rt; config.limit, 64);
-    assert_eq!(rt; ledger.entries().len(), 5);
+    assert_eq!(rt; counted(rt.alloc(), good)?, (64, 5));
     assert_eq!(rt; refused(rt.alloc(), bad), Some(7));
     Ok(())
 }

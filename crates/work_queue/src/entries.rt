@@ -11,7 +11,7 @@ use adlb_unit::{Rank, Target, WorkType};
 use slab::Slab;
 
 // What the index has of a free unit: what orders it, and the stamp, which leads to it. It is small, since entries move.
-#[derive(Clone, Copy, Debug, PartialEq, Eq)]
+#[derive(Clone, Copy)]
 pub struct Entry {
     pub kind: WorkType,
     pub target: Target,

@@ -8,7 +8,7 @@ use thiserror::Error;
 
 /// There is no room: the queue's charge is `charge` bytes, and those that were asked for would go beyond its
 /// limit (`Exceeds`).
-#[derive(Clone, Copy, Debug, PartialEq, Eq, Error)]
+#[derive(Clone, Copy, Debug, Error)]
 #[error("the queue is full at {charge} bytes")]
 pub struct Full {
     pub charge: u64,

@@ -29,7 +29,7 @@ fn place_for(entries: &VecDeque<Entry>, entry: &Entry) -> usize
 }
 
 // Entries of one type and target, which stand side by side: the first, the last, and the place after that.
-#[derive(Clone, Copy, Debug, PartialEq, Eq)]
+#[derive(Clone, Copy)]
 pub struct Run {
     pub first: Entry,
     pub last: Entry,

@@ -17,7 +17,7 @@ pub struct Placed {
 
 /// What a rank is told of a unit before it fetches the body: all but the target, and of the body the length
 /// in bytes.
-#[derive(Clone, Copy, Debug, PartialEq, Eq)]
+#[derive(Clone, Copy)]
 pub struct UnitFacts {
     pub id: UnitId,
     pub kind: WorkType,

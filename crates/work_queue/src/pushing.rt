@@ -3,7 +3,7 @@
 use adlb_unit::UnitId;
 
 // What counts of a unit when the first to push is sought, and its length, which is told.
-#[derive(Clone, Copy, Debug, PartialEq, Eq)]
+#[derive(Clone, Copy)]
 pub struct Candidate {
     pub id: UnitId,
     pub length: u32,

@@ -24,7 +24,7 @@ use std::marker::Model;
 use thiserror::Error;
 
 /// Why a unit is refused.
-#[derive(Clone, Copy, Debug, PartialEq, Eq, Error)]
+#[derive(Clone, Copy, Debug, Error)]
 pub enum AddFault {
     /// The queue's charge is `charge` bytes, and the unit's body would go beyond its limit (`Overfills`).
     #[error("the queue is full at {charge} bytes")]

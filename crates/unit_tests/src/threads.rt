@@ -2,7 +2,7 @@
 
 ghost use Rattle.std.specs.Prelude.{◌≡◌};
 
-use crate::{FreeGate, Gate, GatePoint, ListedThreads, RealThreads, Spawner};
+use adlb_io::{FreeGate, Gate, GatePoint, ListedThreads, RealThreads, Spawner};
 use adlb_unit::Rank;
 use std::test::Fail;
 use std::thread::Promise;

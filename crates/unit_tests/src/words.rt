@@ -1,13 +1,12 @@
 //! What lists of words say, and which are refused.
 
-use crate::commands::{Command, RunOptions, WordsFault};
-use crate::reading::read_words;
+use command_words::{Command, RunOptions, WordsFault, read_words};
 use std::alloc::Global;
 use std::test::Fail;
 
 /// Each list of words, with blanks between, and what it says: the command, N and SEED, then ranks, servers, limit, budget,
 /// grain and inline, then stats and ledger. It says nothing if it is refused.
-const ROWS: [(&str, &str); 65] = [
+const ROWS: &[(&str, &str)] = &[
     (
         "solve",
         "solve 4 2 67108864 16777216 65536 false false false",
@@ -152,11 +151,17 @@ fn shown(alloc: Global, command: Command) -> Result<String, Fail> {
     })
 }
 
+fn add_words(alloc: Global, line: &str, words: &mut Vec<String>) -> Result<(), Fail> {
+    for word in line.split_whitespace() {
+        let word = String::from_str(alloc, word)?;
+        words.push(word)?;
+    }
+    Ok(())
+}
+
 fn read(alloc: Global, line: &str) -> Result<String, Fail> {
     let mut words = Vec::new(alloc);
-    for word in line.split_whitespace() {
-        words.push(String::from_str(alloc, word)?)?;
-    }
+    add_words(alloc, line, &mut words)?;
     match read_words(alloc, words.as_slice()) {
         Ok(command) => shown(alloc, command),
         Err(WordsFault::Usage) => Ok(String::new(alloc)),
@@ -168,7 +173,7 @@ fn read(alloc: Global, line: &str) -> Result<String, Fail> {
 fn says_or_refuses_each_row(rt: HostRuntime) -> Result<(), Fail> {
     for (line, expected) in ROWS {
         let said = read(rt.alloc(), line)?;
-        assert_eq!(rt; said.as_str(), expected, "{line}");
+        assert_eq!(rt; said.as_str(), *expected, "{line}");
     }
     Ok(())
 }

@@ -1,5 +1,5 @@
 use Rattle.rank_mail.specs.Mailboxes.{places_of}
-use Rattle.actor_desk.proofs.tests.three_desks_are_cleared.Given as goal
+use Rattle.thread_tests.proofs.desks.three_desks_are_cleared.Given as goal
 
 -- the mailboxes that were just made
 abbrev pub ghosts-cleared : goal.ghosts-cleared

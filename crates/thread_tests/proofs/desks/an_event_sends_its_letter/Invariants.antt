@@ -1,5 +1,5 @@
 use Rattle.rank_mail.specs.Mailboxes.{places_of}
-use Rattle.actor_desk.proofs.tests.an_event_sends_its_letter.Given as goal
+use Rattle.thread_tests.proofs.desks.an_event_sends_its_letter.Given as goal
 
 -- the mailboxes that were just made
 abbrev pub ghosts-one_letter : goal.ghosts-one_letter

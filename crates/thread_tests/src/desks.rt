@@ -4,7 +4,7 @@ ghost use Rattle.std.specs.Prelude.{◌≡◌, ◌≤◌, ◌<◌, ◌^◌, ℕ,
 ghost use Rattle.core_run.specs.World.{actors};
 ghost use Rattle.rank_mail.specs.Mailboxes.{PostModel, fresh_inbox, fresh_post};
 
-use crate::{Mailing, clear, desks};
+use actor_desk::{Mailing, clear, desks};
 use adlb_unit::{Actor, Config, Letter, Message, Rank, Sending, Server};
 use bag_ledger::Call;
 use merge_history::Cause;

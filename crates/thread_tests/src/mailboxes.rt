@@ -1,7 +1,7 @@
 //! Letters between actors.
 
-use crate::{Inbox, Post, mailboxes};
 use adlb_unit::{Letter, Message};
+use rank_mail::{Inbox, Post, mailboxes};
 use std::alloc::Global;
 use std::sync::Wait;
 use std::test::Fail;
