@@ -7,6 +7,7 @@ use adlb_unit::{
 use bag_ledger::{Answer, Call, Entry, Said};
 use rank_client::{ClientCore, ClientStep};
 use std::alloc::Global;
+use std::fmt::Write;
 use std::process::Abort;
 use std::test::Fail;
 
@@ -236,44 +237,42 @@ fn yes(alloc: Global, holds: bool) -> Result<String, Fail> {
 }
 
 // To whom letters go, with the batch of a unit, what the end of a batch tells, and that the problem is done.
-fn receivers(alloc: Global, sends: &[Sending]) -> Result<String, Fail> {
-    let mut all = String::new(alloc);
+fn add_receivers(all: &mut String, sends: &[Sending]) -> Result<(), Fail> {
     for sending in sends {
         match sending.to {
-            Actor::Server(Server(number)) => all.push_str(format!(in alloc;
-                " to {number}"
-            )?.as_str())?,
+            Actor::Server(Server(number)) => write!(all, " to {number}")?,
             Actor::Rank(_) => all.push_str(" to a rank")?,
         }
-        all.push_str(detail(alloc, &sending.letter.message)?.as_str())?;
+        add_detail(all, &sending.letter.message)?;
     }
-    Ok(all)
+    Ok(())
 }
 
-fn detail(alloc: Global, message: &Message) -> Result<String, Fail> {
+fn add_detail(all: &mut String, message: &Message) -> Result<(), Fail> {
     match message {
-        Message::Put { unit } => match unit.common {
-            Some(part) => {
-                let number = part.batch.number;
-                let at = part.server.0;
-                Ok(format!(in alloc; " in batch {number} at {at}")?)
-            }
-            None => Ok(String::new(alloc)),
-        },
-        Message::CloseBatch { accepted, .. } => Ok(format!(in alloc; " after {accepted}")?),
-        Message::Done { request } => Ok(format!(in alloc; " with Done {request}")?),
-        _ => Ok(String::new(alloc)),
+        Message::Put { unit } => add_part(all, unit.common),
+        Message::CloseBatch { accepted, .. } => Ok(write!(all, " after {accepted}")?),
+        Message::Done { request } => Ok(write!(all, " with Done {request}")?),
+        _ => Ok(()),
     }
+}
+
+fn add_part(all: &mut String, common: Option<CommonRef>) -> Result<(), Fail> {
+    if let Some(part) = common {
+        let number = part.batch.number;
+        let at = part.server.0;
+        write!(all, " in batch {number} at {at}")?;
+    }
+    Ok(())
 }
 
 // What each entry is, and its call.
-fn names(alloc: Global, entries: &[Entry]) -> Result<String, Fail> {
-    let mut all = String::new(alloc);
+fn add_names(all: &mut String, entries: &[Entry]) -> Result<(), Fail> {
     for entry in entries {
         let (name, call) = name(entry);
-        all.push_str(format!(in alloc; " {name} {call}")?.as_str())?;
+        write!(all, " {name} {call}")?;
     }
-    Ok(all)
+    Ok(())
 }
 
 fn name(entry: &Entry) -> (&'static str, u64) {
@@ -298,31 +297,38 @@ fn text(bytes: &[u8]) -> &str {
     str::from_utf8(bytes).unwrap_or("?")
 }
 
-fn answer(alloc: Global, answer: &Option<Answer>) -> Result<String, Fail> {
+fn add_answer(all: &mut String, answer: &Option<Answer>) -> Result<(), Fail> {
     match answer {
-        None => Ok(String::new(alloc)),
+        None => Ok(()),
         Some(Answer::Body(body)) => {
             let (common, own) = body.runs();
             let (common, own) = (text(common), text(own));
-            Ok(format!(in alloc; " bytes {common}|{own}")?)
+            Ok(write!(all, " bytes {common}|{own}")?)
         }
-        Some(other) => Ok(format!(in alloc; " {other:?}")?),
+        Some(other) => Ok(write!(all, " {other:?}")?),
     }
 }
 
-fn given(alloc: Global, step: &ClientStep) -> Result<String, Fail> {
-    let receivers = receivers(alloc, &step.sends)?;
-    let names = names(alloc, &step.entries)?;
-    let answer = answer(alloc, &step.answer)?;
+// What a step gives: its stamp, to whom letters go, the entries, and the answer if there is one.
+fn add_step(all: &mut String, step: &ClientStep) -> Result<(), Fail> {
     let stamp = step.stamp;
-    Ok(format!(in alloc; "{stamp}{receivers}{names}{answer}")?)
+    write!(all, "{stamp}")?;
+    add_receivers(all, &step.sends)?;
+    add_names(all, &step.entries)?;
+    add_answer(all, &step.answer)
+}
+
+fn given(alloc: Global, step: ClientStep) -> Result<String, Fail> {
+    let mut all = String::new(alloc);
+    add_step(&mut all, &step)?;
+    Ok(all)
 }
 
 // What a line of a scene gives, as it is shown.
 fn shown(alloc: Global, client: &mut ClientCore, line: Line) -> Result<String, Fail> {
     match line {
-        Line::Begins(makes) => given(alloc, &begin(alloc, client, makes)?),
-        Line::Hears(from, stamp, says) => given(alloc, &hear(alloc, client, from, stamp, says)?),
+        Line::Begins(makes) => given(alloc, begin(alloc, client, makes)?),
+        Line::Hears(from, stamp, says) => given(alloc, hear(alloc, client, from, stamp, says)?),
         Line::IsReady(makes) => is_ready(alloc, client, makes),
         Line::Expects(from, stamp, says) => expects(alloc, client, from, stamp, says),
         Line::Answered => {
@@ -347,8 +353,18 @@ fn said_last(alloc: Global, client: &ClientCore) -> Result<String, Fail> {
 fn play(rt: &impl Abort, alloc: Global, servers: u32, scene: &[(Line, &str)]) -> Result<(), Fail> {
     let config = Config::new(2, servers, 64)?;
     let mut client = ClientCore::new(alloc, config, Rank(0))?;
+    go_through(rt, alloc, &mut client, scene)
+}
+
+// The client gives what stands beside each line.
+fn go_through(
+    rt: &impl Abort,
+    alloc: Global,
+    client: &mut ClientCore,
+    scene: &[(Line, &str)],
+) -> Result<(), Fail> {
     for (at, (line, expected)) in scene.iter().enumerate() {
-        let given = shown(alloc, &mut client, *line)?;
+        let given = shown(alloc, client, *line)?;
         assert_eq!(rt; given.as_str(), *expected, "line {at}");
     }
     Ok(())
@@ -356,7 +372,7 @@ fn play(rt: &impl Abort, alloc: Global, servers: u32, scene: &[(Line, &str)]) ->
 
 #[test]
 fn a_put_is_accepted_by_its_targets_home(rt: HostRuntime) -> Result<(), Fail> {
-    let scene = [
+    const SCENE: &[(Line, &str)] = &[
         (
             Line::Begins(Makes::Put(Target::Only(Rank(1)))),
             "1 to 1 putting 0",
@@ -365,12 +381,12 @@ fn a_put_is_accepted_by_its_targets_home(rt: HostRuntime) -> Result<(), Fail> {
         (Line::Hears(1, 2, Says::Accepted(0)), "3 Fine"),
         (Line::Answered, "1"),
     ];
-    play(&rt, rt.alloc(), 2, &scene)
+    play(&rt, rt.alloc(), 2, SCENE)
 }
 
 #[test]
 fn a_put_is_rejected_after_each_server_refused(rt: HostRuntime) -> Result<(), Fail> {
-    let scene = [
+    const SCENE: &[(Line, &str)] = &[
         (Line::Begins(Makes::Put(Target::Any)), "1 to 0 putting 0"),
         (Line::Hears(0, 2, Says::Full(0, 64)), "3 to 1"),
         (
@@ -382,12 +398,12 @@ fn a_put_is_rejected_after_each_server_refused(rt: HostRuntime) -> Result<(), Fa
         (Line::Hears(1, 7, Says::Accepted(1)), "8 Fine"),
         (Line::IsReady(Makes::Reserve), "yes"),
     ];
-    play(&rt, rt.alloc(), 2, &scene)
+    play(&rt, rt.alloc(), 2, SCENE)
 }
 
 #[test]
 fn a_reserved_unit_is_fetched(rt: HostRuntime) -> Result<(), Fail> {
-    let scene = [
+    const SCENE: &[(Line, &str)] = &[
         (Line::IsReady(Makes::Fetch(7)), "no"),
         (Line::Begins(Makes::Reserve), "1 to 0 asked 0"),
         (Line::Hears(0, 2, Says::Grant(0, 7, 0)), GRANTED),
@@ -398,23 +414,23 @@ fn a_reserved_unit_is_fetched(rt: HostRuntime) -> Result<(), Fail> {
         (Line::IsReady(Makes::Reserve), "no"),
         (Line::Answered, "3"),
     ];
-    play(&rt, rt.alloc(), 1, &scene)
+    play(&rt, rt.alloc(), 1, SCENE)
 }
 
 #[test]
 fn a_reserve_is_granted_a_unit_of_another_server_by_the_home(rt: HostRuntime) -> Result<(), Fail> {
-    let scene = [
+    const SCENE: &[(Line, &str)] = &[
         (Line::Begins(Makes::Reserve), "1 to 0 asked 0"),
         (Line::Expects(1, 1, Says::Grant(0, 7, 1)), "no"),
         (Line::Hears(0, 2, Says::Grant(0, 7, 1)), RESERVED_ELSEWHERE),
         (Line::Begins(Makes::Fetch(7)), "4 to 1 fetching 1"),
     ];
-    play(&rt, rt.alloc(), 2, &scene)
+    play(&rt, rt.alloc(), 2, SCENE)
 }
 
 #[test]
 fn an_end_is_told_again_without_a_letter(rt: HostRuntime) -> Result<(), Fail> {
-    let scene = [
+    const SCENE: &[(Line, &str)] = &[
         (Line::Begins(Makes::Reserve), "1 to 0 asked 0"),
         (
             Line::Hears(0, 2, Says::Ended(0, End::Exhausted)),
@@ -425,30 +441,30 @@ fn an_end_is_told_again_without_a_letter(rt: HostRuntime) -> Result<(), Fail> {
             "4 putting 1 over 1 Ended(Exhausted)",
         ),
     ];
-    play(&rt, rt.alloc(), 1, &scene)
+    play(&rt, rt.alloc(), 1, SCENE)
 }
 
 #[test]
 fn a_put_awaits_the_server_that_was_asked(rt: HostRuntime) -> Result<(), Fail> {
-    let last = (1 << 48) - 1;
-    let scene = [
+    const LAST: u64 = (1 << 48) - 1;
+    const SCENE: &[(Line, &str)] = &[
         (Line::Expects(1, 1, Says::Accepted(0)), "no"),
         (
             Line::Begins(Makes::Put(Target::Only(Rank(1)))),
             "1 to 1 putting 0",
         ),
         (Line::Expects(1, 1, Says::Accepted(0)), "yes"),
-        (Line::Expects(1, last, Says::Accepted(0)), "yes"),
+        (Line::Expects(1, LAST, Says::Accepted(0)), "yes"),
         (Line::Expects(0, 1, Says::Accepted(0)), "no"),
         (Line::Expects(1, 1, Says::Accepted(1)), "no"),
-        (Line::Expects(1, last + 1, Says::Accepted(0)), "no"),
+        (Line::Expects(1, LAST + 1, Says::Accepted(0)), "no"),
     ];
-    play(&rt, rt.alloc(), 2, &scene)
+    play(&rt, rt.alloc(), 2, SCENE)
 }
 
 #[test]
 fn a_put_awaits_its_answers(rt: HostRuntime) -> Result<(), Fail> {
-    let scene = [
+    const SCENE: &[(Line, &str)] = &[
         (
             Line::Begins(Makes::Put(Target::Only(Rank(1)))),
             "1 to 1 putting 0",
@@ -459,12 +475,12 @@ fn a_put_awaits_its_answers(rt: HostRuntime) -> Result<(), Fail> {
         (Line::Expects(1, 1, Says::Grant(0, 0, 1)), "no"),
         (Line::Expects(1, 1, Says::Finish), "no"),
     ];
-    play(&rt, rt.alloc(), 2, &scene)
+    play(&rt, rt.alloc(), 2, SCENE)
 }
 
 #[test]
 fn a_reserve_awaits_its_answers(rt: HostRuntime) -> Result<(), Fail> {
-    let scene = [
+    const SCENE: &[(Line, &str)] = &[
         (Line::Begins(Makes::Reserve), "1 to 0 asked 0"),
         (Line::Expects(0, 1, Says::Grant(0, 7, 0)), "yes"),
         (Line::Expects(0, 1, Says::Grant(1, 7, 0)), "no"),
@@ -474,24 +490,24 @@ fn a_reserve_awaits_its_answers(rt: HostRuntime) -> Result<(), Fail> {
         (Line::Expects(0, 1, Says::Ended(0, End::NoMoreWork)), "yes"),
         (Line::Expects(0, 1, Says::Accepted(0)), "no"),
     ];
-    play(&rt, rt.alloc(), 1, &scene)
+    play(&rt, rt.alloc(), 1, SCENE)
 }
 
 #[test]
 fn a_fetch_awaits_as_many_bytes_as_its_note_says(rt: HostRuntime) -> Result<(), Fail> {
-    let scene = [
+    const SCENE: &[(Line, &str)] = &[
         (Line::Begins(Makes::Reserve), "1 to 0 asked 0"),
         (Line::Hears(0, 2, Says::Grant(0, 7, 0)), GRANTED),
         (Line::Begins(Makes::Fetch(7)), "4 to 0 fetching 1"),
         (Line::Expects(0, 1, Says::Bytes(1, b"unit")), "yes"),
         (Line::Expects(0, 1, Says::Bytes(1, b"uni")), "no"),
     ];
-    play(&rt, rt.alloc(), 1, &scene)
+    play(&rt, rt.alloc(), 1, SCENE)
 }
 
 #[test]
 fn a_unit_that_was_fetched_is_not_granted_again(rt: HostRuntime) -> Result<(), Fail> {
-    let scene = [
+    const SCENE: &[(Line, &str)] = &[
         (Line::Begins(Makes::Reserve), "1 to 0 asked 0"),
         (Line::Hears(0, 2, Says::Grant(0, 7, 0)), GRANTED),
         (Line::Begins(Makes::Fetch(7)), "4 to 0 fetching 1"),
@@ -500,12 +516,12 @@ fn a_unit_that_was_fetched_is_not_granted_again(rt: HostRuntime) -> Result<(), F
         (Line::Expects(0, 1, Says::Grant(2, 7, 0)), "no"),
         (Line::Expects(0, 1, Says::Grant(2, 8, 0)), "yes"),
     ];
-    play(&rt, rt.alloc(), 1, &scene)
+    play(&rt, rt.alloc(), 1, SCENE)
 }
 
 #[test]
 fn a_batch_is_kept_by_one_server_until_it_ends(rt: HostRuntime) -> Result<(), Fail> {
-    let scene = [
+    const SCENE: &[(Line, &str)] = &[
         (Line::IsReady(Makes::EndBatch), "no"),
         (Line::Begins(Makes::BeginBatch), "1 to 0 keeping 0"),
         (Line::Hears(0, 2, Says::Full(0, 64)), "3 to 1"),
@@ -525,12 +541,12 @@ fn a_batch_is_kept_by_one_server_until_it_ends(rt: HostRuntime) -> Result<(), Fa
             "12 to 0 putting 3",
         ),
     ];
-    play(&rt, rt.alloc(), 2, &scene)
+    play(&rt, rt.alloc(), 2, SCENE)
 }
 
 #[test]
 fn the_common_bytes_stand_before_the_units_own(rt: HostRuntime) -> Result<(), Fail> {
-    let scene = [
+    const SCENE: &[(Line, &str)] = &[
         (Line::Begins(Makes::Reserve), "1 to 0 asked 0"),
         (
             Line::Hears(0, 2, Says::GrantInBatch(0, 0)),
@@ -544,12 +560,12 @@ fn the_common_bytes_stand_before_the_units_own(rt: HostRuntime) -> Result<(), Fa
             "8 bytes part|unit",
         ),
     ];
-    play(&rt, rt.alloc(), 1, &scene)
+    play(&rt, rt.alloc(), 1, SCENE)
 }
 
 #[test]
 fn a_try_goes_round_the_servers(rt: HostRuntime) -> Result<(), Fail> {
-    let scene = [
+    const SCENE: &[(Line, &str)] = &[
         (Line::Begins(Makes::Try), "1 to 0 tried 0"),
         (Line::IsReady(Makes::Try), "no"),
         (Line::Hears(0, 2, Says::Nothing(0)), "3 to 1"),
@@ -563,23 +579,23 @@ fn a_try_goes_round_the_servers(rt: HostRuntime) -> Result<(), Fail> {
         // The next try begins at the home again.
         (Line::Begins(Makes::Try), "8 to 0 tried 1"),
     ];
-    play(&rt, rt.alloc(), 3, &scene)
+    play(&rt, rt.alloc(), 3, SCENE)
 }
 
 #[test]
 fn a_try_is_granted_a_unit_of_the_second_server(rt: HostRuntime) -> Result<(), Fail> {
-    let scene = [
+    const SCENE: &[(Line, &str)] = &[
         (Line::Begins(Makes::Try), "1 to 0 tried 0"),
         (Line::Hears(0, 2, Says::Nothing(0)), "3 to 1"),
         (Line::Hears(1, 4, Says::Grant(0, 7, 1)), GRANTED_ELSEWHERE),
         (Line::Begins(Makes::Fetch(7)), "6 to 1 fetching 1"),
     ];
-    play(&rt, rt.alloc(), 2, &scene)
+    play(&rt, rt.alloc(), 2, SCENE)
 }
 
 #[test]
 fn a_try_awaits_its_answers(rt: HostRuntime) -> Result<(), Fail> {
-    let scene = [
+    const SCENE: &[(Line, &str)] = &[
         (Line::Begins(Makes::Try), "1 to 0 tried 0"),
         (Line::Expects(0, 1, Says::Nothing(0)), "yes"),
         (Line::Expects(0, 1, Says::Nothing(1)), "no"),
@@ -590,12 +606,12 @@ fn a_try_awaits_its_answers(rt: HostRuntime) -> Result<(), Fail> {
         (Line::Expects(0, 1, Says::Ended(0, End::NoMoreWork)), "yes"),
         (Line::Expects(0, 1, Says::Full(0, 64)), "no"),
     ];
-    play(&rt, rt.alloc(), 2, &scene)
+    play(&rt, rt.alloc(), 2, SCENE)
 }
 
 #[test]
 fn after_an_end_a_try_is_told_it_again(rt: HostRuntime) -> Result<(), Fail> {
-    let scene = [
+    const SCENE: &[(Line, &str)] = &[
         (Line::Begins(Makes::Try), "1 to 0 tried 0"),
         (
             Line::Hears(0, 2, Says::Ended(0, End::NoMoreWork)),
@@ -606,12 +622,12 @@ fn after_an_end_a_try_is_told_it_again(rt: HostRuntime) -> Result<(), Fail> {
             "4 tried 1 over 1 Ended(NoMoreWork)",
         ),
     ];
-    play(&rt, rt.alloc(), 2, &scene)
+    play(&rt, rt.alloc(), 2, SCENE)
 }
 
 #[test]
 fn a_count_is_told_by_the_home(rt: HostRuntime) -> Result<(), Fail> {
-    let scene = [
+    const SCENE: &[(Line, &str)] = &[
         (Line::Begins(Makes::Count), "1 to 0 counting 0"),
         (Line::IsReady(Makes::Count), "no"),
         (Line::Expects(1, 1, Says::Counted(0, 2)), "no"),
@@ -623,12 +639,12 @@ fn a_count_is_told_by_the_home(rt: HostRuntime) -> Result<(), Fail> {
         ),
         (Line::Answered, "1"),
     ];
-    play(&rt, rt.alloc(), 2, &scene)
+    play(&rt, rt.alloc(), 2, SCENE)
 }
 
 #[test]
 fn after_an_end_the_home_is_asked_for_a_count(rt: HostRuntime) -> Result<(), Fail> {
-    let scene = [
+    const SCENE: &[(Line, &str)] = &[
         (Line::Begins(Makes::Reserve), "1 to 0 asked 0"),
         (
             Line::Hears(0, 2, Says::Ended(0, End::Exhausted)),
@@ -636,12 +652,12 @@ fn after_an_end_the_home_is_asked_for_a_count(rt: HostRuntime) -> Result<(), Fai
         ),
         (Line::Begins(Makes::Count), "4 to 0 counting 1"),
     ];
-    play(&rt, rt.alloc(), 1, &scene)
+    play(&rt, rt.alloc(), 1, SCENE)
 }
 
 #[test]
 fn each_server_hears_that_the_problem_is_done(rt: HostRuntime) -> Result<(), Fail> {
-    let scene = [
+    const SCENE: &[(Line, &str)] = &[
         (Line::Begins(Makes::SetDone), "1 to 0 with Done 0 done 0"),
         (Line::IsReady(Makes::Finish), "no"),
         (Line::Expects(1, 1, Says::DoneHeard(0)), "no"),
@@ -655,14 +671,14 @@ fn each_server_hears_that_the_problem_is_done(rt: HostRuntime) -> Result<(), Fai
         (Line::Answered, "1"),
         (Line::IsReady(Makes::Finish), "yes"),
     ];
-    play(&rt, rt.alloc(), 2, &scene)
+    play(&rt, rt.alloc(), 2, SCENE)
 }
 
 #[test]
 fn after_an_end_each_server_still_hears_that_the_problem_is_done(
     rt: HostRuntime,
 ) -> Result<(), Fail> {
-    let scene = [
+    const SCENE: &[(Line, &str)] = &[
         (Line::Begins(Makes::Reserve), "1 to 0 asked 0"),
         (
             Line::Hears(0, 2, Says::Ended(0, End::NoMoreWork)),
@@ -673,5 +689,5 @@ fn after_an_end_each_server_still_hears_that_the_problem_is_done(
         (Line::Hears(1, 7, Says::DoneHeard(1)), "8 Fine"),
         (Line::SaidLast, "SetDone Fine"),
     ];
-    play(&rt, rt.alloc(), 2, &scene)
+    play(&rt, rt.alloc(), 2, SCENE)
 }

@@ -1,6 +1,6 @@
 //! Scripts of calls, with ledgers that were found by hand.
 
-ghost use Rattle.std.specs.Prelude.{◌≡◌, ◌≤◌, ◌^◌, length, false, IfOk};
+ghost use Rattle.std.specs.Prelude.{◌≡◌, ◌≤◌, ◌^◌, length, false, true, IfOk, OnOk};
 ghost use Rattle.rank_client.specs.Calls.{granted, has_finished, is_fetched};
 
 use adlb_unit::{Handle, Info, Payload, Rank, Server, Target, Trouble, Types, UnitId, WorkType};
@@ -9,6 +9,7 @@ use core_inline::InlineWorld;
 use rank_client::{Adlb, EndFault, PutFault, TryFault};
 use server_core::LeftUnit;
 use std::alloc::Global;
+use std::fmt::Write;
 use std::process::Abort;
 use std::test::Fail;
 
@@ -65,6 +66,39 @@ fn put(world: &mut InlineWorld, kind: u32, prio: i32, body: Payload) -> Result<(
     world.put(WorkType(kind), prio, Target::Any, None, body)
 }
 
+// A put of this byte `n` times is accepted.
+fn put_fine(
+    alloc: Global,
+    world: &mut InlineWorld,
+    kind: u32,
+    prio: i32,
+    byte: u8,
+    n: u8,
+) -> Result<(), Fail>
+    requires { has_finished world.old.run.transcript ≡ false }
+    ensures { has_finished world.new.run.transcript ≡ false }
+{
+    let body = body(alloc, byte, n)?;
+    Ok(put(world, kind, prio, body)?)
+}
+
+// A put of `n` bytes is answered by this fault.
+fn put_fails(
+    rt: &impl Abort,
+    alloc: Global,
+    world: &mut InlineWorld,
+    n: u8,
+    expected: PutFault,
+) -> Result<(), Fail>
+    requires { has_finished world.old.run.transcript ≡ false }
+    ensures { has_finished world.new.run.transcript ≡ false }
+{
+    let body = body(alloc, 0, n)?;
+    let answer = put(world, 1, 0, body);
+    assert_eq!(rt; answer, Err(expected));
+    Ok(())
+}
+
 fn reserve(world: &mut InlineWorld) -> Result<Handle, EndFault>
     requires { has_finished world.old.run.transcript ≡ false }
     ensures running { has_finished world.new.run.transcript ≡ false }
@@ -83,32 +117,44 @@ fn attempt(world: &mut InlineWorld) -> Result<Handle, TryFault>
     world.ireserve(&Types::any())
 }
 
-// A reserve is answered by this fault.
-fn over(rt: &impl Abort, world: &mut InlineWorld, expected: EndFault)
+// A unit is reserved and left.
+fn leave(world: &mut InlineWorld) -> Result<(), EndFault>
     requires { has_finished world.old.run.transcript ≡ false }
     ensures { has_finished world.new.run.transcript ≡ false }
 {
-    match reserve(world) {
-        Ok(handle) => {
-            world.leave(handle);
-            panic!(rt; "a unit is left");
-        }
-        Err(fault) => assert_eq!(rt; fault, expected),
-    }
+    let handle = reserve(world)?;
+    world.leave(handle);
+    Ok(())
+}
+
+// A try is granted a unit, which is left.
+fn try_and_leave(world: &mut InlineWorld) -> Result<(), TryFault>
+    requires { has_finished world.old.run.transcript ≡ false }
+    ensures { has_finished world.new.run.transcript ≡ false }
+{
+    let handle = attempt(world)?;
+    world.leave(handle);
+    Ok(())
+}
+
+// A reserve is answered by this fault.
+fn over(rt: &impl Abort, world: &mut InlineWorld, expected: EndFault) -> Result<(), Fail>
+    requires { has_finished world.old.run.transcript ≡ false }
+    ensures { has_finished world.new.run.transcript ≡ false }
+{
+    let answer = leave(world);
+    assert_eq!(rt; answer, Err(expected));
+    Ok(())
 }
 
 // A try is answered by this fault.
-fn refused(rt: &impl Abort, world: &mut InlineWorld, expected: TryFault)
+fn refused(rt: &impl Abort, world: &mut InlineWorld, expected: TryFault) -> Result<(), Fail>
     requires { has_finished world.old.run.transcript ≡ false }
     ensures { has_finished world.new.run.transcript ≡ false }
 {
-    match attempt(world) {
-        Ok(handle) => {
-            world.leave(handle);
-            panic!(rt; "a unit is left");
-        }
-        Err(fault) => assert_eq!(rt; fault, expected),
-    }
+    let answer = try_and_leave(world);
+    assert_eq!(rt; answer, Err(expected));
+    Ok(())
 }
 
 fn count(world: &mut InlineWorld, kind: u32) -> Result<Info, Trouble>
@@ -116,6 +162,16 @@ fn count(world: &mut InlineWorld, kind: u32) -> Result<Info, Trouble>
     ensures { has_finished world.new.run.transcript ≡ false }
 {
     world.num_units(WorkType(kind))
+}
+
+// A count of this type tells this.
+fn counts(rt: &impl Abort, world: &mut InlineWorld, kind: u32, expected: Info) -> Result<(), Fail>
+    requires { has_finished world.old.run.transcript ≡ false }
+    ensures { has_finished world.new.run.transcript ≡ false }
+{
+    let info = count(world, kind)?;
+    assert_eq!(rt; info, expected);
+    Ok(())
 }
 
 fn set_done(world: &mut InlineWorld) -> Result<(), Trouble>
@@ -140,6 +196,35 @@ fn work(world: &mut InlineWorld) -> Result<Body, Fail>
     }
 }
 
+// A unit is reserved and fetched: it has these common bytes, and of its own this byte `n` times.
+fn works(
+    rt: &impl Abort,
+    alloc: Global,
+    world: &mut InlineWorld,
+    common: &str,
+    byte: u8,
+    n: u8,
+) -> Result<(), Fail>
+    requires { has_finished world.old.run.transcript ≡ false }
+    ensures { has_finished world.new.run.transcript ≡ false }
+{
+    let given = work(world)?;
+    has_bytes(rt, alloc, &given, common, byte, n)
+}
+
+fn has_bytes(
+    rt: &impl Abort,
+    alloc: Global,
+    given: &Body,
+    common: &str,
+    byte: u8,
+    n: u8,
+) -> Result<(), Fail> {
+    let own = body(alloc, byte, n)?;
+    assert_eq!(rt; given.runs(), (common.as_bytes(), own.bytes()));
+    Ok(())
+}
+
 // A batch begins; the script has it where none is going on.
 fn begin(rt: &impl Abort, world: &mut InlineWorld, common: Payload) -> Result<(), PutFault>
     requires running { has_finished world.old.run.transcript ≡ false }
@@ -149,9 +234,35 @@ fn begin(rt: &impl Abort, world: &mut InlineWorld, common: Payload) -> Result<()
     if world.batch_open() {
         panic!(rt; "a batch is going on");
     }
-    let begun = world.begin_batch(common);
-    assert_eq!(rt; world.batch_open(), begun.is_ok());
-    begun
+    world.begin_batch(common)
+}
+
+// A batch with the common part `xy` begins, and is going on.
+fn begin_fine(rt: &impl Abort, alloc: Global, world: &mut InlineWorld) -> Result<(), Fail>
+    requires { has_finished world.old.run.transcript ≡ false }
+    ensures { has_finished world.new.run.transcript ≡ false }
+{
+    let common = Payload::copy(alloc, b"xy".as_slice())?;
+    begin(rt, world, common)?;
+    assert!(rt; world.batch_open());
+    Ok(())
+}
+
+// The beginning of a batch with a common part of `n` bytes is answered by this fault, and no batch is going on.
+fn begin_fails(
+    rt: &impl Abort,
+    alloc: Global,
+    world: &mut InlineWorld,
+    n: u8,
+    expected: PutFault,
+) -> Result<(), Fail>
+    requires { has_finished world.old.run.transcript ≡ false }
+    ensures { has_finished world.new.run.transcript ≡ false }
+{
+    let common = body(alloc, 0, n)?;
+    let answer = begin(rt, world, common);
+    assert_eq!(rt; (answer, world.batch_open()), (Err(expected), false));
+    Ok(())
 }
 
 // The batch that is going on ends.
@@ -183,49 +294,23 @@ fn play_one(rt: &impl Abort, alloc: Global, world: &mut InlineWorld, act: Act) -
     ensures { has_finished world.new.run.transcript ≡ false }
 {
     match act {
-        Act::Put(kind, byte, n) => put(world, kind, 0, body(alloc, byte, n)?)?,
-        Act::PutAt(kind, prio) => put(world, kind, prio, body(alloc, b'a', 1)?)?,
-        Act::PutRejected(n) => {
-            let answer = put(world, 1, 0, body(alloc, 0, n)?);
-            assert_eq!(rt; answer, Err(PutFault::Rejected));
-        }
-        Act::PutOver(fault) => {
-            let answer = put(world, 1, 0, body(alloc, 0, 1)?);
-            assert_eq!(rt; answer, Err(fault));
-        }
-        Act::Work(common, byte, n) => {
-            let given = work(world)?;
-            let own = body(alloc, byte, n)?;
-            assert_eq!(rt; given.runs(), (common.as_bytes(), own.bytes()));
-        }
-        Act::Leave => {
-            let handle = reserve(world)?;
-            world.leave(handle);
-        }
+        Act::Put(kind, byte, n) => put_fine(alloc, world, kind, 0, byte, n),
+        Act::PutAt(kind, prio) => put_fine(alloc, world, kind, prio, b'a', 1),
+        Act::PutRejected(n) => put_fails(rt, alloc, world, n, PutFault::Rejected),
+        Act::PutOver(fault) => put_fails(rt, alloc, world, 1, fault),
+        Act::Work(common, byte, n) => works(rt, alloc, world, common, byte, n),
+        Act::Leave => Ok(leave(world)?),
         Act::Over(fault) => over(rt, world, fault),
         Act::TryInVain => refused(rt, world, TryFault::NoCurrentWork),
-        Act::TryAndLeave => {
-            let handle = attempt(world)?;
-            world.leave(handle);
-        }
+        Act::TryAndLeave => Ok(try_and_leave(world)?),
         Act::TryOver(fault) => refused(rt, world, fault),
-        Act::Count(kind, free, top, at_top) => {
-            let info = count(world, kind)?;
-            assert_eq!(rt; info, Info { free, top, at_top });
-        }
-        Act::Begin => begin(rt, world, Payload::copy(alloc, b"xy".as_slice())?)?,
-        Act::BeginRejected(n) => {
-            let answer = begin(rt, world, body(alloc, 0, n)?);
-            assert_eq!(rt; answer, Err(PutFault::Rejected));
-        }
-        Act::BeginOver(fault) => {
-            let answer = begin(rt, world, body(alloc, 0, 1)?);
-            assert_eq!(rt; answer, Err(fault));
-        }
-        Act::End => end(rt, world)?,
-        Act::SetDone => set_done(world)?,
+        Act::Count(kind, free, top, at_top) => counts(rt, world, kind, Info { free, top, at_top }),
+        Act::Begin => begin_fine(rt, alloc, world),
+        Act::BeginRejected(n) => begin_fails(rt, alloc, world, n, PutFault::Rejected),
+        Act::BeginOver(fault) => begin_fails(rt, alloc, world, 1, fault),
+        Act::End => end(rt, world),
+        Act::SetDone => Ok(set_done(world)?),
     }
-    Ok(())
 }
 
 // A world with this limit in which each step was made, and the rank finished, answered `calls` calls, has this ledger, and
@@ -242,55 +327,107 @@ fn check(
     requires least { 64 ≤ limit }
     requires most { limit ≤ 2 ^ 30 }
 {
+    let (entries, said, units) = played(rt, alloc, limit, acts)?.end()?;
+    assert_eq!(rt; said.len(), calls);
+    assert_eq!(rt; units.as_slice(), left);
+    has_lines(rt, alloc, entries.entries(), ledger)
+}
+
+// A world with this limit in which each step was made, and the rank finished.
+fn played(rt: &impl Abort, alloc: Global, limit: u64, acts: &[Act]) -> Result<InlineWorld, Fail>
+    requires least { 64 ≤ limit }
+    requires most { limit ≤ 2 ^ 30 }
+    ensures { IfOk result (λ world. world.run.finished ≡ true) }
+{
     let mut world = InlineWorld::new(alloc, limit)?;
-    play(rt, alloc, &mut world, acts)?;
+    play_out(rt, alloc, &mut world, acts)?;
+    Ok(world)
+}
+
+// Each step is answered as it says, no batch is going on after them, and the rank finishes.
+fn play_out(
+    rt: &impl Abort,
+    alloc: Global,
+    world: &mut InlineWorld,
+    acts: &[Act],
+) -> Result<(), Fail>
+    requires { has_finished world.old.run.transcript ≡ false }
+    ensures { OnOk result (world.new.run.finished ≡ true) }
+{
+    play(rt, alloc, world, acts)?;
     if world.batch_open() {
         panic!(rt; "a batch is going on");
     }
     world.finish_inline();
-    let (entries, said, units) = world.end()?;
-    assert_eq!(rt; said.len(), calls);
+    Ok(())
+}
+
+// These are the entries, as they are shown.
+fn has_lines(
+    rt: &impl Abort,
+    alloc: Global,
+    entries: &[Entry],
+    ledger: &[&str],
+) -> Result<(), Fail> {
     let mut lines = ledger.iter();
-    for entry in entries.entries() {
+    for entry in entries {
         let line = line(alloc, entry)?;
         assert_eq!(rt; Some(&line.as_str()), lines.next());
     }
     assert!(rt; lines.next().is_none());
-    assert_eq!(rt; units.as_slice(), left);
     Ok(())
 }
 
 // An entry as it is shown: of what is put its type, its length and its first byte, of a common part these two, and of a
 // reserve and a try no types.
 fn line(alloc: Global, entry: &Entry) -> Result<String, Fail> {
-    Ok(match entry {
+    let mut line = String::new(alloc);
+    add_entry(&mut line, entry)?;
+    Ok(line)
+}
+
+fn add_entry(line: &mut String, entry: &Entry) -> Result<(), Fail> {
+    match entry {
         Entry::Putting {
             rank,
             call,
             kind,
             body,
             ..
-        } => {
-            let first = body.bytes().first();
-            format!(in alloc;
-                "Putting {} {call}: type {}, {} bytes, {first:?}",
-                rank.0,
-                kind.0,
-                body.len()
-            )?
-        }
-        Entry::Keeping { rank, call, common } => {
-            let first = common.bytes().first();
-            format!(in alloc;
-                "Keeping {} {call}: {} bytes, {first:?}",
-                rank.0,
-                common.len()
-            )?
-        }
-        Entry::Asked { rank, call, .. } => format!(in alloc; "Asked {} {call}", rank.0)?,
-        Entry::Tried { rank, call, .. } => format!(in alloc; "Tried {} {call}", rank.0)?,
-        _ => format!(in alloc; "{entry:?}")?,
-    })
+        } => add_put(line, *rank, *call, *kind, body.bytes()),
+        Entry::Keeping { rank, call, common } => add_part(line, *rank, *call, common.bytes()),
+        Entry::Asked { rank, call, .. } => add_call(line, "Asked", *rank, *call),
+        Entry::Tried { rank, call, .. } => add_call(line, "Tried", *rank, *call),
+        _ => Ok(write!(line, "{entry:?}")?),
+    }
+}
+
+fn add_put(
+    line: &mut String,
+    rank: Rank,
+    call: u64,
+    kind: WorkType,
+    body: &[u8],
+) -> Result<(), Fail> {
+    add_call(line, "Putting", rank, call)?;
+    write!(line, ": type {}, ", kind.0)?;
+    add_bytes(line, body)
+}
+
+fn add_part(line: &mut String, rank: Rank, call: u64, common: &[u8]) -> Result<(), Fail> {
+    add_call(line, "Keeping", rank, call)?;
+    line.push_str(": ")?;
+    add_bytes(line, common)
+}
+
+fn add_call(line: &mut String, name: &str, rank: Rank, call: u64) -> Result<(), Fail> {
+    Ok(write!(line, "{name} {} {call}", rank.0)?)
+}
+
+// How many bytes these are, and the first of them.
+fn add_bytes(line: &mut String, bytes: &[u8]) -> Result<(), Fail> {
+    let first = bytes.first();
+    Ok(write!(line, "{} bytes, {first:?}", bytes.len())?)
 }
 
 const fn unit(number: u64, pinned: Option<Rank>) -> LeftUnit {
@@ -306,13 +443,13 @@ const fn unit(number: u64, pinned: Option<Rank>) -> LeftUnit {
 
 #[test]
 fn units_are_fetched_in_order(rt: HostRuntime) -> Result<(), Fail> {
-    let acts = [
+    const ACTS: &[Act] = &[
         Act::Put(1, b'a', 1),
         Act::Put(1, b'b', 1),
         Act::Work("", b'a', 1),
         Act::Work("", b'b', 1),
     ];
-    let ledger = [
+    const LEDGER: &[&str] = &[
         "Putting 0 0: type 1, 1 bytes, Some(97)",
         "Accepted { server: Server(0), id: UnitId { rank: Rank(0), number: 0 } }",
         "Putting 0 1: type 1, 1 bytes, Some(98)",
@@ -327,18 +464,18 @@ fn units_are_fetched_in_order(rt: HostRuntime) -> Result<(), Fail> {
         "Fetched { server: Server(0), rank: Rank(0), id: UnitId { rank: Rank(0), number: 1 } }",
         "Finished { rank: Rank(0), call: 6 }",
     ];
-    check(&rt, rt.alloc(), 64, &acts, 7, &ledger, &[])
+    check(&rt, rt.alloc(), 64, ACTS, 7, LEDGER, &[])
 }
 
 #[test]
 fn what_is_over_the_limit_is_rejected(rt: HostRuntime) -> Result<(), Fail> {
-    let acts = [
+    const ACTS: &[Act] = &[
         Act::PutRejected(93),
         Act::PutRejected(85),
         Act::Over(EndFault::Exhausted),
         Act::Over(EndFault::Exhausted),
     ];
-    let ledger = [
+    const LEDGER: &[&str] = &[
         "Putting 0 0: type 1, 93 bytes, Some(0)",
         "Refused { server: Server(0), id: UnitId { rank: Rank(0), number: 0 }, used: 0 }",
         "Rejected { rank: Rank(0), call: 0 }",
@@ -352,18 +489,18 @@ fn what_is_over_the_limit_is_rejected(rt: HostRuntime) -> Result<(), Fail> {
         "Over { rank: Rank(0), call: 3, end: Exhausted }",
         "Finished { rank: Rank(0), call: 4 }",
     ];
-    check(&rt, rt.alloc(), 64, &acts, 5, &ledger, &[])
+    check(&rt, rt.alloc(), 64, ACTS, 5, LEDGER, &[])
 }
 
 #[test]
 fn units_that_are_not_fetched_are_left(rt: HostRuntime) -> Result<(), Fail> {
-    let acts = [
+    const ACTS: &[Act] = &[
         Act::Put(2, b'a', 60),
         Act::PutRejected(5),
         Act::Put(2, b'b', 4),
         Act::Leave,
     ];
-    let ledger = [
+    const LEDGER: &[&str] = &[
         "Putting 0 0: type 2, 60 bytes, Some(97)",
         "Accepted { server: Server(0), id: UnitId { rank: Rank(0), number: 0 } }",
         "Putting 0 1: type 1, 5 bytes, Some(0)",
@@ -376,12 +513,12 @@ fn units_that_are_not_fetched_are_left(rt: HostRuntime) -> Result<(), Fail> {
         "Finished { rank: Rank(0), call: 4 }",
     ];
     let left = [unit(0, Some(Rank(0))), unit(2, None)];
-    check(&rt, rt.alloc(), 64, &acts, 5, &ledger, &left)
+    check(&rt, rt.alloc(), 64, ACTS, 5, LEDGER, &left)
 }
 
 #[test]
 fn free_units_of_a_type_are_counted_by_their_priority(rt: HostRuntime) -> Result<(), Fail> {
-    let acts = [
+    const ACTS: &[Act] = &[
         Act::PutAt(1, 3),
         Act::PutAt(1, 7),
         Act::Count(1, 2, Some(7), 1),
@@ -396,7 +533,7 @@ fn free_units_of_a_type_are_counted_by_their_priority(rt: HostRuntime) -> Result
         Act::Over(EndFault::Exhausted),
         Act::Count(1, 0, None, 0),
     ];
-    let ledger = [
+    const LEDGER: &[&str] = &[
         "Putting 0 0: type 1, 1 bytes, Some(97)",
         "Accepted { server: Server(0), id: UnitId { rank: Rank(0), number: 0 } }",
         "Putting 0 1: type 1, 1 bytes, Some(97)",
@@ -423,23 +560,23 @@ fn free_units_of_a_type_are_counted_by_their_priority(rt: HostRuntime) -> Result
         "Finished { rank: Rank(0), call: 11 }",
     ];
     let left = [unit(0, Some(Rank(0)))];
-    check(&rt, rt.alloc(), 64, &acts, 12, &ledger, &left)
+    check(&rt, rt.alloc(), 64, ACTS, 12, LEDGER, &left)
 }
 
 #[test]
 fn a_try_where_nothing_is_looks_once(rt: HostRuntime) -> Result<(), Fail> {
-    let ledger = [
+    const LEDGER: &[&str] = &[
         "Tried 0 0",
         "Looked { server: Server(0), rank: Rank(0), call: 0 }",
         "NoCurrent { rank: Rank(0), call: 0 }",
         "Finished { rank: Rank(0), call: 1 }",
     ];
-    check(&rt, rt.alloc(), 64, &[Act::TryInVain], 2, &ledger, &[])
+    check(&rt, rt.alloc(), 64, &[Act::TryInVain], 2, LEDGER, &[])
 }
 
 #[test]
 fn a_try_is_granted_what_is_free(rt: HostRuntime) -> Result<(), Fail> {
-    let acts = [
+    const ACTS: &[Act] = &[
         Act::Put(1, b'a', 1),
         Act::TryAndLeave,
         // The unit is pinned.
@@ -448,7 +585,7 @@ fn a_try_is_granted_what_is_free(rt: HostRuntime) -> Result<(), Fail> {
         Act::Over(EndFault::Exhausted),
         Act::TryOver(TryFault::Exhausted),
     ];
-    let ledger = [
+    const LEDGER: &[&str] = &[
         "Putting 0 0: type 1, 1 bytes, Some(97)",
         "Accepted { server: Server(0), id: UnitId { rank: Rank(0), number: 0 } }",
         "Tried 0 1",
@@ -464,12 +601,12 @@ fn a_try_is_granted_what_is_free(rt: HostRuntime) -> Result<(), Fail> {
         "Finished { rank: Rank(0), call: 5 }",
     ];
     let left = [unit(0, Some(Rank(0)))];
-    check(&rt, rt.alloc(), 64, &acts, 6, &ledger, &left)
+    check(&rt, rt.alloc(), 64, ACTS, 6, LEDGER, &left)
 }
 
 #[test]
 fn units_of_a_batch_share_its_common_part(rt: HostRuntime) -> Result<(), Fail> {
-    let acts = [
+    const ACTS: &[Act] = &[
         Act::Begin,
         Act::Put(1, b'a', 1),
         Act::Put(1, b'b', 1),
@@ -478,7 +615,7 @@ fn units_of_a_batch_share_its_common_part(rt: HostRuntime) -> Result<(), Fail> {
         Act::Work("xy", b'a', 1),
         Act::Work("xy", b'b', 1),
     ];
-    let ledger = [
+    const LEDGER: &[&str] = &[
         "Keeping 0 0: 2 bytes, Some(120)",
         "Kept { server: Server(0), batch: BatchId { rank: Rank(0), number: 0 } }",
         "Putting 0 1: type 1, 1 bytes, Some(97)",
@@ -502,13 +639,13 @@ fn units_of_a_batch_share_its_common_part(rt: HostRuntime) -> Result<(), Fail> {
         "Freed { server: Server(0), batch: BatchId { rank: Rank(0), number: 0 } }",
         "Finished { rank: Rank(0), call: 9 }",
     ];
-    check(&rt, rt.alloc(), 64, &acts, 10, &ledger, &[])
+    check(&rt, rt.alloc(), 64, ACTS, 10, LEDGER, &[])
 }
 
 #[test]
 fn the_part_of_a_batch_without_units_is_freed_at_its_end(rt: HostRuntime) -> Result<(), Fail> {
-    let acts = [Act::Begin, Act::End];
-    let ledger = [
+    const ACTS: &[Act] = &[Act::Begin, Act::End];
+    const LEDGER: &[&str] = &[
         "Keeping 0 0: 2 bytes, Some(120)",
         "Kept { server: Server(0), batch: BatchId { rank: Rank(0), number: 0 } }",
         "Closing { rank: Rank(0), call: 1 }",
@@ -516,17 +653,17 @@ fn the_part_of_a_batch_without_units_is_freed_at_its_end(rt: HostRuntime) -> Res
         "Freed { server: Server(0), batch: BatchId { rank: Rank(0), number: 0 } }",
         "Finished { rank: Rank(0), call: 2 }",
     ];
-    check(&rt, rt.alloc(), 64, &acts, 3, &ledger, &[])
+    check(&rt, rt.alloc(), 64, ACTS, 3, LEDGER, &[])
 }
 
 #[test]
 fn a_common_part_over_the_limit_is_rejected(rt: HostRuntime) -> Result<(), Fail> {
-    let acts = [
+    const ACTS: &[Act] = &[
         Act::BeginRejected(65),
         Act::Put(1, b'a', 64),
         Act::Work("", b'a', 64),
     ];
-    let ledger = [
+    const LEDGER: &[&str] = &[
         "Keeping 0 0: 65 bytes, Some(0)",
         "Refused { server: Server(0), id: UnitId { rank: Rank(0), number: 0 }, used: 0 }",
         "Rejected { rank: Rank(0), call: 0 }",
@@ -538,12 +675,12 @@ fn a_common_part_over_the_limit_is_rejected(rt: HostRuntime) -> Result<(), Fail>
         "Fetched { server: Server(0), rank: Rank(0), id: UnitId { rank: Rank(0), number: 1 } }",
         "Finished { rank: Rank(0), call: 4 }",
     ];
-    check(&rt, rt.alloc(), 64, &acts, 5, &ledger, &[])
+    check(&rt, rt.alloc(), 64, ACTS, 5, LEDGER, &[])
 }
 
 #[test]
 fn a_batch_ends_after_an_end_was_told(rt: HostRuntime) -> Result<(), Fail> {
-    let acts = [
+    const ACTS: &[Act] = &[
         Act::Begin,
         Act::Put(1, b'a', 1),
         Act::Work("xy", b'a', 1),
@@ -553,7 +690,7 @@ fn a_batch_ends_after_an_end_was_told(rt: HostRuntime) -> Result<(), Fail> {
         Act::BeginOver(PutFault::Exhausted),
         Act::Over(EndFault::Exhausted),
     ];
-    let ledger = [
+    const LEDGER: &[&str] = &[
         "Keeping 0 0: 2 bytes, Some(120)",
         "Kept { server: Server(0), batch: BatchId { rank: Rank(0), number: 0 } }",
         "Putting 0 1: type 1, 1 bytes, Some(97)",
@@ -577,13 +714,13 @@ fn a_batch_ends_after_an_end_was_told(rt: HostRuntime) -> Result<(), Fail> {
         "Over { rank: Rank(0), call: 8, end: Exhausted }",
         "Finished { rank: Rank(0), call: 9 }",
     ];
-    check(&rt, rt.alloc(), 64, &acts, 10, &ledger, &[])
+    check(&rt, rt.alloc(), 64, ACTS, 10, LEDGER, &[])
 }
 
 #[test]
 fn a_unit_that_is_left_keeps_its_common_part(rt: HostRuntime) -> Result<(), Fail> {
-    let acts = [Act::Begin, Act::Put(1, b'a', 1), Act::End, Act::Leave];
-    let ledger = [
+    const ACTS: &[Act] = &[Act::Begin, Act::Put(1, b'a', 1), Act::End, Act::Leave];
+    const LEDGER: &[&str] = &[
         "Keeping 0 0: 2 bytes, Some(120)",
         "Kept { server: Server(0), batch: BatchId { rank: Rank(0), number: 0 } }",
         "Putting 0 1: type 1, 1 bytes, Some(97)",
@@ -595,12 +732,12 @@ fn a_unit_that_is_left_keeps_its_common_part(rt: HostRuntime) -> Result<(), Fail
         "Finished { rank: Rank(0), call: 4 }",
     ];
     let left = [unit(1, Some(Rank(0)))];
-    check(&rt, rt.alloc(), 64, &acts, 5, &ledger, &left)
+    check(&rt, rt.alloc(), 64, ACTS, 5, LEDGER, &left)
 }
 
 #[test]
 fn after_the_problem_is_done_no_call_gets_work(rt: HostRuntime) -> Result<(), Fail> {
-    let acts = [
+    const ACTS: &[Act] = &[
         Act::Put(1, b'a', 1),
         Act::SetDone,
         // The unit is free, and is not granted.
@@ -612,7 +749,7 @@ fn after_the_problem_is_done_no_call_gets_work(rt: HostRuntime) -> Result<(), Fa
         // It can be said again.
         Act::SetDone,
     ];
-    let ledger = [
+    const LEDGER: &[&str] = &[
         "Putting 0 0: type 1, 1 bytes, Some(97)",
         "Accepted { server: Server(0), id: UnitId { rank: Rank(0), number: 0 } }",
         "Done { rank: Rank(0), call: 1 }",
@@ -629,19 +766,19 @@ fn after_the_problem_is_done_no_call_gets_work(rt: HostRuntime) -> Result<(), Fa
         "Done { rank: Rank(0), call: 7 }",
         "Finished { rank: Rank(0), call: 8 }",
     ];
-    check(&rt, rt.alloc(), 64, &acts, 9, &ledger, &[unit(0, None)])
+    check(&rt, rt.alloc(), 64, ACTS, 9, LEDGER, &[unit(0, None)])
 }
 
 #[test]
 fn a_batch_ends_after_the_problem_is_done(rt: HostRuntime) -> Result<(), Fail> {
-    let acts = [
+    const ACTS: &[Act] = &[
         Act::Begin,
         Act::Put(1, b'a', 1),
         Act::SetDone,
         Act::PutOver(PutFault::NoMoreWork),
         Act::End,
     ];
-    let ledger = [
+    const LEDGER: &[&str] = &[
         "Keeping 0 0: 2 bytes, Some(120)",
         "Kept { server: Server(0), batch: BatchId { rank: Rank(0), number: 0 } }",
         "Putting 0 1: type 1, 1 bytes, Some(97)",
@@ -653,5 +790,5 @@ fn a_batch_ends_after_the_problem_is_done(rt: HostRuntime) -> Result<(), Fail> {
         "Closed { server: Server(0), batch: BatchId { rank: Rank(0), number: 0 } }",
         "Finished { rank: Rank(0), call: 5 }",
     ];
-    check(&rt, rt.alloc(), 64, &acts, 6, &ledger, &[unit(1, None)])
+    check(&rt, rt.alloc(), 64, ACTS, 6, LEDGER, &[unit(1, None)])
 }

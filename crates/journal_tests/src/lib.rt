@@ -5,6 +5,8 @@
 #![tactic(auto)]
 
 #[cfg(test)]
+mod merging;
+#[cfg(test)]
 mod sorted;
 #[cfg(test)]
 mod stepped;

@@ -1,8 +1,9 @@
 //! A merge of many journals against a sort.
 
+use crate::merging::merged;
 use adlb_unit::{Actor, Config, Rank, Server};
 use bag_ledger::Call;
-use merge_history::{Cause, Happened, History, Journal, can_merge, merge};
+use merge_history::{Cause, Happened, History, Journal};
 use std::alloc::{AllocError, Global};
 use std::test::Fail;
 
@@ -78,13 +79,10 @@ fn is_in_order(history: &History, expected: &[(u64, Actor)]) -> bool {
 #[test]
 fn a_merge_is_a_sort(rt: HostRuntime) -> Result<(), Fail> {
     let alloc = rt.alloc();
-    let config = Config::new(RANKS, 1, 64).ok().ok_or("configuration")?;
+    let config = Config::new(RANKS, 1, 64)?;
     let journals = all_journals(alloc)?;
     let sorted = sorted(alloc, &journals)?;
-    if !can_merge(&config, &journals) {
-        return Err("journals that cannot be merged".into());
-    }
-    let history = merge(alloc, &config, journals).ok().ok_or("memory")?;
+    let history = merged(alloc, &config, journals)?;
     assert!(rt; sorted.len() > 500 && is_in_order(&history, &sorted));
     Ok(())
 }

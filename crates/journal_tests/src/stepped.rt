@@ -1,15 +1,17 @@
 //! A batch of two puts with a count in it, two reserves with their fetches, and Finish, of one rank at one server, taken step
 //! by step.
 
+use crate::merging::merged;
 use adlb_unit::{
     Actor, Config, Letter, Payload, Rank, Sending, Server, Target, Types, UnitId, WorkType,
 };
 use bag_ledger::Call;
 use ledger_checker::first_illegal;
-use merge_history::{Cause, Happened, History, Journal, can_merge, ledger_of, merge};
-use rank_client::ClientCore;
+use merge_history::{Cause, Happened, History, Journal, ledger_of};
+use rank_client::{ClientCore, ClientStep};
 use server_core::{ServerState, Step};
 use std::alloc::Global;
+use std::mem;
 use std::test::Fail;
 
 const RANK: Actor = Actor::Rank(Rank(0));
@@ -52,184 +54,223 @@ fn unit(number: u64) -> UnitId {
     }
 }
 
-// Twins of letters that are sent.
-fn twins(alloc: Global, sends: &[Sending]) -> Result<Vec<Sending>, Fail> {
-    let mut all = Vec::new(alloc);
-    for sending in sends {
-        let letter = sending.letter.twin(alloc)?;
-        all.push(Sending {
-            to: sending.to,
-            letter,
-        })?;
-    }
-    Ok(all)
-}
-
-// The rank begins the call of this number: what it sends, and its event.
-fn begin(
-    alloc: Global,
-    client: &mut ClientCore,
-    number: u32,
-) -> Result<(Vec<Sending>, Happened), Fail> {
+// The rank begins the call of this number.
+fn begin(alloc: Global, client: &mut ClientCore, number: u32) -> Result<ClientStep, Fail> {
     let made = call(alloc, number)?;
     if !client.ready(&made) {
         return Err("not ready".into());
     }
-    let step = client.begin(made).ok().ok_or("begin")?;
-    let sends = twins(alloc, &step.sends)?;
-    let happened = Happened {
+    Ok(client.begin(made)?)
+}
+
+// The event in which the rank begins the call of this number.
+fn called(alloc: Global, client: &mut ClientCore, number: u32) -> Result<Happened, Fail> {
+    let step = begin(alloc, client, number)?;
+    Ok(Happened {
         stamp: step.stamp,
         cause: Cause::Called(call(alloc, number)?),
         sends: step.sends,
         entries: step.entries,
-    };
-    Ok((sends, happened))
+    })
 }
 
-// The server handles a letter of this actor.
-fn step(server: &mut ServerState, from: Actor, letter: Letter) -> Result<Step, Fail> {
-    if server.broken().is_some() {
-        return Err("broken".into());
-    }
-    if !server.expects(from, &letter) {
-        return Err("not expected by the server".into());
-    }
-    Ok(server.step(from, letter).ok().ok_or("step")?)
-}
-
-// The server handles a letter of this actor: what it sends, and its event.
-fn serve(
-    alloc: Global,
-    server: &mut ServerState,
-    from: Actor,
-    letter: Letter,
-) -> Result<(Vec<Sending>, Happened), Fail> {
-    let twin = letter.twin(alloc)?;
-    let step = step(server, from, letter)?;
-    let sends = twins(alloc, &step.sends)?;
-    let happened = Happened {
-        stamp: step.stamp,
-        cause: Cause::Got { from, letter: twin },
-        sends: step.sends,
-        entries: step.entries,
-    };
-    Ok((sends, happened))
-}
-
-// The rank hears a letter of the server: what it sends, if its call goes on, and its event.
-fn hear(
-    alloc: Global,
-    client: &mut ClientCore,
-    letter: Letter,
-) -> Result<(Vec<Sending>, Happened), Fail> {
-    if !client.expects(Server(0), &letter) {
+// The rank hears a letter of the server.
+fn hear(alloc: Global, client: &mut ClientCore, letter: &Letter) -> Result<ClientStep, Fail> {
+    if !client.expects(Server(0), letter) {
         return Err("not expected by the rank".into());
     }
-    let twin = letter.twin(alloc)?;
-    let step = client.hear(Server(0), letter).ok().ok_or("hear")?;
-    let sends = twins(alloc, &step.sends)?;
-    let happened = Happened {
+    Ok(client.hear(Server(0), letter.twin(alloc)?)?)
+}
+
+// The event in which the rank hears a letter of the server.
+fn heard(alloc: Global, client: &mut ClientCore, letter: Letter) -> Result<Happened, Fail> {
+    let step = hear(alloc, client, &letter)?;
+    Ok(Happened {
         stamp: step.stamp,
         cause: Cause::Got {
             from: SERVER,
-            letter: twin,
+            letter,
         },
         sends: step.sends,
         entries: step.entries,
-    };
-    Ok((sends, happened))
+    })
 }
 
-// The rank and the server with their events so far.
+// The server handles a letter of the rank.
+fn step(alloc: Global, server: &mut ServerState, letter: &Letter) -> Result<Step, Fail> {
+    if server.broken().is_some() {
+        return Err("broken".into());
+    }
+    if !server.expects(RANK, letter) {
+        return Err("not expected by the server".into());
+    }
+    Ok(server.step(RANK, letter.twin(alloc)?)?)
+}
+
+// The event in which the server handles a letter of the rank.
+fn served(alloc: Global, server: &mut ServerState, letter: Letter) -> Result<Happened, Fail> {
+    let step = step(alloc, server, &letter)?;
+    Ok(Happened {
+        stamp: step.stamp,
+        cause: Cause::Got { from: RANK, letter },
+        sends: step.sends,
+        entries: step.entries,
+    })
+}
+
+// Twins of the letters that are sent.
+fn letters(alloc: Global, sends: &[Sending]) -> Result<Vec<Letter>, Fail> {
+    let mut letters = Vec::new(alloc);
+    for sending in sends {
+        letters.push(sending.letter.twin(alloc)?)?;
+    }
+    Ok(letters)
+}
+
+// Keeps an event: the letters that it sent.
+fn keep(
+    alloc: Global,
+    events: &mut Vec<Happened>,
+    happened: Happened,
+) -> Result<Vec<Letter>, Fail> {
+    let letters = letters(alloc, &happened.sends)?;
+    events.push(happened)?;
+    Ok(letters)
+}
+
+// The rank with its events so far.
 #[derive(Drop)]
-struct Stepped {
+struct SteppedRank {
     client: ClientCore,
-    server: ServerState,
-    of_rank: Vec<Happened>,
-    of_server: Vec<Happened>,
+    events: Vec<Happened>,
 }
 
-impl Stepped {
-    fn new(alloc: Global, config: Config) -> Result<Stepped, Fail> {
-        Ok(Stepped {
+impl SteppedRank {
+    fn new(alloc: Global, config: Config) -> Result<SteppedRank, Fail> {
+        Ok(SteppedRank {
             client: ClientCore::new(alloc, config, Rank(0))?,
-            server: ServerState::new(alloc, config, Server(0))?,
-            of_rank: Vec::new(alloc),
-            of_server: Vec::new(alloc),
+            events: Vec::new(alloc),
         })
     }
 
-    // The call of this number, and each letter that follows it.
-    fn round(&mut self, alloc: Global, number: u32) -> Result<(), Fail> {
-        let (sends, happened) = begin(alloc, &mut self.client, number)?;
-        self.of_rank.push(happened)?;
-        for sending in sends {
-            // The bytes of a unit are followed by those of its common part.
-            for more in self.exchange(alloc, sending.letter)? {
-                let _ = self.exchange(alloc, more.letter)?;
-            }
-        }
-        Ok(())
+    // The rank begins the call of this number: what it sends.
+    fn begin(&mut self, alloc: Global, number: u32) -> Result<Vec<Letter>, Fail> {
+        let happened = called(alloc, &mut self.client, number)?;
+        keep(alloc, &mut self.events, happened)
     }
 
-    // The server handles the letter, and the rank hears what it answers: what it sends then.
-    fn exchange(&mut self, alloc: Global, letter: Letter) -> Result<Vec<Sending>, Fail> {
-        let (answers, happened) = serve(alloc, &mut self.server, RANK, letter)?;
-        self.of_server.push(happened)?;
-        let mut more = Vec::new(alloc);
-        for answer in answers {
-            let (sends, heard) = hear(alloc, &mut self.client, answer.letter)?;
-            self.of_rank.push(heard)?;
-            for sending in sends {
-                more.push(sending)?;
-            }
-        }
-        Ok(more)
+    // The rank hears the letter: what it sends, if its call goes on.
+    fn hear(&mut self, alloc: Global, letter: Letter) -> Result<Vec<Letter>, Fail> {
+        let happened = heard(alloc, &mut self.client, letter)?;
+        keep(alloc, &mut self.events, happened)
     }
 
-    // The journals of the two.
-    fn journals(self, alloc: Global) -> Result<Vec<Journal>, Fail> {
-        let Stepped {
-            of_rank,
-            of_server,
-            ..
-        } = self;
-        let mut all = Vec::new(alloc);
-        all.push(Journal {
+    // The journal of its events, of which it keeps none.
+    fn journal(&mut self, alloc: Global) -> Journal {
+        Journal {
             actor: RANK,
-            events: of_rank,
-        })?;
-        all.push(Journal {
-            actor: SERVER,
-            events: of_server,
-        })?;
-        Ok(all)
+            events: mem::replace(&mut self.events, Vec::new(alloc)),
+        }
     }
 }
 
-// All ten calls, and the journals merged.
-fn merged(alloc: Global, config: &Config) -> Result<History, Fail> {
-    let mut stepped = Stepped::new(alloc, *config)?;
+// The server with its events so far.
+#[derive(Drop)]
+struct SteppedServer {
+    server: ServerState,
+    events: Vec<Happened>,
+}
+
+impl SteppedServer {
+    fn new(alloc: Global, config: Config) -> Result<SteppedServer, Fail> {
+        Ok(SteppedServer {
+            server: ServerState::new(alloc, config, Server(0))?,
+            events: Vec::new(alloc),
+        })
+    }
+
+    // The server handles the letter: what it answers.
+    fn serve(&mut self, alloc: Global, letter: Letter) -> Result<Vec<Letter>, Fail> {
+        let happened = served(alloc, &mut self.server, letter)?;
+        keep(alloc, &mut self.events, happened)
+    }
+
+    // The journal of its events, of which it keeps none.
+    fn journal(&mut self, alloc: Global) -> Journal {
+        Journal {
+            actor: SERVER,
+            events: mem::replace(&mut self.events, Vec::new(alloc)),
+        }
+    }
+}
+
+// All ten calls.
+fn rounds(alloc: Global, rank: &mut SteppedRank, server: &mut SteppedServer) -> Result<(), Fail> {
     for number in 0..10 {
-        stepped.round(alloc, number)?;
+        round(alloc, rank, server, number)?;
     }
-    let journals = stepped.journals(alloc)?;
-    if !can_merge(config, &journals) {
-        return Err("journals that cannot be merged".into());
+    Ok(())
+}
+
+// The call of this number, and each letter that follows it.
+fn round(
+    alloc: Global,
+    rank: &mut SteppedRank,
+    server: &mut SteppedServer,
+    number: u32,
+) -> Result<(), Fail> {
+    for letter in rank.begin(alloc, number)? {
+        // The bytes of a unit are followed by those of its common part.
+        for more in exchange(alloc, rank, server, letter)? {
+            let _ = exchange(alloc, rank, server, more)?;
+        }
     }
-    Ok(merge(alloc, config, journals).ok().ok_or("memory")?)
+    Ok(())
+}
+
+// The server handles the letter, and the rank hears what it answers: what it sends then.
+fn exchange(
+    alloc: Global,
+    rank: &mut SteppedRank,
+    server: &mut SteppedServer,
+    letter: Letter,
+) -> Result<Vec<Letter>, Fail> {
+    let mut more = Vec::new(alloc);
+    for answer in server.serve(alloc, letter)? {
+        more.append(&mut rank.hear(alloc, answer)?)?;
+    }
+    Ok(more)
+}
+
+// The history of all ten calls.
+fn history(alloc: Global, config: &Config) -> Result<History, Fail> {
+    let mut rank = SteppedRank::new(alloc, *config)?;
+    let of_server = served_by(alloc, config, &mut rank)?;
+    merged(
+        alloc,
+        config,
+        vec![in alloc; rank.journal(alloc), of_server]?,
+    )
+}
+
+// The journal of a server that serves the rank in all its calls.
+fn served_by(alloc: Global, config: &Config, rank: &mut SteppedRank) -> Result<Journal, Fail> {
+    let mut server = SteppedServer::new(alloc, *config)?;
+    rounds(alloc, rank, &mut server)?;
+    Ok(server.journal(alloc))
+}
+
+// How many events that history has, and how many entries its ledger; and the first entry that is not legal.
+fn counted(alloc: Global, config: &Config) -> Result<(usize, usize, Option<u64>), Fail> {
+    let history = history(alloc, config)?;
+    let ledger = ledger_of(alloc, &history)?;
+    let illegal = first_illegal(alloc, &ledger, config)?;
+    Ok((history.events.len(), ledger.entries().len(), illegal))
 }
 
 #[test]
 fn stepped_journals_merge_to_a_legal_run(rt: HostRuntime) -> Result<(), Fail> {
-    let alloc = rt.alloc();
-    let config = Config::new(1, 1, 64).ok().ok_or("configuration")?;
-    let history = merged(alloc, &config)?;
-    let ledger = ledger_of(alloc, &history)?;
-    let found = first_illegal(alloc, &ledger, &config);
-    assert_eq!(rt;
-        (history.events.len(), ledger.entries().len(), found),
-        (33, 22, Ok(None))
-    );
+    let config = Config::new(1, 1, 64)?;
+    assert_eq!(rt; counted(rt.alloc(), &config)?, (33, 22, None));
     Ok(())
 }

@@ -45,28 +45,40 @@ pub(crate) fn call(
     said: &[Said],
     open: bool,
 ) -> Result<Call, Fail> {
-    if let Some(id) = granted_last(said) {
-        if words.below(4) > 0 {
-            return Ok(Call::Fetch { id });
-        }
+    match granted_last(said) {
+        Some(id) if words.below(4) > 0 => Ok(Call::Fetch { id }),
+        _ => other_call(alloc, words, config, open),
     }
+}
+
+// A call that fetches nothing.
+fn other_call(alloc: Global, words: &mut Words, config: Config, open: bool) -> Result<Call, Fail> {
     match words.below(400) {
         0..=219 => put(alloc, words, config),
-        220..=259 => Ok(Call::Reserve {
-            types: types(words)?,
-        }),
-        260..=299 => Ok(Call::Try {
-            types: types(words)?,
-        }),
+        220..=259 => reserve(words),
+        260..=299 => try_once(words),
         300..=329 => Ok(Call::Count {
             kind: WorkType(words.below(3)),
         }),
         330..=397 if open => Ok(Call::EndBatch),
-        330..=397 => Ok(Call::BeginBatch {
-            common: body(alloc, words)?,
-        }),
+        330..=397 => begin_batch(alloc, words),
         _ => Ok(Call::SetDone),
     }
+}
+
+fn reserve(words: &mut Words) -> Result<Call, Fail> {
+    let types = types(words)?;
+    Ok(Call::Reserve { types })
+}
+
+fn try_once(words: &mut Words) -> Result<Call, Fail> {
+    let types = types(words)?;
+    Ok(Call::Try { types })
+}
+
+fn begin_batch(alloc: Global, words: &mut Words) -> Result<Call, Fail> {
+    let common = body(alloc, words)?;
+    Ok(Call::BeginBatch { common })
 }
 
 /// The last calls: the rank reserves until it is told an end, ends its batch, if one is going on, and finishes.

@@ -39,7 +39,26 @@ fn other_end(end: End) -> End {
 
 /// A copy of the entry.
 pub(crate) fn copied(alloc: Global, entry: &Entry) -> Result<Entry, Fail> {
-    let copy = match entry {
+    match entry {
+        Entry::Putting { .. } | Entry::Keeping { .. } => heavy_copy(alloc, entry),
+        Entry::Asked { rank, call, types } => Ok(Entry::Asked {
+            rank: *rank,
+            call: *call,
+            types: types.twin(),
+        }),
+        Entry::Tried { rank, call, types } => Ok(Entry::Tried {
+            rank: *rank,
+            call: *call,
+            types: types.twin(),
+        }),
+        Entry::Exhausted => Ok(Entry::Exhausted),
+        plain => plain_copy(plain),
+    }
+}
+
+// A copy of an entry that keeps bytes.
+fn heavy_copy(alloc: Global, entry: &Entry) -> Result<Entry, Fail> {
+    match entry {
         Entry::Putting {
             rank,
             call,
@@ -48,34 +67,28 @@ pub(crate) fn copied(alloc: Global, entry: &Entry) -> Result<Entry, Fail> {
             target,
             answer,
             body,
-        } => Entry::Putting {
-            rank: *rank,
-            call: *call,
-            kind: *kind,
-            prio: *prio,
-            target: *target,
-            answer: *answer,
-            body: body.twin(alloc)?,
-        },
-        Entry::Asked { rank, call, types } => Entry::Asked {
-            rank: *rank,
-            call: *call,
-            types: types.twin(),
-        },
-        Entry::Tried { rank, call, types } => Entry::Tried {
-            rank: *rank,
-            call: *call,
-            types: types.twin(),
-        },
-        Entry::Keeping { rank, call, common } => Entry::Keeping {
-            rank: *rank,
-            call: *call,
-            common: common.twin(alloc)?,
-        },
-        Entry::Exhausted => Entry::Exhausted,
-        plain => return plain_copy(plain),
-    };
-    Ok(copy)
+        } => {
+            let body = body.twin(alloc)?;
+            Ok(Entry::Putting {
+                rank: *rank,
+                call: *call,
+                kind: *kind,
+                prio: *prio,
+                target: *target,
+                answer: *answer,
+                body,
+            })
+        }
+        Entry::Keeping { rank, call, common } => {
+            let common = common.twin(alloc)?;
+            Ok(Entry::Keeping {
+                rank: *rank,
+                call: *call,
+                common,
+            })
+        }
+        _ => Err("an entry without bytes".into()),
+    }
 }
 
 // A copy of an entry that keeps no bytes and no types.

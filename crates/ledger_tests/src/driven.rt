@@ -12,9 +12,13 @@ use std::test::Fail;
 /// How many runs.
 const RUNS: u64 = 10000;
 
-// The ledger of these entries, the one at this place changed.
-fn with_change(alloc: Global, entries: &[Entry], place: usize) -> Result<Ledger, Fail> {
-    let mut ledger = Ledger::new(alloc);
+// The entries, the one at this place changed, are pushed.
+fn push_changed(
+    alloc: Global,
+    ledger: &mut Ledger,
+    entries: &[Entry],
+    place: usize,
+) -> Result<(), Fail> {
     for (at, entry) in entries.iter().enumerate() {
         let entry = if at == place {
             changed(entry)?
@@ -23,6 +27,13 @@ fn with_change(alloc: Global, entries: &[Entry], place: usize) -> Result<Ledger,
         };
         ledger.push(entry)?;
     }
+    Ok(())
+}
+
+// The ledger of these entries, the one at this place changed.
+fn with_change(alloc: Global, entries: &[Entry], place: usize) -> Result<Ledger, Fail> {
+    let mut ledger = Ledger::new(alloc);
+    push_changed(alloc, &mut ledger, entries, place)?;
     Ok(ledger)
 }
 
@@ -40,11 +51,21 @@ fn config_of(number: u64) -> Result<Config, Fail> {
 // Each of so many ranks was told an end, and has finished.
 fn all_have_finished(entries: &[Entry], ranks: u32) -> bool {
     for rank in 0..ranks {
-        if !entries.iter().any(|e| tells_of(e, rank)) || !entries.iter().any(|e| ends(e, rank)) {
+        if !has_finished(entries, rank) {
             return false;
         }
     }
     true
+}
+
+fn has_finished(entries: &[Entry], number: u32) -> bool {
+    let mut told = false;
+    let mut finished = false;
+    for entry in entries {
+        told |= tells_of(entry, number);
+        finished |= ends(entry, number);
+    }
+    told && finished
 }
 
 fn tells_of(entry: &Entry, number: u32) -> bool {
@@ -61,15 +82,17 @@ fn ends(entry: &Entry, number: u32) -> bool {
     }
 }
 
+// With the entry at this place changed, the ledger of these entries is illegal there.
+fn shows(alloc: Global, entries: &[Entry], config: &Config, place: usize) -> Result<bool, Fail> {
+    let other = with_change(alloc, entries, place)?;
+    Ok(first_illegal(alloc, &other, config) == Ok(Some(place as u64)))
+}
+
 // The ledger is legal, and with one entry changed it is illegal at that place.
 fn is_judged(alloc: Global, ledger: &Ledger, config: &Config, number: u64) -> Result<bool, Fail> {
     let entries = ledger.entries();
     let place = Words::new(number.wrapping_add(RUNS)).place(entries.len());
-    let other = with_change(alloc, entries, place)?;
-    Ok(
-        first_illegal(alloc, ledger, config) == Ok(None)
-            && first_illegal(alloc, &other, config) == Ok(Some(place as u64)),
-    )
+    Ok(first_illegal(alloc, ledger, config) == Ok(None) && shows(alloc, entries, config, place)?)
 }
 
 // What some run has shown: a put that each server refused; a unit that went to a waiting rank as it came; a count of some unit; a
@@ -97,34 +120,39 @@ struct Seen {
 impl Seen {
     fn look(&mut self, entries: &[Entry], servers: u32) {
         self.entries = self.entries.saturating_add(entries.len());
-        self.rejects |= entries.iter().any(|e| matches!(e, Entry::Rejected { .. }));
         self.settles |= entries.windows(2).any(is_settled);
-        self.counts |= entries.iter().any(is_count);
         self.looks_on |= entries.windows(2).any(is_look_on);
-        self.withdrawn |= entries.iter().any(|e| matches!(e, Entry::Withdrawn { .. }));
-        let moves = entries.iter().any(|e| matches!(e, Entry::Arrived { .. }));
-        let is_done = entries.iter().any(|e| matches!(e, Entry::Done { .. }));
-        let frees = entries.iter().any(|e| matches!(e, Entry::Freed { .. }));
-        let finds = entries.iter().any(|e| matches!(e, Entry::Exhausted));
-        self.moved = more_if(self.moved, moves);
-        self.done = more_if(self.done, is_done);
-        self.freed = more_if(self.freed, frees);
-        self.found = more_if(self.found, finds && servers > 1);
-        for (place, entry) in entries.iter().enumerate() {
-            if let Entry::Granted {
-                server,
-                rank,
-                call,
-                id,
-            } = entry
-            {
-                let asked = entries.iter().position(|e| is_asked(e, *rank, *call));
-                let came = entries.iter().position(|e| is_accepted(e, *id));
-                let far = server.0 != rank.0 % servers.max(1);
-                self.tries |= servers > 1 && asked.is_none();
-                self.far |= far && asked.is_some();
-                self.hinted |= far && asked.is_some() && asked < came;
-            }
+        self.add(Kinds::of(entries), servers);
+        for entry in entries {
+            self.look_at(entries, servers, entry);
+        }
+    }
+
+    fn add(&mut self, kinds: Kinds, servers: u32) {
+        self.rejects |= kinds.rejected;
+        self.counts |= kinds.counted;
+        self.withdrawn |= kinds.withdrawn;
+        self.moved = more_if(self.moved, kinds.arrived);
+        self.done = more_if(self.done, kinds.done);
+        self.freed = more_if(self.freed, kinds.freed);
+        self.found = more_if(self.found, kinds.exhausted && servers > 1);
+    }
+
+    // Of a grant: whether the unit was at the rank's home, and whether the rank had asked for it, before it came or after.
+    fn look_at(&mut self, entries: &[Entry], servers: u32, entry: &Entry) {
+        if let Entry::Granted {
+            server,
+            rank,
+            call,
+            id,
+        } = entry
+        {
+            let asked = entries.iter().position(|e| is_asked(e, *rank, *call));
+            let came = entries.iter().position(|e| is_accepted(e, *id));
+            let far = server.0 != rank.0 % servers.max(1);
+            self.tries |= servers > 1 && asked.is_none();
+            self.far |= far && asked.is_some();
+            self.hinted |= far && asked.is_some() && asked < came;
         }
     }
 
@@ -142,6 +170,41 @@ impl Seen {
             && self.done > 1500
             && self.freed > 6000
             && self.entries > 1000000
+    }
+}
+
+// Which entries the ledger of a run has; of counts those of some unit.
+#[derive(Clone, Copy, Default)]
+struct Kinds {
+    rejected: bool,
+    counted: bool,
+    withdrawn: bool,
+    arrived: bool,
+    done: bool,
+    freed: bool,
+    exhausted: bool,
+}
+
+impl Kinds {
+    fn of(entries: &[Entry]) -> Kinds {
+        let mut kinds = Kinds::default();
+        for entry in entries {
+            kinds.add(entry);
+        }
+        kinds
+    }
+
+    fn add(&mut self, entry: &Entry) {
+        match entry {
+            Entry::Rejected { .. } => self.rejected = true,
+            Entry::Counted { info, .. } => self.counted |= info.free > 0,
+            Entry::Withdrawn { .. } => self.withdrawn = true,
+            Entry::Arrived { .. } => self.arrived = true,
+            Entry::Done { .. } => self.done = true,
+            Entry::Freed { .. } => self.freed = true,
+            Entry::Exhausted => self.exhausted = true,
+            _ => {}
+        }
     }
 }
 
@@ -168,28 +231,27 @@ fn is_accepted(entry: &Entry, unit: UnitId) -> bool {
     }
 }
 
+// The run of this number, noted in what was seen: its ledger is legal, one change shows, and each rank was told the end.
+fn is_as_stated(alloc: Global, number: u64, seen: &mut Seen) -> Result<bool, Fail> {
+    let config = config_of(number)?;
+    let world = driven(alloc, config, number)?;
+    let entries = world.ledger().entries();
+    seen.look(entries, config.servers);
+    let told = all_have_finished(entries, config.ranks);
+    Ok(is_judged(alloc, world.ledger(), &config, number)? && told)
+}
+
 #[test]
 fn driven_runs_are_legal_and_one_change_shows(rt: HostRuntime) -> Result<(), Fail> {
     let mut seen = Seen::default();
     for number in 0..RUNS {
-        let config = config_of(number)?;
-        let world = driven(rt.alloc(), config, number)?;
-        let entries = world.ledger().entries();
-        let judged = is_judged(rt.alloc(), world.ledger(), &config, number)?;
-        let told = all_have_finished(entries, config.ranks);
-        seen.look(entries, config.servers);
-        assert!(rt; judged && told, "run {number}");
+        assert!(rt;
+            is_as_stated(rt.alloc(), number, &mut seen)?,
+            "run {number}"
+        );
     }
     assert!(rt; seen.all(), "{seen:?}");
     Ok(())
-}
-
-// A count told of some unit.
-fn is_count(entry: &Entry) -> bool {
-    match entry {
-        Entry::Counted { info, .. } => info.free > 0,
-        _ => false,
-    }
 }
 
 // One server looked right behind another in the same call.

@@ -6,16 +6,264 @@ use adlb_unit::{
 use bag_ledger::{Entry, Ledger};
 use ledger_checker::first_illegal;
 use std::alloc::Global;
-use std::mem;
+use std::process::Abort;
 use std::test::Fail;
 
+// A unit, by the rank that put it and the number of its put.
+type Unit = (u32, u64);
+
+// An entry of a small ledger, in constant numbers: servers and ranks, then calls, units and what is told of them. The type
+// that a rank wants is any, or this one. The only batch is the first of rank 0.
+#[derive(Clone, Copy)]
+enum Row {
+    // A unit of type 1 with these bytes, for any rank.
+    Putting(u32, u64, &'static [u8]),
+    // An empty unit of rank 0, of this type and target.
+    PuttingFor(u64, u32, Target),
+    Refused(u32, Unit, u64),
+    Accepted(u32, Unit),
+    Rejected(u32, u64),
+    Asked(u32, u64, Option<u32>),
+    Tried(u32, u64, Option<u32>),
+    Granted(u32, u32, u64, Unit),
+    Looked(u32, u32, u64),
+    NoCurrent(u32, u64),
+    Fetching(u32, u64, Unit),
+    Fetched(u32, u32, Unit),
+    Promised(u32, Unit, u32),
+    Left(u32, u32, Unit),
+    Arrived(u32, Unit),
+    Withdrawn(u32, Unit),
+    // Rank 0 begins the batch by the call of this number, and closes it by this one.
+    Keeping(u64),
+    Kept,
+    Closing(u64),
+    Closed,
+    CommonFetched(u32),
+    Freed,
+    // Rank 0 counts type 1 in its third call, and is told of two free units with this priority.
+    Counting,
+    Counted(i32),
+    Done(u32, u64),
+    Exhausted,
+    Over(u32, u64, End),
+    Finished(u32, u64),
+}
+
+use Row::{
+    Accepted, Arrived, Asked, Closed, Closing, CommonFetched, Counted, Counting, Done, Exhausted,
+    Fetched, Fetching, Finished, Freed, Granted, Keeping, Kept, Left, Looked, NoCurrent, Over,
+    Promised, Putting, PuttingFor, Refused, Rejected, Tried, Withdrawn,
+};
+
 // What is done at a place of the ledger.
-#[derive(Drop)]
+#[derive(Clone, Copy)]
 enum Edit {
     Keep,
     Remove,
-    Set(Entry),
-    Insert(Entry),
+    Set(Row),
+    Insert(Row),
+}
+
+use Edit::{Insert, Remove, Set};
+
+const BATCH: BatchId = BatchId {
+    rank: Rank(0),
+    number: 0,
+};
+
+fn id((rank, number): Unit) -> UnitId {
+    UnitId {
+        rank: Rank(rank),
+        number,
+    }
+}
+
+// Any type, or this one alone.
+fn types(kind: Option<u32>) -> Types {
+    match kind {
+        Some(kind) => Types::list(&[WorkType(kind)]).unwrap_or(Types::any()),
+        None => Types::any(),
+    }
+}
+
+fn put(
+    alloc: Global,
+    (rank, call): (u32, u64),
+    kind: u32,
+    target: Target,
+    bytes: &[u8],
+) -> Result<Entry, NoMemory> {
+    let body = Payload::copy(alloc, bytes)?;
+    Ok(Entry::Putting {
+        rank: Rank(rank),
+        call,
+        kind: WorkType(kind),
+        prio: 0,
+        target,
+        answer: None,
+        body,
+    })
+}
+
+fn keeping(alloc: Global, call: u64) -> Result<Entry, NoMemory> {
+    let common = Payload::copy(alloc, b"xy")?;
+    Ok(Entry::Keeping {
+        rank: Rank(0),
+        call,
+        common,
+    })
+}
+
+// The entry of a row.
+fn entry(alloc: Global, row: Row) -> Result<Entry, NoMemory> {
+    match row {
+        Putting(rank, call, bytes) => put(alloc, (rank, call), 1, Target::Any, bytes),
+        PuttingFor(call, kind, target) => put(alloc, (0, call), kind, target, b""),
+        Keeping(call) => keeping(alloc, call),
+        plain => Ok(plain_entry(plain)),
+    }
+}
+
+// The entry of a row about a unit that a server takes, grants or gives.
+fn plain_entry(row: Row) -> Entry {
+    match row {
+        Refused(server, unit, used) => Entry::Refused {
+            server: Server(server),
+            id: id(unit),
+            used,
+        },
+        Accepted(server, unit) => Entry::Accepted {
+            server: Server(server),
+            id: id(unit),
+        },
+        Granted(server, rank, call, unit) => Entry::Granted {
+            server: Server(server),
+            rank: Rank(rank),
+            call,
+            id: id(unit),
+        },
+        Fetching(rank, call, unit) => Entry::Fetching {
+            rank: Rank(rank),
+            call,
+            id: id(unit),
+        },
+        Fetched(server, rank, unit) => Entry::Fetched {
+            server: Server(server),
+            rank: Rank(rank),
+            id: id(unit),
+        },
+        moving => moving_entry(moving),
+    }
+}
+
+// The entry of a row about a unit that moves to another server.
+fn moving_entry(row: Row) -> Entry {
+    match row {
+        Promised(server, unit, length) => Entry::Promised {
+            server: Server(server),
+            id: id(unit),
+            length,
+        },
+        Left(server, to, unit) => Entry::Left {
+            server: Server(server),
+            to: Server(to),
+            id: id(unit),
+        },
+        Arrived(server, unit) => Entry::Arrived {
+            server: Server(server),
+            id: id(unit),
+        },
+        Withdrawn(server, unit) => Entry::Withdrawn {
+            server: Server(server),
+            id: id(unit),
+        },
+        batch => batch_entry(batch),
+    }
+}
+
+// The entry of a row about the batch.
+fn batch_entry(row: Row) -> Entry {
+    let (server, rank) = (Server(0), Rank(0));
+    match row {
+        Kept => Entry::Kept {
+            server,
+            batch: BATCH,
+        },
+        Closing(call) => Entry::Closing { rank, call },
+        Closed => Entry::Closed {
+            server,
+            batch: BATCH,
+        },
+        CommonFetched(server) => Entry::CommonFetched {
+            server: Server(server),
+            rank,
+            batch: BATCH,
+        },
+        Freed => Entry::Freed {
+            server,
+            batch: BATCH,
+        },
+        Counting => Entry::Counting {
+            rank,
+            call: 3,
+            kind: WorkType(1),
+        },
+        Counted(top) => Entry::Counted {
+            server,
+            rank,
+            call: 3,
+            info: Info {
+                free: 2,
+                top: Some(top),
+                at_top: 2,
+            },
+        },
+        call => call_entry(call),
+    }
+}
+
+// The entry of a row about a call and how it ends; there is one other, of no numbers.
+fn call_entry(row: Row) -> Entry {
+    match row {
+        Rejected(rank, call) => Entry::Rejected {
+            rank: Rank(rank),
+            call,
+        },
+        Asked(rank, call, kind) => Entry::Asked {
+            rank: Rank(rank),
+            call,
+            types: types(kind),
+        },
+        Tried(rank, call, kind) => Entry::Tried {
+            rank: Rank(rank),
+            call,
+            types: types(kind),
+        },
+        Looked(server, rank, call) => Entry::Looked {
+            server: Server(server),
+            rank: Rank(rank),
+            call,
+        },
+        NoCurrent(rank, call) => Entry::NoCurrent {
+            rank: Rank(rank),
+            call,
+        },
+        Done(rank, call) => Entry::Done {
+            rank: Rank(rank),
+            call,
+        },
+        Over(rank, call, end) => Entry::Over {
+            rank: Rank(rank),
+            call,
+            end,
+        },
+        Finished(rank, call) => Entry::Finished {
+            rank: Rank(rank),
+            call,
+        },
+        _ => Entry::Exhausted,
+    }
 }
 
 // A ledger that is written with one edit.
@@ -29,238 +277,69 @@ struct Writer {
 }
 
 impl Writer {
-    fn write(&mut self, entry: Entry) -> Result<(), NoMemory> {
+    fn push(&mut self, row: Row) -> Result<(), NoMemory> {
+        let entry = entry(self.alloc, row)?;
+        self.ledger.push(entry)
+    }
+
+    fn write(&mut self, row: Row) -> Result<(), NoMemory> {
         let at = self.at;
         self.at = at.saturating_add(1);
         if at != self.place {
-            return self.ledger.push(entry);
+            return self.push(row);
         }
-        match mem::replace(&mut self.edit, Edit::Keep) {
-            Edit::Keep => self.ledger.push(entry),
-            Edit::Remove => Ok(()),
-            Edit::Set(other) => self.ledger.push(other),
-            Edit::Insert(other) => {
-                self.ledger.push(other)?;
-                self.ledger.push(entry)
+        match self.edit {
+            Edit::Keep => self.push(row),
+            Remove => Ok(()),
+            Set(other) => self.push(other),
+            Insert(other) => {
+                self.push(other)?;
+                self.push(row)
             }
         }
     }
 
-    fn put(&mut self, rank: u32, call: u64, body: &[u8]) -> Result<(), NoMemory> {
-        let entry = put(self.alloc, rank, call, body)?;
-        self.write(entry)
+    fn write_all(&mut self, rows: &[Row]) -> Result<(), NoMemory> {
+        for row in rows {
+            self.write(*row)?;
+        }
+        Ok(())
     }
 
+    // What is to be inserted behind the last row.
     fn end(&mut self) -> Result<(), NoMemory> {
-        match mem::replace(&mut self.edit, Edit::Keep) {
-            Edit::Insert(other) => self.ledger.push(other),
+        match self.edit {
+            Insert(other) if self.at <= self.place => self.push(other),
             _ => Ok(()),
         }
     }
-}
 
-fn unit(rank: u32, number: u64) -> UnitId {
-    UnitId {
-        rank: Rank(rank),
-        number,
+    fn write_base(&mut self, base: Base) -> Result<(), NoMemory> {
+        match base {
+            Base::Long => self.write_long()?,
+            _ => self.write_all(rows(base))?,
+        }
+        self.end()
     }
-}
 
-fn batch(rank: u32, number: u64) -> BatchId {
-    BatchId {
-        rank: Rank(rank),
-        number,
-    }
-}
-
-fn only(kind: u32) -> Types {
-    match Types::list(&[WorkType(kind)]) {
-        Ok(types) => types,
-        Err(_) => Types::any(),
-    }
-}
-
-fn put(alloc: Global, rank: u32, call: u64, body: &[u8]) -> Result<Entry, NoMemory> {
-    Ok(Entry::Putting {
-        rank: Rank(rank),
-        call,
-        kind: WorkType(1),
-        prio: 0,
-        target: Target::Any,
-        answer: None,
-        body: Payload::copy(alloc, body)?,
-    })
-}
-
-fn put_for(alloc: Global, rank: u32) -> Result<Entry, NoMemory> {
-    put_as(alloc, 0, 1, Target::Only(Rank(rank)))
-}
-
-// Rank 0 puts a unit of this type for this target.
-fn put_as(alloc: Global, call: u64, kind: u32, target: Target) -> Result<Entry, NoMemory> {
-    Ok(Entry::Putting {
-        rank: Rank(0),
-        call,
-        kind: WorkType(kind),
-        prio: 0,
-        target,
-        answer: None,
-        body: Payload::copy(alloc, b"")?,
-    })
-}
-
-fn refused(server: u32, id: UnitId, used: u64) -> Entry {
-    Entry::Refused {
-        server: Server(server),
-        id,
-        used,
-    }
-}
-
-fn accepted(server: u32, id: UnitId) -> Entry {
-    Entry::Accepted {
-        server: Server(server),
-        id,
-    }
-}
-
-fn rejected(rank: u32, call: u64) -> Entry {
-    Entry::Rejected {
-        rank: Rank(rank),
-        call,
-    }
-}
-
-fn asked(rank: u32, call: u64, types: Types) -> Entry {
-    Entry::Asked {
-        rank: Rank(rank),
-        call,
-        types,
-    }
-}
-
-fn tried(rank: u32, call: u64) -> Entry {
-    tried_for(rank, call, Types::any())
-}
-
-fn tried_for(rank: u32, call: u64, types: Types) -> Entry {
-    Entry::Tried {
-        rank: Rank(rank),
-        call,
-        types,
-    }
-}
-
-fn granted(server: u32, rank: u32, call: u64, id: UnitId) -> Entry {
-    Entry::Granted {
-        server: Server(server),
-        rank: Rank(rank),
-        call,
-        id,
-    }
-}
-
-fn looked(server: u32, rank: u32, call: u64) -> Entry {
-    Entry::Looked {
-        server: Server(server),
-        rank: Rank(rank),
-        call,
-    }
-}
-
-fn no_current(rank: u32, call: u64) -> Entry {
-    Entry::NoCurrent {
-        rank: Rank(rank),
-        call,
-    }
-}
-
-fn fetching(rank: u32, call: u64, id: UnitId) -> Entry {
-    Entry::Fetching {
-        rank: Rank(rank),
-        call,
-        id,
-    }
-}
-
-fn fetched(server: u32, rank: u32, id: UnitId) -> Entry {
-    Entry::Fetched {
-        server: Server(server),
-        rank: Rank(rank),
-        id,
-    }
-}
-
-fn common_fetched(server: u32, rank: u32, batch: BatchId) -> Entry {
-    Entry::CommonFetched {
-        server: Server(server),
-        rank: Rank(rank),
-        batch,
-    }
-}
-
-fn freed(server: u32, batch: BatchId) -> Entry {
-    Entry::Freed {
-        server: Server(server),
-        batch,
-    }
-}
-
-fn promised(server: u32, id: UnitId, length: u32) -> Entry {
-    Entry::Promised {
-        server: Server(server),
-        id,
-        length,
-    }
-}
-
-fn left(server: u32, to: u32, id: UnitId) -> Entry {
-    Entry::Left {
-        server: Server(server),
-        to: Server(to),
-        id,
-    }
-}
-
-fn arrived(server: u32, id: UnitId) -> Entry {
-    Entry::Arrived {
-        server: Server(server),
-        id,
-    }
-}
-
-fn withdrawn(server: u32, id: UnitId) -> Entry {
-    Entry::Withdrawn {
-        server: Server(server),
-        id,
-    }
-}
-
-fn counted(top: i32) -> Entry {
-    Entry::Counted {
-        server: Server(0),
-        rank: Rank(0),
-        call: 3,
-        info: Info {
-            free: 2,
-            top: Some(top),
-            at_top: 2,
-        },
-    }
-}
-
-fn over(rank: u32, call: u64, end: End) -> Entry {
-    Entry::Over {
-        rank: Rank(rank),
-        call,
-        end,
-    }
-}
-
-fn finished(rank: u32, call: u64) -> Entry {
-    Entry::Finished {
-        rank: Rank(rank),
-        call,
+    // Rank 0 puts units at two servers, rank 1 gets them all, and then nothing is left to do.
+    fn write_long(&mut self) -> Result<(), NoMemory> {
+        for call in 0..UNITS {
+            self.write_all(&[
+                Putting(0, call, b"x"),
+                Accepted((call % 2) as u32, (0, call)),
+            ])?;
+        }
+        for call in 0..UNITS {
+            let server = (call % 2) as u32;
+            self.write_all(&[
+                Asked(1, 2 * call, None),
+                Granted(server, 1, 2 * call, (0, call)),
+                Fetching(1, 2 * call + 1, (0, call)),
+                Fetched(server, 1, (0, call)),
+            ])?;
+        }
+        self.write_all(&LONG_END)
     }
 }
 
@@ -304,256 +383,212 @@ fn numbers(base: Base) -> (u32, u32, u64) {
     }
 }
 
-fn write_base(base: Base, to: &mut Writer) -> Result<(), NoMemory> {
+// The rows of a ledger; of the long one those behind its units.
+fn rows(base: Base) -> &'static [Row] {
     match base {
-        Base::FullServers => full_servers(to),
-        Base::GotElsewhere => got_elsewhere(to),
-        Base::Pushed => pushed(to),
-        Base::PushedWithRoom => pushed(to),
-        Base::Tries => tries(to),
-        Base::GrantedOnce => granted_once(to),
-        Base::BatchOfTwo => batch_of_two(to),
-        Base::BatchOnTwo => batch_of_two(to),
-        Base::DoneCalled => done_called(to),
-        Base::CancelledPush => cancelled_push(to),
-        Base::Shelves => shelves(to),
-        Base::SoftTargets => soft_targets(to),
-        Base::PushedBack => pushed_back(to),
-        Base::Long => long(to),
+        Base::FullServers => &FULL_SERVERS,
+        Base::GotElsewhere => &GOT_ELSEWHERE,
+        Base::Pushed | Base::PushedWithRoom => &PUSHED,
+        Base::Tries => &TRIES,
+        Base::GrantedOnce => &GRANTED_ONCE,
+        Base::BatchOfTwo | Base::BatchOnTwo => &BATCH_OF_TWO,
+        Base::DoneCalled => &DONE_CALLED,
+        Base::CancelledPush => &CANCELLED_PUSH,
+        Base::Shelves => &SHELVES,
+        Base::SoftTargets => &SOFT_TARGETS,
+        Base::PushedBack => &PUSHED_BACK,
+        Base::Long => &LONG_END,
     }
 }
 
 // One rank fills three servers, and the next unit is rejected.
-fn full_servers(to: &mut Writer) -> Result<(), NoMemory> {
-    to.put(0, 0, &[0; 56])?;
-    to.write(accepted(0, unit(0, 0)))?;
-    to.put(0, 1, &[0; 56])?;
-    to.write(accepted(1, unit(0, 1)))?;
-    to.put(0, 2, &[0; 56])?;
-    to.write(accepted(2, unit(0, 2)))?;
-    to.put(0, 3, &[0; 9])?;
-    to.write(refused(0, unit(0, 3), 56))?;
-    to.write(refused(1, unit(0, 3), 56))?;
-    to.write(refused(2, unit(0, 3), 56))?;
-    to.write(rejected(0, 3))
-}
+const FULL_SERVERS: [Row; 11] = [
+    Putting(0, 0, &[0; 56]),
+    Accepted(0, (0, 0)),
+    Putting(0, 1, &[0; 56]),
+    Accepted(1, (0, 1)),
+    Putting(0, 2, &[0; 56]),
+    Accepted(2, (0, 2)),
+    Putting(0, 3, &[0; 9]),
+    Refused(0, (0, 3), 56),
+    Refused(1, (0, 3), 56),
+    Refused(2, (0, 3), 56),
+    Rejected(0, 3),
+];
 
 // Rank 1 gets the unit that rank 0 puts at another server, and rank 0 tries in vain.
-fn got_elsewhere(to: &mut Writer) -> Result<(), NoMemory> {
-    to.write(asked(1, 0, Types::any()))?;
-    to.put(0, 0, b"hello")?;
-    to.write(accepted(0, unit(0, 0)))?;
-    to.write(granted(0, 1, 0, unit(0, 0)))?;
-    to.write(tried(0, 1))?;
-    to.write(looked(0, 0, 1))?;
-    to.write(looked(1, 0, 1))?;
-    to.write(no_current(0, 1))
-}
+const GOT_ELSEWHERE: [Row; 8] = [
+    Asked(1, 0, None),
+    Putting(0, 0, b"hello"),
+    Accepted(0, (0, 0)),
+    Granted(0, 1, 0, (0, 0)),
+    Tried(0, 1, None),
+    Looked(0, 0, 1),
+    Looked(1, 0, 1),
+    NoCurrent(0, 1),
+];
 
 // A unit is pushed while both ranks ask for another type, and then nothing is left to do.
-fn pushed(to: &mut Writer) -> Result<(), NoMemory> {
-    to.write(asked(0, 0, only(2)))?;
-    to.put(1, 0, &[0; 60])?;
-    to.write(accepted(1, unit(1, 0)))?;
-    to.write(asked(1, 1, only(2)))?;
-    to.write(promised(0, unit(1, 0), 60))?;
-    to.write(left(1, 0, unit(1, 0)))?;
-    to.write(arrived(0, unit(1, 0)))?;
-    to.write(Entry::Exhausted)?;
-    to.write(over(0, 0, End::Exhausted))?;
-    to.write(over(1, 1, End::Exhausted))
-}
+const PUSHED: [Row; 10] = [
+    Asked(0, 0, Some(2)),
+    Putting(1, 0, &[0; 60]),
+    Accepted(1, (1, 0)),
+    Asked(1, 1, Some(2)),
+    Promised(0, (1, 0), 60),
+    Left(1, 0, (1, 0)),
+    Arrived(0, (1, 0)),
+    Exhausted,
+    Over(0, 0, End::Exhausted),
+    Over(1, 1, End::Exhausted),
+];
 
 // Three servers have nothing; after the problem is done a try and a put are told so.
-fn tries(to: &mut Writer) -> Result<(), NoMemory> {
-    to.write(tried(0, 0))?;
-    to.write(looked(0, 0, 0))?;
-    to.write(looked(1, 0, 0))?;
-    to.write(looked(2, 0, 0))?;
-    to.write(no_current(0, 0))?;
-    to.write(Entry::Done {
-        rank: Rank(0),
-        call: 1,
-    })?;
-    to.write(tried(0, 2))?;
-    to.write(over(0, 2, End::NoMoreWork))?;
-    to.put(0, 3, b"")?;
-    to.write(over(0, 3, End::NoMoreWork))
-}
+const TRIES: [Row; 10] = [
+    Tried(0, 0, None),
+    Looked(0, 0, 0),
+    Looked(1, 0, 0),
+    Looked(2, 0, 0),
+    NoCurrent(0, 0),
+    Done(0, 1),
+    Tried(0, 2, None),
+    Over(0, 2, End::NoMoreWork),
+    Putting(0, 3, b""),
+    Over(0, 3, End::NoMoreWork),
+];
 
 // A unit is granted to rank 0, and rank 1 asks.
-fn granted_once(to: &mut Writer) -> Result<(), NoMemory> {
-    to.put(0, 0, b"ab")?;
-    to.write(accepted(0, unit(0, 0)))?;
-    to.write(asked(0, 1, Types::any()))?;
-    to.write(granted(0, 0, 1, unit(0, 0)))?;
-    to.write(asked(1, 0, Types::any()))
-}
+const GRANTED_ONCE: [Row; 5] = [
+    Putting(0, 0, b"ab"),
+    Accepted(0, (0, 0)),
+    Asked(0, 1, None),
+    Granted(0, 0, 1, (0, 0)),
+    Asked(1, 0, None),
+];
 
 // A batch of two units, counted and fetched.
-fn batch_of_two(to: &mut Writer) -> Result<(), NoMemory> {
-    let common = Payload::copy(to.alloc, b"xy")?;
-    to.write(Entry::Keeping {
-        rank: Rank(0),
-        call: 0,
-        common,
-    })?;
-    to.write(Entry::Kept {
-        server: Server(0),
-        batch: batch(0, 0),
-    })?;
-    to.put(0, 1, b"a")?;
-    to.write(accepted(0, unit(0, 1)))?;
-    to.put(0, 2, b"b")?;
-    to.write(accepted(0, unit(0, 2)))?;
-    to.write(Entry::Counting {
-        rank: Rank(0),
-        call: 3,
-        kind: WorkType(1),
-    })?;
-    to.write(counted(0))?;
-    to.write(Entry::Closing {
-        rank: Rank(0),
-        call: 4,
-    })?;
-    to.write(Entry::Closed {
-        server: Server(0),
-        batch: batch(0, 0),
-    })?;
-    fetched_both(to)
-}
-
-fn fetched_both(to: &mut Writer) -> Result<(), NoMemory> {
-    to.write(asked(0, 5, Types::any()))?;
-    to.write(granted(0, 0, 5, unit(0, 1)))?;
-    to.write(fetching(0, 6, unit(0, 1)))?;
-    to.write(fetched(0, 0, unit(0, 1)))?;
-    to.write(common_fetched(0, 0, batch(0, 0)))?;
-    to.write(asked(0, 7, Types::any()))?;
-    to.write(granted(0, 0, 7, unit(0, 2)))?;
-    to.write(fetching(0, 8, unit(0, 2)))?;
-    to.write(fetched(0, 0, unit(0, 2)))?;
-    to.write(common_fetched(0, 0, batch(0, 0)))?;
-    to.write(freed(0, batch(0, 0)))
-}
+const BATCH_OF_TWO: [Row; 21] = [
+    Keeping(0),
+    Kept,
+    Putting(0, 1, b"a"),
+    Accepted(0, (0, 1)),
+    Putting(0, 2, b"b"),
+    Accepted(0, (0, 2)),
+    Counting,
+    Counted(0),
+    Closing(4),
+    Closed,
+    Asked(0, 5, None),
+    Granted(0, 0, 5, (0, 1)),
+    Fetching(0, 6, (0, 1)),
+    Fetched(0, 0, (0, 1)),
+    CommonFetched(0),
+    Asked(0, 7, None),
+    Granted(0, 0, 7, (0, 2)),
+    Fetching(0, 8, (0, 2)),
+    Fetched(0, 0, (0, 2)),
+    CommonFetched(0),
+    Freed,
+];
 
 // Rank 0 calls the problem done, and all are told so.
-fn done_called(to: &mut Writer) -> Result<(), NoMemory> {
-    to.write(asked(1, 0, Types::any()))?;
-    to.write(Entry::Done {
-        rank: Rank(0),
-        call: 0,
-    })?;
-    to.write(over(1, 0, End::NoMoreWork))?;
-    to.put(0, 1, b"")?;
-    to.write(over(0, 1, End::NoMoreWork))?;
-    to.write(asked(0, 2, Types::any()))?;
-    to.write(over(0, 2, End::NoMoreWork))
-}
+const DONE_CALLED: [Row; 7] = [
+    Asked(1, 0, None),
+    Done(0, 0),
+    Over(1, 0, End::NoMoreWork),
+    Putting(0, 1, b""),
+    Over(0, 1, End::NoMoreWork),
+    Asked(0, 2, None),
+    Over(0, 2, End::NoMoreWork),
+];
 
 // A unit is granted where it is while another server has promised room for it.
-fn cancelled_push(to: &mut Writer) -> Result<(), NoMemory> {
-    to.put(0, 0, &[0; 60])?;
-    to.write(accepted(0, unit(0, 0)))?;
-    to.write(promised(1, unit(0, 0), 60))?;
-    to.write(asked(0, 1, Types::any()))?;
-    to.write(granted(0, 0, 1, unit(0, 0)))?;
-    to.write(withdrawn(1, unit(0, 0)))?;
-    to.put(1, 0, &[0; 65])?;
-    to.write(refused(1, unit(1, 0), 0))?;
-    to.write(refused(0, unit(1, 0), 60))?;
-    to.write(rejected(1, 0))
-}
+const CANCELLED_PUSH: [Row; 10] = [
+    Putting(0, 0, &[0; 60]),
+    Accepted(0, (0, 0)),
+    Promised(1, (0, 0), 60),
+    Asked(0, 1, None),
+    Granted(0, 0, 1, (0, 0)),
+    Withdrawn(1, (0, 0)),
+    Putting(1, 0, &[0; 65]),
+    Refused(1, (1, 0), 0),
+    Refused(0, (1, 0), 60),
+    Rejected(1, 0),
+];
 
 // A unit for rank 1 alone and one of another type are looked past, and then granted.
-fn shelves(to: &mut Writer) -> Result<(), NoMemory> {
-    let first = put_as(to.alloc, 0, 1, Target::Only(Rank(1)))?;
-    to.write(first)?;
-    to.write(accepted(0, unit(0, 0)))?;
-    let second = put_as(to.alloc, 1, 2, Target::Any)?;
-    to.write(second)?;
-    to.write(accepted(0, unit(0, 1)))?;
-    to.write(tried_for(0, 2, only(1)))?;
-    to.write(looked(0, 0, 2))?;
-    to.write(looked(1, 0, 2))?;
-    to.write(no_current(0, 2))?;
-    to.write(tried_for(1, 0, only(1)))?;
-    to.write(granted(0, 1, 0, unit(0, 0)))?;
-    to.write(tried_for(2, 0, only(1)))?;
-    to.write(looked(0, 2, 0))?;
-    to.write(looked(1, 2, 0))?;
-    to.write(no_current(2, 0))?;
-    to.write(tried(2, 1))?;
-    to.write(granted(0, 2, 1, unit(0, 1)))?;
-    to.write(tried(1, 1))?;
-    to.write(looked(0, 1, 1))
-}
+const SHELVES: [Row; 18] = [
+    PuttingFor(0, 1, Target::Only(Rank(1))),
+    Accepted(0, (0, 0)),
+    PuttingFor(1, 2, Target::Any),
+    Accepted(0, (0, 1)),
+    Tried(0, 2, Some(1)),
+    Looked(0, 0, 2),
+    Looked(1, 0, 2),
+    NoCurrent(0, 2),
+    Tried(1, 0, Some(1)),
+    Granted(0, 1, 0, (0, 0)),
+    Tried(2, 0, Some(1)),
+    Looked(0, 2, 0),
+    Looked(1, 2, 0),
+    NoCurrent(2, 0),
+    Tried(2, 1, None),
+    Granted(0, 2, 1, (0, 1)),
+    Tried(1, 1, None),
+    Looked(0, 1, 1),
+];
 
 // Of two units for rank 1 before others, rank 2 gets the first, and rank 0 looks for another type and then for any.
-fn soft_targets(to: &mut Writer) -> Result<(), NoMemory> {
-    let first = put_as(to.alloc, 0, 1, Target::Soft(Rank(1)))?;
-    to.write(first)?;
-    to.write(accepted(0, unit(0, 0)))?;
-    to.write(tried_for(2, 0, only(1)))?;
-    to.write(granted(0, 2, 0, unit(0, 0)))?;
-    let second = put_as(to.alloc, 1, 1, Target::Soft(Rank(1)))?;
-    to.write(second)?;
-    to.write(accepted(0, unit(0, 1)))?;
-    to.write(tried_for(0, 2, only(2)))?;
-    to.write(looked(0, 0, 2))?;
-    to.write(looked(1, 0, 2))?;
-    to.write(no_current(0, 2))?;
-    to.write(tried(1, 0))?;
-    to.write(granted(0, 1, 0, unit(0, 1)))?;
-    to.write(tried(0, 3))?;
-    to.write(looked(0, 0, 3))?;
-    to.write(looked(1, 0, 3))?;
-    to.write(no_current(0, 3))
-}
+const SOFT_TARGETS: [Row; 16] = [
+    PuttingFor(0, 1, Target::Soft(Rank(1))),
+    Accepted(0, (0, 0)),
+    Tried(2, 0, Some(1)),
+    Granted(0, 2, 0, (0, 0)),
+    PuttingFor(1, 1, Target::Soft(Rank(1))),
+    Accepted(0, (0, 1)),
+    Tried(0, 2, Some(2)),
+    Looked(0, 0, 2),
+    Looked(1, 0, 2),
+    NoCurrent(0, 2),
+    Tried(1, 0, None),
+    Granted(0, 1, 0, (0, 1)),
+    Tried(0, 3, None),
+    Looked(0, 0, 3),
+    Looked(1, 0, 3),
+    NoCurrent(0, 3),
+];
 
 // A unit is promised, withdrawn, promised again, pushed, and pushed back.
-fn pushed_back(to: &mut Writer) -> Result<(), NoMemory> {
-    to.put(0, 0, &[0; 60])?;
-    to.write(accepted(0, unit(0, 0)))?;
-    to.write(promised(1, unit(0, 0), 60))?;
-    to.write(withdrawn(1, unit(0, 0)))?;
-    to.write(promised(1, unit(0, 0), 60))?;
-    to.write(left(0, 1, unit(0, 0)))?;
-    to.write(arrived(1, unit(0, 0)))?;
-    to.write(promised(0, unit(0, 0), 60))?;
-    to.write(left(1, 0, unit(0, 0)))?;
-    to.write(arrived(0, unit(0, 0)))?;
-    to.write(asked(0, 1, Types::any()))?;
-    to.write(granted(0, 0, 1, unit(0, 0)))?;
-    to.put(1, 0, &[0; 65])?;
-    to.write(refused(1, unit(1, 0), 0))?;
-    to.write(refused(0, unit(1, 0), 60))?;
-    to.write(rejected(1, 0))
-}
+const PUSHED_BACK: [Row; 16] = [
+    Putting(0, 0, &[0; 60]),
+    Accepted(0, (0, 0)),
+    Promised(1, (0, 0), 60),
+    Withdrawn(1, (0, 0)),
+    Promised(1, (0, 0), 60),
+    Left(0, 1, (0, 0)),
+    Arrived(1, (0, 0)),
+    Promised(0, (0, 0), 60),
+    Left(1, 0, (0, 0)),
+    Arrived(0, (0, 0)),
+    Asked(0, 1, None),
+    Granted(0, 0, 1, (0, 0)),
+    Putting(1, 0, &[0; 65]),
+    Refused(1, (1, 0), 0),
+    Refused(0, (1, 0), 60),
+    Rejected(1, 0),
+];
 
 const UNITS: u64 = 2000;
 
-// Rank 0 puts units at two servers, rank 1 gets them all, and then nothing is left to do.
-fn long(to: &mut Writer) -> Result<(), NoMemory> {
-    for call in 0..UNITS {
-        to.put(0, call, b"x")?;
-        to.write(accepted((call % 2) as u32, unit(0, call)))?;
-    }
-    for call in 0..UNITS {
-        let server = (call % 2) as u32;
-        to.write(asked(1, 2 * call, Types::any()))?;
-        to.write(granted(server, 1, 2 * call, unit(0, call)))?;
-        to.write(fetching(1, 2 * call + 1, unit(0, call)))?;
-        to.write(fetched(server, 1, unit(0, call)))?;
-    }
-    to.write(asked(0, UNITS, Types::any()))?;
-    to.write(asked(1, 2 * UNITS, Types::any()))?;
-    to.write(Entry::Exhausted)?;
-    to.write(over(0, UNITS, End::Exhausted))?;
-    to.write(over(1, 2 * UNITS, End::Exhausted))?;
-    to.write(finished(0, UNITS + 1))?;
-    to.write(finished(1, 2 * UNITS + 1))
-}
+// How the long ledger ends: both ranks ask in vain, and finish.
+const LONG_END: [Row; 7] = [
+    Asked(0, UNITS, None),
+    Asked(1, 2 * UNITS, None),
+    Exhausted,
+    Over(0, UNITS, End::Exhausted),
+    Over(1, 2 * UNITS, End::Exhausted),
+    Finished(0, UNITS + 1),
+    Finished(1, 2 * UNITS + 1),
+];
 
 // Where the ledger with this edit is illegal first.
 fn found(alloc: Global, base: Base, place: u64, edit: Edit) -> Result<Option<u64>, Fail> {
@@ -564,16 +599,26 @@ fn found(alloc: Global, base: Base, place: u64, edit: Edit) -> Result<Option<u64
         place,
         edit,
     };
-    write_base(base, &mut writer)?;
-    writer.end()?;
-    let (ranks, servers, limit) = numbers(base);
-    let config = Config::new(ranks, servers, limit)?;
-    Ok(first_illegal(alloc, &writer.ledger, &config)?)
+    writer.write_base(base)?;
+    judged(alloc, &writer.ledger, base)
 }
 
-// It is illegal first at this place.
-fn fails(alloc: Global, base: Base, place: u64, edit: Edit, first: u64) -> Result<bool, Fail> {
-    Ok(found(alloc, base, place, edit)? == Some(first))
+// Where the ledger is illegal first in the run of this base.
+fn judged(alloc: Global, ledger: &Ledger, base: Base) -> Result<Option<u64>, Fail> {
+    let (ranks, servers, limit) = numbers(base);
+    let config = Config::new(ranks, servers, limit)?;
+    Ok(first_illegal(alloc, ledger, &config)?)
+}
+
+// A ledger, the place of the edit and the edit, and the place where the ledger is then illegal first.
+type Mutant = (Base, u64, Edit, u64);
+
+fn check(rt: &impl Abort, alloc: Global, mutants: &[Mutant]) -> Result<(), Fail> {
+    for (at, (base, place, edit, first)) in mutants.iter().enumerate() {
+        let found = found(alloc, *base, *place, *edit)?;
+        assert_eq!(rt; found, Some(*first), "mutant {at}");
+    }
+    Ok(())
 }
 
 #[test]
@@ -597,177 +642,182 @@ fn small_ledgers_are_legal(rt: HostRuntime) -> Result<(), Fail> {
     Ok(())
 }
 
+// A grant twice; for another target; for another type; by another server; in another call.
+const GRANTS: [Mutant; 5] = [
+    (Base::GrantedOnce, 5, Insert(Granted(0, 1, 0, (0, 0))), 5),
+    (
+        Base::GotElsewhere,
+        1,
+        Set(PuttingFor(0, 1, Target::Only(Rank(0)))),
+        3,
+    ),
+    (Base::GotElsewhere, 0, Set(Asked(1, 0, Some(2))), 3),
+    (Base::GotElsewhere, 3, Set(Granted(1, 1, 0, (0, 0))), 3),
+    (Base::GotElsewhere, 3, Set(Granted(0, 1, 1, (0, 0))), 3),
+];
+
 #[test]
 fn grants_are_checked(rt: HostRuntime) -> Result<(), Fail> {
-    let alloc = rt.alloc();
-    let twice = granted(0, 1, 0, unit(0, 0));
-    assert!(rt; fails(alloc, Base::GrantedOnce, 5, Edit::Insert(twice), 5)?);
-    let other_target = put_for(alloc, 0)?;
-    assert!(rt; fails(alloc, Base::GotElsewhere, 1, Edit::Set(other_target), 3)?);
-    let other_type = asked(1, 0, only(2));
-    assert!(rt; fails(alloc, Base::GotElsewhere, 0, Edit::Set(other_type), 3)?);
-    let other_server = granted(1, 1, 0, unit(0, 0));
-    assert!(rt; fails(alloc, Base::GotElsewhere, 3, Edit::Set(other_server), 3)?);
-    let other_call = granted(0, 1, 1, unit(0, 0));
-    assert!(rt; fails(alloc, Base::GotElsewhere, 3, Edit::Set(other_call), 3)?);
-    Ok(())
+    check(&rt, rt.alloc(), &GRANTS)
 }
+
+// No refusal; one twice; one by another charge; a unit that fits; one that is too long.
+const PUTS: [Mutant; 5] = [
+    (Base::FullServers, 8, Remove, 9),
+    (Base::FullServers, 8, Set(Refused(0, (0, 3), 56)), 8),
+    (Base::FullServers, 8, Set(Refused(1, (0, 3), 57)), 8),
+    (Base::FullServers, 6, Set(Putting(0, 3, &[0; 8])), 7),
+    (Base::FullServers, 7, Set(Accepted(0, (0, 3))), 7),
+];
 
 #[test]
 fn puts_are_checked(rt: HostRuntime) -> Result<(), Fail> {
-    let alloc = rt.alloc();
-    assert!(rt; fails(alloc, Base::FullServers, 8, Edit::Remove, 9)?);
-    let twice = refused(0, unit(0, 3), 56);
-    assert!(rt; fails(alloc, Base::FullServers, 8, Edit::Set(twice), 8)?);
-    let other_charge = refused(1, unit(0, 3), 57);
-    assert!(rt; fails(alloc, Base::FullServers, 8, Edit::Set(other_charge), 8)?);
-    let fitting = put(alloc, 0, 3, &[0; 8])?;
-    assert!(rt; fails(alloc, Base::FullServers, 6, Edit::Set(fitting), 7)?);
-    let too_long = accepted(0, unit(0, 3));
-    assert!(rt; fails(alloc, Base::FullServers, 7, Edit::Set(too_long), 7)?);
-    Ok(())
+    check(&rt, rt.alloc(), &PUTS)
 }
+
+const IN_VAIN: [Mutant; 5] = [
+    (Base::GotElsewhere, 5, Remove, 6),
+    (Base::GotElsewhere, 3, Remove, 4),
+    (Base::GotElsewhere, 5, Set(Looked(2, 0, 1)), 5),
+    (Base::GotElsewhere, 4, Set(Tried(2, 0, None)), 4),
+    (Base::GotElsewhere, 4, Set(Tried(0, 2, None)), 4),
+];
 
 #[test]
 fn tries_are_checked(rt: HostRuntime) -> Result<(), Fail> {
-    let alloc = rt.alloc();
-    assert!(rt; fails(alloc, Base::GotElsewhere, 5, Edit::Remove, 6)?);
-    assert!(rt; fails(alloc, Base::GotElsewhere, 3, Edit::Remove, 4)?);
-    assert!(rt; fails(alloc, Base::GotElsewhere, 5, Edit::Set(looked(2, 0, 1)), 5)?);
-    assert!(rt; fails(alloc, Base::GotElsewhere, 4, Edit::Set(tried(2, 0)), 4)?);
-    assert!(rt; fails(alloc, Base::GotElsewhere, 4, Edit::Set(tried(0, 2)), 4)?);
-    Ok(())
+    check(&rt, rt.alloc(), &IN_VAIN)
 }
+
+// The common part is freed early; a rank asks while a fetch is due; no fetch of the unit; the common part is fetched
+// elsewhere; another count; a rank finishes while its batch goes on.
+const BATCHES: [Mutant; 6] = [
+    (Base::BatchOfTwo, 15, Insert(Freed), 15),
+    (Base::BatchOfTwo, 20, Set(Asked(0, 9, None)), 20),
+    (Base::BatchOfTwo, 13, Remove, 13),
+    (Base::BatchOnTwo, 14, Set(CommonFetched(1)), 14),
+    (Base::BatchOfTwo, 7, Set(Counted(1)), 7),
+    (Base::BatchOfTwo, 8, Set(Finished(0, 4)), 8),
+];
 
 #[test]
 fn batches_are_checked(rt: HostRuntime) -> Result<(), Fail> {
-    let alloc = rt.alloc();
-    let early = freed(0, batch(0, 0));
-    assert!(rt; fails(alloc, Base::BatchOfTwo, 15, Edit::Insert(early), 15)?);
-    let while_due = asked(0, 9, Types::any());
-    assert!(rt; fails(alloc, Base::BatchOfTwo, 20, Edit::Set(while_due), 20)?);
-    assert!(rt; fails(alloc, Base::BatchOfTwo, 13, Edit::Remove, 13)?);
-    let elsewhere = common_fetched(1, 0, batch(0, 0));
-    assert!(rt; fails(alloc, Base::BatchOnTwo, 14, Edit::Set(elsewhere), 14)?);
-    assert!(rt; fails(alloc, Base::BatchOfTwo, 7, Edit::Set(counted(1)), 7)?);
-    assert!(rt; fails(alloc, Base::BatchOfTwo, 8, Edit::Set(finished(0, 4)), 8)?);
-    Ok(())
+    check(&rt, rt.alloc(), &BATCHES)
 }
+
+// The last has another end.
+const EXHAUSTIONS: [Mutant; 7] = [
+    (Base::Pushed, 6, Insert(Exhausted), 6),
+    (Base::Pushed, 5, Insert(Exhausted), 5),
+    (Base::Pushed, 4, Insert(Exhausted), 8),
+    (Base::Pushed, 0, Set(Asked(0, 0, Some(1))), 7),
+    (Base::Pushed, 3, Remove, 6),
+    (Base::Pushed, 7, Remove, 7),
+    (Base::Tries, 7, Set(Over(0, 2, End::Exhausted)), 7),
+];
 
 #[test]
 fn exhaustion_is_checked(rt: HostRuntime) -> Result<(), Fail> {
-    let alloc = rt.alloc();
-    assert!(rt; fails(alloc, Base::Pushed, 6, Edit::Insert(Entry::Exhausted), 6)?);
-    assert!(rt; fails(alloc, Base::Pushed, 5, Edit::Insert(Entry::Exhausted), 5)?);
-    assert!(rt; fails(alloc, Base::Pushed, 4, Edit::Insert(Entry::Exhausted), 8)?);
-    assert!(rt; fails(alloc, Base::Pushed, 0, Edit::Set(asked(0, 0, only(1))), 7)?);
-    assert!(rt; fails(alloc, Base::Pushed, 3, Edit::Remove, 6)?);
-    assert!(rt; fails(alloc, Base::Pushed, 7, Edit::Remove, 7)?);
-    let other_end = over(0, 2, End::Exhausted);
-    assert!(rt; fails(alloc, Base::Tries, 7, Edit::Set(other_end), 7)?);
-    Ok(())
+    check(&rt, rt.alloc(), &EXHAUSTIONS)
 }
+
+// A promise where the unit is; none; a promise withdrawn while the unit travels; one that still stands; a pinned unit left
+// out; a fetch by another rank.
+const PUSHES: [Mutant; 6] = [
+    (Base::PushedWithRoom, 4, Set(Promised(1, (1, 0), 60)), 4),
+    (Base::Pushed, 4, Remove, 4),
+    (Base::Pushed, 6, Set(Withdrawn(0, (1, 0))), 6),
+    (Base::CancelledPush, 7, Set(Refused(1, (1, 0), 60)), 7),
+    (Base::CancelledPush, 8, Set(Refused(0, (1, 0), 0)), 8),
+    (Base::GrantedOnce, 4, Set(Fetching(1, 0, (0, 0))), 4),
+];
 
 #[test]
 fn pushes_are_checked(rt: HostRuntime) -> Result<(), Fail> {
-    let alloc = rt.alloc();
-    let here = promised(1, unit(1, 0), 60);
-    assert!(rt; fails(alloc, Base::PushedWithRoom, 4, Edit::Set(here), 4)?);
-    assert!(rt; fails(alloc, Base::Pushed, 4, Edit::Remove, 4)?);
-    let while_travelling = withdrawn(0, unit(1, 0));
-    assert!(rt; fails(alloc, Base::Pushed, 6, Edit::Set(while_travelling), 6)?);
-    let still_promised = refused(1, unit(1, 0), 60);
-    assert!(rt; fails(alloc, Base::CancelledPush, 7, Edit::Set(still_promised), 7)?);
-    let pinned_left_out = refused(0, unit(1, 0), 0);
-    assert!(rt; fails(alloc, Base::CancelledPush, 8, Edit::Set(pinned_left_out), 8)?);
-    let by_another_rank = fetching(1, 0, unit(0, 0));
-    assert!(rt; fails(alloc, Base::GrantedOnce, 4, Edit::Set(by_another_rank), 4)?);
-    Ok(())
+    check(&rt, rt.alloc(), &PUSHES)
 }
+
+// A unit for the rank itself; one for any; one of the type that is wanted; and looks at other units than those wanted.
+const LOOKS: [Mutant; 7] = [
+    (
+        Base::Shelves,
+        0,
+        Set(PuttingFor(0, 1, Target::Only(Rank(0)))),
+        5,
+    ),
+    (Base::Shelves, 0, Set(PuttingFor(0, 1, Target::Any)), 5),
+    (Base::Shelves, 2, Set(PuttingFor(1, 1, Target::Any)), 5),
+    (Base::Shelves, 4, Set(Tried(0, 2, None)), 5),
+    (Base::Shelves, 9, Set(Looked(0, 1, 0)), 9),
+    (Base::Shelves, 10, Set(Tried(2, 0, None)), 11),
+    (Base::Shelves, 15, Set(Looked(0, 2, 1)), 15),
+];
 
 #[test]
 fn looks_go_by_type_and_target(rt: HostRuntime) -> Result<(), Fail> {
-    let alloc = rt.alloc();
-    let for_the_rank = put_for(alloc, 0)?;
-    assert!(rt; fails(alloc, Base::Shelves, 0, Edit::Set(for_the_rank), 5)?);
-    let for_any = put_as(alloc, 0, 1, Target::Any)?;
-    assert!(rt; fails(alloc, Base::Shelves, 0, Edit::Set(for_any), 5)?);
-    let wanted = put_as(alloc, 1, 1, Target::Any)?;
-    assert!(rt; fails(alloc, Base::Shelves, 2, Edit::Set(wanted), 5)?);
-    assert!(rt; fails(alloc, Base::Shelves, 4, Edit::Set(tried(0, 2)), 5)?);
-    assert!(rt; fails(alloc, Base::Shelves, 9, Edit::Set(looked(0, 1, 0)), 9)?);
-    assert!(rt; fails(alloc, Base::Shelves, 10, Edit::Set(tried(2, 0)), 11)?);
-    assert!(rt; fails(alloc, Base::Shelves, 15, Edit::Set(looked(0, 2, 1)), 15)?);
-    Ok(())
+    check(&rt, rt.alloc(), &LOOKS)
 }
+
+// The second is for rank 1 alone, and the third of the type of the unit.
+const SOFT: [Mutant; 5] = [
+    (Base::SoftTargets, 3, Set(Looked(0, 2, 0)), 3),
+    (
+        Base::SoftTargets,
+        0,
+        Set(PuttingFor(0, 1, Target::Only(Rank(1)))),
+        3,
+    ),
+    (Base::SoftTargets, 6, Set(Tried(0, 2, Some(1))), 7),
+    (Base::SoftTargets, 6, Set(Tried(0, 2, None)), 7),
+    (Base::SoftTargets, 11, Remove, 12),
+];
 
 #[test]
 fn soft_targets_let_each_rank_have_the_unit(rt: HostRuntime) -> Result<(), Fail> {
-    let alloc = rt.alloc();
-    assert!(rt; fails(alloc, Base::SoftTargets, 3, Edit::Set(looked(0, 2, 0)), 3)?);
-    let for_rank_one_alone = put_as(alloc, 0, 1, Target::Only(Rank(1)))?;
-    assert!(rt;
-        fails(
-            alloc,
-            Base::SoftTargets,
-            0,
-            Edit::Set(for_rank_one_alone),
-            3
-        )?
-    );
-    let of_that_type = tried_for(0, 2, only(1));
-    assert!(rt; fails(alloc, Base::SoftTargets, 6, Edit::Set(of_that_type), 7)?);
-    assert!(rt; fails(alloc, Base::SoftTargets, 6, Edit::Set(tried(0, 2)), 7)?);
-    assert!(rt; fails(alloc, Base::SoftTargets, 11, Edit::Remove, 12)?);
-    Ok(())
+    check(&rt, rt.alloc(), &SOFT)
 }
+
+// A push without its promise, twice; one from elsewhere; a withdrawal where no promise stands; no promise back; a grant
+// where the unit was; a charge that still stands, and one that counts twice.
+const PUSHES_BACK: [Mutant; 8] = [
+    (Base::PushedBack, 3, Remove, 3),
+    (Base::PushedBack, 4, Remove, 4),
+    (Base::PushedBack, 5, Set(Left(1, 0, (0, 0))), 5),
+    (Base::PushedBack, 7, Insert(Withdrawn(1, (0, 0))), 7),
+    (Base::PushedBack, 7, Remove, 7),
+    (Base::PushedBack, 11, Set(Granted(1, 0, 1, (0, 0))), 11),
+    (Base::PushedBack, 13, Set(Refused(1, (1, 0), 60)), 13),
+    (Base::PushedBack, 14, Set(Refused(0, (1, 0), 120)), 14),
+];
 
 #[test]
 fn pushes_back_are_checked(rt: HostRuntime) -> Result<(), Fail> {
-    let alloc = rt.alloc();
-    assert!(rt; fails(alloc, Base::PushedBack, 3, Edit::Remove, 3)?);
-    assert!(rt; fails(alloc, Base::PushedBack, 4, Edit::Remove, 4)?);
-    let from_elsewhere = left(1, 0, unit(0, 0));
-    assert!(rt; fails(alloc, Base::PushedBack, 5, Edit::Set(from_elsewhere), 5)?);
-    let none_stands = withdrawn(1, unit(0, 0));
-    assert!(rt; fails(alloc, Base::PushedBack, 7, Edit::Insert(none_stands), 7)?);
-    assert!(rt; fails(alloc, Base::PushedBack, 7, Edit::Remove, 7)?);
-    let where_it_was = granted(1, 0, 1, unit(0, 0));
-    assert!(rt; fails(alloc, Base::PushedBack, 11, Edit::Set(where_it_was), 11)?);
-    let still_charged = refused(1, unit(1, 0), 60);
-    assert!(rt; fails(alloc, Base::PushedBack, 13, Edit::Set(still_charged), 13)?);
-    let charged_twice = refused(0, unit(1, 0), 120);
-    assert!(rt; fails(alloc, Base::PushedBack, 14, Edit::Set(charged_twice), 14)?);
-    Ok(())
+    check(&rt, rt.alloc(), &PUSHES_BACK)
 }
+
+// The place of the last grant, and that of the last entry.
+const LAST_GRANT: u64 = 6 * UNITS - 3;
+
+const LAST: u64 = 6 * UNITS + 6;
+
+// A unit that was granted before; one that is elsewhere; no fetch; another call.
+const LONG: [Mutant; 4] = [
+    (
+        Base::Long,
+        LAST_GRANT,
+        Set(Granted(1, 1, 2 * UNITS - 2, (0, UNITS - 3))),
+        LAST_GRANT,
+    ),
+    (
+        Base::Long,
+        LAST_GRANT,
+        Set(Granted(0, 1, 2 * UNITS - 2, (0, UNITS - 1))),
+        LAST_GRANT,
+    ),
+    (Base::Long, LAST_GRANT + 2, Remove, LAST_GRANT + 3),
+    (Base::Long, LAST, Set(Finished(1, 2 * UNITS)), LAST),
+];
 
 #[test]
 fn long_ledgers_are_checked_to_their_end(rt: HostRuntime) -> Result<(), Fail> {
-    let alloc = rt.alloc();
-    let last_grant = 6 * UNITS - 3;
-    let twice = granted(1, 1, 2 * UNITS - 2, unit(0, UNITS - 3));
-    assert!(rt; fails(alloc, Base::Long, last_grant, Edit::Set(twice), last_grant)?);
-    let elsewhere = granted(0, 1, 2 * UNITS - 2, unit(0, UNITS - 1));
-    assert!(rt;
-        fails(
-            alloc,
-            Base::Long,
-            last_grant,
-            Edit::Set(elsewhere),
-            last_grant
-        )?
-    );
-    assert!(rt;
-        fails(
-            alloc,
-            Base::Long,
-            last_grant + 2,
-            Edit::Remove,
-            last_grant + 3
-        )?
-    );
-    let other_call = finished(1, 2 * UNITS);
-    let end = 6 * UNITS + 6;
-    assert!(rt; fails(alloc, Base::Long, end, Edit::Set(other_call), end)?);
-    Ok(())
+    check(&rt, rt.alloc(), &LONG)
 }

@@ -8,7 +8,8 @@ use core_run::Event;
 use core_world::World;
 use ledger_checker::first_illegal;
 use server_core::LeftUnit;
-use std::alloc::Global;
+use std::alloc::{AllocError, Global};
+use std::fmt::Write;
 use std::test::Fail;
 
 // An event. A letter is handled by the rank or the server of the second number, from that of the first.
@@ -628,64 +629,61 @@ fn a_server(number: u32) -> Actor {
 }
 
 // The rank of an entry, or its server, and of a grant both; of a refusal the charge.
-fn row(alloc: Global, entry: &Entry) -> Result<String, Fail> {
-    Ok(match entry {
-        Entry::Putting { rank, .. } => format!(in alloc; "putting {}; ", rank.0)?,
-        Entry::Asked { rank, .. } => format!(in alloc; "asked {}; ", rank.0)?,
-        Entry::Accepted { server, .. } => format!(in alloc; "accepted {}; ", server.0)?,
+fn add_row(rows: &mut String, entry: &Entry) -> Result<(), AllocError> {
+    match entry {
+        Entry::Putting { rank, .. } => write!(rows, "putting {}; ", rank.0),
+        Entry::Asked { rank, .. } => write!(rows, "asked {}; ", rank.0),
+        Entry::Accepted { server, .. } => write!(rows, "accepted {}; ", server.0),
         Entry::Granted { server, rank, .. } => {
-            format!(in alloc; "granted {} to {}; ", server.0, rank.0)?
+            write!(rows, "granted {} to {}; ", server.0, rank.0)
         }
-        Entry::Fetching { rank, .. } => format!(in alloc; "fetching {}; ", rank.0)?,
-        Entry::Fetched { server, .. } => format!(in alloc; "fetched {}; ", server.0)?,
-        Entry::Refused { server, used, .. } => {
-            format!(in alloc; "refused {} by {used}; ", server.0)?
-        }
-        Entry::Rejected { rank, .. } => format!(in alloc; "rejected {}; ", rank.0)?,
-        Entry::Tried { rank, .. } => format!(in alloc; "tried {}; ", rank.0)?,
-        Entry::Looked { server, .. } => format!(in alloc; "looked {}; ", server.0)?,
-        Entry::NoCurrent { rank, .. } => format!(in alloc; "no current {}; ", rank.0)?,
-        moving => moving_row(alloc, moving)?,
-    })
+        Entry::Fetching { rank, .. } => write!(rows, "fetching {}; ", rank.0),
+        Entry::Fetched { server, .. } => write!(rows, "fetched {}; ", server.0),
+        Entry::Refused { server, used, .. } => write!(rows, "refused {} by {used}; ", server.0),
+        Entry::Rejected { rank, .. } => write!(rows, "rejected {}; ", rank.0),
+        Entry::Tried { rank, .. } => write!(rows, "tried {}; ", rank.0),
+        Entry::Looked { server, .. } => write!(rows, "looked {}; ", server.0),
+        Entry::NoCurrent { rank, .. } => write!(rows, "no current {}; ", rank.0),
+        moving => add_moving_row(rows, moving),
+    }
 }
 
 // Of a unit that moves, the server, and where it goes.
-fn moving_row(alloc: Global, entry: &Entry) -> Result<String, Fail> {
-    Ok(match entry {
-        Entry::Promised { server, .. } => format!(in alloc; "promised {}; ", server.0)?,
-        Entry::Left { server, to, .. } => format!(in alloc; "left {} to {}; ", server.0, to.0)?,
-        Entry::Arrived { server, .. } => format!(in alloc; "arrived {}; ", server.0)?,
-        Entry::Withdrawn { server, .. } => format!(in alloc; "withdrawn {}; ", server.0)?,
-        ending => ending_row(alloc, ending)?,
-    })
+fn add_moving_row(rows: &mut String, entry: &Entry) -> Result<(), AllocError> {
+    match entry {
+        Entry::Promised { server, .. } => write!(rows, "promised {}; ", server.0),
+        Entry::Left { server, to, .. } => write!(rows, "left {} to {}; ", server.0, to.0),
+        Entry::Arrived { server, .. } => write!(rows, "arrived {}; ", server.0),
+        Entry::Withdrawn { server, .. } => write!(rows, "withdrawn {}; ", server.0),
+        ending => add_ending_row(rows, ending),
+    }
 }
 
 // Of what ends calls and runs, the rank, and of an end which one it is.
-fn ending_row(alloc: Global, entry: &Entry) -> Result<String, Fail> {
-    Ok(match entry {
-        Entry::Done { rank, .. } => format!(in alloc; "done {}; ", rank.0)?,
-        Entry::Exhausted => format!(in alloc; "exhausted; ")?,
+fn add_ending_row(rows: &mut String, entry: &Entry) -> Result<(), AllocError> {
+    match entry {
+        Entry::Done { rank, .. } => write!(rows, "done {}; ", rank.0),
+        Entry::Exhausted => write!(rows, "exhausted; "),
         Entry::Over {
             rank,
             end: End::Exhausted,
             ..
-        } => format!(in alloc; "used up {}; ", rank.0)?,
+        } => write!(rows, "used up {}; ", rank.0),
         Entry::Over {
             rank,
             end: End::NoMoreWork,
             ..
-        } => format!(in alloc; "no more {}; ", rank.0)?,
-        Entry::Finished { rank, .. } => format!(in alloc; "finished {}; ", rank.0)?,
-        _ => format!(in alloc; "another entry; ")?,
-    })
+        } => write!(rows, "no more {}; ", rank.0),
+        Entry::Finished { rank, .. } => write!(rows, "finished {}; ", rank.0),
+        _ => write!(rows, "another entry; "),
+    }
 }
 
-fn rows(alloc: Global, entries: &[Entry]) -> Result<String, Fail> {
-    let mut rows = String::new(alloc);
+fn add_rows(rows: &mut String, entries: &[Entry]) -> Result<(), Fail> {
     for entry in entries {
-        rows.push_str(row(alloc, entry)?.as_str())?;
+        add_row(rows, entry)?;
     }
-    Ok(rows)
+    Ok(())
 }
 
 // How many letters are under way in the world.
@@ -704,23 +702,47 @@ fn letters(world: &World, ranks: u32, servers: u32) -> u64 {
     letters
 }
 
+// The place of the first event that the world refuses, and none once all have happened.
+fn refused_at(alloc: Global, world: &mut World, events: &[Does]) -> Result<Option<usize>, Fail> {
+    for (at, does) in events.iter().enumerate() {
+        if world.apply(event(alloc, *does)?).is_err() {
+            return Ok(Some(at));
+        }
+    }
+    Ok(None)
+}
+
+// The ledger of the world, if it is legal, and the letters that are under way.
+fn left_by(alloc: Global, world: &World, config: Config) -> Result<String, Fail> {
+    if first_illegal(alloc, world.ledger(), &config) != Ok(None) {
+        return Err("an illegal ledger".into());
+    }
+    let mut rows = String::new(alloc);
+    add_rows(&mut rows, world.ledger().entries())?;
+    let letters = letters(world, config.ranks, config.servers);
+    Ok(format!(in alloc; "{rows}{letters}")?)
+}
+
+// What these events leave in the world, if all can happen.
+fn played(
+    alloc: Global,
+    world: &mut World,
+    config: Config,
+    events: &[Does],
+) -> Result<String, Fail> {
+    match refused_at(alloc, world, events)? {
+        Some(at) => Ok(format!(in alloc; "event {at} was refused")?),
+        None => left_by(alloc, world, config),
+    }
+}
+
 // The ledger of a scene, if it is legal, and the letters that are under way at its end.
 fn shown(alloc: Global, scene: &Scene) -> Result<String, Fail> {
     let Ok(config) = Config::new(scene.ranks, scene.servers, 64) else {
         return Err("no configuration".into());
     };
     let mut world = World::new(alloc, config)?;
-    for (at, does) in scene.events.iter().enumerate() {
-        if world.apply(event(alloc, *does)?).is_err() {
-            return Ok(format!(in alloc; "event {at} was refused")?);
-        }
-    }
-    if first_illegal(alloc, world.ledger(), &config) != Ok(None) {
-        return Err("an illegal ledger".into());
-    }
-    let rows = rows(alloc, world.ledger().entries())?;
-    let letters = letters(&world, scene.ranks, scene.servers);
-    Ok(format!(in alloc; "{rows}{letters}")?)
+    played(alloc, &mut world, config, scene.events)
 }
 
 // Where all work is found used up while a unit is left: at server 0, not pinned, and nothing at server 1.
@@ -742,12 +764,28 @@ impl Stepped {
         Ok(())
     }
 
+    fn go_through(&mut self, alloc: Global, events: &[Does]) -> Result<(), Fail> {
+        for does in events {
+            self.apply(event(alloc, *does)?)?;
+        }
+        Ok(())
+    }
+
     // The units at the server of this number.
     fn left(&self, number: u32) -> Result<Vec<LeftUnit>, Fail> {
         if number >= self.config.servers {
             return Err("no such server".into());
         }
         Ok(self.world.left(Server(number))?)
+    }
+
+    // So many units are at the server of this number, each one of rank 1, at server 0 and not pinned.
+    fn has_left(&self, number: u32, count: usize) -> Result<bool, Fail> {
+        let left = self.left(number)?;
+        let are_as_put = left.iter().all(|unit| unit.id.rank.0 == 1
+            && unit.server.0 == 0
+            && unit.pinned.is_none());
+        Ok(left.len() == count && are_as_put)
     }
 }
 
@@ -760,15 +798,8 @@ fn what_is_left_is_told(rt: HostRuntime) -> Result<(), Fail> {
         world: World::new(rt.alloc(), config)?,
         config,
     };
-    for does in SCENES[LEFT].events {
-        stepped.apply(event(rt.alloc(), *does)?)?;
-    }
-    let first = stepped.left(0)?;
-    let second = stepped.left(1)?;
-    assert!(rt; first.len() == 1 && second.is_empty());
-    assert!(rt;
-        first.iter().all(|unit| unit.id.rank.0 == 1 && unit.server.0 == 0 && unit.pinned.is_none())
-    );
+    stepped.go_through(rt.alloc(), SCENES[LEFT].events)?;
+    assert!(rt; stepped.has_left(0, 1)? && stepped.has_left(1, 0)?);
     Ok(())
 }
 

@@ -38,24 +38,30 @@ struct GoingRun {
 /// The world in which nothing is enabled any more, after events that this number chooses, and in which each server has ended.
 pub(crate) fn driven(alloc: Global, config: Config, number: u64) -> Result<World, Fail> {
     let mut run = GoingRun {
+        begun: vec![in alloc; 0; config.ranks as usize]?,
         world: World::new(alloc, config)?,
         config,
-        begun: vec![in alloc; 0; config.ranks as usize]?,
         words: Words::new(number),
     };
-    for _ in 0..EVENTS {
-        if !run.goes_on(alloc)? {
-            return if run.all_have_ended() {
-                Ok(run.world)
-            } else {
-                Err("a server has not ended".into())
-            };
-        }
-    }
-    Err("the run goes on".into())
+    run.goes_to_its_end(alloc)?;
+    Ok(run.world)
 }
 
 impl GoingRun {
+    // Events until nothing is enabled, when each server has ended.
+    fn goes_to_its_end(&mut self, alloc: Global) -> Result<(), Fail> {
+        for _ in 0..EVENTS {
+            if !self.goes_on(alloc)? {
+                return if self.all_have_ended() {
+                    Ok(())
+                } else {
+                    Err("a server has not ended".into())
+                };
+            }
+        }
+        Err("the run goes on".into())
+    }
+
     // One event more; none if nothing is enabled.
     fn goes_on(&mut self, alloc: Global) -> Result<bool, Fail> {
         let Some(event) = self.choose(alloc)? else {
@@ -69,20 +75,35 @@ impl GoingRun {
 
     // One of the events that are enabled; none if there is none.
     fn choose(&mut self, alloc: Global) -> Result<Option<Event>, Fail> {
-        let choices = self.choices(alloc)?;
-        match choices.get(self.words.place(choices.len())) {
+        match self.chosen(alloc)? {
             None => Ok(None),
-            Some(Choice::Delivers(from, to)) => Ok(Some(Event::Deliver(*from, *to))),
+            Some(Choice::Delivers(from, to)) => Ok(Some(Event::Deliver(from, to))),
             Some(Choice::Calls(rank)) => {
-                let call = self.next_call(alloc, *rank)?;
-                Ok(Some(Event::Call(*rank, call)))
+                let call = self.next_call(alloc, rank)?;
+                Ok(Some(Event::Call(rank, call)))
             }
         }
     }
 
-    // All that can happen: each list of letters gives its front, and each rank that awaits no answer calls.
+    fn chosen(&mut self, alloc: Global) -> Result<Option<Choice>, Fail> {
+        let choices = self.choices(alloc)?;
+        Ok(choices.get(self.words.place(choices.len())).copied())
+    }
+
+    // All that can happen.
     fn choices(&self, alloc: Global) -> Result<Vec<Choice>, Fail> {
         let mut choices = Vec::new(alloc);
+        self.add_all(&mut choices)?;
+        Ok(choices)
+    }
+
+    fn add_all(&self, choices: &mut Vec<Choice>) -> Result<(), Fail> {
+        self.add_deliveries(choices)?;
+        self.add_calls(choices)
+    }
+
+    // Each list of letters gives its front.
+    fn add_deliveries(&self, choices: &mut Vec<Choice>) -> Result<(), Fail> {
         let actors = self.config.ranks + self.config.servers;
         for place in 0..actors * actors {
             let from = self.actor(place / actors.max(1));
@@ -91,12 +112,17 @@ impl GoingRun {
                 choices.push(Choice::Delivers(from, to))?;
             }
         }
+        Ok(())
+    }
+
+    // Each rank that awaits no answer calls.
+    fn add_calls(&self, choices: &mut Vec<Choice>) -> Result<(), Fail> {
         for number in 0..self.config.ranks {
             if self.may_call(Rank(number)) {
                 choices.push(Choice::Calls(Rank(number)))?;
             }
         }
-        Ok(choices)
+        Ok(())
     }
 
     // Each server is shut, and has handled each rank's Finish letter.
@@ -143,17 +169,27 @@ impl GoingRun {
         if rank.0 >= self.config.ranks {
             return Err("no such rank".into());
         }
-        let begun = self.begun.get_mut(rank.0 as usize).ok_or("no such rank")?;
-        let made = *begun;
-        *begun = made.saturating_add(1);
+        let at_random = may_begin(&mut self.begun, rank);
         let said = self.world.transcript(rank);
         let open = self.world.batch_open(rank);
         let ended = is_ended(said);
-        if made < CALLS && !ended {
+        if at_random && !ended {
             call(alloc, &mut self.words, self.config, said, open)
         } else {
             Ok(last_call(ended, open))
         }
+    }
+}
+
+// One more call of the rank is begun, which is one of those at random.
+fn may_begin(begun: &mut [u64], rank: Rank) -> bool {
+    match begun.get_mut(rank.0 as usize) {
+        Some(count) => {
+            let made = *count;
+            *count = made.saturating_add(1);
+            made < CALLS
+        }
+        None => false,
     }
 }
 

@@ -401,8 +401,18 @@ fn play(
 {
     let config = Config::new(ranks, servers, 64)?;
     let mut server = ServerState::new(alloc, config, Server(me))?;
+    go_through(rt, alloc, &mut server, scene)
+}
+
+// The server gives what stands beside each line.
+fn go_through(
+    rt: &impl Abort,
+    alloc: Global,
+    server: &mut ServerState,
+    scene: &[(Line, &str)],
+) -> Result<(), Fail> {
     for (at, (line, expected)) in scene.iter().enumerate() {
-        let given = shown(alloc, &mut server, *line)?;
+        let given = shown(alloc, server, *line)?;
         assert_eq!(rt; given.as_str(), *expected, "line {at}");
     }
     Ok(())
@@ -410,7 +420,7 @@ fn play(
 
 #[test]
 fn accepts_until_it_is_full(rt: HostRuntime) -> Result<(), Fail> {
-    let scene = [
+    const SCENE: &[(Line, &str)] = &[
         (
             Line::Hears(0, Says::Put(0, 0, 60, Target::Any)),
             ACCEPTS_FIRST,
@@ -422,12 +432,12 @@ fn accepts_until_it_is_full(rt: HostRuntime) -> Result<(), Fail> {
                 [Refused { server: Server(0), id: UnitId { rank: Rank(0), number: 1 }, used: 60 }]",
         ),
     ];
-    play(&rt, rt.alloc(), 1, 1, 0, &scene)
+    play(&rt, rt.alloc(), 1, 1, 0, SCENE)
 }
 
 #[test]
 fn grants_and_then_is_exhausted(rt: HostRuntime) -> Result<(), Fail> {
-    let scene = [
+    const SCENE: &[(Line, &str)] = &[
         (
             Line::Hears(0, Says::Put(0, 0, 2, Target::Any)),
             ACCEPTS_FIRST,
@@ -445,12 +455,12 @@ fn grants_and_then_is_exhausted(rt: HostRuntime) -> Result<(), Fail> {
                 [Exhausted, Over { rank: Rank(0), call: 2, end: Exhausted }]",
         ),
     ];
-    play(&rt, rt.alloc(), 1, 1, 0, &scene)
+    play(&rt, rt.alloc(), 1, 1, 0, SCENE)
 }
 
 #[test]
 fn counts_what_is_free_of_a_type(rt: HostRuntime) -> Result<(), Fail> {
-    let scene = [
+    const SCENE: &[(Line, &str)] = &[
         (
             Line::Hears(0, Says::Put(0, 0, 2, Target::Any)),
             ACCEPTS_FIRST,
@@ -472,12 +482,12 @@ fn counts_what_is_free_of_a_type(rt: HostRuntime) -> Result<(), Fail> {
                 info: Info { free: 1, top: Some(3), at_top: 1 } }]",
         ),
     ];
-    play(&rt, rt.alloc(), 1, 1, 0, &scene)
+    play(&rt, rt.alloc(), 1, 1, 0, SCENE)
 }
 
 #[test]
 fn expects_a_count_of_a_rank_that_runs_at_its_home(rt: HostRuntime) -> Result<(), Fail> {
-    let home = [
+    const HOME: &[(Line, &str)] = &[
         (Line::Expects(RANK, Says::Count(0, 5)), "yes"),
         (
             Line::Answers(RANK, Says::Reserve(0)),
@@ -485,14 +495,14 @@ fn expects_a_count_of_a_rank_that_runs_at_its_home(rt: HostRuntime) -> Result<()
         ),
         (Line::Expects(RANK, Says::Count(0, 5)), "no"),
     ];
-    play(&rt, rt.alloc(), 1, 2, 0, &home)?;
-    let other = [(Line::Expects(RANK, Says::Count(0, 5)), "no")];
-    play(&rt, rt.alloc(), 1, 2, 1, &other)
+    play(&rt, rt.alloc(), 1, 2, 0, HOME)?;
+    const OTHER: &[(Line, &str)] = &[(Line::Expects(RANK, Says::Count(0, 5)), "no")];
+    play(&rt, rt.alloc(), 1, 2, 1, OTHER)
 }
 
 #[test]
 fn looks_for_a_unit_that_is_free(rt: HostRuntime) -> Result<(), Fail> {
-    let scene = [
+    const SCENE: &[(Line, &str)] = &[
         (Line::Hears(0, Says::Try(0, 5)), LOOKS_FIRST),
         (
             Line::Hears(0, Says::Put(0, 1, 2, Target::Any)),
@@ -515,12 +525,12 @@ fn looks_for_a_unit_that_is_free(rt: HostRuntime) -> Result<(), Fail> {
                 [Granted { server: Server(0), rank: Rank(0), call: 3, id: UnitId { rank: Rank(0), number: 1 } }]",
         ),
     ];
-    play(&rt, rt.alloc(), 1, 1, 0, &scene)
+    play(&rt, rt.alloc(), 1, 1, 0, SCENE)
 }
 
 #[test]
 fn looks_for_each_rank_at_each_server(rt: HostRuntime) -> Result<(), Fail> {
-    let scene = [
+    const SCENE: &[(Line, &str)] = &[
         (Line::Expects(RANK, Says::Try(0, 5)), "yes"),
         (Line::Expects(Actor::Rank(Rank(1)), Says::Try(0, 5)), "no"),
         (
@@ -528,12 +538,12 @@ fn looks_for_each_rank_at_each_server(rt: HostRuntime) -> Result<(), Fail> {
             "no",
         ),
     ];
-    play(&rt, rt.alloc(), 1, 2, 1, &scene)
+    play(&rt, rt.alloc(), 1, 2, 1, SCENE)
 }
 
 #[test]
 fn finishing_shuts_the_server(rt: HostRuntime) -> Result<(), Fail> {
-    let scene = [
+    const SCENE: &[(Line, &str)] = &[
         (
             Line::Hears(0, Says::Put(0, 0, 2, Target::Any)),
             ACCEPTS_FIRST,
@@ -543,12 +553,12 @@ fn finishing_shuts_the_server(rt: HostRuntime) -> Result<(), Fail> {
         (Line::HasEnded, "yes"),
         (Line::Broken, "None"),
     ];
-    play(&rt, rt.alloc(), 1, 1, 0, &scene)
+    play(&rt, rt.alloc(), 1, 1, 0, SCENE)
 }
 
 #[test]
 fn one_of_several_waits_and_is_not_shut(rt: HostRuntime) -> Result<(), Fail> {
-    let home = [
+    const HOME: &[(Line, &str)] = &[
         (Line::IsQuiet, "no"),
         (
             Line::Answers(RANK, Says::Reserve(0)),
@@ -562,8 +572,8 @@ fn one_of_several_waits_and_is_not_shut(rt: HostRuntime) -> Result<(), Fail> {
         ),
         (Line::IsQuiet, "yes"),
     ];
-    play(&rt, rt.alloc(), 1, 2, 0, &home)?;
-    let other = [
+    play(&rt, rt.alloc(), 1, 2, 0, HOME)?;
+    const OTHER: &[(Line, &str)] = &[
         (Line::IsQuiet, "yes"),
         (Line::Expects(RANK, Says::Reserve(1)), "no"),
         (
@@ -572,25 +582,25 @@ fn one_of_several_waits_and_is_not_shut(rt: HostRuntime) -> Result<(), Fail> {
         ),
         (Line::HasEnded, "no"),
     ];
-    play(&rt, rt.alloc(), 1, 2, 1, &other)
+    play(&rt, rt.alloc(), 1, 2, 1, OTHER)
 }
 
 #[test]
 fn expects_a_put_of_a_new_unit(rt: HostRuntime) -> Result<(), Fail> {
-    let most = 1 << 20;
-    let scene = [
+    const MOST: usize = 1 << 20;
+    const SCENE: &[(Line, &str)] = &[
         (
             Line::Hears(0, Says::Put(0, 0, 2, Target::Any)),
             ACCEPTS_FIRST,
         ),
         (
-            Line::Expects(RANK, Says::Put(0, 1, most, Target::Only(Rank(0)))),
+            Line::Expects(RANK, Says::Put(0, 1, MOST, Target::Only(Rank(0)))),
             "yes",
         ),
         (Line::Expects(RANK, Says::Put(0, 0, 2, Target::Any)), "no"),
         (Line::Expects(RANK, Says::Put(1, 1, 2, Target::Any)), "no"),
         (
-            Line::Expects(RANK, Says::Put(0, 1, most + 1, Target::Any)),
+            Line::Expects(RANK, Says::Put(0, 1, MOST + 1, Target::Any)),
             "no",
         ),
         (
@@ -598,12 +608,12 @@ fn expects_a_put_of_a_new_unit(rt: HostRuntime) -> Result<(), Fail> {
             "no",
         ),
     ];
-    play(&rt, rt.alloc(), 1, 1, 0, &scene)
+    play(&rt, rt.alloc(), 1, 1, 0, SCENE)
 }
 
 #[test]
 fn expects_each_letter_by_its_row(rt: HostRuntime) -> Result<(), Fail> {
-    let scene = [
+    const SCENE: &[(Line, &str)] = &[
         (
             Line::Hears(0, Says::Put(0, 0, 2, Target::Any)),
             ACCEPTS_FIRST,
@@ -620,12 +630,12 @@ fn expects_each_letter_by_its_row(rt: HostRuntime) -> Result<(), Fail> {
         (Line::Hears(0, Says::Finish), "3 [] []"),
         (Line::Expects(RANK, Says::Finish), "no"),
     ];
-    play(&rt, rt.alloc(), 1, 1, 0, &scene)
+    play(&rt, rt.alloc(), 1, 1, 0, SCENE)
 }
 
 #[test]
 fn gives_a_unit_to_one_that_waits(rt: HostRuntime) -> Result<(), Fail> {
-    let scene = [
+    const SCENE: &[(Line, &str)] = &[
         (Line::Hears(1, Says::Reserve(0)), "1 [] []"),
         (Line::Hears(0, Says::Reserve(0)), "2 [] []"),
         (Line::IsQuiet, "no"),
@@ -654,12 +664,12 @@ fn gives_a_unit_to_one_that_waits(rt: HostRuntime) -> Result<(), Fail> {
                 id: UnitId { rank: Rank(2), number: 1 } }]",
         ),
     ];
-    play(&rt, rt.alloc(), 3, 1, 0, &scene)
+    play(&rt, rt.alloc(), 3, 1, 0, SCENE)
 }
 
 #[test]
 fn tells_the_end_in_arrival_order(rt: HostRuntime) -> Result<(), Fail> {
-    let scene = [
+    const SCENE: &[(Line, &str)] = &[
         (
             Line::Hears(0, Says::Put(0, 0, 1, Target::Only(Rank(0)))),
             ACCEPTS_FIRST,
@@ -684,12 +694,12 @@ fn tells_the_end_in_arrival_order(rt: HostRuntime) -> Result<(), Fail> {
                 Over { rank: Rank(0), call: 2, end: Exhausted }]",
         ),
     ];
-    play(&rt, rt.alloc(), 2, 1, 0, &scene)
+    play(&rt, rt.alloc(), 2, 1, 0, SCENE)
 }
 
 #[test]
 fn a_rank_finishes_while_another_waits(rt: HostRuntime) -> Result<(), Fail> {
-    let scene = [
+    const SCENE: &[(Line, &str)] = &[
         (Line::Hears(0, Says::Reserve(0)), "1 [] []"),
         (Line::Expects(RANK, Says::Finish), "no"),
         (
@@ -702,12 +712,12 @@ fn a_rank_finishes_while_another_waits(rt: HostRuntime) -> Result<(), Fail> {
         (Line::Hears(0, Says::Finish), "3 [] []"),
         (Line::HasEnded, "yes"),
     ];
-    play(&rt, rt.alloc(), 2, 1, 0, &scene)
+    play(&rt, rt.alloc(), 2, 1, 0, SCENE)
 }
 
 #[test]
 fn frees_a_part_after_its_last_fetch(rt: HostRuntime) -> Result<(), Fail> {
-    let scene = [
+    const SCENE: &[(Line, &str)] = &[
         (Line::Hears(0, Says::Keep(0, 2)), KEEPS_FIRST),
         (Line::Expects(RANK, Says::Keep(0, 2)), "no"),
         (
@@ -735,12 +745,12 @@ fn frees_a_part_after_its_last_fetch(rt: HostRuntime) -> Result<(), Fail> {
         ),
         (Line::Expects(RANK, Says::Share(2, 0)), "no"),
     ];
-    play(&rt, rt.alloc(), 2, 1, 0, &scene)
+    play(&rt, rt.alloc(), 2, 1, 0, SCENE)
 }
 
 #[test]
 fn keeps_parts_as_there_is_room(rt: HostRuntime) -> Result<(), Fail> {
-    let scene = [
+    const SCENE: &[(Line, &str)] = &[
         (Line::Hears(0, Says::Keep(0, 60)), KEEPS_FIRST),
         (
             Line::Hears(0, Says::Keep(1, 5)),
@@ -766,12 +776,12 @@ fn keeps_parts_as_there_is_room(rt: HostRuntime) -> Result<(), Fail> {
                 [Kept { server: Server(0), batch: BatchId { rank: Rank(0), number: 3 } }]",
         ),
     ];
-    play(&rt, rt.alloc(), 2, 1, 0, &scene)
+    play(&rt, rt.alloc(), 2, 1, 0, SCENE)
 }
 
 #[test]
 fn asks_until_a_server_grants(rt: HostRuntime) -> Result<(), Fail> {
-    let home = [
+    const HOME: &[(Line, &str)] = &[
         (
             Line::Answers(RANK, Says::Reserve(0)),
             "1, Server(Server(1)) 0 ask 0 0 []",
@@ -807,12 +817,12 @@ fn asks_until_a_server_grants(rt: HostRuntime) -> Result<(), Fail> {
         (Line::Expects(RANK, Says::Fetch(1)), "no"),
         (Line::Expects(RANK, Says::Finish), "yes"),
     ];
-    play(&rt, rt.alloc(), 3, 3, 0, &home)
+    play(&rt, rt.alloc(), 3, 3, 0, HOME)
 }
 
 #[test]
 fn keeps_a_wish_and_hints(rt: HostRuntime) -> Result<(), Fail> {
-    let other = [
+    const OTHER: &[(Line, &str)] = &[
         // Only another server asks, for a rank whose home it is.
         (
             Line::Expects(Actor::Server(Server(0)), Says::Ask(0, 0)),
@@ -846,12 +856,12 @@ fn keeps_a_wish_and_hints(rt: HostRuntime) -> Result<(), Fail> {
                 [Granted { server: Server(0), rank: Rank(2), call: 4, id: UnitId { rank: Rank(0), number: 0 } }]",
         ),
     ];
-    play(&rt, rt.alloc(), 3, 3, 0, &other)
+    play(&rt, rt.alloc(), 3, 3, 0, OTHER)
 }
 
 #[test]
 fn a_cancelled_push_gives_its_promise_back(rt: HostRuntime) -> Result<(), Fail> {
-    let home = [
+    const HOME: &[(Line, &str)] = &[
         (
             Line::Answers(RANK, Says::Put(0, 0, 60, Target::Any)),
             "1, Rank(Rank(0)) 0 accepted 0, Server(Server(1)) 0 query 0 0 of 60 \
@@ -889,8 +899,8 @@ fn a_cancelled_push_gives_its_promise_back(rt: HostRuntime) -> Result<(), Fail> 
                 [Refused { server: Server(0), id: UnitId { rank: Rank(1), number: 0 }, used: 0 }]",
         ),
     ];
-    play(&rt, rt.alloc(), 2, 2, 0, &home)?;
-    let other = [
+    play(&rt, rt.alloc(), 2, 2, 0, HOME)?;
+    const OTHER: &[(Line, &str)] = &[
         (
             Line::Answers(SERVER_0, Says::PushQuery(0, 0, 60)),
             "1, Server(Server(0)) 0 yes 0 0 \
@@ -918,12 +928,12 @@ fn a_cancelled_push_gives_its_promise_back(rt: HostRuntime) -> Result<(), Fail> 
                 [Refused { server: Server(1), id: UnitId { rank: Rank(1), number: 0 }, used: 0 }]",
         ),
     ];
-    play(&rt, rt.alloc(), 2, 2, 1, &other)
+    play(&rt, rt.alloc(), 2, 2, 1, OTHER)
 }
 
 #[test]
 fn pushes_go_to_the_other_servers_in_turn(rt: HostRuntime) -> Result<(), Fail> {
-    let scene = [
+    const SCENE: &[(Line, &str)] = &[
         (
             Line::Answers(RANK, Says::Put(0, 0, 57, Target::Any)),
             "1, Rank(Rank(0)) 0 accepted 0, Server(Server(0)) 0 query 0 0 of 57 \
@@ -950,12 +960,12 @@ fn pushes_go_to_the_other_servers_in_turn(rt: HostRuntime) -> Result<(), Fail> {
                 [Accepted { server: Server(2), id: UnitId { rank: Rank(0), number: 2 } }]",
         ),
     ];
-    play(&rt, rt.alloc(), 3, 3, 2, &scene)
+    play(&rt, rt.alloc(), 3, 3, 2, SCENE)
 }
 
 #[test]
 fn a_push_that_is_refused_begins_again_with_the_next_put(rt: HostRuntime) -> Result<(), Fail> {
-    let home = [
+    const HOME: &[(Line, &str)] = &[
         // At 56 bytes of 64 the queue is not pressed.
         (
             Line::Answers(RANK, Says::Put(0, 0, 56, Target::Any)),
@@ -981,8 +991,8 @@ fn a_push_that_is_refused_begins_again_with_the_next_put(rt: HostRuntime) -> Res
                 [Accepted { server: Server(0), id: UnitId { rank: Rank(0), number: 3 } }]",
         ),
     ];
-    play(&rt, rt.alloc(), 2, 2, 0, &home)?;
-    let other = [
+    play(&rt, rt.alloc(), 2, 2, 0, HOME)?;
+    const OTHER: &[(Line, &str)] = &[
         (
             Line::Answers(RANK_1, Says::Put(1, 0, 9, Target::Any)),
             "1, Rank(Rank(1)) 0 accepted 0 \
@@ -995,12 +1005,12 @@ fn a_push_that_is_refused_begins_again_with_the_next_put(rt: HostRuntime) -> Res
         (Line::Expects(SERVER_0, Says::PushUnit(0, 0, 56)), "no"),
         (Line::Expects(SERVER_0, Says::PushQuery(1, 0, 9)), "no"),
     ];
-    play(&rt, rt.alloc(), 2, 2, 1, &other)
+    play(&rt, rt.alloc(), 2, 2, 1, OTHER)
 }
 
 #[test]
 fn a_unit_that_comes_is_settled_and_then_acknowledged(rt: HostRuntime) -> Result<(), Fail> {
-    let idle = [
+    const IDLE: &[(Line, &str)] = &[
         (
             Line::Answers(RANK_1, Says::Reserve(0)),
             "1, Server(Server(0)) 0 ask 1 0 []",
@@ -1021,8 +1031,8 @@ fn a_unit_that_comes_is_settled_and_then_acknowledged(rt: HostRuntime) -> Result
                 Granted { server: Server(1), rank: Rank(1), call: 0, id: UnitId { rank: Rank(0), number: 0 } }]",
         ),
     ];
-    play(&rt, rt.alloc(), 2, 2, 1, &idle)?;
-    let wished = [
+    play(&rt, rt.alloc(), 2, 2, 1, IDLE)?;
+    const WISHED: &[(Line, &str)] = &[
         (
             Line::Answers(SERVER_0, Says::Ask(0, 0)),
             "1, Server(Server(0)) 0 none 0 0 []",
@@ -1038,12 +1048,12 @@ fn a_unit_that_comes_is_settled_and_then_acknowledged(rt: HostRuntime) -> Result
                 [Arrived { server: Server(1), id: UnitId { rank: Rank(2), number: 0 } }]",
         ),
     ];
-    play(&rt, rt.alloc(), 3, 3, 1, &wished)
+    play(&rt, rt.alloc(), 3, 3, 1, WISHED)
 }
 
 #[test]
 fn who_is_idle_is_told_that_the_problem_is_done(rt: HostRuntime) -> Result<(), Fail> {
-    let scene = [
+    const SCENE: &[(Line, &str)] = &[
         (Line::Answers(RANK_1, Says::Reserve(0)), "1 []"),
         (
             Line::Answers(RANK, Says::Done(0)),
@@ -1055,12 +1065,12 @@ fn who_is_idle_is_told_that_the_problem_is_done(rt: HostRuntime) -> Result<(), F
             "3, Rank(Rank(0)) 1 ended 1 [Over { rank: Rank(0), call: 1, end: NoMoreWork }]",
         ),
     ];
-    play(&rt, rt.alloc(), 2, 1, 0, &scene)
+    play(&rt, rt.alloc(), 2, 1, 0, SCENE)
 }
 
 #[test]
 fn a_token_goes_on_where_the_server_is_quiet(rt: HostRuntime) -> Result<(), Fail> {
-    let scene = [
+    const SCENE: &[(Line, &str)] = &[
         (Line::Expects(SERVER_0, Says::Token(1, 2)), "no"),
         (
             Line::Answers(SERVER_0, Says::Token(1, 1)),
@@ -1097,12 +1107,12 @@ fn a_token_goes_on_where_the_server_is_quiet(rt: HostRuntime) -> Result<(), Fail
         (Line::Answers(SERVER_0, Says::Shutdown), "8 []"),
         (Line::HasEnded, "yes"),
     ];
-    play(&rt, rt.alloc(), 2, 2, 1, &scene)
+    play(&rt, rt.alloc(), 2, 2, 1, SCENE)
 }
 
 #[test]
 fn a_unit_is_pushed_by_one_server_and_then_by_another(rt: HostRuntime) -> Result<(), Fail> {
-    let second = [
+    const SECOND: &[(Line, &str)] = &[
         (
             Line::Answers(SERVER_0, Says::PushQuery(0, 0, 57)),
             "1, Server(Server(0)) 0 yes 0 0 \
@@ -1131,8 +1141,8 @@ fn a_unit_is_pushed_by_one_server_and_then_by_another(rt: HostRuntime) -> Result
         ),
         (Line::Expects(SERVER_2, Says::PushQuery(0, 0, 57)), "yes"),
     ];
-    play(&rt, rt.alloc(), 3, 3, 1, &second)?;
-    let third = [
+    play(&rt, rt.alloc(), 3, 3, 1, SECOND)?;
+    const THIRD: &[(Line, &str)] = &[
         (
             Line::Answers(SERVER_1, Says::PushQuery(0, 0, 57)),
             "1, Server(Server(1)) 0 yes 0 0 \
@@ -1144,5 +1154,5 @@ fn a_unit_is_pushed_by_one_server_and_then_by_another(rt: HostRuntime) -> Result
                 [Arrived { server: Server(2), id: UnitId { rank: Rank(0), number: 0 } }]",
         ),
     ];
-    play(&rt, rt.alloc(), 3, 3, 2, &third)
+    play(&rt, rt.alloc(), 3, 3, 2, THIRD)
 }

@@ -7,6 +7,7 @@ use bag_ledger::{Answer, Call, Entry, Said};
 use core_run::Event;
 use core_world::{ApplyFault, World};
 use std::alloc::Global;
+use std::fmt::Write;
 use std::process::Abort;
 use std::test::Fail;
 
@@ -78,44 +79,53 @@ enum Line<'a> {
 }
 
 fn event(alloc: Global, does: Does) -> Result<Event, Fail> {
-    Ok(match does {
-        Does::Puts(size) => Event::Call(Rank(0), put(alloc, size)?),
-        Does::PutsByte(byte) => Event::Call(Rank(0), put_of(Payload::copy(alloc, &[byte])?, 0)),
-        Does::PutsAt(prio) => Event::Call(Rank(0), put_of(Payload::copy(alloc, b"a")?, prio)),
-        Does::Begins(bytes) => Event::Call(
-            Rank(0),
-            Call::BeginBatch {
-                common: Payload::copy(alloc, &bytes)?,
-            },
-        ),
-        Does::Ends => Event::Call(Rank(0), Call::EndBatch),
-        Does::Reserves => Event::Call(
-            Rank(0),
-            Call::Reserve {
-                types: Types::any(),
-            },
-        ),
-        Does::Tries => Event::Call(
-            Rank(0),
-            Call::Try {
-                types: Types::any(),
-            },
-        ),
-        Does::Fetches(number) => Event::Call(Rank(0), fetch(number)),
-        Does::Counts(kind) => Event::Call(
-            Rank(0),
-            Call::Count {
-                kind: WorkType(kind),
-            },
-        ),
-        Does::Finishes => Event::Call(Rank(0), Call::Finish),
-        Does::Delivers(from, to) => Event::Deliver(from, to),
+    match does {
+        Does::Puts(size) => put(alloc, size),
+        Does::PutsByte(byte) => put_one(alloc, byte, 0),
+        Does::PutsAt(prio) => put_one(alloc, b'a', prio),
+        Does::Begins(bytes) => begin(alloc, &bytes),
+        Does::Ends => Ok(made(Call::EndBatch)),
+        Does::Reserves => Ok(reserve()),
+        Does::Tries => Ok(try_once()),
+        Does::Fetches(number) => Ok(fetch(number)),
+        Does::Counts(kind) => Ok(made(Call::Count {
+            kind: WorkType(kind),
+        })),
+        Does::Finishes => Ok(made(Call::Finish)),
+        Does::Delivers(from, to) => Ok(Event::Deliver(from, to)),
+    }
+}
+
+// The rank makes this call.
+fn made(call: Call) -> Event {
+    Event::Call(Rank(0), call)
+}
+
+fn put(alloc: Global, size: usize) -> Result<Event, Fail> {
+    let bytes = vec![in alloc; 7_u8; size]?;
+    Ok(made(put_of(Payload::from_vec(bytes), 0)))
+}
+
+fn put_one(alloc: Global, byte: u8, prio: i32) -> Result<Event, Fail> {
+    let body = Payload::copy(alloc, &[byte])?;
+    Ok(made(put_of(body, prio)))
+}
+
+fn begin(alloc: Global, bytes: &[u8]) -> Result<Event, Fail> {
+    let common = Payload::copy(alloc, bytes)?;
+    Ok(made(Call::BeginBatch { common }))
+}
+
+fn reserve() -> Event {
+    made(Call::Reserve {
+        types: Types::any(),
     })
 }
 
-fn put(alloc: Global, size: usize) -> Result<Call, Fail> {
-    let bytes = vec![in alloc; 7_u8; size]?;
-    Ok(put_of(Payload::from_vec(bytes), 0))
+fn try_once() -> Event {
+    made(Call::Try {
+        types: Types::any(),
+    })
 }
 
 fn put_of(body: Payload, prio: i32) -> Call {
@@ -128,21 +138,27 @@ fn put_of(body: Payload, prio: i32) -> Call {
     }
 }
 
-fn fetch(number: u64) -> Call {
-    Call::Fetch {
+fn fetch(number: u64) -> Event {
+    made(Call::Fetch {
         id: UnitId {
             rank: Rank(0),
             number,
         },
-    }
+    })
 }
 
 fn events(alloc: Global, all: &[Does]) -> Result<Vec<Event>, Fail> {
     let mut events = Vec::new(alloc);
-    for does in all {
-        events.push(event(alloc, *does)?)?;
-    }
+    add_events(alloc, &mut events, all)?;
     Ok(events)
+}
+
+fn add_events(alloc: Global, events: &mut Vec<Event>, all: &[Does]) -> Result<(), Fail> {
+    for does in all {
+        let event = event(alloc, *does)?;
+        events.push(event)?;
+    }
+    Ok(())
 }
 
 // The event is the one that was to happen.
@@ -199,11 +215,16 @@ fn part_row(entry: &Entry) -> (&'static str, u64, u32, u64) {
 
 fn rows(alloc: Global, entries: &[Entry]) -> Result<String, Fail> {
     let mut rows = String::new(alloc);
+    add_rows(&mut rows, entries)?;
+    Ok(rows)
+}
+
+fn add_rows(rows: &mut String, entries: &[Entry]) -> Result<(), Fail> {
     for entry in entries {
         let (name, call, server, bytes) = row(entry);
-        rows.push_str(format!(in alloc; "{name} {call} {server} {bytes}; ")?.as_str())?;
+        write!(rows, "{name} {call} {server} {bytes}; ")?;
     }
-    Ok(rows)
+    Ok(())
 }
 
 // The fault says that this event is not enabled.
@@ -218,23 +239,37 @@ fn applies(alloc: Global, world: &mut World, does: Does) -> Result<String, Fail>
     ensures { world.new.world.config ≡ world.old.world.config }
 {
     let event = event(alloc, does)?;
-    let told = match world.apply(event) {
+    let told = apply(world, event, does);
+    Ok(String::from_str(alloc, told)?)
+}
+
+// The event, which is this one, is applied or refused.
+fn apply(world: &mut World, event: Event, does: Does) -> &'static str
+    ensures { world.new.world.config ≡ world.old.world.config }
+{
+    match world.apply(event) {
         Ok(()) => "done",
         Err(fault) => refusal(&fault, does),
-    };
-    Ok(String::from_str(alloc, told)?)
+    }
 }
 
 fn runs(alloc: Global, world: &mut World, all: &[Does]) -> Result<String, Fail>
     ensures { world.new.world.config ≡ world.old.world.config }
 {
     let events = events(alloc, all)?;
-    let (applied, told) = match world.run_events(events) {
+    let (applied, told) = run(world, events);
+    Ok(format!(in alloc; "{applied} {told}")?)
+}
+
+// How many of the events were applied, and what came then.
+fn run(world: &mut World, events: Vec<Event>) -> (u64, &'static str)
+    ensures { world.new.world.config ≡ world.old.world.config }
+{
+    match world.run_events(events) {
         Ok(applied) => (applied, "done"),
         Err((applied, ApplyFault::NotEnabled { .. })) => (applied, "done, then refused"),
         Err((applied, _)) => (applied, "done, then another fault"),
-    };
-    Ok(format!(in alloc; "{applied} {told}")?)
+    }
 }
 
 fn left(alloc: Global, world: &World, servers: u32, number: u32) -> Result<String, Fail>
@@ -309,8 +344,22 @@ fn count(alloc: Global, number: u64) -> Result<String, Fail> {
 fn play(rt: &impl Abort, alloc: Global, servers: u32, scene: &[(Line, &str)]) -> Result<(), Fail> {
     let config = Config::new(1, servers, 64)?;
     let mut world = World::new(alloc, config)?;
+    go_through(rt, alloc, &mut world, servers, scene)
+}
+
+// The world gives what stands beside each line.
+fn go_through(
+    rt: &impl Abort,
+    alloc: Global,
+    world: &mut World,
+    servers: u32,
+    scene: &[(Line, &str)],
+) -> Result<(), Fail>
+    requires ranks { world.old.world.config.ranks ≡ 1 }
+    requires servers { world.old.world.config.servers ≡ servers }
+{
     for (at, (line, expected)) in scene.iter().enumerate() {
-        let given = shown(alloc, &mut world, servers, *line)?;
+        let given = shown(alloc, world, servers, *line)?;
         assert_eq!(rt; given.as_str(), *expected, "line {at}");
     }
     Ok(())
@@ -318,7 +367,7 @@ fn play(rt: &impl Abort, alloc: Global, servers: u32, scene: &[(Line, &str)]) ->
 
 #[test]
 fn rejects_after_every_server_refused(rt: HostRuntime) -> Result<(), Fail> {
-    let refused = [
+    const REFUSED: &[Does] = &[
         Does::Puts(9),
         Does::Delivers(RANK, FIRST),
         Does::Delivers(FIRST, RANK),
@@ -327,9 +376,9 @@ fn rejects_after_every_server_refused(rt: HostRuntime) -> Result<(), Fail> {
         Does::Delivers(RANK, THIRD),
         Does::Delivers(THIRD, RANK),
     ];
-    let scene = [
+    const SCENE: &[(Line, &str)] = &[
         (Line::Runs(&FILLS), "9 done"),
-        (Line::Runs(&refused), "7 done"),
+        (Line::Runs(REFUSED), "7 done"),
         (
             Line::Ledger,
             "putting 0 0 56; accepted 0 0 0; putting 1 0 56; accepted 1 1 0; putting 2 0 56; accepted 2 2 0; \
@@ -337,14 +386,14 @@ fn rejects_after_every_server_refused(rt: HostRuntime) -> Result<(), Fail> {
         ),
         (Line::Answered, "4"),
     ];
-    play(&rt, rt.alloc(), 3, &scene)
+    play(&rt, rt.alloc(), 3, SCENE)
 }
 
 #[test]
 fn what_is_not_enabled_changes_nothing(rt: HostRuntime) -> Result<(), Fail> {
-    let none = Actor::Server(Server(3));
-    let other = Actor::Rank(Rank(1));
-    let scene = [
+    const NONE: Actor = Actor::Server(Server(3));
+    const OTHER: Actor = Actor::Rank(Rank(1));
+    const SCENE: &[(Line, &str)] = &[
         (Line::Applies(Does::Delivers(RANK, FIRST)), "refused"),
         (Line::Waiting(RANK, FIRST), "0"),
         (Line::Applies(Does::Delivers(FIRST, RANK)), "refused"),
@@ -353,10 +402,10 @@ fn what_is_not_enabled_changes_nothing(rt: HostRuntime) -> Result<(), Fail> {
         (Line::Waiting(SECOND, THIRD), "0"),
         (Line::Applies(Does::Delivers(RANK, RANK)), "refused"),
         (Line::Waiting(RANK, RANK), "0"),
-        (Line::Applies(Does::Delivers(RANK, none)), "refused"),
-        (Line::Waiting(RANK, none), "0"),
-        (Line::Applies(Does::Delivers(other, FIRST)), "refused"),
-        (Line::Waiting(other, FIRST), "0"),
+        (Line::Applies(Does::Delivers(RANK, NONE)), "refused"),
+        (Line::Waiting(RANK, NONE), "0"),
+        (Line::Applies(Does::Delivers(OTHER, FIRST)), "refused"),
+        (Line::Waiting(OTHER, FIRST), "0"),
         (Line::Applies(Does::Puts(9)), "done"),
         // The rank waits, so it is not ready for another call.
         (Line::Applies(Does::Puts(8)), "refused"),
@@ -365,30 +414,30 @@ fn what_is_not_enabled_changes_nothing(rt: HostRuntime) -> Result<(), Fail> {
         (Line::Waiting(FIRST, RANK), "0"),
         (Line::Answered, "0"),
     ];
-    play(&rt, rt.alloc(), 3, &scene)
+    play(&rt, rt.alloc(), 3, SCENE)
 }
 
 #[test]
 fn a_run_stops_at_the_first_refusal(rt: HostRuntime) -> Result<(), Fail> {
-    let events = [
+    const EVENTS: &[Does] = &[
         Does::Puts(5),
         Does::Delivers(RANK, FIRST),
         Does::Delivers(RANK, FIRST),
         Does::Delivers(FIRST, RANK),
     ];
-    let scene = [
-        (Line::Runs(&events), "2 done, then refused"),
+    const SCENE: &[(Line, &str)] = &[
+        (Line::Runs(EVENTS), "2 done, then refused"),
         (Line::Waiting(FIRST, RANK), "1"),
         (Line::Runs(&[]), "0 done"),
         (Line::Applies(Does::Delivers(FIRST, RANK)), "done"),
         (Line::Ledger, "putting 0 0 5; accepted 0 0 0; "),
     ];
-    play(&rt, rt.alloc(), 3, &scene)
+    play(&rt, rt.alloc(), 3, SCENE)
 }
 
 #[test]
 fn each_server_hears_of_the_end_and_keeps_what_is_left(rt: HostRuntime) -> Result<(), Fail> {
-    let scene = [
+    const SCENE: &[(Line, &str)] = &[
         (Line::Runs(&FILLS), "9 done"),
         (Line::Applies(Does::Finishes), "done"),
         (Line::Waiting(RANK, FIRST), "1"),
@@ -414,7 +463,7 @@ fn each_server_hears_of_the_end_and_keeps_what_is_left(rt: HostRuntime) -> Resul
         ),
         (Line::Answered, "4"),
     ];
-    play(&rt, rt.alloc(), 3, &scene)
+    play(&rt, rt.alloc(), 3, SCENE)
 }
 
 // The only server of a run takes two units, of priorities 3 and 7.
@@ -427,22 +476,27 @@ const TWO_PRIORITIES: [Does; 6] = [
     Does::Delivers(FIRST, RANK),
 ];
 
-// A count of this type.
-const fn count_of(kind: u32) -> [Does; 3] {
-    [
-        Does::Counts(kind),
-        Does::Delivers(RANK, FIRST),
-        Does::Delivers(FIRST, RANK),
-    ]
-}
+// The only server of a run counts the units of type 1.
+const COUNT_1: [Does; 3] = [
+    Does::Counts(1),
+    Does::Delivers(RANK, FIRST),
+    Does::Delivers(FIRST, RANK),
+];
+
+// It counts the units of type 2.
+const COUNT_2: [Does; 3] = [
+    Does::Counts(2),
+    Does::Delivers(RANK, FIRST),
+    Does::Delivers(FIRST, RANK),
+];
 
 #[test]
 fn a_count_tells_of_the_units_of_a_type(rt: HostRuntime) -> Result<(), Fail> {
-    let scene = [
+    const SCENE: &[(Line, &str)] = &[
         (Line::Runs(&TWO_PRIORITIES), "6 done"),
-        (Line::Runs(&count_of(1)), "3 done"),
+        (Line::Runs(&COUNT_1), "3 done"),
         (Line::Info, "Info { free: 2, top: Some(7), at_top: 1 }"),
-        (Line::Runs(&count_of(2)), "3 done"),
+        (Line::Runs(&COUNT_2), "3 done"),
         (Line::Info, "Info { free: 0, top: None, at_top: 0 }"),
         (
             Line::Ledger,
@@ -450,12 +504,12 @@ fn a_count_tells_of_the_units_of_a_type(rt: HostRuntime) -> Result<(), Fail> {
                 counting 2 0 0; counted 2 0 2; counting 3 0 0; counted 3 0 0; ",
         ),
     ];
-    play(&rt, rt.alloc(), 1, &scene)
+    play(&rt, rt.alloc(), 1, SCENE)
 }
 
 #[test]
 fn a_count_tells_of_the_home_alone(rt: HostRuntime) -> Result<(), Fail> {
-    let scene = [
+    const SCENE: &[(Line, &str)] = &[
         (Line::Runs(&FILLS), "9 done"),
         (Line::Applies(Does::Counts(1)), "done"),
         (Line::Waiting(RANK, SECOND), "0"),
@@ -465,7 +519,7 @@ fn a_count_tells_of_the_home_alone(rt: HostRuntime) -> Result<(), Fail> {
         (Line::Applies(Does::Delivers(FIRST, RANK)), "done"),
         (Line::Info, "Info { free: 1, top: Some(0), at_top: 1 }"),
     ];
-    play(&rt, rt.alloc(), 3, &scene)
+    play(&rt, rt.alloc(), 3, SCENE)
 }
 
 // A try for which each of three servers is asked.
@@ -481,7 +535,7 @@ const LOOKS: [Does; 7] = [
 
 #[test]
 fn there_is_no_work_after_each_server_has_looked(rt: HostRuntime) -> Result<(), Fail> {
-    let scene = [
+    const SCENE: &[(Line, &str)] = &[
         (Line::Runs(&LOOKS), "7 done"),
         (
             Line::Ledger,
@@ -494,13 +548,13 @@ fn there_is_no_work_after_each_server_has_looked(rt: HostRuntime) -> Result<(), 
         (Line::Waiting(RANK, FIRST), "1"),
         (Line::Waiting(RANK, SECOND), "0"),
     ];
-    play(&rt, rt.alloc(), 3, &scene)
+    play(&rt, rt.alloc(), 3, SCENE)
 }
 
 #[test]
 fn a_try_is_granted_the_unit_of_another_server(rt: HostRuntime) -> Result<(), Fail> {
     // The home is full, so the unit of 9 bytes is at the second server.
-    let puts = [
+    const PUTS: &[Does] = &[
         Does::Puts(56),
         Does::Delivers(RANK, FIRST),
         Does::Delivers(FIRST, RANK),
@@ -509,7 +563,7 @@ fn a_try_is_granted_the_unit_of_another_server(rt: HostRuntime) -> Result<(), Fa
         Does::Delivers(SECOND, RANK),
     ];
     // The first try is granted the home's unit, and the second that of the second server.
-    let tries = [
+    const TRIES: &[Does] = &[
         Does::Tries,
         Does::Delivers(RANK, FIRST),
         Does::Delivers(FIRST, RANK),
@@ -522,9 +576,9 @@ fn a_try_is_granted_the_unit_of_another_server(rt: HostRuntime) -> Result<(), Fa
         Does::Delivers(RANK, SECOND),
         Does::Delivers(SECOND, RANK),
     ];
-    let scene = [
-        (Line::Runs(&puts), "6 done"),
-        (Line::Runs(&tries), "11 done"),
+    const SCENE: &[(Line, &str)] = &[
+        (Line::Runs(PUTS), "6 done"),
+        (Line::Runs(TRIES), "11 done"),
         (
             Line::Ledger,
             "putting 0 0 56; accepted 0 0 0; putting 1 0 9; accepted 1 1 0; tried 2 0 0; granted 0 0 0; \
@@ -532,7 +586,7 @@ fn a_try_is_granted_the_unit_of_another_server(rt: HostRuntime) -> Result<(), Fa
         ),
         (Line::Answered, "5"),
     ];
-    play(&rt, rt.alloc(), 2, &scene)
+    play(&rt, rt.alloc(), 2, SCENE)
 }
 
 // A batch over the bytes `xy`: the units `a` and `b` are put.
@@ -554,33 +608,43 @@ const END: [Does; 3] = [
     Does::Delivers(FIRST, RANK),
 ];
 
-// The next unit is reserved and fetched: its own bytes come, and then those of its common part.
-const fn work(number: u64) -> [Does; 8] {
-    [
-        Does::Reserves,
-        Does::Delivers(RANK, FIRST),
-        Does::Delivers(FIRST, RANK),
-        Does::Fetches(number),
-        Does::Delivers(RANK, FIRST),
-        Does::Delivers(FIRST, RANK),
-        Does::Delivers(RANK, FIRST),
-        Does::Delivers(FIRST, RANK),
-    ]
-}
+// The unit of number 1 is reserved and fetched: its own bytes come, and then those of its common part.
+const WORK_1: [Does; 8] = [
+    Does::Reserves,
+    Does::Delivers(RANK, FIRST),
+    Does::Delivers(FIRST, RANK),
+    Does::Fetches(1),
+    Does::Delivers(RANK, FIRST),
+    Does::Delivers(FIRST, RANK),
+    Does::Delivers(RANK, FIRST),
+    Does::Delivers(FIRST, RANK),
+];
+
+// The same of the unit of number 2.
+const WORK_2: [Does; 8] = [
+    Does::Reserves,
+    Does::Delivers(RANK, FIRST),
+    Does::Delivers(FIRST, RANK),
+    Does::Fetches(2),
+    Does::Delivers(RANK, FIRST),
+    Does::Delivers(FIRST, RANK),
+    Does::Delivers(RANK, FIRST),
+    Does::Delivers(FIRST, RANK),
+];
 
 #[test]
 fn a_common_part_is_fetched_with_each_unit_and_then_freed(rt: HostRuntime) -> Result<(), Fail> {
-    let scene = [
+    const SCENE: &[(Line, &str)] = &[
         (Line::Applies(Does::Ends), "refused"),
         (Line::Runs(&BATCH), "9 done"),
         // A batch is going on, so the rank does not finish.
         (Line::Applies(Does::Finishes), "refused"),
-        (Line::Runs(&count_of(1)), "3 done"),
+        (Line::Runs(&COUNT_1), "3 done"),
         (Line::Info, "Info { free: 2, top: Some(0), at_top: 2 }"),
         (Line::Runs(&END), "3 done"),
-        (Line::Runs(&work(1)), "8 done"),
+        (Line::Runs(&WORK_1), "8 done"),
         (Line::Body, "xy a"),
-        (Line::Runs(&work(2)), "8 done"),
+        (Line::Runs(&WORK_2), "8 done"),
         (Line::Body, "xy b"),
         (
             Line::Ledger,
@@ -591,5 +655,5 @@ fn a_common_part_is_fetched_with_each_unit_and_then_freed(rt: HostRuntime) -> Re
         ),
         (Line::Left(0), "[]"),
     ];
-    play(&rt, rt.alloc(), 1, &scene)
+    play(&rt, rt.alloc(), 1, SCENE)
 }

@@ -59,12 +59,13 @@ impl Fake {
         ensures trouble { IfErr result (λ t. self.new.trouble ≡ Some t) }
         ensures going { self.new.going ≡ self.old.going }
     {
+        let said = Said { call, answer };
         if self.said.len() >= (1 << 48) - 1 {
             let trouble = Trouble::TooLong { stamp: 1 << 48 };
             self.trouble = Some(trouble);
             return Err(trouble);
         }
-        match self.said.push(Said { call, answer }) {
+        match self.said.push(said) {
             Ok(()) => {
                 self.trouble = None;
                 Ok(())
