@@ -23,6 +23,7 @@ any_program : {O : Type 0} (follows : List Said → O → Type 0) (config : Conf
 any_program {O} follows config rank e ends = record {
   config_is = ends.config_is;
   number = ends.number;
+  outcome_is = ends.outcome_is;
   followed = any e.outcome ends.followed;
   late = ends.late;
   own = ends.own;

@@ -1,6 +1,6 @@
 //! The report of a run whose threads were joined.
 
-ghost use Rattle.std.specs.Prelude.{◌≡◌, ◌+◌, ◌++◌, ℕ, Err, IfErr, IfOk, IfSome, OnOk, None, Some, [], flat_map, length, map, slice_get};
+ghost use Rattle.std.specs.Prelude.{◌≡◌, ◌+◌, ◌++◌, ℕ, Err, IfErr, IfOk, IfSome, OnOk, None, Some, [], flat_map, is_none, is_some, length, map, slice_get};
 ghost use Rattle.merge_history.specs.Merging.{IsMergeOf, joined};
 ghost use Rattle.merge_history.specs.Own.{Compose, Finals, IsCoreRun};
 ghost use Rattle.thread_client.specs.Jobs.{Ended, IsLate};
@@ -75,6 +75,7 @@ fn gathered<O: Drop, M: Mailing>(
     ended: Vec<RankEnd<O, M>>,
 ) -> Result<Kept<O, M>, RanFault>
     requires late { (k : ℕ) (e : Ended O) → slice_get ended.items k ≡ Some e → IfSome e.trouble IsLate }
+    requires outcomes { (k : ℕ) (e : Ended O) → slice_get ended.items k ≡ Some e → is_some e.outcome ≡ is_none e.trouble }
     ensures transcripts { IfOk result (λ kept. map (λ t. t.items) kept.transcripts.items ≡ map (λ e. e.said) ended.items) }
     ensures outcomes { IfOk result (λ kept. map Some kept.outcomes.items ≡ map (λ e. e.outcome) ended.items) }
     ensures desks { IfOk result (λ kept. kept.desks.items ≡ map (λ e. e.desk) ended.items) }
@@ -100,7 +101,7 @@ fn gathered<O: Drop, M: Mailing>(
         drop(strange);
         no_trouble(trouble)?;
         let Some(outcome) = outcome else {
-            return Err(RanFault::Memory);
+            unreachable!()
         };
         let (Ok(()), Ok(()), Ok(())) = (
             kept.transcripts.push(said),

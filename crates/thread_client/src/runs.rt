@@ -146,6 +146,7 @@ impl<R: Wait + Copy, M: Mailing> RankRun<R, M> {
         requires closed { (is_open self.core.transcript && is_none self.core.trouble) ≡ false }
         ensures finished { result.trouble ≡ None → result.said.items ≡ plus self.core.transcript Call.Finish (Some Answer.Fine) }
         ensures late { IfSome result.trouble IsLate }
+        ensures kept { is_none self.core.trouble ≡ false → result.trouble ≡ self.core.trouble }
         ensures desk { (result.desk.config ≡ self.config) × (result.desk.number ≡ self.core.me.0) }
         ensures own { result.trouble ≡ None → IsRankRun self.config self.core.me result.desk result.said.items }
     {

@@ -1,6 +1,6 @@
 //! A rank's client with its desk.
 
-ghost use Rattle.std.specs.Prelude.{◌≡◌, ◌≢◌, ◌<◌, ◌≤◌, ◌+◌, ◌∷◌, [], length, true, false, None, Some, IfOk, IfErr, IfSome, IsSome, OnOk};
+ghost use Rattle.std.specs.Prelude.{◌≡◌, ◌≢◌, ◌<◌, ◌≤◌, ◌+◌, ◌∷◌, [], length, true, false, None, Some, IfOk, IfErr, IfSome, IsSome, OnOk, is_none};
 ghost use Rattle.adlb_unit.specs.declared.notes.Trouble.{Trouble};
 ghost use Rattle.bag_ledger.specs.declared.entries.Answer.{Answer};
 ghost use Rattle.bag_ledger.specs.declared.entries.Call.{Call};
@@ -214,6 +214,7 @@ impl<R: Wait + Copy, M: Mailing> Wire<R, M> {
         ensures over { self.new.core.trouble ≡ None → self.new.core.finished ≡ true }
         ensures recorded { IsRecorded self.new.desk [] self.new.core }
         ensures late { IfSome self.new.core.trouble IsLate }
+        ensures kept { is_none self.old.core.trouble ≡ false → self.new.core.trouble ≡ self.old.core.trouble }
         ensures config { self.new.config ≡ self.old.config }
         ensures me { self.new.core.me ≡ self.old.core.me }
     {
@@ -235,6 +236,7 @@ impl<R: Wait + Copy, M: Mailing> Wire<R, M> {
         ensures failed { IfErr result (λ t. self.new.core.trouble ≡ Some t) }
         ensures recorded { IsRecorded self.new.desk [] self.new.core }
         ensures late { IfSome self.new.core.trouble IsLate }
+        ensures kept { is_none self.old.core.trouble ≡ false → self.new.core.trouble ≡ self.old.core.trouble }
         ensures config { self.new.config ≡ self.old.config }
         ensures me { self.new.core.me ≡ self.old.core.me }
     {

@@ -4,7 +4,10 @@ use Rattle.adlb_threads.specs.Inside.{AreClear}
 use Rattle.adlb_threads.proofs.histories.report.Goals as goal
 
 pub gathered-requires : goal.gathered-requires
-gathered-requires g c = record { late = λ k e at. (c.requires.ranks.each k e at).late }
+gathered-requires g c = record {
+  late = λ k e at. (c.requires.ranks.each k e at).late;
+  outcomes = λ k e at. (c.requires.ranks.each k e at).outcome_is;
+}
 
 pub gather_servers-requires : goal.gather_servers-requires
 gather_servers-requires g c = record { late = λ k e at. (c.requires.servers.each k e at).late }

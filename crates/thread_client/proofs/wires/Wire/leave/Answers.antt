@@ -1,4 +1,6 @@
 use Rattle.std.proofs.Common.{◌∙◌, IfSome, ap, refl, sym, subst}
+use Rattle.std.proofs.lemmas.Bool.{true≢false}
+use Rattle.std.specs.Prelude.{is_none}
 use Rattle.merge_history.specs.declared.causes.Cause.{Cause}
 use Rattle.actor_desk.specs.Desks.{received}
 use Rattle.bag_ledger.specs.declared.entries.Call.TheVariants.{Finish}
@@ -59,6 +61,7 @@ returns g c =
           (record { step = called_step w.desk.config w.core Finish c.in-Ok.cause x p.cause begins; stamp = b.stamp; sends = refl; entries = refl })
           e.entered e.tallies e.core me;
       late = subst (λ t. IfSome t IsLate) (sym still) tt;
+      kept = λ failed. absurd (true≢false (sym (ap is_none whole) ∙ failed));
       config = e.config ∙ p.config;
       me = me;
     }
