@@ -1,7 +1,5 @@
 //! Ledgers that are told, texts that are refused, and faults outside.
 
-ghost use Rattle.std.specs.Prelude.{◌<◌};
-
 use adlb_io::{MemorySink, MemorySource, SteadySink, SteadySource};
 use ledger_command::{CheckFault, Verdict, check_ledger};
 use std::alloc::Global;
@@ -25,39 +23,31 @@ const MISCOUNTED: &[u8] =
     b"ledger 2 1 64\nputting 0 0 1 0 any none 6162\naccepted 0 0.0\nasked 0 1 any\n\
       granted 0 0 1 0.0\nasked 1 0 any\nend 6\n";
 
-// What the check of these bytes answers, and what it wrote.
-fn check(alloc: Global, bytes: Vec<u8>) -> Result<(Told, String), Fail> {
+// The check of these bytes answers this, and writes this.
+fn tells(alloc: Global, bytes: Vec<u8>, wanted: Told, line: &str) -> Result<bool, Fail> {
     let mut input = SteadySource::new(bytes);
     let mut output = SteadySink::new(alloc);
     let told = check_ledger(alloc, &mut input, &mut output);
-    Ok((told, text(alloc, output.taken())?))
+    Ok(told == wanted && output.taken() == line.as_bytes())
 }
 
-// What the check of the legal ledger answers and wrote, with a source and a sink that move at most `per_read` and
-// `per_write` bytes at a time, of which the calls of the numbers `read` and `write` fail.
-fn check_failing(
+// The check of the legal ledger answers and writes this, with a source and a sink that move at most 50 and 4 bytes at a time, of
+// which the calls of the numbers `read` and `write` fail.
+fn tells_failing(
     alloc: Global,
-    per_read: usize,
-    read: u64,
-    per_write: usize,
-    write: u64,
-) -> Result<(Told, String), Fail>
-    requires reads { 0 < per_read }
-    requires writes { 0 < per_write }
-{
+    (read, write): (u64, u64),
+    wanted: Told,
+    line: &str,
+) -> Result<bool, Fail> {
     let bytes = GRANTED_ONCE.to_vec(alloc)?;
-    let mut input = MemorySource::new(bytes, per_read, [read].to_vec(alloc)?);
-    let mut output = MemorySink::new(alloc, per_write, [write].to_vec(alloc)?);
+    let mut input = MemorySource::new(bytes, 50, [read].to_vec(alloc)?);
+    let mut output = MemorySink::new(alloc, 4, [write].to_vec(alloc)?);
     let told = check_ledger(alloc, &mut input, &mut output);
-    Ok((told, text(alloc, output.taken())?))
-}
-
-fn text(alloc: Global, bytes: &[u8]) -> Result<String, Fail> {
-    Ok(String::from_utf8(bytes.to_vec(alloc)?).unwrap_or(String::new(alloc)))
+    Ok(told == wanted && output.taken() == line.as_bytes())
 }
 
 /// Ledgers, and what is told of them.
-const TOLD: [(&[u8], Verdict, &str); 4] = [
+const TOLD: &[(&[u8], Verdict, &str)] = &[
     (
         b"ledger 2 1 64\nend 0\n",
         Verdict::Legal { entries: 0 },
@@ -75,15 +65,16 @@ const TOLD: [(&[u8], Verdict, &str); 4] = [
 #[test]
 fn tells_of_each_ledger(rt: HostRuntime) -> Result<(), Fail> {
     for (bytes, verdict, line) in TOLD {
-        let (told, written) = check(rt.alloc(), bytes.to_vec(rt.alloc())?)?;
-        assert_eq!(rt; told, Ok(verdict));
-        assert_eq!(rt; written.as_str(), line);
+        assert!(rt;
+            tells(rt.alloc(), bytes.to_vec(rt.alloc())?, Ok(*verdict), line)?,
+            "{line}"
+        );
     }
     Ok(())
 }
 
 /// Texts of no ledger, and the first line that is not what is due.
-const REFUSED: [(&[u8], u64); 9] = [
+const REFUSED: &[(&[u8], u64)] = &[
     (b"", 1),
     (MISCOUNTED, 7),
     (b"ledger 2 1 64\ndone 0 0\n", 3),
@@ -95,46 +86,57 @@ const REFUSED: [(&[u8], u64); 9] = [
     (b"ledger 2 1 64\nend 0\n\n", 3),
 ];
 
+// The text is refused for this line, and nothing is written.
+fn is_refused(alloc: Global, bytes: &[u8], line: u64) -> Result<bool, Fail> {
+    tells(
+        alloc,
+        bytes.to_vec(alloc)?,
+        Err(CheckFault::Entry { line }),
+        "",
+    )
+}
+
 #[test]
 fn refuses_each_other_text_and_writes_nothing(rt: HostRuntime) -> Result<(), Fail> {
-    for (bytes, line) in REFUSED {
-        let (told, written) = check(rt.alloc(), bytes.to_vec(rt.alloc())?)?;
-        assert_eq!(rt; told, Err(CheckFault::Entry { line }));
-        assert!(rt; written.is_empty());
+    for (at, (bytes, line)) in REFUSED.iter().enumerate() {
+        assert!(rt; is_refused(rt.alloc(), bytes, *line)?, "row {at}");
     }
     Ok(())
+}
+
+// So many line feeds are refused so, and nothing is written.
+fn is_too_long(alloc: Global, size: usize, fault: CheckFault) -> Result<bool, Fail> {
+    tells(alloc, vec![in alloc; b'\n'; size]?, Err(fault), "")
 }
 
 #[test]
 fn an_input_has_at_most_two_to_the_26_bytes(rt: HostRuntime) -> Result<(), Fail> {
-    for (size, fault) in [
-        (0x400_0000, CheckFault::Entry { line: 1 }),
-        (0x400_0001, CheckFault::TooLarge { taken: 0x400_0001 }),
-    ] {
-        let (told, written) = check(rt.alloc(), vec![in rt.alloc(); b'\n'; size]?)?;
-        assert_eq!(rt; told, Err(fault));
-        assert!(rt; written.is_empty());
-    }
+    let most = CheckFault::Entry { line: 1 };
+    assert!(rt; is_too_long(rt.alloc(), 0x400_0000, most)?);
+    let more = CheckFault::TooLarge { taken: 0x400_0001 };
+    assert!(rt; is_too_long(rt.alloc(), 0x400_0001, more)?);
     Ok(())
 }
 
+/// The calls that fail, and what is answered and written. 111 bytes are read in pieces of 50, and the fourth read finds the end; 8
+/// bytes go in two writes of 4, and the third call is the flush.
+const FAULTS: &[((u64, u64), Told, &str)] = &[
+    ((0, 0), Ok(Verdict::Legal { entries: 5 }), "legal 5\n"),
+    ((1, 0), Err(CheckFault::Read), ""),
+    ((4, 0), Err(CheckFault::Read), ""),
+    ((5, 4), Ok(Verdict::Legal { entries: 5 }), "legal 5\n"),
+    ((0, 1), Err(CheckFault::Write), ""),
+    ((0, 2), Err(CheckFault::Write), "lega"),
+    ((0, 3), Err(CheckFault::Write), "legal 5\n"),
+];
+
 #[test]
 fn tells_of_faults_outside(rt: HostRuntime) -> Result<(), Fail> {
-    let legal = Ok(Verdict::Legal { entries: 5 });
-    // 111 bytes are read in pieces of 50, and the fourth read finds the end; 8 bytes go in two writes of 4, and the
-    // third call is the flush.
-    for (read, write, answer, line) in [
-        (0, 0, legal, "legal 5\n"),
-        (1, 0, Err(CheckFault::Read), ""),
-        (4, 0, Err(CheckFault::Read), ""),
-        (5, 4, legal, "legal 5\n"),
-        (0, 1, Err(CheckFault::Write), ""),
-        (0, 2, Err(CheckFault::Write), "lega"),
-        (0, 3, Err(CheckFault::Write), "legal 5\n"),
-    ] {
-        let (told, written) = check_failing(rt.alloc(), 50, read, 4, write)?;
-        assert_eq!(rt; told, answer);
-        assert_eq!(rt; written.as_str(), line);
+    for (fails, wanted, line) in FAULTS {
+        assert!(rt;
+            tells_failing(rt.alloc(), *fails, *wanted, line)?,
+            "{fails:?}"
+        );
     }
     Ok(())
 }

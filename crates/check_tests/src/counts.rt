@@ -138,7 +138,7 @@ fn text_of(alloc: Global, each: u32, more: [u32; 5], left: u64) -> Result<String
 }
 
 /// `each`, `more` and `left` of a ledger, and the text.
-const ROWS: [(u32, [u32; 5], u64, &str); 4] = [
+const ROWS: &[(u32, [u32; 5], u64, &str)] = &[
     (
         0,
         [0; 5],
@@ -168,8 +168,8 @@ const ROWS: [(u32, [u32; 5], u64, &str); 4] = [
 #[test]
 fn counts_stand_behind_the_text(rt: HostRuntime) -> Result<(), Fail> {
     for (each, more, left, expected) in ROWS {
-        let text = text_of(rt.alloc(), each, more, left)?;
-        assert_eq!(rt; text.as_str(), expected);
+        let text = text_of(rt.alloc(), *each, *more, *left)?;
+        assert_eq!(rt; text.as_str(), *expected);
     }
     Ok(())
 }

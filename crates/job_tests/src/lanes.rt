@@ -44,14 +44,16 @@ fn rising() -> [u8; MOST] {
     bytes
 }
 
+const BOUNDS: &[(u8, u8)] = &[(0, 255), (0, 0), (1, 254), (255, 255), (31, 97), (97, 31)];
+
 fn answers_are_plain(rt: &impl Abort, bytes: &[u8])
     requires { length bytes.now ≤ 130 }
 {
     let length = bytes.len();
-    for (lo, hi) in [(0, 255), (0, 0), (1, 254), (255, 255), (31, 97), (97, 31)] {
+    for (lo, hi) in BOUNDS {
         assert_eq!(rt;
-            count_range(bytes, lo, hi),
-            plain_count(bytes, lo, hi),
+            count_range(bytes, *lo, *hi),
+            plain_count(bytes, *lo, *hi),
             "{length} bytes, {lo} to {hi}"
         );
     }
@@ -95,14 +97,18 @@ fn masks_are_plain(rt: &impl Abort, bytes: &[u8; MOST], length: usize)
     }
 }
 
+fn all_are_plain(rt: &impl Abort, bytes: &[u8; MOST]) {
+    for length in 0..=MOST {
+        answers_are_plain(rt, &bytes[..length]);
+        masks_are_plain(rt, bytes, length);
+    }
+}
+
 #[test]
 fn answers_as_plain_loops_at_each_length(rt: HostRuntime) {
-    for bytes in [[0; MOST], [255; MOST], rising()] {
-        for length in 0..=MOST {
-            answers_are_plain(&rt, &bytes[..length]);
-            masks_are_plain(&rt, &bytes, length);
-        }
-    }
+    all_are_plain(&rt, &[0; MOST]);
+    all_are_plain(&rt, &[255; MOST]);
+    all_are_plain(&rt, &rising());
 }
 
 #[test]

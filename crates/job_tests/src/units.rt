@@ -9,7 +9,7 @@ use job_text::Item;
 use job_units::{Answer, Board, Fetch, Job, Made, Solution, read_fetch, work};
 use std::alloc::Global;
 use std::test::Fail;
-use sudoku_rules::{Grid, parse_grid};
+use sudoku_rules::parse_grid;
 
 /// A grid of side 4 with ten filled cells.
 const SMALL: &str = "1234301200004321";
@@ -18,53 +18,59 @@ const SMALL: &str = "1234301200004321";
 const MIDDLE: &str =
     "534678912672195348198342567859760420426850790713924856961537284287419635345286179";
 
-/// The body of `count 97 98` as item 1 of batch 1.
-const COUNT: [u8; 11] = [0, 0, 0, 1, 0, 0, 0, 1, 1, 97, 98];
+/// A unit, with its grid as text.
+#[derive(Clone, Copy)]
+enum Of {
+    Board(u64, &'static str),
+    Solution(u32, &'static str),
+    Job(u32, u32, Item),
+    Answer(u64),
+}
 
-fn board(budget: u64, grid: Grid) -> Made {
-    Made::Board(Board {
-        puzzle: 1,
-        budget,
-        grid,
+// The unit: a board is of puzzle 1, and an answer of item 3 of batch 258.
+fn made(of: Of) -> Result<Made, Fail> {
+    Ok(match of {
+        Of::Board(budget, grid) => Made::Board(Board {
+            puzzle: 1,
+            budget,
+            grid: parse_grid(grid.as_bytes())?,
+        }),
+        Of::Solution(puzzle, grid) => Made::Solution(Solution {
+            puzzle,
+            grid: parse_grid(grid.as_bytes())?,
+        }),
+        Of::Job(batch, number, item) => Made::Job(Job {
+            batch,
+            number,
+            item,
+        }),
+        Of::Answer(value) => Made::Answer(Answer {
+            batch: 258,
+            number: 3,
+            value,
+        }),
     })
 }
 
-fn solution(puzzle: u32, grid: Grid) -> Made {
-    Made::Solution(Solution { puzzle, grid })
-}
+/// The work type, priority, target and answer rank with which a unit is put.
+type Row = (u32, i32, Target, Option<Rank>);
 
-fn job(batch: u32, number: u32, item: Item) -> Made {
-    Made::Job(Job {
-        batch,
-        number,
-        item,
-    })
-}
-
-fn answer(value: u64) -> Made {
-    Made::Answer(Answer {
-        batch: 258,
-        number: 3,
-        value,
-    })
-}
-
-// The work type, priority, target and answer rank with which the unit is put, and whether it is read back.
-fn put(alloc: Global, unit: Made) -> Result<(u32, i32, Target, Option<Rank>, bool), Fail> {
+// The unit is put so, and is read back.
+fn is_put(alloc: Global, of: Of, (kind, prio, target, answer): Row) -> Result<bool, Fail> {
+    let unit = made(of)?;
     let putting = unit.putting(alloc)?;
     let read = Made::read(putting.kind, putting.answer, putting.body.bytes());
-    Ok((
-        putting.kind.0,
-        putting.prio,
-        putting.target,
-        putting.answer,
-        read == Some(unit) && unit.kind() == putting.kind,
-    ))
+    Ok(
+        read == Some(unit)
+            && unit.kind() == putting.kind
+            && (putting.kind.0, putting.prio) == (kind, prio)
+            && (putting.target, putting.answer) == (target, answer),
+    )
 }
 
 // The numbers of the first bytes of the body, and the rest as text.
-fn shown(alloc: Global, unit: Made, head: usize) -> Result<String, Fail> {
-    let body = unit.body(alloc)?;
+fn shown(alloc: Global, of: Of, head: usize) -> Result<String, Fail> {
+    let body = made(of)?.body(alloc)?;
     let bytes = body.bytes();
     if bytes.len() < head {
         return Err("too short".into());
@@ -74,197 +80,196 @@ fn shown(alloc: Global, unit: Made, head: usize) -> Result<String, Fail> {
     Ok(format!(in alloc; "{front:?} {rest}")?)
 }
 
+/// Units, how many bytes are shown as numbers, and what is shown.
+const BODIES: &[(Of, usize, &str)] = &[
+    (
+        Of::Board(0x100_0000, SMALL),
+        12,
+        "[0, 0, 0, 1, 0, 0, 0, 0, 1, 0, 0, 0] 1234301200004321",
+    ),
+    (
+        Of::Board(0x7f_ffff, SMALL),
+        12,
+        "[0, 0, 0, 1, 0, 0, 0, 0, 0, 127, 255, 255] 1234301200004321",
+    ),
+    (Of::Solution(258, SMALL), 4, "[0, 0, 1, 2] 1234301200004321"),
+    (
+        Of::Job(1, 1, Item::Count { lo: 97, hi: 98 }),
+        11,
+        "[0, 0, 0, 1, 0, 0, 0, 1, 1, 97, 98] ",
+    ),
+    (
+        Of::Job(2, 256, Item::Sum),
+        11,
+        "[0, 0, 0, 2, 0, 0, 1, 0, 2, 0, 0] ",
+    ),
+    (
+        Of::Job(2, 257, Item::Max),
+        11,
+        "[0, 0, 0, 2, 0, 0, 1, 1, 3, 0, 0] ",
+    ),
+    (
+        Of::Answer(588),
+        16,
+        "[0, 0, 1, 2, 0, 0, 0, 3, 0, 0, 0, 0, 0, 0, 2, 76] ",
+    ),
+];
+
 #[test]
 fn bodies_are_those_of_the_table(rt: HostRuntime) -> Result<(), Fail> {
-    let grid = parse_grid(SMALL.as_bytes())?;
-    let rows = [
-        (
-            board(0x100_0000, grid),
-            12,
-            "[0, 0, 0, 1, 0, 0, 0, 0, 1, 0, 0, 0] 1234301200004321",
-        ),
-        (
-            board(0x7f_ffff, grid),
-            12,
-            "[0, 0, 0, 1, 0, 0, 0, 0, 0, 127, 255, 255] 1234301200004321",
-        ),
-        (solution(258, grid), 4, "[0, 0, 1, 2] 1234301200004321"),
-        (
-            job(1, 1, Item::Count { lo: 97, hi: 98 }),
-            11,
-            "[0, 0, 0, 1, 0, 0, 0, 1, 1, 97, 98] ",
-        ),
-        (
-            job(2, 256, Item::Sum),
-            11,
-            "[0, 0, 0, 2, 0, 0, 1, 0, 2, 0, 0] ",
-        ),
-        (
-            job(2, 257, Item::Max),
-            11,
-            "[0, 0, 0, 2, 0, 0, 1, 1, 3, 0, 0] ",
-        ),
-        (
-            answer(588),
-            16,
-            "[0, 0, 1, 2, 0, 0, 0, 3, 0, 0, 0, 0, 0, 0, 2, 76] ",
-        ),
-    ];
-    for (unit, head, wanted) in rows {
-        let text = shown(rt.alloc(), unit, head)?;
-        assert_eq!(rt; text.as_str(), wanted);
+    for (of, head, wanted) in BODIES {
+        let text = shown(rt.alloc(), *of, *head)?;
+        assert_eq!(rt; text.as_str(), *wanted);
     }
     Ok(())
 }
+
+const PUT: &[(Of, Row)] = &[
+    (Of::Board(1, SMALL), (0, 11, Target::Any, Some(Rank(0)))),
+    (
+        Of::Board(0xffff_ffff_ffff_ffff, MIDDLE),
+        (0, 77, Target::Any, Some(Rank(0))),
+    ),
+    (
+        Of::Solution(7, MIDDLE),
+        (1, 100, Target::Only(Rank(0)), None),
+    ),
+    (
+        Of::Job(1, 1, Item::Sum),
+        (2, 50, Target::Any, Some(Rank(0))),
+    ),
+    (
+        Of::Answer(0xffff_ffff_ffff_ffff),
+        (3, 100, Target::Only(Rank(0)), None),
+    ),
+];
 
 #[test]
 fn units_are_put_by_the_table_and_read_back(rt: HostRuntime) -> Result<(), Fail> {
-    let small = parse_grid(SMALL.as_bytes())?;
-    let middle = parse_grid(MIDDLE.as_bytes())?;
-    let answers = Rank(0);
-    let rows = [
-        (board(1, small), (0, 11, Target::Any, Some(answers), true)),
-        (
-            board(u64::MAX, middle),
-            (0, 77, Target::Any, Some(answers), true),
-        ),
-        (
-            solution(7, middle),
-            (1, 100, Target::Only(answers), None, true),
-        ),
-        (
-            job(1, 1, Item::Sum),
-            (2, 50, Target::Any, Some(answers), true),
-        ),
-        (
-            answer(u64::MAX),
-            (3, 100, Target::Only(answers), None, true),
-        ),
-    ];
-    for (unit, wanted) in rows {
-        let got = put(rt.alloc(), unit)?;
-        assert!(rt; got == wanted, "work type {}", wanted.0);
+    for (of, row) in PUT {
+        assert!(rt; is_put(rt.alloc(), *of, *row)?, "work type {}", row.0);
     }
     Ok(())
 }
 
+/// A work type, an answer rank and bytes that are no unit, and what they are.
+const FORMLESS: &[(u32, Option<Rank>, &[u8], &str)] = &[
+    (
+        0,
+        Some(Rank(0)),
+        b"\0\0\0\x01\0\0\0\0\0\0\0\x0112343012000043",
+        "a board that is short",
+    ),
+    (
+        0,
+        Some(Rank(0)),
+        b"\0\0\0\x01\0\0\0\0\0\0\0\x011234301200004321 ",
+        "a board that is long",
+    ),
+    (
+        0,
+        Some(Rank(0)),
+        b"\0\0\0\x01\0\0\0\0\0\0\0\x0112343.1200004321",
+        "a board with a dot",
+    ),
+    (
+        0,
+        Some(Rank(0)),
+        b"\0\0\0\x01\0\0\0\0\0\0\0\x011234501200004321",
+        "a board with a 5",
+    ),
+    (0, Some(Rank(0)), b"\0\0\0\x01", "a number alone"),
+    (
+        0,
+        None,
+        b"\0\0\0\x01\0\0\0\0\0\0\0\x011234301200004321",
+        "a board for none",
+    ),
+    (
+        1,
+        None,
+        b"\0\0\0\x01123430120000432",
+        "a solution that is short",
+    ),
+    (
+        1,
+        None,
+        b"\0\0\0\x01123430120000432.",
+        "a solution with a dot",
+    ),
+    (
+        1,
+        Some(Rank(0)),
+        b"\0\0\0\x011234301200004321",
+        "a solution with an answer rank",
+    ),
+    (
+        2,
+        Some(Rank(0)),
+        b"\0\0\0\x01\0\0\0\x01\x01a",
+        "a job that is short",
+    ),
+    (
+        2,
+        Some(Rank(0)),
+        b"\0\0\0\x01\0\0\0\x01\x01abc",
+        "a job that is long",
+    ),
+    (
+        2,
+        Some(Rank(0)),
+        b"\0\0\0\x01\0\0\0\x01\0\0\0",
+        "an item of kind 0",
+    ),
+    (
+        2,
+        Some(Rank(0)),
+        b"\0\0\0\x01\0\0\0\x01\x04\0\0",
+        "an item of kind 4",
+    ),
+    (
+        2,
+        Some(Rank(0)),
+        b"\0\0\0\x01\0\0\0\x01\x02\x01\0",
+        "a sum with a least byte",
+    ),
+    (
+        2,
+        Some(Rank(0)),
+        b"\0\0\0\x01\0\0\0\x01\x03\0\x01",
+        "a maximum with a greatest byte",
+    ),
+    (
+        2,
+        Some(Rank(1)),
+        b"\0\0\0\x01\0\0\0\x01\x02\0\0",
+        "a job for rank 1",
+    ),
+    (
+        3,
+        None,
+        b"\0\0\0\x01\0\0\0\x01\0\0\0\0\0\0\0",
+        "an answer that is short",
+    ),
+    (
+        3,
+        None,
+        b"\0\0\0\x01\0\0\0\x01\0\0\0\0\0\0\0\0\0",
+        "an answer that is long",
+    ),
+    (
+        4,
+        None,
+        b"\0\0\0\x01\0\0\0\x01\0\0\0\0\0\0\0\0",
+        "work type 4",
+    ),
+];
+
 #[test]
 fn reads_no_other_form(rt: HostRuntime) {
-    let answers = Some(Rank(0));
-    let rows = [
-        (
-            0,
-            answers,
-            b"\0\0\0\x01\0\0\0\0\0\0\0\x0112343012000043".as_slice(),
-            "a board that is short",
-        ),
-        (
-            0,
-            answers,
-            b"\0\0\0\x01\0\0\0\0\0\0\0\x011234301200004321 ".as_slice(),
-            "a board that is long",
-        ),
-        (
-            0,
-            answers,
-            b"\0\0\0\x01\0\0\0\0\0\0\0\x0112343.1200004321".as_slice(),
-            "a board with a dot",
-        ),
-        (
-            0,
-            answers,
-            b"\0\0\0\x01\0\0\0\0\0\0\0\x011234501200004321".as_slice(),
-            "a board with a 5",
-        ),
-        (0, answers, b"\0\0\0\x01".as_slice(), "a number alone"),
-        (
-            0,
-            None,
-            b"\0\0\0\x01\0\0\0\0\0\0\0\x011234301200004321".as_slice(),
-            "a board for none",
-        ),
-        (
-            1,
-            None,
-            b"\0\0\0\x01123430120000432".as_slice(),
-            "a solution that is short",
-        ),
-        (
-            1,
-            None,
-            b"\0\0\0\x01123430120000432.".as_slice(),
-            "a solution with a dot",
-        ),
-        (
-            1,
-            answers,
-            b"\0\0\0\x011234301200004321".as_slice(),
-            "a solution with an answer rank",
-        ),
-        (
-            2,
-            answers,
-            b"\0\0\0\x01\0\0\0\x01\x01a".as_slice(),
-            "a job that is short",
-        ),
-        (
-            2,
-            answers,
-            b"\0\0\0\x01\0\0\0\x01\x01abc".as_slice(),
-            "a job that is long",
-        ),
-        (
-            2,
-            answers,
-            b"\0\0\0\x01\0\0\0\x01\0\0\0".as_slice(),
-            "an item of kind 0",
-        ),
-        (
-            2,
-            answers,
-            b"\0\0\0\x01\0\0\0\x01\x04\0\0".as_slice(),
-            "an item of kind 4",
-        ),
-        (
-            2,
-            answers,
-            b"\0\0\0\x01\0\0\0\x01\x02\x01\0".as_slice(),
-            "a sum with a least byte",
-        ),
-        (
-            2,
-            answers,
-            b"\0\0\0\x01\0\0\0\x01\x03\0\x01".as_slice(),
-            "a maximum with a greatest byte",
-        ),
-        (
-            2,
-            Some(Rank(1)),
-            b"\0\0\0\x01\0\0\0\x01\x02\0\0".as_slice(),
-            "a job for rank 1",
-        ),
-        (
-            3,
-            None,
-            b"\0\0\0\x01\0\0\0\x01\0\0\0\0\0\0\0".as_slice(),
-            "an answer that is short",
-        ),
-        (
-            3,
-            None,
-            b"\0\0\0\x01\0\0\0\x01\0\0\0\0\0\0\0\0\0".as_slice(),
-            "an answer that is long",
-        ),
-        (
-            4,
-            None,
-            b"\0\0\0\x01\0\0\0\x01\0\0\0\0\0\0\0\0".as_slice(),
-            "work type 4",
-        ),
-    ];
-    for (kind, answer, body, what) in rows {
+    for (kind, answer, body, what) in FORMLESS {
         assert!(rt;
-            Made::read(WorkType(kind), answer, body).is_none(),
+            Made::read(WorkType(*kind), *answer, body).is_none(),
             "{what}"
         );
     }
@@ -295,77 +300,63 @@ fn note() -> UnitNote
     }
 }
 
-// The answer of the job that is fetched by these two runs of bytes, and how many bytes were copied for it.
-fn answered(alloc: Global, first: &[u8], second: &[u8]) -> Result<(Option<Answer>, usize), Fail> {
+// The value of the answer of the job that is fetched by these two runs of bytes, and how many bytes were copied for it.
+fn answered(alloc: Global, first: &[u8], second: &[u8]) -> Result<(Option<u64>, usize), Fail> {
     let body = Body::joined(Payload::copy(alloc, first)?, Payload::copy(alloc, second)?);
     if body.len() != 17 {
         return Err("not the bytes of the note".into());
     }
     let mut room = Vec::new(alloc);
-    let answer = match read_fetch(&note(), &body, &mut room) {
-        Ok(fetch) => answer_of_fetch(&fetch),
+    let value = match read_fetch(&note(), &body, &mut room) {
+        Ok(fetch) => value_of(&fetch),
         Err(_) => return Err("out of memory".into()),
     };
-    Ok((answer, room.len()))
+    Ok((value, room.len()))
 }
 
-// The answer of the job that was fetched, if it was one.
-fn answer_of_fetch(fetch: &Fetch<'_>) -> Option<Answer>
+// The value of the answer of the job that was fetched, if it was item 1 of batch 1.
+fn value_of(fetch: &Fetch<'_>) -> Option<u64>
     requires { length fetch.now.common.now < 2 ^ 32 }
 {
     match &fetch.unit {
-        Some(Made::Job(job)) => Some(job.answer(fetch.common)),
+        Some(Made::Job(job)) if (job.batch, job.number) == (1, 1) => Some(
+            job.answer(fetch.common).value,
+        ),
         _ => None,
     }
 }
 
+/// The two runs of bytes by which a job is fetched, the value of its answer, and how many bytes are copied for it.
+const FETCHED: &[(&[u8], &[u8], Option<u64>, usize)] = &[
+    (b"abcabc", b"\0\0\0\x01\0\0\0\x01\x01ab", Some(4), 0),
+    (b"abcabc\0\0\0\x01", b"\0\0\0\x01\x01ab", Some(4), 17),
+    (b"", b"abcabc\0\0\0\x01\0\0\0\x01\x01ab", Some(4), 0),
+    (b"abcabc", b"\0\0\0\x01\0\0\0\x01\x05ab", None, 0),
+];
+
 #[test]
 fn a_fetched_job_is_answered_over_its_common_bytes(rt: HostRuntime) -> Result<(), Fail> {
-    let four = Answer {
-        batch: 1,
-        number: 1,
-        value: 4,
-    };
-    let own = COUNT.as_slice();
-    let rows = [
-        (b"abcabc".as_slice(), own, Some(four), 0),
-        (b"abcabc\0\0\0\x01".as_slice(), &own[4..], Some(four), 17),
-        (
-            b"".as_slice(),
-            b"abcabc\0\0\0\x01\0\0\0\x01\x01ab".as_slice(),
-            Some(four),
-            0,
-        ),
-        (
-            b"abcabc".as_slice(),
-            b"\0\0\0\x01\0\0\0\x01\x05ab".as_slice(),
-            None,
-            0,
-        ),
-    ];
-    for (first, second, answer, copied) in rows {
+    for (first, second, value, copied) in FETCHED {
         let got = answered(rt.alloc(), first, second)?;
-        assert!(rt; got == (answer, copied), "{} bytes first", first.len());
+        assert!(rt; got == (*value, *copied), "{} bytes first", first.len());
     }
     Ok(())
 }
 
+const ITEMS: &[(Item, &[u8], u64)] = &[
+    (Item::Count { lo: 97, hi: 98 }, b"abcabc", 4),
+    (Item::Count { lo: 98, hi: 97 }, b"abcabc", 0),
+    (Item::Count { lo: 0, hi: 255 }, b"abcabc", 6),
+    (Item::Sum, b"abcabc", 588),
+    (Item::Max, b"abcabc", 99),
+    (Item::Count { lo: 0, hi: 255 }, b"", 0),
+    (Item::Sum, b"", 0),
+    (Item::Max, b"", 0),
+];
+
 #[test]
 fn items_are_worked(rt: HostRuntime) {
-    let all = Item::Count { lo: 0, hi: 255 };
-    let two = Item::Count { lo: 97, hi: 98 };
-    let turned = Item::Count { lo: 98, hi: 97 };
-    let rows = [
-        (two, b"abcabc".as_slice(), 4),
-        (turned, b"abcabc".as_slice(), 0),
-        (all, b"abcabc".as_slice(), 6),
-        (Item::Sum, b"abcabc".as_slice(), 588),
-        (Item::Max, b"abcabc".as_slice(), 99),
-        (all, b"".as_slice(), 0),
-        (Item::Sum, b"".as_slice(), 0),
-        (Item::Max, b"".as_slice(), 0),
-    ];
-    for (item, bytes, wanted) in rows {
-        assert_eq!(rt; work(&item, bytes), wanted);
+    for (item, bytes, wanted) in ITEMS {
+        assert_eq!(rt; work(item, bytes), *wanted);
     }
 }

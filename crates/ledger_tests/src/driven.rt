@@ -235,10 +235,19 @@ fn is_accepted(entry: &Entry, unit: UnitId) -> bool {
 fn is_as_stated(alloc: Global, number: u64, seen: &mut Seen) -> Result<bool, Fail> {
     let config = config_of(number)?;
     let world = driven(alloc, config, number)?;
-    let entries = world.ledger().entries();
-    seen.look(entries, config.servers);
-    let told = all_have_finished(entries, config.ranks);
-    Ok(is_judged(alloc, world.ledger(), &config, number)? && told)
+    is_told(alloc, &config, number, world.ledger(), seen)
+}
+
+fn is_told(
+    alloc: Global,
+    config: &Config,
+    number: u64,
+    ledger: &Ledger,
+    seen: &mut Seen,
+) -> Result<bool, Fail> {
+    seen.look(ledger.entries(), config.servers);
+    let told = all_have_finished(ledger.entries(), config.ranks);
+    Ok(is_judged(alloc, ledger, config, number)? && told)
 }
 
 #[test]

@@ -339,7 +339,7 @@ impl Writer {
                 Fetched(server, 1, (0, call)),
             ])?;
         }
-        self.write_all(&LONG_END)
+        self.write_all(LONG_END)
     }
 }
 
@@ -386,23 +386,23 @@ fn numbers(base: Base) -> (u32, u32, u64) {
 // The rows of a ledger; of the long one those behind its units.
 fn rows(base: Base) -> &'static [Row] {
     match base {
-        Base::FullServers => &FULL_SERVERS,
-        Base::GotElsewhere => &GOT_ELSEWHERE,
-        Base::Pushed | Base::PushedWithRoom => &PUSHED,
-        Base::Tries => &TRIES,
-        Base::GrantedOnce => &GRANTED_ONCE,
-        Base::BatchOfTwo | Base::BatchOnTwo => &BATCH_OF_TWO,
-        Base::DoneCalled => &DONE_CALLED,
-        Base::CancelledPush => &CANCELLED_PUSH,
-        Base::Shelves => &SHELVES,
-        Base::SoftTargets => &SOFT_TARGETS,
-        Base::PushedBack => &PUSHED_BACK,
-        Base::Long => &LONG_END,
+        Base::FullServers => FULL_SERVERS,
+        Base::GotElsewhere => GOT_ELSEWHERE,
+        Base::Pushed | Base::PushedWithRoom => PUSHED,
+        Base::Tries => TRIES,
+        Base::GrantedOnce => GRANTED_ONCE,
+        Base::BatchOfTwo | Base::BatchOnTwo => BATCH_OF_TWO,
+        Base::DoneCalled => DONE_CALLED,
+        Base::CancelledPush => CANCELLED_PUSH,
+        Base::Shelves => SHELVES,
+        Base::SoftTargets => SOFT_TARGETS,
+        Base::PushedBack => PUSHED_BACK,
+        Base::Long => LONG_END,
     }
 }
 
 // One rank fills three servers, and the next unit is rejected.
-const FULL_SERVERS: [Row; 11] = [
+const FULL_SERVERS: &[Row] = &[
     Putting(0, 0, &[0; 56]),
     Accepted(0, (0, 0)),
     Putting(0, 1, &[0; 56]),
@@ -417,7 +417,7 @@ const FULL_SERVERS: [Row; 11] = [
 ];
 
 // Rank 1 gets the unit that rank 0 puts at another server, and rank 0 tries in vain.
-const GOT_ELSEWHERE: [Row; 8] = [
+const GOT_ELSEWHERE: &[Row] = &[
     Asked(1, 0, None),
     Putting(0, 0, b"hello"),
     Accepted(0, (0, 0)),
@@ -429,7 +429,7 @@ const GOT_ELSEWHERE: [Row; 8] = [
 ];
 
 // A unit is pushed while both ranks ask for another type, and then nothing is left to do.
-const PUSHED: [Row; 10] = [
+const PUSHED: &[Row] = &[
     Asked(0, 0, Some(2)),
     Putting(1, 0, &[0; 60]),
     Accepted(1, (1, 0)),
@@ -443,7 +443,7 @@ const PUSHED: [Row; 10] = [
 ];
 
 // Three servers have nothing; after the problem is done a try and a put are told so.
-const TRIES: [Row; 10] = [
+const TRIES: &[Row] = &[
     Tried(0, 0, None),
     Looked(0, 0, 0),
     Looked(1, 0, 0),
@@ -457,7 +457,7 @@ const TRIES: [Row; 10] = [
 ];
 
 // A unit is granted to rank 0, and rank 1 asks.
-const GRANTED_ONCE: [Row; 5] = [
+const GRANTED_ONCE: &[Row] = &[
     Putting(0, 0, b"ab"),
     Accepted(0, (0, 0)),
     Asked(0, 1, None),
@@ -466,7 +466,7 @@ const GRANTED_ONCE: [Row; 5] = [
 ];
 
 // A batch of two units, counted and fetched.
-const BATCH_OF_TWO: [Row; 21] = [
+const BATCH_OF_TWO: &[Row] = &[
     Keeping(0),
     Kept,
     Putting(0, 1, b"a"),
@@ -491,7 +491,7 @@ const BATCH_OF_TWO: [Row; 21] = [
 ];
 
 // Rank 0 calls the problem done, and all are told so.
-const DONE_CALLED: [Row; 7] = [
+const DONE_CALLED: &[Row] = &[
     Asked(1, 0, None),
     Done(0, 0),
     Over(1, 0, End::NoMoreWork),
@@ -502,7 +502,7 @@ const DONE_CALLED: [Row; 7] = [
 ];
 
 // A unit is granted where it is while another server has promised room for it.
-const CANCELLED_PUSH: [Row; 10] = [
+const CANCELLED_PUSH: &[Row] = &[
     Putting(0, 0, &[0; 60]),
     Accepted(0, (0, 0)),
     Promised(1, (0, 0), 60),
@@ -516,7 +516,7 @@ const CANCELLED_PUSH: [Row; 10] = [
 ];
 
 // A unit for rank 1 alone and one of another type are looked past, and then granted.
-const SHELVES: [Row; 18] = [
+const SHELVES: &[Row] = &[
     PuttingFor(0, 1, Target::Only(Rank(1))),
     Accepted(0, (0, 0)),
     PuttingFor(1, 2, Target::Any),
@@ -538,7 +538,7 @@ const SHELVES: [Row; 18] = [
 ];
 
 // Of two units for rank 1 before others, rank 2 gets the first, and rank 0 looks for another type and then for any.
-const SOFT_TARGETS: [Row; 16] = [
+const SOFT_TARGETS: &[Row] = &[
     PuttingFor(0, 1, Target::Soft(Rank(1))),
     Accepted(0, (0, 0)),
     Tried(2, 0, Some(1)),
@@ -558,7 +558,7 @@ const SOFT_TARGETS: [Row; 16] = [
 ];
 
 // A unit is promised, withdrawn, promised again, pushed, and pushed back.
-const PUSHED_BACK: [Row; 16] = [
+const PUSHED_BACK: &[Row] = &[
     Putting(0, 0, &[0; 60]),
     Accepted(0, (0, 0)),
     Promised(1, (0, 0), 60),
@@ -580,7 +580,7 @@ const PUSHED_BACK: [Row; 16] = [
 const UNITS: u64 = 2000;
 
 // How the long ledger ends: both ranks ask in vain, and finish.
-const LONG_END: [Row; 7] = [
+const LONG_END: &[Row] = &[
     Asked(0, UNITS, None),
     Asked(1, 2 * UNITS, None),
     Exhausted,
@@ -616,34 +616,37 @@ type Mutant = (Base, u64, Edit, u64);
 fn check(rt: &impl Abort, alloc: Global, mutants: &[Mutant]) -> Result<(), Fail> {
     for (at, (base, place, edit, first)) in mutants.iter().enumerate() {
         let found = found(alloc, *base, *place, *edit)?;
-        assert_eq!(rt; found, Some(*first), "mutant {at}");
+        assert!(rt; found == Some(*first), "mutant {at}");
     }
     Ok(())
 }
 
+const BASES: &[Base] = &[
+    Base::FullServers,
+    Base::GotElsewhere,
+    Base::Pushed,
+    Base::Tries,
+    Base::GrantedOnce,
+    Base::BatchOfTwo,
+    Base::DoneCalled,
+    Base::CancelledPush,
+    Base::Shelves,
+    Base::SoftTargets,
+    Base::PushedBack,
+    Base::Long,
+];
+
 #[test]
 fn small_ledgers_are_legal(rt: HostRuntime) -> Result<(), Fail> {
-    for base in [
-        Base::FullServers,
-        Base::GotElsewhere,
-        Base::Pushed,
-        Base::Tries,
-        Base::GrantedOnce,
-        Base::BatchOfTwo,
-        Base::DoneCalled,
-        Base::CancelledPush,
-        Base::Shelves,
-        Base::SoftTargets,
-        Base::PushedBack,
-        Base::Long,
-    ] {
-        assert_eq!(rt; found(rt.alloc(), base, 0, Edit::Keep)?, None);
+    for (at, base) in BASES.iter().enumerate() {
+        let found = found(rt.alloc(), *base, 0, Edit::Keep)?;
+        assert!(rt; found.is_none(), "ledger {at}");
     }
     Ok(())
 }
 
 // A grant twice; for another target; for another type; by another server; in another call.
-const GRANTS: [Mutant; 5] = [
+const GRANTS: &[Mutant] = &[
     (Base::GrantedOnce, 5, Insert(Granted(0, 1, 0, (0, 0))), 5),
     (
         Base::GotElsewhere,
@@ -658,11 +661,11 @@ const GRANTS: [Mutant; 5] = [
 
 #[test]
 fn grants_are_checked(rt: HostRuntime) -> Result<(), Fail> {
-    check(&rt, rt.alloc(), &GRANTS)
+    check(&rt, rt.alloc(), GRANTS)
 }
 
 // No refusal; one twice; one by another charge; a unit that fits; one that is too long.
-const PUTS: [Mutant; 5] = [
+const PUTS: &[Mutant] = &[
     (Base::FullServers, 8, Remove, 9),
     (Base::FullServers, 8, Set(Refused(0, (0, 3), 56)), 8),
     (Base::FullServers, 8, Set(Refused(1, (0, 3), 57)), 8),
@@ -672,10 +675,10 @@ const PUTS: [Mutant; 5] = [
 
 #[test]
 fn puts_are_checked(rt: HostRuntime) -> Result<(), Fail> {
-    check(&rt, rt.alloc(), &PUTS)
+    check(&rt, rt.alloc(), PUTS)
 }
 
-const IN_VAIN: [Mutant; 5] = [
+const IN_VAIN: &[Mutant] = &[
     (Base::GotElsewhere, 5, Remove, 6),
     (Base::GotElsewhere, 3, Remove, 4),
     (Base::GotElsewhere, 5, Set(Looked(2, 0, 1)), 5),
@@ -685,12 +688,12 @@ const IN_VAIN: [Mutant; 5] = [
 
 #[test]
 fn tries_are_checked(rt: HostRuntime) -> Result<(), Fail> {
-    check(&rt, rt.alloc(), &IN_VAIN)
+    check(&rt, rt.alloc(), IN_VAIN)
 }
 
 // The common part is freed early; a rank asks while a fetch is due; no fetch of the unit; the common part is fetched
 // elsewhere; another count; a rank finishes while its batch goes on.
-const BATCHES: [Mutant; 6] = [
+const BATCHES: &[Mutant] = &[
     (Base::BatchOfTwo, 15, Insert(Freed), 15),
     (Base::BatchOfTwo, 20, Set(Asked(0, 9, None)), 20),
     (Base::BatchOfTwo, 13, Remove, 13),
@@ -701,11 +704,11 @@ const BATCHES: [Mutant; 6] = [
 
 #[test]
 fn batches_are_checked(rt: HostRuntime) -> Result<(), Fail> {
-    check(&rt, rt.alloc(), &BATCHES)
+    check(&rt, rt.alloc(), BATCHES)
 }
 
 // The last has another end.
-const EXHAUSTIONS: [Mutant; 7] = [
+const EXHAUSTIONS: &[Mutant] = &[
     (Base::Pushed, 6, Insert(Exhausted), 6),
     (Base::Pushed, 5, Insert(Exhausted), 5),
     (Base::Pushed, 4, Insert(Exhausted), 8),
@@ -717,12 +720,12 @@ const EXHAUSTIONS: [Mutant; 7] = [
 
 #[test]
 fn exhaustion_is_checked(rt: HostRuntime) -> Result<(), Fail> {
-    check(&rt, rt.alloc(), &EXHAUSTIONS)
+    check(&rt, rt.alloc(), EXHAUSTIONS)
 }
 
 // A promise where the unit is; none; a promise withdrawn while the unit travels; one that still stands; a pinned unit left
 // out; a fetch by another rank.
-const PUSHES: [Mutant; 6] = [
+const PUSHES: &[Mutant] = &[
     (Base::PushedWithRoom, 4, Set(Promised(1, (1, 0), 60)), 4),
     (Base::Pushed, 4, Remove, 4),
     (Base::Pushed, 6, Set(Withdrawn(0, (1, 0))), 6),
@@ -733,11 +736,11 @@ const PUSHES: [Mutant; 6] = [
 
 #[test]
 fn pushes_are_checked(rt: HostRuntime) -> Result<(), Fail> {
-    check(&rt, rt.alloc(), &PUSHES)
+    check(&rt, rt.alloc(), PUSHES)
 }
 
 // A unit for the rank itself; one for any; one of the type that is wanted; and looks at other units than those wanted.
-const LOOKS: [Mutant; 7] = [
+const LOOKS: &[Mutant] = &[
     (
         Base::Shelves,
         0,
@@ -754,11 +757,11 @@ const LOOKS: [Mutant; 7] = [
 
 #[test]
 fn looks_go_by_type_and_target(rt: HostRuntime) -> Result<(), Fail> {
-    check(&rt, rt.alloc(), &LOOKS)
+    check(&rt, rt.alloc(), LOOKS)
 }
 
 // The second is for rank 1 alone, and the third of the type of the unit.
-const SOFT: [Mutant; 5] = [
+const SOFT: &[Mutant] = &[
     (Base::SoftTargets, 3, Set(Looked(0, 2, 0)), 3),
     (
         Base::SoftTargets,
@@ -773,12 +776,12 @@ const SOFT: [Mutant; 5] = [
 
 #[test]
 fn soft_targets_let_each_rank_have_the_unit(rt: HostRuntime) -> Result<(), Fail> {
-    check(&rt, rt.alloc(), &SOFT)
+    check(&rt, rt.alloc(), SOFT)
 }
 
 // A push without its promise, twice; one from elsewhere; a withdrawal where no promise stands; no promise back; a grant
 // where the unit was; a charge that still stands, and one that counts twice.
-const PUSHES_BACK: [Mutant; 8] = [
+const PUSHES_BACK: &[Mutant] = &[
     (Base::PushedBack, 3, Remove, 3),
     (Base::PushedBack, 4, Remove, 4),
     (Base::PushedBack, 5, Set(Left(1, 0, (0, 0))), 5),
@@ -791,7 +794,7 @@ const PUSHES_BACK: [Mutant; 8] = [
 
 #[test]
 fn pushes_back_are_checked(rt: HostRuntime) -> Result<(), Fail> {
-    check(&rt, rt.alloc(), &PUSHES_BACK)
+    check(&rt, rt.alloc(), PUSHES_BACK)
 }
 
 // The place of the last grant, and that of the last entry.
@@ -800,7 +803,7 @@ const LAST_GRANT: u64 = 6 * UNITS - 3;
 const LAST: u64 = 6 * UNITS + 6;
 
 // A unit that was granted before; one that is elsewhere; no fetch; another call.
-const LONG: [Mutant; 4] = [
+const LONG: &[Mutant] = &[
     (
         Base::Long,
         LAST_GRANT,
@@ -819,5 +822,5 @@ const LONG: [Mutant; 4] = [
 
 #[test]
 fn long_ledgers_are_checked_to_their_end(rt: HostRuntime) -> Result<(), Fail> {
-    check(&rt, rt.alloc(), &LONG)
+    check(&rt, rt.alloc(), LONG)
 }

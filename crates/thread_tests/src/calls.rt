@@ -146,7 +146,7 @@ impl<M: Mailing> Host<M> {
         Ok(())
     }
 
-    // The next letter is of rank 0 and says this.
+    /// The next letter is of rank 0 and says this.
     pub fn is_told<R: Wait + Copy>(&mut self, rt: &R, wanted: Heard) -> bool {
         let (from, letter) = self.desk.receive(rt);
         heard_of(from, &letter.message) == wanted
@@ -163,6 +163,7 @@ impl<M: Mailing> Host<M> {
     }
 }
 
+/// The numbers of a run of two ranks and a server.
 pub fn two_ranks() -> Result<Config, Fail>
     ensures { IfOk result (λ c. (c.servers ≡ 1) × (c.ranks ≡ 2)) }
 {
@@ -186,7 +187,12 @@ fn make_scene<R: Wait + Copy, M: Mailing>(
     ensures { IfOk result (λ s. has_finished s.link.run.core.transcript ≡ false) }
 {
     let config = two_ranks()?;
-    let Three { first, third, .. } = three_desks::<M>(alloc, config, mail)?;
+    let Three {
+        first,
+        second,
+        third,
+    } = three_desks::<M>(alloc, config, mail)?;
+    drop(second);
     let (seen, points) = bounded(alloc, 16)?;
     let gate = SeenGate { rt, seen };
     let link = ThreadedLink::new(alloc, rt, config, Rank(0), first, gate)?;
@@ -365,8 +371,7 @@ struct Play<'a> {
     calls: &'a [(Does, Told)],
     passes: &'a [GatePoint],
     heard: &'a [Heard],
-    // What the link leaves at its end; none, if a batch is going on, in which it has no end.
-    leaves: Option<Leaves>,
+    leaves: Leaves,
 }
 
 // The letter of the server that a link did not expect.
@@ -377,18 +382,23 @@ enum Strange {
     Grant { request: u64 },
 }
 
-// What a link leaves: its trouble, the letter that it did not expect, and how many calls it keeps.
+// What a link leaves, with how many calls it keeps.
 #[derive(Clone, Copy)]
-struct Leaves {
-    trouble: Option<Trouble>,
-    strange: Strange,
-    said: usize,
+enum Leaves {
+    // A batch is going on, in which the link has no end.
+    Open,
+    Well(usize),
+    // Its trouble, and the letter that it did not expect.
+    Failed(Trouble, Strange, usize),
 }
 
-fn is_left<M: Mailing>(end: &LinkEnd<M>, leaves: &Leaves) -> bool {
-    end.trouble == leaves.trouble
-        && is_strange(&end.strange, leaves.strange)
-        && end.said.len() == leaves.said
+fn is_left<M: Mailing>(end: &LinkEnd<M>, leaves: Leaves) -> bool {
+    let (trouble, strange, said) = match leaves {
+        Leaves::Open => return false,
+        Leaves::Well(said) => (None, Strange::Nothing, said),
+        Leaves::Failed(trouble, strange, said) => (Some(trouble), strange, said),
+    };
+    end.trouble == trouble && is_strange(&end.strange, strange) && end.said.len() == said
 }
 
 fn is_strange(kept: &Option<(u32, Letter)>, wanted: Strange) -> bool {
@@ -408,15 +418,15 @@ fn is_of(message: &Message, wanted: Strange) -> bool {
     }
 }
 
-// The link leaves this at its end; if nothing, a batch is going on.
-fn is_end<R: Wait + Copy, M: Mailing>(link: Link<R, M>, wanted: &Option<Leaves>) -> bool
+// The link leaves this at its end; if a batch is going on, it has none.
+fn is_end<R: Wait + Copy, M: Mailing>(link: Link<R, M>, leaves: Leaves) -> bool
     requires { has_finished link.run.core.transcript ≡ false }
 {
-    let open = link.batch_open();
-    match wanted {
-        Some(wanted) if !open => is_left(&link.end(), wanted),
-        _ => open && wanted.is_none(),
+    if link.batch_open() {
+        return matches!(leaves, Leaves::Open);
     }
+    let end = link.end();
+    is_left(&end, leaves)
 }
 
 // The calls are told and the points are passed as the play says.
@@ -445,118 +455,125 @@ fn is_played_over<R: Wait + Copy, M: Mailing>(
 ) -> Result<bool, Fail>
     requires mail { M.places ≡ places_of mail.inboxes.items }
 {
-    let mut scene = make_scene::<R, M>(rt, alloc, mail)?;
-    if !are_played(rt, alloc, &mut scene, play)? {
-        return Ok(false);
+    match make_scene::<R, M>(rt, alloc, mail) {
+        Ok(scene) => Ok(is_played_in(rt, alloc, scene, play)?),
+        Err(fail) => Err(fail),
     }
-    let Scene { link, mut host, .. } = scene;
-    Ok(is_end(link, &play.leaves) && host.are_told(&rt, play.heard))
 }
 
-// A link that ends well, after this many calls.
-const fn well(said: usize) -> Option<Leaves> {
-    Some(Leaves {
-        trouble: None,
-        strange: Strange::Nothing,
-        said,
-    })
+fn is_played_in<R: Wait + Copy, M: Mailing>(
+    rt: R,
+    alloc: Global,
+    mut scene: Scene<R, M>,
+    play: &Play,
+) -> Result<bool, NoMemory>
+    requires { has_finished scene.link.run.core.transcript ≡ false }
+{
+    let played = are_played(rt, alloc, &mut scene, play)?;
+    Ok(played && has_ended(rt, scene, play))
 }
 
-// A link that fails after this many calls.
-const fn failed(trouble: Trouble, strange: Strange, said: usize) -> Option<Leaves> {
-    Some(Leaves {
-        trouble: Some(trouble),
-        strange,
-        said,
-    })
+// The rank's link leaves at its end what the play says, and the server hears what it says.
+fn has_ended<R: Wait + Copy, M: Mailing>(rt: R, scene: Scene<R, M>, play: &Play) -> bool
+    requires { has_finished scene.link.run.core.transcript ≡ false }
+{
+    let Scene {
+        link,
+        mut host,
+        points,
+    } = scene;
+    drop(points);
+    is_end(link, play.leaves) && host.are_told(&rt, play.heard)
 }
 
 const LATE: u64 = 1 << 48;
 
+const TOO_LONG: Trouble = Trouble::TooLong { stamp: LATE };
+
+const PLAYS: &[Play] = &[
+    Play {
+        shows: "a put is accepted, and each server hears of Finish",
+        says: &[Says::Accepted { request: 0 }],
+        calls: &[(Does::Put, Told::Fine)],
+        passes: &[],
+        heard: &[Heard::Put, Heard::Finish],
+        leaves: Leaves::Well(2),
+    },
+    Play {
+        shows: "a unit is granted and fetched, and the gate is passed",
+        says: &[
+            Says::GrantedInBatch { request: 0 },
+            Says::Own { request: 1 },
+            Says::Common { request: 1 },
+        ],
+        calls: &[(Does::Work, Told::Bytes)],
+        passes: &[
+            GatePoint::Granted { call: 0 },
+            GatePoint::Fetched { call: 1 },
+        ],
+        heard: &[],
+        leaves: Leaves::Well(3),
+    },
+    Play {
+        shows: "an end is told again without a letter",
+        says: &[Says::Exhausted { request: 0 }],
+        calls: &[
+            (Does::Reserve, Told::Exhausted),
+            (Does::Reserve, Told::Exhausted),
+            (Does::Put, Told::Exhausted),
+        ],
+        passes: &[],
+        heard: &[Heard::Other, Heard::Finish],
+        leaves: Leaves::Well(4),
+    },
+    Play {
+        shows: "a failed server is told once, and the rank is gone",
+        says: &[Says::Broken { stamp: LATE }],
+        calls: &[
+            (Does::Put, Told::TooLong { stamp: LATE }),
+            (Does::Put, Told::TooLong { stamp: LATE }),
+        ],
+        passes: &[],
+        heard: &[Heard::Put, Heard::Gone(TOO_LONG)],
+        leaves: Leaves::Failed(TOO_LONG, Strange::Nothing, 0),
+    },
+    Play {
+        shows: "a stamp that is not too long is not told",
+        says: &[Says::Broken { stamp: 5 }],
+        calls: &[(Does::Put, Told::Memory)],
+        passes: &[],
+        heard: &[],
+        leaves: Leaves::Failed(Trouble::Memory, Strange::Nothing, 0),
+    },
+    Play {
+        shows: "a letter that is not expected is kept",
+        says: &[Says::Accepted { request: 4 }],
+        calls: &[(Does::Put, Told::Memory)],
+        passes: &[],
+        heard: &[],
+        leaves: Leaves::Failed(Trouble::Memory, Strange::Accepted { request: 4 }, 0),
+    },
+    Play {
+        shows: "a unit is not granted twice",
+        says: &[Says::Granted { request: 0 }, Says::Granted { request: 1 }],
+        calls: &[(Does::Reserve, Told::Fine), (Does::Reserve, Told::Memory)],
+        passes: &[GatePoint::Granted { call: 0 }],
+        heard: &[],
+        leaves: Leaves::Failed(Trouble::Memory, Strange::Grant { request: 1 }, 1),
+    },
+    Play {
+        shows: "a batch is going on after its beginning",
+        says: &[Says::Accepted { request: 0 }],
+        calls: &[(Does::BeginBatch, Told::Fine)],
+        passes: &[],
+        heard: &[Heard::KeepCommon],
+        leaves: Leaves::Open,
+    },
+];
+
 #[test]
 fn calls_are_told_what_their_server_said(rt: HostRuntime) -> Result<(), Fail> {
-    let too_long = Trouble::TooLong { stamp: LATE };
-    let plays = [
-        Play {
-            shows: "a put is accepted, and each server hears of Finish",
-            says: &[Says::Accepted { request: 0 }],
-            calls: &[(Does::Put, Told::Fine)],
-            passes: &[],
-            heard: &[Heard::Put, Heard::Finish],
-            leaves: well(2),
-        },
-        Play {
-            shows: "a unit is granted and fetched, and the gate is passed",
-            says: &[
-                Says::GrantedInBatch { request: 0 },
-                Says::Own { request: 1 },
-                Says::Common { request: 1 },
-            ],
-            calls: &[(Does::Work, Told::Bytes)],
-            passes: &[
-                GatePoint::Granted { call: 0 },
-                GatePoint::Fetched { call: 1 },
-            ],
-            heard: &[],
-            leaves: well(3),
-        },
-        Play {
-            shows: "an end is told again without a letter",
-            says: &[Says::Exhausted { request: 0 }],
-            calls: &[
-                (Does::Reserve, Told::Exhausted),
-                (Does::Reserve, Told::Exhausted),
-                (Does::Put, Told::Exhausted),
-            ],
-            passes: &[],
-            heard: &[Heard::Other, Heard::Finish],
-            leaves: well(4),
-        },
-        Play {
-            shows: "a failed server is told once, and the rank is gone",
-            says: &[Says::Broken { stamp: LATE }],
-            calls: &[
-                (Does::Put, Told::TooLong { stamp: LATE }),
-                (Does::Put, Told::TooLong { stamp: LATE }),
-            ],
-            passes: &[],
-            heard: &[Heard::Put, Heard::Gone(too_long)],
-            leaves: failed(too_long, Strange::Nothing, 0),
-        },
-        Play {
-            shows: "a stamp that is not too long is not told",
-            says: &[Says::Broken { stamp: 5 }],
-            calls: &[(Does::Put, Told::Memory)],
-            passes: &[],
-            heard: &[],
-            leaves: failed(Trouble::Memory, Strange::Nothing, 0),
-        },
-        Play {
-            shows: "a letter that is not expected is kept",
-            says: &[Says::Accepted { request: 4 }],
-            calls: &[(Does::Put, Told::Memory)],
-            passes: &[],
-            heard: &[],
-            leaves: failed(Trouble::Memory, Strange::Accepted { request: 4 }, 0),
-        },
-        Play {
-            shows: "a unit is not granted twice",
-            says: &[Says::Granted { request: 0 }, Says::Granted { request: 1 }],
-            calls: &[(Does::Reserve, Told::Fine), (Does::Reserve, Told::Memory)],
-            passes: &[GatePoint::Granted { call: 0 }],
-            heard: &[],
-            leaves: failed(Trouble::Memory, Strange::Grant { request: 1 }, 1),
-        },
-        Play {
-            shows: "a batch is going on after its beginning",
-            says: &[Says::Accepted { request: 0 }],
-            calls: &[(Does::BeginBatch, Told::Fine)],
-            passes: &[],
-            heard: &[Heard::KeepCommon],
-            leaves: None,
-        },
-    ];
-    for play in &plays {
+    for play in PLAYS {
         assert!(rt; is_played(rt, rt.alloc(), play)?, "{}", play.shows);
     }
     Ok(())

@@ -2,66 +2,64 @@
 
 ghost use Rattle.std.specs.Prelude.{◌≡◌, ◌≤◌, ◌<◌, ◌^◌, ℕ, length, map, Some, slice_get};
 ghost use Rattle.core_run.specs.World.{actors};
-ghost use Rattle.rank_mail.specs.Mailboxes.{PostModel, fresh_inbox, fresh_post};
+ghost use Rattle.rank_mail.specs.Mailboxes.{PostModel, fresh_inbox, fresh_post, places_of};
 
-use actor_desk::{Mailing, clear, desks};
-use adlb_unit::{Actor, Config, Letter, Message, Rank, Sending, Server};
-use bag_ledger::Call;
+use crate::mail::{Mail, Three, send, three_desks};
+use actor_desk::{Desk, Mailing, clear, desks};
+use adlb_unit::{Actor, Config, Message, NoMemory, Rank, Server};
 use merge_history::Cause;
 use rank_mail::{Inbox, Post, mailboxes};
 use std::alloc::Global;
 use std::marker::Brand;
 use std::sync::Wait;
-use std::test::*;
+use std::test::Fail;
 
 #[test]
 fn an_event_sends_its_letter(rt: HostRuntime) -> Result<(), Fail> {
-    let config = Config::new(1, 1, 64)?;
-    let (posts, inboxes) = mailboxes(rt.alloc(), 3, 4)?;
-    let (from, stamp) = one_letter::<Brand, _>(&rt, rt.alloc(), config, posts, inboxes)?;
+    let (from, stamp) = one_letter(rt, rt.alloc())?;
     assert_eq!(rt; from, 0);
     assert_eq!(rt; stamp, 7);
     Ok(())
 }
 
+fn one_letter<R: Wait + Copy>(rt: R, alloc: Global) -> Result<(u32, u64), Fail> {
+    one_letter_over::<R, Brand>(rt, alloc, Mail::new(alloc)?)
+}
+
 // The rank sends a letter to the server, which receives it, and enters that. These are the letter's sender and its stamp.
-fn one_letter<M: Mailing, R: Wait>(
+fn one_letter_over<R: Wait + Copy, M: Mailing>(
+    rt: R,
+    alloc: Global,
+    mail: Mail,
+) -> Result<(u32, u64), Fail>
+    requires mail { M.places ≡ places_of mail.inboxes.items }
+{
+    let config = Config::new(1, 1, 64)?;
+    let Three {
+        first: mut rank,
+        second: mut server,
+        third,
+    } = three_desks::<M>(alloc, config, mail)?;
+    drop(third);
+    let to = Actor::Server(Server(0));
+    let sent = send(&rt, alloc, &mut rank, to, 7, Message::Finish);
+    rank.tell(&rt, to, Message::Finish);
+    let heard = hear(&rt, alloc, &mut server);
+    Ok(sent.and(heard)?)
+}
+
+// The next letter, which is entered: its sender and its stamp.
+fn hear<R: Wait, M: Mailing>(
     rt: &R,
     alloc: Global,
-    config: Config,
-    posts: Vec<Post>,
-    inboxes: Vec<Inbox>,
-) -> Result<(u32, u64), Fail>
-    requires reach { actors config ≤ length M.places }
-    requires few { length M.places < 2 ^ 32 }
-    requires len { length posts.items ≡ length M.places }
-    requires inboxes { inboxes.items ≡ map (fresh_inbox (length M.places)) M.places }
-    requires posts { (k : ℕ) (p : PostModel) → slice_get posts.items k ≡ Some p → p ≡ fresh_post k M.places }
-{
-    let mut actors = desks::<M>(alloc, config, posts, inboxes)?.into_iter();
-    let mut rank = actors.next().ok_or("a rank")?;
-    let mut server = actors.next().ok_or("a server")?;
-    let letter = Letter {
-        stamp: 7,
-        place: 0,
-        message: Message::Finish,
-    };
-    let to = Actor::Server(Server(0));
-    rank.make_room()?;
-    let sends = vec![in alloc; Sending { to, letter }]?;
-    rank.enter(rt, 7, Cause::Called(Call::Finish), sends, Vec::new(alloc))?;
-    rank.tell(rt, to, Message::Finish);
+    server: &mut Desk<M>,
+) -> Result<(u32, u64), NoMemory> {
+    server.make_room()?;
     let (number, letter) = server.receive(rt);
     let stamp = letter.stamp;
     let from = Actor::Rank(Rank(number));
-    server.make_room()?;
-    server.enter(
-        rt,
-        8,
-        Cause::Got { from, letter },
-        Vec::new(alloc),
-        Vec::new(alloc),
-    )?;
+    let cause = Cause::Got { from, letter };
+    server.enter(rt, 8, cause, Vec::new(alloc), Vec::new(alloc))?;
     Ok((number, stamp))
 }
 

@@ -27,19 +27,6 @@ fn letter(place: u64) -> Letter {
     }
 }
 
-#[test]
-fn two_letters_arrive_in_order(rt: HostRuntime) -> Result<(), Fail> {
-    let (mut posts, mut inboxes) = mailboxes(rt.alloc(), 2, 4)?;
-    posts[0].send(&rt, 1, letter(0));
-    posts[0].send(&rt, 1, letter(1));
-    for place in 0..2 {
-        let (from, got) = inboxes[1].receive(&rt);
-        assert_eq!(rt; from, 0);
-        assert_eq!(rt; got.place, place);
-    }
-    Ok(())
-}
-
 // Sends a letter, if there is such an actor.
 fn send_one<R: Wait>(rt: &R, post: &mut Post, to: u32, place: u64) -> bool {
     if !post.reaches(to) {
@@ -47,6 +34,24 @@ fn send_one<R: Wait>(rt: &R, post: &mut Post, to: u32, place: u64) -> bool {
     }
     post.send(rt, to, letter(place));
     true
+}
+
+// Two letters that are sent to actor 1 arrive in order, from actor 0.
+fn two_arrive<R: Wait>(rt: &R, post: &mut Post, inbox: &mut Inbox) -> bool {
+    let sent = send_one(rt, post, 1, 0) && send_one(rt, post, 1, 1);
+    sent && is_next(rt, inbox, 0) && is_next(rt, inbox, 1)
+}
+
+fn is_next<R: Wait>(rt: &R, inbox: &mut Inbox, place: u64) -> bool {
+    let (from, letter) = inbox.receive(rt);
+    from == 0 && letter.place == place
+}
+
+#[test]
+fn two_letters_arrive_in_order(rt: HostRuntime) -> Result<(), Fail> {
+    let (mut posts, mut inboxes) = mailboxes(rt.alloc(), 2, 4)?;
+    assert!(rt; two_arrive(&rt, &mut posts[0], &mut inboxes[1]));
+    Ok(())
 }
 
 // Sends letters to the receivers in turn; to each their places rise from 0.
@@ -62,18 +67,35 @@ fn send_all<R: Wait + Clock>(rt: &R, mut post: Post, pauses: bool) -> bool {
     true
 }
 
+// The places of the next letters, by their senders.
+#[derive(Drop)]
+struct Next {
+    places: [u64; ACTORS as usize],
+}
+
+impl Next {
+    // The letter is the next of its sender.
+    fn is(&mut self, from: u32, letter: &Letter) -> bool {
+        match self.places.get_mut(from as usize) {
+            Some(place) if *place == letter.place => {
+                *place = place.wrapping_add(1);
+                true
+            }
+            _ => false,
+        }
+    }
+}
+
 // Receives all letters. Those of each sender come in order, each once.
 fn receive_all<R: Wait>(rt: &R, mut inbox: Inbox) -> bool {
-    let mut next = [0u64; ACTORS as usize];
+    let mut next = Next {
+        places: [0; ACTORS as usize],
+    };
     for _ in 0..RECEIVED {
         let (from, letter) = inbox.receive(rt);
-        let Some(place) = next.get_mut(from as usize) else {
-            return false;
-        };
-        if letter.place != *place {
+        if !next.is(from, &letter) {
             return false;
         }
-        *place = place.wrapping_add(1);
     }
     true
 }

@@ -55,7 +55,12 @@ fn job<R: Wait + Copy, M: Mailing>(
     requires mail { M.places ≡ places_of mail.inboxes.items }
 {
     let config = two_ranks()?;
-    let Three { first, third, .. } = three_desks::<M>(alloc, config, mail)?;
+    let Three {
+        first,
+        second,
+        third,
+    } = three_desks::<M>(alloc, config, mail)?;
+    drop(second);
     let job = RankJob::new(
         alloc,
         rt,
@@ -111,23 +116,32 @@ fn is_run_over<R: Wait + Copy, M: Mailing>(
     Ok(ended && host.is_told(&rt, wanted.heard))
 }
 
+/// Whether the program fails, and what its rank leaves.
+const ENDS: &[(bool, Ended)] = &[
+    (
+        false,
+        Ended {
+            outcome: Some(5),
+            trouble: None,
+            said: 1,
+            heard: Heard::Finish,
+        },
+    ),
+    (
+        true,
+        Ended {
+            outcome: None,
+            trouble: Some(Trouble::Memory),
+            said: 0,
+            heard: Heard::Gone(Trouble::Memory),
+        },
+    ),
+];
+
 #[test]
 fn a_rank_has_an_outcome_or_is_gone(rt: HostRuntime) -> Result<(), Fail> {
-    let memory = Trouble::Memory;
-    let well = Ended {
-        outcome: Some(5),
-        trouble: None,
-        said: 1,
-        heard: Heard::Finish,
-    };
-    let gone = Ended {
-        outcome: None,
-        trouble: Some(memory),
-        said: 0,
-        heard: Heard::Gone(memory),
-    };
-    for (fails, wanted) in [(false, well), (true, gone)] {
-        assert!(rt; is_run(rt, rt.alloc(), fails, &wanted)?);
+    for (fails, wanted) in ENDS {
+        assert!(rt; is_run(rt, rt.alloc(), *fails, wanted)?);
     }
     Ok(())
 }

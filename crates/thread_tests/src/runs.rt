@@ -116,7 +116,7 @@ fn take_one<A: Adlb>(link: &mut A) -> Result<bool, Trouble>
 }
 
 // How a run of workers ends.
-#[derive(Clone, Copy, Debug, PartialEq, Eq)]
+#[derive(Clone, Copy, PartialEq, Eq)]
 enum RunEnd {
     // The ranks took this many units together, and this many are left. The history has events, and the ledger is legal.
     Took(u64, usize),
@@ -172,11 +172,14 @@ fn workers(alloc: Global, ranks: u32, puts: u32, failing: u32) -> Result<Vec<Wor
     Ok(programs)
 }
 
+/// Ranks and servers.
+type Size = (u32, u32);
+
 // How a run of these workers over this many servers ends.
 fn run<T: Spawner>(
     alloc: Global,
     threads: &mut T,
-    (ranks, servers): (u32, u32),
+    (ranks, servers): Size,
     puts: u32,
     failing: u32,
 ) -> Result<RunEnd, Fail> {
@@ -193,20 +196,15 @@ fn run<T: Spawner>(
 
 const NONE: u32 = 99;
 
+const SIZES: &[Size] = &[(1, 1), (2, 1), (5, 1), (32, 1), (1, 2), (5, 3), (32, 8)];
+
 #[test]
 fn all_that_is_put_is_taken(rt: HostRuntime) -> Result<(), Fail> {
-    for (ranks, servers) in [
-        (1u32, 1u32),
-        (2, 1),
-        (5, 1),
-        (32, 1),
-        (1, 2),
-        (5, 3),
-        (32, 8),
-    ] {
-        let mut threads = RealThreads::new(rt);
-        let ran = run(rt.alloc(), &mut threads, (ranks, servers), 3, NONE)?;
-        assert_eq!(rt; ran, RunEnd::Took(3 * u64::from(ranks), 0));
+    let mut threads = RealThreads::new(rt);
+    for size in SIZES {
+        let ran = run(rt.alloc(), &mut threads, *size, 3, NONE)?;
+        let wanted = RunEnd::Took(3 * u64::from(size.0), 0);
+        assert!(rt; ran == wanted, "{size:?}");
     }
     Ok(())
 }
@@ -215,41 +213,59 @@ fn all_that_is_put_is_taken(rt: HostRuntime) -> Result<(), Fail> {
 fn refused<R: Threads + Wait + Send + Copy + 'static>(
     rt: R,
     alloc: Global,
-    (ranks, servers): (u32, u32),
+    size: Size,
     start: u32,
 ) -> Result<RunEnd, Fail> {
     let fails = vec![in alloc; u64::from(start); 1]?;
     let mut threads = ListedThreads::new(rt, fails);
-    run(alloc, &mut threads, (ranks, servers), 3, NONE)
+    run(alloc, &mut threads, size, 3, NONE)
 }
+
+// Each start is refused in turn, and the run ends with that.
+fn each_is_refused<R: Threads + Wait + Send + Copy + 'static>(
+    rt: R,
+    alloc: Global,
+    size: Size,
+) -> Result<bool, Fail> {
+    for start in 0..size.0.saturating_add(size.1) {
+        if refused(rt, alloc, size, start.saturating_add(1))? != RunEnd::NoThread {
+            return Ok(false);
+        }
+    }
+    Ok(true)
+}
+
+const REFUSED: &[Size] = &[(2, 1), (32, 1), (1, 2), (3, 8), (32, 8)];
 
 #[test]
 fn a_refused_start_ends_the_run(rt: HostRuntime) -> Result<(), Fail> {
-    for (ranks, servers) in [(2u32, 1u32), (32, 1), (1, 2), (3, 8), (32, 8)] {
-        for start in 1..ranks + servers + 1 {
-            let ran = refused(rt, rt.alloc(), (ranks, servers), start)?;
-            assert_eq!(rt; ran, RunEnd::NoThread);
-        }
+    for size in REFUSED {
+        assert!(rt; each_is_refused(rt, rt.alloc(), *size)?, "{size:?}");
     }
     Ok(())
 }
 
+/// Ranks and servers, and the rank that fails.
+const FAILING: &[(Size, u32)] = &[
+    ((1, 1), 0),
+    ((2, 1), 1),
+    ((5, 1), 4),
+    ((32, 1), 31),
+    ((1, 2), 0),
+    ((5, 8), 4),
+    ((32, 8), 31),
+];
+
 #[test]
 fn a_rank_that_fails_ends_the_run(rt: HostRuntime) -> Result<(), Fail> {
-    for (ranks, servers, failing) in [
-        (1, 1, 0),
-        (2, 1, 1),
-        (5, 1, 4),
-        (32, 1, 31),
-        (1, 2, 0),
-        (5, 8, 4),
-        (32, 8, 31),
-    ] {
-        for puts in [0, 3] {
-            let mut threads = RealThreads::new(rt);
-            let ran = run(rt.alloc(), &mut threads, (ranks, servers), puts, failing)?;
-            assert_eq!(rt; ran, RunEnd::Memory);
-        }
+    let mut threads = RealThreads::new(rt);
+    for (size, failing) in FAILING {
+        let idle = run(rt.alloc(), &mut threads, *size, 0, *failing)?;
+        let busy = run(rt.alloc(), &mut threads, *size, 3, *failing)?;
+        assert!(rt;
+            idle == RunEnd::Memory && busy == RunEnd::Memory,
+            "{size:?}"
+        );
     }
     Ok(())
 }

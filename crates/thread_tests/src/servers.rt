@@ -1,6 +1,7 @@
 //! How the server of one rank ends.
 
 ghost use Rattle.std.specs.Prelude.{◌≡◌};
+ghost use Rattle.actor_desk.specs.Desks.{IsNew};
 ghost use Rattle.rank_mail.specs.Mailboxes.{places_of};
 
 use crate::mail::{Mail, Three, send, three_desks};
@@ -107,37 +108,85 @@ fn is_served_over<R: Wait + Copy, M: Mailing>(
 {
     let config = Config::new(1, 1, 64)?;
     let Three {
-        first: mut rank,
-        second: server,
-        ..
+        first,
+        second,
+        third,
     } = three_desks::<M>(alloc, config, mail)?;
+    drop(third);
+    Ok(serves(rt, alloc, config, first, second, sent, wanted)?)
+}
+
+// The server at this desk ends so, to which the rank at that desk sends this.
+fn serves<R: Wait + Copy, M: Mailing>(
+    rt: R,
+    alloc: Global,
+    config: Config,
+    mut rank: Desk<M>,
+    server: Desk<M>,
+    sent: Sent,
+    wanted: &Wanted,
+) -> Result<bool, NoMemory>
+    requires server { IsNew config 1 server }
+    requires one_rank { config.ranks ≡ 1 }
+    requires one_server { config.servers ≡ 1 }
+{
     send_all(&rt, alloc, &mut rank, sent)?;
-    let end = ServerJob::new(alloc, rt, config, Server(0), server)?.run();
-    let ended = has_ended(&end, wanted);
+    let ended = ends(rt, alloc, config, server, wanted)?;
     Ok(ended && is_told(&rt, &mut rank, wanted.told))
 }
 
+fn ends<R: Wait + Copy, M: Mailing>(
+    rt: R,
+    alloc: Global,
+    config: Config,
+    server: Desk<M>,
+    wanted: &Wanted,
+) -> Result<bool, NoMemory>
+    requires server { IsNew config 1 server }
+    requires one_rank { config.ranks ≡ 1 }
+    requires one_server { config.servers ≡ 1 }
+{
+    let job = ServerJob::new(alloc, rt, config, Server(0), server)?;
+    let end = job.run();
+    Ok(has_ended(&end, wanted))
+}
+
+/// What the rank sends, and how the server ends.
+const ENDS: &[(Sent, Wanted)] = &[
+    (
+        Sent::Strange,
+        Wanted {
+            trouble: Some(Trouble::Memory),
+            strange: true,
+            told: Some(Trouble::Memory),
+        },
+    ),
+    (
+        Sent::Finish {
+            stamp: STAMP_LIMIT - 1,
+        },
+        Wanted {
+            trouble: Some(Trouble::TooLong { stamp: STAMP_LIMIT }),
+            strange: false,
+            told: None,
+        },
+    ),
+    (
+        Sent::Finish {
+            stamp: STAMP_LIMIT - 2,
+        },
+        Wanted {
+            trouble: None,
+            strange: false,
+            told: None,
+        },
+    ),
+];
+
 #[test]
 fn what_is_not_expected_breaks_the_server(rt: HostRuntime) -> Result<(), Fail> {
-    let memory = Some(Trouble::Memory);
-    let stamp = STAMP_LIMIT;
-    let rows = [
-        (Sent::Strange, memory, true, memory),
-        (
-            Sent::Finish { stamp: stamp - 1 },
-            Some(Trouble::TooLong { stamp }),
-            false,
-            None,
-        ),
-        (Sent::Finish { stamp: stamp - 2 }, None, false, None),
-    ];
-    for (sent, trouble, strange, told) in rows {
-        let wanted = Wanted {
-            trouble,
-            strange,
-            told,
-        };
-        assert!(rt; is_served(rt, rt.alloc(), sent, &wanted)?);
+    for (sent, wanted) in ENDS {
+        assert!(rt; is_served(rt, rt.alloc(), *sent, wanted)?);
     }
     Ok(())
 }

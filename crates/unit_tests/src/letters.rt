@@ -43,6 +43,15 @@ enum Heavy {
     Failed,
 }
 
+const ALL: &[Heavy] = &[
+    Heavy::Put,
+    Heavy::PushUnit,
+    Heavy::KeepCommon,
+    Heavy::Bytes,
+    Heavy::Token,
+    Heavy::Failed,
+];
+
 fn message(alloc: Global, heavy: Heavy) -> Result<Message, NoMemory> {
     Ok(match heavy {
         Heavy::Put => Message::Put { unit: unit(alloc)? },
@@ -70,29 +79,26 @@ fn are_shown_alike(alloc: Global, one: &Letter, other: &Letter) -> Result<bool, 
     Ok(shown == format!(in alloc; "{other:?}")?)
 }
 
-// The letter with this message has a twin that is shown alike.
+// The letter has a twin that is shown alike.
+fn is_twinned(alloc: Global, letter: &Letter) -> Result<bool, Fail> {
+    let twin = letter.twin(alloc)?;
+    are_shown_alike(alloc, letter, &twin)
+}
+
 fn has_twin(alloc: Global, heavy: Heavy) -> Result<bool, Fail> {
+    let message = message(alloc, heavy)?;
     let letter = Letter {
         stamp: 5,
         place: 6,
-        message: message(alloc, heavy)?,
+        message,
     };
-    let twin = letter.twin(alloc)?;
-    are_shown_alike(alloc, &letter, &twin)
+    is_twinned(alloc, &letter)
 }
 
 #[test]
 fn heavy_letters_have_twins(rt: HostRuntime) -> Result<(), Fail> {
-    let all = [
-        Heavy::Put,
-        Heavy::PushUnit,
-        Heavy::KeepCommon,
-        Heavy::Bytes,
-        Heavy::Token,
-        Heavy::Failed,
-    ];
-    for heavy in all {
-        assert!(rt; has_twin(rt.alloc(), heavy)?);
+    for heavy in ALL {
+        assert!(rt; has_twin(rt.alloc(), *heavy)?);
     }
     Ok(())
 }

@@ -8,18 +8,22 @@ fn is_ab(payload: &Payload) -> bool {
     payload.bytes() == b"ab".as_slice() && payload.len() == 2 && !payload.is_empty()
 }
 
+// The twin of the payload has the bytes, as it has.
+fn has_twin(alloc: Global, payload: &Payload) -> Result<bool, NoMemory> {
+    let twin = payload.twin(alloc)?;
+    Ok(is_ab(payload) && is_ab(&twin))
+}
+
 // A copy and its twin have the bytes.
 fn is_copied(alloc: Global) -> Result<bool, NoMemory> {
     let copy = Payload::copy(alloc, b"ab")?;
-    let twin = copy.twin(alloc)?;
-    Ok(is_ab(&copy) && is_ab(&twin))
+    has_twin(alloc, &copy)
 }
 
-// The twin of a payload that is not shared has the bytes.
+// So have a payload that is not shared and its twin.
 fn is_twin(alloc: Global) -> Result<bool, Fail> {
     let owned = Payload::from_vec(b"ab".to_vec(alloc)?);
-    let copied = owned.twin(alloc)?;
-    Ok(is_ab(&owned) && is_ab(&copied))
+    Ok(has_twin(alloc, &owned)?)
 }
 
 // So has a payload that is shared twice.
@@ -34,6 +38,10 @@ fn copies_and_twins_have_the_bytes(rt: HostRuntime) -> Result<(), Fail> {
     assert!(rt; is_copied(rt.alloc())?);
     assert!(rt; is_twin(rt.alloc())?);
     assert!(rt; is_shared(rt.alloc())?);
-    assert!(rt; Payload::from_vec(Vec::new(rt.alloc())).is_empty());
     Ok(())
+}
+
+#[test]
+fn no_bytes_are_empty(rt: HostRuntime) {
+    assert!(rt; Payload::from_vec(Vec::new(rt.alloc())).is_empty());
 }

@@ -15,11 +15,11 @@ fn written_again(alloc: Global, text: &[u8]) -> Result<Vec<u8>, LedgerFault> {
     }
 }
 
-// The line that is refused, or none.
-fn refused(alloc: Global, text: &[u8]) -> Option<u64> {
+// The text is refused at this line.
+fn is_refused(alloc: Global, text: &[u8], line: u64) -> bool {
     match read_ledger(alloc, text) {
-        Err(LedgerFault::Refused { line }) => Some(line),
-        _ => None,
+        Err(LedgerFault::Refused { line: at }) => at == line,
+        _ => false,
     }
 }
 
@@ -63,13 +63,19 @@ fn is_read_back(alloc: Global, config: &Config, ledger: &Ledger) -> Result<bool,
     Ok(same == *config && entries.entries().len() == 4)
 }
 
+fn is_kept(alloc: Global, config: &Config, ledger: &Ledger) -> Result<bool, Fail> {
+    Ok(is_written(alloc, config, ledger, WITHOUT_WORK)? && is_read_back(alloc, config, ledger)?)
+}
+
+fn without_work_is_kept(alloc: Global) -> Result<bool, Fail> {
+    let config = Config::new(1, 1, 67108864)?;
+    let ledger = without_work(alloc)?;
+    is_kept(alloc, &config, &ledger)
+}
+
 #[test]
 fn a_run_without_work(rt: HostRuntime) -> Result<(), Fail> {
-    let config = Config::new(1, 1, 67108864)?;
-    let ledger = without_work(rt.alloc())?;
-    let written = is_written(rt.alloc(), &config, &ledger, WITHOUT_WORK)?;
-    let read = is_read_back(rt.alloc(), &config, &ledger)?;
-    assert_eq!(rt; (written, read), (true, true));
+    assert!(rt; without_work_is_kept(rt.alloc())?);
     Ok(())
 }
 
@@ -153,23 +159,31 @@ fn is_counted(entry: &Entry) -> bool {
     )
 }
 
+fn all_are_read(alloc: Global) -> Result<bool, Fail> {
+    let expected = Config::new(32, 8, 1073741824)?;
+    let (config, ledger) = read_ledger(alloc, EACH_ENTRY)?;
+    Ok(config == expected && are_each_entry(ledger.entries()))
+}
+
 #[test]
 fn each_entry_is_read(rt: HostRuntime) -> Result<(), Fail> {
-    let expected = Config::new(32, 8, 1073741824)?;
-    let (config, ledger) = read_ledger(rt.alloc(), EACH_ENTRY)?;
-    assert!(rt; config == expected && are_each_entry(ledger.entries()));
+    assert!(rt; all_are_read(rt.alloc())?);
     Ok(())
+}
+
+fn all_are_written(alloc: Global) -> Result<bool, LedgerFault> {
+    let written = written_again(alloc, EACH_ENTRY)?;
+    Ok(written.as_slice() == EACH_ENTRY)
 }
 
 #[test]
 fn each_entry_is_written(rt: HostRuntime) -> Result<(), Fail> {
-    let written = written_again(rt.alloc(), EACH_ENTRY)?;
-    assert_eq!(rt; written.as_slice(), EACH_ENTRY);
+    assert!(rt; all_are_written(rt.alloc())?);
     Ok(())
 }
 
 // Texts that are refused, with the line.
-const BAD: [(&[u8], u64); 30] = [
+const BAD: &[(&[u8], u64)] = &[
     (b"", 1),
     (b"ledger 2 1 64", 1),
     (b"ledger 2 1 63\nend 0\n", 1),
@@ -210,8 +224,8 @@ const BAD: [(&[u8], u64); 30] = [
 
 #[test]
 fn bad_texts_are_refused_at_their_line(rt: HostRuntime) {
-    for (text, line) in BAD {
-        assert_eq!(rt; refused(rt.alloc(), text), Some(line));
+    for (at, (text, line)) in BAD.iter().enumerate() {
+        assert!(rt; is_refused(rt.alloc(), text, *line), "row {at}");
     }
 }
 
@@ -227,7 +241,7 @@ fn the_end_line_counts_the_entries(rt: HostRuntime) -> Result<(), Fail> {
         b"ledger 2 1 64\nputting 0 0 1 0 any none 6162\naccepted 0 0.0\nasked 0 1 any\ngranted 0 0 1 0.0\nasked 1 0 any\nend 5\n";
     let bad =
         b"ledger 2 1 64\nputting 0 0 1 0 any none 6162\naccepted 0 0.0\nasked 0 1 any\ngranted 0 0 1 0.0\nasked 1 0 any\nend 6\n";
-    assert_eq!(rt; counted(rt.alloc(), good)?, (64, 5));
-    assert_eq!(rt; refused(rt.alloc(), bad), Some(7));
+    assert!(rt; counted(rt.alloc(), good)? == (64, 5));
+    assert!(rt; is_refused(rt.alloc(), bad, 7));
     Ok(())
 }

@@ -1,0 +1,154 @@
+//! Reads and writes that fail, and inputs that are too long.
+
+ghost use Rattle.std.specs.Prelude.{◌<◌};
+
+use crate::runs::{Ran, run_words, seen, words};
+use crate::tables::{FORCED, FORCED_SOLVED, NOTHING};
+use adlb_command::run_adlb;
+use adlb_io::{FreeGate, MemorySink, MemorySource, RealThreads, Spawner};
+use std::alloc::Global;
+use std::test::Fail;
+
+/// Which calls of a source and of a sink fail, and how many bytes they take at most.
+#[derive(Clone, Copy)]
+struct Failing {
+    per_read: usize,
+    read: u64,
+    per_write: usize,
+    write: u64,
+    ghost reads: { 0 < per_read },
+    ghost writes: { 0 < per_write },
+}
+
+// A run on the forced puzzle that reads and writes so many bytes at a time, of which the calls of these numbers fail.
+fn run_failing<T: Spawner>(
+    alloc: Global,
+    threads: &mut T,
+    line: &str,
+    failing: Failing,
+) -> Result<Ran, Fail> {
+    let words = words(alloc, line)?;
+    let bytes = FORCED.as_bytes().to_vec(alloc)?;
+    let mut input = MemorySource::new(bytes, failing.per_read, [failing.read].to_vec(alloc)?);
+    let mut output = MemorySink::new(alloc, failing.per_write, [failing.write].to_vec(alloc)?);
+    let end = run_adlb(
+        alloc,
+        words.as_slice(),
+        &mut input,
+        &mut output,
+        threads,
+        FreeGate {},
+    );
+    seen(alloc, &end, output.taken())
+}
+
+// Nothing is written where the read of this number fails.
+fn read_fails<T: Spawner>(
+    alloc: Global,
+    threads: &mut T,
+    per_read: usize,
+    read: u64,
+) -> Result<bool, Fail>
+    requires { 0 < per_read }
+{
+    let failing = Failing {
+        per_read,
+        read,
+        per_write: 1000,
+        write: 1000,
+    };
+    let ran = run_failing(alloc, threads, "solve", failing)?;
+    Ok(
+        ran.status == 3
+            && ran.fault.as_str() == "read failed"
+            && ran.written.is_empty()
+            && ran.ledger.is_empty(),
+    )
+}
+
+#[test]
+fn a_read_that_fails_writes_nothing(rt: HostRuntime) -> Result<(), Fail> {
+    let mut threads = RealThreads::new(rt);
+    // The read of the whole fails, or the second of those of 40 bytes.
+    assert!(rt; read_fails(rt.alloc(), &mut threads, 100, 1)?);
+    assert!(rt; read_fails(rt.alloc(), &mut threads, 40, 2)?);
+    Ok(())
+}
+
+// So many bytes of the report are written where the call of this number of the sink fails, and the report is kept.
+fn write_fails<T: Spawner>(
+    alloc: Global,
+    threads: &mut T,
+    line: &str,
+    write: u64,
+    taken: usize,
+) -> Result<bool, Fail> {
+    let failing = Failing {
+        per_read: 100,
+        read: 1000,
+        per_write: 10,
+        write,
+    };
+    let ran = run_failing(alloc, threads, line, failing)?;
+    Ok(
+        ran.status == 4
+            && ran.fault.as_str() == "write failed"
+            && ran.written.len() == taken
+            && FORCED_SOLVED.starts_with(ran.written.as_str())
+            && !ran.ledger.is_empty(),
+    )
+}
+
+/// Words, the call that fails, and how many bytes are written. The report has 144 bytes, so it goes in 15 writes of 10 bytes at
+/// most; the flush is the call after them.
+const WRITES: &[(&str, u64, usize)] = &[
+    ("solve", 1, 0),
+    ("solve", 2, 10),
+    ("solve --inline", 2, 10),
+    ("solve --inline", 15, 140),
+    ("solve", 16, 144),
+];
+
+#[test]
+fn a_write_that_fails_leaves_the_front_of_the_report(rt: HostRuntime) -> Result<(), Fail> {
+    let mut threads = RealThreads::new(rt);
+    for (line, write, taken) in WRITES {
+        assert!(rt;
+            write_fails(rt.alloc(), &mut threads, line, *write, *taken)?,
+            "{line}, call {write}"
+        );
+    }
+    Ok(())
+}
+
+// A run on so many of this byte has this status and fault, and writes this.
+fn ends<T: Spawner>(
+    alloc: Global,
+    threads: &mut T,
+    (byte, count): (u8, usize),
+    (status, fault, written): (u8, &str, &str),
+) -> Result<bool, Fail> {
+    let input = vec![in alloc; byte; count]?;
+    let ran = run_words(alloc, threads, "solve", input.as_slice())?;
+    Ok(ran.status == status && ran.fault.as_str() == fault && ran.written.as_str() == written)
+}
+
+#[test]
+fn a_line_has_at_most_two_to_the_20_bytes(rt: HostRuntime) -> Result<(), Fail> {
+    let mut threads = RealThreads::new(rt);
+    let most = (b'#', 0x10_0000);
+    assert!(rt; ends(rt.alloc(), &mut threads, most, (0, "", NOTHING))?);
+    let more = (b'#', 0x10_0001);
+    assert!(rt; ends(rt.alloc(), &mut threads, more, (1, "line 1: long", ""))?);
+    Ok(())
+}
+
+#[test]
+fn an_input_has_at_most_two_to_the_24_bytes(rt: HostRuntime) -> Result<(), Fail> {
+    let mut threads = RealThreads::new(rt);
+    let most = (b'\n', 0x100_0000);
+    assert!(rt; ends(rt.alloc(), &mut threads, most, (0, "", NOTHING))?);
+    let more = (b'\n', 0x100_0001);
+    assert!(rt; ends(rt.alloc(), &mut threads, more, (8, "input too large", ""))?);
+    Ok(())
+}

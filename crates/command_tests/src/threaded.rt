@@ -1,0 +1,407 @@
+//! Starts that are refused, two ranks that really interleave, and many runs, each with a legal ledger.
+
+use crate::runs::{run_gated, run_words, words};
+use crate::tables::{FORCED, FORCED_SOLVED};
+use adlb_command::run_adlb;
+use adlb_io::{
+    FreeGate, Gate, GatePoint, ListedThreads, RealThreads, Spawner, SteadySink, SteadySource,
+};
+use adlb_unit::{NoMemory, Rank, or_no_memory};
+use ledger_checker::first_illegal;
+use rand_core::utils::NextWord;
+use rand_pcg::Pcg32;
+use std::alloc::Global;
+use std::hint;
+use std::sync::atomic::{AtomicU64, Ordering};
+use std::sync::{Arc, Wait};
+use std::test::Fail;
+use std::thread::Threads;
+
+// Threads of which the start of this number is refused.
+fn refusing<R: Threads + Drop>(alloc: Global, rt: R, start: u64) -> Result<ListedThreads<R>, Fail> {
+    Ok(ListedThreads::new(rt, [start].to_vec(alloc)?))
+}
+
+// The start of each number up to this one is refused with nothing written; there is no start of a later number, one for each rank
+// and one for each server.
+fn starts<R: Threads + Wait + Send + Copy + Drop + 'static>(
+    alloc: Global,
+    rt: R,
+    line: &'static str,
+    actors: u64,
+) -> Result<bool, Fail> {
+    for start in 1..actors.saturating_add(1) {
+        if !is_refused(alloc, rt, line, start)? {
+            return Ok(false);
+        }
+    }
+    let mut threads = refusing(alloc, rt, actors.saturating_add(1))?;
+    let ran = run_words(alloc, &mut threads, line, FORCED.as_bytes())?;
+    Ok(ran.status == 0 && ran.written.as_str() == FORCED_SOLVED)
+}
+
+fn is_refused<R: Threads + Wait + Send + Copy + Drop + 'static>(
+    alloc: Global,
+    rt: R,
+    line: &str,
+    start: u64,
+) -> Result<bool, Fail> {
+    let mut threads = refusing(alloc, rt, start)?;
+    let ran = run_words(alloc, &mut threads, line, FORCED.as_bytes())?;
+    Ok(
+        ran.status == 5
+            && ran.fault.as_str() == "a thread could not be started"
+            && ran.written.is_empty()
+            && ran.ledger.is_empty(),
+    )
+}
+
+#[test]
+fn each_refused_start_writes_nothing(rt: HostRuntime) -> Result<(), Fail> {
+    assert!(rt; starts(rt.alloc(), rt, "solve --ranks 2 --servers 1", 3)?);
+    assert!(rt; starts(rt.alloc(), rt, "solve --ranks 32 --servers 8", 40)?);
+    assert!(rt; starts(rt.alloc(), rt, "solve", 6)?);
+    Ok(())
+}
+
+// The status of a run of which the first start is refused.
+fn status<R: Threads + Wait + Send + Copy + Drop + 'static>(
+    alloc: Global,
+    rt: R,
+    line: &str,
+) -> Result<u8, Fail> {
+    let mut threads = refusing(alloc, rt, 1)?;
+    let ran = run_words(alloc, &mut threads, line, FORCED.as_bytes())?;
+    Ok(ran.status)
+}
+
+/// What starts no thread, and how it ends.
+const UNTHREADED: &[(&str, u8)] = &[
+    ("solve --inline", 0),
+    ("drill 3 4 --inline", 0),
+    ("make 3 4", 0),
+    ("solve frob", 2),
+];
+
+#[test]
+fn starts_nothing_in_line(rt: HostRuntime) -> Result<(), Fail> {
+    for (line, wanted) in UNTHREADED {
+        assert_eq!(rt; status(rt.alloc(), rt, line)?, *wanted, "{line}");
+    }
+    assert_eq!(rt; status(rt.alloc(), rt, "drill 3 4")?, 5);
+    Ok(())
+}
+
+// A drill with these words writes this.
+fn drills<T: Spawner>(
+    alloc: Global,
+    threads: &mut T,
+    line: &str,
+    wanted: &str,
+) -> Result<bool, Fail> {
+    let ran = run_words(alloc, threads, line, b"")?;
+    Ok(ran.status == 0 && ran.written.as_str() == wanted)
+}
+
+#[test]
+fn drills_alike_in_line_and_with_threads(rt: HostRuntime) -> Result<(), Fail> {
+    let mut threads = RealThreads::new(rt);
+    let inline = run_words(rt.alloc(), &mut threads, "drill 24 9 --inline", b"")?;
+    let wanted = inline.written.as_str();
+    assert!(rt; drills(rt.alloc(), &mut threads, "drill 24 9 --ranks 2", wanted)?);
+    assert!(rt; drills(rt.alloc(), &mut threads, "drill 24 9", wanted)?);
+    Ok(())
+}
+
+/// What two ranks have come to: 1 once they have. `met` counts the waits that ended.
+#[derive(Drop)]
+struct Marks {
+    granted_0: AtomicU64,
+    granted_1: AtomicU64,
+    fetched_1: AtomicU64,
+    met: AtomicU64,
+}
+
+/// A gate at which rank 0, when it is first granted a unit, waits until rank 1 has fetched one, and rank 1, when it is first
+/// granted one, until rank 0 has been. So the two meet only if they run at the same time.
+#[derive(Drop)]
+struct Crossing {
+    marks: Arc<Marks, Global>,
+}
+
+impl Gate for Crossing {
+    fn pass(&self, rank: Rank, point: GatePoint) {
+        match (rank.0, point) {
+            (0, GatePoint::Granted { .. }) => {
+                self.first(&self.marks.granted_0, &self.marks.fetched_1);
+            }
+            (1, GatePoint::Granted { .. }) => {
+                self.first(&self.marks.granted_1, &self.marks.granted_0);
+            }
+            (1, GatePoint::Fetched { .. }) => self.marks.fetched_1.store(1, Ordering::SeqCst),
+            _ => {}
+        }
+    }
+
+    fn twin(&self) -> Result<Crossing, NoMemory> {
+        let marks = or_no_memory(Arc::try_clone(&self.marks))?;
+        Ok(Crossing { marks })
+    }
+}
+
+impl Crossing {
+    // Marks where the rank has come to; if it is there for the first time, waits for a mark of the other rank, but not for ever.
+    fn first(&self, here: &AtomicU64, other: &AtomicU64) {
+        if here.swap(1, Ordering::SeqCst) == 1 {
+            return;
+        }
+        for _ in 0..100_000_000u64 {
+            if other.load(Ordering::SeqCst) == 1 {
+                self.marks.met.fetch_add(1, Ordering::SeqCst);
+                return;
+            }
+            hint::spin_loop();
+        }
+    }
+}
+
+/// Four times the puzzle with two solutions; and its report.
+const FOUR: &str = "\
+    534678912672195348198342567859760420426850790713924856961537284287419635345286179\n\
+    534678912672195348198342567859760420426850790713924856961537284287419635345286179\n\
+    534678912672195348198342567859760420426850790713924856961537284287419635345286179\n\
+    534678912672195348198342567859760420426850790713924856961537284287419635345286179\n";
+
+const FOUR_SOLVED: &str = "\
+    puzzle 1 solutions 2\n\
+    534678912672195348198342567859761423426853791713924856961537284287419635345286179\n\
+    534678912672195348198342567859763421426851793713924856961537284287419635345286179\n\
+    puzzle 2 solutions 2\n\
+    534678912672195348198342567859761423426853791713924856961537284287419635345286179\n\
+    534678912672195348198342567859763421426851793713924856961537284287419635345286179\n\
+    puzzle 3 solutions 2\n\
+    534678912672195348198342567859761423426853791713924856961537284287419635345286179\n\
+    534678912672195348198342567859763421426851793713924856961537284287419635345286179\n\
+    puzzle 4 solutions 2\n\
+    534678912672195348198342567859761423426853791713924856961537284287419635345286179\n\
+    534678912672195348198342567859763421426851793713924856961537284287419635345286179\n\
+    totals\nboard 12\nsolution 8\njob 0\nanswer 0\n";
+
+// How often one rank saw the other in a run, which writes the report on four puzzles.
+fn meetings<T: Spawner>(alloc: Global, threads: &mut T) -> Result<u64, Fail> {
+    let marks = Arc::new(
+        alloc,
+        Marks {
+            granted_0: AtomicU64::new(0),
+            granted_1: AtomicU64::new(0),
+            fetched_1: AtomicU64::new(0),
+            met: AtomicU64::new(0),
+        },
+    )?;
+    let gate = Crossing {
+        marks: Arc::try_clone(&marks)?,
+    };
+    let line = "solve --ranks 2 --servers 1";
+    let ran = run_gated(alloc, threads, gate, line, FOUR.as_bytes())?;
+    if ran.status != 0 || ran.written.as_str() != FOUR_SOLVED {
+        return Err("another report".into());
+    }
+    Ok(marks.met.load(Ordering::SeqCst))
+}
+
+#[test]
+fn two_ranks_interleave(rt: HostRuntime) -> Result<(), Fail> {
+    let mut threads = RealThreads::new(rt);
+    for _ in 0..20 {
+        if meetings(rt.alloc(), &mut threads)? == 2 {
+            return Ok(());
+        }
+    }
+    Err("no rank saw the other".into())
+}
+
+/// The stream of the generator.
+const STREAM: u64 = 7;
+
+/// How many inputs a test makes, and how many runs with threads there are over each: in ten tests 5,000 runs. A test may take a minute.
+const INPUTS: u32 = 25;
+
+const RUNS: u32 = 20;
+
+/// Numbers as a seed gives them.
+#[derive(Drop)]
+struct Draws {
+    generator: Pcg32,
+}
+
+impl Draws {
+    fn new(seed: u64) -> Draws {
+        Draws {
+            generator: Pcg32::new(seed, STREAM),
+        }
+    }
+
+    // One of the numbers below this one, and 0 below 0.
+    fn below(&mut self, count: u32) -> u32 {
+        let word: u32 = self.generator.next_word();
+        word % count.max(1)
+    }
+}
+
+// The words of a run with threads that splits boards at this grain.
+fn drawn_line(alloc: Global, draws: &mut Draws, grain: u32) -> Result<String, Fail> {
+    let ranks = draws.below(32);
+    let servers = draws.below(8);
+    let limit = draws.below(1000);
+    let line = format!(in alloc;
+        "solve --ranks {} --servers {} --limit {} --grain {grain}",
+        ranks as u64 + 1,
+        servers as u64 + 1,
+        limit as u64 + 64
+    )?;
+    Ok(line)
+}
+
+// A run with these words on this input writes this report, and keeps a ledger that is a legal run.
+fn is_legal<T: Spawner>(
+    alloc: Global,
+    threads: &mut T,
+    line: &str,
+    input: &str,
+    report: &str,
+) -> Result<bool, Fail> {
+    let words = words(alloc, line)?;
+    let mut input = SteadySource::new(input.as_bytes().to_vec(alloc)?);
+    let mut output = SteadySink::new(alloc);
+    let end = run_adlb(
+        alloc,
+        words.as_slice(),
+        &mut input,
+        &mut output,
+        threads,
+        FreeGate {},
+    );
+    let Some(kept) = &end.report else {
+        return Ok(false);
+    };
+    let illegal = first_illegal(alloc, &kept.ledger, &kept.config)?;
+    Ok(end.status == 0 && illegal.is_none() && output.taken() == report.as_bytes())
+}
+
+// What a run with these words writes on this input.
+fn written<T: Spawner>(
+    alloc: Global,
+    threads: &mut T,
+    line: &str,
+    input: &str,
+) -> Result<String, Fail> {
+    Ok(run_words(alloc, threads, line, input.as_bytes())?.written)
+}
+
+// The words of the first run on this input, split at this grain, that is not legal or does not write this report.
+fn bad_line<T: Spawner>(
+    alloc: Global,
+    threads: &mut T,
+    draws: &mut Draws,
+    grain: u32,
+    (input, report): (&str, &str),
+) -> Result<Option<String>, Fail> {
+    for _ in 0..RUNS {
+        let line = drawn_line(alloc, draws, grain)?;
+        if !is_legal(alloc, threads, line.as_str(), input, report)? {
+            return Ok(Some(line));
+        }
+    }
+    Ok(None)
+}
+
+// The words of the first run over one made input that is not legal or does not write the report of the run in line.
+fn bad_run<T: Spawner>(
+    alloc: Global,
+    threads: &mut T,
+    draws: &mut Draws,
+) -> Result<Option<String>, Fail> {
+    let (count, seed) = (draws.below(10), draws.below(1000));
+    let grain = match draws.below(3) {
+        0 => 1,
+        1 => 16,
+        _ => 0x1_0000,
+    };
+    let making = format!(in alloc; "make {count} {seed}")?;
+    let input = written(alloc, threads, making.as_str(), "")?;
+    let inline = format!(in alloc; "solve --inline --grain {grain}")?;
+    let report = written(alloc, threads, inline.as_str(), input.as_str())?;
+    bad_line(
+        alloc,
+        threads,
+        draws,
+        grain,
+        (input.as_str(), report.as_str()),
+    )
+}
+
+// Each run over inputs that are made from this seed is legal. It fails with the words of the first that is not.
+fn all_are_legal<R: Threads + Wait + Send + Copy + 'static>(
+    rt: R,
+    alloc: Global,
+    seed: u64,
+) -> Result<(), Fail> {
+    let mut threads = RealThreads::new(rt);
+    let mut draws = Draws::new(seed);
+    for _ in 0..INPUTS {
+        if let Some(line) = bad_run(alloc, &mut threads, &mut draws)? {
+            return Err(line.into());
+        }
+    }
+    Ok(())
+}
+
+#[test]
+fn each_ledger_is_legal_of_the_first_part(rt: HostRuntime) -> Result<(), Fail> {
+    all_are_legal(rt, rt.alloc(), 1)
+}
+
+#[test]
+fn each_ledger_is_legal_of_the_second_part(rt: HostRuntime) -> Result<(), Fail> {
+    all_are_legal(rt, rt.alloc(), 2)
+}
+
+#[test]
+fn each_ledger_is_legal_of_the_third_part(rt: HostRuntime) -> Result<(), Fail> {
+    all_are_legal(rt, rt.alloc(), 3)
+}
+
+#[test]
+fn each_ledger_is_legal_of_the_fourth_part(rt: HostRuntime) -> Result<(), Fail> {
+    all_are_legal(rt, rt.alloc(), 4)
+}
+
+#[test]
+fn each_ledger_is_legal_of_the_fifth_part(rt: HostRuntime) -> Result<(), Fail> {
+    all_are_legal(rt, rt.alloc(), 5)
+}
+
+#[test]
+fn each_ledger_is_legal_of_the_sixth_part(rt: HostRuntime) -> Result<(), Fail> {
+    all_are_legal(rt, rt.alloc(), 6)
+}
+
+#[test]
+fn each_ledger_is_legal_of_the_seventh_part(rt: HostRuntime) -> Result<(), Fail> {
+    all_are_legal(rt, rt.alloc(), 7)
+}
+
+#[test]
+fn each_ledger_is_legal_of_the_eighth_part(rt: HostRuntime) -> Result<(), Fail> {
+    all_are_legal(rt, rt.alloc(), 8)
+}
+
+#[test]
+fn each_ledger_is_legal_of_the_ninth_part(rt: HostRuntime) -> Result<(), Fail> {
+    all_are_legal(rt, rt.alloc(), 9)
+}
+
+#[test]
+fn each_ledger_is_legal_of_the_tenth_part(rt: HostRuntime) -> Result<(), Fail> {
+    all_are_legal(rt, rt.alloc(), 10)
+}
