@@ -104,17 +104,17 @@ fn refuses_each_other_text_and_writes_nothing(rt: HostRuntime) -> Result<(), Fai
     Ok(())
 }
 
-// So many line feeds are refused so, and nothing is written.
-fn is_too_long(alloc: Global, size: usize, fault: CheckFault) -> Result<bool, Fail> {
+// An input of so many line feeds is refused so, and nothing is written.
+fn feeds_are_refused(alloc: Global, size: usize, fault: CheckFault) -> Result<bool, Fail> {
     tells(alloc, vec![in alloc; b'\n'; size]?, Err(fault), "")
 }
 
 #[test]
 fn an_input_has_at_most_two_to_the_26_bytes(rt: HostRuntime) -> Result<(), Fail> {
     let most = CheckFault::Entry { line: 1 };
-    assert!(rt; is_too_long(rt.alloc(), 0x400_0000, most)?);
+    assert!(rt; feeds_are_refused(rt.alloc(), 0x400_0000, most)?);
     let more = CheckFault::TooLarge { taken: 0x400_0001 };
-    assert!(rt; is_too_long(rt.alloc(), 0x400_0001, more)?);
+    assert!(rt; feeds_are_refused(rt.alloc(), 0x400_0001, more)?);
     Ok(())
 }
 
