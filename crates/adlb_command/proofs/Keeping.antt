@@ -5,7 +5,6 @@ use Rattle.std.proofs.lemmas.Result.{IfOk-at_ok}
 use Rattle.std.proofs.lemmas.List.Elements.{All-cons, All-head, All-nil, All-tail}
 use Rattle.std.proofs.lemmas.List.Sums.{sum_by-cons}
 use Rattle.adlb_threads.specs.Reports.{Reported}
-use Rattle.adlb_unit.specs.declared.actors.Actor.{Actor}
 use Rattle.adlb_unit.specs.declared.notes.Trouble.{Trouble}
 use Rattle.adlb_unit.specs.declared.notes.Trouble.TheVariants as troubles
 use Rattle.adlb_unit.specs.declared.notes.Trouble.TheVariants.{TooLong}
@@ -33,7 +32,6 @@ use Rattle.bag_ledger.specs.Runs.{IsRun, calls, calls_from}
 use Rattle.core_inline.specs.Inline.{IsEnd, IsStart, Run, finish_answer, seat_of, zeroth}
 use Rattle.core_inline.specs.Left.{IsLeft}
 use Rattle.core_inline.proofs.Lefts.{nothing_left}
-use Rattle.merge_history.specs.Events.{Event}
 use Rattle.job_text.specs.declared.jobs.Job.{Job}
 use Rattle.job_report.specs.declared.outcomes.Outcome.{Outcome}
 use Rattle.puzzle_app.specs.declared.outcomes.Settings.{Settings}
@@ -116,15 +114,14 @@ reports_kept config settings jobs last said transcript ledger left outcome (Ok r
     let whole : IsKept settings jobs (one_report config ledger transcript left is.found) = run_is_kept config settings jobs w.program is.found last said ledger transcript left one numbers w.settings_are w.jobs_are w.follows finished ends in
     subst (λ k. IsKept settings jobs k) (sym is.report) whole
 
--- a report of one transcript, one outcome and no history
-abbrev report_with : Config → List Entry → List (Actor × Event) → List (List Said) → List Outcome → List LeftUnit → Reported Outcome
-report_with config ledger history transcripts outcomes left = record { config = config; ledger = ledger; history = history; transcripts = transcripts; outcomes = outcomes; left = left }
+-- a report of one transcript and one outcome
+abbrev report_with : Config → List Entry → List (List Said) → List Outcome → List LeftUnit → Reported Outcome
+report_with config ledger transcripts outcomes left = record { config = config; ledger = ledger; transcripts = transcripts; outcomes = outcomes; left = left }
 
-pub reported : {V : Type 0} (config : Config) (ledger : List Entry) (left : List LeftUnit) (history : List (Actor × Event)) (seen_as : V → List Said) (transcripts : List V) (transcript : V) (outcomes : List Outcome) (outcome : Outcome) → history ≡ [] → transcripts ≡ transcript ∷ [] → outcomes ≡ outcome ∷ [] → report_with config ledger history (map seen_as transcripts) outcomes left ≡ one_report config ledger (seen_as transcript) left outcome
-reported config ledger left history seen_as transcripts transcript outcomes outcome none one found =
-    ap (λ (h : List (Actor × Event)). report_with config ledger h (map seen_as transcripts) outcomes left) none
-    ∙ ap (λ ts. report_with config ledger [] (map seen_as ts) outcomes left) one
-    ∙ ap (λ (os : List Outcome). report_with config ledger [] (seen_as transcript ∷ []) os left) found
+pub reported : {V : Type 0} (config : Config) (ledger : List Entry) (left : List LeftUnit) (seen_as : V → List Said) (transcripts : List V) (transcript : V) (outcomes : List Outcome) (outcome : Outcome) → transcripts ≡ transcript ∷ [] → outcomes ≡ outcome ∷ [] → report_with config ledger (map seen_as transcripts) outcomes left ≡ one_report config ledger (seen_as transcript) left outcome
+reported config ledger left seen_as transcripts transcript outcomes outcome one found =
+    ap (λ ts. report_with config ledger (map seen_as ts) outcomes left) one
+    ∙ ap (λ (os : List Outcome). report_with config ledger (seen_as transcript ∷ []) os left) found
 
 -- the fault of a run is that of its trouble, which a world that failed tells
 pub trouble_fault : (trouble : Trouble) (run : Run) → ((stamp : ℕ) → run.failed ≡ Some (TooLong stamp) → 2 ^ 48 ≤ stamp) → ((n : ℕ) → trouble ≡ TooLong n → run.failed ≡ Some (TooLong n)) → IsRunFault (fault_by trouble)

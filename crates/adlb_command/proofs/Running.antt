@@ -15,7 +15,6 @@ none_ran options here report none =
       kept = tt;
       started = λ e. tt;
       untouched = λ e. (refl, refl);
-      no_history = λ e. tt;
     })
 
 module _ (options : RunOptions) (before after : Scene) (config : Config) (said : IsConfigOf options config) where
@@ -30,13 +29,12 @@ module _ (options : RunOptions) (before after : Scene) (config : Config) (said :
 
   -- in line
   pub ran_inline : (report : Option (Reported Outcome)) → options.inline ≡ true → IfSome report (λ r. r.config ≡ config) →
-      IfSome report (λ r. r.history ≡ []) → after.refused ≡ before.refused → after.started ≡ before.started →
+      after.refused ≡ before.refused → after.started ≡ before.started →
       IsRunWith options before after report
-  ran_inline report inline is none refused started = record {
+  ran_inline report inline is refused started = record {
     kept = kept_as report is;
     started = λ e. absurd (cc);
     untouched = λ e. (refused, started);
-    no_history = λ e. none;
   }
 
   -- with threads
@@ -46,5 +44,4 @@ module _ (options : RunOptions) (before after : Scene) (config : Config) (said :
     kept = kept_as report is;
     started = λ e. started_as report is started;
     untouched = λ e. absurd (cc);
-    no_history = λ e. absurd (cc);
   }

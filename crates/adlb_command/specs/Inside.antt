@@ -84,12 +84,11 @@ pub record HasWorked (settings : Settings) (jobs : List Job) (said : List Said) 
   pub jobs_are : program.jobs ≡ Some jobs
   pub follows : Follows program said outcome
 
--- the report of a run with one rank and no history
+-- the report of a run with one rank
 abbrev pub one_report : Config → List Entry → List Said → List LeftUnit → Outcome → Reported Outcome
 one_report config ledger transcript left outcome = record {
   config = config;
   ledger = ledger;
-  history = [];
   transcripts = transcript ∷ [];
   outcomes = outcome ∷ [];
   left = left;

@@ -150,9 +150,8 @@ abbrev pub HasStarted : Config → ℕ → ℕ → Type 0
 HasStarted config before now = RisesBy (config.ranks + config.servers) before now
 
 -- a run with these options: what it keeps is of the numbers that they say. With threads, one that is reported started a thread for each
--- rank and for each server. One in line leaves the spawner alone, and keeps no history of events.
+-- rank and for each server. One in line leaves the spawner alone.
 pub record IsRunWith (options : RunOptions) (before after : Scene) (report : Option (Reported Outcome)) : Type 0 where
   pub kept : IfSome report (λ r. IsConfigOf options r.config)
   pub started : options.inline ≡ false → IfSome report (λ r. HasStarted r.config before.started after.started)
   pub untouched : options.inline ≡ true → (after.refused ≡ before.refused) × (after.started ≡ before.started)
-  pub no_history : options.inline ≡ true → IfSome report (λ r. r.history ≡ [])

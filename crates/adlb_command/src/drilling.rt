@@ -24,7 +24,7 @@ use puzzle_app::Settings;
 use std::alloc::Global;
 
 /// Works the made text of `count` puzzles, at most 100,000, from `seed` as `solve_inline` works an input, and writes the summary in
-/// place of the report (`EndsAsDrilled`). It keeps no history of events.
+/// place of the report (`EndsAsDrilled`).
 pub fn drill_inline<K: Sink>(
     alloc: Global,
     config: Config,
@@ -42,7 +42,6 @@ pub fn drill_inline<K: Sink>(
         (scene left reads (K.taken output.old) (K.faults output.old) (K.all_flushed output.old) refused started)
         (scene left reads (K.taken output.new) (K.faults output.new) (K.all_flushed output.new) refused' started')
         result.fault result.report }
-    ensures history { IfSome result.report (λ r. r.history ≡ []) }
     ensures sink { K.faults output.old ≤ K.faults output.new }
 {
     match drilled_inline(alloc, config, settings, count, seed) {
@@ -95,7 +94,6 @@ fn drilled_inline(
     ensures answered { IfOk result (λ a.
         IsAnswered settings (Wanted.Summary count seed) (Some (made_text count seed)) a.report a.text.items) }
     ensures config { IfOk result (λ a. a.report.config ≡ config) }
-    ensures history { IfOk result (λ a. a.report.history ≡ []) }
     ensures faults { IfErr result (Refuses (Some (made_text count seed)) 0 0) }
 {
     let asked = ask_made(alloc, count, seed)?;

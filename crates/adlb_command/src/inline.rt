@@ -23,7 +23,7 @@ use std::alloc::Global;
 
 /// Reads the input's puzzles and batches, works them by the program of one rank over one server, and writes its report, and
 /// behind it the counts and the text of the kept ledger, as far as `extras` asks for them. It returns, since nothing in it waits. The
-/// budget and the grain are the settings', the limit of the server is the configuration's. It keeps no history of events.
+/// budget and the grain are the settings', the limit of the server is the configuration's.
 ///
 /// `EndsBy` says of each end what was written and kept and why it came, whatever a spawner of threads counts: none is used. Status 0:
 /// the whole text was written and flushed, and the kept ledger is a legal run. `Input`: a line is refused, and no read failed.
@@ -45,7 +45,6 @@ pub fn solve_inline<S: Source, K: Sink>(
         (scene (S.left input.old) (S.faults input.old) (K.taken output.old) (K.faults output.old) (K.all_flushed output.old) refused started)
         (scene (S.left input.new) (S.faults input.new) (K.taken output.new) (K.faults output.new) (K.all_flushed output.new) refused' started')
         result.fault result.report }
-    ensures history { IfSome result.report (λ r. r.history ≡ []) }
     ensures source { S.faults input.old ≤ S.faults input.new }
     ensures sink { K.faults output.old ≤ K.faults output.new }
 {
@@ -67,7 +66,6 @@ fn answer_input<S: Source>(
     requires one_server { config.servers ≡ 1 }
     ensures answered { IfOk result (λ a. IsAnswered settings (Report extras) (S.left input.old) a.report a.text.items) }
     ensures config { IfOk result (λ a. a.report.config ≡ config) }
-    ensures history { IfOk result (λ a. a.report.history ≡ []) }
     ensures end { OnOk result (IsAtEnd (S.left input.new)) }
     ensures refused { IfErr result (Refuses (S.left input.old) (S.faults input.old) (S.faults input.new)) }
     ensures later { S.faults input.old ≤ S.faults input.new }
@@ -91,7 +89,6 @@ pub fn answer_inline(
     ensures kept { IfOk result (λ a. IsKept settings asked.jobs a.report) }
     ensures told { IfOk result (λ a. IsTold settings wanted asked.jobs a.report a.text.items) }
     ensures config { IfOk result (λ a. a.report.config ≡ config) }
-    ensures history { IfOk result (λ a. a.report.history ≡ []) }
     ensures faults { IfErr result IsRunFault }
 {
     let Asked { jobs, shown } = asked;

@@ -13,7 +13,6 @@ use bag_ledger::{Ledger, Said};
 use core_inline::InlineWorld;
 use job_report::Outcome;
 use job_text::Jobs;
-use merge_history::History;
 use puzzle_app::{PuzzleProgram, Settings};
 use rank_client::{Adlb, RankProgram};
 use server_core::LeftUnit;
@@ -31,7 +30,6 @@ pub fn run_program(
     requires one_server { config.servers ≡ 1 }
     ensures kept { IfOk result (IsKept settings jobs) }
     ensures config { IfOk result (λ r. r.config ≡ config) }
-    ensures history { IfOk result (λ r. r.history ≡ []) }
     ensures faults { IfErr result IsRunFault }
 {
     let mut world = InlineWorld::new(alloc, config.limit)?;
@@ -90,7 +88,7 @@ fn end(world: InlineWorld) -> Result<(Ledger, Vec<Said>, Vec<LeftUnit>), RunFaul
     Ok(world.end()?)
 }
 
-// The report of a run with one rank and no history, if the rank has an outcome.
+// The report of a run with one rank, if the rank has an outcome.
 fn report_of(
     alloc: Global,
     config: Config,
@@ -107,7 +105,6 @@ fn report_of(
     Ok(Report {
         config,
         ledger,
-        history: History::empty(alloc),
         transcripts,
         outcomes,
         left,

@@ -1,11 +1,9 @@
 //! Journals and their merge.
 //!
-//! It holds tests alone. The journals of a client and a server that are stepped by hand merge to a history whose ledger is
-//! legal, and many journals of pseudo-random lengths merge to what a sort makes of their events.
+//! It holds tests alone. What a client and a server that are stepped by hand keep merges to a legal ledger, and what many actors
+//! keep of events of pseudo-random numbers and stamps merges to what a sort makes of it.
 #![tactic(auto)]
 
-#[cfg(test)]
-mod merging;
 #[cfg(test)]
 mod sorted;
 #[cfg(test)]

@@ -1,14 +1,13 @@
-//! A merge of many journals against a sort.
+//! A merge of what many actors kept against a sort.
 
-use crate::merging::merged;
-use adlb_unit::{Actor, Config, Rank, Server};
-use bag_ledger::Call;
-use merge_history::{Cause, Happened, History, Journal};
+use adlb_unit::Rank;
+use bag_ledger::{Entry, Ledger};
+use merge_history::{Stamped, merge};
 use std::alloc::{AllocError, Global};
 use std::test::Fail;
 
-/// How many ranks, beside one server.
-const RANKS: u32 = 32;
+/// How many actors.
+const ACTORS: u32 = 33;
 
 // The next pseudo-random word.
 fn next(word: u64) -> u64 {
@@ -16,73 +15,73 @@ fn next(word: u64) -> u64 {
         .wrapping_add(1442695040888963407)
 }
 
-// An event with this stamp, which says nothing.
-fn event(alloc: Global, stamp: u64) -> Happened {
-    Happened {
-        stamp,
-        cause: Cause::Called(Call::EndBatch),
-        sends: Vec::new(alloc),
-        entries: Vec::new(alloc),
+// An entry that tells the actor, the stamp of its event, and its number among those of this event.
+fn entry(actor: u32, stamp: u64, number: u64) -> Entry {
+    Entry::Finished {
+        rank: Rank(actor),
+        call: stamp.wrapping_mul(4).wrapping_add(number),
     }
 }
 
-// A journal of up to 40 events, whose stamps rise by up to 4.
-fn journal(alloc: Global, actor: Actor, seed: u64) -> Result<Journal, AllocError> {
-    let mut word = next(seed);
-    let mut events = Vec::new(alloc);
+// What an actor kept of up to 63 events, whose stamps rise by up to 4, each with up to 3 entries.
+fn kept(alloc: Global, actor: u32) -> Result<Vec<Stamped>, AllocError> {
+    let mut word = next(u64::from(actor));
+    let mut all = Vec::new(alloc);
     let mut stamp = 0u64;
     for _ in 0..word >> 33 & 63 {
         word = next(word);
         stamp = stamp.wrapping_add(1 + (word >> 33 & 3));
-        events.push(event(alloc, stamp))?;
+        for number in 0..word >> 40 & 3 {
+            all.push(Stamped {
+                stamp,
+                entry: entry(actor, stamp, number),
+            })?;
+        }
     }
-    Ok(Journal { actor, events })
+    Ok(all)
 }
 
-// The actor at a place.
-fn actor(place: u32) -> Actor {
-    if place < RANKS {
-        Actor::Rank(Rank(place))
-    } else {
-        Actor::Server(Server(place.wrapping_sub(RANKS)))
-    }
-}
-
-// The journals of all actors.
-fn all_journals(alloc: Global) -> Result<Vec<Journal>, AllocError> {
-    let mut journals = Vec::new(alloc);
-    for place in 0..=RANKS {
-        journals.push(journal(alloc, actor(place), u64::from(place))?)?;
-    }
-    Ok(journals)
-}
-
-// Their stamps with their actors, sorted.
-fn sorted(alloc: Global, journals: &[Journal]) -> Result<Vec<(u64, Actor)>, AllocError> {
+// What all actors kept.
+fn all_kept(alloc: Global) -> Result<Vec<Vec<Stamped>>, AllocError> {
     let mut all = Vec::new(alloc);
-    for journal in journals {
-        for event in &journal.events {
-            all.push((event.stamp, journal.actor))?;
+    for actor in 0..ACTORS {
+        all.push(kept(alloc, actor)?)?;
+    }
+    Ok(all)
+}
+
+// What an entry tells: its stamp, its actor, and its number.
+fn told(entry: &Entry) -> (u64, u32, u64) {
+    match entry {
+        Entry::Finished { rank, call } => (call / 4, rank.0, call % 4),
+        _ => (0, 0, 0),
+    }
+}
+
+// What all entries tell, sorted.
+fn sorted(alloc: Global, lists: &[Vec<Stamped>]) -> Result<Vec<(u64, u32, u64)>, AllocError> {
+    let mut all = Vec::new(alloc);
+    for list in lists {
+        for stamped in list {
+            all.push(told(&stamped.entry))?;
         }
     }
     all.sort()?;
     Ok(all)
 }
 
-// The history has these events, in this order.
-fn is_in_order(history: &History, expected: &[(u64, Actor)]) -> bool {
-    history.events.len() == expected.len()
-        && history.events.iter().zip(expected).all(|((actor, event), wanted)| (event.stamp, *actor)
-            == *wanted)
+// The ledger has these entries, in this order.
+fn is_in_order(ledger: &Ledger, expected: &[(u64, u32, u64)]) -> bool {
+    ledger.entries().len() == expected.len()
+        && ledger.entries().iter().zip(expected).all(|(entry, wanted)| told(entry) == *wanted)
 }
 
 #[test]
 fn a_merge_is_a_sort(rt: HostRuntime) -> Result<(), Fail> {
     let alloc = rt.alloc();
-    let config = Config::new(RANKS, 1, 64)?;
-    let journals = all_journals(alloc)?;
-    let sorted = sorted(alloc, &journals)?;
-    let history = merged(alloc, &config, journals)?;
-    assert!(rt; sorted.len() > 500 && is_in_order(&history, &sorted));
+    let lists = all_kept(alloc)?;
+    let sorted = sorted(alloc, &lists)?;
+    let ledger = merge(alloc, lists)?;
+    assert!(rt; sorted.len() > 500 && is_in_order(&ledger, &sorted));
     Ok(())
 }

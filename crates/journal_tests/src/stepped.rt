@@ -1,22 +1,18 @@
 //! A batch of two puts with a count in it, two reserves with their fetches, and Finish, of one rank at one server, taken step
 //! by step.
 
-use crate::merging::merged;
 use adlb_unit::{
     Actor, Config, Letter, Payload, Rank, Sending, Server, Target, Types, UnitId, WorkType,
 };
-use bag_ledger::Call;
+use bag_ledger::{Call, Entry};
 use ledger_checker::first_illegal;
-use merge_history::{Cause, Happened, History, Journal, ledger_of};
-use rank_client::{ClientCore, ClientStep};
-use server_core::{ServerState, Step};
+use merge_history::{Stamped, merge};
+use rank_client::ClientCore;
+use server_core::ServerState;
 use std::alloc::Global;
-use std::mem;
 use std::test::Fail;
 
 const RANK: Actor = Actor::Rank(Rank(0));
-
-const SERVER: Actor = Actor::Server(Server(0));
 
 // The call of this number.
 fn call(alloc: Global, number: u32) -> Result<Call, Fail> {
@@ -54,153 +50,103 @@ fn unit(number: u64) -> UnitId {
     }
 }
 
-// The rank begins the call of this number.
-fn begin(alloc: Global, client: &mut ClientCore, number: u32) -> Result<ClientStep, Fail> {
-    let made = call(alloc, number)?;
-    if !client.ready(&made) {
-        return Err("not ready".into());
+// What an actor keeps of its events, and how many there were.
+#[derive(Drop)]
+struct Journal {
+    events: usize,
+    kept: Vec<Stamped>,
+}
+
+impl Journal {
+    fn new(alloc: Global) -> Journal {
+        Journal {
+            events: 0,
+            kept: Vec::new(alloc),
+        }
     }
-    Ok(client.begin(made)?)
-}
 
-// The event in which the rank begins the call of this number.
-fn called(alloc: Global, client: &mut ClientCore, number: u32) -> Result<Happened, Fail> {
-    let step = begin(alloc, client, number)?;
-    Ok(Happened {
-        stamp: step.stamp,
-        cause: Cause::Called(call(alloc, number)?),
-        sends: step.sends,
-        entries: step.entries,
-    })
-}
-
-// The rank hears a letter of the server.
-fn hear(alloc: Global, client: &mut ClientCore, letter: &Letter) -> Result<ClientStep, Fail> {
-    if !client.expects(Server(0), letter) {
-        return Err("not expected by the rank".into());
+    // Keeps the entries of one event more.
+    fn keep(&mut self, stamp: u64, entries: Vec<Entry>) -> Result<(), Fail> {
+        self.events = self.events.wrapping_add(1);
+        for entry in entries {
+            self.kept.push(Stamped { stamp, entry })?;
+        }
+        Ok(())
     }
-    Ok(client.hear(Server(0), letter.twin(alloc)?)?)
 }
 
-// The event in which the rank hears a letter of the server.
-fn heard(alloc: Global, client: &mut ClientCore, letter: Letter) -> Result<Happened, Fail> {
-    let step = hear(alloc, client, &letter)?;
-    Ok(Happened {
-        stamp: step.stamp,
-        cause: Cause::Got {
-            from: SERVER,
-            letter,
-        },
-        sends: step.sends,
-        entries: step.entries,
-    })
-}
-
-// The server handles a letter of the rank.
-fn step(alloc: Global, server: &mut ServerState, letter: &Letter) -> Result<Step, Fail> {
-    if server.broken().is_some() {
-        return Err("broken".into());
-    }
-    if !server.expects(RANK, letter) {
-        return Err("not expected by the server".into());
-    }
-    Ok(server.step(RANK, letter.twin(alloc)?)?)
-}
-
-// The event in which the server handles a letter of the rank.
-fn served(alloc: Global, server: &mut ServerState, letter: Letter) -> Result<Happened, Fail> {
-    let step = step(alloc, server, &letter)?;
-    Ok(Happened {
-        stamp: step.stamp,
-        cause: Cause::Got { from: RANK, letter },
-        sends: step.sends,
-        entries: step.entries,
-    })
-}
-
-// Twins of the letters that are sent.
-fn letters(alloc: Global, sends: &[Sending]) -> Result<Vec<Letter>, Fail> {
+// The letters that are sent.
+fn letters(alloc: Global, sends: Vec<Sending>) -> Result<Vec<Letter>, Fail> {
     let mut letters = Vec::new(alloc);
     for sending in sends {
-        letters.push(sending.letter.twin(alloc)?)?;
+        letters.push(sending.letter)?;
     }
     Ok(letters)
 }
 
-// Keeps an event: the letters that it sent.
-fn keep(
-    alloc: Global,
-    events: &mut Vec<Happened>,
-    happened: Happened,
-) -> Result<Vec<Letter>, Fail> {
-    let letters = letters(alloc, &happened.sends)?;
-    events.push(happened)?;
-    Ok(letters)
-}
-
-// The rank with its events so far.
+// The rank with its journal so far.
 #[derive(Drop)]
 struct SteppedRank {
     client: ClientCore,
-    events: Vec<Happened>,
+    journal: Journal,
 }
 
 impl SteppedRank {
     fn new(alloc: Global, config: Config) -> Result<SteppedRank, Fail> {
         Ok(SteppedRank {
             client: ClientCore::new(alloc, config, Rank(0))?,
-            events: Vec::new(alloc),
+            journal: Journal::new(alloc),
         })
     }
 
     // The rank begins the call of this number: what it sends.
     fn begin(&mut self, alloc: Global, number: u32) -> Result<Vec<Letter>, Fail> {
-        let happened = called(alloc, &mut self.client, number)?;
-        keep(alloc, &mut self.events, happened)
-    }
-
-    // The rank hears the letter: what it sends, if its call goes on.
-    fn hear(&mut self, alloc: Global, letter: Letter) -> Result<Vec<Letter>, Fail> {
-        let happened = heard(alloc, &mut self.client, letter)?;
-        keep(alloc, &mut self.events, happened)
-    }
-
-    // The journal of its events, of which it keeps none.
-    fn journal(&mut self, alloc: Global) -> Journal {
-        Journal {
-            actor: RANK,
-            events: mem::replace(&mut self.events, Vec::new(alloc)),
+        let made = call(alloc, number)?;
+        if !self.client.ready(&made) {
+            return Err("not ready".into());
         }
+        let step = self.client.begin(made)?;
+        self.journal.keep(step.stamp, step.entries)?;
+        letters(alloc, step.sends)
+    }
+
+    // The rank hears the letter of the server: what it sends, if its call goes on.
+    fn hear(&mut self, alloc: Global, letter: Letter) -> Result<Vec<Letter>, Fail> {
+        if !self.client.expects(Server(0), &letter) {
+            return Err("not expected by the rank".into());
+        }
+        let step = self.client.hear(Server(0), letter)?;
+        self.journal.keep(step.stamp, step.entries)?;
+        letters(alloc, step.sends)
     }
 }
 
-// The server with its events so far.
+// The server with its journal so far.
 #[derive(Drop)]
 struct SteppedServer {
     server: ServerState,
-    events: Vec<Happened>,
+    journal: Journal,
 }
 
 impl SteppedServer {
     fn new(alloc: Global, config: Config) -> Result<SteppedServer, Fail> {
         Ok(SteppedServer {
             server: ServerState::new(alloc, config, Server(0))?,
-            events: Vec::new(alloc),
+            journal: Journal::new(alloc),
         })
     }
 
-    // The server handles the letter: what it answers.
+    // The server handles the letter of the rank: what it answers.
     fn serve(&mut self, alloc: Global, letter: Letter) -> Result<Vec<Letter>, Fail> {
-        let happened = served(alloc, &mut self.server, letter)?;
-        keep(alloc, &mut self.events, happened)
-    }
-
-    // The journal of its events, of which it keeps none.
-    fn journal(&mut self, alloc: Global) -> Journal {
-        Journal {
-            actor: SERVER,
-            events: mem::replace(&mut self.events, Vec::new(alloc)),
+        if self.server.broken().is_some() {
+            return Err("broken".into());
         }
+        if !self.server.expects(RANK, &letter) {
+            return Err("not expected by the server".into());
+        }
+        let step = self.server.step(RANK, letter)?;
+        self.journal.keep(step.stamp, step.entries)?;
+        letters(alloc, step.sends)
     }
 }
 
@@ -242,30 +188,21 @@ fn exchange(
     Ok(more)
 }
 
-// The history of all ten calls.
-fn history(alloc: Global, config: &Config) -> Result<History, Fail> {
+// The journals of the rank and of the server after all ten calls.
+fn journals(alloc: Global, config: &Config) -> Result<(Journal, Journal), Fail> {
     let mut rank = SteppedRank::new(alloc, *config)?;
-    let of_server = served_by(alloc, config, &mut rank)?;
-    merged(
-        alloc,
-        config,
-        vec![in alloc; rank.journal(alloc), of_server]?,
-    )
-}
-
-// The journal of a server that serves the rank in all its calls.
-fn served_by(alloc: Global, config: &Config, rank: &mut SteppedRank) -> Result<Journal, Fail> {
     let mut server = SteppedServer::new(alloc, *config)?;
-    rounds(alloc, rank, &mut server)?;
-    Ok(server.journal(alloc))
+    rounds(alloc, &mut rank, &mut server)?;
+    Ok((rank.journal, server.journal))
 }
 
-// How many events that history has, and how many entries its ledger; and the first entry that is not legal.
+// How many events there were, and how many entries their ledger has; and the first entry that is not legal.
 fn counted(alloc: Global, config: &Config) -> Result<(usize, usize, Option<u64>), Fail> {
-    let history = history(alloc, config)?;
-    let ledger = ledger_of(alloc, &history)?;
+    let (rank, server) = journals(alloc, config)?;
+    let events = rank.events.wrapping_add(server.events);
+    let ledger = merge(alloc, vec![in alloc; rank.kept, server.kept]?)?;
     let illegal = first_illegal(alloc, &ledger, config)?;
-    Ok((history.events.len(), ledger.entries().len(), illegal))
+    Ok((events, ledger.entries().len(), illegal))
 }
 
 #[test]

@@ -1,10 +1,7 @@
-mod Best
 mod Bridge
 mod Going
 mod Machine
+mod OneLedger
 mod OneRun
 mod Places
-mod Queues
-mod Rising
 mod States
-mod Steps

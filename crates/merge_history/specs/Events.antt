@@ -1,4 +1,4 @@
--- What contracts see of events, journals and histories: each vector as the list of its items.
+-- Events as proofs see them. Nothing of them is held but their entries.
 use Rattle.std.specs.Prelude.{ℕ, List}
 use Rattle.adlb_unit.specs.declared.actors.Actor.{Actor}
 use Rattle.adlb_unit.specs.declared.letters.Sending.{Sending}

@@ -1,4 +1,4 @@
 pub mod Events
-pub mod Inside
+pub mod Kept
 pub mod Merging
 pub mod Own

@@ -1,5 +1,5 @@
 -- Journals in one order. An actor is also its place among all: the ranks come before the servers.
-use Rattle.std.specs.Prelude.{◌≡◌, ℕ, true, List, [], ◌++◌, All, map, flat_map, slice_index_or}
+use Rattle.std.specs.Prelude.{◌≡◌, ℕ, true, List, [], ◌++◌, All, length, map, flat_map, slice_index_or}
 use Rattle.std.specs.List.{range_with_len}
 use Rattle.adlb_unit.specs.declared.actors.Actor.{Actor}
 use Rattle.adlb_unit.specs.declared.actors.Actor.TheVariants as by
@@ -7,8 +7,11 @@ use Rattle.adlb_unit.specs.declared.configs.Config.{Config}
 use Rattle.bag_ledger.specs.declared.entries.Entry.{Entry}
 use Rattle.adlb_unit.specs.Links.{is_within, place_of}
 use Rattle.core_run.specs.World.{actors, rank_named, server_named}
+use Rattle.flat_merge.specs.Flat.{IsKeptMerge}
+use Rattle.flat_merge.specs.Taking.{Climbs}
 use Rattle.journal_law.specs.Orders.{IsMerged, Rises}
 use Rattle.merge_history.specs.Events.{Event, OfActor}
+use Rattle.merge_history.specs.declared.stamped.Stamped.{Stamped}
 
 abbrev pub stamp_of : Event → ℕ
 stamp_of e = e.stamp
@@ -39,3 +42,18 @@ pub record IsMergeOf (config : Config) (journals : List OfActor) (events : List 
 -- the entries of all events, in order
 abbrev pub joined : List (Actor × Event) → List Entry
 joined events = flat_map (λ x. x.1.entries) events
+
+-- What is kept, in one order.
+
+abbrev pub stamp_at : Stamped → ℕ
+stamp_at x = x.stamp
+
+-- in each list stamps do not fall
+abbrev pub AllClimb : List (List Stamped) → Type 0
+AllClimb lists = (a : ℕ) → Climbs stamp_at (slice_index_or lists a [])
+
+-- the entries of all lists, by stamp, among equal stamps by list, and of one list in its order
+pub record IsLedgerOf (lists : List (List Stamped)) (ledger : List Entry) : Type 0 where
+  pub merged : List (ℕ × Stamped)
+  pub is : IsKeptMerge stamp_at (length lists) (λ a. slice_index_or lists a []) merged
+  pub entries : ledger ≡ map (λ x. x.1.entry) merged

@@ -21,7 +21,8 @@ use Rattle.core_run.specs.World.{World, actors, client_of, has_ended, link, pool
 use Rattle.merge_history.specs.declared.causes.Cause.{Cause}
 use Rattle.merge_history.specs.declared.causes.Cause.TheVariants as causes
 use Rattle.merge_history.specs.Events.{Event, OfActor}
-use Rattle.merge_history.specs.Merging.{joined, journal_at}
+use Rattle.bag_ledger.specs.declared.entries.Entry.{Entry}
+use Rattle.merge_history.specs.Merging.{IsMergeOf, joined, journal_at}
 
 -- An actor's own run.
 
@@ -116,3 +117,11 @@ pub record IsCoreRun (config : Config) (finals : Finals) (journals : List OfActo
   pub servers : (server : Server) → server.0 < config.servers → pool_of last server ≡ finals.pool server
   pub links : (from to : ℕ) → from < actors config → to < actors config
       → sent config to (journal_at journals from) ≡ got config from (journal_at journals to) ++ link last.links from to
+
+-- there is one history of these journals, which compose and are one run, and the ledger has its entries
+pub record IsOneHistory (config : Config) (finals : Finals) (journals : List OfActor) (ledger : List Entry) : Type 0 where
+  pub history : List (Actor × Event)
+  pub merged : IsMergeOf config journals history
+  pub compose : Compose config finals journals
+  pub run : IsCoreRun config finals journals history
+  pub ledger_is : ledger ≡ joined history

@@ -1,75 +1,65 @@
-//! A journal of which the first events are taken off.
+//! What is left of what each actor kept while it is merged.
 
 ghost use Rattle.std.specs.Prelude.{◌≡◌, ◌∷◌, [], IfOk, MatchOption, map};
-ghost use Rattle.merge_history.specs.Events.{OfActor};
-ghost use Rattle.merge_history.specs.Inside.{first_stamp};
-ghost use Rattle.merge_history.specs.Merging.{stamp_of};
+ghost use Rattle.flat_merge.specs.Taking.{first_key};
+ghost use Rattle.merge_history.specs.Merging.{stamp_at};
 
-use crate::events::Happened;
-use crate::journals::Journal;
-use adlb_unit::Actor;
-use std::alloc::{AllocError, Global};
+use crate::stamped::Stamped;
+use adlb_unit::{NoMemory, or_no_memory};
+use std::alloc::Global;
 use std::collections::VecDeque;
 use std::marker::Model;
 
-/// What is left of an actor's journal.
+/// What is left of the entries of one actor.
 #[derive(Drop)]
 pub(crate) struct Front {
-    actor: Actor,
-    events: VecDeque<Happened>,
+    entries: VecDeque<Stamped>,
 }
 
 impl Model for Front {
-    ghost Value = { OfActor };
+    ghost use Rattle.std.specs.Prelude.{List};
+    ghost use Rattle.merge_history.specs.declared.stamped.Stamped.{Stamped};
 
-    ghost view = { λ f. record { actor = f.actor; events = f.events.items } };
+    ghost Value = { List Stamped };
+
+    ghost view = { λ f. f.entries.items };
 }
 
 impl Front {
-    /// The whole journal. It takes no memory.
-    pub(crate) fn new(journal: Journal) -> Front
-        ensures { result ≡ journal }
+    // All entries. It takes no memory.
+    fn new(entries: Vec<Stamped>) -> Front
+        ensures { result ≡ entries.items }
     {
-        let Journal { actor, events } = journal;
         Front {
-            actor,
-            events: VecDeque::from(events),
+            entries: VecDeque::from(entries),
         }
     }
 
-    /// Whose journal it is.
-    pub(crate) fn actor(&self) -> Actor
-        ensures { result ≡ self.now.actor }
+    /// The first is taken off, if there is one.
+    pub(crate) fn take_first(&mut self) -> Option<Stamped>
+        ensures { MatchOption result ((self.old ≡ []) × (self.new ≡ [])) (λ first. self.old ≡ first ∷ self.new) }
     {
-        self.actor
+        self.entries.pop_front()
     }
 
-    /// The first event is taken off, if there is one.
-    pub(crate) fn take_first(&mut self) -> Option<Happened>
-        ensures actor { self.new.actor ≡ self.old.actor }
-        ensures events { MatchOption result ((self.old.events ≡ []) × (self.new.events ≡ [])) (λ event. self.old.events ≡ event ∷ self.new.events) }
-    {
-        self.events.pop_front()
-    }
-
-    /// The stamp of the first event, if there is one.
+    /// The stamp of the first, if there is one.
     pub(crate) fn first_stamp(&self) -> Option<u64>
-        ensures { result ≡ first_stamp stamp_of self.now.events }
+        ensures { result ≡ first_key stamp_at self.now }
     {
-        match self.events.front() {
-            Some(event) => Some(event.stamp),
+        match self.entries.front() {
+            Some(first) => Some(first.stamp),
             None => None,
         }
     }
 }
 
-/// The whole journals.
-pub(crate) fn fronts_of(alloc: Global, journals: Vec<Journal>) -> Result<Vec<Front>, AllocError>
-    ensures { IfOk result (λ fronts. fronts.items ≡ journals.items) }
+/// All that was kept, by actor. Its only error is `NoMemory`.
+pub(crate) fn fronts_of(alloc: Global, kept: Vec<Vec<Stamped>>) -> Result<Vec<Front>, NoMemory>
+    ensures { IfOk result (λ fronts. fronts.items ≡ map (λ entries. entries.items) kept.items) }
 {
     let mut fronts = Vec::new(alloc);
-    for journal in journals {
-        fronts.push(Front::new(journal))?;
+    for entries in kept {
+        or_no_memory(fronts.push(Front::new(entries)))?;
     }
     Ok(fronts)
 }

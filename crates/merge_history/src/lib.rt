@@ -1,23 +1,16 @@
-//! What happened in a run: the events of each actor, and those of all actors in one order.
+//! What happened in a run: the events of each actor, and what is kept of them, in one order.
 //!
-//! It stands on the letters of `adlb_unit`, the ledger of `bag_ledger`, the runs of `core_run` and the law of
-//! `journal_law`. `specs/Events.antt` is what contracts see of events, `specs/Merging.antt` says what their one order is.
+//! Events are values of proofs: an actor keeps their entries alone, each with its event's stamp. It stands on the letters of
+//! `adlb_unit`, the ledger of `bag_ledger`, the runs of `core_run` and the laws of `journal_law` and `flat_merge`.
+//! `specs/Events.antt` is what contracts see of events, `specs/Own.antt` says when journals compose, `specs/Merging.antt` what
+//! their one history is and which ledger it has.
 #![tactic(auto)]
 
 mod causes;
-mod conditions;
-mod events;
 mod fronts;
-mod histories;
-mod journals;
-mod ledgers;
 mod merging;
-mod twins;
+mod stamped;
 
 pub use causes::Cause;
-pub use conditions::can_merge;
-pub use events::Happened;
-pub use histories::History;
-pub use journals::Journal;
-pub use ledgers::ledger_of;
-pub use merging::{MergeFault, merge};
+pub use merging::merge;
+pub use stamped::Stamped;

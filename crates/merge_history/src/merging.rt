@@ -1,42 +1,52 @@
-//! All journals in one order.
+//! One ledger of what all actors kept.
 
-ghost use Rattle.std.specs.Prelude.{◌≡◌, IfOk, length, map};
-ghost use Rattle.merge_history.specs.Inside.{IsLeast, better};
-ghost use Rattle.merge_history.specs.Merging.{CanMerge, IsMergeOf, stamp_of};
-ghost use Rattle.merge_history.specs.Own.{Compose, Finals, IsCoreRun};
+ghost use Rattle.std.specs.Prelude.{◌≡◌, List, IfOk, map};
+ghost use Rattle.flat_merge.specs.Taking.{IsLeast, better};
+ghost use Rattle.adlb_unit.specs.declared.configs.Config.{Config};
+ghost use Rattle.merge_history.specs.Events.{OfActor};
+ghost use Rattle.merge_history.specs.Kept.{kept_of};
+ghost use Rattle.merge_history.specs.Merging.{AllClimb, CanMerge, IsLedgerOf, stamp_at};
+ghost use Rattle.merge_history.specs.Own.{Compose, Finals, IsOneHistory};
 
-use crate::events::Happened;
 use crate::fronts::{Front, fronts_of};
-use crate::histories::History;
-use crate::journals::Journal;
-use adlb_unit::{Actor, Config};
-use std::alloc::{AllocError, Global};
-use thiserror::Error;
+use crate::stamped::Stamped;
+use adlb_unit::NoMemory;
+use bag_ledger::Ledger;
+use std::alloc::Global;
 
-/// Why journals were not merged.
-#[derive(Clone, Copy, Debug, Error)]
-pub enum MergeFault {
-    /// Allocation failed. Contracts never say when.
-    #[error("out of memory")]
-    Memory,
-}
-
-// The better of the best and the next, where that one has an event: the one with the lower stamp.
-fn better(best: Option<(usize, u64)>, at: usize, stamp: Option<u64>) -> Option<(usize, u64)>
-    ensures { result ≡ better best at stamp }
+/// The entries that all actors of a run kept, in one ledger: by stamp, among equal stamps by actor, the ranks before the
+/// servers, and of one actor in its order (`IsLedgerOf`), if in what each actor kept stamps do not fall.
+///
+/// If it is what is kept of journals that compose, there is one history of all their events, which is a run of all actors, and
+/// the ledger has its entries (`IsOneHistory`). No event is held. Its only error is `NoMemory`.
+pub fn merge(alloc: Global, kept: Vec<Vec<Stamped>>) -> Result<Ledger, NoMemory>
+    ensures merged { IfOk result (λ ledger. AllClimb (map (λ entries. entries.items) kept.items) → IsLedgerOf (map (λ entries. entries.items) kept.items) ledger) }
+    ensures run { IfOk result (λ ledger. (config : Config) (journals : List OfActor) (finals : Finals)
+        → CanMerge config journals → map (λ entries. entries.items) kept.items ≡ map (λ j. kept_of j.events) journals
+        → Compose config finals journals → IsOneHistory config finals journals ledger) }
 {
-    let Some(stamp) = stamp else {
-        return best;
-    };
-    match best {
-        Some((_, least)) if least <= stamp => best,
-        _ => Some((at, stamp)),
-    }
+    merged_entries(alloc, kept)
 }
 
-// The first of the journals that begin with the lowest stamp.
+// The entries of all, in order.
+fn merged_entries(alloc: Global, kept: Vec<Vec<Stamped>>) -> Result<Ledger, NoMemory>
+    ensures { IfOk result (λ ledger. AllClimb (map (λ entries. entries.items) kept.items) → IsLedgerOf (map (λ entries. entries.items) kept.items) ledger) }
+{
+    let mut ledger = Ledger::new(alloc);
+    let mut fronts = fronts_of(alloc, kept)?;
+    while let Some(at) = least(&fronts) {
+        let front = &mut fronts[at];
+        match front.take_first() {
+            Some(first) => ledger.push(first.entry)?,
+            None => return Ok(ledger),
+        }
+    }
+    Ok(ledger)
+}
+
+// The first of those that begin with the lowest stamp.
 fn least(fronts: &[Front]) -> Option<usize>
-    ensures { IsLeast stamp_of (map (λ f. f.events) fronts.now) result }
+    ensures { IsLeast stamp_at fronts.now result }
 {
     let mut best: Option<(usize, u64)> = None;
     for at in 0..fronts.len() {
@@ -48,39 +58,15 @@ fn least(fronts: &[Front]) -> Option<usize>
     }
 }
 
-// As `merge`.
-fn merged_events(
-    alloc: Global,
-    config: &Config,
-    journals: Vec<Journal>,
-) -> Result<Vec<(Actor, Happened)>, AllocError>
-    requires { CanMerge config.now journals.items }
-    ensures { IfOk result (λ events. IsMergeOf config.now journals.items events.items) }
+// The better of the best and the next, if that one has an entry: the one with the lower stamp.
+fn better(best: Option<(usize, u64)>, at: usize, stamp: Option<u64>) -> Option<(usize, u64)>
+    ensures { result ≡ better best at stamp }
 {
-    let mut events = Vec::new(alloc);
-    let mut fronts = fronts_of(alloc, journals)?;
-    while let Some(at) = least(&fronts) {
-        let front = &mut fronts[at];
-        let actor = front.actor();
-        match front.take_first() {
-            Some(event) => events.push((actor, event))?,
-            None => return Ok(events),
-        }
-    }
-    Ok(events)
-}
-
-/// All events of the journals, by stamp and among equal stamps by actor (`IsMergeOf`). There is one journal for each actor
-/// of the run, the ranks before the servers, and in each the stamps rise. If besides the journals compose (`Compose`: each
-/// is its actor's own run, and on each link what was got is a prefix of what was sent), the history is one run of all
-/// actors (`IsCoreRun`). Its only error is `Memory`.
-pub fn merge(alloc: Global, config: &Config, journals: Vec<Journal>) -> Result<History, MergeFault>
-    requires { CanMerge config.now journals.items }
-    ensures merged { IfOk result (λ h. IsMergeOf config.now journals.items h) }
-    ensures run { IfOk result (λ h. (finals : Finals) → Compose config.now finals journals.items → IsCoreRun config.now finals journals.items h) }
-{
-    match merged_events(alloc, config, journals) {
-        Ok(events) => Ok(History { events }),
-        Err(_) => Err(MergeFault::Memory),
+    let Some(stamp) = stamp else {
+        return best;
+    };
+    match best {
+        Some((_, least)) if least <= stamp => best,
+        _ => Some((at, stamp)),
     }
 }

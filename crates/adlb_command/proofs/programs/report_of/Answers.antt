@@ -5,5 +5,5 @@ pub returns-clause-report : goal.returns-clause-report
 returns-clause-report c = record {
   found = c.in_ok-outcome.field-0;
   is = c.in_ok-outcome.was;
-  report = reported _ _ _ _ _ _ _ _ _ c.empty.ensures c.in_ok-transcripts.ensures c.in_ok-outcomes.ensures;
+  report = reported _ _ _ _ _ _ _ _ c.in_ok-transcripts.ensures c.in_ok-outcomes.ensures;
 }

@@ -1,6 +1,6 @@
-use Rattle.std.proofs.Common.{◌≡◌, ◌++◌}
+use Rattle.std.proofs.Common.{◌≡◌, ◌++◌, map}
 use Rattle.std.specs.Vec.Iter.{into_iter_items}
 use Rattle.merge_history.proofs.fronts.fronts_of.Given as goal
 
-abbrev pub invariant-loop-journal : goal.invariant-loop-journal
-invariant-loop-journal l = l.fronts.items ++ into_iter_items l.journal-iterator ≡ l.fn.journals.items
+abbrev pub invariant-loop-entries : goal.invariant-loop-entries
+invariant-loop-entries l = l.fronts.items ++ map (λ entries. entries.items) (into_iter_items l.entries-iterator) ≡ map (λ entries. entries.items) l.fn.kept.items
