@@ -4,7 +4,7 @@ use Rattle.merge_history.proofs.OneLedger.{one_history}
 use Rattle.merge_history.proofs.merging.merge.Goals as goal
 
 pub returns-clause-run : goal.returns-clause-run
-returns-clause-run g c =
+returns-clause-run c =
     by_case c.merged_entries.result c.merged_entries.ensures (λ ledger is config journals finals can are compose.
         one_history config journals can finals _ ledger is are compose)
   where
