@@ -1,0 +1,14 @@
+//! Units that wait, common parts, one server and one rank's client, call by call and letter by letter.
+//!
+//! It holds tests alone, in a crate of their own so that what they test is not proved again with them: of `work_queue`,
+//! `batch_store`, `server_core` and `rank_client`.
+#![tactic(auto)]
+
+#[cfg(test)]
+mod driven;
+#[cfg(test)]
+mod handled;
+#[cfg(test)]
+mod parts;
+#[cfg(test)]
+mod queue;
