@@ -94,11 +94,19 @@ fn report_on(alloc: Global, input: &str, every: u64) -> Result<String, Fail> {
     rendered(alloc, input.as_bytes(), outcome)
 }
 
+// One rank writes this report on this input over a link that rejects so.
+fn is_written(alloc: Global, input: &str, every: u64, wanted: &str) -> Result<bool, Fail> {
+    let text = report_on(alloc, input, every)?;
+    Ok(text.as_str() == wanted)
+}
+
 // One rank writes this report on this input, whatever is rejected.
 fn writes(rt: &impl Abort, alloc: Global, input: &str, wanted: &str) -> Result<(), Fail> {
-    for every in [0, 1, 2, 3] {
-        let text = report_on(alloc, input, every)?;
-        assert_eq!(rt; text.as_str(), wanted, "rejects every {every}");
+    for every in 0..4 {
+        assert!(rt;
+            is_written(alloc, input, every, wanted)?,
+            "rejects every {every}"
+        );
     }
     Ok(())
 }
@@ -115,7 +123,7 @@ fn one_rank_works_puzzles_and_batches(rt: HostRuntime) -> Result<(), Fail> {
 }
 
 // How many calls a run of one rank on a batch makes, what it counts as made, and whether a batch goes on at its end.
-fn stopped_after(alloc: Global, stops: usize) -> Result<(usize, [u128; 4], bool), Fail> {
+fn stopped_after(alloc: Global, stops: usize) -> Result<Stopped, Fail> {
     let mut link = Fake::new(alloc, 0, stops);
     let made = made_over(alloc, &mut link)?;
     Ok((link.transcript().len(), made, link.batch_open()))
@@ -131,18 +139,23 @@ fn made_over(alloc: Global, link: &mut Fake) -> Result<[u128; 4], Fail>
     Ok(outcome.made)
 }
 
+// What a run is seen to come to: its calls, what it counts as made, and whether a batch goes on.
+type Stopped = (usize, [u128; 4], bool);
+
+/// After how many calls an end is told, and what the run comes to.
+const STOPS: &[(usize, Stopped)] = &[
+    (0, (1, [0, 0, 3, 0], false)),
+    (1, (3, [0, 0, 3, 0], false)),
+    (3, (5, [0, 0, 3, 0], false)),
+    (5, (6, [0, 0, 3, 0], false)),
+    (7, (8, [0, 0, 3, 1], false)),
+];
+
 #[test]
 fn an_end_stops_a_rank_and_its_batch(rt: HostRuntime) -> Result<(), Fail> {
-    let rows = [
-        (0, (1, [0, 0, 3, 0], false)),
-        (1, (3, [0, 0, 3, 0], false)),
-        (3, (5, [0, 0, 3, 0], false)),
-        (5, (6, [0, 0, 3, 0], false)),
-        (7, (8, [0, 0, 3, 1], false)),
-    ];
-    for (stops, wanted) in rows {
-        let stopped = stopped_after(rt.alloc(), stops)?;
-        assert_eq!(rt; stopped, wanted, "after {stops} calls");
+    for (stops, wanted) in STOPS {
+        let stopped = stopped_after(rt.alloc(), *stops)?;
+        assert_eq!(rt; stopped, *wanted, "after {stops} calls");
     }
     Ok(())
 }
