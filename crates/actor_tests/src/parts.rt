@@ -131,7 +131,7 @@ fn check(rt: &impl Abort, alloc: Global, rows: &[(Act, &str, u64)]) -> Result<()
 
 #[test]
 fn frees_after_the_last_fetch(rt: HostRuntime) -> Result<(), Fail> {
-    let rows = [
+    const ROWS: &[(Act, &str, u64)] = &[
         (Act::Keep(b'x', 3), "kept", 3),
         (Act::Close(1), "closed", 3),
         (Act::Fetch, "xxx true", 0),
@@ -142,12 +142,12 @@ fn frees_after_the_last_fetch(rt: HostRuntime) -> Result<(), Fail> {
         (Act::Close(2), "closed", 2),
         (Act::Fetch, "yy true", 0),
     ];
-    check(&rt, rt.alloc(), &rows)
+    check(&rt, rt.alloc(), ROWS)
 }
 
 #[test]
 fn frees_when_nothing_is_due_at_the_close(rt: HostRuntime) -> Result<(), Fail> {
-    let rows = [
+    const ROWS: &[(Act, &str, u64)] = &[
         (Act::Keep(b'x', 3), "kept", 3),
         (Act::Close(0), "freed", 0),
         (Act::Keep(b'z', 64), "kept", 64),
@@ -160,5 +160,5 @@ fn frees_when_nothing_is_due_at_the_close(rt: HostRuntime) -> Result<(), Fail> {
         (Act::Keep(b'x', 0), "kept", 0),
         (Act::Close(0), "freed", 0),
     ];
-    check(&rt, rt.alloc(), &rows)
+    check(&rt, rt.alloc(), ROWS)
 }

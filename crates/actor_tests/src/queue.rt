@@ -255,42 +255,51 @@ fn check(
 // The steps of a new queue with this limit have these answers.
 fn play(rt: &impl Abort, alloc: Global, limit: u64, rows: &[(Step, &str)]) -> Result<(), Fail> {
     let mut queue = WorkQueue::new(alloc, limit);
-    for place in 0..rows.len() {
-        let (step, expected) = rows[place];
-        check(rt, alloc, &mut queue, step, expected)?;
+    go_through(rt, alloc, &mut queue, rows)
+}
+
+// The steps of the queue have these answers.
+fn go_through(
+    rt: &impl Abort,
+    alloc: Global,
+    queue: &mut WorkQueue,
+    rows: &[(Step, &str)],
+) -> Result<(), Fail> {
+    for (step, expected) in rows {
+        check(rt, alloc, queue, *step, expected)?;
     }
     Ok(())
 }
 
 #[test]
 fn takes_units_up_to_the_limit(rt: HostRuntime) -> Result<(), Fail> {
-    let full = "the queue is full at 64 bytes";
-    let rows = [
+    const FULL: &str = "the queue is full at 64 bytes";
+    const ROWS: &[(Step, &str)] = &[
         (Step::Add(0, 0, 0, Target::Any, 60), "done"),
         (Step::Totals, "60 1"),
         (Step::Add(1, 0, 0, Target::Any, 4), "done"),
         (Step::Totals, "64 2"),
-        (Step::Add(2, 0, 0, Target::Any, 1), full),
+        (Step::Add(2, 0, 0, Target::Any, 1), FULL),
         (Step::Totals, "64 2"),
         (Step::Add(3, 0, 0, Target::Any, 0), "done"),
         (Step::Totals, "64 3"),
-        (Step::Promise(4, 1), full),
+        (Step::Promise(4, 1), FULL),
         (Step::Push, "Some((3, 0))"),
     ];
-    play(&rt, rt.alloc(), 64, &rows)
+    play(&rt, rt.alloc(), 64, ROWS)
 }
 
 #[test]
 fn gives_the_best_unit_first(rt: HostRuntime) -> Result<(), Fail> {
-    let own = Target::Only(Rank(3));
-    let rows = [
+    const OWN: Target = Target::Only(Rank(3));
+    const ROWS: &[(Step, &str)] = &[
         (Step::Add(0, 5, 1, Target::Any, 3), "done"),
         (Step::Add(1, 5, 9, Target::Any, 3), "done"),
-        (Step::Add(2, 5, -2, own, 3), "done"),
+        (Step::Add(2, 5, -2, OWN, 3), "done"),
         (Step::Add(3, 5, 9, Target::Any, 3), "done"),
         (Step::Add(4, 6, 99, Target::Any, 3), "done"),
         (Step::Add(5, 5, 99, Target::Only(Rank(4)), 3), "done"),
-        (Step::Add(6, 5, 4, own, 3), "done"),
+        (Step::Add(6, 5, 4, OWN, 3), "done"),
         (Step::Totals, "21 7"),
         (Step::Give(3, Some(5)), "Some((6, 3))"),
         (Step::Give(3, Some(5)), "Some((2, 3))"),
@@ -305,42 +314,44 @@ fn gives_the_best_unit_first(rt: HostRuntime) -> Result<(), Fail> {
         (Step::Give(3, Some(5)), "None"),
         (Step::Totals, "6 7"),
     ];
-    play(&rt, rt.alloc(), 1000, &rows)
+    play(&rt, rt.alloc(), 1000, ROWS)
 }
 
-// In arrival order: any with priority 9, and of rank 1 with 5, of rank 0 alone with 0, of rank 0 with 1. Each is
-// given to the rank asking, in this order.
-fn soft_for(rt: &impl Abort, alloc: Global, rank: u32, order: [&str; 4]) -> Result<(), Fail> {
-    let rows = [
-        (Step::Add(0, 5, 9, Target::Any, 3), "done"),
-        (Step::Add(1, 5, 5, Target::Soft(Rank(1)), 3), "done"),
-        (Step::Add(2, 5, 0, Target::Only(Rank(0)), 3), "done"),
-        (Step::Add(3, 5, 1, Target::Soft(Rank(0)), 3), "done"),
-        (Step::Push, "Some((0, 3))"),
-        (Step::Give(rank, None), order[0]),
-        (Step::Give(rank, None), order[1]),
-        (Step::Give(rank, None), order[2]),
-        (Step::Give(rank, None), order[3]),
-    ];
-    play(rt, alloc, 1000, &rows)
+// In arrival order: any with priority 9, and of rank 1 with 5, of rank 0 alone with 0, of rank 0 with 1.
+const SOFT: &[(Step, &str)] = &[
+    (Step::Add(0, 5, 9, Target::Any, 3), "done"),
+    (Step::Add(1, 5, 5, Target::Soft(Rank(1)), 3), "done"),
+    (Step::Add(2, 5, 0, Target::Only(Rank(0)), 3), "done"),
+    (Step::Add(3, 5, 1, Target::Soft(Rank(0)), 3), "done"),
+    (Step::Push, "Some((0, 3))"),
+];
+
+// Each is given to the rank asking, in this order.
+fn soft_for(rt: &impl Abort, alloc: Global, rank: u32, order: &[&str]) -> Result<(), Fail> {
+    let mut queue = WorkQueue::new(alloc, 1000);
+    go_through(rt, alloc, &mut queue, SOFT)?;
+    for expected in order {
+        check(rt, alloc, &mut queue, Step::Give(rank, None), expected)?;
+    }
+    Ok(())
 }
 
 #[test]
 fn soft_units_prefer_their_rank(rt: HostRuntime) -> Result<(), Fail> {
-    let zero = [
+    const ZERO: &[&str] = &[
         "Some((2, 3))",
         "Some((3, 3))",
         "Some((0, 3))",
         "Some((1, 3))",
     ];
-    let one = ["Some((1, 3))", "Some((0, 3))", "Some((3, 3))", "None"];
-    soft_for(&rt, rt.alloc(), 0, zero)?;
-    soft_for(&rt, rt.alloc(), 1, one)
+    const ONE: &[&str] = &["Some((1, 3))", "Some((0, 3))", "Some((3, 3))", "None"];
+    soft_for(&rt, rt.alloc(), 0, ZERO)?;
+    soft_for(&rt, rt.alloc(), 1, ONE)
 }
 
 #[test]
 fn shows_units_in_arrival_order(rt: HostRuntime) -> Result<(), Fail> {
-    let rows = [
+    const ROWS: &[(Step, &str)] = &[
         (Step::Add(0, 5, 1, Target::Any, 3), "done"),
         (Step::Add(1, 5, 9, Target::Any, 3), "done"),
         (Step::Give(3, None), "Some((1, 3))"),
@@ -348,12 +359,12 @@ fn shows_units_in_arrival_order(rt: HostRuntime) -> Result<(), Fail> {
         (Step::At(1), "Some((1, Some(Rank(3))))"),
         (Step::At(2), "None"),
     ];
-    play(&rt, rt.alloc(), 1000, &rows)
+    play(&rt, rt.alloc(), 1000, ROWS)
 }
 
 #[test]
 fn a_promised_unit_comes_after_later_ones(rt: HostRuntime) -> Result<(), Fail> {
-    let rows = [
+    const ROWS: &[(Step, &str)] = &[
         (Step::Promise(7, 40), "done"),
         (Step::Add(2, 5, 0, Target::Any, 24), "done"),
         (
@@ -366,12 +377,12 @@ fn a_promised_unit_comes_after_later_ones(rt: HostRuntime) -> Result<(), Fail> {
         (Step::At(2), "None"),
         (Step::Totals, "64 2"),
     ];
-    play(&rt, rt.alloc(), 64, &rows)
+    play(&rt, rt.alloc(), 64, ROWS)
 }
 
 #[test]
 fn promises_and_free_units_go(rt: HostRuntime) -> Result<(), Fail> {
-    let rows = [
+    const ROWS: &[(Step, &str)] = &[
         (Step::Add(2, 5, 0, Target::Any, 24), "done"),
         (Step::Promise(7, 40), "done"),
         (Step::Withdraw(7), "done"),
@@ -382,29 +393,29 @@ fn promises_and_free_units_go(rt: HostRuntime) -> Result<(), Fail> {
         (Step::Add(2, 5, 0, Target::Any, 4), "done"),
         (Step::Totals, "64 2"),
     ];
-    play(&rt, rt.alloc(), 64, &rows)
+    play(&rt, rt.alloc(), 64, ROWS)
 }
 
 #[test]
 fn common_parts_take_room(rt: HostRuntime) -> Result<(), Fail> {
-    let rows = [
+    const ROWS: &[(Step, &str)] = &[
         (Step::HoldFor(64, 60), "done"),
         (Step::Totals, "4 0"),
         (Step::Hold(60), "done"),
         (Step::Hold(1), "the queue is full at 64 bytes"),
         (Step::Totals, "64 0"),
     ];
-    play(&rt, rt.alloc(), 64, &rows)
+    play(&rt, rt.alloc(), 64, ROWS)
 }
 
 // Units of two types, of which the second is pinned to rank 3.
 #[test]
 fn tells_what_is_free(rt: HostRuntime) -> Result<(), Fail> {
-    let own = Target::Only(Rank(3));
-    let rows = [
+    const OWN: Target = Target::Only(Rank(3));
+    const ROWS: &[(Step, &str)] = &[
         (Step::Add(0, 5, 1, Target::Any, 3), "done"),
-        (Step::Add(1, 5, 9, own, 3), "done"),
-        (Step::Add(2, 6, -4, own, 3), "done"),
+        (Step::Add(1, 5, 9, OWN, 3), "done"),
+        (Step::Add(2, 6, -4, OWN, 3), "done"),
         (Step::Add(3, 5, 9, Target::Any, 3), "done"),
         (Step::Add(4, 5, 1, Target::Any, 3), "done"),
         (Step::Add(5, 6, 2, Target::Any, 3), "done"),
@@ -417,13 +428,13 @@ fn tells_what_is_free(rt: HostRuntime) -> Result<(), Fail> {
         (Step::Tell(1), "9 3 Only(Rank(3)) Some(Rank(3))"),
         (Step::Remove(1), "None"),
     ];
-    play(&rt, rt.alloc(), 1000, &rows)
+    play(&rt, rt.alloc(), 1000, ROWS)
 }
 
 // Two types, units for one rank before others, and one that was promised.
 #[test]
 fn finds_its_units_as_they_come_and_go(rt: HostRuntime) -> Result<(), Fail> {
-    let rows = [
+    const ROWS: &[(Step, &str)] = &[
         (Step::Add(0, 5, 3, Target::Soft(Rank(1)), 1), "done"),
         (Step::Add(1, 4, 3, Target::Any, 1), "done"),
         (Step::Add(2, 5, 7, Target::Any, 1), "done"),
@@ -443,5 +454,5 @@ fn finds_its_units_as_they_come_and_go(rt: HostRuntime) -> Result<(), Fail> {
         (Step::Give(2, None), "Some((0, 1))"),
         (Step::Give(2, None), "None"),
     ];
-    play(&rt, rt.alloc(), 1000, &rows)
+    play(&rt, rt.alloc(), 1000, ROWS)
 }

@@ -4,8 +4,8 @@ ghost use Rattle.std.specs.Prelude.{◌≡◌, IsTrue};
 ghost use Rattle.work_queue.specs.Queue.{HasNoPromise, HasNoUnit};
 ghost use Rattle.put_path.specs.Pushes.{is_query, is_under_way};
 
-use super::*;
 use adlb_unit::{Config, Payload, Rank, Server, Target, Unit, UnitId, WorkType};
+use put_path::{Push, PushState, push_query, put};
 use std::alloc::Global;
 use std::process::Abort;
 use std::test::Fail;
@@ -48,8 +48,8 @@ fn is_new(queue: &WorkQueue, id: UnitId) -> bool
 fn is_query(pushes: &PushState) -> bool
     ensures { result ≡ is_query pushes.now.pushing }
 {
-    match pushes.push {
-        Some(push) => !push.sent,
+    match pushes.stands() {
+        Some((_, _, sent)) => !sent,
         None => false,
     }
 }
@@ -58,8 +58,8 @@ fn is_query(pushes: &PushState) -> bool
 fn is_under_way(pushes: &PushState) -> bool
     ensures { result ≡ is_under_way pushes.now.pushing }
 {
-    match pushes.push {
-        Some(push) => push.sent,
+    match pushes.stands() {
+        Some((_, _, sent)) => sent,
         None => false,
     }
 }
@@ -159,7 +159,7 @@ fn play(rt: &impl Abort, alloc: Global, rows: &[(Act, &str)], charge: u64) -> Re
 
 #[test]
 fn takes_and_promises_up_to_the_limit(rt: HostRuntime) -> Result<(), Fail> {
-    let rows = [
+    const ROWS: &[(Act, &str)] = &[
         (Act::Put(0, 60, 0), "Accepted"),
         (Act::Put(1, 5, 0), "Full { charge: 60 }"),
         (Act::Query(2, 4), "true"),
@@ -167,12 +167,12 @@ fn takes_and_promises_up_to_the_limit(rt: HostRuntime) -> Result<(), Fail> {
         (Act::Query(3, 0), "true"),
         (Act::Put(1, 1, 0), "Full { charge: 64 }"),
     ];
-    play(&rt, rt.alloc(), &rows, 64)
+    play(&rt, rt.alloc(), ROWS, 64)
 }
 
 #[test]
 fn pushes_one_unit_at_a_time(rt: HostRuntime) -> Result<(), Fail> {
-    let rows = [
+    const ROWS: &[(Act, &str)] = &[
         (Act::Put(0, 55, 5), "Accepted"),
         (Act::Put(1, 1, 3), "Accepted"),
         (Act::Pressure, "none"),
@@ -198,5 +198,5 @@ fn pushes_one_unit_at_a_time(rt: HostRuntime) -> Result<(), Fail> {
         (Act::Tells(0, 0), "false false false"),
         (Act::Pressure, "1 0 55"),
     ];
-    play(&rt, rt.alloc(), &rows, 63)
+    play(&rt, rt.alloc(), ROWS, 63)
 }

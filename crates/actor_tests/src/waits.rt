@@ -1,11 +1,11 @@
 //! Scripts at server 0 of six ranks, worked by hand.
 
-ghost use Rattle.std.specs.Prelude.{◌≡◌, IsTrue};
+ghost use Rattle.std.specs.Prelude.{◌≡◌, IsTrue, true};
 ghost use Rattle.work_queue.specs.Queue.{HasNoPromise, HasNoUnit};
 ghost use Rattle.reserve_path.specs.Parked.{IsAway, IsHere, IsOther, is_pending};
 
-use super::*;
 use adlb_unit::{Config, Payload, Rank, Server, Target, Types, Unit, UnitId, UnitNote, WorkType};
+use reserve_path::{Parked, ReserveStep};
 use std::alloc::Global;
 use std::process::Abort;
 use std::test::Fail;
@@ -74,28 +74,31 @@ fn put(alloc: Global, queue: &mut WorkQueue, number: u64, kind: u32, target: Tar
 fn is_here(parked: &Parked, rank: Rank) -> bool
     ensures { IsTrue result → IsHere parked.now.config parked.now.me rank }
 {
-    rank.0 < parked.config.ranks && parked.config.home(rank).0 == parked.me.0
+    let (config, me) = parked.seat();
+    rank.0 < config.ranks && config.home(rank).0 == me.0
 }
 
 // The rank is at home at another server.
 fn is_away(parked: &Parked, rank: Rank) -> bool
     ensures { IsTrue result → IsAway parked.now.config parked.now.me rank }
 {
-    rank.0 < parked.config.ranks && parked.config.home(rank).0 != parked.me.0
+    let (config, me) = parked.seat();
+    rank.0 < config.ranks && config.home(rank).0 != me.0
 }
 
 // The server is another one.
 fn is_other(parked: &Parked, server: Server) -> bool
     ensures { IsTrue result → IsOther parked.now.config parked.now.me server }
 {
-    server.0 < parked.config.servers && server.0 != parked.me.0
+    let (config, me) = parked.seat();
+    server.0 < config.servers && server.0 != me.0
 }
 
 // A server is unanswered for the rank.
 fn is_pending(parked: &Parked, rank: Rank) -> bool
-    ensures { result ≡ is_pending parked.now rank }
+    ensures { IsTrue result → is_pending parked.now rank ≡ true }
 {
-    parked.waiting.iter().any(|waits| waits.wish.rank.0 == rank.0 && waits.asked.is_some())
+    matches!(parked.awaits(rank), Some((_, Some(_))))
 }
 
 // Shows what a reserve came to.
@@ -228,7 +231,7 @@ fn make(
                 None => Ok(format!(in alloc; "not so")?),
             }
         }
-        Act::Try(rank, kind) if rank < parked.config.ranks => {
+        Act::Try(rank, kind) if rank < parked.seat().0.ranks => {
             let types = only(kind)?;
             unit(alloc, parked.try_reserve(queue, Rank(rank), &types))
         }
@@ -276,7 +279,7 @@ fn play(rt: &impl Abort, alloc: Global, servers: u32, rows: &[(Act, &str)]) -> R
 
 #[test]
 fn asks_one_server_after_the_other(rt: HostRuntime) -> Result<(), Fail> {
-    let rows = [
+    const ROWS: &[(Act, &str)] = &[
         (Act::Reserve(0, 7, 5), "ask 1"),
         (Act::Awaits(0), "Some((7, Some(Server(1))))"),
         (Act::All, "true 1 0"),
@@ -294,12 +297,12 @@ fn asks_one_server_after_the_other(rt: HostRuntime) -> Result<(), Fail> {
         (Act::Awaits(0), "None"),
         (Act::All, "false 0 9"),
     ];
-    play(&rt, rt.alloc(), 3, &rows)
+    play(&rt, rt.alloc(), 3, ROWS)
 }
 
 #[test]
 fn looks_at_its_own_queue_first(rt: HostRuntime) -> Result<(), Fail> {
-    let rows = [
+    const ROWS: &[(Act, &str)] = &[
         (Act::Reserve(3, 7, 5), "ask 1"),
         (Act::Put(1, 5, Target::Any), "put"),
         (Act::Offer(1), "nobody"),
@@ -312,12 +315,12 @@ fn looks_at_its_own_queue_first(rt: HostRuntime) -> Result<(), Fail> {
         (Act::End(3), "done"),
         (Act::Awaits(3), "None"),
     ];
-    play(&rt, rt.alloc(), 3, &rows)
+    play(&rt, rt.alloc(), 3, ROWS)
 }
 
 #[test]
 fn gives_a_unit_to_an_idle_rank(rt: HostRuntime) -> Result<(), Fail> {
-    let rows = [
+    const ROWS: &[(Act, &str)] = &[
         (Act::Reserve(0, 1, 5), "idle"),
         (Act::Reserve(1, 1, 5), "idle"),
         (Act::Reserve(2, 1, 6), "idle"),
@@ -333,12 +336,12 @@ fn gives_a_unit_to_an_idle_rank(rt: HostRuntime) -> Result<(), Fail> {
         (Act::EndIdle, "2 1"),
         (Act::EndIdle, "nobody"),
     ];
-    play(&rt, rt.alloc(), 1, &rows)
+    play(&rt, rt.alloc(), 1, ROWS)
 }
 
 #[test]
 fn keeps_one_wish_a_rank(rt: HostRuntime) -> Result<(), Fail> {
-    let rows = [
+    const ROWS: &[(Act, &str)] = &[
         (Act::Ask(1, 4, 5), "none"),
         (Act::Ask(2, 3, 5), "none"),
         (Act::Ask(1, 5, 5), "none"),
@@ -355,5 +358,5 @@ fn keeps_one_wish_a_rank(rt: HostRuntime) -> Result<(), Fail> {
         (Act::NextHint(5, Target::Any), "2 8"),
         (Act::NextHint(5, Target::Any), "nobody"),
     ];
-    play(&rt, rt.alloc(), 3, &rows)
+    play(&rt, rt.alloc(), 3, ROWS)
 }
