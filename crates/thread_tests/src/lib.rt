@@ -1,8 +1,10 @@
-//! Ranks and servers in threads, by example.
+//! Ranks and servers in threads, by example, and journals and their merge.
 //!
 //! It holds tests alone, of `rank_mail`, `actor_desk`, `thread_client`, `thread_server` and `adlb_threads`: that letters arrive in
 //! order, what a desk enters and sends, what a rank's calls are told if its server said this or that beforehand, what a rank's
-//! thread leaves, how a server ends that hears what it does not expect, and runs that end well and runs that do not.
+//! thread leaves, how a server ends that hears what it does not expect, and runs that end well and runs that do not. Of
+//! `merge_history`: the journals of a client and a server that are stepped by hand merge to a history whose ledger is legal, and
+//! many journals of pseudo-random lengths merge to what a sort makes of their events.
 #![tactic(auto)]
 
 #[cfg(test)]
@@ -14,8 +16,14 @@ mod mail;
 #[cfg(test)]
 mod mailboxes;
 #[cfg(test)]
+mod merging;
+#[cfg(test)]
 mod ranks;
 #[cfg(test)]
 mod runs;
 #[cfg(test)]
 mod servers;
+#[cfg(test)]
+mod sorted;
+#[cfg(test)]
+mod stepped;
