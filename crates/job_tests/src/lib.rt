@@ -1,12 +1,17 @@
-//! Jobs by example: their text, the units that are made of them, their report, made inputs, and jobs over bytes.
+//! Jobs by example: boards, jobs' text, the units that are made of them, their report, made inputs, jobs over bytes, and the
+//! program of a rank over a link that has no other rank.
 //!
 //! It holds tests alone, in a crate of their own so that what they test is not proved again with them.
 #![tactic(auto)]
 
 #[cfg(test)]
+mod boards;
+#[cfg(test)]
 mod lanes;
 #[cfg(test)]
 mod made;
+#[cfg(test)]
+mod puzzles;
 #[cfg(test)]
 mod reports;
 #[cfg(test)]

@@ -12,8 +12,6 @@ mod promising;
 mod pushing;
 mod putting;
 mod standing;
-#[cfg(test)]
-mod tests;
 
 pub use promising::push_query;
 pub use pushing::{Push, PushQuery, PushState};

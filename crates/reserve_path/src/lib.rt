@@ -21,8 +21,6 @@ mod parking;
 mod reserving;
 mod ring;
 mod steps;
-#[cfg(test)]
-mod tests;
 mod waits;
 mod wishes;
 

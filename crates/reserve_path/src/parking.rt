@@ -54,6 +54,13 @@ impl Parked {
         })
     }
 
+    /// The numbers of the run, and this server of it.
+    pub fn seat(&self) -> (Config, Server)
+        ensures { result ≡ (self.now.config, self.now.me) }
+    {
+        (self.config, self.me)
+    }
+
     /// For some rank that waits, a server that was asked is unanswered. Besides, it tells what is so of all that wait
     /// (`IsParked`): no rank waits twice or has two wishes, each rank waits at its home, only other servers are asked,
     /// and for an idle rank none is still to be asked.

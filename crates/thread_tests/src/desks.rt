@@ -4,10 +4,9 @@ ghost use Rattle.std.specs.Prelude.{◌≡◌, ◌≤◌, ◌<◌, ◌^◌, ℕ,
 ghost use Rattle.core_run.specs.World.{actors};
 ghost use Rattle.rank_mail.specs.Mailboxes.{PostModel, fresh_inbox, fresh_post, places_of};
 
-use crate::mail::{Mail, Three, send, three_desks};
-use actor_desk::{Desk, Mailing, clear, desks};
+use crate::mail::{Mail, send, three_desks};
+use actor_desk::{Desk, Mailing, clear, desks, got};
 use adlb_unit::{Actor, Config, Message, NoMemory, Rank, Server};
-use merge_history::Cause;
 use rank_mail::{Inbox, Post, mailboxes};
 use std::alloc::Global;
 use std::marker::Brand;
@@ -16,9 +15,7 @@ use std::test::Fail;
 
 #[test]
 fn an_event_sends_its_letter(rt: HostRuntime) -> Result<(), Fail> {
-    let (from, stamp) = one_letter(rt, rt.alloc())?;
-    assert_eq!(rt; from, 0);
-    assert_eq!(rt; stamp, 7);
+    assert_eq!(rt; one_letter(rt, rt.alloc())?, (0, 7));
     Ok(())
 }
 
@@ -26,7 +23,6 @@ fn one_letter<R: Wait + Copy>(rt: R, alloc: Global) -> Result<(u32, u64), Fail> 
     one_letter_over::<R, Brand>(rt, alloc, Mail::new(alloc)?)
 }
 
-// The rank sends a letter to the server, which receives it, and enters that. These are the letter's sender and its stamp.
 fn one_letter_over<R: Wait + Copy, M: Mailing>(
     rt: R,
     alloc: Global,
@@ -35,17 +31,24 @@ fn one_letter_over<R: Wait + Copy, M: Mailing>(
     requires mail { M.places ≡ places_of mail.inboxes.items }
 {
     let config = Config::new(1, 1, 64)?;
-    let Three {
-        first: mut rank,
-        second: mut server,
-        third,
-    } = three_desks::<M>(alloc, config, mail)?;
-    drop(third);
+    let mut all = three_desks::<M>(alloc, config, mail)?;
+    let carried = carried(&rt, alloc, &mut all.first, &mut all.second);
+    drop(all);
+    Ok(carried?)
+}
+
+// The rank sends a letter to the server, which receives it, and enters that. These are the letter's sender and its stamp.
+fn carried<R: Wait, M: Mailing>(
+    rt: &R,
+    alloc: Global,
+    rank: &mut Desk<M>,
+    server: &mut Desk<M>,
+) -> Result<(u32, u64), NoMemory> {
     let to = Actor::Server(Server(0));
-    let sent = send(&rt, alloc, &mut rank, to, 7, Message::Finish);
-    rank.tell(&rt, to, Message::Finish);
-    let heard = hear(&rt, alloc, &mut server);
-    Ok(sent.and(heard)?)
+    let sent = send(rt, alloc, rank, to, 7, Message::Finish);
+    rank.tell(rt, to, Message::Finish);
+    let heard = hear(rt, alloc, server);
+    sent.and(heard)
 }
 
 // The next letter, which is entered: its sender and its stamp.
@@ -54,12 +57,12 @@ fn hear<R: Wait, M: Mailing>(
     alloc: Global,
     server: &mut Desk<M>,
 ) -> Result<(u32, u64), NoMemory> {
-    server.make_room()?;
+    server.make_room(0)?;
     let (number, letter) = server.receive(rt);
     let stamp = letter.stamp;
     let from = Actor::Rank(Rank(number));
-    let cause = Cause::Got { from, letter };
-    server.enter(rt, 8, cause, Vec::new(alloc), Vec::new(alloc))?;
+    let (cause, _letter) = got(from, letter);
+    server.enter(rt, 8, cause, Vec::new(alloc), Vec::new(alloc));
     Ok((number, stamp))
 }
 

@@ -4,10 +4,9 @@ ghost use Rattle.std.specs.Prelude.{◌≡◌, ◌≤◌, ◌+◌, ℕ, IfOk, So
 ghost use Rattle.actor_desk.specs.Desks.{IsNew};
 ghost use Rattle.rank_mail.specs.Mailboxes.{PostModel, fresh_inbox, fresh_post, places_of};
 
-use actor_desk::{Desk, Mailing, desks};
+use actor_desk::{Desk, Mailing, called, desks};
 use adlb_unit::{Actor, Config, Letter, Message, NoMemory, Sending, or_no_memory};
 use bag_ledger::Call;
-use merge_history::Cause;
 use rank_mail::{Inbox, Post, mailboxes};
 use std::alloc::Global;
 use std::sync::Wait;
@@ -72,12 +71,8 @@ pub fn send<M: Mailing, R: Wait>(
         message,
     };
     let sends = or_no_memory(vec![in alloc; Sending { to, letter }])?;
-    desk.make_room()?;
-    desk.enter(
-        rt,
-        stamp,
-        Cause::Called(Call::Finish),
-        sends,
-        Vec::new(alloc),
-    )
+    desk.make_room(0)?;
+    let (cause, _call) = called(Call::Finish);
+    desk.enter(rt, stamp, cause, sends, Vec::new(alloc));
+    Ok(())
 }

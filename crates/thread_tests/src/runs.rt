@@ -118,9 +118,9 @@ fn take_one<A: Adlb>(link: &mut A) -> Result<bool, Trouble>
 // How a run of workers ends.
 #[derive(Clone, Copy, PartialEq, Eq)]
 enum RunEnd {
-    // The ranks took this many units together, and this many are left. The history has events, and the ledger is legal.
+    // The ranks took this many units together, and this many are left. The ledger has entries, and is legal.
     Took(u64, usize),
-    // The report has no events, or its ledger is not legal.
+    // The ledger of the report has no entries, or is not legal.
     Unkept,
     NoThread,
     Memory,
@@ -148,7 +148,7 @@ impl RunEnd {
 
 fn is_kept(alloc: Global, report: &Report<u32>) -> Result<bool, NoMemory> {
     let illegal = first_illegal(alloc, &report.ledger, &report.config)?;
-    Ok(illegal.is_none() && !report.history.events.is_empty())
+    Ok(illegal.is_none() && !report.ledger.entries().is_empty())
 }
 
 fn total(outcomes: &[u32]) -> u64 {

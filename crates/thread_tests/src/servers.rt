@@ -108,12 +108,14 @@ fn is_served_over<R: Wait + Copy, M: Mailing>(
 {
     let config = Config::new(1, 1, 64)?;
     let Three {
-        first,
+        mut first,
         second,
         third,
     } = three_desks::<M>(alloc, config, mail)?;
     drop(third);
-    Ok(serves(rt, alloc, config, first, second, sent, wanted)?)
+    let served = serves(rt, alloc, config, &mut first, second, sent, wanted);
+    drop(first);
+    Ok(served?)
 }
 
 // The server at this desk ends so, to which the rank at that desk sends this.
@@ -121,7 +123,7 @@ fn serves<R: Wait + Copy, M: Mailing>(
     rt: R,
     alloc: Global,
     config: Config,
-    mut rank: Desk<M>,
+    rank: &mut Desk<M>,
     server: Desk<M>,
     sent: Sent,
     wanted: &Wanted,
@@ -130,9 +132,8 @@ fn serves<R: Wait + Copy, M: Mailing>(
     requires one_rank { config.ranks ≡ 1 }
     requires one_server { config.servers ≡ 1 }
 {
-    send_all(&rt, alloc, &mut rank, sent)?;
-    let ended = ends(rt, alloc, config, server, wanted)?;
-    Ok(ended && is_told(&rt, &mut rank, wanted.told))
+    send_all(&rt, alloc, rank, sent)?;
+    Ok(ends(rt, alloc, config, server, wanted)? && is_told(&rt, rank, wanted.told))
 }
 
 fn ends<R: Wait + Copy, M: Mailing>(

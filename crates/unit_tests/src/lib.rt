@@ -1,8 +1,8 @@
-//! Units, letters, bytes, threads, words and the text of ledgers, by example.
+//! Units, letters, bytes, threads, words, and ledgers as text, checked and counted, by example.
 //!
-//! It holds tests alone, of `adlb_unit`, `adlb_io`, `bag_ledger`, `command_words` and `ledger_file`: which numbers and targets are
-//! taken, what is permitted, that what is heavy has a twin, how bytes are read and written and threads started, which words are
-//! accepted, and which lines of a text are refused.
+//! It holds tests alone, of `adlb_unit`, `adlb_io`, `bag_ledger`, `command_words`, `ledger_file`, `ledger_command` and
+//! `ledger_stats`: which numbers and targets are taken, what is permitted, that what is heavy has a twin, how bytes are read and
+//! written and threads started, which words are accepted, which lines of a text are refused, and how a check of a ledger ends.
 #![tactic(auto)]
 
 #[cfg(test)]
@@ -10,7 +10,11 @@ mod bodies;
 #[cfg(test)]
 mod bytes;
 #[cfg(test)]
+mod checked;
+#[cfg(test)]
 mod configs;
+#[cfg(test)]
+mod counts;
 #[cfg(test)]
 mod handles;
 #[cfg(test)]

@@ -1,0 +1,202 @@
+//! Scripts worked by hand, at queues of limit 64.
+
+ghost use Rattle.std.specs.Prelude.{◌≡◌, IsTrue};
+ghost use Rattle.work_queue.specs.Queue.{HasNoPromise, HasNoUnit};
+ghost use Rattle.put_path.specs.Pushes.{is_query, is_under_way};
+
+use adlb_unit::{Config, Payload, Rank, Server, Target, Unit, UnitId, WorkType};
+use put_path::{Push, PushState, push_query, put};
+use std::alloc::Global;
+use std::process::Abort;
+use std::test::Fail;
+use work_queue::WorkQueue;
+
+// A call. Units are named by their numbers.
+#[derive(Clone, Copy)]
+enum Act {
+    // A put of a unit of this number, length and priority.
+    Put(u64, u8, i32),
+    // The unit is granted to a rank.
+    Pin(u64),
+    // Another server asks for room of this length for its unit.
+    Query(u64, u32),
+    Pressure,
+    Yes,
+    No,
+    Ack,
+    // Whether the push that stands asks this server for room for the unit, has sent it, and stands at all.
+    Tells(u32, u64),
+}
+
+// The id of the unit of this number.
+fn id(number: u64) -> UnitId {
+    UnitId {
+        rank: Rank(0),
+        number,
+    }
+}
+
+// Neither a unit nor a promise has this id.
+fn is_new(queue: &WorkQueue, id: UnitId) -> bool
+    ensures unit { IsTrue result → HasNoUnit id queue.now.units }
+    ensures promise { IsTrue result → HasNoPromise id queue.now.promises }
+{
+    !queue.has_unit(id) && queue.promised(id).is_none()
+}
+
+// The push that stands is a query.
+fn is_query(pushes: &PushState) -> bool
+    ensures { result ≡ is_query pushes.now.pushing }
+{
+    match pushes.stands() {
+        Some((_, _, sent)) => !sent,
+        None => false,
+    }
+}
+
+// Its unit or a cancel was sent.
+fn is_under_way(pushes: &PushState) -> bool
+    ensures { result ≡ is_under_way pushes.now.pushing }
+{
+    match pushes.stands() {
+        Some((_, _, sent)) => sent,
+        None => false,
+    }
+}
+
+// Puts a unit of this id, if that is new.
+fn put_new(
+    alloc: Global,
+    queue: &mut WorkQueue,
+    id: UnitId,
+    size: u8,
+    prio: i32,
+) -> Result<String, Fail> {
+    let body = Payload::from_vec(vec![in alloc; 7_u8; size as usize]?);
+    if !is_new(queue, id) || queue.arrivals() > 9 {
+        return Ok(format!(in alloc; "not so")?);
+    }
+    let unit = Unit {
+        id,
+        kind: WorkType(1),
+        prio,
+        target: Target::Any,
+        answer: None,
+        common: None,
+        body,
+    };
+    Ok(format!(in alloc; "{:?}", put(queue, unit)?)?)
+}
+
+// Asks for room for a unit of this id, if that is new.
+fn ask_room(alloc: Global, queue: &mut WorkQueue, id: UnitId, length: u32) -> Result<String, Fail> {
+    if !is_new(queue, id) {
+        return Ok(format!(in alloc; "not so")?);
+    }
+    Ok(format!(in alloc; "{}", push_query(queue, id, length)?)?)
+}
+
+// Grants the unit of this id, if it is free.
+fn pin(alloc: Global, queue: &mut WorkQueue, id: UnitId) -> Result<String, Fail> {
+    if !queue.is_free(id) {
+        return Ok(format!(in alloc; "not so")?);
+    }
+    queue.pin(id, Rank(0));
+    Ok(format!(in alloc; "pinned")?)
+}
+
+// Makes the call, and shows its answer.
+fn make(
+    alloc: Global,
+    pushes: &mut PushState,
+    queue: &mut WorkQueue,
+    act: Act,
+) -> Result<String, Fail> {
+    match act {
+        Act::Pressure => Ok(match pushes.pressure(queue) {
+            Some(query) => format!(in alloc;
+                "{} {} {}",
+                query.to.0, query.id.number, query.length
+            )?,
+            None => format!(in alloc; "none")?,
+        }),
+        Act::Yes if is_query(pushes) => Ok(match pushes.push_yes(queue) {
+            Push::Go(to, unit) => format!(in alloc; "go {} {}", to.0, unit.id.number)?,
+            Push::Cancel(to, id) => format!(in alloc; "cancel {} {}", to.0, id.number)?,
+        }),
+        Act::No if is_query(pushes) => {
+            pushes.push_no();
+            Ok(format!(in alloc; "ended")?)
+        }
+        Act::Ack if is_under_way(pushes) => {
+            pushes.push_ack();
+            Ok(format!(in alloc; "ended")?)
+        }
+        Act::Tells(to, number) => {
+            let asks = pushes.asks(Server(to), id(number));
+            let sent = pushes.has_sent(Server(to), id(number));
+            Ok(format!(in alloc; "{asks} {sent} {}", pushes.going())?)
+        }
+        Act::Put(number, size, prio) => put_new(alloc, queue, id(number), size, prio),
+        Act::Query(number, length) => ask_room(alloc, queue, id(number), length),
+        Act::Pin(number) => pin(alloc, queue, id(number)),
+        _ => Ok(format!(in alloc; "not so")?),
+    }
+}
+
+// At server 2 of three, each call is answered so, and at the end the queue has this charge.
+fn play(rt: &impl Abort, alloc: Global, rows: &[(Act, &str)], charge: u64) -> Result<(), Fail> {
+    let config = Config::new(1, 3, 64)?;
+    let mut pushes = PushState::new(config, Server(2));
+    let mut queue = WorkQueue::new(alloc, 64);
+    for (act, expected) in rows {
+        let answer = make(alloc, &mut pushes, &mut queue, *act)?;
+        assert_eq!(rt; answer.as_str(), *expected);
+    }
+    assert_eq!(rt; queue.charge(), charge);
+    Ok(())
+}
+
+#[test]
+fn takes_and_promises_up_to_the_limit(rt: HostRuntime) -> Result<(), Fail> {
+    const ROWS: &[(Act, &str)] = &[
+        (Act::Put(0, 60, 0), "Accepted"),
+        (Act::Put(1, 5, 0), "Full { charge: 60 }"),
+        (Act::Query(2, 4), "true"),
+        (Act::Query(3, 1), "false"),
+        (Act::Query(3, 0), "true"),
+        (Act::Put(1, 1, 0), "Full { charge: 64 }"),
+    ];
+    play(&rt, rt.alloc(), ROWS, 64)
+}
+
+#[test]
+fn pushes_one_unit_at_a_time(rt: HostRuntime) -> Result<(), Fail> {
+    const ROWS: &[(Act, &str)] = &[
+        (Act::Put(0, 55, 5), "Accepted"),
+        (Act::Put(1, 1, 3), "Accepted"),
+        (Act::Pressure, "none"),
+        (Act::Put(2, 1, 4), "Accepted"),
+        (Act::Pressure, "0 1 1"),
+        (Act::Put(3, 7, 9), "Accepted"),
+        (Act::Pressure, "none"),
+        (Act::Tells(0, 1), "true false true"),
+        (Act::Tells(1, 1), "false false true"),
+        (Act::Yes, "go 0 1"),
+        (Act::Tells(0, 1), "false true true"),
+        (Act::No, "not so"),
+        (Act::Pressure, "none"),
+        (Act::Ack, "ended"),
+        (Act::Pressure, "1 2 1"),
+        (Act::Pin(2), "pinned"),
+        (Act::Yes, "cancel 1 2"),
+        (Act::Tells(1, 2), "false true true"),
+        (Act::Ack, "ended"),
+        (Act::Pressure, "0 0 55"),
+        (Act::Ack, "not so"),
+        (Act::No, "ended"),
+        (Act::Tells(0, 0), "false false false"),
+        (Act::Pressure, "1 0 55"),
+    ];
+    play(&rt, rt.alloc(), ROWS, 63)
+}

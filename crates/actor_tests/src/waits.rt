@@ -1,0 +1,362 @@
+//! Scripts at server 0 of six ranks, worked by hand.
+
+ghost use Rattle.std.specs.Prelude.{◌≡◌, IsTrue, true};
+ghost use Rattle.work_queue.specs.Queue.{HasNoPromise, HasNoUnit};
+ghost use Rattle.reserve_path.specs.Parked.{IsAway, IsHere, IsOther, is_pending};
+
+use adlb_unit::{Config, Payload, Rank, Server, Target, Types, Unit, UnitId, UnitNote, WorkType};
+use reserve_path::{Parked, ReserveStep};
+use std::alloc::Global;
+use std::process::Abort;
+use std::test::Fail;
+use work_queue::WorkQueue;
+
+// A call. Ranks come first, then the request, then the type that is wanted.
+#[derive(Clone, Copy)]
+enum Act {
+    // A unit of this number, type and target is in the queue.
+    Put(u64, u32, Target),
+    Reserve(u32, u64, u32),
+    Try(u32, u32),
+    Ask(u32, u64, u32),
+    Refuse(u32, u64, u32),
+    None(u32),
+    Grant(u32),
+    End(u32),
+    Hint(u32, u64, u32),
+    // The unit of this number is offered.
+    Offer(u64),
+    NextHint(u32, Target),
+    EndIdle,
+    Awaits(u32),
+    // Whether a server is unanswered, how many ranks wait, and which is the first.
+    All,
+}
+
+// The id of the unit of this number.
+fn id(number: u64) -> UnitId {
+    UnitId {
+        rank: Rank(0),
+        number,
+    }
+}
+
+// The one type that is wanted.
+fn only(kind: u32) -> Result<Types, Fail> {
+    Ok(Types::list(&[WorkType(kind)])?)
+}
+
+// Neither a unit nor a promise has this id.
+fn is_new(queue: &WorkQueue, id: UnitId) -> bool
+    ensures unit { IsTrue result → HasNoUnit id queue.now.units }
+    ensures promise { IsTrue result → HasNoPromise id queue.now.promises }
+{
+    !queue.has_unit(id) && queue.promised(id).is_none()
+}
+
+// Puts the unit of this number, if it is new.
+fn put(alloc: Global, queue: &mut WorkQueue, number: u64, kind: u32, target: Target) {
+    let unit = Unit {
+        id: id(number),
+        kind: WorkType(kind),
+        prio: 0,
+        target,
+        answer: None,
+        common: None,
+        body: Payload::from_vec(Vec::new(alloc)),
+    };
+    if is_new(queue, unit.id) && queue.arrivals() < 99 {
+        let _put = queue.add(unit);
+    }
+}
+
+// The rank is at home here.
+fn is_here(parked: &Parked, rank: Rank) -> bool
+    ensures { IsTrue result → IsHere parked.now.config parked.now.me rank }
+{
+    let (config, me) = parked.seat();
+    rank.0 < config.ranks && config.home(rank).0 == me.0
+}
+
+// The rank is at home at another server.
+fn is_away(parked: &Parked, rank: Rank) -> bool
+    ensures { IsTrue result → IsAway parked.now.config parked.now.me rank }
+{
+    let (config, me) = parked.seat();
+    rank.0 < config.ranks && config.home(rank).0 != me.0
+}
+
+// The server is another one.
+fn is_other(parked: &Parked, server: Server) -> bool
+    ensures { IsTrue result → IsOther parked.now.config parked.now.me server }
+{
+    let (config, me) = parked.seat();
+    server.0 < config.servers && server.0 != me.0
+}
+
+// A server is unanswered for the rank.
+fn is_pending(parked: &Parked, rank: Rank) -> bool
+    ensures { IsTrue result → is_pending parked.now rank ≡ true }
+{
+    matches!(parked.awaits(rank), Some((_, Some(_))))
+}
+
+// Shows what a reserve came to.
+fn shown(alloc: Global, step: ReserveStep) -> Result<String, Fail> {
+    Ok(match step {
+        ReserveStep::Granted(note) => format!(in alloc; "unit {}", note.id.number)?,
+        ReserveStep::Ask(server) => format!(in alloc; "ask {}", server.0)?,
+        ReserveStep::Idle => format!(in alloc; "idle")?,
+    })
+}
+
+// Shows the unit that was granted.
+fn unit(alloc: Global, note: Option<UnitNote>) -> Result<String, Fail> {
+    Ok(match note {
+        Some(note) => format!(in alloc; "unit {}", note.id.number)?,
+        None => format!(in alloc; "none")?,
+    })
+}
+
+// Shows a rank and its request.
+fn call(alloc: Global, call: Option<(Rank, u64)>) -> Result<String, Fail> {
+    Ok(match call {
+        Some((rank, request)) => format!(in alloc; "{} {request}", rank.0)?,
+        None => format!(in alloc; "nobody")?,
+    })
+}
+
+// Reserves for a rank that is at home here and does not wait.
+fn reserve(
+    parked: &mut Parked,
+    queue: &mut WorkQueue,
+    rank: Rank,
+    request: u64,
+    types: &Types,
+) -> Option<ReserveStep> {
+    match parked.awaits(rank) {
+        None if is_here(parked, rank) => Some(parked.reserve(queue, rank, request, types)),
+        _ => None,
+    }
+}
+
+// What the server that was asked for the rank answers.
+fn answer(
+    alloc: Global,
+    parked: &mut Parked,
+    queue: &mut WorkQueue,
+    act: Act,
+) -> Result<String, Fail> {
+    match act {
+        Act::None(rank) if is_pending(parked, Rank(rank)) => {
+            shown(alloc, parked.remote_none(queue, Rank(rank)))
+        }
+        Act::Grant(rank) if is_pending(parked, Rank(rank)) => {
+            parked.remote_grant(Rank(rank));
+            Ok(format!(in alloc; "done")?)
+        }
+        Act::End(rank) if is_pending(parked, Rank(rank)) => {
+            parked.remote_end(Rank(rank));
+            Ok(format!(in alloc; "done")?)
+        }
+        _ => Ok(format!(in alloc; "not so")?),
+    }
+}
+
+// What is asked here for a rank of another home.
+fn ask(
+    alloc: Global,
+    parked: &mut Parked,
+    queue: &mut WorkQueue,
+    act: Act,
+) -> Result<String, Fail> {
+    match act {
+        Act::Ask(rank, request, kind) if is_away(parked, Rank(rank)) => {
+            let types = only(kind)?;
+            unit(alloc, parked.remote_ask(queue, Rank(rank), request, &types))
+        }
+        Act::Refuse(rank, request, kind) if is_away(parked, Rank(rank)) => {
+            let types = only(kind)?;
+            parked.refuse_ask(Rank(rank), request, &types);
+            Ok(format!(in alloc; "done")?)
+        }
+        Act::NextHint(kind, target) => call(alloc, parked.next_hint(WorkType(kind), target)),
+        _ => Ok(format!(in alloc; "not so")?),
+    }
+}
+
+// Offers the unit of this number, if it is free.
+fn offer(
+    alloc: Global,
+    parked: &mut Parked,
+    queue: &mut WorkQueue,
+    number: u64,
+) -> Result<String, Fail> {
+    let unit = id(number);
+    if !queue.is_free(unit) {
+        return Ok(format!(in alloc; "not so")?);
+    }
+    Ok(match parked.offer(queue, unit) {
+        Some((rank, request, note)) => format!(in alloc;
+            "{} {request} {}",
+            rank.0, note.id.number
+        )?,
+        None => format!(in alloc; "nobody")?,
+    })
+}
+
+// What is told of those that wait.
+fn told(alloc: Global, parked: &Parked) -> Result<String, Fail> {
+    let mut room = std::array::from_fn(|_| (Rank(9), Types::any()));
+    let count = parked.asked(&mut room);
+    Ok(format!(in alloc; "{} {count} {}", parked.unanswered(), room[0].0.0)?)
+}
+
+// Makes the call, and shows its answer.
+fn make(
+    alloc: Global,
+    parked: &mut Parked,
+    queue: &mut WorkQueue,
+    act: Act,
+) -> Result<String, Fail> {
+    match act {
+        Act::Put(number, kind, target) => {
+            put(alloc, queue, number, kind, target);
+            Ok(format!(in alloc; "put")?)
+        }
+        Act::Reserve(rank, request, kind) => {
+            let types = only(kind)?;
+            match reserve(parked, queue, Rank(rank), request, &types) {
+                Some(step) => shown(alloc, step),
+                None => Ok(format!(in alloc; "not so")?),
+            }
+        }
+        Act::Try(rank, kind) if rank < parked.seat().0.ranks => {
+            let types = only(kind)?;
+            unit(alloc, parked.try_reserve(queue, Rank(rank), &types))
+        }
+        Act::Offer(number) => offer(alloc, parked, queue, number),
+        Act::EndIdle => call(alloc, parked.end_idle()),
+        Act::All => told(alloc, parked),
+        Act::Awaits(rank) => Ok(format!(in alloc; "{:?}", parked.awaits(Rank(rank)))?),
+        Act::Hint(rank, request, from) => hint(alloc, parked, Rank(rank), request, Server(from)),
+        Act::Ask(..) | Act::Refuse(..) | Act::NextHint(..) => ask(alloc, parked, queue, act),
+        _ => answer(alloc, parked, queue, act),
+    }
+}
+
+// Hears a hint.
+fn hint(
+    alloc: Global,
+    parked: &mut Parked,
+    rank: Rank,
+    request: u64,
+    from: Server,
+) -> Result<String, Fail> {
+    if !is_here(parked, rank) || !is_other(parked, from) {
+        return Ok(format!(in alloc; "not so")?);
+    }
+    Ok(match parked.hint(rank, request, from) {
+        Some(server) => format!(in alloc; "ask {}", server.0)?,
+        None => format!(in alloc; "later")?,
+    })
+}
+
+// In a run of these many servers, each call is answered so.
+fn play(rt: &impl Abort, alloc: Global, servers: u32, rows: &[(Act, &str)]) -> Result<(), Fail> {
+    let config = Config::new(6, servers, 64)?;
+    if servers == 0 {
+        return Ok(());
+    }
+    let mut parked = Parked::new(alloc, config, Server(0))?;
+    let mut queue = WorkQueue::new(alloc, 64);
+    for (act, expected) in rows {
+        let answer = make(alloc, &mut parked, &mut queue, *act)?;
+        assert_eq!(rt; answer.as_str(), *expected);
+    }
+    Ok(())
+}
+
+#[test]
+fn asks_one_server_after_the_other(rt: HostRuntime) -> Result<(), Fail> {
+    const ROWS: &[(Act, &str)] = &[
+        (Act::Reserve(0, 7, 5), "ask 1"),
+        (Act::Awaits(0), "Some((7, Some(Server(1))))"),
+        (Act::All, "true 1 0"),
+        (Act::EndIdle, "nobody"),
+        (Act::None(0), "ask 2"),
+        (Act::None(0), "idle"),
+        (Act::All, "false 1 0"),
+        (Act::Hint(0, 6, 1), "later"),
+        (Act::Hint(0, 7, 2), "ask 2"),
+        (Act::Hint(0, 7, 2), "later"),
+        (Act::Hint(0, 7, 1), "later"),
+        (Act::None(0), "ask 1"),
+        (Act::None(0), "ask 2"),
+        (Act::Grant(0), "done"),
+        (Act::Awaits(0), "None"),
+        (Act::All, "false 0 9"),
+    ];
+    play(&rt, rt.alloc(), 3, ROWS)
+}
+
+#[test]
+fn looks_at_its_own_queue_first(rt: HostRuntime) -> Result<(), Fail> {
+    const ROWS: &[(Act, &str)] = &[
+        (Act::Reserve(3, 7, 5), "ask 1"),
+        (Act::Put(1, 5, Target::Any), "put"),
+        (Act::Offer(1), "nobody"),
+        (Act::None(3), "unit 1"),
+        (Act::Awaits(3), "None"),
+        (Act::Put(2, 5, Target::Only(Rank(3))), "put"),
+        (Act::Try(0, 5), "none"),
+        (Act::Reserve(3, 8, 5), "unit 2"),
+        (Act::Reserve(3, 9, 5), "ask 1"),
+        (Act::End(3), "done"),
+        (Act::Awaits(3), "None"),
+    ];
+    play(&rt, rt.alloc(), 3, ROWS)
+}
+
+#[test]
+fn gives_a_unit_to_an_idle_rank(rt: HostRuntime) -> Result<(), Fail> {
+    const ROWS: &[(Act, &str)] = &[
+        (Act::Reserve(0, 1, 5), "idle"),
+        (Act::Reserve(1, 1, 5), "idle"),
+        (Act::Reserve(2, 1, 6), "idle"),
+        (Act::All, "false 3 0"),
+        (Act::Put(1, 5, Target::Any), "put"),
+        (Act::Offer(1), "0 1 1"),
+        (Act::Reserve(0, 2, 5), "idle"),
+        (Act::Put(2, 5, Target::Soft(Rank(0))), "put"),
+        (Act::Offer(2), "0 2 2"),
+        (Act::Put(3, 5, Target::Only(Rank(0))), "put"),
+        (Act::Offer(3), "nobody"),
+        (Act::EndIdle, "1 1"),
+        (Act::EndIdle, "2 1"),
+        (Act::EndIdle, "nobody"),
+    ];
+    play(&rt, rt.alloc(), 1, ROWS)
+}
+
+#[test]
+fn keeps_one_wish_a_rank(rt: HostRuntime) -> Result<(), Fail> {
+    const ROWS: &[(Act, &str)] = &[
+        (Act::Ask(1, 4, 5), "none"),
+        (Act::Ask(2, 3, 5), "none"),
+        (Act::Ask(1, 5, 5), "none"),
+        (Act::NextHint(6, Target::Any), "nobody"),
+        (Act::NextHint(5, Target::Any), "2 3"),
+        (Act::NextHint(5, Target::Any), "1 5"),
+        (Act::NextHint(5, Target::Any), "nobody"),
+        (Act::Refuse(1, 6, 5), "done"),
+        (Act::Refuse(2, 7, 5), "done"),
+        (Act::NextHint(5, Target::Soft(Rank(2))), "2 7"),
+        (Act::Put(1, 5, Target::Only(Rank(1))), "put"),
+        (Act::Ask(2, 8, 5), "none"),
+        (Act::Ask(1, 8, 5), "unit 1"),
+        (Act::NextHint(5, Target::Any), "2 8"),
+        (Act::NextHint(5, Target::Any), "nobody"),
+    ];
+    play(&rt, rt.alloc(), 3, ROWS)
+}

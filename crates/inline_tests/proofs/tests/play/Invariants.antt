@@ -1,6 +1,0 @@
-use Rattle.std.proofs.Common.{◌≡◌, false}
-use Rattle.rank_client.specs.Calls.{has_finished}
-use Rattle.inline_tests.proofs.tests.play.Given as goal
-
-abbrev pub invariant-loop-act : goal.invariant-loop-act
-invariant-loop-act g l = has_finished l.world.run.transcript ≡ false

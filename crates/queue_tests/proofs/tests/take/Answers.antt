@@ -1,5 +1,0 @@
-use Rattle.std.proofs.Common.{refl}
-use Rattle.queue_tests.proofs.tests.take.Goals as goal
-
-pub take_pinned-requires : goal.take_pinned-requires
-take_pinned-requires c = (c.in-Some.ensures c.in-Some.holder).0 refl

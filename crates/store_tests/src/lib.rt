@@ -1,7 +1,0 @@
-//! The common parts of batches, by example.
-//!
-//! It holds tests alone, in a crate of their own so that what they test is not proved again with them.
-#![tactic(auto)]
-
-#[cfg(test)]
-mod parts;

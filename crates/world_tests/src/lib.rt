@@ -1,7 +1,0 @@
-//! Runs that are stepped by hand, by example.
-//!
-//! It holds tests alone, in a crate of their own so that what they test is not proved again with them.
-#![tactic(auto)]
-
-#[cfg(test)]
-mod stepped;
