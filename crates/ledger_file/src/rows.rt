@@ -3,23 +3,17 @@
 ghost use Rattle.ledger_file.specs.Inside.Reading.{Gives, parts_left, parts_of};
 ghost use Rattle.ledger_file.specs.Inside.Rows.{read_row, read_entry};
 
-mod batches;
-mod endings;
-mod fetches;
-mod pushes;
-mod puts;
-mod reserves;
+mod alike;
+mod calls;
+mod servers;
 
 use crate::cursor::Parts;
 use crate::faults::LineFault;
 use crate::names::Name;
+use alike::{of_batch, of_call, of_unit, of_wish};
 use bag_ledger::Entry;
-use batches::{closed, closing, freed, keeping, kept};
-use endings::{counted, counting, done, exhausted, finished, over};
-use fetches::{common_fetched, fetched, fetching};
-use pushes::{arrived, left, promised, withdrawn};
-use puts::{accepted, putting, refused, rejected};
-use reserves::{asked, granted, looked, no_current, tried};
+use calls::{counting, fetching, keeping, over, putting};
+use servers::{common_fetched, counted, fetched, granted, left, looked, promised, refused};
 use std::alloc::Global;
 
 /// The entry that is written so, without its line feed. `Bad` exactly if none is. Its only other error is `Memory`.
@@ -39,32 +33,25 @@ fn fields_of(alloc: Global, name: Name, words: &mut Parts<'_>) -> Result<Entry, 
     ensures { Gives (λ e. e) result (read_row name (parts_left words.old)) }
 {
     match name {
+        Name::Rejected | Name::Closing | Name::NoCurrent | Name::Done | Name::Finished => {
+            of_call(name, words)
+        }
+        Name::Asked | Name::Tried => of_wish(name, words),
+        Name::Accepted | Name::Arrived | Name::Withdrawn => of_unit(name, words),
+        Name::Kept | Name::Closed | Name::Freed => of_batch(name, words),
         Name::Putting => putting(alloc, words),
-        Name::Refused => refused(words),
-        Name::Accepted => accepted(words),
-        Name::Rejected => rejected(words),
         Name::Keeping => keeping(alloc, words),
-        Name::Kept => kept(words),
-        Name::Closing => closing(words),
-        Name::Closed => closed(words),
-        Name::Freed => freed(words),
-        Name::Asked => asked(words),
-        Name::Tried => tried(words),
+        Name::Fetching => fetching(words),
+        Name::Counting => counting(words),
+        Name::Over => over(words),
+        Name::Refused => refused(words),
         Name::Granted => granted(words),
         Name::Looked => looked(words),
-        Name::NoCurrent => no_current(words),
-        Name::Fetching => fetching(words),
         Name::Fetched => fetched(words),
         Name::CommonFetched => common_fetched(words),
         Name::Promised => promised(words),
         Name::Left => left(words),
-        Name::Arrived => arrived(words),
-        Name::Withdrawn => withdrawn(words),
-        Name::Counting => counting(words),
         Name::Counted => counted(words),
-        Name::Done => done(words),
-        Name::Exhausted => exhausted(words),
-        Name::Over => over(words),
-        Name::Finished => finished(words),
+        Name::Exhausted => words.last(Entry::Exhausted),
     }
 }

@@ -1,6 +1,6 @@
 //! The fields of an entry, read from the words of a line one after the other.
 
-ghost use Rattle.ledger_file.specs.Inside.Reading.{Gives, first, parts_left, whole, rank_in, server_in, kind_in, length_in, number_in, prio_in, unit_in, batch_in, target_in, answer_in, top_in, types_in, bytes_in, end_in};
+ghost use Rattle.ledger_file.specs.Inside.Reading.{Gives, first, parts_left, whole, length_in, number_in, prio_in, pair_in, target_in, answer_in, top_in, types_in, bytes_in, end_in, call_in};
 ghost use Rattle.std.specs.Prelude.{◌≡◌, ◌∷◌, [], MatchResult};
 
 use crate::choices::{answer, end, target, top};
@@ -23,24 +23,6 @@ impl<'a> Parts<'a> {
         }
     }
 
-    pub fn rank(&mut self) -> Result<Rank, LineFault>
-        ensures { Gives (λ x. (x, parts_left self.new)) result (first rank_in (parts_left self.old)) }
-    {
-        Ok(Rank(short(self.word()?)?))
-    }
-
-    pub fn server(&mut self) -> Result<Server, LineFault>
-        ensures { Gives (λ x. (x, parts_left self.new)) result (first server_in (parts_left self.old)) }
-    {
-        Ok(Server(short(self.word()?)?))
-    }
-
-    pub fn kind(&mut self) -> Result<WorkType, LineFault>
-        ensures { Gives (λ x. (x, parts_left self.new)) result (first kind_in (parts_left self.old)) }
-    {
-        Ok(WorkType(short(self.word()?)?))
-    }
-
     pub fn length(&mut self) -> Result<u32, LineFault>
         ensures { Gives (λ x. (x, parts_left self.new)) result (first length_in (parts_left self.old)) }
     {
@@ -53,16 +35,36 @@ impl<'a> Parts<'a> {
         number(self.word()?)
     }
 
-    pub fn prio(&mut self) -> Result<i32, LineFault>
-        ensures { Gives (λ x. (x, parts_left self.new)) result (first prio_in (parts_left self.old)) }
+    pub fn rank(&mut self) -> Result<Rank, LineFault>
+        ensures { Gives (λ x. (x.0, parts_left self.new)) result (first length_in (parts_left self.old)) }
     {
-        prio(self.word()?)
+        Ok(Rank(self.length()?))
+    }
+
+    pub fn server(&mut self) -> Result<Server, LineFault>
+        ensures { Gives (λ x. (x.0, parts_left self.new)) result (first length_in (parts_left self.old)) }
+    {
+        Ok(Server(self.length()?))
+    }
+
+    pub fn kind(&mut self) -> Result<WorkType, LineFault>
+        ensures { Gives (λ x. (x.0, parts_left self.new)) result (first length_in (parts_left self.old)) }
+    {
+        Ok(WorkType(self.length()?))
+    }
+
+    /// The next two words, as a rank and the number of its call.
+    #[tactic(auto, unfolding(crate::specs::Inside::Reading::call_in))]
+    pub fn call(&mut self) -> Result<(Rank, u64), LineFault>
+        ensures { Gives (λ x. ((x.0.0, x.1), parts_left self.new)) result (call_in (parts_left self.old)) }
+    {
+        Ok((self.rank()?, self.number()?))
     }
 
     pub fn unit(&mut self) -> Result<UnitId, LineFault>
-        ensures { Gives (λ x. (x, parts_left self.new)) result (first unit_in (parts_left self.old)) }
+        ensures { Gives (λ x. ((x.rank.0, x.number), parts_left self.new)) result (first pair_in (parts_left self.old)) }
     {
-        let (rank, number) = id(self.word()?)?;
+        let (rank, number) = self.id()?;
         Ok(UnitId {
             rank: Rank(rank),
             number,
@@ -70,13 +72,25 @@ impl<'a> Parts<'a> {
     }
 
     pub fn batch(&mut self) -> Result<BatchId, LineFault>
-        ensures { Gives (λ x. (x, parts_left self.new)) result (first batch_in (parts_left self.old)) }
+        ensures { Gives (λ x. ((x.rank.0, x.number), parts_left self.new)) result (first pair_in (parts_left self.old)) }
     {
-        let (rank, number) = id(self.word()?)?;
+        let (rank, number) = self.id()?;
         Ok(BatchId {
             rank: Rank(rank),
             number,
         })
+    }
+
+    fn id(&mut self) -> Result<(u32, u64), LineFault>
+        ensures { Gives (λ x. (x, parts_left self.new)) result (first pair_in (parts_left self.old)) }
+    {
+        id(self.word()?)
+    }
+
+    pub fn prio(&mut self) -> Result<i32, LineFault>
+        ensures { Gives (λ x. (x, parts_left self.new)) result (first prio_in (parts_left self.old)) }
+    {
+        prio(self.word()?)
     }
 
     pub fn target(&mut self) -> Result<Target, LineFault>
