@@ -10,7 +10,7 @@ use lib.Signed.{mag}
 use Rattle.ledger_file.specs.declared.faults.LineFault.{LineFault}
 use Rattle.ledger_file.specs.declared.faults.LineFault.TheVariants as fault
 use Rattle.ledger_file.specs.Fields.{Field, u32, u64, i32, id, word, in_u32, in_i32, IsWithin}
-use Rattle.ledger_file.specs.Inside.Reading.{IsCut, first, with_rest, whole, Gives, Finds, Misses}
+use Rattle.ledger_file.specs.Inside.Reading.{IsCut, first, with_rest, Gives, Finds, Misses}
 use Rattle.ledger_file.proofs.Bytes.{above_free, above_less, same_front, decimal_above}
 use Rattle.ledger_file.proofs.Plain.{short_is, long_is}
 use Rattle.ledger_file.proofs.Readers.{Reads, gives, pair_field}
@@ -63,8 +63,3 @@ first_gives field read reads old w ws (Err fault.Memory) is found = tt
 first_gives field read reads old w ws (Err fault.Bad) is found =
     let none : read w ≡ None = gives field read reads w (Err fault.Bad) found in
     ap (first read) is ∙ ap (with_rest ws) none
-
--- an entry that is made by name, where nothing is left to read
-pub made_as : {E : Type 0} (r : Result E LineFault) (ws : List (List ℕ)) (made meant : E) → made ≡ meant → Gives (λ x. x) r (whole made ws)
-    → Gives (λ x. x) r (whole meant ws)
-made_as r ws made meant same g = subst (λ (e : _). Gives (λ x. x) r (whole e ws)) same g

@@ -10,10 +10,10 @@ mod servers;
 use crate::cursor::Parts;
 use crate::faults::LineFault;
 use crate::names::Name;
-use alike::{of_batch, of_call, of_unit, of_wish};
+use alike::{of_call, of_id, of_way, of_wish};
 use bag_ledger::Entry;
 use calls::{counting, fetching, keeping, over, putting};
-use servers::{common_fetched, counted, fetched, granted, left, looked, promised, refused};
+use servers::{counted, granted, looked, promised, refused};
 use std::alloc::Global;
 
 /// The entry that is written so, without its line feed. `Bad` exactly if none is. Its only other error is `Memory`.
@@ -25,20 +25,31 @@ pub fn entry_of(alloc: Global, line: &[u8]) -> Result<Entry, LineFault>
     let Some(name) = Name::of(words.word()?) else {
         return Err(LineFault::Bad);
     };
-    fields_of(alloc, name, &mut words)
+    let entry = fields_of(alloc, name, &mut words)?;
+    words.last(entry)
 }
 
-// The entry of this name, whose fields are the words that are left.
+// The entry of this name, whose fields come next. `Bad` exactly if the words left do not begin with such fields.
 fn fields_of(alloc: Global, name: Name, words: &mut Parts<'_>) -> Result<Entry, LineFault>
-    ensures { Gives (λ e. e) result (read_row name (parts_left words.old)) }
+    ensures { Gives (λ e. (e, parts_left words.new)) result (read_row name (parts_left words.old)) }
 {
     match name {
-        Name::Rejected | Name::Closing | Name::NoCurrent | Name::Done | Name::Finished => {
-            of_call(name, words)
-        }
-        Name::Asked | Name::Tried => of_wish(name, words),
-        Name::Accepted | Name::Arrived | Name::Withdrawn => of_unit(name, words),
-        Name::Kept | Name::Closed | Name::Freed => of_batch(name, words),
+        Name::Rejected => of_call(name, words),
+        Name::Closing => of_call(name, words),
+        Name::NoCurrent => of_call(name, words),
+        Name::Done => of_call(name, words),
+        Name::Finished => of_call(name, words),
+        Name::Asked => of_wish(name, words),
+        Name::Tried => of_wish(name, words),
+        Name::Accepted => of_id(name, words),
+        Name::Kept => of_id(name, words),
+        Name::Closed => of_id(name, words),
+        Name::Freed => of_id(name, words),
+        Name::Arrived => of_id(name, words),
+        Name::Withdrawn => of_id(name, words),
+        Name::Fetched => of_way(name, words),
+        Name::CommonFetched => of_way(name, words),
+        Name::Left => of_way(name, words),
         Name::Putting => putting(alloc, words),
         Name::Keeping => keeping(alloc, words),
         Name::Fetching => fetching(words),
@@ -47,11 +58,8 @@ fn fields_of(alloc: Global, name: Name, words: &mut Parts<'_>) -> Result<Entry, 
         Name::Refused => refused(words),
         Name::Granted => granted(words),
         Name::Looked => looked(words),
-        Name::Fetched => fetched(words),
-        Name::CommonFetched => common_fetched(words),
         Name::Promised => promised(words),
-        Name::Left => left(words),
         Name::Counted => counted(words),
-        Name::Exhausted => words.last(Entry::Exhausted),
+        Name::Exhausted => Ok(Entry::Exhausted),
     }
 }

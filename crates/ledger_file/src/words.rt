@@ -8,7 +8,7 @@ use crate::cursor::Parts;
 use crate::faults::LineFault;
 use crate::lists::{payload, types};
 use crate::numbers::{id, number, prio, short};
-use adlb_unit::{BatchId, End, Payload, Rank, Server, Target, Types, UnitId, WorkType};
+use adlb_unit::{End, Payload, Rank, Server, Target, Types, UnitId};
 use std::alloc::Global;
 
 /// Each reads the next word as a field, and fails as `Bad` exactly if there is none or it is no such field.
@@ -35,22 +35,10 @@ impl<'a> Parts<'a> {
         number(self.word()?)
     }
 
-    pub fn rank(&mut self) -> Result<Rank, LineFault>
-        ensures { Gives (λ x. (x.0, parts_left self.new)) result (first length_in (parts_left self.old)) }
-    {
-        Ok(Rank(self.length()?))
-    }
-
     pub fn server(&mut self) -> Result<Server, LineFault>
         ensures { Gives (λ x. (x.0, parts_left self.new)) result (first length_in (parts_left self.old)) }
     {
         Ok(Server(self.length()?))
-    }
-
-    pub fn kind(&mut self) -> Result<WorkType, LineFault>
-        ensures { Gives (λ x. (x.0, parts_left self.new)) result (first length_in (parts_left self.old)) }
-    {
-        Ok(WorkType(self.length()?))
     }
 
     /// The next two words, as a rank and the number of its call.
@@ -58,7 +46,7 @@ impl<'a> Parts<'a> {
     pub fn call(&mut self) -> Result<(Rank, u64), LineFault>
         ensures { Gives (λ x. ((x.0.0, x.1), parts_left self.new)) result (call_in (parts_left self.old)) }
     {
-        Ok((self.rank()?, self.number()?))
+        Ok((Rank(self.length()?), self.number()?))
     }
 
     pub fn unit(&mut self) -> Result<UnitId, LineFault>
@@ -71,17 +59,7 @@ impl<'a> Parts<'a> {
         })
     }
 
-    pub fn batch(&mut self) -> Result<BatchId, LineFault>
-        ensures { Gives (λ x. ((x.rank.0, x.number), parts_left self.new)) result (first pair_in (parts_left self.old)) }
-    {
-        let (rank, number) = self.id()?;
-        Ok(BatchId {
-            rank: Rank(rank),
-            number,
-        })
-    }
-
-    fn id(&mut self) -> Result<(u32, u64), LineFault>
+    pub fn id(&mut self) -> Result<(u32, u64), LineFault>
         ensures { Gives (λ x. (x, parts_left self.new)) result (first pair_in (parts_left self.old)) }
     {
         id(self.word()?)

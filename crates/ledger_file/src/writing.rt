@@ -16,12 +16,12 @@ pub fn write_ledger(alloc: Global, config: &Config, ledger: &Ledger) -> Result<V
     ensures { IfOk result (λ bytes. bytes.items ≡ text config.now ledger.now) }
 {
     let mut bytes = Vec::new(alloc);
-    let sizes = [
-        Short(config.ranks),
-        Short(config.servers),
-        Number(config.limit),
-    ];
-    append_line(&mut bytes, b"ledger", &sizes)?;
+    let (ranks, servers) = (Short(config.ranks), Short(config.servers));
+    append_line(
+        &mut bytes,
+        b"ledger",
+        &[ranks, servers, Number(config.limit)],
+    )?;
     let entries = ledger.entries();
     for entry in entries {
         append_entry(&mut bytes, entry)?;

@@ -155,7 +155,7 @@ unit_of x = record { rank = rank_of x.0; number = x.1 }
 abbrev pub batch_of : ℕ × ℕ → BatchId
 batch_of x = record { rank = rank_of x.0; number = x.1 }
 
--- the numbers of a rank and of its call; what is read behind these, behind a server, and behind an id
+-- the numbers of a rank and of its call; what is read behind these, behind a server, and behind the id of a unit
 unfoldable pub call_in : List (List ℕ) → Option ((ℕ × ℕ) × List (List ℕ))
 call_in ws = onward (λ rank vs. onward (λ call us. Some ((rank, call), us)) (first number_in vs)) (first length_in ws)
 
@@ -168,10 +168,10 @@ with_server k = next length_in (λ n. k (server_of n))
 abbrev pub with_unit : {E : Type 0} → (UnitId → List (List ℕ) → Option E) → List (List ℕ) → Option E
 with_unit k = next pair_in (λ x. k (unit_of x))
 
-abbrev pub with_batch : {E : Type 0} → (BatchId → List (List ℕ) → Option E) → List (List ℕ) → Option E
-with_batch k = next pair_in (λ x. k (batch_of x))
+-- a value that is read, and the words behind it; and if no word is left, the value alone
+abbrev pub value : {E : Type 0} → E → List (List ℕ) → Option (E × List (List ℕ))
+value e ws = Some (e, ws)
 
--- no word is left
 abbrev pub whole : {E : Type 0} → E → List (List ℕ) → Option E
 whole e [] = Some e
 whole e (w ∷ ws) = None

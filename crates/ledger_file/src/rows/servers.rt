@@ -1,5 +1,5 @@
-//! Entries of servers: each function reads the fields of the entry that it is named for, which are all the words left.
-//! `Bad` comes exactly if these words are no such fields.
+//! Entries of servers: each function reads the fields of the entry that it is named for, which come next.
+//! `Bad` comes exactly if the words left do not begin with such fields.
 
 ghost use Rattle.ledger_file.specs.Inside.Reading.{Gives, parts_left};
 ghost use Rattle.ledger_file.specs.Inside.Rows.{read_row};
@@ -11,23 +11,22 @@ use adlb_unit::Info;
 use bag_ledger::Entry;
 
 pub fn refused(words: &mut Parts<'_>) -> Result<Entry, LineFault>
-    ensures { Gives (λ e. e) result (read_row Name.Refused (parts_left words.old)) }
+    ensures { Gives (λ e. (e, parts_left words.new)) result (read_row Name.Refused (parts_left words.old)) }
 {
-    let entry = Entry::Refused {
+    Ok(Entry::Refused {
         server: words.server()?,
         id: words.unit()?,
         used: words.number()?,
-    };
-    words.last(entry)
+    })
 }
 
 pub fn granted(words: &mut Parts<'_>) -> Result<Entry, LineFault>
-    ensures { Gives (λ e. e) result (read_row Name.Granted (parts_left words.old)) }
+    ensures { Gives (λ e. (e, parts_left words.new)) result (read_row Name.Granted (parts_left words.old)) }
 {
     let server = words.server()?;
     let (rank, call) = words.call()?;
     let id = words.unit()?;
-    words.last(Entry::Granted {
+    Ok(Entry::Granted {
         server,
         rank,
         call,
@@ -36,59 +35,25 @@ pub fn granted(words: &mut Parts<'_>) -> Result<Entry, LineFault>
 }
 
 pub fn looked(words: &mut Parts<'_>) -> Result<Entry, LineFault>
-    ensures { Gives (λ e. e) result (read_row Name.Looked (parts_left words.old)) }
+    ensures { Gives (λ e. (e, parts_left words.new)) result (read_row Name.Looked (parts_left words.old)) }
 {
     let server = words.server()?;
     let (rank, call) = words.call()?;
-    words.last(Entry::Looked { server, rank, call })
-}
-
-pub fn fetched(words: &mut Parts<'_>) -> Result<Entry, LineFault>
-    ensures { Gives (λ e. e) result (read_row Name.Fetched (parts_left words.old)) }
-{
-    let entry = Entry::Fetched {
-        server: words.server()?,
-        rank: words.rank()?,
-        id: words.unit()?,
-    };
-    words.last(entry)
-}
-
-pub fn common_fetched(words: &mut Parts<'_>) -> Result<Entry, LineFault>
-    ensures { Gives (λ e. e) result (read_row Name.CommonFetched (parts_left words.old)) }
-{
-    let entry = Entry::CommonFetched {
-        server: words.server()?,
-        rank: words.rank()?,
-        batch: words.batch()?,
-    };
-    words.last(entry)
+    Ok(Entry::Looked { server, rank, call })
 }
 
 pub fn promised(words: &mut Parts<'_>) -> Result<Entry, LineFault>
-    ensures { Gives (λ e. e) result (read_row Name.Promised (parts_left words.old)) }
+    ensures { Gives (λ e. (e, parts_left words.new)) result (read_row Name.Promised (parts_left words.old)) }
 {
-    let entry = Entry::Promised {
+    Ok(Entry::Promised {
         server: words.server()?,
         id: words.unit()?,
         length: words.length()?,
-    };
-    words.last(entry)
-}
-
-pub fn left(words: &mut Parts<'_>) -> Result<Entry, LineFault>
-    ensures { Gives (λ e. e) result (read_row Name.Left (parts_left words.old)) }
-{
-    let entry = Entry::Left {
-        server: words.server()?,
-        to: words.server()?,
-        id: words.unit()?,
-    };
-    words.last(entry)
+    })
 }
 
 pub fn counted(words: &mut Parts<'_>) -> Result<Entry, LineFault>
-    ensures { Gives (λ e. e) result (read_row Name.Counted (parts_left words.old)) }
+    ensures { Gives (λ e. (e, parts_left words.new)) result (read_row Name.Counted (parts_left words.old)) }
 {
     let server = words.server()?;
     let (rank, call) = words.call()?;
@@ -97,7 +62,7 @@ pub fn counted(words: &mut Parts<'_>) -> Result<Entry, LineFault>
         top: words.top()?,
         at_top: words.number()?,
     };
-    words.last(Entry::Counted {
+    Ok(Entry::Counted {
         server,
         rank,
         call,
