@@ -2,13 +2,12 @@
 use Rattle.std.proofs.Common.{◌≡◌, ℕ, ◌-◌, ◌≤◌, List, [], ◌∷◌, ◌++◌, length, get_or, take, drop, map, refl, sym, ap, ◌∙◌, append_assoc, arith}
 use Rattle.std.specs.List.{flat_map, join_with_byte}
 use Rattle.std.proofs.lemmas.Grind.{flat_map-append}
-use Rattle.std.proofs.lemmas.List.{take_all}
+use Rattle.std.proofs.lemmas.List.{take-append-drop, take_all}
 use Rattle.bag_ledger.specs.declared.entries.Entry.{Entry}
-use Rattle.bag_ledger.specs.declared.entries.Entry.TheVariants as of
 use Rattle.ledger_file.specs.declared.fields.Field.{Field}
 use Rattle.ledger_file.specs.Fields.{Field as Spelt, word}
 use Rattle.ledger_file.specs.Lines.{row, line}
-use Rattle.ledger_file.specs.Inside.Given.{field_of, fields_of, spaced, what, who}
+use Rattle.ledger_file.specs.Inside.Given.{field_of, fields_of, heads, spaced, what, who}
 use Rattle.ledger_file.proofs.Bytes.{joined_is}
 
 -- a list whose first was written, and then the others behind the byte k
@@ -44,15 +43,11 @@ line_written old start mid out name fs begun so_far ended =
     ∙ append_assoc old (join_with_byte 32 (name ∷ map word fs)) (10 ∷ [])
 
 -- the line of an entry, whose fields are written in two parts
-parts_are : (e : Entry) → (row e).1 ≡ who e ++ what e
-parts_are of.Exhausted = refl
-parts_are _ = refl
-
 pub entry_written : (old start mid behind out name : List ℕ) (e : Entry) → name ≡ (row e).0 → start ≡ old ++ name
     → mid ≡ start ++ spaced (who e) → behind ≡ mid ++ spaced (what e) → out ≡ behind ++ 10 ∷ [] → out ≡ old ++ line (row e)
 entry_written old start mid behind out name e is begun first then ended =
     let fields : behind ≡ start ++ spaced (row e).1 = then ∙ ap (λ (v : List ℕ). v ++ spaced (what e)) first
     ∙ append_assoc start (spaced (who e)) (spaced (what e))
     ∙ ap (λ (v : List ℕ). start ++ v) (sym (flat_map-append (λ f. 32 ∷ word f) (who e) (what e)))
-    ∙ ap (λ (fs : List Spelt). start ++ spaced fs) (sym (parts_are e)) in
+    ∙ ap (λ (fs : List Spelt). start ++ spaced fs) (take-append-drop (heads e) (row e).1) in
     line_written old start behind out (row e).0 (row e).1 (begun ∙ ap (λ (v : List ℕ). old ++ v) is) fields ended

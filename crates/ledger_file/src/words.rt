@@ -17,10 +17,7 @@ impl<'a> Parts<'a> {
     pub fn word(&mut self) -> Result<&'a [u8], LineFault>
         ensures { MatchResult result (λ w. parts_left self.old ≡ w.now ∷ parts_left self.new) (λ fault. (fault ≡ LineFault.Bad) × (parts_left self.old ≡ [])) }
     {
-        match self.next() {
-            Some(word) => Ok(word),
-            None => Err(LineFault::Bad),
-        }
+        self.next().ok_or(LineFault::Bad)
     }
 
     pub fn length(&mut self) -> Result<u32, LineFault>
