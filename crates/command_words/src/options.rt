@@ -1,7 +1,7 @@
 //! What `clap` is told of each command.
 
 ghost use Rattle.std.specs.Prelude.{◌≡◌, IfOk, false};
-ghost use Rattle.clap.specs.Words.{app_of, rule_of};
+ghost use Rattle.clap.specs.Words.{app_of, rule_of, with_rule};
 ghost use Rattle.command_words.specs.Options.{bare, check_app, drill_app, flag_rule, make_app, number_rule};
 ghost use Rattle.command_words.specs.Options.{option_rule, solve_app, with_actors, with_made, with_numbers, with_run};
 
@@ -50,41 +50,78 @@ fn command<'a>(alloc: Global, name: &'a str) -> Command<'a>
         .disable_version_flag(true)
 }
 
+// The command, which takes a number as well.
+fn with_number<'a>(
+    alloc: Global,
+    command: Command<'a>,
+    name: &'a str,
+    low: u64,
+    high: u64,
+) -> Result<Command<'a>, AllocError>
+    ensures { IfOk result (λ c. app_of c ≡ with_rule (app_of command.entry) (number_rule name.entry.now low high)) }
+{
+    command.arg(number(alloc, name, low, high))
+}
+
+// The command, which takes an option as well.
+fn with_option<'a>(
+    alloc: Global,
+    command: Command<'a>,
+    name: &'a str,
+    low: u64,
+    high: u64,
+) -> Result<Command<'a>, AllocError>
+    ensures { IfOk result (λ c. app_of c ≡ with_rule (app_of command.entry) (option_rule name.entry.now low high)) }
+{
+    command.arg(option(alloc, name, low, high))
+}
+
+// The command, which takes a flag as well.
+fn with_flag<'a>(
+    alloc: Global,
+    command: Command<'a>,
+    name: &'a str,
+) -> Result<Command<'a>, AllocError>
+    ensures { IfOk result (λ c. app_of c ≡ with_rule (app_of command.entry) (flag_rule name.entry.now)) }
+{
+    command.arg(flag(alloc, name))
+}
+
 fn with_made<'a>(alloc: Global, command: Command<'a>) -> Result<Command<'a>, AllocError>
     ensures { IfOk result (λ c. app_of c ≡ with_made (app_of command.entry)) }
 {
-    let command = command.arg(number(alloc, "count", 0, 100_000))?;
-    command.arg(number(alloc, "seed", 0, u64::MAX))
+    let command = with_number(alloc, command, "count", 0, 100_000)?;
+    with_number(alloc, command, "seed", 0, u64::MAX)
 }
 
 fn with_actors<'a>(alloc: Global, command: Command<'a>) -> Result<Command<'a>, AllocError>
     ensures { IfOk result (λ c. app_of c ≡ with_actors (app_of command.entry)) }
 {
-    let command = command.arg(option(alloc, "ranks", 1, 32))?;
-    command.arg(option(alloc, "servers", 1, 8))
+    let command = with_option(alloc, command, "ranks", 1, 32)?;
+    with_option(alloc, command, "servers", 1, 8)
 }
 
 fn with_numbers<'a>(alloc: Global, command: Command<'a>) -> Result<Command<'a>, AllocError>
     ensures { IfOk result (λ c. app_of c ≡ with_numbers (app_of command.entry)) }
 {
-    let command = command.arg(option(alloc, "limit", 64, 1 << 30))?;
-    let command = command.arg(option(alloc, "budget", 1, 1 << 32))?;
-    command.arg(option(alloc, "grain", 1, 1 << 32))
+    let command = with_option(alloc, command, "limit", 64, 1 << 30)?;
+    let command = with_option(alloc, command, "budget", 1, 1 << 32)?;
+    with_option(alloc, command, "grain", 1, 1 << 32)
 }
 
 fn with_run<'a>(alloc: Global, command: Command<'a>) -> Result<Command<'a>, AllocError>
     ensures { IfOk result (λ c. app_of c ≡ with_run (app_of command.entry)) }
 {
     let command = with_numbers(alloc, with_actors(alloc, command)?)?;
-    command.arg(flag(alloc, "inline"))
+    with_flag(alloc, command, "inline")
 }
 
 /// `solve` (`solve_app`).
 pub(crate) fn solve_command<'a>(alloc: Global) -> Result<Command<'a>, AllocError>
     ensures { IfOk result (λ c. app_of c ≡ solve_app) }
 {
-    let command = with_run(alloc, command(alloc, "solve"))?.arg(flag(alloc, "stats"))?;
-    command.arg(flag(alloc, "ledger"))
+    let command = with_run(alloc, command(alloc, "solve"))?;
+    with_flag(alloc, with_flag(alloc, command, "stats")?, "ledger")
 }
 
 /// `check` (`check_app`).

@@ -1,6 +1,5 @@
 -- At the start each actor is there, and none has failed.
-use Rattle.std.proofs.Common.{◌≡◌, ◌+◌, ℕ, List, [], ◌∷◌, ◌++◌, map, None, Result, Ok, Err, false, cond, refl, zero-add}
-use Rattle.std.specs.Prelude.{is_err, is_ok}
+use Rattle.std.proofs.Common.{◌≡◌, ◌+◌, ℕ, List, [], ◌∷◌, ◌++◌, map, None, refl, zero-add}
 use Rattle.std.specs.List.{range_with_len}
 use Rattle.std.proofs.lemmas.List.Elements.{All-map}
 use Rattle.std.proofs.lemmas.List.FromFn.{length-map-range_with_len, map-range_with_len_more}
@@ -32,7 +31,3 @@ pub one_more_server : (config : Config) (before now : List ServerModel) (server 
     → server ≡ new_pool config (server_named n) → now ≡ before ++ server ∷ [] → now ≡ map (λ k. new_pool config (server_named k)) (range_with_len 0 (n + 1))
 one_more_server config before now server n was is pushed =
     rw (map-range_with_len_more (λ k. new_pool config (server_named k)) 0 n n (zero-add n), pushed, was, is) refl
-
-pub pushed_is : {X T E : Type 0} (r : Result T E) (now more before : List X) → is_err r ≡ false → now ≡ cond (is_ok r) more before → now ≡ more
-pushed_is (Ok x) now more before whole is = is
-pushed_is (Err e) now more before whole is = absurd (cc)

@@ -9,7 +9,7 @@ ghost use Rattle.core_world.specs.Seen.{under_way};
 ghost use Rattle.core_world.specs.Stage.{IsReached, IsWhole};
 
 use crate::links::{Links, place_of};
-use adlb_unit::{Actor, Config, NoMemory, Rank, Server};
+use adlb_unit::{Actor, Config, NoMemory, Rank, Server, or_no_memory};
 use bag_ledger::{Ledger, Said};
 use core_run::Event;
 use rank_client::ClientCore;
@@ -145,12 +145,10 @@ impl Stage {
 fn clients(alloc: Global, config: Config) -> Result<Vec<ClientCore>, NoMemory>
     ensures { IfOk result (λ v. v.items ≡ (start config).ranks) }
 {
-    let mut clients = Vec::new(alloc);
+    let mut clients = or_no_memory(Vec::with_capacity(alloc, config.ranks as usize))?;
     for number in 0..config.ranks {
         let client = ClientCore::new(alloc, config, Rank(number))?;
-        if clients.push(client).is_err() {
-            return Err(NoMemory);
-        }
+        clients.push_reserved(client);
     }
     Ok(clients)
 }
@@ -159,12 +157,10 @@ fn clients(alloc: Global, config: Config) -> Result<Vec<ClientCore>, NoMemory>
 fn servers(alloc: Global, config: Config) -> Result<Vec<ServerState>, NoMemory>
     ensures { IfOk result (λ v. v.items ≡ (start config).servers) }
 {
-    let mut servers = Vec::new(alloc);
+    let mut servers = or_no_memory(Vec::with_capacity(alloc, config.servers as usize))?;
     for number in 0..config.servers {
         let server = ServerState::new(alloc, config, Server(number))?;
-        if servers.push(server).is_err() {
-            return Err(NoMemory);
-        }
+        servers.push_reserved(server);
     }
     Ok(servers)
 }

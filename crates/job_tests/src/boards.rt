@@ -42,28 +42,43 @@ const WIDE_ONE: &str = "000000000000000056789ABCDEFG12349ABCDEFG12345678DEFG1234
                         3456789ABCDEFG12789ABCDEFG123456BCDEFG123456789AFG123456789ABCDE\
                         456789ABCDEFG12389ABCDEFG1234567CDEFG123456789ABG123456789ABCDEF";
 
+const LETTER: &[u8] =
+    b"0000000A0.......0................................................................";
+
+const SLASH: &[u8] =
+    b"................................................................................/";
+
+const TEXTS: &[(&[u8], GridFault)] = &[
+    (b"", GridFault::Length { got: 0 }),
+    (b"ABCD", GridFault::Length { got: 4 }),
+    (&[b'.'; 80], GridFault::Length { got: 80 }),
+    (&[b'1'; 100], GridFault::Length { got: 100 }),
+    (&[b'.'; 257], GridFault::Length { got: 257 }),
+    (b"5...............", GridFault::Character { place: 0 }),
+    (b"4.......-......5", GridFault::Character { place: 8 }),
+    (LETTER, GridFault::Character { place: 7 }),
+    (SLASH, GridFault::Character { place: 80 }),
+];
+
 #[test]
 fn refuses_texts(rt: HostRuntime) -> Result<(), Fail> {
-    let letter =
-        "0000000A0.......0................................................................";
-    let slash = "................................................................................/";
-    let table: [(&[u8], GridFault); 11] = [
-        (b"", GridFault::Length { got: 0 }),
-        (b"ABCD", GridFault::Length { got: 4 }),
-        (&[b'.'; 80], GridFault::Length { got: 80 }),
-        (&[b'1'; 100], GridFault::Length { got: 100 }),
-        (&[b'.'; 257], GridFault::Length { got: 257 }),
-        (b"5...............", GridFault::Character { place: 0 }),
-        (b"4.......-......5", GridFault::Character { place: 8 }),
-        (letter.as_bytes(), GridFault::Character { place: 7 }),
-        (slash.as_bytes(), GridFault::Character { place: 80 }),
-        (&blank_but(255, b'H'), GridFault::Character { place: 255 }),
-        (&blank_but(9, b'a'), GridFault::Character { place: 9 }),
-    ];
-    for (text, fault) in table {
-        assert_eq!(rt; parse_grid(text), Err(fault));
+    for (text, fault) in TEXTS {
+        assert_eq!(rt; refusal(text), Some(*fault));
     }
+    assert!(rt; is_refused_at(255, b'H') && is_refused_at(9, b'a'));
     Ok(())
+}
+
+fn refusal(text: &[u8]) -> Option<GridFault> {
+    parse_grid(text).err()
+}
+
+// Blank cells with this byte at one place are refused for it.
+fn is_refused_at(place: u8, byte: u8) -> bool {
+    let fault = GridFault::Character {
+        place: u64::from(place),
+    };
+    refusal(&blank_but(place, byte)) == Some(fault)
 }
 
 // Blank cells, and this byte at one place.
@@ -73,50 +88,73 @@ fn blank_but(place: u8, byte: u8) -> [u8; 256] {
     text
 }
 
-#[test]
-fn says_why(rt: HostRuntime) -> Result<(), Fail> {
-    let length = format!(in rt.alloc(); "{}", GridFault::Length { got: 80 })?;
-    assert_eq!(rt; length.as_str(), "80 bytes in place of 16, 81 or 256");
-    let character = format!(in rt.alloc(); "{}", GridFault::Character { place: 7 })?;
-    assert_eq!(rt;
-        character.as_str(),
-        "byte 7 is neither a dot nor the sign of a digit up to the side"
-    );
-    Ok(())
+// The fault is said so.
+fn is_said(alloc: Global, fault: GridFault, text: &str) -> Result<bool, Fail> {
+    let said = format!(in alloc; "{fault}")?;
+    Ok(said.as_str() == text)
 }
 
+const SAID: &[(GridFault, &str)] = &[
+    (
+        GridFault::Length { got: 80 },
+        "80 bytes in place of 16, 81 or 256",
+    ),
+    (
+        GridFault::Character { place: 7 },
+        "byte 7 is neither a dot nor the sign of a digit up to the side",
+    ),
+];
+
 #[test]
-fn reads_cells(rt: HostRuntime) -> Result<(), Fail> {
-    let table: [(&str, &str, u32, bool); 8] = [
-        (SMALL, SMALL, 16, false),
-        (SMALL_TWO, "0204040221434321", 12, false),
-        ("1....1..........", "1000010000000000", 2, true),
-        (FULL, FULL, 81, false),
-        (ONE, ONE, 30, false),
-        (EMPTY, BLANK, 0, false),
-        (WIDE, WIDE, 256, false),
-        (WIDE_ONE, WIDE_ONE, 240, false),
-    ];
-    for (text, written, filled, conflict) in table {
-        let grid = parse_grid(text.as_bytes())?;
-        assert_eq!(rt; grid.text().as_slice(), written.as_bytes());
-        assert_eq!(rt; grid.filled(), filled, "{text}");
-        assert_eq!(rt; grid.conflict(), conflict, "{text}");
+fn says_why(rt: HostRuntime) -> Result<(), Fail> {
+    for (fault, text) in SAID {
+        assert!(rt; is_said(rt.alloc(), *fault, text)?, "{text}");
     }
     Ok(())
 }
 
+/// A text, the grid that is read of it, how many of its cells are filled, and whether two of them conflict.
+const READ: &[(&str, &str, u32, bool)] = &[
+    (SMALL, SMALL, 16, false),
+    (SMALL_TWO, "0204040221434321", 12, false),
+    ("1....1..........", "1000010000000000", 2, true),
+    (FULL, FULL, 81, false),
+    (ONE, ONE, 30, false),
+    (EMPTY, BLANK, 0, false),
+    (WIDE, WIDE, 256, false),
+    (WIDE_ONE, WIDE_ONE, 240, false),
+];
+
+// The text is read so.
+fn is_read(text: &str, written: &str, filled: u32, conflict: bool) -> Result<bool, Fail> {
+    let grid = parse_grid(text.as_bytes())?;
+    Ok(
+        grid.text().as_slice() == written.as_bytes()
+            && grid.filled() == filled
+            && grid.conflict() == conflict,
+    )
+}
+
+#[test]
+fn reads_cells(rt: HostRuntime) -> Result<(), Fail> {
+    for (text, written, filled, conflict) in READ {
+        assert!(rt; is_read(text, written, *filled, *conflict)?, "{text}");
+    }
+    Ok(())
+}
+
+const CANDIDATES: &[(&str, u32, u16)] = &[
+    (SMALL_TWO, 6, 0b101),
+    (ONE, 2, 0b1011),
+    (EMPTY, 80, 0x1ff),
+    (WIDE_ONE, 0, 1),
+    (WIDE_ONE, 15, 1 << 15),
+];
+
 #[test]
 fn finds_candidates(rt: HostRuntime) -> Result<(), Fail> {
-    let table: [(&str, u32, u16); 5] = [
-        (SMALL_TWO, 6, 0b101),
-        (ONE, 2, 0b1011),
-        (EMPTY, 80, 0x1ff),
-        (WIDE_ONE, 0, 1),
-        (WIDE_ONE, 15, 1 << 15),
-    ];
-    for (text, cell, candidates) in table {
-        assert_eq!(rt; candidates_of(&rt, text, cell)?, candidates, "{text}");
+    for (text, cell, candidates) in CANDIDATES {
+        assert_eq!(rt; candidates_of(&rt, text, *cell)?, *candidates, "{text}");
     }
     Ok(())
 }
@@ -139,12 +177,12 @@ type Row = (
     bool,
 );
 
-const SMALL_CHILDREN: [(u64, &str); 2] = [
+const SMALL_CHILDREN: &[(u64, &str)] = &[
     (8388607, "1204040221434321"),
     (8388607, "3204040221434321"),
 ];
 
-const CHILDREN: [(u64, &str); 2] = [
+const CHILDREN: &[(u64, &str)] = &[
     (
         8388607,
         "534678912672195348198342567859761420426850790713924856961537284287419635345286179",
@@ -155,14 +193,14 @@ const CHILDREN: [(u64, &str); 2] = [
     ),
 ];
 
-const ROWS: [Row; 13] = [
+const ROWS: &[Row] = &[
     (0, SMALL, &[SMALL], &[], false),
-    (16777216, SMALL_TWO, &[], &SMALL_CHILDREN, false),
+    (16777216, SMALL_TWO, &[], SMALL_CHILDREN, false),
     (65536, SMALL_TWO, &[SMALL, SMALL_OTHER], &[], false),
     (6, SMALL_TWO, &[], &[], true),
     (9, "1....1..........", &[], &[], false),
     (16777216, ONE, &[FULL], &[], false),
-    (16777216, TWO, &[], &CHILDREN, false),
+    (16777216, TWO, &[], CHILDREN, false),
     (65536, TWO, &[FULL, OTHER], &[], false),
     (1, TWO, &[], &[], true),
     (100, EMPTY, &[], &[], true),
@@ -173,36 +211,40 @@ const ROWS: [Row; 13] = [
 
 #[test]
 fn expands(rt: HostRuntime) -> Result<(), Fail> {
-    for row in &ROWS {
-        expands_as(&rt, rt.alloc(), row)?;
+    for row in ROWS {
+        assert!(rt; is_expanded(rt.alloc(), row)?, "{} by {}", row.1, row.0);
     }
     Ok(())
 }
 
-fn expands_as(rt: &impl Abort, alloc: Global, row: &Row) -> Result<(), Fail> {
+fn is_expanded(alloc: Global, row: &Row) -> Result<bool, Fail> {
     let (budget, text, solutions, children, over) = *row;
     let grid = parse_grid(text.as_bytes())?;
     let mut met = expand(alloc, budget, &grid, 65536)?;
     in_text_order(&mut met.solutions)?;
-    assert_eq!(rt; met.over, over, "{text} by {budget}");
-    assert_eq!(rt; met.solutions.len(), solutions.len(), "{text} by {budget}");
-    assert_eq!(rt; met.children.len(), children.len(), "{text} by {budget}");
-    has_solutions(rt, &met.solutions, solutions);
-    has_children(rt, &met.children, children);
-    Ok(())
+    Ok(
+        met.over == over
+            && has_solutions(&met.solutions, solutions)
+            && has_children(&met.children, children),
+    )
 }
 
-fn has_solutions(rt: &impl Abort, found: &[Grid], texts: &[&str]) {
-    for (grid, text) in found.iter().zip(texts) {
-        assert_eq!(rt; grid.text().as_slice(), text.as_bytes());
-    }
+fn has_solutions(found: &[Grid], texts: &[&str]) -> bool {
+    found.len() == texts.len()
+        && found
+            .iter()
+            .zip(texts)
+            .all(|(grid, text)| is_of(grid, text))
 }
 
-fn has_children(rt: &impl Abort, found: &[(u64, Grid)], children: &[(u64, &str)]) {
-    for ((budget, grid), (share, text)) in found.iter().zip(children) {
-        assert_eq!(rt; budget, share);
-        assert_eq!(rt; grid.text().as_slice(), text.as_bytes());
-    }
+fn is_of(grid: &Grid, text: &str) -> bool {
+    grid.text().as_slice() == text.as_bytes()
+}
+
+fn has_children(found: &[(u64, Grid)], children: &[(u64, &str)]) -> bool {
+    found.len() == children.len()
+        && found.iter().zip(children).all(|(child, wanted)| child.0 == wanted.0
+            && is_of(&child.1, wanted.1))
 }
 
 // How many full grids of side 4 there are is known.

@@ -66,8 +66,8 @@ fn jobs_of(alloc: Global, input: &[u8]) -> Result<Jobs, Fail> {
 
 // The report of the input's jobs, from the two outcomes.
 fn report_of(alloc: Global, input: &[u8], first: &Told, second: &Told) -> Result<String, Fail> {
-    let jobs = jobs_of(alloc, input)?;
     let outcomes = [outcome_of(alloc, first)?, outcome_of(alloc, second)?];
+    let jobs = jobs_of(alloc, input)?;
     let text = render(alloc, &jobs, &outcomes)?;
     Ok(String::from_utf8(text).unwrap_or(String::new(alloc)))
 }
@@ -80,11 +80,22 @@ fn summary_of(alloc: Global, input: &[u8], first: &Told, second: &Told) -> Resul
     Ok(String::from_utf8(text).unwrap_or(String::new(alloc)))
 }
 
+// The row's input has the report.
+fn is_reported(alloc: Global, (input, first, second, expected): &Row) -> Result<bool, Fail> {
+    let text = report_of(alloc, input, first, second)?;
+    Ok(text.as_str() == *expected)
+}
+
+// The row's input has the summary.
+fn is_summed(alloc: Global, (input, first, second, expected): &Row) -> Result<bool, Fail> {
+    let text = summary_of(alloc, input, first, second)?;
+    Ok(text.as_str() == *expected)
+}
+
 /// Each input has the report.
 fn check(rt: &impl Abort, alloc: Global, rows: &[Row]) -> Result<(), Fail> {
-    for (input, first, second, expected) in rows {
-        let text = report_of(alloc, input, first, second)?;
-        assert_eq!(rt; text.as_str(), *expected);
+    for row in rows {
+        assert!(rt; is_reported(alloc, row)?, "{}", row.3);
     }
     Ok(())
 }
@@ -305,9 +316,8 @@ fn jobs_stand_in_input_order(rt: HostRuntime) -> Result<(), Fail> {
 
 #[test]
 fn summaries_count_solutions_of_puzzles_that_are_not_over(rt: HostRuntime) -> Result<(), Fail> {
-    for (input, first, second, expected) in SUMMARIES {
-        let text = summary_of(rt.alloc(), input, first, second)?;
-        assert_eq!(rt; text.as_str(), *expected);
+    for row in SUMMARIES {
+        assert!(rt; is_summed(rt.alloc(), row)?, "{}", row.3);
     }
     Ok(())
 }

@@ -54,11 +54,16 @@ fn add_bytes(words: &mut String, name: &str, bytes: &[u8]) -> Result<(), Fail> {
     Ok(())
 }
 
+/// The input is read as told.
+fn is_told(alloc: Global, input: &[u8], expected: &str) -> Result<bool, Fail> {
+    let words = told(alloc, input)?;
+    Ok(words.as_str() == expected)
+}
+
 /// Each input is read as told.
 fn check(rt: &impl Abort, alloc: Global, rows: &[(&[u8], &str)]) -> Result<(), Fail> {
     for (input, expected) in rows {
-        let words = told(alloc, input)?;
-        assert_eq!(rt; words.as_str(), *expected);
+        assert!(rt; is_told(alloc, input, expected)?, "{expected}");
     }
     Ok(())
 }
@@ -139,15 +144,16 @@ fn refuses_numbers(rt: HostRuntime) -> Result<(), Fail> {
 }
 
 /// A comment of so many bytes is read as expected.
-fn check_comment(rt: &impl Abort, alloc: Global, count: usize, expected: &str) -> Result<(), Fail> {
+fn is_comment(alloc: Global, count: usize, expected: &str) -> Result<bool, Fail> {
     let line = vec![in alloc; b'#'; count]?;
-    check(rt, alloc, &[(line.as_slice(), expected)])
+    is_told(alloc, line.as_slice(), expected)
 }
 
 #[test]
 fn refuses_lines_past_the_limit(rt: HostRuntime) -> Result<(), Fail> {
-    check_comment(&rt, rt.alloc(), 1 << 20, "")?;
-    check_comment(&rt, rt.alloc(), (1 << 20) + 1, "line 1: long")
+    assert!(rt; is_comment(rt.alloc(), 1 << 20, "")?);
+    assert!(rt; is_comment(rt.alloc(), (1 << 20) + 1, "line 1: long")?);
+    Ok(())
 }
 
 const NINE: &[u8] =

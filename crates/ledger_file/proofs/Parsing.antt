@@ -10,10 +10,10 @@ use lib.Signed.{mag}
 use Rattle.ledger_file.specs.declared.faults.LineFault.{LineFault}
 use Rattle.ledger_file.specs.declared.faults.LineFault.TheVariants as fault
 use Rattle.ledger_file.specs.Fields.{Field, u32, u64, i32, id, word, in_u32, in_i32, IsWithin}
-use Rattle.ledger_file.specs.Inside.Reading.{IsCut, first, with_rest, Gives, Fails, Finds, Misses}
+use Rattle.ledger_file.specs.Inside.Reading.{IsCut, first, with_rest, Gives, Finds, Misses}
 use Rattle.ledger_file.proofs.Bytes.{above_free, above_less, same_front, decimal_above}
 use Rattle.ledger_file.proofs.Plain.{short_is, long_is}
-use Rattle.ledger_file.proofs.Readers.{Reads, gives}
+use Rattle.ledger_file.proofs.Readers.{Reads, gives, pair_field}
 
 -- numbers
 pub number_utf8 : (w : List ℕ) (a : ℕ) → IsWithin (u64 a) → w ≡ decimal a → IsUtf8 w
@@ -34,9 +34,6 @@ too_great w n a inside is great small e =
     omega arith
 
 -- ids
-abbrev pub pair_field : ℕ × ℕ → Field
-pair_field x = id x.0 x.1
-
 sides : (w left right : List ℕ) (x : ℕ × ℕ) → IsCut 46 w left right → IsWithin (pair_field x) → w ≡ word (pair_field x)
     → (left ≡ decimal x.0) × (right ≡ decimal x.1)
 sides w left right x is inside e =
@@ -66,15 +63,3 @@ first_gives field read reads old w ws (Err fault.Memory) is found = tt
 first_gives field read reads old w ws (Err fault.Bad) is found =
     let none : read w ≡ None = gives field read reads w (Err fault.Bad) found in
     ap (first read) is ∙ ap (with_rest ws) none
-
-pub first_fails : {A : Type 0} (field : A → Field) (read : List ℕ → Option A) → Reads field read
-    → (old : List (List ℕ)) (w : List ℕ) (ws : List (List ℕ)) (f : LineFault) → old ≡ w ∷ ws → Misses field w f → Fails f (first read old)
-first_fails field read reads old w ws fault.Memory is miss = tt
-first_fails field read reads old w ws fault.Bad is miss = first_gives field read reads old w ws (Err fault.Bad) is miss
-
--- a field that holds another's number
-pub misses_as : {A B : Type 0} (field : A → Field) (other : B → Field) (to : B → A) → ((b : B) → field (to b) ≡ other b)
-    → (w : List ℕ) (f : LineFault) → Misses field w f → Misses other w f
-misses_as field other to same w fault.Memory miss = tt
-misses_as field other to same w fault.Bad miss = λ b inside e. miss (to b) (subst IsWithin (sym (same b)) inside) (e
-    ∙ ap word (sym (same b)))

@@ -20,7 +20,7 @@ use Rattle.adlb_unit.specs.declared.notes.End.TheVariants as ends
 use Rattle.ledger_file.specs.declared.faults.LineFault.{LineFault}
 use Rattle.ledger_file.specs.declared.faults.LineFault.TheVariants as fault
 use Rattle.ledger_file.specs.Fields.{Field, u32, u64, i32, id, aim, rank_or_none, prio_or_none, wanted, body, told, hex, word, within, in_u32, in_i32, IsWithin}
-use Rattle.ledger_file.specs.Inside.Reading.{checked, unsigned_guess, signed_guess, rank_guess, kind_guess, before_dot, behind_dot, parts_of, target_guess, answer_guess, top_guess, types_guess, end_guess, unhex, bytes_guess, rank_in, server_in, kind_in, length_in, number_in, prio_in, unit_in, batch_in, target_in, answer_in, top_in, types_in, bytes_in, end_in, Gives, Finds}
+use Rattle.ledger_file.specs.Inside.Reading.{checked, unsigned_guess, signed_guess, rank_guess, kind_guess, before_dot, behind_dot, parts_of, target_guess, answer_guess, top_guess, types_guess, end_guess, unhex, bytes_guess, length_in, number_in, prio_in, pair_in, target_in, answer_in, top_in, types_in, bytes_in, end_in, Gives, Finds}
 use Rattle.ledger_file.proofs.Bytes.{same_bytes, bytes_alike, above, split_joined, decimal_above, decimal_back, decimal_some, first_digit, first_no_dash, first_joined, glyph_above}
 use Rattle.ledger_file.proofs.Plain.{short_is, long_is, kinds_plain}
 
@@ -59,19 +59,6 @@ signed_back (pos n) p =
     let lt : n < 2 ^ 64 = omega arith in
     rw (first_no_dash n lt) (ap pos (decimal_back n lt))
 signed_back (negsuc n) p = negative_back n (ltb-true _ _ p)
-
-pub rank_reads : Reads (λ r. u32 r.0) rank_in
-unfolding rank_in
-rank_reads = checked_reads (λ r. u32 r.0) rank_guess (λ r p. ap (λ (n : ℕ). let x : Rank = record { 0 = n } in x) (short_back r.0 p))
-
-pub server_reads : Reads (λ s. u32 s.0) server_in
-unfolding server_in
-server_reads = checked_reads (λ s. u32 s.0) (λ w. record { 0 = digits_value 10 w }) (λ s p. ap (λ
-    (n : ℕ). let x : Server = record { 0 = n } in x) (short_back s.0 p))
-
-pub kind_reads : Reads (λ k. u32 k.0) kind_in
-unfolding kind_in
-kind_reads = checked_reads (λ k. u32 k.0) kind_guess (λ k p. ap (λ (n : ℕ). let x : WorkType = record { 0 = n } in x) (short_back k.0 p))
 
 pub length_reads : Reads u32 length_in
 unfolding length_in
@@ -122,25 +109,13 @@ id_back rank number p =
 two : {X Y Z : Type 0} (f : X → Y → Z) {a b : X} {c d : Y} → a ≡ b → c ≡ d → f a c ≡ f b d
 two f p q = cc
 
-pub unit_reads : Reads (λ u. id u.rank.0 u.number) unit_in
-unfolding unit_in
-unit_reads = checked_reads (λ u. id u.rank.0 u.number) (λ w. record {
-  rank = rank_guess (before_dot w);
-  number = digits_value 10
-      (behind_dot w);
-})
-    (λ u p. let back = id_back u.rank.0 u.number p in two (λ
-    (r n : ℕ). let x : UnitId = record { rank = record { 0 = r }; number = n } in x) back.before back.behind)
+abbrev pub pair_field : ℕ × ℕ → Field
+pair_field x = id x.0 x.1
 
-pub batch_reads : Reads (λ b. id b.rank.0 b.number) batch_in
-unfolding batch_in
-batch_reads = checked_reads (λ b. id b.rank.0 b.number) (λ w. record {
-  rank = rank_guess (before_dot w);
-  number = digits_value 10
-      (behind_dot w);
-})
-    (λ b p. let back = id_back b.rank.0 b.number p in two (λ
-    (r n : ℕ). let x : BatchId = record { rank = record { 0 = r }; number = n } in x) back.before back.behind)
+pub pair_reads : Reads pair_field pair_in
+unfolding pair_in
+pair_reads = checked_reads pair_field (λ w. (digits_value 10 (before_dot w), digits_value 10 (behind_dot w)))
+    (λ x p. let back = id_back x.0 x.1 p in two (λ (r n : ℕ). (r, n)) back.before back.behind)
 
 -- targets, and what may be none
 target_back : (t : Target) → IsWithin (aim t) → target_guess (word (aim t)) ≡ t

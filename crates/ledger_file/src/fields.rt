@@ -10,7 +10,7 @@ use adlb_unit::{End, NoMemory, Rank, Target, Types, WorkType};
 use itoa::{Buffer, Integer};
 
 /// A field of a line, by its kind.
-#[derive(Drop)]
+#[derive(Clone, Copy)]
 pub enum Field<'a> {
     Short(u32),
     Number(u64),

@@ -2,6 +2,9 @@
 
 ghost use Rattle.std.specs.Prelude.{◌≡◌};
 ghost use Rattle.ledger_file.specs.Inside.Names.{name_in, name_of, name_word};
+ghost use Rattle.ledger_file.specs.Lines.{row};
+
+use bag_ledger::Entry;
 
 /// The name of an entry.
 #[derive(Clone, Copy)]
@@ -99,6 +102,41 @@ impl Name {
             Name::Exhausted => b"exhausted",
             Name::Over => b"over",
             Name::Finished => b"finished",
+        }
+    }
+
+    /// The name of the entry, whose word stands first in its line (`row`).
+    pub fn of_entry(entry: &Entry) -> Name
+        ensures { name_word result ≡ (row entry.now).0 }
+    {
+        match entry {
+            Entry::Putting { .. } => Name::Putting,
+            Entry::Refused { .. } => Name::Refused,
+            Entry::Accepted { .. } => Name::Accepted,
+            Entry::Rejected { .. } => Name::Rejected,
+            Entry::Keeping { .. } => Name::Keeping,
+            Entry::Kept { .. } => Name::Kept,
+            Entry::Closing { .. } => Name::Closing,
+            Entry::Closed { .. } => Name::Closed,
+            Entry::Freed { .. } => Name::Freed,
+            Entry::Asked { .. } => Name::Asked,
+            Entry::Tried { .. } => Name::Tried,
+            Entry::Granted { .. } => Name::Granted,
+            Entry::Looked { .. } => Name::Looked,
+            Entry::NoCurrent { .. } => Name::NoCurrent,
+            Entry::Fetching { .. } => Name::Fetching,
+            Entry::Fetched { .. } => Name::Fetched,
+            Entry::CommonFetched { .. } => Name::CommonFetched,
+            Entry::Promised { .. } => Name::Promised,
+            Entry::Left { .. } => Name::Left,
+            Entry::Arrived { .. } => Name::Arrived,
+            Entry::Withdrawn { .. } => Name::Withdrawn,
+            Entry::Counting { .. } => Name::Counting,
+            Entry::Counted { .. } => Name::Counted,
+            Entry::Done { .. } => Name::Done,
+            Entry::Exhausted => Name::Exhausted,
+            Entry::Over { .. } => Name::Over,
+            Entry::Finished { .. } => Name::Finished,
         }
     }
 

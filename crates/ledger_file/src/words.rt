@@ -1,6 +1,6 @@
 //! The fields of an entry, read from the words of a line one after the other.
 
-ghost use Rattle.ledger_file.specs.Inside.Reading.{Gives, first, parts_left, whole, rank_in, server_in, kind_in, length_in, number_in, prio_in, unit_in, batch_in, target_in, answer_in, top_in, types_in, bytes_in, end_in};
+ghost use Rattle.ledger_file.specs.Inside.Reading.{Gives, first, parts_left, whole, length_in, number_in, prio_in, pair_in, target_in, answer_in, top_in, types_in, bytes_in, end_in, call_in};
 ghost use Rattle.std.specs.Prelude.{◌≡◌, ◌∷◌, [], MatchResult};
 
 use crate::choices::{answer, end, target, top};
@@ -8,7 +8,7 @@ use crate::cursor::Parts;
 use crate::faults::LineFault;
 use crate::lists::{payload, types};
 use crate::numbers::{id, number, prio, short};
-use adlb_unit::{BatchId, End, Payload, Rank, Server, Target, Types, UnitId, WorkType};
+use adlb_unit::{End, Payload, Rank, Server, Target, Types, UnitId};
 use std::alloc::Global;
 
 /// Each reads the next word as a field, and fails as `Bad` exactly if there is none or it is no such field.
@@ -17,28 +17,7 @@ impl<'a> Parts<'a> {
     pub fn word(&mut self) -> Result<&'a [u8], LineFault>
         ensures { MatchResult result (λ w. parts_left self.old ≡ w.now ∷ parts_left self.new) (λ fault. (fault ≡ LineFault.Bad) × (parts_left self.old ≡ [])) }
     {
-        match self.next() {
-            Some(word) => Ok(word),
-            None => Err(LineFault::Bad),
-        }
-    }
-
-    pub fn rank(&mut self) -> Result<Rank, LineFault>
-        ensures { Gives (λ x. (x, parts_left self.new)) result (first rank_in (parts_left self.old)) }
-    {
-        Ok(Rank(short(self.word()?)?))
-    }
-
-    pub fn server(&mut self) -> Result<Server, LineFault>
-        ensures { Gives (λ x. (x, parts_left self.new)) result (first server_in (parts_left self.old)) }
-    {
-        Ok(Server(short(self.word()?)?))
-    }
-
-    pub fn kind(&mut self) -> Result<WorkType, LineFault>
-        ensures { Gives (λ x. (x, parts_left self.new)) result (first kind_in (parts_left self.old)) }
-    {
-        Ok(WorkType(short(self.word()?)?))
+        self.next().ok_or(LineFault::Bad)
     }
 
     pub fn length(&mut self) -> Result<u32, LineFault>
@@ -53,30 +32,40 @@ impl<'a> Parts<'a> {
         number(self.word()?)
     }
 
-    pub fn prio(&mut self) -> Result<i32, LineFault>
-        ensures { Gives (λ x. (x, parts_left self.new)) result (first prio_in (parts_left self.old)) }
+    pub fn server(&mut self) -> Result<Server, LineFault>
+        ensures { Gives (λ x. (x.0, parts_left self.new)) result (first length_in (parts_left self.old)) }
     {
-        prio(self.word()?)
+        Ok(Server(self.length()?))
+    }
+
+    /// The next two words, as a rank and the number of its call.
+    #[tactic(auto, unfolding(crate::specs::Inside::Reading::call_in))]
+    pub fn call(&mut self) -> Result<(Rank, u64), LineFault>
+        ensures { Gives (λ x. ((x.0.0, x.1), parts_left self.new)) result (call_in (parts_left self.old)) }
+    {
+        Ok((Rank(self.length()?), self.number()?))
     }
 
     pub fn unit(&mut self) -> Result<UnitId, LineFault>
-        ensures { Gives (λ x. (x, parts_left self.new)) result (first unit_in (parts_left self.old)) }
+        ensures { Gives (λ x. ((x.rank.0, x.number), parts_left self.new)) result (first pair_in (parts_left self.old)) }
     {
-        let (rank, number) = id(self.word()?)?;
+        let (rank, number) = self.id()?;
         Ok(UnitId {
             rank: Rank(rank),
             number,
         })
     }
 
-    pub fn batch(&mut self) -> Result<BatchId, LineFault>
-        ensures { Gives (λ x. (x, parts_left self.new)) result (first batch_in (parts_left self.old)) }
+    pub fn id(&mut self) -> Result<(u32, u64), LineFault>
+        ensures { Gives (λ x. (x, parts_left self.new)) result (first pair_in (parts_left self.old)) }
     {
-        let (rank, number) = id(self.word()?)?;
-        Ok(BatchId {
-            rank: Rank(rank),
-            number,
-        })
+        id(self.word()?)
+    }
+
+    pub fn prio(&mut self) -> Result<i32, LineFault>
+        ensures { Gives (λ x. (x, parts_left self.new)) result (first prio_in (parts_left self.old)) }
+    {
+        prio(self.word()?)
     }
 
     pub fn target(&mut self) -> Result<Target, LineFault>

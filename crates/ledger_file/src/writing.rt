@@ -2,7 +2,7 @@
 
 ghost use Rattle.std.specs.Prelude.{◌≡◌, ◌++◌, IfOk, OnOk, length};
 ghost use Rattle.ledger_file.specs.Lines.{first_row, last_row, line, open_text, row, text};
-ghost use Rattle.ledger_file.specs.Inside.Given.{fields_of};
+ghost use Rattle.ledger_file.specs.Inside.Given.{fields_of, spaced, what, who};
 
 use crate::fields::Field::{self, Aim, Answer, Bytes, End, Id, Number, Prio, Short, Top, Types};
 use crate::names::Name;
@@ -16,12 +16,12 @@ pub fn write_ledger(alloc: Global, config: &Config, ledger: &Ledger) -> Result<V
     ensures { IfOk result (λ bytes. bytes.items ≡ text config.now ledger.now) }
 {
     let mut bytes = Vec::new(alloc);
-    let sizes = [
-        Short(config.ranks),
-        Short(config.servers),
-        Number(config.limit),
-    ];
-    append_line(&mut bytes, b"ledger", &sizes)?;
+    let (ranks, servers) = (Short(config.ranks), Short(config.servers));
+    append_line(
+        &mut bytes,
+        b"ledger",
+        &[ranks, servers, Number(config.limit)],
+    )?;
     let entries = ledger.entries();
     for entry in entries {
         append_entry(&mut bytes, entry)?;
@@ -34,180 +34,106 @@ pub fn write_ledger(alloc: Global, config: &Config, ledger: &Ledger) -> Result<V
 fn append_entry(bytes: &mut Vec<u8>, entry: &Entry) -> Result<(), NoMemory>
     ensures { OnOk result (bytes.new.items ≡ bytes.old.items ++ line (row entry.now)) }
 {
+    append(bytes, Name::of_entry(entry).word())?;
+    append_who(bytes, entry)?;
+    append_what(bytes, entry)?;
+    append(bytes, b"\n")
+}
+
+// Appends the server, the rank and the call of the entry, as far as its line has them. Its only error is `NoMemory`.
+fn append_who(bytes: &mut Vec<u8>, entry: &Entry) -> Result<(), NoMemory>
+    ensures { OnOk result (bytes.new.items ≡ bytes.old.items ++ spaced (who entry.now)) }
+{
     match entry {
-        Entry::Putting {
+        Entry::Putting { rank, call, .. }
+        | Entry::Rejected { rank, call }
+        | Entry::Keeping { rank, call, .. }
+        | Entry::Closing { rank, call }
+        | Entry::Asked { rank, call, .. }
+        | Entry::Tried { rank, call, .. }
+        | Entry::NoCurrent { rank, call }
+        | Entry::Fetching { rank, call, .. }
+        | Entry::Counting { rank, call, .. }
+        | Entry::Done { rank, call }
+        | Entry::Over { rank, call, .. }
+        | Entry::Finished { rank, call } => append_fields(bytes, &[Short(rank.0), Number(*call)]),
+        Entry::Refused { server, .. }
+        | Entry::Accepted { server, .. }
+        | Entry::Kept { server, .. }
+        | Entry::Closed { server, .. }
+        | Entry::Freed { server, .. }
+        | Entry::Promised { server, .. }
+        | Entry::Arrived { server, .. }
+        | Entry::Withdrawn { server, .. } => append_fields(bytes, &[Short(server.0)]),
+        Entry::Granted {
+            server,
             rank,
             call,
+            ..
+        }
+        | Entry::Looked { server, rank, call }
+        | Entry::Counted {
+            server,
+            rank,
+            call,
+            ..
+        } => { append_fields(bytes, &[Short(server.0), Short(rank.0), Number(*call)]) }
+        Entry::Fetched { server, rank, .. } | Entry::CommonFetched { server, rank, .. } => {
+            append_fields(bytes, &[Short(server.0), Short(rank.0)])
+        }
+        Entry::Left { server, to, .. } => append_fields(bytes, &[Short(server.0), Short(to.0)]),
+        Entry::Exhausted => Ok(()),
+    }
+}
+
+// Appends the fields behind those. Its only error is `NoMemory`.
+fn append_what(bytes: &mut Vec<u8>, entry: &Entry) -> Result<(), NoMemory>
+    ensures { OnOk result (bytes.new.items ≡ bytes.old.items ++ spaced (what entry.now)) }
+{
+    match entry {
+        Entry::Putting {
             kind,
             prio,
             target,
             answer,
             body,
-        } => append_line(
-            bytes,
-            Name::Putting.word(),
-            &[
-                Short(rank.0),
-                Number(*call),
-                Short(kind.0),
-                Prio(*prio),
-                Aim(*target),
-                Answer(*answer),
-                Bytes(body.bytes()),
-            ],
-        ),
-        Entry::Refused { server, id, used } => append_line(
-            bytes,
-            Name::Refused.word(),
-            &[Short(server.0), Id(id.rank, id.number), Number(*used)],
-        ),
-        Entry::Accepted { server, id } => append_line(
-            bytes,
-            Name::Accepted.word(),
-            &[Short(server.0), Id(id.rank, id.number)],
-        ),
-        Entry::Rejected { rank, call } => append_line(
-            bytes,
-            Name::Rejected.word(),
-            &[Short(rank.0), Number(*call)],
-        ),
-        Entry::Keeping { rank, call, common } => append_line(
-            bytes,
-            Name::Keeping.word(),
-            &[Short(rank.0), Number(*call), Bytes(common.bytes())],
-        ),
-        Entry::Kept { server, batch } => append_line(
-            bytes,
-            Name::Kept.word(),
-            &[Short(server.0), Id(batch.rank, batch.number)],
-        ),
-        Entry::Closing { rank, call } => append_line(
-            bytes,
-            Name::Closing.word(),
-            &[Short(rank.0), Number(*call)],
-        ),
-        Entry::Closed { server, batch } => append_line(
-            bytes,
-            Name::Closed.word(),
-            &[Short(server.0), Id(batch.rank, batch.number)],
-        ),
-        Entry::Freed { server, batch } => append_line(
-            bytes,
-            Name::Freed.word(),
-            &[Short(server.0), Id(batch.rank, batch.number)],
-        ),
-        Entry::Asked { rank, call, types } => append_line(
-            bytes,
-            Name::Asked.word(),
-            &[Short(rank.0), Number(*call), Types(types)],
-        ),
-        Entry::Tried { rank, call, types } => append_line(
-            bytes,
-            Name::Tried.word(),
-            &[Short(rank.0), Number(*call), Types(types)],
-        ),
-        Entry::Granted {
-            server,
-            rank,
-            call,
-            id,
-        } => append_line(
-            bytes,
-            Name::Granted.word(),
-            &[
-                Short(server.0),
-                Short(rank.0),
-                Number(*call),
-                Id(id.rank, id.number),
-            ],
-        ),
-        Entry::Looked { server, rank, call } => append_line(
-            bytes,
-            Name::Looked.word(),
-            &[Short(server.0), Short(rank.0), Number(*call)],
-        ),
-        Entry::NoCurrent { rank, call } => append_line(
-            bytes,
-            Name::NoCurrent.word(),
-            &[Short(rank.0), Number(*call)],
-        ),
-        Entry::Fetching { rank, call, id } => append_line(
-            bytes,
-            Name::Fetching.word(),
-            &[Short(rank.0), Number(*call), Id(id.rank, id.number)],
-        ),
-        Entry::Fetched { server, rank, id } => append_line(
-            bytes,
-            Name::Fetched.word(),
-            &[Short(server.0), Short(rank.0), Id(id.rank, id.number)],
-        ),
-        Entry::CommonFetched {
-            server,
-            rank,
-            batch,
-        } => append_line(
-            bytes,
-            Name::CommonFetched.word(),
-            &[Short(server.0), Short(rank.0), Id(batch.rank, batch.number)],
-        ),
-        Entry::Promised { server, id, length } => append_line(
-            bytes,
-            Name::Promised.word(),
-            &[Short(server.0), Id(id.rank, id.number), Short(*length)],
-        ),
-        Entry::Left { server, to, id } => append_line(
-            bytes,
-            Name::Left.word(),
-            &[Short(server.0), Short(to.0), Id(id.rank, id.number)],
-        ),
-        Entry::Arrived { server, id } => append_line(
-            bytes,
-            Name::Arrived.word(),
-            &[Short(server.0), Id(id.rank, id.number)],
-        ),
-        Entry::Withdrawn { server, id } => append_line(
-            bytes,
-            Name::Withdrawn.word(),
-            &[Short(server.0), Id(id.rank, id.number)],
-        ),
-        Entry::Counting { rank, call, kind } => append_line(
-            bytes,
-            Name::Counting.word(),
-            &[Short(rank.0), Number(*call), Short(kind.0)],
-        ),
-        Entry::Counted {
-            server,
-            rank,
-            call,
-            info,
-        } => append_line(
-            bytes,
-            Name::Counted.word(),
-            &[
-                Short(server.0),
-                Short(rank.0),
-                Number(*call),
-                Number(info.free),
-                Top(info.top),
-                Number(info.at_top),
-            ],
-        ),
-        Entry::Done { rank, call } => append_line(
-            bytes,
-            Name::Done.word(),
-            &[Short(rank.0), Number(*call)],
-        ),
-        Entry::Exhausted => append_line(bytes, Name::Exhausted.word(), &[]),
-        Entry::Over { rank, call, end } => append_line(
-            bytes,
-            Name::Over.word(),
-            &[Short(rank.0), Number(*call), End(*end)],
-        ),
-        Entry::Finished { rank, call } => append_line(
-            bytes,
-            Name::Finished.word(),
-            &[Short(rank.0), Number(*call)],
-        ),
+            ..
+        } => {
+            let (kind, prio, body) = (Short(kind.0), Prio(*prio), Bytes(body.bytes()));
+            append_fields(bytes, &[kind, prio, Aim(*target), Answer(*answer), body])
+        }
+        Entry::Refused { id, used, .. } => {
+            append_fields(bytes, &[Id(id.rank, id.number), Number(*used)])
+        }
+        Entry::Promised { id, length, .. } => {
+            append_fields(bytes, &[Id(id.rank, id.number), Short(*length)])
+        }
+        Entry::Accepted { id, .. }
+        | Entry::Granted { id, .. }
+        | Entry::Fetching { id, .. }
+        | Entry::Fetched { id, .. }
+        | Entry::Left { id, .. }
+        | Entry::Arrived { id, .. }
+        | Entry::Withdrawn { id, .. } => append_fields(bytes, &[Id(id.rank, id.number)]),
+        Entry::Kept { batch, .. }
+        | Entry::Closed { batch, .. }
+        | Entry::Freed { batch, .. }
+        | Entry::CommonFetched { batch, .. } => {
+            append_fields(bytes, &[Id(batch.rank, batch.number)])
+        }
+        Entry::Keeping { common, .. } => append_fields(bytes, &[Bytes(common.bytes())]),
+        Entry::Asked { types, .. } | Entry::Tried { types, .. } => {
+            append_fields(bytes, &[Types(types)])
+        }
+        Entry::Counting { kind, .. } => append_fields(bytes, &[Short(kind.0)]),
+        Entry::Counted { info, .. } => {
+            append_fields(
+                bytes,
+                &[Number(info.free), Top(info.top), Number(info.at_top)],
+            )
+        }
+        Entry::Over { end, .. } => append_fields(bytes, &[End(*end)]),
+        _ => Ok(()),
     }
 }
 
@@ -216,9 +142,17 @@ fn append_line(bytes: &mut Vec<u8>, name: &[u8], fields: &[Field<'_>]) -> Result
     ensures { OnOk result (bytes.new.items ≡ bytes.old.items ++ line (name.now, fields_of fields.now)) }
 {
     append(bytes, name)?;
+    append_fields(bytes, fields)?;
+    append(bytes, b"\n")
+}
+
+// Appends fields, each behind a blank. Its only error is `NoMemory`.
+fn append_fields(bytes: &mut Vec<u8>, fields: &[Field<'_>]) -> Result<(), NoMemory>
+    ensures { OnOk result (bytes.new.items ≡ bytes.old.items ++ spaced (fields_of fields.now)) }
+{
     for field in fields {
         append(bytes, b" ")?;
         field.append_to(bytes)?;
     }
-    append(bytes, b"\n")
+    Ok(())
 }

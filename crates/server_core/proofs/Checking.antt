@@ -308,3 +308,19 @@ heard_room s t out room same sent clock =
       places = subst (λ c. All (λ n. n + out.room ≤ event_letters * c) t.sent) (sym clock)
           (subst (All (λ n. n + out.room ≤ event_letters * s.clock)) (sym sent) room.places);
     }
+
+-- No visit changes how many checks were started.
+
+pub marked_check : (m : RingModel) (t : Token) (quiet : Bool) (activity : ℕ) (parked : List Asker)
+    → (visited1 m t quiet activity parked).ring.ring.check ≡ m.ring.check
+marked_check m t true activity parked = refl
+marked_check m t false activity parked = refl
+
+pub judged_check : (m : RingModel) (t : Token) (o : Option Why) → (judged m t o).ring.ring.check ≡ m.ring.check
+judged_check m t None = refl
+judged_check m t (Some why) = by_test (m.me.0 == 0)
+  where
+    by_test : (b : Bool) → (cond b (outcome (with_ring m (ended m.ring)) Ended) (outcome (with_ring m (with_tests m.ring)) (Fail t why))).ring.ring.check
+        ≡ m.ring.check
+    by_test true = refl
+    by_test false = refl

@@ -1,36 +1,50 @@
 -- Acts after acts, with what was sent and entered before.
-use Rattle.std.proofs.Common.{◌≡◌, ◌≤◌, ◌+◌, ◌==◌, ℕ, Bool, true, false, cond, ◌&&◌, List, [], ◌∷◌, ◌++◌, append-nil, length, Option, None, Some, IsSome, refl, sym, ap, ◌∙◌, subst, arith}
+use Rattle.std.proofs.Common.{◌≡◌, ◌≤◌, ◌+◌, ◌==◌, ℕ, Bool, true, false, not, cond, ◌&&◌, List, [], ◌∷◌, ◌++◌, append-nil, filter, length, Option, None, Some, IsSome, refl, sym, ap, ◌∙◌, subst, arith, length-append}
 use Rattle.std.specs.Prelude.{nat_lt}
 use Rattle.std.specs.Option.{option_map}
+use Rattle.std.proofs.lemmas.List.{length-map}
+use Rattle.std.proofs.lemmas.List.Filters.{length-filter_both}
 use Rattle.adlb_unit.specs.Limits.{stamp_limit}
 use Rattle.adlb_unit.specs.Links.{is_within}
+use Rattle.adlb_unit.specs.Ring.{others}
 use Rattle.adlb_unit.specs.declared.actors.Actor.{Actor}
 use Rattle.adlb_unit.specs.declared.actors.Actor.TheVariants as by
 use Rattle.adlb_unit.specs.declared.letters.Letter.{Letter}
 use Rattle.adlb_unit.specs.declared.messages.Message.{Message}
+use Rattle.adlb_unit.specs.declared.messages.Message.TheVariants as tells
 use Rattle.adlb_unit.specs.declared.names.BatchId.{BatchId}
 use Rattle.adlb_unit.specs.declared.names.Rank.{Rank}
 use Rattle.adlb_unit.specs.declared.names.Server.{Server}
+use Rattle.adlb_unit.specs.declared.names.WorkType.{WorkType}
 use Rattle.batch_store.specs.Store.{part_in}
 use Rattle.batch_store.specs.declared.parts.Part.{Part}
 use Rattle.bag_ledger.specs.declared.entries.Entry.{Entry}
 use Rattle.bag_ledger.proofs.Tests.{some_is}
 use Rattle.work_queue.specs.Queue.{Queue}
-use Rattle.reserve_path.specs.Parked.{Parked}
-use Rattle.server_law.specs.Acts.{Act, Closes, ServerSaying, does, entries, says}
+use Rattle.work_queue.specs.declared.placing.Placed.{Placed}
+use Rattle.reserve_path.specs.Calls.{after_ask, after_none, asking, asks_next, gone, hears_of, hinted, is_since, reserved, turned, wished}
+use Rattle.reserve_path.specs.Grants.{best_for, pinned_to}
+use Rattle.reserve_path.specs.Parked.{Parked, is_by, is_of}
+use Rattle.reserve_path.specs.declared.wishes.Wish.{Wish}
+use Rattle.server_law.specs.Acts.{Act, Around, Asks_on, Closes, ServerSaying, does, entries, says, to_server, unwished}
 use Rattle.server_law.specs.Batches.{can_close, close, close_rule, part_if}
 use Rattle.server_law.specs.Endings.{checks, ends_event, notices}
 use Rattle.server_law.specs.Step.{acts, at_event, rule, serve, server_rule}
-use Rattle.server_law.specs.Carried.{Served, counted, done, posted}
+use Rattle.server_law.specs.Carried.{Served, all_done, counted, done, posted}
 use Rattle.server_law.specs.Plan.{Decider, Plan, decided, in_order, plan}
 use Rattle.server_law.specs.State.{ServerModel}
 use Rattle.server_law.proofs.Carrying.{decided_carried, followed, followed_by, followed_more, followed_none, with_act}
 use Rattle.server_core.specs.Out.{HasRoom, Out, going_on, made, nothing, planned, with_answer, with_letter}
-use Rattle.server_core.proofs.Sounds.{with_parked}
+use Rattle.server_core.specs.Inside.{parked_of}
+use Rattle.server_core.specs.Waits.{asked, heard, looked, offered, pinning, released, sought, told_ask, with_parked}
 
 -- no act
 pub goes_nowhere : (out : Out) (s : ServerModel) → made s out ≡ going_on out [] s
 goes_nowhere out s = sym (followed_none (made s out))
+
+-- what was sent and entered, by its parts
+pub made_as : {s t : ServerModel} {out end : Out} → t ≡ s → end ≡ out → made t end ≡ made s out
+made_as {s} {t} {out} {end} same told = ap (λ u. made u end) same ∙ ap (made s) told
 
 -- deciders after others
 followed_by-append : (ds es : List Decider) (x : Served) → followed_by x (ds ++ es) ≡ followed_by (followed_by x ds) es
@@ -109,6 +123,13 @@ pub plan_one : (first : Act) (d : Decider) (s : ServerModel) (out : Out)
     → planned out (record { first = first; follow = d ∷ [] }) s ≡ going_on out (first ∷ d (done first s)) s
 plan_one first d s out = ap (λ l. going_on out (first ∷ l) s) (append-nil (d (done first s)))
 
+-- and with two
+pub plan_two : (first : Act) (d e : Decider) (s : ServerModel) (out : Out) (l m : List Act) → d (done first s) ≡ l
+    → e (all_done l (done first s)) ≡ m → planned out (record { first = first; follow = d ∷ e ∷ [] }) s ≡ going_on out (first ∷ (l ++ m)) s
+plan_two first d e s out l m one two =
+    ap (λ k. going_on out (first ∷ (k ++ (e (all_done k (done first s)) ++ []))) s) one
+    ∙ ap (λ k. going_on out (first ∷ (l ++ k)) s) (append-nil (e (all_done l (done first s))) ∙ two)
+
 -- what a batch that ends makes is its plan
 pub close_goes : (s : ServerModel) (out : Out) (from : Rank) (request : ℕ) (batch : BatchId) (accepted : ℕ) (x : Served)
     → ((p : Part) → part_in s.kept.parts batch ≡ Some p → x ≡ going_on out (Closes request batch accepted p ∷ []) s)
@@ -168,6 +189,19 @@ module _ (a : Act) (s : ServerModel) (out : Out) where
   says_only x one none =
       goes_nowhere (with_letter out (posted (does a s) x)) (counted (does a s) x.to) ∙ sym (says_one a [] s out x one none)
 
+-- an act that says nothing, alone and before one by which a server is asked
+module _ (a : Act) (s : ServerModel) (out : Out) (nothing : says a s ≡ []) (none : entries a s ≡ []) where
+  pub nothing_said : made (does a s) out ≡ going_on out (a ∷ []) s
+  nothing_said = goes_nowhere out (does a s) ∙ sym (silent a [] s out nothing none)
+
+  pub asks_then : (at : Around) (wish : Wish) (to : Server) (rest : List Server)
+      → told_ask to wish.rank wish.request wish.types out (does (Asks_on at wish to rest) (does a s))
+      ≡ going_on out (a ∷ Asks_on at wish to rest ∷ []) s
+  asks_then at wish to rest =
+      let asks = Asks_on at wish to rest in
+      says_only asks (does a s) out (to_server to (tells.Ask wish.rank wish.request wish.types)) refl refl
+      ∙ sym (silent a (asks ∷ []) s out nothing none)
+
 -- Room.
 
 -- as many wait and are wished for, or fewer
@@ -180,3 +214,54 @@ room_left s queue parked out n k fewer room =
 
 pub room_less : (s : ServerModel) (out : Out) (n k : ℕ) → k ≤ n → HasRoom s out n → HasRoom s out k
 room_less s out n k fewer room = let was = room.tells in record { tells = omega (arith, fewer, was); places = room.places }
+
+-- fewer wait, or are wished for, where one is taken off
+fewer_kept : {X : Type 0} (test : X → Bool) (xs : List X) → length (filter (λ x. not (test x)) xs) ≤ length xs
+fewer_kept test xs =
+    let both = length-filter_both test (λ x. not (test x)) (λ x. refl) xs in
+    omega (arith, both)
+
+module _ (s : ServerModel) (out : Out) (more : ℕ) where
+  pub released_room : (rank : Rank) → HasRoom s out more → HasRoom (released s rank) out more
+  released_room rank room =
+      let fewer = fewer_kept (is_of rank) s.kept.parked.waiting in
+      room_left s s.kept.queue (gone (parked_of s) rank).parked out more more (omega (arith, fewer)) room
+
+  pub looked_room : (rank : Rank) (types : Option (List WorkType)) → HasRoom s out more → HasRoom (looked s rank types) out more
+  looked_room rank types = by_best (best_for s.kept.queue rank types)
+    where
+      by_best : (o : Option Placed) → HasRoom s out more → HasRoom (pinning s rank o (after_none (parked_of s) rank o)) out more
+      by_best (Some p) room =
+          let fewer = fewer_kept (is_of rank) s.kept.parked.waiting in
+          room_left s (pinned_to rank (Some p) s.kept.queue) (gone (parked_of s) rank).parked out more more (omega (arith, fewer)) room
+      by_best None room =
+          let same = length-map s.kept.parked.waiting (turned (is_of rank) asks_next) in
+          room_left s s.kept.queue (after_none (parked_of s) rank None).parked out more more (omega (arith, same)) room
+
+  pub heard_room : (rank : Rank) (request : ℕ) (from : Server) → HasRoom s out more → HasRoom (heard s rank request from) out more
+  heard_room rank request from room =
+      let same = length-map s.kept.parked.waiting (turned (is_since rank request) (hears_of s.config s.me from)) in
+      room_left s s.kept.queue (hinted (parked_of s) rank request from).parked out more more (omega (arith, same)) room
+
+  pub sought_room : (wish : Wish) → HasRoom s out (more + 1) → HasRoom (sought s wish) out more
+  sought_room wish = by_best (best_for s.kept.queue wish.rank wish.types)
+    where
+      by_best : (o : Option Placed) → HasRoom s out (more + 1) → HasRoom (pinning s wish.rank o (reserved (parked_of s) wish o)) out more
+      by_best (Some p) room =
+          room_left s (pinned_to wish.rank (Some p) s.kept.queue) s.kept.parked out (more + 1) more (omega arith) room
+      by_best None room =
+          let one = length-append s.kept.parked.waiting (asking wish (others s.config s.me) ∷ []) in
+          room_left s s.kept.queue (reserved (parked_of s) wish None).parked out (more + 1) more (omega (arith, one)) room
+
+  pub asked_room : (wish : Wish) → HasRoom s out (more + 1) → HasRoom (asked s wish) out more
+  asked_room wish = by_best (offered s.kept wish)
+    where
+      by_best : (o : Option Placed) → HasRoom s out (more + 1) → HasRoom (pinning s wish.rank o (after_ask (parked_of s) wish o)) out more
+      by_best (Some p) room =
+          let fewer = fewer_kept (is_by wish.rank) s.kept.parked.wishes in
+          room_left s (pinned_to wish.rank (Some p) s.kept.queue) (after_ask (parked_of s) wish (Some p)).parked out (more + 1) more
+          (omega (arith, fewer)) room
+      by_best None room =
+          let fewer = fewer_kept (is_by wish.rank) s.kept.parked.wishes in
+          let one = length-append (unwished wish.rank s.kept.parked.wishes) (wish ∷ []) in
+          room_left s s.kept.queue (wished (parked_of s) wish).parked out (more + 1) more (omega (arith, fewer, one)) room

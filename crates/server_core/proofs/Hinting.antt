@@ -24,7 +24,7 @@ use Rattle.server_law.specs.State.{ServerModel}
 use Rattle.server_core.specs.Inside.{parked_of}
 use Rattle.server_core.specs.Out.{HasRoom, Out, going_on, with_letter}
 use Rattle.server_core.proofs.Going.{room_left, says_one}
-use Rattle.server_core.proofs.Sounds.{with_parked}
+use Rattle.server_core.specs.Waits.{with_parked}
 use Rattle.server_core.proofs.Alone.{IsSplit, NonePasses, before_others, behind_others, found_split, gone_one}
 
 -- The hints to ranks whose wishes pass a test.

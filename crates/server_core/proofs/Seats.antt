@@ -6,13 +6,14 @@ use Rattle.std.specs.Option.{IfSome, option_map}
 use Rattle.std.proofs.lemmas.Bool.{and_parts, eqb-true}
 use Rattle.std.proofs.lemmas.List.{map-append}
 use Rattle.std.proofs.lemmas.List.Elements.{All-weaker}
+use Rattle.std.proofs.lemmas.List.Folds.{Any-from_list_any, list_any-from_Any}
 use Rattle.adlb_unit.specs.declared.names.Rank.{Rank}
 use Rattle.adlb_unit.specs.declared.names.Server.{Server}
 use Rattle.bag_ledger.proofs.Tests.{some_is}
 use Rattle.work_queue.proofs.Searched.{find_first, find_none}
 use Rattle.reserve_path.proofs.Places.{AreApart, none_any, none_turned}
 use Rattle.reserve_path.specs.Calls.{is_since, request_of, turned}
-use Rattle.reserve_path.specs.Parked.{is_idle, is_of}
+use Rattle.reserve_path.specs.Parked.{ParkedModel, entry_of, is_asked, is_idle, is_of, is_pending}
 use Rattle.reserve_path.specs.declared.waits.Waiting.{Waiting}
 use Rattle.server_law.specs.Expected.{IsUnanswered}
 use Rattle.server_law.specs.Finding.{Place, has_asked, place_in}
@@ -140,6 +141,32 @@ asked_for s once from rank request is =
     let alone = alone_at rank (has_asked from rank request) (tells_rank from rank request) waiting once p.0 p.1 in
     let says = (has_asked_says from rank request p.0.here).0 alone.1 in
     (p.0, record { found = p.1; alone = alone.0; rank_is = says.0; request_is = says.1; asked = says.2 })
+
+-- a rank for which a server is unanswered waits
+pub pending_there : (m : ParkedModel) (rank : Rank) → is_pending m rank ≡ true → (e : Waiting) × (entry_of m rank ≡ Some e)
+pending_there m rank is =
+    let has = Any-from_list_any (λ e. is_of rank e && is_asked e) m.parked.waiting is in
+    some_there (find (is_of rank) m.parked.waiting)
+    (found_any (is_of rank) m.parked.waiting
+    ∙ list_any-from_Any (is_of rank) m.parked.waiting (has.0, has.1, has.2, has.3, (and_parts _ _ has.4).0))
+
+-- a server was asked for the rank that stands here, and is unanswered
+pub record IsAskedAt (s : ServerModel) (from : Server) (p : Place) : Type 0 where
+  pub found : place_in (has_asked from p.here.wish.rank p.here.wish.request) s.kept.parked.waiting ≡ Some p
+  pub alone : IsAlone p.here.wish.rank s.kept.parked.waiting p
+  pub asked : p.here.asked ≡ Some from
+
+-- what is so of each such rank
+pub asked_as : (s : ServerModel) → AllPairs AreApart s.kept.parked.waiting → (from : Server) (rank : Rank) (request : ℕ)
+    → IsUnanswered s from rank request → (P : Rank → ℕ → Type 0)
+    → ((p : Place) → IsAskedAt s from p → P p.here.wish.rank p.here.wish.request) → P rank request
+asked_as s once from rank request is P each =
+    let p = asked_for s once from rank request is in
+    let F : Rank → ℕ → Type 0 = λ r k. place_in (has_asked from r k) s.kept.parked.waiting ≡ Some p.0
+    → IsAlone r s.kept.parked.waiting p.0 → P r k in
+    let here : F p.0.here.wish.rank p.0.here.wish.request = λ found alone. each p.0 (record { found = found; alone = alone; asked = p.1.asked }) in
+    let own : F rank request = subst (λ r. F r request) p.1.rank_is (subst (F p.0.here.wish.rank) p.1.request_is here) in
+    own p.1.found p.1.alone
 
 pub unanswered_told : (s : ServerModel) → AllPairs AreApart s.kept.parked.waiting → (from : Server) (rank : Rank) (request : ℕ)
     → (told_of s.kept.parked.waiting rank ≡ Some (request, Some from)) ↔ IsUnanswered s from rank request

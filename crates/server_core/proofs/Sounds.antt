@@ -18,6 +18,7 @@ use Rattle.adlb_unit.specs.Ring.{others}
 use Rattle.exhaust_ring.specs.Ring.{AreOfOne, RingModel}
 use Rattle.server_law.specs.State.{ServerModel}
 use Rattle.server_core.specs.Inside.{IsInside, IsSound, bytes_in, parked_of, state_of}
+use Rattle.server_core.specs.Waits.{with_parked}
 use Rattle.server_core.specs.declared.states.ServerState.TheInside.{Inside}
 
 -- What a call makes of what waits.
@@ -102,10 +103,6 @@ given_pins (Some e) p q = pinned_pins q e.wish.rank (Some p)
 
 -- The server.
 
--- the server with this queue and these that wait
-abbrev pub with_parked : ServerModel → Queue → Parked → ServerModel
-with_parked s queue parked = record s { kept = record s.kept { queue = queue; parked = parked } }
-
 module _ (i : Inside) (inside : IsInside i) where
   pub seen : i.parked ≡ parked_of (state_of i)
   seen =
@@ -150,6 +147,28 @@ module _ (i : Inside) (inside : IsInside i) where
         ring_config = inside.ring_config;
         ring_me = inside.ring_me;
       }
+
+-- where the queue alone changes
+pub queue_inside : (i : Inside) → IsInside i → (queue after : Queue) → queue ≡ after → IsPinned i.queue after → IsInside (record i { queue = queue })
+queue_inside i inside queue after is pins =
+    closes i inside i.parked i.parked queue after refl (same_stays i.parked (parked_is i inside)) is pins
+
+-- what is seen of the whole server
+module _ (i : Inside) (inside : IsInside i) (s : ServerModel) (is : state_of i ≡ s) where
+  pub parked_at : i.parked ≡ parked_of s
+  parked_at = seen i inside ∙ ap parked_of is
+
+  pub sound_at : IsParked (parked_of s)
+  sound_at = subst (λ u. IsParked (parked_of u)) is inside.sound.parked
+
+  -- after a call
+  pub seat_at : (q : ServerModel → Queue) (f : ServerModel → ParkedModel → ParkedModel) (n : ParkedModel) (queue : Queue)
+      → n ≡ f (state_of i) i.parked → queue ≡ q (state_of i)
+      → with_parked (state_of i) queue n.parked ≡ with_parked s (q s) (f s (parked_of s)).parked
+  seat_at q f n queue left pinned =
+      ap (λ k. with_parked (state_of i) k n.parked) pinned
+      ∙ ap (λ m. with_parked (state_of i) (q (state_of i)) m) (made_of i inside (f (state_of i)) n left)
+      ∙ ap (λ u. with_parked u (q u) (f u (parked_of u)).parked) is
 
 -- the ring may change, at the server as before
 pub ring_inside : (i : Inside) → IsInside i → (n : RingModel) → AreOfOne i.ring n → n.ring.check ≤ i.clock → IsInside (record i { ring = n })

@@ -25,7 +25,8 @@ use Rattle.server_core.specs.Inside.{parked_of}
 use Rattle.server_core.specs.Out.{HasRoom, Out, going_on, with_answer}
 use Rattle.server_core.proofs.Alone.{IsSplit, NonePasses, before_others, behind_others, found_split, gone_one, one_fewer}
 use Rattle.server_core.proofs.Going.{answers_one, room_left}
-use Rattle.server_core.proofs.Sounds.{waits_within, with_parked}
+use Rattle.server_core.specs.Waits.{with_parked}
+use Rattle.server_core.proofs.Sounds.{waits_within}
 
 -- Those that are not idle are passed.
 

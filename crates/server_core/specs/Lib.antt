@@ -4,3 +4,4 @@ pub mod Inside
 pub mod Left
 pub mod Out
 pub mod Quiet
+pub mod Waits

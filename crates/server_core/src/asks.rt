@@ -8,9 +8,8 @@ ghost use Rattle.server_law.specs.State.{ServerModel};
 
 use crate::outgoing::Outgoing;
 use crate::states::ServerState;
-use adlb_unit::{Actor, End, Message, Rank, Server, Types, UnitNote};
+use adlb_unit::{Actor, Message, Rank, Server, Types, UnitNote};
 use bag_ledger::Entry;
-use reserve_path::ReserveStep;
 
 impl ServerState {
     // The home of the rank asks for it: the best free unit is pinned to the rank; if there is none, its wish is kept.
@@ -33,14 +32,7 @@ impl ServerState {
         ensures room { HasRoom self.new out.new 1 }
     {
         let home = Actor::Server(from);
-        if self.done {
-            self.parked.refuse_ask(rank, request, types);
-            return self.say(home, Message::AskNone { rank, request }, out);
-        }
-        match self
-            .parked
-            .remote_ask(&mut self.queue, rank, request, types)
-        {
+        match self.pin_for(rank, request, types) {
             Some(note) => {
                 let granted = Entry::Granted {
                     server: self.me,
@@ -88,18 +80,15 @@ impl ServerState {
             made self.new out.new ≡ planned out.old p self.old }
         ensures room { HasRoom self.new out.new 1 }
     {
-        if self.done {
-            self.parked.remote_end(rank);
-            return self.end_call(rank, request, End::NoMoreWork, out);
-        }
-        if self.ring.is_exhausted() {
-            self.parked.remote_end(rank);
-            return self.end_call(rank, request, End::Exhausted, out);
-        }
-        match self.parked.remote_none(&mut self.queue, rank) {
-            ReserveStep::Granted(note) => self.grant(rank, request, note, out),
-            ReserveStep::Ask(to) => self.ask(to, rank, request, out),
-            ReserveStep::Idle => {}
+        match self.over() {
+            Some(end) => {
+                self.release(rank);
+                self.end_call(rank, request, end, out);
+            }
+            None => {
+                let step = self.look_again(rank);
+                self.tell_sought(rank, request, step, out);
+            }
         }
     }
 }

@@ -23,9 +23,8 @@ impl ServerState {
             made self.new out.new ≡ planned out.old p self.old }
         ensures room { HasRoom self.new out.new 1 }
     {
-        match self.parked.hint(rank, request, from) {
-            Some(to) => self.ask(to, rank, request, out),
-            None => {}
+        if self.hear_of(rank, request, from) {
+            self.ask(from, rank, request, out);
         }
     }
 

@@ -24,6 +24,7 @@ mod puts;
 mod reserves;
 mod states;
 mod steps;
+mod turns;
 mod waits;
 
 pub use states::{LeftUnit, ServerState};

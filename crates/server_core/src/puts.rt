@@ -92,7 +92,7 @@ impl ServerState {
             return;
         }
         let (facts, target) = self.queue.facts(id);
-        match self.parked.offer(&mut self.queue, id) {
+        match self.offer(id) {
             Some((rank, request, note)) => self.grant(rank, request, note, out),
             None => self.hint_homes(facts.kind, target, out),
         }

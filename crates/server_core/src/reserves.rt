@@ -1,13 +1,18 @@
 //! The letter Reserve, and how calls are answered by a unit or an end.
 
-ghost use Rattle.std.specs.Prelude.{◌≡◌, ◌<◌, ◌+◌, ℕ, Some, IsSome};
+ghost use Rattle.std.specs.Prelude.{◌≡◌, ◌<◌, ◌+◌, ℕ, Some, IsSome, IsTrue};
+ghost use Rattle.adlb_unit.specs.declared.names.Server.{Server};
+ghost use Rattle.reserve_path.specs.Parked.{entry_of};
+ghost use Rattle.reserve_path.specs.declared.waits.Waiting.{Waiting};
 ghost use Rattle.reserve_path.specs.declared.wishes.Wish.{Wish};
 ghost use Rattle.server_core.specs.Out.{HasPlaces, HasRoom, Out, made, planned, with_answer};
+ghost use Rattle.server_core.specs.Inside.{parked_of};
+ghost use Rattle.server_core.specs.Waits.{told_step};
 ghost use Rattle.server_law.specs.Acts.{to_rank};
 ghost use Rattle.server_law.specs.Carried.{counted, posted};
 ghost use Rattle.server_law.specs.Plan.{Plan};
 ghost use Rattle.server_law.specs.Reserves.{reserve_rule};
-ghost use Rattle.server_law.specs.State.{ServerModel};
+ghost use Rattle.server_law.specs.State.{Kept, ServerModel, is_waiting};
 
 use crate::outgoing::Outgoing;
 use crate::states::ServerState;
@@ -27,15 +32,36 @@ impl ServerState {
             made self.new out.new ≡ planned out.old p self.old }
         ensures room { HasRoom self.new out.new 1 }
     {
-        if self.done {
-            return self.end_call(from, request, End::NoMoreWork, out);
+        match self.over() {
+            Some(end) => self.end_call(from, request, end, out),
+            None => {
+                let step = self.seek(from, request, types);
+                self.tell_sought(from, request, step, out);
+            }
         }
-        if self.ring.is_exhausted() {
-            return self.end_call(from, request, End::Exhausted, out);
-        }
-        match self.parked.reserve(&mut self.queue, from, request, types) {
-            ReserveStep::Granted(note) => self.grant(from, request, note, out),
-            ReserveStep::Ask(to) => self.ask(to, from, request, out),
+    }
+
+    // What a rank that seeks a unit has come to: it is told of the unit, or the next server is asked for it, or it is idle.
+    pub(crate) fn tell_sought(
+        &mut self,
+        rank: Rank,
+        request: u64,
+        step: ReserveStep,
+        out: &mut Outgoing,
+    )
+        requires rank { rank.0 < self.old.config.ranks }
+        requires asked { (to : Server) → step ≡ ReserveStep.Ask to →
+            (to.0 < self.old.config.servers) × IsTrue (is_waiting self.old.kept rank) }
+        requires room { HasRoom self.old out.old 2 }
+
+        ensures made { (e : Waiting) →
+            ((to : Server) → step ≡ ReserveStep.Ask to → entry_of (parked_of self.old) rank ≡ Some e) →
+            made self.new out.new ≡ told_step step rank request e.wish.types out.old self.old }
+        ensures room { HasRoom self.new out.new 1 }
+    {
+        match step {
+            ReserveStep::Granted(note) => self.grant(rank, request, note, out),
+            ReserveStep::Ask(to) => self.ask(to, rank, request, out),
             ReserveStep::Idle => {}
         }
     }

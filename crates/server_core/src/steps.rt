@@ -122,7 +122,7 @@ impl ServerState {
         }
     }
 
-    // Does what the rule of another server's letter says.
+    // Does what the rule of another server's letter says. A verdict, which is told to each other server, needs the most room.
     fn follow_server(
         &mut self,
         from: Server,
@@ -133,7 +133,8 @@ impl ServerState {
         requires other { from ≢ self.old.me }
         requires expected { IsSome (server_rule self.old from message) }
         requires fresh { self.old.kept.queue.arrivals < self.old.clock }
-        requires room { HasRoom self.old out.old 9 }
+        requires room { HasRoom self.old out.old 3 }
+        requires verdict { HasRoom self.old out.old 9 }
 
         ensures ok { OnOk result ((p : Plan) → server_rule self.old from message ≡ Some p →
             made self.new out.new ≡ planned out.old p self.old) }

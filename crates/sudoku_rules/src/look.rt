@@ -4,7 +4,7 @@
 //! `M` is the side of a box, `SIDE` that of the grid and `CELLS` how many cells it has (`IsSized`).
 
 ghost use Rattle.std.specs.Prelude.{◌≡◌, ◌<◌, ◌≤◌, ◌+◌, ◌-◌, ◌*◌, ◌/◌, ◌^◌, ℕ, List, length, slice_index};
-ghost use Rattle.sudoku_law.specs.Grid.{IsGrid, side, size};
+ghost use Rattle.sudoku_law.specs.Grid.{IsGrid, box_of, column_of, row_of, side, size};
 ghost use Rattle.sudoku_rules.specs.Inside.Masks.{AreMasks, AreOptions, IsBest, IsSized};
 
 /// The digits of each row, column and box: bit `d - 1` of a mask is set where the digit `d` stands there.
@@ -48,6 +48,23 @@ pub fn box_at<const M: usize>(row: usize, column: usize) -> usize
     row / M * M + column / M
 }
 
+/// The row, the column and the box of a cell.
+#[inline]
+pub fn around<const M: usize, const SIDE: usize>(cell: usize) -> (usize, usize, usize)
+    requires low { 2 ≤ M }
+    requires high { M ≤ 4 }
+    requires side { SIDE ≡ side M }
+    requires cell { cell < size M }
+    ensures row { result.0 ≡ row_of M cell }
+    ensures column { result.1 ≡ column_of M cell }
+    ensures place { result.2 ≡ box_of M cell }
+    ensures within { (result.0 < SIDE) × (result.1 < SIDE) × (result.2 < SIDE) }
+{
+    let row = cell / SIDE;
+    let column = cell % SIDE;
+    (row, column, box_at::<M>(row, column))
+}
+
 impl<const SIDE: usize> Masks<SIDE> {
     /// The masks of these cells.
     pub fn of<const M: usize, const CELLS: usize>(cells: &[u8; CELLS]) -> Masks<SIDE>
@@ -81,9 +98,7 @@ impl<const SIDE: usize> Masks<SIDE> {
             return;
         }
         let bit = bit_of(digit);
-        let row = cell / SIDE;
-        let column = cell % SIDE;
-        let place = box_at::<M>(row, column);
+        let (row, column, place) = around::<M, SIDE>(cell);
         let clash = (self.rows[row] | self.columns[column] | self.boxes[place]) & bit != 0;
         self.clash |= clash;
         self.rows[row] |= bit;

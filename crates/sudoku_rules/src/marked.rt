@@ -6,7 +6,7 @@ ghost use Rattle.sudoku_law.specs.Grid.{IsBlank, IsGrid, conflict, side, size, u
 ghost use Rattle.sudoku_rules.specs.Inside.Masks.{IsBest, IsSized};
 ghost use Rattle.sudoku_rules.specs.Inside.Marked.{AreBlanks, IsBlankRow, IsCarried, IsNext, IsRest, marks_at, put_at, put_back};
 
-use crate::look::{Choice, Masks, bit_of, box_at};
+use crate::look::{Choice, Masks, around, bit_of};
 
 /// The cells of a grid, the masks of its rows, columns and boxes, and its blank cells: bit `c` of
 /// `blanks[r]` is set where the cell in row `r` and column `c` is blank.
@@ -98,12 +98,11 @@ impl<const SIDE: usize, const CELLS: usize> Marked<SIDE, CELLS> {
         requires cell { cell < size M }
         ensures { result ≡ marks_at M self.now cell }
     {
-        let row = cell / SIDE;
-        let column = cell % SIDE;
+        let (row, column, place) = around::<M, SIDE>(cell);
         Marks {
             in_row: self.masks.rows[row],
             in_column: self.masks.columns[column],
-            in_box: self.masks.boxes[box_at::<M>(row, column)],
+            in_box: self.masks.boxes[place],
             blanks_in_row: self.blanks[row],
         }
     }
@@ -120,9 +119,7 @@ impl<const SIDE: usize, const CELLS: usize> Marked<SIDE, CELLS> {
         ensures after { self.new ≡ put_at M self.old cell (digit - 1) }
         ensures carried { IsCarried M self.new }
     {
-        let row = cell / SIDE;
-        let column = cell % SIDE;
-        let place = box_at::<M>(row, column);
+        let (row, column, place) = around::<M, SIDE>(cell);
         let bit = bit_of(digit);
         self.cells[cell] = digit;
         self.masks.rows[row] |= bit;
@@ -138,9 +135,7 @@ impl<const SIDE: usize, const CELLS: usize> Marked<SIDE, CELLS> {
         requires cell { cell < size M }
         ensures { self.new ≡ put_back M self.old cell marks }
     {
-        let row = cell / SIDE;
-        let column = cell % SIDE;
-        let place = box_at::<M>(row, column);
+        let (row, column, place) = around::<M, SIDE>(cell);
         self.cells[cell] = 0;
         self.masks.rows[row] = marks.in_row;
         self.masks.columns[column] = marks.in_column;

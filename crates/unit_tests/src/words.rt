@@ -169,11 +169,15 @@ fn read(alloc: Global, line: &str) -> Result<String, Fail> {
     }
 }
 
+fn is_said(alloc: Global, line: &str, expected: &str) -> Result<bool, Fail> {
+    let said = read(alloc, line)?;
+    Ok(said.as_str() == expected)
+}
+
 #[test]
 fn says_or_refuses_each_row(rt: HostRuntime) -> Result<(), Fail> {
     for (line, expected) in ROWS {
-        let said = read(rt.alloc(), line)?;
-        assert_eq!(rt; said.as_str(), *expected, "{line}");
+        assert!(rt; is_said(rt.alloc(), line, expected)?, "{line}");
     }
     Ok(())
 }

@@ -1,8 +1,12 @@
 -- The fields that the code holds, as fields of a line.
-use Rattle.std.specs.Prelude.{List, map}
+use Rattle.std.specs.Prelude.{ℕ, List, ◌∷◌, drop, map, take}
+use Rattle.std.specs.List.{flat_map}
+use Rattle.bag_ledger.specs.declared.entries.Entry.{Entry}
+use Rattle.bag_ledger.specs.declared.entries.Entry.TheVariants as of
+use Rattle.ledger_file.specs.Lines.{row}
 use Rattle.ledger_file.specs.declared.fields.Field.{Field}
 use Rattle.ledger_file.specs.declared.fields.Field.TheVariants as given
-use Rattle.ledger_file.specs.Fields.{Field as Spelt, u32, u64, i32, id, aim, rank_or_none, prio_or_none, wanted, body, told}
+use Rattle.ledger_file.specs.Fields.{Field as Spelt, u32, u64, i32, id, aim, rank_or_none, prio_or_none, wanted, body, told, word}
 
 abbrev pub field_of : Field → Spelt
 field_of (given.Short n) = u32 n
@@ -18,3 +22,29 @@ field_of (given.End e) = told e
 
 abbrev pub fields_of : List Field → List Spelt
 fields_of fs = map field_of fs
+
+-- fields, each behind a blank
+abbrev pub spaced : List Spelt → List ℕ
+spaced fs = flat_map (λ f. 32 ∷ word f) fs
+
+-- how many fields of an entry tell of a server, of a rank or another server, and of a call; these, and those behind them
+abbrev pub heads : Entry → ℕ
+heads (of.Granted server rank call unit) = 3
+heads (of.Looked server rank call) = 3
+heads (of.Counted server rank call info) = 3
+heads (of.Refused server unit used) = 1
+heads (of.Accepted server unit) = 1
+heads (of.Kept server batch) = 1
+heads (of.Closed server batch) = 1
+heads (of.Freed server batch) = 1
+heads (of.Promised server unit length) = 1
+heads (of.Arrived server unit) = 1
+heads (of.Withdrawn server unit) = 1
+heads of.Exhausted = 0
+heads _ = 2
+
+abbrev pub who : Entry → List Spelt
+who e = take (heads e) (row e).1
+
+abbrev pub what : Entry → List Spelt
+what e = drop (heads e) (row e).1

@@ -93,15 +93,6 @@ abbrev pub bytes_guess : List ℕ → List ℕ
 bytes_guess w = if slice_index w 0 == 45 then [] else unhex w
 
 -- the field that a word is, if it is one
-unfoldable pub rank_in : List ℕ → Option Rank
-rank_in = checked (λ r. u32 r.0) rank_guess
-
-unfoldable pub server_in : List ℕ → Option Server
-server_in = checked (λ s. u32 s.0) (λ w. record { 0 = digits_value 10 w })
-
-unfoldable pub kind_in : List ℕ → Option WorkType
-kind_in = checked (λ k. u32 k.0) kind_guess
-
 unfoldable pub length_in : List ℕ → Option ℕ
 length_in = checked u32 unsigned_guess
 
@@ -111,11 +102,8 @@ number_in = checked u64 unsigned_guess
 unfoldable pub prio_in : List ℕ → Option ℤ
 prio_in = checked i32 signed_guess
 
-unfoldable pub unit_in : List ℕ → Option UnitId
-unit_in = checked (λ u. id u.rank.0 u.number) (λ w. record { rank = rank_guess (before_dot w); number = digits_value 10 (behind_dot w) })
-
-unfoldable pub batch_in : List ℕ → Option BatchId
-batch_in = checked (λ b. id b.rank.0 b.number) (λ w. record { rank = rank_guess (before_dot w); number = digits_value 10 (behind_dot w) })
+unfoldable pub pair_in : List ℕ → Option (ℕ × ℕ)
+pair_in = checked (λ x. id x.0 x.1) (λ w. (digits_value 10 (before_dot w), digits_value 10 (behind_dot w)))
 
 unfoldable pub target_in : List ℕ → Option Target
 target_in = checked aim target_guess
@@ -151,7 +139,39 @@ onward k (Some x) = k x.0 x.1
 abbrev pub next : {A E : Type 0} → (List ℕ → Option A) → (A → List (List ℕ) → Option E) → List (List ℕ) → Option E
 next read k ws = onward k (first read ws)
 
--- no word is left
+-- numbers as a rank, a server, a work type, and the ids of a unit and of a batch
+abbrev pub rank_of : ℕ → Rank
+rank_of n = record { 0 = n }
+
+abbrev pub server_of : ℕ → Server
+server_of n = record { 0 = n }
+
+abbrev pub kind_of : ℕ → WorkType
+kind_of n = record { 0 = n }
+
+abbrev pub unit_of : ℕ × ℕ → UnitId
+unit_of x = record { rank = rank_of x.0; number = x.1 }
+
+abbrev pub batch_of : ℕ × ℕ → BatchId
+batch_of x = record { rank = rank_of x.0; number = x.1 }
+
+-- the numbers of a rank and of its call; what is read behind these, behind a server, and behind the id of a unit
+unfoldable pub call_in : List (List ℕ) → Option ((ℕ × ℕ) × List (List ℕ))
+call_in ws = onward (λ rank vs. onward (λ call us. Some ((rank, call), us)) (first number_in vs)) (first length_in ws)
+
+abbrev pub with_call : {E : Type 0} → (Rank → ℕ → List (List ℕ) → Option E) → List (List ℕ) → Option E
+with_call k ws = onward (λ (x : ℕ × ℕ). k (rank_of x.0) x.1) (call_in ws)
+
+abbrev pub with_server : {E : Type 0} → (Server → List (List ℕ) → Option E) → List (List ℕ) → Option E
+with_server k = next length_in (λ n. k (server_of n))
+
+abbrev pub with_unit : {E : Type 0} → (UnitId → List (List ℕ) → Option E) → List (List ℕ) → Option E
+with_unit k = next pair_in (λ x. k (unit_of x))
+
+-- a value that is read, and the words behind it; and if no word is left, the value alone
+abbrev pub value : {E : Type 0} → E → List (List ℕ) → Option (E × List (List ℕ))
+value e ws = Some (e, ws)
+
 abbrev pub whole : {E : Type 0} → E → List (List ℕ) → Option E
 whole e [] = Some e
 whole e (w ∷ ws) = None

@@ -6,61 +6,90 @@ use Rattle.bag_ledger.specs.declared.entries.Entry.TheVariants as of
 use Rattle.ledger_file.specs.declared.names.Name.{Name}
 use Rattle.ledger_file.specs.declared.names.Name.TheVariants as name
 use Rattle.ledger_file.specs.Inside.Names.{name_of}
-use Rattle.ledger_file.specs.Inside.Reading.{next, whole, rank_in, server_in, kind_in, length_in, number_in, prio_in, unit_in, batch_in, target_in, answer_in, top_in, types_in, bytes_in, end_in}
+use Rattle.adlb_unit.specs.declared.names.Rank.{Rank}
+use Rattle.adlb_unit.specs.declared.names.Server.{Server}
+use Rattle.adlb_unit.specs.declared.names.WorkType.{WorkType}
+use Rattle.ledger_file.specs.Inside.Reading.{onward, next, value, whole, with_call, with_server, with_unit, rank_of, server_of, kind_of, unit_of, batch_of, length_in, number_in, pair_in, prio_in, target_in, answer_in, top_in, types_in, bytes_in, end_in}
+
+-- the entries of names with fields of the same kinds: a call; a call and the wanted types; a server and an id; a server, whom it gives
+-- to, and an id
+abbrev pub call_entry : Name → Rank → ℕ → Entry
+call_entry name.Rejected rank call = of.Rejected rank call
+call_entry name.Closing rank call = of.Closing rank call
+call_entry name.NoCurrent rank call = of.NoCurrent rank call
+call_entry name.Done rank call = of.Done rank call
+call_entry _ rank call = of.Finished rank call
+
+abbrev pub wish_entry : Name → Rank → ℕ → Option (List WorkType) → Entry
+wish_entry name.Asked rank call types = of.Asked rank call types
+wish_entry _ rank call types = of.Tried rank call types
+
+abbrev pub id_entry : Name → Server → ℕ × ℕ → Entry
+id_entry name.Accepted server x = of.Accepted server (unit_of x)
+id_entry name.Kept server x = of.Kept server (batch_of x)
+id_entry name.Closed server x = of.Closed server (batch_of x)
+id_entry name.Freed server x = of.Freed server (batch_of x)
+id_entry name.Arrived server x = of.Arrived server (unit_of x)
+id_entry _ server x = of.Withdrawn server (unit_of x)
+
+abbrev pub way_entry : Name → Server → ℕ → ℕ × ℕ → Entry
+way_entry name.Fetched server to x = of.Fetched server (rank_of to) (unit_of x)
+way_entry name.CommonFetched server to x = of.CommonFetched server (rank_of to) (batch_of x)
+way_entry _ server to x = of.Left server (server_of to) (unit_of x)
 
 -- the entry of this name with these fields, if they are its fields
-abbrev pub read_row : Name → List (List ℕ) → Option Entry
+abbrev pub read_row : Name → List (List ℕ) → Option (Entry × List (List ℕ))
 read_row name.Putting =
-    next rank_in (λ rank. next number_in (λ call. next kind_in (λ kind. next prio_in (λ prio.
+    with_call (λ rank call. next length_in (λ kind. next prio_in (λ prio.
     next target_in (λ target. next answer_in (λ answer. next bytes_in (λ bytes.
-    whole (of.Putting rank call kind prio target answer bytes))))))))
-read_row name.Refused = next server_in (λ server. next unit_in (λ unit. next number_in (λ used. whole (of.Refused server unit used))))
-read_row name.Accepted = next server_in (λ server. next unit_in (λ unit. whole (of.Accepted server unit)))
-read_row name.Rejected = next rank_in (λ rank. next number_in (λ call. whole (of.Rejected rank call)))
-read_row name.Keeping = next rank_in (λ rank. next number_in (λ call. next bytes_in (λ common. whole (of.Keeping rank call common))))
-read_row name.Kept = next server_in (λ server. next batch_in (λ batch. whole (of.Kept server batch)))
-read_row name.Closing = next rank_in (λ rank. next number_in (λ call. whole (of.Closing rank call)))
-read_row name.Closed = next server_in (λ server. next batch_in (λ batch. whole (of.Closed server batch)))
-read_row name.Freed = next server_in (λ server. next batch_in (λ batch. whole (of.Freed server batch)))
-read_row name.Asked = next rank_in (λ rank. next number_in (λ call. next types_in (λ types. whole (of.Asked rank call types))))
-read_row name.Tried = next rank_in (λ rank. next number_in (λ call. next types_in (λ types. whole (of.Tried rank call types))))
+    value (of.Putting rank call (kind_of kind) prio target answer bytes)))))))
+read_row name.Refused = with_server (λ server. with_unit (λ unit. next number_in (λ used. value (of.Refused server unit used))))
+read_row name.Accepted = with_server (λ server. next pair_in (λ x. value (of.Accepted server (unit_of x))))
+read_row name.Rejected = with_call (λ rank call. value (of.Rejected rank call))
+read_row name.Keeping = with_call (λ rank call. next bytes_in (λ common. value (of.Keeping rank call common)))
+read_row name.Kept = with_server (λ server. next pair_in (λ x. value (of.Kept server (batch_of x))))
+read_row name.Closing = with_call (λ rank call. value (of.Closing rank call))
+read_row name.Closed = with_server (λ server. next pair_in (λ x. value (of.Closed server (batch_of x))))
+read_row name.Freed = with_server (λ server. next pair_in (λ x. value (of.Freed server (batch_of x))))
+read_row name.Asked = with_call (λ rank call. next types_in (λ types. value (of.Asked rank call types)))
+read_row name.Tried = with_call (λ rank call. next types_in (λ types. value (of.Tried rank call types)))
 read_row name.Granted =
-    next server_in (λ server. next rank_in (λ rank. next number_in (λ call.
-    next unit_in (λ unit. whole (of.Granted server rank call unit)))))
-read_row name.Looked = next server_in (λ server. next rank_in (λ rank. next number_in (λ call. whole (of.Looked server rank call))))
-read_row name.NoCurrent = next rank_in (λ rank. next number_in (λ call. whole (of.NoCurrent rank call)))
-read_row name.Fetching = next rank_in (λ rank. next number_in (λ call. next unit_in (λ unit. whole (of.Fetching rank call unit))))
-read_row name.Fetched = next server_in (λ server. next rank_in (λ rank. next unit_in (λ unit. whole (of.Fetched server rank unit))))
+    with_server (λ server. with_call (λ rank call. with_unit (λ unit. value (of.Granted server rank call unit))))
+read_row name.Looked = with_server (λ server. with_call (λ rank call. value (of.Looked server rank call)))
+read_row name.NoCurrent = with_call (λ rank call. value (of.NoCurrent rank call))
+read_row name.Fetching = with_call (λ rank call. with_unit (λ unit. value (of.Fetching rank call unit)))
+read_row name.Fetched =
+    with_server (λ server. next length_in (λ rank. next pair_in (λ x. value (of.Fetched server (rank_of rank) (unit_of x)))))
 read_row name.CommonFetched =
-    next server_in (λ server. next rank_in (λ rank.
-    next batch_in (λ batch. whole (of.CommonFetched server rank batch))))
-read_row name.Promised = next server_in (λ server. next unit_in (λ unit. next length_in (λ length. whole (of.Promised server unit length))))
-read_row name.Left = next server_in (λ server. next server_in (λ to. next unit_in (λ unit. whole (of.Left server to unit))))
-read_row name.Arrived = next server_in (λ server. next unit_in (λ unit. whole (of.Arrived server unit)))
-read_row name.Withdrawn = next server_in (λ server. next unit_in (λ unit. whole (of.Withdrawn server unit)))
-read_row name.Counting = next rank_in (λ rank. next number_in (λ call. next kind_in (λ kind. whole (of.Counting rank call kind))))
+    with_server (λ server. next length_in (λ rank. next pair_in (λ x. value (of.CommonFetched server (rank_of rank) (batch_of x)))))
+read_row name.Promised = with_server (λ server. with_unit (λ unit. next length_in (λ length. value (of.Promised server unit length))))
+read_row name.Left =
+    with_server (λ server. next length_in (λ to. next pair_in (λ x. value (of.Left server (server_of to) (unit_of x)))))
+read_row name.Arrived = with_server (λ server. next pair_in (λ x. value (of.Arrived server (unit_of x))))
+read_row name.Withdrawn = with_server (λ server. next pair_in (λ x. value (of.Withdrawn server (unit_of x))))
+read_row name.Counting = with_call (λ rank call. next length_in (λ kind. value (of.Counting rank call (kind_of kind))))
 read_row name.Counted =
-    next server_in (λ server. next rank_in (λ rank. next number_in (λ call. next number_in (λ free.
+    with_server (λ server. with_call (λ rank call. next number_in (λ free.
     next top_in (λ top. next number_in (λ at_top.
-    whole (of.Counted server rank call (record { free = free; top = top; at_top = at_top }))))))))
-read_row name.Done = next rank_in (λ rank. next number_in (λ call. whole (of.Done rank call)))
-read_row name.Exhausted = whole of.Exhausted
-read_row name.Over = next rank_in (λ rank. next number_in (λ call. next end_in (λ ending. whole (of.Over rank call ending))))
-read_row name.Finished = next rank_in (λ rank. next number_in (λ call. whole (of.Finished rank call)))
+    value (of.Counted server rank call (record { free = free; top = top; at_top = at_top })))))))
+read_row name.Done = with_call (λ rank call. value (of.Done rank call))
+read_row name.Exhausted = value of.Exhausted
+read_row name.Over = with_call (λ rank call. next end_in (λ ending. value (of.Over rank call ending)))
+read_row name.Finished = with_call (λ rank call. value (of.Finished rank call))
 
 -- the entry of these words
 abbrev pub named : List (List ℕ) → Option Name → Option Entry
 named fields None = None
-named fields (Some n) = read_row n fields
+named fields (Some n) = onward whole (read_row n fields)
 
 unfoldable pub read_entry : List (List ℕ) → Option Entry
 read_entry [] = None
 read_entry (w ∷ fields) = named fields (name_of w)
 
 -- the numbers of a first line
-abbrev pub read_numbers : List (List ℕ) → Option (ℕ × ℕ × ℕ)
-read_numbers = next length_in (λ ranks. next length_in (λ servers. next number_in (λ limit. whole (ranks, servers, limit))))
+abbrev pub read_numbers : List (List ℕ) → Option ((ℕ × ℕ × ℕ) × List (List ℕ))
+read_numbers = next length_in (λ ranks. next length_in (λ servers. next number_in (λ limit. value (ranks, servers, limit))))
 
 unfoldable pub read_sizes : List (List ℕ) → Option (ℕ × ℕ × ℕ)
 read_sizes [] = None
-read_sizes (w ∷ ws) = if bytes_eq w (codes "ledger") then read_numbers ws else None
+read_sizes (w ∷ ws) = if bytes_eq w (codes "ledger") then onward whole (read_numbers ws) else None

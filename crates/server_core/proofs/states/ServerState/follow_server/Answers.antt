@@ -1,4 +1,4 @@
-use Rattle.std.proofs.Common.{◌==◌, IsSome, refl, sym, ap, ◌∙◌, subst, arith}
+use Rattle.std.proofs.Common.{◌==◌, IsSome, refl, sym, ap, ◌∙◌, subst}
 use Rattle.adlb_unit.specs.declared.messages.Message.TheVariants as tells
 use Rattle.exhaust_ring.specs.Expected.{is_running}
 use Rattle.server_law.specs.Acts.{Hears_failed, Hears_shutdown, Wants}
@@ -8,38 +8,8 @@ use Rattle.server_law.specs.Step.{server_rule}
 use Rattle.server_law.proofs.Expected.{server_rule_awaited}
 use Rattle.server_core.specs.Out.{HasRoom}
 use Rattle.server_core.proofs.Checking.{heard_goes, heard_room}
-use Rattle.server_core.proofs.Going.{room_less}
 use Rattle.server_core.proofs.Pushing.{ack_stands, ends_goes}
 use Rattle.server_core.proofs.states.ServerState.follow_server.Goals as goal
-
--- Room enough for the other servers is more than most letters need.
-
-pub ask_here-requires-clause-room : goal.ask_here-requires-clause-room
-ask_here-requires-clause-room c = room_less c.args.self.now c.args.out.now 9 3 (omega arith) c.requires.room
-
-pub pass_on-requires-clause-room : goal.pass_on-requires-clause-room
-pass_on-requires-clause-room c = room_less c.args.self.now c.args.out.now 9 3 (omega arith) c.requires.room
-
-pub ask_again-requires-clause-room : goal.ask_again-requires-clause-room
-ask_again-requires-clause-room c = room_less c.args.self.now c.args.out.now 9 3 (omega arith) c.requires.room
-
-pub hear_hint-requires-clause-room : goal.hear_hint-requires-clause-room
-hear_hint-requires-clause-room c = room_less c.args.self.now c.args.out.now 9 3 (omega arith) c.requires.room
-
-pub hear_query-requires-clause-room : goal.hear_query-requires-clause-room
-hear_query-requires-clause-room c = room_less c.args.self.now c.args.out.now 9 3 (omega arith) c.requires.room
-
-pub hear_yes-requires-clause-room : goal.hear_yes-requires-clause-room
-hear_yes-requires-clause-room c = room_less c.args.self.now c.args.out.now 9 3 (omega arith) c.requires.room
-
-pub hear_unit-requires-clause-room : goal.hear_unit-requires-clause-room
-hear_unit-requires-clause-room c = room_less c.args.self.now c.args.out.now 9 3 (omega arith) c.requires.room
-
-pub hear_cancel-requires-clause-room : goal.hear_cancel-requires-clause-room
-hear_cancel-requires-clause-room c = room_less c.args.self.now c.args.out.now 9 3 (omega arith) c.requires.room
-
-pub hear_exhaust-requires : goal.hear_exhaust-requires
-hear_exhaust-requires c = room_less c.args.self.now c.args.out.now 9 3 (omega arith) c.requires.room
 
 -- The letters of checks.
 
@@ -65,7 +35,7 @@ returns-in-Notice-clause-room c =
     let s = c.args.self.now in
     let out = c.args.out.now in
     let t = done (Wants c.args.from) s in
-    subst (λ u. HasRoom u out 1) (sym (c.hear_notice.ensures c.args.from)) (heard_room s t out c.requires.room refl refl refl)
+    subst (λ u. HasRoom u out 1) (sym (c.hear_notice.ensures c.args.from)) (heard_room s t out c.requires.verdict refl refl refl)
 
 pub returns-in-Failed-clause-ok : goal.returns-in-Failed-clause-ok
 returns-in-Failed-clause-ok c p is =
@@ -81,7 +51,7 @@ returns-in-Failed-clause-room c =
     let s = c.args.self.now in
     let out = c.args.out.now in
     let t = done (Hears_failed c.args.from c.in-Failed.token c.in-Failed.why) s in
-    subst (λ u. HasRoom u out 1) (sym (c.hear_failed.ensures c.args.from c.in-Failed.why)) (heard_room s t out c.requires.room refl refl refl)
+    subst (λ u. HasRoom u out 1) (sym (c.hear_failed.ensures c.args.from c.in-Failed.why)) (heard_room s t out c.requires.verdict refl refl refl)
 
 pub returns-in-Shutdown-clause-ok : goal.returns-in-Shutdown-clause-ok
 returns-in-Shutdown-clause-ok c p is =
@@ -95,7 +65,7 @@ returns-in-Shutdown-clause-room c =
     let s = c.args.self.now in
     let out = c.args.out.now in
     let t = done (Hears_shutdown c.args.from) s in
-    subst (λ u. HasRoom u out 1) (sym (c.hear_shutdown.ensures c.args.from)) (heard_room s t out c.requires.room refl refl refl)
+    subst (λ u. HasRoom u out 1) (sym (c.hear_shutdown.ensures c.args.from)) (heard_room s t out c.requires.verdict refl refl refl)
 
 pub returns-in-PushAck-clause-ok : goal.returns-in-PushAck-clause-ok
 returns-in-PushAck-clause-ok c p is =

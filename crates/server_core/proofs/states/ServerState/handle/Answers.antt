@@ -1,9 +1,12 @@
-use Rattle.std.proofs.Common.{ap, sym, ◌∙◌}
+use Rattle.std.proofs.Common.{ap, sym, ◌∙◌, arith}
 use Rattle.server_law.specs.Step.{rule}
 use Rattle.server_law.proofs.Found.{some_there}
-use Rattle.server_core.proofs.Going.{handled_goes, server_rule_is}
+use Rattle.server_core.proofs.Going.{handled_goes, room_less, server_rule_is}
 use Rattle.server_core.proofs.Young.{stays_young}
 use Rattle.server_core.proofs.states.ServerState.handle.Goals as goal
+
+pub follow_server-requires-clause-room : goal.follow_server-requires-clause-room
+follow_server-requires-clause-room c = room_less c.args.self.now c.args.out.now 9 3 (omega arith) c.requires.room
 
 pub returns-in_ok-follow-in-Rank-clause-ok : goal.returns-in_ok-follow-in-Rank-clause-ok
 returns-in_ok-follow-in-Rank-clause-ok c =

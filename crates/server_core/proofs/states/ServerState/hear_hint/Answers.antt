@@ -1,171 +1,63 @@
-use Rattle.std.proofs.Common.{◌≡◌, ◌≢◌, ◌<◌, None, Some, IsSome, refl, sym, ap, subst, ◌∙◌, arith}
-use Rattle.std.specs.Prelude.{if◌then◌else◌}
-use Rattle.adlb_unit.specs.declared.actors.Actor.TheVariants as by
+use Rattle.std.proofs.Common.{◌≡◌, ◌<◌, true, sym, ap, ◌∙◌, subst, arith}
 use Rattle.adlb_unit.specs.declared.messages.Message.TheVariants as tells
 use Rattle.adlb_unit.specs.declared.names.Server.{Server}
-use Rattle.reserve_path.specs.Calls.{hinted, is_idle_since}
-use Rattle.reserve_path.specs.Parked.{IsOther, ParkedModel}
-use Rattle.server_law.specs.Acts.{to_server}
-use Rattle.server_law.specs.Carried.{counted, posted}
-use Rattle.server_law.specs.Hints.{hint_rule}
-use Rattle.server_law.specs.Plan.{Plan}
-use Rattle.server_law.specs.State.{ServerModel}
+use Rattle.reserve_path.specs.Parked.{IsHere, IsOther, IsParked, entry_of}
+use Rattle.server_law.specs.State.{ServerModel, is_waiting}
 use Rattle.server_law.proofs.Expected.{server_rule_awaited}
 use Rattle.server_law.proofs.Tests.{expects_hint_says}
-use Rattle.server_core.specs.Inside.{parked_of, state_of}
-use Rattle.server_core.specs.Out.{HasRoom, made, planned, with_letter}
+use Rattle.server_core.specs.Inside.{parked_of}
+use Rattle.server_core.specs.Out.{made}
+use Rattle.server_core.specs.Waits.{heard, told_ask}
 use Rattle.server_core.proofs.Asking.{waits_by}
-use Rattle.server_core.proofs.Going.{room_less}
-use Rattle.server_core.proofs.Hearing.{hint_asks, hint_none, hint_room, hint_some, hint_waits, hint_wants}
-use Rattle.server_core.proofs.Sounds.{closes, hinted_stays, made_of, parked_is, same_pins, seen, with_parked}
+use Rattle.server_core.proofs.Going.{made_as, room_less}
+use Rattle.server_core.proofs.Hearing.{Heard, hears}
 use Rattle.server_core.proofs.states.ServerState.hear_hint.Goals as goal
+use Rattle.server_core.proofs.states.ServerState.hear_hint.Goals.{After-hear_of, Start}
 
-pub invariant_of-self : goal.invariant_of-self
-invariant_of-self c =
-    let i = c.self.inside in
-    let s = state_of i in
-    let sound = c.self.invariant.sound.parked in
-    let from = c.args.from in
-    let rank = c.args.rank in
-    let request = c.args.request in
-    let some = subst (λ t. IsSome (hint_rule t from rank request)) (sym c.self.view_is) c.requires.expected in
-    let there = (server_rule_awaited s from (tells.Hint rank request)).0 some in
-    let expected = (expects_hint_says s rank).1 there in
-    let within = subst (λ (t : ServerModel). from.0 < t.config.servers) (sym c.self.view_is) c.requires.server in
-    let differs = subst (λ (t : ServerModel). from ≢ t.me) (sym c.self.view_is) c.requires.other in
-    let other : IsOther s.config s.me from = (within, λ same. differs (ap (λ k. let r : Server = record { 0 = k } in r) same)) in
-    let m = i.parked in
-    let Other : ParkedModel → Type 0 = λ k. IsOther k.config k.me from in
-    let own : Other m = subst Other (sym (seen i c.self.invariant)) other in
-    closes i c.self.invariant c.hint.new.self (hinted m rank request from) i.queue i.queue c.hint.ensures.parked
-    (hinted_stays m (parked_is i c.self.invariant) rank request from own) refl (same_pins i.queue)
+-- the rank is at home here, and the sender is another server
+here : (c : Start) → IsHere c.args.self.now.config c.args.self.now.me c.args.rank × IsOther c.args.self.now.config c.args.self.now.me c.args.from
+here c = (
+  (server_rule_awaited c.args.self.now c.args.from (tells.Hint c.args.rank c.args.request)).0 c.requires.expected,
+  (c.requires.server, λ same. c.requires.other (ap (λ k. let r : Server = record { 0 = k } in r) same)),
+)
 
-pub invariant_of-self-in-None : goal.invariant_of-self-in-None
-invariant_of-self-in-None c =
-    let i = c.self.inside in
-    let s = state_of i in
-    let sound = c.self.invariant.sound.parked in
-    let from = c.args.from in
-    let rank = c.args.rank in
-    let request = c.args.request in
-    let some = subst (λ t. IsSome (hint_rule t from rank request)) (sym c.self.view_is) c.requires.expected in
-    let there = (server_rule_awaited s from (tells.Hint rank request)).0 some in
-    let expected = (expects_hint_says s rank).1 there in
-    let within = subst (λ (t : ServerModel). from.0 < t.config.servers) (sym c.self.view_is) c.requires.server in
-    let differs = subst (λ (t : ServerModel). from ≢ t.me) (sym c.self.view_is) c.requires.other in
-    let other : IsOther s.config s.me from = (within, λ same. differs (ap (λ k. let r : Server = record { 0 = k } in r) same)) in
-    let m = i.parked in
-    let Other : ParkedModel → Type 0 = λ k. IsOther k.config k.me from in
-    let own : Other m = subst Other (sym (seen i c.self.invariant)) other in
-    closes i c.self.invariant c.hint.new.self (hinted m rank request from) i.queue i.queue c.hint.ensures.parked
-    (hinted_stays m (parked_is i c.self.invariant) rank request from own) refl (same_pins i.queue)
+known : (c : Start) → IsParked (parked_of c.args.self.now) → Heard c.args.self.now c.args.out.now c.args.from c.args.rank c.args.request
+known c sound =
+    let s = c.args.self.now in
+    hears s c.args.out.now c.args.from sound (here c).1 c.args.rank c.args.request ((expects_hint_says s c.args.rank).1 (here c).0)
+
+pub hear_of-requires-clause-here : goal.hear_of-requires-clause-here
+hear_of-requires-clause-here c = (here (goal.at.hear_of-requires-clause-here c).Start).0
+
+pub hear_of-requires-clause-other : goal.hear_of-requires-clause-other
+hear_of-requires-clause-other c = (here (goal.at.hear_of-requires-clause-other c).Start).1
+
+pub ask-requires-clause-server : goal.ask-requires-clause-server
+ask-requires-clause-server c = subst (λ (u : ServerModel). c.args.from.0 < u.config.servers) (sym c.hear_of.ensures.made) c.requires.server
 
 pub ask-requires-clause-waits : goal.ask-requires-clause-waits
 ask-requires-clause-waits c =
-    let i = c.self.inside in
-    let s = state_of i in
-    let sound = c.self.invariant.sound.parked in
-    let from = c.args.from in
-    let rank = c.args.rank in
-    let request = c.args.request in
-    let some = subst (λ t. IsSome (hint_rule t from rank request)) (sym c.self.view_is) c.requires.expected in
-    let there = (server_rule_awaited s from (tells.Hint rank request)).0 some in
-    let expected = (expects_hint_says s rank).1 there in
-    let within = subst (λ (t : ServerModel). from.0 < t.config.servers) (sym c.self.view_is) c.requires.server in
-    let differs = subst (λ (t : ServerModel). from ≢ t.me) (sym c.self.view_is) c.requires.other in
-    let other : IsOther s.config s.me from = (within, λ same. differs (ap (λ k. let r : Server = record { 0 = k } in r) same)) in
-    let n = c.hint.new.self in
-    let left = made_of i c.self.invariant (λ m. hinted m rank request from) n c.hint.ensures.parked in
-    let told = sym c.in-Some.is ∙ c.hint.ensures.ask ∙ ap (λ m. if is_idle_since m rank request then Some from else None) (seen i c.self.invariant) in
-    let is = hint_some (is_idle_since (parked_of s) rank request) c.in-Some.to from told in
-    let wants = hint_wants s c.args.out.now from rank request sound other expected n.parked left is.0 in
-    waits_by (with_parked s i.queue n.parked) rank wants.0 wants.1
+    let v = heard c.args.self.now c.args.rank c.args.request c.args.from in
+    let all = known (goal.at.ask-requires-clause-waits c).Start c.hear_of.ensures.sound in
+    let e = all.asks (sym c.hear_of.ensures.idle ∙ c.if-hear_of.true) in
+    subst (λ (u : ServerModel). is_waiting u.kept c.args.rank ≡ true) (sym c.hear_of.ensures.made) (waits_by v c.args.rank e.0 e.1)
 
-pub returns-in-Some-clause-made : goal.returns-in-Some-clause-made
-returns-in-Some-clause-made c =
-    let i = c.self.inside in
-    let s = state_of i in
-    let sound = c.self.invariant.sound.parked in
-    let from = c.args.from in
-    let rank = c.args.rank in
-    let request = c.args.request in
-    let some = subst (λ t. IsSome (hint_rule t from rank request)) (sym c.self.view_is) c.requires.expected in
-    let there = (server_rule_awaited s from (tells.Hint rank request)).0 some in
-    let expected = (expects_hint_says s rank).1 there in
-    let within = subst (λ (t : ServerModel). from.0 < t.config.servers) (sym c.self.view_is) c.requires.server in
-    let differs = subst (λ (t : ServerModel). from ≢ t.me) (sym c.self.view_is) c.requires.other in
-    let other : IsOther s.config s.me from = (within, λ same. differs (ap (λ k. let r : Server = record { 0 = k } in r) same)) in
-    let n = c.hint.new.self in
-    let left = made_of i c.self.invariant (λ m. hinted m rank request from) n c.hint.ensures.parked in
-    let told = sym c.in-Some.is ∙ c.hint.ensures.ask ∙ ap (λ m. if is_idle_since m rank request then Some from else None) (seen i c.self.invariant) in
-    let is = hint_some (is_idle_since (parked_of s) rank request) c.in-Some.to from told in
-    let v = with_parked s i.queue n.parked in
-    let t = c.ask.new.self in
-    let last = c.ask.new.out in
-    let after = c.ask.ensures.counted ∙ ap (λ k. counted v (by.Server k)) is.1 in
-    let G : ServerModel → Type 0 = λ u. (q : Plan) → hint_rule u from rank request ≡ Some q → made t last ≡ planned c.args.out.now q u in
-    subst G c.self.view_is
-    (hint_asks s c.args.out.now from rank request sound other expected n.parked left is.0 t last after
-    (λ e found. c.ask.ensures.told e found
-    ∙ ap (λ k. with_letter c.args.out.now (posted v (to_server k (tells.Ask rank request e.wish.types)))) is.1))
+pub returns-then-hear_of-clause-made : goal.returns-then-hear_of-clause-made
+returns-then-hear_of-clause-made c q rule =
+    let all = known (goal.at.returns-then-hear_of-clause-made c).Start c.hear_of.ensures.sound in
+    let e = all.asks (sym c.hear_of.ensures.idle ∙ c.if-hear_of.true) in
+    made_as c.ask.ensures.counted (c.ask.ensures.told e.0 (ap (λ u. entry_of (parked_of u) c.args.rank) c.hear_of.ensures.made ∙ e.1))
+    ∙ ap (told_ask c.args.from c.args.rank c.args.request e.0.wish.types c.args.out.now) c.hear_of.ensures.made ∙ e.2 q rule
 
-pub returns-in-Some-clause-room : goal.returns-in-Some-clause-room
-returns-in-Some-clause-room c =
-    let i = c.self.inside in
-    let s = state_of i in
-    let sound = c.self.invariant.sound.parked in
-    let from = c.args.from in
-    let rank = c.args.rank in
-    let request = c.args.request in
-    let some = subst (λ t. IsSome (hint_rule t from rank request)) (sym c.self.view_is) c.requires.expected in
-    let there = (server_rule_awaited s from (tells.Hint rank request)).0 some in
-    let expected = (expects_hint_says s rank).1 there in
-    let within = subst (λ (t : ServerModel). from.0 < t.config.servers) (sym c.self.view_is) c.requires.server in
-    let differs = subst (λ (t : ServerModel). from ≢ t.me) (sym c.self.view_is) c.requires.other in
-    let other : IsOther s.config s.me from = (within, λ same. differs (ap (λ k. let r : Server = record { 0 = k } in r) same)) in
-    let n = c.hint.new.self in
-    let left = made_of i c.self.invariant (λ m. hinted m rank request from) n c.hint.ensures.parked in
-    let room = subst (λ u. HasRoom u c.args.out.now 3) (sym c.self.view_is) c.requires.room in
-    let more = hint_room s c.args.out.now from rank request sound other expected n.parked left room in
-    room_less c.ask.new.self c.ask.new.out 2 1 (omega arith) (c.ask.ensures.room 2 more)
+pub returns-then-hear_of-clause-room : goal.returns-then-hear_of-clause-room
+returns-then-hear_of-clause-room c =
+    room_less c.ask.new.self c.ask.new.out 2 1 (omega arith) (c.ask.ensures.room 2 (c.hear_of.ensures.room c.args.out.now 3 c.requires.room))
 
-pub returns-in-None-clause-made : goal.returns-in-None-clause-made
-returns-in-None-clause-made c =
-    let i = c.self.inside in
-    let s = state_of i in
-    let sound = c.self.invariant.sound.parked in
-    let from = c.args.from in
-    let rank = c.args.rank in
-    let request = c.args.request in
-    let some = subst (λ t. IsSome (hint_rule t from rank request)) (sym c.self.view_is) c.requires.expected in
-    let there = (server_rule_awaited s from (tells.Hint rank request)).0 some in
-    let expected = (expects_hint_says s rank).1 there in
-    let within = subst (λ (t : ServerModel). from.0 < t.config.servers) (sym c.self.view_is) c.requires.server in
-    let differs = subst (λ (t : ServerModel). from ≢ t.me) (sym c.self.view_is) c.requires.other in
-    let other : IsOther s.config s.me from = (within, λ same. differs (ap (λ k. let r : Server = record { 0 = k } in r) same)) in
-    let n = c.hint.new.self in
-    let left = made_of i c.self.invariant (λ m. hinted m rank request from) n c.hint.ensures.parked in
-    let told = sym c.in-None.is ∙ c.hint.ensures.ask ∙ ap (λ m. if is_idle_since m rank request then Some from else None) (seen i c.self.invariant) in
-    let busy = hint_none (is_idle_since (parked_of s) rank request) from told in
-    let v = with_parked s i.queue n.parked in
-    let G : ServerModel → Type 0 = λ u. (q : Plan) → hint_rule u from rank request ≡ Some q → made v c.args.out.now ≡ planned c.args.out.now q u in
-    subst G c.self.view_is (hint_waits s c.args.out.now from rank request sound other expected n.parked left busy)
+pub returns-else-hear_of-clause-made : goal.returns-else-hear_of-clause-made
+returns-else-hear_of-clause-made c q rule =
+    let all = known (goal.at.returns-else-hear_of-clause-made c).Start c.hear_of.ensures.sound in
+    ap (λ u. made u c.args.out.now) c.hear_of.ensures.made ∙ all.waits (sym c.hear_of.ensures.idle ∙ c.if-hear_of.false) q rule
 
-pub returns-in-None-clause-room : goal.returns-in-None-clause-room
-returns-in-None-clause-room c =
-    let i = c.self.inside in
-    let s = state_of i in
-    let sound = c.self.invariant.sound.parked in
-    let from = c.args.from in
-    let rank = c.args.rank in
-    let request = c.args.request in
-    let some = subst (λ t. IsSome (hint_rule t from rank request)) (sym c.self.view_is) c.requires.expected in
-    let there = (server_rule_awaited s from (tells.Hint rank request)).0 some in
-    let expected = (expects_hint_says s rank).1 there in
-    let within = subst (λ (t : ServerModel). from.0 < t.config.servers) (sym c.self.view_is) c.requires.server in
-    let differs = subst (λ (t : ServerModel). from ≢ t.me) (sym c.self.view_is) c.requires.other in
-    let other : IsOther s.config s.me from = (within, λ same. differs (ap (λ k. let r : Server = record { 0 = k } in r) same)) in
-    let n = c.hint.new.self in
-    let left = made_of i c.self.invariant (λ m. hinted m rank request from) n c.hint.ensures.parked in
-    let room = subst (λ u. HasRoom u c.args.out.now 3) (sym c.self.view_is) c.requires.room in
-    room_less (with_parked s i.queue n.parked) c.args.out.now 3 1 (omega arith) (hint_room s c.args.out.now from rank request sound other expected n.parked left room)
+pub returns-else-hear_of-clause-room : goal.returns-else-hear_of-clause-room
+returns-else-hear_of-clause-room c =
+    room_less c.hear_of.new.self c.args.out.now 3 1 (omega arith) (c.hear_of.ensures.room c.args.out.now 3 c.requires.room)

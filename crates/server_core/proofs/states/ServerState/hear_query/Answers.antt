@@ -1,4 +1,5 @@
-use Rattle.std.proofs.Common.{◌≡◌, Bool, Some, subst}
+use Rattle.std.proofs.Common.{◌≡◌, Bool, Some, refl, subst}
+use Rattle.work_queue.specs.Queue.{with_promise}
 use Rattle.put_path.specs.Pushes.{IsPromise}
 use Rattle.server_law.specs.Plan.{Plan}
 use Rattle.server_law.specs.Pushes.{query_rule}
@@ -6,7 +7,28 @@ use Rattle.server_law.specs.State.{ServerModel}
 use Rattle.server_core.specs.Inside.{state_of}
 use Rattle.server_core.specs.Out.{made, planned}
 use Rattle.server_core.proofs.Pushing.{promises_goes, refuses_goes}
+use Rattle.server_core.proofs.Sounds.{queue_inside, same_pins}
 use Rattle.server_core.proofs.states.ServerState.hear_query.Goals as goal
+
+pub invariant_of-self : goal.invariant_of-self
+invariant_of-self c =
+    let i = c.self.inside in
+    queue_inside i c.self.invariant c.push_query.new.queue i.queue c.in_err-push_query.ensures.memory (same_pins i.queue)
+
+pub invariant_of-self-then-branch : goal.invariant_of-self-then-branch
+invariant_of-self-then-branch c =
+    let i = c.self.inside in
+    let Is : Bool → Type 0 = λ yes. IsPromise i.queue c.args.id c.args.length yes c.push_query.new.queue in
+    let promised = subst Is c.if-branch.true c.in_ok-push_query.ensures.promise in
+    queue_inside i c.self.invariant c.push_query.new.queue (with_promise i.queue c.args.id c.args.length) promised.1
+    (record { arrivals = refl; common = refl })
+
+pub invariant_of-self-else-branch : goal.invariant_of-self-else-branch
+invariant_of-self-else-branch c =
+    let i = c.self.inside in
+    let Is : Bool → Type 0 = λ yes. IsPromise i.queue c.args.id c.args.length yes c.push_query.new.queue in
+    let full = subst Is c.if-branch.false c.in_ok-push_query.ensures.promise in
+    queue_inside i c.self.invariant c.push_query.new.queue i.queue full.1 (same_pins i.queue)
 
 pub returns-then-branch-clause-ok : goal.returns-then-branch-clause-ok
 returns-then-branch-clause-ok c =

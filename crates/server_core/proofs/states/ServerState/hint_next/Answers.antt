@@ -10,7 +10,8 @@ use Rattle.server_law.specs.State.{ServerModel}
 use Rattle.server_core.specs.Inside.{state_of}
 use Rattle.server_core.specs.Out.{HasRoom, going_on, with_letter}
 use Rattle.server_core.proofs.Hinting.{fewer_wishes, hint_goes, hint_room, no_more}
-use Rattle.server_core.proofs.Sounds.{closes, forgotten_if_stays, made_of, parked_is, same_pins, with_parked}
+use Rattle.server_core.specs.Waits.{with_parked}
+use Rattle.server_core.proofs.Sounds.{closes, forgotten_if_stays, made_of, parked_is, same_pins}
 use Rattle.server_core.proofs.states.ServerState.hint_next.Goals as goal
 
 pub invariant_of-self : goal.invariant_of-self

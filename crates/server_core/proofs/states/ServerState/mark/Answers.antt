@@ -1,5 +1,6 @@
-use Rattle.std.proofs.Common.{◌≡◌, ◌+◌, [], ◌∷◌, length, map, sym, ap, ◌∙◌, subst, arith}
+use Rattle.std.proofs.Common.{◌≡◌, ◌≤◌, ◌+◌, [], ◌∷◌, length, map, take, sym, ap, ◌∙◌, subst, arith}
 use Rattle.std.proofs.lemmas.List.{length-map}
+use Rattle.exhaust_ring.specs.Ring.{RingModel}
 use Rattle.exhaust_ring.specs.Visits.{visited1}
 use Rattle.reserve_path.specs.Calls.{wants}
 use Rattle.reserve_path.proofs.Places.{nobody}
@@ -10,8 +11,9 @@ use Rattle.server_core.specs.Checks.{step_letters, with_check}
 use Rattle.server_core.specs.Inside.{parked_of, state_of}
 use Rattle.server_core.specs.Out.{HasRoom, going_on, made}
 use Rattle.server_core.proofs.Askers.{askers_parked, in_front, ring_seen}
-use Rattle.server_core.proofs.Checking.{marks_go, step_room}
+use Rattle.server_core.proofs.Checking.{marked_check, marks_go, step_room}
 use Rattle.server_core.proofs.Going.{room_less}
+use Rattle.server_core.proofs.Sounds.{ring_inside}
 use Rattle.server_core.proofs.states.ServerState.mark.Goals as goal
 
 pub shared_whole_as_front-visit1 : goal.shared_whole_as_front-visit1
@@ -27,6 +29,14 @@ visit1-step-requires-clause-parked c =
     let many : c.asked-count.result ≡ length (map wants waiting) = c.asked-count.ensures.count ∙ sym (length-map waiting wants) in
     let front = in_front (map wants waiting) _ c.asked-count.new.room c.asked-count.result many c.asked-count.ensures.room in
     askers_parked i c.self.invariant _ front
+
+pub invariant_of-self : goal.invariant_of-self
+invariant_of-self c =
+    let i = c.self.inside in
+    let asked = take c.asked-count.result c.asked-count.new.room in
+    let same = ap (λ (m : RingModel). m.ring.check) c.visit1-step.ensures.ring
+    ∙ marked_check i.ring c.args.token c.is_quiet-quiet.result i.activity asked in
+    ring_inside i c.self.invariant c.visit1-step.new.self c.visit1-step.ensures.own (subst (λ k. k ≤ i.clock) (sym same) c.self.invariant.sound.check)
 
 pub tell_step-requires : goal.tell_step-requires
 tell_step-requires c =

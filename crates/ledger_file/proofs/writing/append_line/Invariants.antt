@@ -1,8 +1,0 @@
-use Rattle.std.proofs.Common.{◌≡◌, ◌++◌, ◌∷◌, take}
-use Rattle.std.specs.List.{flat_map}
-use Rattle.ledger_file.specs.Fields.{word}
-use Rattle.ledger_file.specs.Inside.Given.{field_of}
-use Rattle.ledger_file.proofs.writing.append_line.Given as goal
-
-abbrev pub invariant-loop-field : goal.invariant-loop-field
-invariant-loop-field l = l.bytes.items ≡ l.initial.bytes.items ++ flat_map (λ f. 32 ∷ word (field_of f)) (take l.field-index l.fields)
