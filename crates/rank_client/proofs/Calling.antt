@@ -1,42 +1,35 @@
--- The rule of a call for which the rank is ready.
-use Rattle.std.proofs.Common.{◌≡◌, ◌^◌, ℕ, List, length, Option, Some, None, Result, Ok, Err, Bool, true, false, ◌&&◌, ℤ, ap, refl, ◌∙◌}
-use Rattle.std.specs.Prelude.{if◌then◌else◌, IfOk, IsSome, nat_le}
+-- A call that was opened.
+use Rattle.std.proofs.Common.{◌≡◌, false, refl, Option, Some, Result, Ok, Err, ap, ◌∙◌}
+use Rattle.std.specs.Prelude.{IfOk, OnErr}
 use Rattle.std.specs.Option.{option_map}
-use Rattle.adlb_unit.specs.Targets.{in_ranks}
 use Rattle.adlb_unit.specs.declared.names.NoMemory.{NoMemory}
-use Rattle.adlb_unit.specs.declared.names.Rank.{Rank}
-use Rattle.adlb_unit.specs.declared.names.Target.{Target}
-use Rattle.adlb_unit.specs.declared.names.WorkType.{WorkType}
-use Rattle.adlb_unit.specs.declared.units.Unit.{Unit}
 use Rattle.bag_ledger.specs.declared.entries.Call.{Call}
 use Rattle.bag_ledger.specs.declared.entries.Call.TheVariants as calls_to
+use Rattle.rank_client.specs.Calls.{is_finish}
 use Rattle.rank_client.specs.declared.steps.ClientStep.{ClientStep}
 use Rattle.rank_client.specs.Inside.{gives}
-use Rattle.rank_client.specs.Rules.{open_call, put, unit_of, unit_put}
+use Rattle.rank_client.specs.Rules.{ClientResponse}
 use Rattle.rank_client.specs.State.{ClientModel}
 use Rattle.rank_client.specs.Step.{made}
-use Rattle.rank_client.proofs.Entries.{some_is}
 
--- a put for which the rank is ready is the put of its unit
-put_ready : (s : ClientModel) (kind : WorkType) (prio : ℤ) (target : Target) (answer : Option Rank) (body : List ℕ) → IsSome (open_call s (calls_to.Put kind prio target answer body))
-    → open_call s (calls_to.Put kind prio target answer body) ≡ Some (put s (unit_put s kind prio target answer body) s.end)
-put_ready s kind prio target answer body ready = by_test (nat_le (length body) (2 ^ 20) && in_ranks s.config target) ready
-  where
-    by_test : (t : Bool) → IsSome (if t then Some (put s (unit_put s kind prio target answer body) s.end) else None) → (if t then Some (put s (unit_put s kind prio target answer body) s.end) else None) ≡ Some (put s (unit_put s kind prio target answer body) s.end)
-    by_test true some = refl
-    by_test false some = absurd (cc)
+-- by its rule
+pub opens_call : (r : Result ClientStep NoMemory) (now : ClientModel) (o : Option ClientResponse) (z : ClientResponse) → o ≡ Some z
+    → IfOk r (λ x. made z ≡ gives now x) → IfOk r (λ x. option_map made o ≡ Some (gives now x))
+opens_call (Err e) now o z is gave = gave
+opens_call (Ok x) now o z is gave = ap (option_map made) is ∙ ap Some gave
 
-pub put_gives : (s now : ClientModel) (call : Call) (unit : Unit) (r : Result ClientStep NoMemory) → unit_of s call ≡ Some unit → IsSome (open_call s call)
-    → IfOk r (λ x. made (put s unit s.end) ≡ gives now x) → IfOk r (λ x. option_map made (open_call s call) ≡ Some (gives now x))
-put_gives s now call unit (Err e) is ready gave = gave
-put_gives s now (calls_to.Put kind prio target answer body) unit (Ok x) is ready gave =
-    let named : unit_put s kind prio target answer body ≡ unit = some_is is in
-    ap (λ o. option_map made o) (put_ready s kind prio target answer body ready) ∙ ap Some (ap (λ (u : Unit). made (put s u s.end)) named ∙ gave)
-put_gives s now (calls_to.Reserve types) unit (Ok x) is ready gave = absurd (cc)
-put_gives s now (calls_to.Try types) unit (Ok x) is ready gave = absurd (cc)
-put_gives s now (calls_to.Fetch id) unit (Ok x) is ready gave = absurd (cc)
-put_gives s now (calls_to.BeginBatch common) unit (Ok x) is ready gave = absurd (cc)
-put_gives s now calls_to.EndBatch unit (Ok x) is ready gave = absurd (cc)
-put_gives s now calls_to.SetDone unit (Ok x) is ready gave = absurd (cc)
-put_gives s now (calls_to.Count kind) unit (Ok x) is ready gave = absurd (cc)
-put_gives s now calls_to.Finish unit (Ok x) is ready gave = absurd (cc)
+pub on_err : {T E P : Type 0} (r : Result T E) → P → OnErr r P
+on_err (Ok x) p = tt
+on_err (Err e) p = p
+
+-- a call that is not Finish
+pub other_call : (call : Call) → (call ≡ calls_to.Finish → ⊥) → is_finish call ≡ false
+other_call calls_to.Finish other = absurd (other refl)
+other_call (calls_to.Put kind prio target answer body) other = refl
+other_call (calls_to.Reserve types) other = refl
+other_call (calls_to.Try types) other = refl
+other_call (calls_to.Fetch id) other = refl
+other_call (calls_to.BeginBatch common) other = refl
+other_call calls_to.EndBatch other = refl
+other_call (calls_to.Count kind) other = refl
+other_call calls_to.SetDone other = refl

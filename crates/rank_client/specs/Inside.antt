@@ -1,19 +1,31 @@
 -- The fields of a client.
-use Rattle.std.specs.Prelude.{◌≡◌, ℕ, ◌+◌, ◌<◌, ◌≤◌, List, [], length, Bool, true, false, All, IfSome, Option, None}
+use Rattle.std.specs.Prelude.{◌≡◌, ℕ, ◌+◌, ◌<◌, ◌≤◌, List, [], ◌∷◌, ◌++◌, length, filter, not, All, IfSome, IsSome, Option, None, Some, false}
+use Rattle.adlb_unit.specs.Ids.{same_unit}
 use Rattle.adlb_unit.specs.Totals.{common_length}
+use Rattle.adlb_unit.specs.declared.names.UnitId.{UnitId}
+use Rattle.bag_ledger.specs.declared.entries.Entry.{Entry}
 use Rattle.adlb_unit.specs.declared.names.CommonRef.{CommonRef}
 use Rattle.adlb_unit.specs.declared.notes.UnitNote.{UnitNote}
 use Rattle.std.specs.Vec.{vec_len, vec_capacity}
 use Rattle.adlb_unit.specs.Limits.{body_limit, stamp_limit}
 use Rattle.adlb_unit.specs.declared.configs.Config.{Config}
+use Rattle.adlb_unit.specs.declared.messages.Message.{Message}
 use Rattle.adlb_unit.specs.declared.names.Server.{Server}
-use Rattle.adlb_unit.specs.declared.names.WorkType.{WorkType}
-use Rattle.adlb_unit.specs.declared.units.Unit.{Unit}
+use Rattle.adlb_unit.specs.declared.notes.End.{End}
 use Rattle.rank_client.specs.declared.clients.ClientCore.TheInside.{Inside}
+use Rattle.rank_client.specs.declared.openings.First.{First}
+use Rattle.rank_client.specs.declared.openings.First.TheVariants as begins_by
+use Rattle.rank_client.specs.declared.openings.Opening.{Opening}
+use Rattle.rank_client.specs.declared.outcomes.Change.{Change}
+use Rattle.rank_client.specs.declared.outcomes.Change.TheVariants as changes
+use Rattle.rank_client.specs.declared.outcomes.Outcome.{Outcome}
+use Rattle.rank_client.specs.declared.outcomes.Outcome.TheVariants as comes_to
+use Rattle.rank_client.specs.declared.outcomes.Place.{Place}
 use Rattle.rank_client.specs.declared.pendings.Pending.{Pending}
 use Rattle.rank_client.specs.declared.pendings.Pending.TheVariants as waits_for
 use Rattle.rank_client.specs.declared.rooms.Room.{Room}
 use Rattle.rank_client.specs.declared.steps.ClientStep.{ClientStep}
+use Rattle.rank_client.specs.Rules.{ClientResponse, answer_call, answered, asks, over}
 use Rattle.rank_client.specs.State.{ClientModel}
 use Rattle.rank_client.specs.Step.{Made}
 
@@ -62,28 +74,27 @@ awaited waits_for.Nothing = 1
 awaited _ = 2
 
 -- room for what the rest of the pending call may send, enter and keep
-abbrev pub HasRoom : Config → ℕ → ℕ → Room → Pending → Type 0
-HasRoom config notes space room waits_for.Nothing = Prim.Unit {0}
-HasRoom config notes space room (waits_for.Put unit first tried) =
+abbrev pub HasRoom : Config → Room → Pending → Type 0
+HasRoom config room waits_for.Nothing = Prim.Unit {0}
+HasRoom config room (waits_for.Put unit first tried) =
     (vec_len room.tries + tried + 1 ≡ config.servers) × All (λ body. body ≡ unit.body) room.tries.items × (first.0 < config.servers)
     × (1 ≤ vec_capacity room.entries) × (room.entries.items ≡ [])
-HasRoom config notes space room (waits_for.Reserve request types) = notes < space
-HasRoom config notes space room (waits_for.Try request types tried) =
-    (notes < space) × (vec_len room.tries + tried + 1 ≡ config.servers) × (1 ≤ vec_capacity room.entries)
-    × (room.entries.items ≡ [])
-HasRoom config notes space room (waits_for.Fetch request note) =
+HasRoom config room (waits_for.Reserve request types) = Prim.Unit {0}
+HasRoom config room (waits_for.Try request types tried) =
+    (vec_len room.tries + tried + 1 ≡ config.servers) × (1 ≤ vec_capacity room.entries) × (room.entries.items ≡ [])
+HasRoom config room (waits_for.Fetch request note) =
     (note.length ≤ vec_capacity room.own) × (room.own.items ≡ [])
     × (common_length note.common ≤ vec_capacity room.common) × (room.common.items ≡ [])
     × (1 ≤ vec_capacity room.sends) × (room.sends.items ≡ []) × IsPlaced config note
-HasRoom config notes space room (waits_for.Common request note common own) =
+HasRoom config room (waits_for.Common request note common own) =
     (length own ≤ vec_capacity room.own) × (room.own.items ≡ [])
     × (common.length ≤ vec_capacity room.common) × (room.common.items ≡ [])
-HasRoom config notes space room (waits_for.Keep request common first tried) =
+HasRoom config room (waits_for.Keep request common first tried) =
     (vec_len room.tries + tried + 1 ≡ config.servers) × All (λ body. body ≡ common) room.tries.items × (first.0 < config.servers)
     × (1 ≤ vec_capacity room.entries) × (room.entries.items ≡ []) × (length common ≤ body_limit)
-HasRoom config notes space room (waits_for.Close request batch) = Prim.Unit {0}
-HasRoom config notes space room (waits_for.Count request kind) = Prim.Unit {0}
-HasRoom config notes space room (waits_for.SetDone request tried) = vec_len room.tries + tried + 1 ≡ config.servers
+HasRoom config room (waits_for.Close request batch) = Prim.Unit {0}
+HasRoom config room (waits_for.Count request kind) = Prim.Unit {0}
+HasRoom config room (waits_for.SetDone request tried) = vec_len room.tries + tried + 1 ≡ config.servers
 
 -- room for the calls to come in the transcript, each of which names two units at most, and for the letters and the entry of Finish
 pub record CanFinish (i : Inside) : Type 0 where
@@ -94,9 +105,11 @@ pub record CanFinish (i : Inside) : Type 0 where
   pub unsent : i.farewell.sends.items ≡ []
   pub unmade : i.farewell.entries.items ≡ []
 
+-- while a call is pending there is room for the note of one more unit
 pub record IsInside (i : Inside) : Type 0 where
   pub sound : IsSound (state_of i)
-  pub room : HasRoom i.config (vec_len i.handles) (vec_capacity i.handles) i.room i.pending
+  pub room : HasRoom i.config i.room i.pending
+  pub space : vec_len i.handles + awaited i.pending ≤ vec_capacity i.handles + 1
   pub finish : i.finished ≡ false → CanFinish i
 
 -- in an event in which no call has begun or ended, and no letter was sent
@@ -107,80 +120,80 @@ pub record IsFresh (s : ClientModel) : Type 0 where
   pub accepted : s.accepted < s.clock
   pub said : length s.transcript < s.clock
 
--- a put that is pending
-pub record Put : Type 0 where
-  pub unit : Unit
-  pub first : Server
-  pub tried : ℕ
+-- What a letter makes of the pending call.
 
-abbrev pub put_of : Put → Pending
-put_of p = waits_for.Put p.unit p.first p.tried
+-- what its answer changes
+abbrev pub batch_after : Option CommonRef → Change → Option CommonRef
+batch_after batch (changes.Begun part) = Some part
+batch_after batch changes.Closed = None
+batch_after batch _ = batch
 
--- which call is pending
-abbrev pub is_put : Pending → Bool
-is_put (waits_for.Put unit first tried) = true
-is_put _ = false
+abbrev pub accepted_after : ℕ → Change → ℕ
+accepted_after accepted changes.Accepted = accepted + 1
+accepted_after accepted (changes.Begun part) = 0
+accepted_after accepted _ = accepted
 
-abbrev pub is_reserve : Pending → Bool
-is_reserve (waits_for.Reserve request types) = true
-is_reserve _ = false
+abbrev pub end_after : Option End → Change → Option End
+end_after end (changes.Ended told) = Some told
+end_after end _ = end
 
--- a try that is pending
-pub record Look : Type 0 where
-  pub request : ℕ
-  pub types : Option (List WorkType)
-  pub tried : ℕ
+abbrev pub handles_after : List UnitNote → Change → List UnitNote
+handles_after handles (changes.Granted note) = handles ++ note ∷ []
+handles_after handles _ = handles
 
-abbrev pub look_of : Look → Pending
-look_of p = waits_for.Try p.request p.types p.tried
+abbrev pub changed : ClientModel → Change → ClientModel
+changed s change = record s {
+  batch = batch_after s.batch change;
+  accepted = accepted_after s.accepted change;
+  end = end_after s.end change;
+  handles = handles_after s.handles change;
+}
 
-abbrev pub is_try : Pending → Bool
-is_try (waits_for.Try request types tried) = true
-is_try _ = false
+-- the response that it is, if it is one
+abbrev pub response_of : ClientModel → Outcome → Option ClientResponse
+response_of s (comes_to.Ends change entries said answer) =
+    Some (record { state = answered (changed s change) said.call said.answer; says = []; entries = entries.items; answer = Some answer })
+response_of s (comes_to.Waits pending to message sends) =
+    Some (record { state = record s { pending = pending }; says = record { to = to; message = message } ∷ []; entries = []; answer = None })
+response_of s comes_to.Strange = None
 
-abbrev pub is_fetch : Pending → Bool
-is_fetch (waits_for.Fetch request note) = true
-is_fetch _ = false
+-- it names servers of the run, and has the room that it needs
+abbrev pub IsFit : Config → Change → Type 0
+IsFit config (changes.Granted note) = IsPlaced config note
+IsFit config (changes.Begun part) = part.server.0 < config.servers
+IsFit config _ = Prim.Unit {0}
 
--- the common part of the unit that is asked for, if it has one
-abbrev pub common_of : Pending → Option CommonRef
-common_of (waits_for.Fetch request note) = note.common
-common_of _ = None
+abbrev pub Fits : Config → Room → Outcome → Type 0
+Fits config room (comes_to.Ends change entries said answer) = IsFit config change
+Fits config room (comes_to.Waits pending to message sends) =
+    HasRoom config room pending × (to.0 < config.servers) × (1 ≤ vec_capacity sends) × (sends.items ≡ [])
+Fits config room comes_to.Strange = Prim.Unit {0}
 
-abbrev pub is_common : Pending → Bool
-is_common (waits_for.Common request note common own) = true
-is_common _ = false
+-- a client at this place, of which the call is pending and which awaits the letter, hears it so
+abbrev pub Hears : Place → Pending → Message → Room → Outcome → Type 0
+Hears place pending message room outcome =
+    (s : ClientModel) (from : Server) → s.config ≡ place.config → s.me ≡ place.me → IsSome (answer_call s pending from message)
+    → (answer_call s pending from message ≡ response_of s outcome) × Fits place.config room outcome
 
-abbrev pub is_close : Pending → Bool
-is_close (waits_for.Close request batch) = true
-is_close _ = false
+-- What begins a call.
 
-abbrev pub is_count : Pending → Bool
-is_count (waits_for.Count request kind) = true
-is_count _ = false
+-- the notes that are held, but for this one
+abbrev pub unspent : Option UnitId → List UnitNote → List UnitNote
+unspent None handles = handles
+unspent (Some id) handles = filter (λ n. not (same_unit n.id id)) handles
 
--- that the problem is done, which is pending
-pub record SetDone : Type 0 where
-  pub request : ℕ
-  pub tried : ℕ
+-- the response that it is
+abbrev pub response_to : ClientModel → Entry → First → ClientResponse
+response_to s entry (begins_by.Asks to message pending room) = asks s entry to message pending
+response_to s entry (begins_by.Over call end) = over s entry call end
 
-abbrev pub set_done_of : SetDone → Pending
-set_done_of p = waits_for.SetDone p.request p.tried
+abbrev pub opened : ClientModel → Opening → ClientResponse
+opened s opening = response_to (record s { puts = opening.puts; handles = unspent opening.spent s.handles }) opening.entry opening.first
 
-abbrev pub is_set_done : Pending → Bool
-is_set_done (waits_for.SetDone request tried) = true
-is_set_done _ = false
+-- it counts one put at most, names a server of the run, and has the room that it needs
+abbrev pub HasFirst : Config → First → Type 0
+HasFirst config (begins_by.Asks to message pending room) = (to.0 < config.servers) × HasRoom config room pending
+HasFirst config (begins_by.Over call end) = Prim.Unit {0}
 
--- a batch's beginning that is pending
-pub record Keep : Type 0 where
-  pub request : ℕ
-  pub common : List ℕ
-  pub first : Server
-  pub tried : ℕ
-
-abbrev pub keep_of : Keep → Pending
-keep_of p = waits_for.Keep p.request p.common p.first p.tried
-
-abbrev pub is_keep : Pending → Bool
-is_keep (waits_for.Keep request common first tried) = true
-is_keep _ = false
+abbrev pub Opens : ClientModel → Opening → Type 0
+Opens s opening = (opening.puts ≤ s.puts + 1) × HasFirst s.config opening.first

@@ -1,262 +1,236 @@
 //! What a client does to begin a batch and to end it.
 
-ghost use Rattle.std.specs.Prelude.{◌≡◌, ◌<◌, ◌≤◌, ◌+◌, ◌^◌, [], true, false, length, nat_lt, Some, IsSome, IfOk, OnErr};
-ghost use Rattle.std.specs.Option.{option_map};
-ghost use Rattle.rank_client.specs.Inside.{IsFresh, Keep, gives, is_close, is_keep, keep_of};
-ghost use Rattle.rank_client.specs.Rules.{answer_call, asked, begun_batch, closing, ends, is_free, keep, part_refused};
-ghost use Rattle.rank_client.specs.Step.{made};
+ghost use Rattle.std.specs.Prelude.{◌≡◌, ◌<◌, ◌≤◌, ◌+◌, ◌^◌, [], length, nat_lt, Some, IfOk};
+ghost use Rattle.adlb_unit.specs.Limits.{body_limit, stamp_limit};
+ghost use Rattle.adlb_unit.specs.declared.messages.Message.{Message};
+ghost use Rattle.adlb_unit.specs.declared.names.Target.{Target};
+ghost use Rattle.bag_ledger.specs.declared.entries.Answer.{Answer};
+ghost use Rattle.bag_ledger.specs.declared.entries.Call.{Call};
+ghost use Rattle.bag_ledger.specs.declared.entries.Entry.{Entry};
+ghost use Rattle.rank_client.specs.Inside.{Fits, HasFirst, HasRoom, Hears, Opens, opened, response_of, response_to};
+ghost use Rattle.rank_client.specs.Rules.{asked, asks, begun_batch, closing, ends, first_server, keep, part_refused};
+ghost use Rattle.rank_client.specs.State.{ClientModel};
+ghost use Rattle.rank_client.specs.declared.pendings.Pending.{Pending};
+ghost use Rattle.rank_client.specs.declared.rooms.Room.{Room};
 
-use crate::clients::{ClientCore, behind, write};
+use crate::clients::{ClientCore, behind};
+use crate::openings::{First, Opening};
+use crate::outcomes::{Change, Outcome, Place};
 use crate::pendings::Pending;
 use crate::rooms::{Offer, Room};
-use crate::steps::ClientStep;
-use adlb_unit::{BatchId, CommonRef, End, Message, NoMemory, Payload, Server, Target};
+use adlb_unit::{BatchId, CommonRef, Message, NoMemory, Payload, Server, Target};
 use bag_ledger::{Answer, Call, Entry, Said};
-use std::mem;
 
 impl ClientCore {
     // Begins a batch: its common part is offered to the first server.
-    pub(crate) fn keep(&mut self, common: Payload) -> Result<ClientStep, NoMemory>
-        requires free { is_free self.old ≡ true }
-        requires fresh { IsFresh self.old }
+    pub(crate) fn keep(&self, common: Payload) -> Result<Opening, NoMemory>
+        requires few { self.now.puts < stamp_limit }
         requires common { length common ≤ 2 ^ 20 }
-        ensures ok { IfOk result (λ x. made (keep self.old common self.old.end) ≡ gives self.new x) }
-        ensures stamp { IfOk result (λ x. x.stamp ≡ self.new.clock) }
-        ensures err { OnErr result (self.new ≡ self.old) }
+        ensures ok { IfOk result (λ o. opened self.now o ≡ keep self.now common self.now.end) }
+        ensures opens { IfOk result (λ o. Opens self.now o) }
     {
-        let request = self.next;
         let common = common.share(self.alloc)?;
         let entry = Entry::Keeping {
             rank: self.me,
-            call: request,
+            call: self.next,
             common: common.twin(self.alloc)?,
         };
-        let step = match self.end {
-            Some(end) => self.over(entry, Call::BeginBatch { common }, end)?,
-            None => {
-                let first = self.first_server(Target::Any);
-                let message = Message::KeepCommon {
-                    request,
-                    common: common.twin(self.alloc)?,
-                };
-                let room = self.offer_room(&common)?;
-                let pending = Pending::Keep {
-                    request,
-                    common,
-                    first,
-                    tried: 0,
-                };
-                self.ask(entry, first, message, pending, room)?
-            }
+        let first = match self.end {
+            Some(end) => First::Over {
+                call: Call::BeginBatch { common },
+                end,
+            },
+            None => self.offer_common(common)?,
         };
-        self.puts += 1;
-        Ok(step)
+        Ok(Opening {
+            puts: self.puts + 1,
+            spent: None,
+            entry,
+            first,
+        })
+    }
+
+    // Offers the common part to the first server.
+    fn offer_common(&self, common: Payload) -> Result<First, NoMemory>
+        requires few { self.now.puts < stamp_limit }
+        requires common { length common ≤ 2 ^ 20 }
+        ensures ok { IfOk result (λ first. (s : ClientModel) (entry : Entry) → response_to s entry first
+            ≡ asks s entry (first_server self.now Target.Any) (Message.KeepCommon self.now.next common)
+            (Pending.Keep self.now.next common (first_server self.now Target.Any) 0)) }
+        ensures has { IfOk result (λ first. HasFirst self.now.config first) }
+    {
+        let request = self.next;
+        let room = self.offer_room(&common)?;
+        let message = Message::KeepCommon {
+            request,
+            common: common.twin(self.alloc)?,
+        };
+        let first = self.first_server(Target::Any);
+        Ok(First::Asks {
+            to: first,
+            message,
+            pending: Pending::Keep {
+                request,
+                common,
+                first,
+                tried: 0,
+            },
+            room,
+        })
     }
 
     // Ends the batch: the server of its common part is told how many of its units were accepted.
-    pub(crate) fn close(&mut self, batch: CommonRef) -> Result<ClientStep, NoMemory>
-        requires free { is_free self.old ≡ true }
-        requires fresh { IsFresh self.old }
-        requires batch { self.old.batch ≡ Some batch }
-        ensures ok { IfOk result (λ x. made (closing self.old batch) ≡ gives self.new x) }
-        ensures stamp { IfOk result (λ x. x.stamp ≡ self.new.clock) }
-        ensures err { OnErr result (self.new ≡ self.old) }
+    pub(crate) fn close(&self, batch: CommonRef) -> Opening
+        requires batch { self.now.batch ≡ Some batch }
+        ensures ok { opened self.now result ≡ closing self.now batch }
+        ensures opens { Opens self.now result }
     {
         let request = self.next;
-        let entry = Entry::Closing {
-            rank: self.me,
-            call: request,
-        };
-        let message = Message::CloseBatch {
-            request,
-            batch: batch.batch,
-            accepted: self.accepted,
-        };
-        let room = Room::none(self.alloc);
-        self.ask(
-            entry,
-            batch.server,
-            message,
-            Pending::Close { request, batch },
-            room,
-        )
-    }
-}
-
-// The beginning of a batch is answered.
-impl ClientCore {
-    pub(crate) fn hear_keep(&mut self, from: Server, message: Message) -> ClientStep
-        requires pending { is_keep self.old.pending ≡ true }
-        requires going { self.old.finished ≡ false }
-        requires fresh { IsFresh self.old }
-        requires expected { IsSome (answer_call self.old self.old.pending from message) }
-        ensures ok { option_map made (answer_call self.old self.old.pending from message) ≡ Some (gives self.new result) }
-        ensures stamp { result.stamp ≡ self.new.clock }
-    {
-        match message {
-            Message::Accepted { .. } => self.part_accepted(),
-            Message::Ended { end, .. } => self.part_ended(end),
-            Message::Full { .. } if self.has_next_for_part() => self.offer_part(),
-            Message::Full { .. } => self.reject_part(),
-            _ => unreachable!(),
-        }
-    }
-
-    // A server keeps the common part, and the batch goes on.
-    fn part_accepted(&mut self) -> ClientStep
-        requires pending { is_keep self.old.pending ≡ true }
-        requires going { self.old.finished ≡ false }
-        requires fresh { IsFresh self.old }
-        ensures ok { (p : Keep) → self.old.pending ≡ keep_of p →
-            made (ends (record self.old { batch = Some (begun_batch self.old p.request p.common (asked self.old p.first p.tried)); accepted = 0 })
-            [] (Call.BeginBatch p.common) Answer.Fine) ≡ gives self.new result }
-        ensures stamp { result.stamp ≡ self.new.clock }
-    {
-        let Pending::Keep {
-            request,
-            common,
-            first,
-            tried,
-        } = mem::replace(&mut self.pending, Pending::Nothing)
-        else {
-            unreachable!()
-        };
-        self.batch = Some(CommonRef {
-            batch: BatchId {
+        Opening {
+            puts: self.puts,
+            spent: None,
+            entry: Entry::Closing {
                 rank: self.me,
-                number: request,
+                call: request,
             },
-            server: behind(&self.config, first, tried as u64),
-            length: common.len() as u32,
-        });
-        self.accepted = 0;
-        let call = Call::BeginBatch { common };
-        let answer = Answer::Fine;
-        self.said.push_reserved(Said { call, answer });
-        self.ended(Vec::new(self.alloc), Answer::Fine)
-    }
-
-    // An end is told.
-    fn part_ended(&mut self, end: End) -> ClientStep
-        requires pending { is_keep self.old.pending ≡ true }
-        requires going { self.old.finished ≡ false }
-        requires fresh { IsFresh self.old }
-        ensures ok { (p : Keep) → self.old.pending ≡ keep_of p →
-            made (ends (record self.old { end = Some end }) [] (Call.BeginBatch p.common) (Answer.Ended end)) ≡ gives self.new result }
-        ensures stamp { result.stamp ≡ self.new.clock }
-    {
-        let Pending::Keep { common, .. } = mem::replace(&mut self.pending, Pending::Nothing) else {
-            unreachable!()
-        };
-        let call = Call::BeginBatch { common };
-        let answer = Answer::Ended(end);
-        self.end = Some(end);
-        self.said.push_reserved(Said { call, answer });
-        self.ended(Vec::new(self.alloc), Answer::Ended(end))
-    }
-
-    // Behind the servers that were asked there is one more.
-    fn has_next_for_part(&self) -> bool
-        requires pending { is_keep self.now.pending ≡ true }
-        ensures { (p : Keep) → self.now.pending ≡ keep_of p → result ≡ nat_lt (p.tried + 1) self.now.config.servers }
-    {
-        match &self.pending {
-            Pending::Keep { tried, .. } => *tried + 1 < self.config.servers,
-            _ => unreachable!(),
+            first: First::Asks {
+                to: batch.server,
+                message: Message::CloseBatch {
+                    request,
+                    batch: batch.batch,
+                    accepted: self.accepted,
+                },
+                pending: Pending::Close { request, batch },
+                room: Room::none(self.alloc),
+            },
         }
-    }
-
-    // A server is full, and the common part is offered to the next one.
-    fn offer_part(&mut self) -> ClientStep
-        requires pending { is_keep self.old.pending ≡ true }
-        requires going { self.old.finished ≡ false }
-        requires fresh { IsFresh self.old }
-        requires more { (p : Keep) → self.old.pending ≡ keep_of p → p.tried + 1 < self.old.config.servers }
-        ensures ok { (p : Keep) → self.old.pending ≡ keep_of p →
-            made (part_refused self.old p.request p.common p.first p.tried true) ≡ gives self.new result }
-        ensures stamp { result.stamp ≡ self.new.clock }
-    {
-        let Pending::Keep {
-            request,
-            common,
-            first,
-            tried,
-        } = mem::replace(&mut self.pending, Pending::Nothing)
-        else {
-            unreachable!()
-        };
-        let Some(offer) = self.room.tries.pop() else {
-            unreachable!()
-        };
-        let Offer { body, mut sends } = offer;
-        let to = behind(&self.config, first, tried as u64 + 1);
-        let message = Message::KeepCommon {
-            request,
-            common: body,
-        };
-        sends.push_reserved(write(&mut self.sent, self.clock, to, message));
-        let tried = tried + 1;
-        self.pending = Pending::Keep {
-            request,
-            common,
-            first,
-            tried,
-        };
-        ClientStep {
-            stamp: self.clock,
-            sends,
-            entries: Vec::new(self.alloc),
-            answer: None,
-        }
-    }
-
-    // The last server is full, and the beginning is rejected.
-    fn reject_part(&mut self) -> ClientStep
-        requires pending { is_keep self.old.pending ≡ true }
-        requires going { self.old.finished ≡ false }
-        requires fresh { IsFresh self.old }
-        ensures ok { (p : Keep) → self.old.pending ≡ keep_of p →
-            made (part_refused self.old p.request p.common p.first p.tried false) ≡ gives self.new result }
-        ensures stamp { result.stamp ≡ self.new.clock }
-    {
-        let Pending::Keep {
-            request,
-            common,
-            ..
-        } = mem::replace(&mut self.pending, Pending::Nothing)
-        else {
-            unreachable!()
-        };
-        let mut entries = mem::replace(&mut self.room.entries, Vec::new(self.alloc));
-        entries.push_reserved(Entry::Rejected {
-            rank: self.me,
-            call: request,
-        });
-        let call = Call::BeginBatch { common };
-        let answer = Answer::Rejected;
-        self.said.push_reserved(Said { call, answer });
-        self.ended(entries, Answer::Rejected)
     }
 }
 
-impl ClientCore {
-    // The server has closed the batch.
-    pub(crate) fn hear_close(&mut self, from: Server, message: Message) -> ClientStep
-        requires pending { is_close self.old.pending ≡ true }
-        requires going { self.old.finished ≡ false }
-        requires fresh { IsFresh self.old }
-        requires expected { IsSome (answer_call self.old self.old.pending from message) }
-        ensures ok { option_map made (answer_call self.old self.old.pending from message) ≡ Some (gives self.new result) }
-        ensures stamp { result.stamp ≡ self.new.clock }
-    {
-        let Message::Closed { .. } = message else {
-            unreachable!()
-        };
-        self.pending = Pending::Nothing;
-        self.batch = None;
-        let call = Call::EndBatch;
-        let answer = Answer::Fine;
-        self.said.push_reserved(Said { call, answer });
-        self.ended(Vec::new(self.alloc), Answer::Fine)
+// What a letter makes of the beginning of a batch.
+pub(crate) fn hear_keep(
+    place: &Place,
+    request: u64,
+    common: Payload,
+    first: Server,
+    tried: u32,
+    room: &mut Room,
+    message: &Message,
+) -> Outcome
+    requires room { HasRoom place.now.config room.old (Pending.Keep request common first tried) }
+    ensures { Hears place.now (Pending.Keep request common first tried) message.now room.new result }
+{
+    match message {
+        Message::Accepted { .. } => begun(place, request, common, first, tried),
+        Message::Ended { end, .. } => Outcome::Ends {
+            change: Change::Ended(*end),
+            entries: Vec::new(place.alloc),
+            said: Said {
+                call: Call::BeginBatch { common },
+                answer: Answer::Ended(*end),
+            },
+            answer: Answer::Ended(*end),
+        },
+        Message::Full { .. } => offer_part(place, request, common, first, tried, room),
+        _ => Outcome::Strange,
+    }
+}
+
+// A server keeps the common part, and the batch goes on.
+fn begun(place: &Place, request: u64, common: Payload, first: Server, tried: u32) -> Outcome
+    requires common { length common ≤ body_limit }
+    requires first { first.0 < place.now.config.servers }
+    requires tried { tried < place.now.config.servers }
+    ensures response { (s : ClientModel) → s.config ≡ place.now.config → s.me ≡ place.now.me → response_of s result
+        ≡ Some (ends (record s { batch = Some (begun_batch s request common (asked s first tried)); accepted = 0 }) [] (Call.BeginBatch common) Answer.Fine) }
+    ensures fits { (room : Room) → Fits place.now.config room result }
+{
+    let part = CommonRef {
+        batch: BatchId {
+            rank: place.me,
+            number: request,
+        },
+        server: behind(&place.config, first, tried as u64),
+        length: common.len() as u32,
+    };
+    Outcome::Ends {
+        change: Change::Begun(part),
+        entries: Vec::new(place.alloc),
+        said: Said {
+            call: Call::BeginBatch { common },
+            answer: Answer::Fine,
+        },
+        answer: Answer::Fine,
+    }
+}
+
+// A server is full: the common part is offered to the next one, and the beginning is rejected if there is none.
+fn offer_part(
+    place: &Place,
+    request: u64,
+    common: Payload,
+    first: Server,
+    tried: u32,
+    room: &mut Room,
+) -> Outcome
+    requires room { HasRoom place.now.config room.old (Pending.Keep request common first tried) }
+    ensures response { (s : ClientModel) → s.config ≡ place.now.config → s.me ≡ place.now.me →
+        response_of s result ≡ Some (part_refused s request common first tried (nat_lt (tried + 1) s.config.servers)) }
+    ensures fits { Fits place.now.config room.new result }
+{
+    match room.next(&place.config, first, tried) {
+        Some((to, Offer { body, sends })) => Outcome::Waits {
+            pending: Pending::Keep {
+                request,
+                common,
+                first,
+                tried: tried + 1,
+            },
+            to,
+            message: Message::KeepCommon {
+                request,
+                common: body,
+            },
+            sends,
+        },
+        None => {
+            let entry = Entry::Rejected {
+                rank: place.me,
+                call: request,
+            };
+            Outcome::Ends {
+                change: Change::Keeps,
+                entries: room.entered(place.alloc, entry),
+                said: Said {
+                    call: Call::BeginBatch { common },
+                    answer: Answer::Rejected,
+                },
+                answer: Answer::Rejected,
+            }
+        }
+    }
+}
+
+// What a letter makes of the end of a batch: the server has closed it.
+pub(crate) fn hear_close(
+    place: &Place,
+    request: u64,
+    batch: CommonRef,
+    room: &Room,
+    message: &Message,
+) -> Outcome
+    ensures { Hears place.now (Pending.Close request batch) message.now room.now result }
+{
+    match message {
+        Message::Closed { .. } => Outcome::Ends {
+            change: Change::Closed,
+            entries: Vec::new(place.alloc),
+            said: Said {
+                call: Call::EndBatch,
+                answer: Answer::Fine,
+            },
+            answer: Answer::Fine,
+        },
+        _ => Outcome::Strange,
     }
 }

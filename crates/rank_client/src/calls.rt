@@ -6,19 +6,21 @@ ghost use Rattle.std.specs.List.{range_with_len};
 ghost use Rattle.std.specs.Vec.{vec_capacity, vec_len};
 ghost use Rattle.adlb_unit.specs.declared.notes.Trouble.{Trouble};
 ghost use Rattle.rank_client.specs.Calls.{is_finish};
-ghost use Rattle.rank_client.specs.Inside.{HasRoom, IsFresh, gives};
-ghost use Rattle.rank_client.specs.Rules.{asks, farewell, finish, held, is_free, open_call, over, reserve};
+ghost use Rattle.rank_client.specs.Inside.{IsFresh, Opens, gives, opened};
+ghost use Rattle.rank_client.specs.Rules.{farewell, finish, held, is_free, open_call, reserve};
 ghost use Rattle.rank_client.specs.State.{ClientModel};
 ghost use Rattle.rank_client.specs.Step.{Made, begin, call_stamp, call_trouble, made, post, ticked};
 
 use crate::clients::{ClientCore, write};
+use crate::fetches::spend;
+use crate::openings::{First, Opening};
 use crate::pendings::Pending;
 use crate::rooms::{Farewell, Room};
 use crate::said::Transcript;
 use crate::steps::ClientStep;
 use adlb_unit::{
-    BODY_LIMIT, End, Message, NoMemory, STAMP_LIMIT, Sending, Server, Trouble, Types, UnitId,
-    UnitNote, or_no_memory,
+    BODY_LIMIT, Message, NoMemory, STAMP_LIMIT, Sending, Server, Trouble, Types, UnitId, UnitNote,
+    or_no_memory,
 };
 use bag_ledger::{Answer, Call, Entry, Said};
 use std::alloc::Global;
@@ -32,15 +34,15 @@ pub(crate) fn with_room<T>(alloc: Global, room: usize) -> Result<Vec<T>, NoMemor
     or_no_memory(Vec::with_capacity(alloc, room))
 }
 
-// The lists of a call that goes to a server, with room for one letter and one entry. Its answer has room among the calls, and a unit
-// that is granted among those that are held.
+// The lists of a call's beginning, with room for one letter and two entries. Its answer has room among the calls, and a unit that is
+// granted among those that are held.
 fn asking(
     alloc: Global,
     said: &mut Transcript,
     handles: &mut Vec<UnitNote>,
 ) -> Result<(Vec<Sending>, Vec<Entry>), NoMemory>
     ensures sends { IfOk result (λ lists. (lists.0.items ≡ []) × (vec_capacity lists.0 ≡ 1)) }
-    ensures entries { IfOk result (λ lists. (lists.1.items ≡ []) × (vec_capacity lists.1 ≡ 1)) }
+    ensures entries { IfOk result (λ lists. (lists.1.items ≡ []) × (vec_capacity lists.1 ≡ 2)) }
     ensures said { said.new.items ≡ said.old.items }
     ensures places { OnOk result (2 ≤ said.new.places) }
     ensures ids { OnOk result (4 ≤ said.new.ids) }
@@ -51,7 +53,7 @@ fn asking(
     ensures no_less { vec_capacity handles.old ≤ vec_capacity handles.new }
 {
     let sends = with_room(alloc, 1)?;
-    let entries = with_room(alloc, 1)?;
+    let entries = with_room(alloc, 2)?;
     said.make_room()?;
     or_no_memory(handles.reserve(1))?;
     Ok((sends, entries))
@@ -106,80 +108,66 @@ impl ClientCore {
 }
 
 impl ClientCore {
-    // The call begins, and is answered at once by the end that was told before.
-    pub(crate) fn over(
-        &mut self,
-        entry: Entry,
-        call: Call,
-        end: End,
-    ) -> Result<ClientStep, NoMemory>
+    // The call begins.
+    fn open(&mut self, opening: Opening) -> Result<ClientStep, NoMemory>
         requires free { is_free self.old ≡ true }
         requires fresh { IsFresh self.old }
-        ensures ok { IfOk result (λ x. made (over self.old entry call end) ≡ gives self.new x) }
-        ensures stamp { IfOk result (λ x. x.stamp ≡ self.new.clock) }
-        ensures err { OnErr result (self.new ≡ self.old) }
-    {
-        let mut entries = with_room(self.alloc, 2)?;
-        self.said.make_room()?;
-        entries.push_reserved(entry);
-        entries.push_reserved(Entry::Over {
-            rank: self.me,
-            call: self.next,
-            end,
-        });
-        self.next += 1;
-        self.said.push_reserved(Said {
-            call,
-            answer: Answer::Ended(end),
-        });
-        Ok(ClientStep {
-            stamp: self.clock,
-            sends: Vec::new(self.alloc),
-            entries,
-            answer: Some(Answer::Ended(end)),
-        })
-    }
-}
-
-impl ClientCore {
-    // The call begins: it goes to a server, and waits for its answer.
-    pub(crate) fn ask(
-        &mut self,
-        entry: Entry,
-        to: Server,
-        message: Message,
-        pending: Pending,
-        room: Room,
-    ) -> Result<ClientStep, NoMemory>
-        requires free { is_free self.old ≡ true }
-        requires fresh { IsFresh self.old }
-        requires server { to.0 < self.old.config.servers }
-        requires room { HasRoom self.old.config 0 1 room pending }
-        ensures ok { IfOk result (λ x. made (asks self.old entry to message pending) ≡ gives self.new x) }
+        requires opens { Opens self.old opening }
+        ensures ok { IfOk result (λ x. made (opened self.old opening) ≡ gives self.new x) }
         ensures stamp { IfOk result (λ x. x.stamp ≡ self.new.clock) }
         ensures err { OnErr result (self.new ≡ self.old) }
     {
         let (mut sends, mut entries) = asking(self.alloc, &mut self.said, &mut self.handles)?;
-        sends.push_reserved(write(&mut self.sent, self.clock, to, message));
+        let Opening {
+            puts,
+            spent,
+            entry,
+            first,
+        } = opening;
         entries.push_reserved(entry);
-        self.next += 1;
-        self.pending = pending;
-        self.room = room;
-        Ok(ClientStep {
-            stamp: self.clock,
-            sends,
-            entries,
-            answer: None,
-        })
+        spend(&mut self.handles, spent);
+        self.puts = puts;
+        match first {
+            First::Asks {
+                to,
+                message,
+                pending,
+                room,
+            } => {
+                sends.push_reserved(write(&mut self.sent, self.clock, to, message));
+                self.next += 1;
+                drop(mem::replace(&mut self.pending, pending));
+                drop(mem::replace(&mut self.room, room));
+                Ok(ClientStep {
+                    stamp: self.clock,
+                    sends,
+                    entries,
+                    answer: None,
+                })
+            }
+            First::Over { call, end } => {
+                entries.push_reserved(Entry::Over {
+                    rank: self.me,
+                    call: self.next,
+                    end,
+                });
+                self.next += 1;
+                let answer = Answer::Ended(end);
+                self.said.push_reserved(Said { call, answer });
+                Ok(ClientStep {
+                    stamp: self.clock,
+                    sends,
+                    entries,
+                    answer: Some(Answer::Ended(end)),
+                })
+            }
+        }
     }
 
     // Asks the home for a unit.
-    fn reserve(&mut self, types: Types) -> Result<ClientStep, NoMemory>
-        requires free { is_free self.old ≡ true }
-        requires fresh { IsFresh self.old }
-        ensures ok { IfOk result (λ x. made (reserve self.old types self.old.end) ≡ gives self.new x) }
-        ensures stamp { IfOk result (λ x. x.stamp ≡ self.new.clock) }
-        ensures err { OnErr result (self.new ≡ self.old) }
+    fn reserve(&self, types: Types) -> Opening
+        ensures ok { opened self.now result ≡ reserve self.now types self.now.end }
+        ensures opens { Opens self.now result }
     {
         let request = self.next;
         let entry = Entry::Asked {
@@ -187,22 +175,28 @@ impl ClientCore {
             call: request,
             types: types.twin(),
         };
-        if let Some(end) = self.end {
-            return self.over(entry, Call::Reserve { types }, end);
-        }
-        let home = self.config.home(self.me);
-        let message = Message::Reserve {
-            request,
-            types: types.twin(),
+        let first = if let Some(end) = self.end {
+            First::Over {
+                call: Call::Reserve { types },
+                end,
+            }
+        } else {
+            First::Asks {
+                to: self.config.home(self.me),
+                message: Message::Reserve {
+                    request,
+                    types: types.twin(),
+                },
+                pending: Pending::Reserve { request, types },
+                room: Room::none(self.alloc),
+            }
         };
-        let room = Room::none(self.alloc);
-        self.ask(
+        Opening {
+            puts: self.puts,
+            spent: None,
             entry,
-            home,
-            message,
-            Pending::Reserve { request, types },
-            room,
-        )
+            first,
+        }
     }
 
     // Tells each server that the rank has finished. It takes no memory.
@@ -253,15 +247,11 @@ impl ClientCore {
         ensures memory { call_trouble self.old ≡ None → IfErr result (λ t. (t ≡ Trouble.Memory) × (is_finish call ≡ false)) }
         ensures failed { IfErr result (λ t. self.new ≡ record self.old { trouble = Some t }) }
     {
-        if let Some(trouble) = self.trouble {
-            return Err(trouble);
-        }
         let before = self.clock;
-        let stamp = before + 1;
-        if stamp >= STAMP_LIMIT {
-            return Err(self.fail(Trouble::TooLong { stamp }));
+        match self.call_stamp() {
+            Ok(stamp) => self.clock = stamp,
+            Err(trouble) => return Err(self.fail(trouble)),
         }
-        self.clock = stamp;
         match self.carry_out(call) {
             Ok(step) => Ok(step),
             Err(NoMemory) => {
@@ -269,6 +259,22 @@ impl ClientCore {
                 Err(self.fail(Trouble::Memory))
             }
         }
+    }
+
+    // The stamp of the event of a call, or the trouble that there is instead.
+    fn call_stamp(&self) -> Result<u64, Trouble>
+        ensures stamp { IfOk result (λ stamp. stamp ≡ call_stamp self.now) }
+        ensures whole { OnOk result (call_trouble self.now ≡ None) }
+        ensures troubled { IfErr result (λ t. call_trouble self.now ≡ Some t) }
+    {
+        if let Some(trouble) = self.trouble {
+            return Err(trouble);
+        }
+        let stamp = self.clock + 1;
+        if stamp >= STAMP_LIMIT {
+            return Err(Trouble::TooLong { stamp });
+        }
+        Ok(stamp)
     }
 
     // Begins the call in an event that has its stamp.
@@ -282,11 +288,28 @@ impl ClientCore {
         ensures finish { OnErr result (is_finish call ≡ false) }
     {
         match call {
+            Call::Finish => Ok(self.finish()),
+            other => {
+                let opening = self.opening(other)?;
+                self.open(opening)
+            }
+        }
+    }
+
+    // What begins the call, which is not Finish.
+    fn opening(&self, call: Call) -> Result<Opening, NoMemory>
+        requires other { is_finish call ≡ false }
+        requires fresh { IsFresh self.now }
+        requires ready { IsSome (open_call self.now call) }
+        ensures ok { IfOk result (λ o. open_call self.now call ≡ Some (opened self.now o)) }
+        ensures opens { IfOk result (λ o. Opens self.now o) }
+    {
+        match call {
             Call::Put { .. } => {
                 let unit = self.unit(call)?;
                 self.put(unit)
             }
-            Call::Reserve { types } => self.reserve(types),
+            Call::Reserve { types } => Ok(self.reserve(types)),
             Call::Try { types } => self.look(types),
             Call::Fetch { id } => match self.held(id) {
                 Some(note) => self.fetch(id, note),
@@ -294,12 +317,12 @@ impl ClientCore {
             },
             Call::BeginBatch { common } => self.keep(common),
             Call::EndBatch => match self.batch {
-                Some(batch) => self.close(batch),
+                Some(batch) => Ok(self.close(batch)),
                 None => unreachable!(),
             },
-            Call::Count { kind } => self.count(kind),
+            Call::Count { kind } => Ok(self.count(kind)),
             Call::SetDone => self.set_done(),
-            Call::Finish => Ok(self.finish()),
+            Call::Finish => unreachable!(),
         }
     }
 }

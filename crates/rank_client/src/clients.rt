@@ -15,7 +15,7 @@ use crate::rooms::{Farewell, Room};
 use crate::said::Transcript;
 use adlb_unit::{
     Actor, CommonRef, Config, End, Letter, Message, NoMemory, Rank, Sending, Server, Trouble,
-    UnitNote,
+    UnitNote, or_no_memory,
 };
 use bag_ledger::Said;
 use std::alloc::Global;
@@ -63,13 +63,8 @@ impl ClientCore {
     {
         let servers = config.servers as usize;
         let said = Transcript::new(alloc)?;
-        let (Ok(sent), Ok(sends), Ok(entries)) = (
-            vec![in alloc; 0; servers],
-            Vec::with_capacity(alloc, servers),
-            Vec::with_capacity(alloc, 1),
-        ) else {
-            return Err(NoMemory);
-        };
+        let farewell = Farewell::new(alloc, servers)?;
+        let sent = or_no_memory(vec![in alloc; 0; servers])?;
         Ok(ClientCore {
             config,
             me,
@@ -86,7 +81,7 @@ impl ClientCore {
             finished: false,
             said,
             trouble: None,
-            farewell: Farewell { sends, entries },
+            farewell,
             alloc,
         })
     }

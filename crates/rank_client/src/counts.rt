@@ -1,58 +1,63 @@
 //! What a client does to count the free units of a type at its home.
 
-ghost use Rattle.std.specs.Prelude.{◌≡◌, true, false, Some, IsSome, IfOk, OnErr};
-ghost use Rattle.std.specs.Option.{option_map};
-ghost use Rattle.rank_client.specs.Inside.{IsFresh, gives, is_count};
-ghost use Rattle.rank_client.specs.Rules.{answer_call, count, is_free};
-ghost use Rattle.rank_client.specs.Step.{made};
+ghost use Rattle.std.specs.Prelude.{◌≡◌};
+ghost use Rattle.rank_client.specs.Inside.{Hears, Opens, opened};
+ghost use Rattle.rank_client.specs.Rules.{count};
+ghost use Rattle.rank_client.specs.declared.pendings.Pending.{Pending};
 
 use crate::clients::ClientCore;
+use crate::openings::{First, Opening};
+use crate::outcomes::{Change, Outcome, Place};
 use crate::pendings::Pending;
 use crate::rooms::Room;
-use crate::steps::ClientStep;
-use adlb_unit::{Message, NoMemory, Server, WorkType};
+use adlb_unit::{Message, WorkType};
 use bag_ledger::{Answer, Call, Entry, Said};
-use std::mem;
 
 impl ClientCore {
     // Asks the home.
-    pub(crate) fn count(&mut self, kind: WorkType) -> Result<ClientStep, NoMemory>
-        requires free { is_free self.old ≡ true }
-        requires fresh { IsFresh self.old }
-        ensures ok { IfOk result (λ x. made (count self.old kind) ≡ gives self.new x) }
-        ensures stamp { IfOk result (λ x. x.stamp ≡ self.new.clock) }
-        ensures err { OnErr result (self.new ≡ self.old) }
+    pub(crate) fn count(&self, kind: WorkType) -> Opening
+        ensures ok { opened self.now result ≡ count self.now kind }
+        ensures opens { Opens self.now result }
     {
         let request = self.next;
-        let entry = Entry::Counting {
-            rank: self.me,
-            call: request,
-            kind,
-        };
-        let home = self.config.home(self.me);
-        let message = Message::Count { request, kind };
-        let room = Room::none(self.alloc);
-        self.ask(entry, home, message, Pending::Count { request, kind }, room)
+        Opening {
+            puts: self.puts,
+            spent: None,
+            entry: Entry::Counting {
+                rank: self.me,
+                call: request,
+                kind,
+            },
+            first: First::Asks {
+                to: self.config.home(self.me),
+                message: Message::Count { request, kind },
+                pending: Pending::Count { request, kind },
+                room: Room::none(self.alloc),
+            },
+        }
     }
+}
 
-    // The home tells what is free there.
-    pub(crate) fn hear_count(&mut self, from: Server, message: Message) -> ClientStep
-        requires pending { is_count self.old.pending ≡ true }
-        requires going { self.old.finished ≡ false }
-        requires fresh { IsFresh self.old }
-        requires expected { IsSome (answer_call self.old self.old.pending from message) }
-        ensures ok { option_map made (answer_call self.old self.old.pending from message) ≡ Some (gives self.new result) }
-        ensures stamp { result.stamp ≡ self.new.clock }
-    {
-        let Pending::Count { kind, .. } = mem::replace(&mut self.pending, Pending::Nothing) else {
-            unreachable!()
-        };
-        let Message::Counted { info, .. } = message else {
-            unreachable!()
-        };
-        let call = Call::Count { kind };
-        let answer = Answer::Info(info);
-        self.said.push_reserved(Said { call, answer });
-        self.ended(Vec::new(self.alloc), Answer::Info(info))
+// What a letter makes of the count: the home tells what is free there.
+pub(crate) fn hear_count(
+    place: &Place,
+    request: u64,
+    kind: WorkType,
+    room: &Room,
+    message: &Message,
+) -> Outcome
+    ensures { Hears place.now (Pending.Count request kind) message.now room.now result }
+{
+    match message {
+        Message::Counted { info, .. } => Outcome::Ends {
+            change: Change::Keeps,
+            entries: Vec::new(place.alloc),
+            said: Said {
+                call: Call::Count { kind },
+                answer: Answer::Info(*info),
+            },
+            answer: Answer::Info(*info),
+        },
+        _ => Outcome::Strange,
     }
 }

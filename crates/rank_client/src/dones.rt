@@ -1,110 +1,87 @@
 //! What a client does to say that the problem is done.
 
-ghost use Rattle.std.specs.Prelude.{◌≡◌, ◌<◌, ◌+◌, [], true, false, nat_lt, Some, IsSome, IfOk, OnErr};
-ghost use Rattle.std.specs.Option.{option_map};
-ghost use Rattle.rank_client.specs.Inside.{IsFresh, SetDone, gives, is_set_done, set_done_of};
-ghost use Rattle.rank_client.specs.Rules.{answer_call, ends, is_free, set_done, told_done};
-ghost use Rattle.rank_client.specs.Step.{made};
+ghost use Rattle.std.specs.Prelude.{◌≡◌, ◌+◌, nat_lt, Some, IfOk};
+ghost use Rattle.rank_client.specs.Inside.{Fits, HasRoom, Hears, Opens, opened, response_of};
+ghost use Rattle.rank_client.specs.Rules.{set_done, told_done};
+ghost use Rattle.rank_client.specs.State.{ClientModel};
+ghost use Rattle.rank_client.specs.declared.pendings.Pending.{Pending};
 
-use crate::clients::{ClientCore, behind, write};
+use crate::clients::{ClientCore, behind};
+use crate::openings::{First, Opening};
+use crate::outcomes::{Change, Outcome, Place};
 use crate::pendings::Pending;
-use crate::steps::ClientStep;
-use adlb_unit::{Message, NoMemory, Payload, Server};
+use crate::rooms::{Offer, Room};
+use adlb_unit::{Message, NoMemory, Payload};
 use bag_ledger::{Answer, Call, Entry, Said};
-use std::mem;
 
 impl ClientCore {
     // Tells the home first, also after an end was told.
-    pub(crate) fn set_done(&mut self) -> Result<ClientStep, NoMemory>
-        requires free { is_free self.old ≡ true }
-        requires fresh { IsFresh self.old }
-        ensures ok { IfOk result (λ x. made (set_done self.old) ≡ gives self.new x) }
-        ensures stamp { IfOk result (λ x. x.stamp ≡ self.new.clock) }
-        ensures err { OnErr result (self.new ≡ self.old) }
+    pub(crate) fn set_done(&self) -> Result<Opening, NoMemory>
+        ensures ok { IfOk result (λ o. opened self.now o ≡ set_done self.now) }
+        ensures opens { IfOk result (λ o. Opens self.now o) }
     {
         let request = self.next;
-        let entry = Entry::Done {
-            rank: self.me,
-            call: request,
-        };
-        let to = behind(&self.config, self.config.home(self.me), 0);
         let nothing = Payload::from_vec(Vec::new(self.alloc));
         let room = self.offer_room(&nothing)?;
-        let pending = Pending::SetDone { request, tried: 0 };
-        self.ask(entry, to, Message::Done { request }, pending, room)
+        Ok(Opening {
+            puts: self.puts,
+            spent: None,
+            entry: Entry::Done {
+                rank: self.me,
+                call: request,
+            },
+            first: First::Asks {
+                to: behind(&self.config, self.config.home(self.me), 0),
+                message: Message::Done { request },
+                pending: Pending::SetDone { request, tried: 0 },
+                room,
+            },
+        })
     }
 }
 
-// A server has heard that the problem is done.
-impl ClientCore {
-    pub(crate) fn hear_done(&mut self, from: Server, message: Message) -> ClientStep
-        requires pending { is_set_done self.old.pending ≡ true }
-        requires going { self.old.finished ≡ false }
-        requires fresh { IsFresh self.old }
-        requires expected { IsSome (answer_call self.old self.old.pending from message) }
-        ensures ok { option_map made (answer_call self.old self.old.pending from message) ≡ Some (gives self.new result) }
-        ensures stamp { result.stamp ≡ self.new.clock }
-    {
-        match message {
-            Message::DoneHeard { .. } if self.has_next_to_tell() => self.tell_on(),
-            Message::DoneHeard { .. } => self.told_each(),
-            _ => unreachable!(),
-        }
+// What a letter makes of saying that the problem is done: a server has heard it, and the next one is told, if there is one.
+pub(crate) fn hear_done(
+    place: &Place,
+    request: u64,
+    tried: u32,
+    room: &mut Room,
+    message: &Message,
+) -> Outcome
+    requires room { HasRoom place.now.config room.old (Pending.SetDone request tried) }
+    ensures { Hears place.now (Pending.SetDone request tried) message.now room.new result }
+{
+    match message {
+        Message::DoneHeard { .. } => tell_on(place, request, tried, room),
+        _ => Outcome::Strange,
     }
+}
 
-    // Behind the servers that have heard it there is one more.
-    fn has_next_to_tell(&self) -> bool
-        requires pending { is_set_done self.now.pending ≡ true }
-        ensures { (p : SetDone) → self.now.pending ≡ set_done_of p → result ≡ nat_lt (p.tried + 1) self.now.config.servers }
-    {
-        match &self.pending {
-            Pending::SetDone { tried, .. } => *tried + 1 < self.config.servers,
-            _ => unreachable!(),
-        }
-    }
-
-    // The next server is told.
-    fn tell_on(&mut self) -> ClientStep
-        requires pending { is_set_done self.old.pending ≡ true }
-        requires going { self.old.finished ≡ false }
-        requires fresh { IsFresh self.old }
-        requires more { (p : SetDone) → self.old.pending ≡ set_done_of p → p.tried + 1 < self.old.config.servers }
-        ensures ok { (p : SetDone) → self.old.pending ≡ set_done_of p → made (told_done self.old p.request p.tried true) ≡ gives self.new result }
-        ensures stamp { result.stamp ≡ self.new.clock }
-    {
-        let Pending::SetDone { request, tried } = mem::replace(&mut self.pending, Pending::Nothing)
-        else {
-            unreachable!()
-        };
-        let Some(offer) = self.room.tries.pop() else {
-            unreachable!()
-        };
-        let mut sends = offer.into_sends();
-        let to = behind(&self.config, self.config.home(self.me), tried as u64 + 1);
-        let message = Message::Done { request };
-        sends.push_reserved(write(&mut self.sent, self.clock, to, message));
-        let tried = tried + 1;
-        self.pending = Pending::SetDone { request, tried };
-        ClientStep {
-            stamp: self.clock,
+fn tell_on(place: &Place, request: u64, tried: u32, room: &mut Room) -> Outcome
+    requires room { HasRoom place.now.config room.old (Pending.SetDone request tried) }
+    ensures response { (s : ClientModel) → s.config ≡ place.now.config → s.me ≡ place.now.me →
+        response_of s result ≡ Some (told_done s request tried (nat_lt (tried + 1) s.config.servers)) }
+    ensures fits { Fits place.now.config room.new result }
+{
+    let home = place.config.home(place.me);
+    match room.next(&place.config, home, tried) {
+        Some((to, Offer { sends, .. })) => Outcome::Waits {
+            pending: Pending::SetDone {
+                request,
+                tried: tried + 1,
+            },
+            to,
+            message: Message::Done { request },
             sends,
-            entries: Vec::new(self.alloc),
-            answer: None,
-        }
-    }
-
-    // Each server has heard it.
-    fn told_each(&mut self) -> ClientStep
-        requires pending { is_set_done self.old.pending ≡ true }
-        requires going { self.old.finished ≡ false }
-        requires fresh { IsFresh self.old }
-        ensures ok { made (ends self.old [] Call.SetDone Answer.Fine) ≡ gives self.new result }
-        ensures stamp { result.stamp ≡ self.new.clock }
-    {
-        self.pending = Pending::Nothing;
-        let call = Call::SetDone;
-        let answer = Answer::Fine;
-        self.said.push_reserved(Said { call, answer });
-        self.ended(Vec::new(self.alloc), Answer::Fine)
+        },
+        None => Outcome::Ends {
+            change: Change::Keeps,
+            entries: Vec::new(place.alloc),
+            said: Said {
+                call: Call::SetDone,
+                answer: Answer::Fine,
+            },
+            answer: Answer::Fine,
+        },
     }
 }

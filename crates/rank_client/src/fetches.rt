@@ -1,20 +1,24 @@
 //! What a client does to fetch the bytes of a unit: the unit's own, and those of its common part, if it has one.
 
-ghost use Rattle.std.specs.Prelude.{◌≡◌, ◌+◌, ◌≤◌, ◌++◌, [], true, false, length, filter, not, None, Some, IsSome, IfOk, OnErr};
-ghost use Rattle.std.specs.Option.{option_map};
+ghost use Rattle.std.specs.Prelude.{◌≡◌, ◌≤◌, ◌++◌, [], length, filter, not, Some, IfOk};
 ghost use Rattle.std.specs.Vec.{vec_len, vec_capacity};
 ghost use Rattle.adlb_unit.specs.Ids.{same_unit};
 ghost use Rattle.adlb_unit.specs.Totals.{common_length};
-ghost use Rattle.rank_client.specs.Inside.{IsFresh, common_of, gives, is_common, is_fetch};
-ghost use Rattle.rank_client.specs.Rules.{answer_call, fetched, held, is_free};
-ghost use Rattle.rank_client.specs.Step.{made};
+ghost use Rattle.bag_ledger.specs.declared.entries.Answer.{Answer};
+ghost use Rattle.bag_ledger.specs.declared.entries.Call.{Call};
+ghost use Rattle.rank_client.specs.Inside.{Fits, HasRoom, Hears, Opens, opened, response_of, unspent};
+ghost use Rattle.rank_client.specs.Rules.{ends, fetched, held, own_came};
+ghost use Rattle.rank_client.specs.State.{ClientModel};
+ghost use Rattle.rank_client.specs.declared.pendings.Pending.{Pending};
+ghost use Rattle.rank_client.specs.declared.rooms.Room.{Room};
 
 use crate::calls::with_room;
-use crate::clients::{ClientCore, write};
+use crate::clients::ClientCore;
+use crate::openings::{First, Opening};
+use crate::outcomes::{Change, Outcome, Place};
 use crate::pendings::Pending;
 use crate::rooms::Room;
-use crate::steps::ClientStep;
-use adlb_unit::{CommonRef, Message, NoMemory, Payload, Server, UnitId, UnitNote};
+use adlb_unit::{CommonRef, Message, NoMemory, Payload, UnitId, UnitNote};
 use bag_ledger::{Answer, Body, Call, Entry, Said};
 use std::alloc::Global;
 use std::mem;
@@ -49,15 +53,15 @@ fn common_length(common: Option<CommonRef>) -> usize
 
 // A twin of these bytes. If none can be made, as where all owners that can be counted are there, they are copied to
 // this room.
-fn another(alloc: Global, bytes: &Payload, room: Vec<u8>) -> Payload
-    requires room { length bytes.now ≤ vec_capacity room }
-    requires none { room.items ≡ [] }
+fn another(alloc: Global, bytes: &Payload, room: &mut Vec<u8>) -> Payload
+    requires room { length bytes.now ≤ vec_capacity room.old }
+    requires none { room.old.items ≡ [] }
     ensures { result ≡ bytes.now }
 {
     match bytes.twin(alloc) {
         Ok(twin) => twin,
         Err(NoMemory) => {
-            let mut copied = room;
+            let mut copied = mem::replace(room, Vec::new(alloc));
             let Ok(()) = copied.extend_from_slice(bytes.bytes()) else {
                 unreachable!()
             };
@@ -66,154 +70,164 @@ fn another(alloc: Global, bytes: &Payload, room: Vec<u8>) -> Payload
     }
 }
 
-impl ClientCore {
-    // Asks the unit's server for its bytes.
-    pub(crate) fn fetch(&mut self, id: UnitId, note: UnitNote) -> Result<ClientStep, NoMemory>
-        requires free { is_free self.old ≡ true }
-        requires fresh { IsFresh self.old }
-        requires held { held self.old id ≡ Some note }
-        ensures ok { IfOk result (λ x. made (fetched self.old id note) ≡ gives self.new x) }
-        ensures stamp { IfOk result (λ x. x.stamp ≡ self.new.clock) }
-        ensures err { OnErr result (self.new ≡ self.old) }
-    {
-        let request = self.next;
-        let entry = Entry::Fetching {
-            rank: self.me,
-            call: request,
-            id,
-        };
-        let own = with_room(self.alloc, note.length as usize)?;
-        let common = with_room(self.alloc, common_length(note.common))?;
-        let sends = with_room(self.alloc, 1)?;
-        let room = Room {
-            own,
-            common,
-            sends,
-            tries: Vec::new(self.alloc),
-            entries: Vec::new(self.alloc),
-        };
-        let message = Message::Fetch { request, id };
-        let step = self.ask(
-            entry,
-            note.server,
-            message,
-            Pending::Fetch { request, note },
-            room,
-        )?;
-        drop_note(&mut self.handles, id);
-        Ok(step)
+// Takes the note of this unit out of the list, if there is one.
+pub(crate) fn spend(handles: &mut Vec<UnitNote>, spent: Option<UnitId>)
+    ensures items { handles.new.items ≡ unspent spent handles.old.items }
+    ensures fewer { vec_len handles.new ≤ vec_len handles.old }
+    ensures room { vec_capacity handles.new ≡ vec_capacity handles.old }
+{
+    if let Some(id) = spent {
+        drop_note(handles, id);
     }
 }
 
 impl ClientCore {
-    // The unit's server gives its own bytes. Its common part, if it has one, is asked for next.
-    pub(crate) fn hear_fetch(&mut self, from: Server, message: Message) -> ClientStep
-        requires pending { is_fetch self.old.pending ≡ true }
-        requires going { self.old.finished ≡ false }
-        requires fresh { IsFresh self.old }
-        requires expected { IsSome (answer_call self.old self.old.pending from message) }
-        ensures ok { option_map made (answer_call self.old self.old.pending from message) ≡ Some (gives self.new result) }
-        ensures stamp { result.stamp ≡ self.new.clock }
+    // Asks the unit's server for its bytes.
+    pub(crate) fn fetch(&self, id: UnitId, note: UnitNote) -> Result<Opening, NoMemory>
+        requires held { held self.now id ≡ Some note }
+        ensures ok { IfOk result (λ o. opened self.now o ≡ fetched self.now id note) }
+        ensures opens { IfOk result (λ o. Opens self.now o) }
     {
-        match self.common_of() {
-            None => self.hear_whole(from, message),
-            Some(common) => self.hear_own(from, message, common),
+        let request = self.next;
+        Ok(Opening {
+            puts: self.puts,
+            spent: Some(id),
+            entry: Entry::Fetching {
+                rank: self.me,
+                call: request,
+                id,
+            },
+            first: First::Asks {
+                to: note.server,
+                message: Message::Fetch { request, id },
+                pending: Pending::Fetch { request, note },
+                room: bytes_room(self.alloc, &note)?,
+            },
+        })
+    }
+}
+
+// Room for the bytes of this unit, and for the letter that asks for its common part.
+fn bytes_room(alloc: Global, note: &UnitNote) -> Result<Room, NoMemory>
+    ensures own { IfOk result (λ r. (note.now.length ≤ vec_capacity r.own) × (r.own.items ≡ [])) }
+    ensures common { IfOk result (λ r. (common_length note.now.common ≤ vec_capacity r.common) × (r.common.items ≡ [])) }
+    ensures sends { IfOk result (λ r. (1 ≤ vec_capacity r.sends) × (r.sends.items ≡ [])) }
+{
+    Ok(Room {
+        own: with_room(alloc, note.length as usize)?,
+        common: with_room(alloc, common_length(note.common))?,
+        sends: with_room(alloc, 1)?,
+        tries: Vec::new(alloc),
+        entries: Vec::new(alloc),
+    })
+}
+
+// What a letter makes of the fetch: the unit's server gives its own bytes.
+pub(crate) fn hear_fetch(
+    place: &Place,
+    request: u64,
+    note: UnitNote,
+    room: &mut Room,
+    message: Message,
+) -> Outcome
+    requires room { HasRoom place.now.config room.old (Pending.Fetch request note) }
+    ensures { Hears place.now (Pending.Fetch request note) message room.new result }
+{
+    match message {
+        Message::Bytes { body, .. } => own_bytes(place, request, note, room, body),
+        _ => Outcome::Strange,
+    }
+}
+
+// The own bytes of the unit are all, or they stay until the common ones come, for which their server is asked.
+fn own_bytes(place: &Place, request: u64, note: UnitNote, room: &mut Room, own: Payload) -> Outcome
+    requires room { HasRoom place.now.config room.old (Pending.Fetch request note) }
+    ensures response { (s : ClientModel) → length own ≡ note.length → response_of s result ≡ Some (own_came s request note own note.common) }
+    ensures fits { Fits place.now.config room.new result }
+{
+    if own.len() != note.length as usize {
+        return Outcome::Strange;
+    }
+    match note.common {
+        None => {
+            let given = another(place.alloc, &own, &mut room.own);
+            Outcome::Ends {
+                change: Change::Keeps,
+                entries: Vec::new(place.alloc),
+                said: Said {
+                    call: Call::Fetch { id: note.id },
+                    answer: Answer::Body(Body::alone(own)),
+                },
+                answer: Answer::Body(Body::alone(given)),
+            }
         }
+        Some(common) => Outcome::Waits {
+            pending: Pending::Common {
+                request,
+                note,
+                common,
+                own,
+            },
+            to: common.server,
+            message: Message::FetchCommon {
+                request,
+                batch: common.batch,
+            },
+            sends: mem::replace(&mut room.sends, Vec::new(place.alloc)),
+        },
     }
+}
 
-    // The common part of the unit that is asked for, if it has one.
-    fn common_of(&self) -> Option<CommonRef>
-        ensures { result ≡ common_of self.now.pending }
-    {
-        match &self.pending {
-            Pending::Fetch { note, .. } => note.common,
-            _ => None,
-        }
+// What a letter makes of the fetch whose own bytes have come: the server of the common part gives its bytes.
+pub(crate) fn hear_common(
+    place: &Place,
+    request: u64,
+    note: UnitNote,
+    common: CommonRef,
+    own: Payload,
+    room: &mut Room,
+    message: Message,
+) -> Outcome
+    requires room { HasRoom place.now.config room.old (Pending.Common request note common own) }
+    ensures { Hears place.now (Pending.Common request note common own) message room.new result }
+{
+    match message {
+        Message::Bytes { body, .. } => joined(place, note, common, own, room, body),
+        _ => Outcome::Strange,
     }
+}
 
-    // The own bytes are all.
-    fn hear_whole(&mut self, from: Server, message: Message) -> ClientStep
-        requires pending { is_fetch self.old.pending ≡ true }
-        requires whole { common_of self.old.pending ≡ None }
-        requires going { self.old.finished ≡ false }
-        requires fresh { IsFresh self.old }
-        requires expected { IsSome (answer_call self.old self.old.pending from message) }
-        ensures ok { option_map made (answer_call self.old self.old.pending from message) ≡ Some (gives self.new result) }
-        ensures stamp { result.stamp ≡ self.new.clock }
-    {
-        let Pending::Fetch { note, .. } = mem::replace(&mut self.pending, Pending::Nothing) else {
-            unreachable!()
-        };
-        let Message::Bytes { body, .. } = message else {
-            unreachable!()
-        };
-        let room = mem::replace(&mut self.room.own, Vec::new(self.alloc));
-        let given = Body::alone(another(self.alloc, &body, room));
-        let call = Call::Fetch { id: note.id };
-        let answer = Answer::Body(Body::alone(body));
-        self.said.push_reserved(Said { call, answer });
-        self.ended(Vec::new(self.alloc), Answer::Body(given))
+// The common bytes have come, and stand before the own ones.
+fn joined(
+    place: &Place,
+    note: UnitNote,
+    part: CommonRef,
+    own: Payload,
+    room: &mut Room,
+    common: Payload,
+) -> Outcome
+    requires own { length own ≤ vec_capacity room.old.own }
+    requires no_own { room.old.own.items ≡ [] }
+    requires common { part.length ≤ vec_capacity room.old.common }
+    requires no_common { room.old.common.items ≡ [] }
+    ensures response { (s : ClientModel) → length common ≡ part.length →
+        response_of s result ≡ Some (ends s [] (Call.Fetch note.id) (Answer.Body (common ++ own))) }
+    ensures fits { Fits place.now.config room.new result }
+{
+    if common.len() != part.length as usize {
+        return Outcome::Strange;
     }
-
-    // The own bytes stay until the common ones come.
-    fn hear_own(&mut self, from: Server, message: Message, common: CommonRef) -> ClientStep
-        requires pending { is_fetch self.old.pending ≡ true }
-        requires common { common_of self.old.pending ≡ Some common }
-        requires going { self.old.finished ≡ false }
-        requires fresh { IsFresh self.old }
-        requires expected { IsSome (answer_call self.old self.old.pending from message) }
-        ensures ok { option_map made (answer_call self.old self.old.pending from message) ≡ Some (gives self.new result) }
-        ensures stamp { result.stamp ≡ self.new.clock }
-    {
-        let Pending::Fetch { request, note } = mem::replace(&mut self.pending, Pending::Nothing)
-        else {
-            unreachable!()
-        };
-        let Message::Bytes { body: own, .. } = message else {
-            unreachable!()
-        };
-        let mut sends = mem::replace(&mut self.room.sends, Vec::new(self.alloc));
-        let batch = common.batch;
-        let asking = Message::FetchCommon { request, batch };
-        sends.push_reserved(write(&mut self.sent, self.clock, common.server, asking));
-        self.pending = Pending::Common {
-            request,
-            note,
-            common,
-            own,
-        };
-        ClientStep {
-            stamp: self.clock,
-            sends,
-            entries: Vec::new(self.alloc),
-            answer: None,
-        }
-    }
-
-    // The server of the common part gives its bytes, and the call ends.
-    pub(crate) fn hear_common(&mut self, from: Server, message: Message) -> ClientStep
-        requires pending { is_common self.old.pending ≡ true }
-        requires going { self.old.finished ≡ false }
-        requires fresh { IsFresh self.old }
-        requires expected { IsSome (answer_call self.old self.old.pending from message) }
-        ensures ok { option_map made (answer_call self.old self.old.pending from message) ≡ Some (gives self.new result) }
-        ensures stamp { result.stamp ≡ self.new.clock }
-    {
-        let Pending::Common { note, own, .. } = mem::replace(&mut self.pending, Pending::Nothing)
-        else {
-            unreachable!()
-        };
-        let Message::Bytes { body: common, .. } = message else {
-            unreachable!()
-        };
-        let room = mem::replace(&mut self.room.own, Vec::new(self.alloc));
-        let given_own = another(self.alloc, &own, room);
-        let room = mem::replace(&mut self.room.common, Vec::new(self.alloc));
-        let given_common = another(self.alloc, &common, room);
-        let call = Call::Fetch { id: note.id };
-        let answer = Answer::Body(Body::joined(common, own));
-        self.said.push_reserved(Said { call, answer });
-        let given = Body::joined(given_common, given_own);
-        self.ended(Vec::new(self.alloc), Answer::Body(given))
+    let given_own = another(place.alloc, &own, &mut room.own);
+    let given_common = another(place.alloc, &common, &mut room.common);
+    let given = Body::joined(given_common, given_own);
+    let answer = Answer::Body(Body::joined(common, own));
+    Outcome::Ends {
+        change: Change::Keeps,
+        entries: Vec::new(place.alloc),
+        said: Said {
+            call: Call::Fetch { id: note.id },
+            answer,
+        },
+        answer: Answer::Body(given),
     }
 }

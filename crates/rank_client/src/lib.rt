@@ -21,6 +21,8 @@ mod hearing;
 mod laws;
 mod links;
 mod looks;
+mod openings;
+mod outcomes;
 mod pendings;
 mod programs;
 mod puts;

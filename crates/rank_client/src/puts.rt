@@ -1,18 +1,23 @@
 //! What a client does to put a unit.
 
-ghost use Rattle.std.specs.Prelude.{◌≡◌, ◌<◌, ◌+◌, [], true, All, Some, IsSome, IfOk, OnErr};
+ghost use Rattle.std.specs.Prelude.{◌≡◌, ◌<◌, ◌+◌, [], nat_lt, All, Some, IsSome, IfOk};
 ghost use Rattle.std.specs.Vec.{vec_len, vec_capacity};
-ghost use Rattle.rank_client.specs.Inside.{IsFresh, gives};
-ghost use Rattle.rank_client.specs.Rules.{call_of, entry_of, first_server, is_free, put, unit_of};
-ghost use Rattle.rank_client.specs.Step.{made};
+ghost use Rattle.adlb_unit.specs.Limits.{stamp_limit};
+ghost use Rattle.adlb_unit.specs.declared.messages.Message.{Message};
+ghost use Rattle.bag_ledger.specs.declared.entries.Entry.{Entry};
+ghost use Rattle.rank_client.specs.Inside.{Fits, HasFirst, HasRoom, Hears, Opens, opened, response_of, response_to};
+ghost use Rattle.rank_client.specs.Rules.{asks, call_of, entry_of, first_server, put, refused, unit_of};
+ghost use Rattle.rank_client.specs.State.{ClientModel};
+ghost use Rattle.rank_client.specs.declared.pendings.Pending.{Pending};
 
 use crate::calls::with_room;
 use crate::clients::{ClientCore, behind};
+use crate::openings::{First, Opening};
+use crate::outcomes::{Change, Outcome, Place};
 use crate::pendings::Pending;
 use crate::rooms::{Offer, Room};
-use crate::steps::ClientStep;
 use adlb_unit::{Message, NoMemory, Payload, Server, Target, Unit, UnitId};
-use bag_ledger::{Call, Entry};
+use bag_ledger::{Answer, Call, Entry, Said};
 use std::alloc::Global;
 
 // The entry that begins the put of this unit.
@@ -53,6 +58,80 @@ fn offers(alloc: Global, body: &Payload, servers: usize) -> Result<Vec<Offer>, N
         tries.push_reserved(Offer::new(alloc, body)?);
     }
     Ok(tries)
+}
+
+// What a letter makes of the put.
+pub(crate) fn hear_put(
+    place: &Place,
+    unit: Unit,
+    first: Server,
+    tried: u32,
+    room: &mut Room,
+    message: &Message,
+) -> Outcome
+    requires room { HasRoom place.now.config room.old (Pending.Put unit first tried) }
+    ensures { Hears place.now (Pending.Put unit first tried) message.now room.new result }
+{
+    match message {
+        Message::Accepted { .. } => Outcome::Ends {
+            change: Change::Accepted,
+            entries: Vec::new(place.alloc),
+            said: Said {
+                call: put_call(unit),
+                answer: Answer::Fine,
+            },
+            answer: Answer::Fine,
+        },
+        Message::Ended { end, .. } => Outcome::Ends {
+            change: Change::Ended(*end),
+            entries: Vec::new(place.alloc),
+            said: Said {
+                call: put_call(unit),
+                answer: Answer::Ended(*end),
+            },
+            answer: Answer::Ended(*end),
+        },
+        Message::Full { .. } => offer_next(place, unit, first, tried, room),
+        _ => Outcome::Strange,
+    }
+}
+
+// A server is full: the unit is offered to the next one, and rejected if there is none.
+fn offer_next(place: &Place, unit: Unit, first: Server, tried: u32, room: &mut Room) -> Outcome
+    requires room { HasRoom place.now.config room.old (Pending.Put unit first tried) }
+    ensures response { (s : ClientModel) → s.config ≡ place.now.config → s.me ≡ place.now.me →
+        response_of s result ≡ Some (refused s unit first tried (nat_lt (tried + 1) s.config.servers)) }
+    ensures fits { Fits place.now.config room.new result }
+{
+    match room.next(&place.config, first, tried) {
+        Some((to, Offer { body, sends })) => Outcome::Waits {
+            message: Message::Put {
+                unit: unit_with(&unit, body),
+            },
+            pending: Pending::Put {
+                unit,
+                first,
+                tried: tried + 1,
+            },
+            to,
+            sends,
+        },
+        None => {
+            let entry = Entry::Rejected {
+                rank: place.me,
+                call: unit.id.number,
+            };
+            Outcome::Ends {
+                change: Change::Keeps,
+                entries: room.entered(place.alloc, entry),
+                said: Said {
+                    call: put_call(unit),
+                    answer: Answer::Rejected,
+                },
+                answer: Answer::Rejected,
+            }
+        }
+    }
 }
 
 impl ClientCore {
@@ -103,32 +182,49 @@ impl ClientCore {
     }
 
     // Puts the unit: it is offered to the first server.
-    pub(crate) fn put(&mut self, unit: Unit) -> Result<ClientStep, NoMemory>
-        requires free { is_free self.old ≡ true }
-        requires fresh { IsFresh self.old }
-        ensures ok { IfOk result (λ x. made (put self.old unit self.old.end) ≡ gives self.new x) }
-        ensures stamp { IfOk result (λ x. x.stamp ≡ self.new.clock) }
-        ensures err { OnErr result (self.new ≡ self.old) }
+    pub(crate) fn put(&self, unit: Unit) -> Result<Opening, NoMemory>
+        requires few { self.now.puts < stamp_limit }
+        ensures ok { IfOk result (λ o. opened self.now o ≡ put self.now unit self.now.end) }
+        ensures opens { IfOk result (λ o. Opens self.now o) }
     {
         let entry = putting(self.alloc, &unit)?;
-        let step = match self.end {
-            Some(end) => self.over(entry, put_call(unit), end)?,
-            None => {
-                let first = self.first_server(unit.target);
-                let message = Message::Put {
-                    unit: unit.twin(self.alloc)?,
-                };
-                let room = self.offer_room(&unit.body)?;
-                let pending = Pending::Put {
-                    unit,
-                    first,
-                    tried: 0,
-                };
-                self.ask(entry, first, message, pending, room)?
-            }
+        let first = match self.end {
+            Some(end) => First::Over {
+                call: put_call(unit),
+                end,
+            },
+            None => self.offer(unit)?,
         };
-        self.puts += 1;
-        Ok(step)
+        Ok(Opening {
+            puts: self.puts + 1,
+            spent: None,
+            entry,
+            first,
+        })
+    }
+
+    // Offers the unit to the first server.
+    fn offer(&self, unit: Unit) -> Result<First, NoMemory>
+        requires few { self.now.puts < stamp_limit }
+        ensures ok { IfOk result (λ first. (s : ClientModel) (entry : Entry) → response_to s entry first
+            ≡ asks s entry (first_server self.now unit.target) (Message.Put unit) (Pending.Put unit (first_server self.now unit.target) 0)) }
+        ensures has { IfOk result (λ first. HasFirst self.now.config first) }
+    {
+        let room = self.offer_room(&unit.body)?;
+        let message = Message::Put {
+            unit: unit.twin(self.alloc)?,
+        };
+        let first = self.first_server(unit.target);
+        Ok(First::Asks {
+            to: first,
+            message,
+            pending: Pending::Put {
+                unit,
+                first,
+                tried: 0,
+            },
+            room,
+        })
     }
 
     // The server to which a put or, as a put for any, a common part goes first.
@@ -140,5 +236,20 @@ impl ClientCore {
             Target::Any => behind(&self.config, self.config.home(self.me), self.puts),
             Target::Only(rank) | Target::Soft(rank) => self.config.home(rank),
         }
+    }
+}
+
+// The unit with these bytes.
+fn unit_with(unit: &Unit, body: Payload) -> Unit
+    ensures { result ≡ record unit.now { body = body } }
+{
+    Unit {
+        id: unit.id,
+        kind: unit.kind,
+        prio: unit.prio,
+        target: unit.target,
+        answer: unit.answer,
+        common: unit.common,
+        body,
     }
 }

@@ -1,12 +1,15 @@
 //! Memory that a client keeps, so that a letter that answers a call takes none.
 
-ghost use Rattle.std.specs.Prelude.{◌≡◌, ◌≤◌, [], IfOk};
-ghost use Rattle.std.specs.Vec.{vec_capacity};
+ghost use Rattle.std.specs.Prelude.{◌≡◌, ◌≤◌, ◌<◌, ◌+◌, ◌∷◌, ◌++◌, [], ℕ, List, All, IfOk, IfSome, is_some, nat_lt};
+ghost use Rattle.std.specs.Vec.{vec_capacity, vec_len};
+ghost use Rattle.adlb_unit.specs.Ring.{behind};
 
-use adlb_unit::{NoMemory, Payload, Sending, or_no_memory};
+use crate::clients::behind;
+use adlb_unit::{Config, NoMemory, Payload, Sending, Server, or_no_memory};
 use bag_ledger::Entry;
 use std::alloc::Global;
 use std::marker::Model;
+use std::mem;
 
 // What it takes to offer a unit or a common part to one more server: its bytes, and room for the letter. It is seen as the bytes.
 // A try offers no bytes, nor does that the problem is done.
@@ -35,15 +38,6 @@ impl Offer {
         let sends = or_no_memory(Vec::with_capacity(alloc, 1))?;
         Ok(Offer { body, sends })
     }
-
-    // The room for the letter alone.
-    pub(crate) fn into_sends(self) -> Vec<Sending>
-        ensures room { 1 ≤ vec_capacity result }
-        ensures none { result.items ≡ [] }
-    {
-        let Offer { sends, .. } = self;
-        sends
-    }
 }
 
 // Room for what the rest of a call may need. The bytes of a fetch, the unit's own and those of its common part, are copied to
@@ -68,6 +62,37 @@ impl Room {
             sends: Vec::new(alloc),
         }
     }
+
+    // What it takes to ask the next server in ring order, after so many were asked from the first one on; nothing if all were.
+    pub(crate) fn next(
+        &mut self,
+        config: &Config,
+        first: Server,
+        tried: u32,
+    ) -> Option<(Server, Offer)>
+        requires first { first.0 < config.now.servers }
+        requires room { vec_len self.old.tries + tried + 1 ≡ config.now.servers }
+        ensures more { is_some result ≡ nat_lt (tried + 1) config.now.servers }
+        ensures server { IfSome result (λ next. (next.0 ≡ behind config.now first (tried + 1)) × (next.0.0 < config.now.servers)) }
+        ensures offer { IfSome result (λ next. self.old.tries.items ≡ self.new.tries.items ++ next.1 ∷ []) }
+        ensures bodies { (body : List ℕ) → All (λ b. b ≡ body) self.old.tries.items → All (λ b. b ≡ body) self.new.tries.items }
+        ensures room { IfSome result (λ next. vec_len self.new.tries + (tried + 1) + 1 ≡ config.now.servers) }
+        ensures others { self.new ≡ record self.old { tries = self.new.tries } }
+    {
+        let offer = self.tries.pop()?;
+        Some((behind(config, first, tried as u64 + 1), offer))
+    }
+
+    // The list of this entry alone.
+    pub(crate) fn entered(&mut self, alloc: Global, entry: Entry) -> Vec<Entry>
+        requires room { 1 ≤ vec_capacity self.old.entries }
+        requires none { self.old.entries.items ≡ [] }
+        ensures { result.items ≡ entry ∷ [] }
+    {
+        let mut entries = mem::replace(&mut self.entries, Vec::new(alloc));
+        entries.push_reserved(entry);
+        entries
+    }
 }
 
 // Room for the letters and the entry of Finish.
@@ -75,4 +100,15 @@ impl Room {
 pub(crate) struct Farewell {
     pub(crate) sends: Vec<Sending>,
     pub(crate) entries: Vec<Entry>,
+}
+
+impl Farewell {
+    pub(crate) fn new(alloc: Global, servers: usize) -> Result<Farewell, NoMemory>
+        ensures sends { IfOk result (λ f. (f.sends.items ≡ []) × (vec_capacity f.sends ≡ servers)) }
+        ensures entries { IfOk result (λ f. (f.entries.items ≡ []) × (vec_capacity f.entries ≡ 1)) }
+    {
+        let sends = or_no_memory(Vec::with_capacity(alloc, servers))?;
+        let entries = or_no_memory(Vec::with_capacity(alloc, 1))?;
+        Ok(Farewell { sends, entries })
+    }
 }

@@ -40,12 +40,8 @@ impl Transcript {
         ensures places { IfOk result (λ t. 1 ≤ t.places) }
         ensures ids { IfOk result (λ t. 2 ≤ t.ids) }
     {
-        let (Ok(said), Ok(ids)) = (
-            Vec::with_capacity(alloc, 1),
-            HashSet::with_capacity(alloc, 2),
-        ) else {
-            return Err(NoMemory);
-        };
+        let said = or_no_memory(Vec::with_capacity(alloc, 1))?;
+        let ids = or_no_memory(HashSet::with_capacity(alloc, 2))?;
         Ok(Transcript { said, ids })
     }
 }
