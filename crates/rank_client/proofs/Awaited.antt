@@ -4,7 +4,7 @@ use Rattle.std.proofs.Math.ListN.{length-set}
 use Rattle.std.proofs.lemmas.List.{length_push}
 use Rattle.std.specs.Prelude.{if◌then◌else◌, IfSome, IsSome, nat_lt}
 use Rattle.std.specs.Option.{option_map}
-use Rattle.std.proofs.lemmas.Bool.{and_parts, lt-ltb, ltb-true, not-true}
+use Rattle.std.proofs.lemmas.Bool.{and_parts, ltb-true, not-true}
 use Rattle.std.proofs.lemmas.List.Elements.{All-push, All-same, All-set}
 use Rattle.adlb_unit.specs.declared.letters.Letter.{Letter}
 use Rattle.adlb_unit.specs.declared.messages.Message.{Message}
@@ -179,11 +179,6 @@ heard_is s from letter none (inr some) = by_test (not s.finished && nat_lt lette
         record { going = not-true s.finished parts.0; stamp = ltb-true letter.stamp (2 ^ 48) parts.1; awaited = some_mapped _ some }
     by_test false is some = absurd (cc)
 
-pub hear_is : (s : ClientModel) (from : Server) (letter : Letter) → IsHeard s from letter → hear s from letter ≡ option_map made (answer_call (ticked s (letter_stamp s letter)) s.pending from letter.message)
-hear_is s from letter h =
-    let small : nat_lt letter.stamp (2 ^ 48) ≡ true = lt-ltb letter.stamp (2 ^ 48) h.stamp in
-    rw (h.going, small) refl
-
-pub given_stamp : (s : ClientModel) (from : Server) (letter : Letter) → told_trouble letter.message ≡ None
-    → (IsSome (told_trouble letter.message) ⊎ IsSome (hear s from letter)) → letter.stamp < 2 ^ 48
-given_stamp s from letter none expected = (heard_is s from letter none expected).stamp
+pub none_left : {X : Type 0} (o : Option X) → ((x : X) → o ≡ Some x → ⊥) → o ≡ None
+none_left None other = refl
+none_left (Some x) other = absurd (other x refl)

@@ -42,6 +42,7 @@ impl ClientCore {
         })
     }
 
+    // The home is asked first.
     fn look_first(&self, types: Types) -> Result<First, NoMemory>
         ensures ok { IfOk result (λ first. (s : ClientModel) (entry : Entry) → response_to s entry first
             ≡ asks s entry (looks_at self.now 0) (Message.Try self.now.next types) (Pending.Try self.now.next types 0)) }

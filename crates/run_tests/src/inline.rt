@@ -209,20 +209,13 @@ fn works(
     ensures { has_finished world.new.run.transcript ≡ false }
 {
     let given = work(world)?;
-    has_bytes(rt, alloc, &given, common, byte, n)
+    assert!(rt; has_bytes(alloc, &given, common, byte, n)?);
+    Ok(())
 }
 
-fn has_bytes(
-    rt: &impl Abort,
-    alloc: Global,
-    given: &Body,
-    common: &str,
-    byte: u8,
-    n: u8,
-) -> Result<(), Fail> {
+fn has_bytes(alloc: Global, given: &Body, common: &str, byte: u8, n: u8) -> Result<bool, Fail> {
     let own = body(alloc, byte, n)?;
-    assert_eq!(rt; given.runs(), (common.as_bytes(), own.bytes()));
-    Ok(())
+    Ok(given.runs() == (common.as_bytes(), own.bytes()))
 }
 
 // A batch begins; the script has it where none is going on.
@@ -322,15 +315,30 @@ fn check(
     acts: &[Act],
     calls: usize,
     ledger: &[&str],
-    left: &[LeftUnit],
+    left: &[Left],
 ) -> Result<(), Fail>
     requires least { 64 ≤ limit }
     requires most { limit ≤ 2 ^ 30 }
 {
+    assert!(rt; has_ended(rt, alloc, limit, acts, calls, ledger, left)?);
+    Ok(())
+}
+
+fn has_ended(
+    rt: &impl Abort,
+    alloc: Global,
+    limit: u64,
+    acts: &[Act],
+    calls: usize,
+    ledger: &[&str],
+    left: &[Left],
+) -> Result<bool, Fail>
+    requires least { 64 ≤ limit }
+    requires most { limit ≤ 2 ^ 30 }
+{
     let (entries, said, units) = played(rt, alloc, limit, acts)?.end()?;
-    assert_eq!(rt; said.len(), calls);
-    assert_eq!(rt; units.as_slice(), left);
-    has_lines(rt, alloc, entries.entries(), ledger)
+    let is_left = said.len() == calls && are_left(units.as_slice(), left);
+    Ok(is_left && has_lines(alloc, entries.entries(), ledger)?)
 }
 
 // A world with this limit in which each step was made, and the rank finished.
@@ -363,19 +371,18 @@ fn play_out(
 }
 
 // These are the entries, as they are shown.
-fn has_lines(
-    rt: &impl Abort,
-    alloc: Global,
-    entries: &[Entry],
-    ledger: &[&str],
-) -> Result<(), Fail> {
-    let mut lines = ledger.iter();
-    for entry in entries {
-        let line = line(alloc, entry)?;
-        assert_eq!(rt; Some(&line.as_str()), lines.next());
+fn has_lines(alloc: Global, entries: &[Entry], ledger: &[&str]) -> Result<bool, Fail> {
+    for (entry, wanted) in entries.iter().zip(ledger) {
+        if !is_line(alloc, entry, wanted)? {
+            return Ok(false);
+        }
     }
-    assert!(rt; lines.next().is_none());
-    Ok(())
+    Ok(entries.len() == ledger.len())
+}
+
+fn is_line(alloc: Global, entry: &Entry, wanted: &str) -> Result<bool, Fail> {
+    let line = line(alloc, entry)?;
+    Ok(line.as_str() == wanted)
 }
 
 // An entry as it is shown: of what is put its type, its length and its first byte, of a common part these two, and of a
@@ -430,15 +437,24 @@ fn add_bytes(line: &mut String, bytes: &[u8]) -> Result<(), Fail> {
     Ok(write!(line, "{} bytes, {first:?}", bytes.len())?)
 }
 
-const fn unit(number: u64, pinned: Option<Rank>) -> LeftUnit {
-    LeftUnit {
-        id: UnitId {
-            rank: Rank(0),
-            number,
-        },
-        server: Server(0),
-        pinned,
-    }
+// A unit that is left: the number of its put, and the rank to which it is pinned.
+type Left = (u64, Option<Rank>);
+
+fn are_left(units: &[LeftUnit], left: &[Left]) -> bool {
+    units.len() == left.len()
+        && units
+            .iter()
+            .zip(left)
+            .all(|(found, wanted)| is_left(found, *wanted))
+}
+
+// It was put by rank 0, and is at server 0.
+fn is_left(found: &LeftUnit, (number, pinned): Left) -> bool {
+    let id = UnitId {
+        rank: Rank(0),
+        number,
+    };
+    found.id == id && found.server == Server(0) && found.pinned == pinned
 }
 
 #[test]
@@ -512,8 +528,8 @@ fn units_that_are_not_fetched_are_left(rt: HostRuntime) -> Result<(), Fail> {
         "Granted { server: Server(0), rank: Rank(0), call: 3, id: UnitId { rank: Rank(0), number: 0 } }",
         "Finished { rank: Rank(0), call: 4 }",
     ];
-    let left = [unit(0, Some(Rank(0))), unit(2, None)];
-    check(&rt, rt.alloc(), 64, ACTS, 5, LEDGER, &left)
+    const LEFT: &[Left] = &[(0, Some(Rank(0))), (2, None)];
+    check(&rt, rt.alloc(), 64, ACTS, 5, LEDGER, LEFT)
 }
 
 #[test]
@@ -559,8 +575,8 @@ fn free_units_of_a_type_are_counted_by_their_priority(rt: HostRuntime) -> Result
         "Counted { server: Server(0), rank: Rank(0), call: 10, info: Info { free: 0, top: None, at_top: 0 } }",
         "Finished { rank: Rank(0), call: 11 }",
     ];
-    let left = [unit(0, Some(Rank(0)))];
-    check(&rt, rt.alloc(), 64, ACTS, 12, LEDGER, &left)
+    const LEFT: &[Left] = &[(0, Some(Rank(0)))];
+    check(&rt, rt.alloc(), 64, ACTS, 12, LEDGER, LEFT)
 }
 
 #[test]
@@ -600,8 +616,8 @@ fn a_try_is_granted_what_is_free(rt: HostRuntime) -> Result<(), Fail> {
         "Over { rank: Rank(0), call: 4, end: Exhausted }",
         "Finished { rank: Rank(0), call: 5 }",
     ];
-    let left = [unit(0, Some(Rank(0)))];
-    check(&rt, rt.alloc(), 64, ACTS, 6, LEDGER, &left)
+    const LEFT: &[Left] = &[(0, Some(Rank(0)))];
+    check(&rt, rt.alloc(), 64, ACTS, 6, LEDGER, LEFT)
 }
 
 #[test]
@@ -731,8 +747,8 @@ fn a_unit_that_is_left_keeps_its_common_part(rt: HostRuntime) -> Result<(), Fail
         "Granted { server: Server(0), rank: Rank(0), call: 3, id: UnitId { rank: Rank(0), number: 1 } }",
         "Finished { rank: Rank(0), call: 4 }",
     ];
-    let left = [unit(1, Some(Rank(0)))];
-    check(&rt, rt.alloc(), 64, ACTS, 5, LEDGER, &left)
+    const LEFT: &[Left] = &[(1, Some(Rank(0)))];
+    check(&rt, rt.alloc(), 64, ACTS, 5, LEDGER, LEFT)
 }
 
 #[test]
@@ -766,7 +782,7 @@ fn after_the_problem_is_done_no_call_gets_work(rt: HostRuntime) -> Result<(), Fa
         "Done { rank: Rank(0), call: 7 }",
         "Finished { rank: Rank(0), call: 8 }",
     ];
-    check(&rt, rt.alloc(), 64, ACTS, 9, LEDGER, &[unit(0, None)])
+    check(&rt, rt.alloc(), 64, ACTS, 9, LEDGER, &[(0, None)])
 }
 
 #[test]
@@ -790,5 +806,5 @@ fn a_batch_ends_after_the_problem_is_done(rt: HostRuntime) -> Result<(), Fail> {
         "Closed { server: Server(0), batch: BatchId { rank: Rank(0), number: 0 } }",
         "Finished { rank: Rank(0), call: 5 }",
     ];
-    check(&rt, rt.alloc(), 64, ACTS, 6, LEDGER, &[unit(1, None)])
+    check(&rt, rt.alloc(), 64, ACTS, 6, LEDGER, &[(1, None)])
 }

@@ -45,7 +45,7 @@ enum Does {
 }
 
 // Three puts of 56 bytes, each accepted at another server.
-const FILLS: [Does; 9] = [
+const FILLS: &[Does] = &[
     Does::Puts(56),
     Does::Delivers(RANK, FIRST),
     Does::Delivers(FIRST, RANK),
@@ -377,7 +377,7 @@ fn rejects_after_every_server_refused(rt: HostRuntime) -> Result<(), Fail> {
         Does::Delivers(THIRD, RANK),
     ];
     const SCENE: &[(Line, &str)] = &[
-        (Line::Runs(&FILLS), "9 done"),
+        (Line::Runs(FILLS), "9 done"),
         (Line::Runs(REFUSED), "7 done"),
         (
             Line::Ledger,
@@ -438,7 +438,7 @@ fn a_run_stops_at_the_first_refusal(rt: HostRuntime) -> Result<(), Fail> {
 #[test]
 fn each_server_hears_of_the_end_and_keeps_what_is_left(rt: HostRuntime) -> Result<(), Fail> {
     const SCENE: &[(Line, &str)] = &[
-        (Line::Runs(&FILLS), "9 done"),
+        (Line::Runs(FILLS), "9 done"),
         (Line::Applies(Does::Finishes), "done"),
         (Line::Waiting(RANK, FIRST), "1"),
         (Line::Applies(Does::Delivers(RANK, FIRST)), "done"),
@@ -467,7 +467,7 @@ fn each_server_hears_of_the_end_and_keeps_what_is_left(rt: HostRuntime) -> Resul
 }
 
 // The only server of a run takes two units, of priorities 3 and 7.
-const TWO_PRIORITIES: [Does; 6] = [
+const TWO_PRIORITIES: &[Does] = &[
     Does::PutsAt(3),
     Does::Delivers(RANK, FIRST),
     Does::Delivers(FIRST, RANK),
@@ -493,7 +493,7 @@ const COUNT_2: [Does; 3] = [
 #[test]
 fn a_count_tells_of_the_units_of_a_type(rt: HostRuntime) -> Result<(), Fail> {
     const SCENE: &[(Line, &str)] = &[
-        (Line::Runs(&TWO_PRIORITIES), "6 done"),
+        (Line::Runs(TWO_PRIORITIES), "6 done"),
         (Line::Runs(&COUNT_1), "3 done"),
         (Line::Info, "Info { free: 2, top: Some(7), at_top: 1 }"),
         (Line::Runs(&COUNT_2), "3 done"),
@@ -510,7 +510,7 @@ fn a_count_tells_of_the_units_of_a_type(rt: HostRuntime) -> Result<(), Fail> {
 #[test]
 fn a_count_tells_of_the_home_alone(rt: HostRuntime) -> Result<(), Fail> {
     const SCENE: &[(Line, &str)] = &[
-        (Line::Runs(&FILLS), "9 done"),
+        (Line::Runs(FILLS), "9 done"),
         (Line::Applies(Does::Counts(1)), "done"),
         (Line::Waiting(RANK, SECOND), "0"),
         // It waits for the answer.
@@ -523,7 +523,7 @@ fn a_count_tells_of_the_home_alone(rt: HostRuntime) -> Result<(), Fail> {
 }
 
 // A try for which each of three servers is asked.
-const LOOKS: [Does; 7] = [
+const LOOKS: &[Does] = &[
     Does::Tries,
     Does::Delivers(RANK, FIRST),
     Does::Delivers(FIRST, RANK),
@@ -536,7 +536,7 @@ const LOOKS: [Does; 7] = [
 #[test]
 fn there_is_no_work_after_each_server_has_looked(rt: HostRuntime) -> Result<(), Fail> {
     const SCENE: &[(Line, &str)] = &[
-        (Line::Runs(&LOOKS), "7 done"),
+        (Line::Runs(LOOKS), "7 done"),
         (
             Line::Ledger,
             "tried 0 0 0; looked 0 0 0; looked 0 1 0; looked 0 2 0; no current 0 0 0; ",
@@ -590,7 +590,7 @@ fn a_try_is_granted_the_unit_of_another_server(rt: HostRuntime) -> Result<(), Fa
 }
 
 // A batch over the bytes `xy`: the units `a` and `b` are put.
-const BATCH: [Does; 9] = [
+const BATCH: &[Does] = &[
     Does::Begins([b'x', b'y']),
     Does::Delivers(RANK, FIRST),
     Does::Delivers(FIRST, RANK),
@@ -602,7 +602,7 @@ const BATCH: [Does; 9] = [
     Does::Delivers(FIRST, RANK),
 ];
 
-const END: [Does; 3] = [
+const END: &[Does] = &[
     Does::Ends,
     Does::Delivers(RANK, FIRST),
     Does::Delivers(FIRST, RANK),
@@ -636,12 +636,12 @@ const WORK_2: [Does; 8] = [
 fn a_common_part_is_fetched_with_each_unit_and_then_freed(rt: HostRuntime) -> Result<(), Fail> {
     const SCENE: &[(Line, &str)] = &[
         (Line::Applies(Does::Ends), "refused"),
-        (Line::Runs(&BATCH), "9 done"),
+        (Line::Runs(BATCH), "9 done"),
         // A batch is going on, so the rank does not finish.
         (Line::Applies(Does::Finishes), "refused"),
         (Line::Runs(&COUNT_1), "3 done"),
         (Line::Info, "Info { free: 2, top: Some(0), at_top: 2 }"),
-        (Line::Runs(&END), "3 done"),
+        (Line::Runs(END), "3 done"),
         (Line::Runs(&WORK_1), "8 done"),
         (Line::Body, "xy a"),
         (Line::Runs(&WORK_2), "8 done"),

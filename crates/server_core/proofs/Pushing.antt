@@ -14,12 +14,12 @@ use Rattle.work_queue.specs.Queue.{HasFree, HasPromise, Queue, charge_of, id_of,
 use Rattle.work_queue.specs.declared.placing.Placed.{Placed}
 use Rattle.put_path.specs.Pushes.{IsPromise, PushModel, Pushing, asks_room, has_sent, with_push, with_pushing}
 use Rattle.put_path.proofs.StandingPushes.{push_from}
-use Rattle.server_law.specs.Acts.{Cancels, Ends_push, Promises, Refuses_push, Sends_unit, Withdraws, does, to_server}
-use Rattle.server_law.specs.Carried.{Served, counted, done, posted}
+use Rattle.server_law.specs.Acts.{Cancels, Promises, Refuses_push, Sends_unit, Withdraws, does, to_server}
+use Rattle.server_law.specs.Carried.{Served, counted, posted}
 use Rattle.server_law.specs.Finding.{exceeds, has_promise, is_free_as}
 use Rattle.server_law.specs.Plan.{Plan, plan}
 use Rattle.server_law.specs.Presses.{presses}
-use Rattle.server_law.specs.Pushes.{ack_at, ack_rule, answer_query, cancel_rule, expects_query, query_rule, sends as sends_on, yes_at, yes_rule}
+use Rattle.server_law.specs.Pushes.{ack_rule, answer_query, cancel_rule, expects_query, no_rule, query_rule, sends as sends_on, yes_at, yes_rule}
 use Rattle.server_law.specs.Puts.{expects_put, is_taken, put_now, put_rule, settles}
 use Rattle.server_law.specs.State.{ServerModel}
 use Rattle.server_law.proofs.Expected.{server_rule_awaited}
@@ -27,7 +27,7 @@ use Rattle.server_law.proofs.Found.{free_is, free_there, none_free}
 use Rattle.server_core.specs.Inside.{IsInside, IsSound, bytes_in, state_of}
 use Rattle.server_core.specs.Out.{HasRoom, Out, going_on, made, planned, with_answer, with_letter}
 use Rattle.server_core.specs.declared.states.ServerState.TheInside.{Inside}
-use Rattle.server_core.proofs.Going.{answers_only, decides, goes_nowhere, goes_on, plan_if, says_only, silent}
+use Rattle.server_core.proofs.Going.{answers_only, decides, goes_on, plan_if, says_only}
 
 -- the server with this queue and this push
 abbrev pub moved : ServerModel → Queue → Pushing → ServerModel
@@ -84,6 +84,9 @@ module _ (s : ServerModel) (from : Server) (id : UnitId) where
   pub yes_stands : IsSome (yes_rule s from id) → (n : ℕ) × (s.kept.pushing.push ≡ Some (asks_room from id n))
   yes_stands some = (server_rule_awaited s from (tells.PushYes id)).0 some
 
+  pub no_stands : IsSome (no_rule s from id) → (n : ℕ) × (s.kept.pushing.push ≡ Some (asks_room from id n))
+  no_stands some = (server_rule_awaited s from (tells.PushNo id)).0 some
+
   pub ack_stands : IsSome (ack_rule s from id) → (n : ℕ) × (s.kept.pushing.push ≡ Some (has_sent from id n))
   ack_stands some = (server_rule_awaited s from (tells.PushAck id)).0 some
 
@@ -139,17 +142,6 @@ module _ (s : ServerModel) (out : Out) (from : Server) (id : UnitId) (n : ℕ)
       let goes = says_only a s out x refl refl in
       let rule = yes_is None (none_free id s.kept.queue.units unfree) in
       subst (λ r. made t last ≡ planned out r s) (some_is (sym rule ∙ is)) (rw (now, letter) goes)
-
--- The push has ended.
-pub ends_goes : (s : ServerModel) (out : Out) (from : Server) (id : UnitId) (n : ℕ) → s.kept.pushing.push ≡ Some (has_sent from id n)
-    → (t : ServerModel) → t ≡ done (Ends_push from id n) s
-    → (p : Plan) → ack_rule s from id ≡ Some p → made t out ≡ planned out p s
-ends_goes s out from id n stands t after p is =
-    let a = Ends_push from id n in
-    let rule = ap (ack_at from id) stands
-    ∙ ap (λ b. cond b (plan (Ends_push from id n) []) None) (push_from from id n true) in
-    let goes = goes_nowhere out (does a s) ∙ sym (silent a [] s out refl refl) in
-    subst (λ r. made t out ≡ planned out r s) (some_is (sym rule ∙ is)) (rw after goes)
 
 -- Room is promised where there is some, and otherwise refused.
 module _ (s : ServerModel) (out : Out) (from : Server) (id : UnitId) (n : ℕ) (queue : Queue) (t : ServerModel) (last : Out)

@@ -1,18 +1,27 @@
-use Rattle.std.proofs.Common.{◌≡◌, ◌∷◌, [], sym, ap, ◌∙◌, subst}
+use Rattle.std.proofs.Common.{◌≡◌, ◌∷◌, [], refl, sym, ap, ◌∙◌, subst}
 use Rattle.std.proofs.lemmas.List.Elements.{All-contains}
 use Rattle.bag_ledger.proofs.Tests.{some_is}
 use Rattle.work_queue.specs.Queue.{id_of}
 use Rattle.work_queue.specs.declared.placing.Placed.{Placed}
-use Rattle.server_law.specs.Acts.{Fetches}
+use Rattle.server_law.specs.Acts.{Fetches, Notes_finish}
 use Rattle.server_law.specs.Expected.{IsAwaited}
 use Rattle.server_law.specs.Fetches.{fetch}
 use Rattle.server_law.specs.Plan.{Plan}
+use Rattle.server_law.specs.State.{runs}
 use Rattle.server_law.specs.Step.{rank_rule}
 use Rattle.server_law.proofs.Expected.{rule_awaited}
 use Rattle.server_law.proofs.Found.{pinned_is, pinned_there}
 use Rattle.server_core.specs.Out.{going_on, made, planned}
-use Rattle.server_core.proofs.Going.{close_goes}
+use Rattle.server_core.proofs.Going.{close_goes, nothing_said, plan_if}
 use Rattle.server_core.proofs.states.ServerState.follow.Goals as goal
+
+pub returns-in-Finish-clause-ok : goal.returns-in-Finish-clause-ok
+returns-in-Finish-clause-ok c p is =
+    let s = c.args.self.now in
+    let out = c.args.out.now in
+    let heard = ap (λ t. made t out) c.finish.ensures ∙ nothing_said (Notes_finish c.args.from) s out refl refl in
+    plan_if (runs s.kept c.args.from) (Notes_finish c.args.from) [] s out (made c.finish.new.self out) heard p
+    (ap (rank_rule s c.args.from) (sym c.in-Finish.is) ∙ is)
 
 pub fetch-requires-clause-pinned : goal.fetch-requires-clause-pinned
 fetch-requires-clause-pinned c =

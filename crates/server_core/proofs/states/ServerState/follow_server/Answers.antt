@@ -1,14 +1,16 @@
-use Rattle.std.proofs.Common.{◌==◌, IsSome, refl, sym, ap, ◌∙◌, subst}
+use Rattle.std.proofs.Common.{◌==◌, true, false, IsSome, refl, sym, ap, ◌∙◌, subst}
 use Rattle.adlb_unit.specs.declared.messages.Message.TheVariants as tells
 use Rattle.exhaust_ring.specs.Expected.{is_running}
-use Rattle.server_law.specs.Acts.{Hears_failed, Hears_shutdown, Wants}
+use Rattle.server_law.specs.Acts.{Ends_push, Hears_failed, Hears_shutdown, Stops_push, Wants}
 use Rattle.server_law.specs.Carried.{done}
+use Rattle.put_path.specs.Pushes.{asks_room, has_sent, is_push_as}
+use Rattle.server_law.specs.Pushes.{ack_at, no_at}
 use Rattle.server_law.specs.State.{ring_at}
 use Rattle.server_law.specs.Step.{server_rule}
 use Rattle.server_law.proofs.Expected.{server_rule_awaited}
 use Rattle.server_core.specs.Out.{HasRoom}
 use Rattle.server_core.proofs.Checking.{heard_goes, heard_room}
-use Rattle.server_core.proofs.Pushing.{ack_stands, ends_goes}
+use Rattle.server_core.proofs.Pushing.{ack_stands, no_stands}
 use Rattle.server_core.proofs.states.ServerState.follow_server.Goals as goal
 
 -- The letters of checks.
@@ -67,12 +69,40 @@ returns-in-Shutdown-clause-room c =
     let t = done (Hears_shutdown c.args.from) s in
     subst (λ u. HasRoom u out 1) (sym (c.hear_shutdown.ensures c.args.from)) (heard_room s t out c.requires.verdict refl refl refl)
 
+-- The letters by which a push ends.
+
+pub returns-in-PushNo-clause-ok : goal.returns-in-PushNo-clause-ok
+returns-in-PushNo-clause-ok c p is =
+    let s = c.args.self.now in
+    let from = c.args.from in
+    let id = c.in-PushNo.id in
+    let stands = no_stands s from id (subst (λ m. IsSome (server_rule s from m)) c.in-PushNo.is c.requires.expected) in
+    let rule = sym (ap (no_at from id) stands.1) ∙ ap (λ m. server_rule s from m) (sym c.in-PushNo.is) ∙ is in
+    heard_goes (is_push_as from id false (asks_room from id stands.0)) (Stops_push from id stands.0) s c.hear_no.new.self c.args.out.now
+    refl refl (c.hear_no.ensures from id stands.0 stands.1) p rule
+
+pub returns-in-PushNo-clause-room : goal.returns-in-PushNo-clause-room
+returns-in-PushNo-clause-room c =
+    let s = c.args.self.now in
+    let id = c.in-PushNo.id in
+    let stands = no_stands s c.args.from id (subst (λ m. IsSome (server_rule s c.args.from m)) c.in-PushNo.is c.requires.expected) in
+    subst (λ u. HasRoom u c.args.out.now 1) (sym (c.hear_no.ensures c.args.from id stands.0 stands.1))
+    (heard_room s (done (Stops_push c.args.from id stands.0) s) c.args.out.now c.requires.verdict refl refl refl)
+
 pub returns-in-PushAck-clause-ok : goal.returns-in-PushAck-clause-ok
 returns-in-PushAck-clause-ok c p is =
     let s = c.args.self.now in
     let from = c.args.from in
     let id = c.in-PushAck.id in
-    let some = subst (λ m. IsSome (server_rule s from m)) c.in-PushAck.is c.requires.expected in
-    let stands = ack_stands s from id some in
-    ends_goes s c.args.out.now from id stands.0 stands.1 c.hear_ack.new.self (c.hear_ack.ensures from id stands.0 stands.1) p
-    (ap (λ m. server_rule s from m) (sym c.in-PushAck.is) ∙ is)
+    let stands = ack_stands s from id (subst (λ m. IsSome (server_rule s from m)) c.in-PushAck.is c.requires.expected) in
+    let rule = sym (ap (ack_at from id) stands.1) ∙ ap (λ m. server_rule s from m) (sym c.in-PushAck.is) ∙ is in
+    heard_goes (is_push_as from id true (has_sent from id stands.0)) (Ends_push from id stands.0) s c.hear_ack.new.self c.args.out.now
+    refl refl (c.hear_ack.ensures from id stands.0 stands.1) p rule
+
+pub returns-in-PushAck-clause-room : goal.returns-in-PushAck-clause-room
+returns-in-PushAck-clause-room c =
+    let s = c.args.self.now in
+    let id = c.in-PushAck.id in
+    let stands = ack_stands s c.args.from id (subst (λ m. IsSome (server_rule s c.args.from m)) c.in-PushAck.is c.requires.expected) in
+    subst (λ u. HasRoom u c.args.out.now 1) (sym (c.hear_ack.ensures c.args.from id stands.0 stands.1))
+    (heard_room s (done (Ends_push c.args.from id stands.0) s) c.args.out.now c.requires.verdict refl refl refl)
