@@ -30,7 +30,7 @@ use Rattle.server_law.specs.Acts.{Act, Around, Asks_on, Closes, ServerSaying, do
 use Rattle.server_law.specs.Batches.{can_close, close, close_rule, part_if}
 use Rattle.server_law.specs.Endings.{checks, ends_event, notices}
 use Rattle.server_law.specs.Step.{acts, at_event, rule, serve, server_rule}
-use Rattle.server_law.specs.Carried.{Served, all_done, counted, done, posted}
+use Rattle.server_law.specs.Carried.{Served, all_done, carried, counted, done, posted}
 use Rattle.server_law.specs.Plan.{Decider, Plan, decided, in_order, plan}
 use Rattle.server_law.specs.State.{ServerModel}
 use Rattle.server_law.proofs.Carrying.{decided_carried, followed, followed_by, followed_more, followed_none, with_act}
@@ -97,6 +97,18 @@ serves s t u out room from letter some now goes =
     tested_is : {X : Type 0} {o : Option X} (b : Bool) → IsSome (cond b o None) → cond b o None ≡ o
     tested_is true some = refl
     tested_is false some = absurd (cc)
+
+-- and has a rule
+pub serve_rule : (s : ServerModel) (from : Actor) (letter : Letter) → IsSome (serve s from letter)
+    → IsSome (rule (at_event s letter) from letter.message)
+serve_rule s from letter some =
+    by_test (is_within s.config from && nat_lt letter.stamp stamp_limit) (rule (at_event s letter) from letter.message) some
+  where
+    by_test : (b : Bool) (o : Option Plan)
+        → IsSome (cond b (option_map (λ l. carried l (at_event s letter)) (option_map (in_order ends_event (at_event s letter)) o)) None) → IsSome o
+    by_test true None some = absurd (cc)
+    by_test true (Some p) some = refl
+    by_test false o some = absurd (cc)
 
 -- the rule of another server's letter
 pub server_rule_is : (s : ServerModel) (from : Server) (message : Message) (p : Plan) → rule s (by.Server from) message ≡ Some p
