@@ -86,7 +86,8 @@ module _ (s : ServerModel) (out : Out) (from : Server) (p : Place) (at : IsAsked
 
   -- the acts that follow, where the rank is looked at again and another server is asked
   by_rule : (l m : List Act)
-      → look_again s.kept.done s.kept.exhausted (best_for s.kept.queue p.here.wish.rank p.here.wish.types) p.at p.here.wish p.here.to_ask ≡ l
+      → look_again s.kept.done s.kept.exhausted
+      (best_for s.kept.queue p.here.wish.rank p.here.wish.types) p.at p.here.wish p.here.to_ask ≡ l
       → asks_on p.here.wish.rank (all_done l woken) ≡ m
       → (q : Plan) → none_rule s from p.here.wish.rank p.here.wish.request ≡ Some q → going_on out (wakes ∷ (l ++ m)) s ≡ planned out q s
   by_rule l m first second q is =
@@ -118,7 +119,8 @@ module _ (s : ServerModel) (out : Out) (from : Server) (p : Place) (at : IsAsked
 
   asks_next_of : (rest : List Server) → p.here.to_ask ≡ rest → asks_on p.here.wish.rank woken ≡ ask_next p.at p.here.wish None rest
   asks_next_of rest to_ask =
-      asks_here p.at.before (idle p.here.wish p.here.to_ask) p.at.behind at.alone.before woken refl ∙ ap (ask_next p.at p.here.wish None) to_ask
+      asks_here p.at.before (idle p.here.wish p.here.to_ask) p.at.behind at.alone.before woken refl
+      ∙ ap (ask_next p.at p.here.wish None) to_ask
 
   steps_here : over s.kept ≡ None → (o : Option Placed) → best_for s.kept.queue p.here.wish.rank p.here.wish.types ≡ o
       → (rest : List Server) → p.here.to_ask ≡ rest → (q : Plan) → none_rule s from p.here.wish.rank p.here.wish.request ≡ Some q
@@ -127,7 +129,8 @@ module _ (s : ServerModel) (out : Out) (from : Server) (p : Place) (at : IsAsked
   steps_here is (Some u) best rest to_ask q rule =
       let a = Gives p.at p.here.wish p.here.to_ask u.unit in
       let told = told_note p.here.wish.rank p.here.wish.request (note_of s.me u.unit) out in
-      ap (λ l. told (with_parked s (pinned_to p.here.wish.rank (Some u) s.kept.queue) (record { waiting = l; wishes = s.kept.parked.wishes })))
+      ap (λ l. told (with_parked s (pinned_to p.here.wish.rank (Some u) s.kept.queue)
+      (record { waiting = l; wishes = s.kept.parked.wishes })))
       (gone_is p.here.wish.rank waiting p at.alone)
       ∙ by_rule (a ∷ []) [] (goes_on is (Some u) best) (asks_gone p.here.wish.rank (done a woken) none_left) q rule
   steps_here is None best [] to_ask q rule =
@@ -137,11 +140,13 @@ module _ (s : ServerModel) (out : Out) (from : Server) (p : Place) (at : IsAsked
       ∙ by_rule [] [] (goes_on is None best) (asks_next_of [] to_ask) q rule
   steps_here is None best (to ∷ rest) to_ask q rule =
       let seat = turned ∙ ap (λ l. at_waiting s (p.at.before ++ asking p.here.wish l ∷ p.at.behind)) to_ask in
-      ap (told_ask to p.here.wish.rank p.here.wish.request p.here.wish.types out) seat ∙ asks_then wakes s out refl refl p.at p.here.wish to rest
+      ap (told_ask to p.here.wish.rank p.here.wish.request p.here.wish.types out) seat
+      ∙ asks_then wakes s out refl refl p.at p.here.wish to rest
       ∙ by_rule [] (Asks_on p.at p.here.wish to rest ∷ []) (goes_on is None best) (asks_next_of (to ∷ rest) to_ask) q rule
 
   asks_of : (o : Option Placed) (to : Server) → comes_to.Ask to ≡ step_for s.me o p.here.to_ask
-      → entry_of (parked_of (with_parked s (pinned_to p.here.wish.rank o s.kept.queue) (after_none (parked_of s) p.here.wish.rank o).parked))
+      → entry_of (parked_of (with_parked s (pinned_to p.here.wish.rank o s.kept.queue)
+      (after_none (parked_of s) p.here.wish.rank o).parked))
       p.here.wish.rank ≡ Some (asks_next p.here)
   asks_of (Some u) to told = absurd (cc)
   asks_of None to told =

@@ -33,7 +33,7 @@ use Rattle.server_law.specs.State.{Kept, ServerModel, ring_at}
 use Rattle.server_law.proofs.Carrying.{followed, followed_more}
 use Rattle.server_core.specs.Checks.{said, step_enters, step_letters, step_says, step_tells, stepped, with_check}
 use Rattle.server_core.specs.Out.{HasRoom, Out, event_letters, going_on, made, planned, with_entry, with_letter}
-use Rattle.server_core.proofs.Going.{goes_nowhere, plan_if, plan_one, silent}
+use Rattle.server_core.proofs.Going.{goes_nowhere, plan_if, plan_one, room_less, silent}
 
 -- what counts letters keeps the rest
 pub counted_kept : (list : List ServerSaying) (s : ServerModel) → (all_counted s list).kept ≡ s.kept
@@ -193,6 +193,12 @@ step_room step s n out room =
     let was = room.tells in
     record { tells = omega (arith, few, was); places = room.places }
 
+pub step_fits : (step : RingStep) (s : ServerModel) (n : RingModel) (out : Out) → HasRoom s out 9
+    → HasRoom (with_check s n) out (step_letters step (with_check s n))
+step_fits step s n out room =
+    let v = with_check s n in
+    room_less v out (step_letters step v + 1) (step_letters step v) (omega arith) (step_room step s n out room)
+
 -- The row by which a token is expected.
 
 pub token_row : (s : ServerModel) (from : Server) (t : Token) → IsSome (token_rule s from t) → Expects (ring_at s) from t
@@ -297,17 +303,18 @@ heard_goes b a s t out nothing none after =
     plan_if b a [] s out (made t out) (ap (λ u. made u out) after ∙ goes_nowhere out (does a s) ∙ sym (silent a [] s out nothing none))
 
 -- the room stays where nobody comes or goes and nothing is said
-pub heard_room : (s t : ServerModel) (out : Out) → HasRoom s out 9 → t.kept.parked ≡ s.kept.parked → t.sent ≡ s.sent → t.clock ≡ s.clock
-    → HasRoom t out 1
-heard_room s t out room same sent clock =
+pub stays_room : (s t u : ServerModel) (out : Out) → u ≡ t → HasRoom s out 9 → t.kept.parked ≡ s.kept.parked → t.sent ≡ s.sent
+    → t.clock ≡ s.clock → HasRoom u out 1
+stays_room s t u out is room same sent clock =
     let was = room.tells in
     let waiting = ap (λ (k : Parked). length k.waiting) same in
     let wishes = ap (λ (k : Parked). length k.wishes) same in
-    record {
+    subst (λ v. HasRoom v out 1) (sym is)
+    (record {
       tells = omega (arith, was, waiting, wishes);
       places = subst (λ c. All (λ n. n + out.room ≤ event_letters * c) t.sent) (sym clock)
           (subst (All (λ n. n + out.room ≤ event_letters * s.clock)) (sym sent) room.places);
-    }
+    })
 
 -- No visit changes how many checks were started.
 

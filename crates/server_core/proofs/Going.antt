@@ -30,7 +30,7 @@ use Rattle.server_law.specs.Acts.{Act, Around, Asks_on, Closes, ServerSaying, do
 use Rattle.server_law.specs.Batches.{can_close, close, close_rule, part_if}
 use Rattle.server_law.specs.Endings.{checks, ends_event, notices}
 use Rattle.server_law.specs.Step.{acts, at_event, rule, serve, server_rule}
-use Rattle.server_law.specs.Carried.{Served, all_done, counted, done, posted}
+use Rattle.server_law.specs.Carried.{Served, all_done, carried, counted, done, posted}
 use Rattle.server_law.specs.Plan.{Decider, Plan, decided, in_order, plan}
 use Rattle.server_law.specs.State.{ServerModel}
 use Rattle.server_law.proofs.Carrying.{decided_carried, followed, followed_by, followed_more, followed_none, with_act}
@@ -97,6 +97,19 @@ serves s t u out room from letter some now goes =
     tested_is : {X : Type 0} {o : Option X} (b : Bool) → IsSome (cond b o None) → cond b o None ≡ o
     tested_is true some = refl
     tested_is false some = absurd (cc)
+
+-- and has a rule
+pub serve_rule : (s : ServerModel) (from : Actor) (letter : Letter) → IsSome (serve s from letter)
+    → IsSome (rule (at_event s letter) from letter.message)
+serve_rule s from letter some =
+    by_test (is_within s.config from && nat_lt letter.stamp stamp_limit) (rule (at_event s letter) from letter.message) some
+  where
+    by_test : (b : Bool) (o : Option Plan)
+        → IsSome (cond b (option_map (λ l. carried l (at_event s letter)) (option_map (in_order ends_event (at_event s letter)) o)) None)
+        → IsSome o
+    by_test true None some = absurd (cc)
+    by_test true (Some p) some = refl
+    by_test false o some = absurd (cc)
 
 -- the rule of another server's letter
 pub server_rule_is : (s : ServerModel) (from : Server) (message : Message) (p : Plan) → rule s (by.Server from) message ≡ Some p
@@ -168,17 +181,8 @@ module _ (a : Act) (more : List Act) (s : ServerModel) (out : Out) where
       let act : with_act (made s out) a ≡ made (counted (does a s) x.to) letter = rw (one, entry) refl in
       followed_more (made s out) a more ∙ ap (λ y. followed y more) act
 
--- a plan whose decider decides nothing after it, or that has none
+-- a plan that has no decider
 module _ (a : Act) (s : ServerModel) (out : Out) where
-  pub answers_plan : (d : Decider) (x : ServerSaying) (e : Entry) → says a s ≡ x ∷ [] → entries a s ≡ e ∷ [] → d (done a s) ≡ []
-      → made (counted (does a s) x.to) (with_answer out (posted (does a s) x) e)
-      ≡ planned out (record { first = a; follow = d ∷ [] }) s
-  answers_plan d x e one entry none =
-      let t = counted (does a s) x.to in
-      let end = with_answer out (posted (does a s) x) e in
-      goes_nowhere end t
-      ∙ sym (plan_one a d s out ∙ ap (λ l. going_on out (a ∷ l) s) none ∙ answers_one a [] s out x e one entry)
-
   pub answers_only : (x : ServerSaying) (e : Entry) → says a s ≡ x ∷ [] → entries a s ≡ e ∷ []
       → made (counted (does a s) x.to) (with_answer out (posted (does a s) x) e) ≡ planned out (record { first = a; follow = [] }) s
   answers_only x e one entry =

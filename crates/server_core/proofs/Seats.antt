@@ -164,7 +164,8 @@ asked_as s once from rank request is P each =
     let p = asked_for s once from rank request is in
     let F : Rank → ℕ → Type 0 = λ r k. place_in (has_asked from r k) s.kept.parked.waiting ≡ Some p.0
     → IsAlone r s.kept.parked.waiting p.0 → P r k in
-    let here : F p.0.here.wish.rank p.0.here.wish.request = λ found alone. each p.0 (record { found = found; alone = alone; asked = p.1.asked }) in
+    let here : F p.0.here.wish.rank p.0.here.wish.request = λ found alone. each p.0
+    (record { found = found; alone = alone; asked = p.1.asked }) in
     let own : F rank request = subst (λ r. F r request) p.1.rank_is (subst (F p.0.here.wish.rank) p.1.request_is here) in
     own p.1.found p.1.alone
 

@@ -94,7 +94,8 @@ module _ (s : ServerModel) (out : Out) (id : UnitId) (p : Placed) (found : find 
         record {
           within = waits_within (parked_of s) sound (is_of rank) e (found_is rank waiting at alone);
           room = λ room. subst (λ u. HasRoom u out 3) (sym seat) (room_left s queue left out 2 3 (omega (arith, more)) room);
-          goes = ap (told_note rank q.here.wish.request (note_of s.me p.unit) out) seat ∙ ap (λ l. going_on out l s) (sym (settled (Some q) is));
+          goes = ap (told_note rank q.here.wish.request (note_of s.me p.unit) out) seat
+              ∙ ap (λ l. going_on out l s) (sym (settled (Some q) is));
         }
 
   pub one_takes : (rank : Rank) (request : ℕ) (note : UnitNote)

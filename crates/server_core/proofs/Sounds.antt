@@ -149,7 +149,8 @@ module _ (i : Inside) (inside : IsInside i) where
       }
 
 -- where the queue alone changes
-pub queue_inside : (i : Inside) → IsInside i → (queue after : Queue) → queue ≡ after → IsPinned i.queue after → IsInside (record i { queue = queue })
+pub queue_inside : (i : Inside) → IsInside i → (queue after : Queue) → queue ≡ after → IsPinned i.queue after
+    → IsInside (record i { queue = queue })
 queue_inside i inside queue after is pins =
     closes i inside i.parked i.parked queue after refl (same_stays i.parked (parked_is i inside)) is pins
 

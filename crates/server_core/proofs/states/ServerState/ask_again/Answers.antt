@@ -66,8 +66,11 @@ tell_sought-requires-clause-asked c to is =
     let known = looks (goal.at.tell_sought-requires-clause-asked c).After-look_again-step in
     let made = c.look_again-step.ensures.made known.here known.found in
     let asked = known.asks to (sym is ∙ c.look_again-step.ensures.step known.here known.found) in
-    subst (λ (u : ServerModel). (to.0 < u.config.servers) × (is_waiting u.kept c.args.rank ≡ true)) (sym made)
-    ((c.look_again-step.ensures.ask to is).0, waits_by (looked c.args.self.now c.args.rank known.here.wish.types) c.args.rank (asks_next known.here) asked)
+    subst (λ (u : ServerModel). (to.0 < u.config.servers) × (is_waiting u.kept c.args.rank ≡ true)) (sym made) (
+      (c.look_again-step.ensures.ask to is).0,
+      waits_by (looked c.args.self.now c.args.rank known.here.wish.types) c.args.rank
+          (asks_next known.here) asked,
+    )
 
 pub tell_sought-requires-clause-room : goal.tell_sought-requires-clause-room
 tell_sought-requires-clause-room c =
@@ -86,5 +89,6 @@ returns-in-None-clause-made c q rule =
     ap (λ u. entry_of (parked_of u) c.args.rank) made ∙ known.asks to (sym is ∙ step)) in
     let types = known.here.wish.types in
     told ∙ ap (λ k. told_step k c.args.rank c.args.request types c.args.out.now c.look_again-step.new.self) step
-    ∙ ap (told_step (step_for c.args.self.now.me (best_for c.args.self.now.kept.queue c.args.rank types) known.here.to_ask) c.args.rank c.args.request types c.args.out.now) made
+    ∙ ap (told_step (step_for c.args.self.now.me (best_for c.args.self.now.kept.queue c.args.rank types) known.here.to_ask) c.args.rank
+    c.args.request types c.args.out.now) made
     ∙ known.steps (sym c.over.ensures ∙ c.in-None.is) q rule

@@ -8,8 +8,7 @@ use Rattle.server_law.specs.Pushes.{ack_at, no_at}
 use Rattle.server_law.specs.State.{ring_at}
 use Rattle.server_law.specs.Step.{server_rule}
 use Rattle.server_law.proofs.Expected.{server_rule_awaited}
-use Rattle.server_core.specs.Out.{HasRoom}
-use Rattle.server_core.proofs.Checking.{heard_goes, heard_room}
+use Rattle.server_core.proofs.Checking.{heard_goes, stays_room}
 use Rattle.server_core.proofs.Pushing.{ack_stands, no_stands}
 use Rattle.server_core.proofs.states.ServerState.follow_server.Goals as goal
 
@@ -35,9 +34,8 @@ returns-in-Notice-clause-ok c p is =
 pub returns-in-Notice-clause-room : goal.returns-in-Notice-clause-room
 returns-in-Notice-clause-room c =
     let s = c.args.self.now in
-    let out = c.args.out.now in
-    let t = done (Wants c.args.from) s in
-    subst (λ u. HasRoom u out 1) (sym (c.hear_notice.ensures c.args.from)) (heard_room s t out c.requires.verdict refl refl refl)
+    stays_room s (done (Wants c.args.from) s) c.hear_notice.new.self c.args.out.now
+    (c.hear_notice.ensures c.args.from) c.requires.verdict refl refl refl
 
 pub returns-in-Failed-clause-ok : goal.returns-in-Failed-clause-ok
 returns-in-Failed-clause-ok c p is =
@@ -51,9 +49,8 @@ returns-in-Failed-clause-ok c p is =
 pub returns-in-Failed-clause-room : goal.returns-in-Failed-clause-room
 returns-in-Failed-clause-room c =
     let s = c.args.self.now in
-    let out = c.args.out.now in
-    let t = done (Hears_failed c.args.from c.in-Failed.token c.in-Failed.why) s in
-    subst (λ u. HasRoom u out 1) (sym (c.hear_failed.ensures c.args.from c.in-Failed.why)) (heard_room s t out c.requires.verdict refl refl refl)
+    stays_room s (done (Hears_failed c.args.from c.in-Failed.token c.in-Failed.why) s) c.hear_failed.new.self c.args.out.now
+    (c.hear_failed.ensures c.args.from c.in-Failed.why) c.requires.verdict refl refl refl
 
 pub returns-in-Shutdown-clause-ok : goal.returns-in-Shutdown-clause-ok
 returns-in-Shutdown-clause-ok c p is =
@@ -65,9 +62,8 @@ returns-in-Shutdown-clause-ok c p is =
 pub returns-in-Shutdown-clause-room : goal.returns-in-Shutdown-clause-room
 returns-in-Shutdown-clause-room c =
     let s = c.args.self.now in
-    let out = c.args.out.now in
-    let t = done (Hears_shutdown c.args.from) s in
-    subst (λ u. HasRoom u out 1) (sym (c.hear_shutdown.ensures c.args.from)) (heard_room s t out c.requires.verdict refl refl refl)
+    stays_room s (done (Hears_shutdown c.args.from) s) c.hear_shutdown.new.self c.args.out.now
+    (c.hear_shutdown.ensures c.args.from) c.requires.verdict refl refl refl
 
 -- The letters by which a push ends.
 
@@ -86,8 +82,8 @@ returns-in-PushNo-clause-room c =
     let s = c.args.self.now in
     let id = c.in-PushNo.id in
     let stands = no_stands s c.args.from id (subst (λ m. IsSome (server_rule s c.args.from m)) c.in-PushNo.is c.requires.expected) in
-    subst (λ u. HasRoom u c.args.out.now 1) (sym (c.hear_no.ensures c.args.from id stands.0 stands.1))
-    (heard_room s (done (Stops_push c.args.from id stands.0) s) c.args.out.now c.requires.verdict refl refl refl)
+    stays_room s (done (Stops_push c.args.from id stands.0) s) c.hear_no.new.self c.args.out.now
+    (c.hear_no.ensures c.args.from id stands.0 stands.1) c.requires.verdict refl refl refl
 
 pub returns-in-PushAck-clause-ok : goal.returns-in-PushAck-clause-ok
 returns-in-PushAck-clause-ok c p is =
@@ -104,5 +100,5 @@ returns-in-PushAck-clause-room c =
     let s = c.args.self.now in
     let id = c.in-PushAck.id in
     let stands = ack_stands s c.args.from id (subst (λ m. IsSome (server_rule s c.args.from m)) c.in-PushAck.is c.requires.expected) in
-    subst (λ u. HasRoom u c.args.out.now 1) (sym (c.hear_ack.ensures c.args.from id stands.0 stands.1))
-    (heard_room s (done (Ends_push c.args.from id stands.0) s) c.args.out.now c.requires.verdict refl refl refl)
+    stays_room s (done (Ends_push c.args.from id stands.0) s) c.hear_ack.new.self c.args.out.now
+    (c.hear_ack.ensures c.args.from id stands.0 stands.1) c.requires.verdict refl refl refl

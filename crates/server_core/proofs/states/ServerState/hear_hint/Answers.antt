@@ -15,7 +15,8 @@ use Rattle.server_core.proofs.states.ServerState.hear_hint.Goals as goal
 use Rattle.server_core.proofs.states.ServerState.hear_hint.Goals.{After-hear_of, Start}
 
 -- the rank is at home here, and the sender is another server
-here : (c : Start) → IsHere c.args.self.now.config c.args.self.now.me c.args.rank × IsOther c.args.self.now.config c.args.self.now.me c.args.from
+here : (c : Start) → IsHere c.args.self.now.config c.args.self.now.me c.args.rank × IsOther c.args.self.now.config c.args.self.now.me
+    c.args.from
 here c = (
   (server_rule_awaited c.args.self.now c.args.from (tells.Hint c.args.rank c.args.request)).0 c.requires.expected,
   (c.requires.server, λ same. c.requires.other (ap (λ k. let r : Server = record { 0 = k } in r) same)),
@@ -51,7 +52,8 @@ returns-then-hear_of-clause-made c q rule =
 
 pub returns-then-hear_of-clause-room : goal.returns-then-hear_of-clause-room
 returns-then-hear_of-clause-room c =
-    room_less c.ask.new.self c.ask.new.out 2 1 (omega arith) (c.ask.ensures.room 2 (c.hear_of.ensures.room c.args.out.now 3 c.requires.room))
+    room_less c.ask.new.self c.ask.new.out 2 1 (omega arith)
+    (c.ask.ensures.room 2 (c.hear_of.ensures.room c.args.out.now 3 c.requires.room))
 
 pub returns-else-hear_of-clause-made : goal.returns-else-hear_of-clause-made
 returns-else-hear_of-clause-made c q rule =

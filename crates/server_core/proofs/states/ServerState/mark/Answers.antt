@@ -1,4 +1,4 @@
-use Rattle.std.proofs.Common.{◌≡◌, ◌≤◌, ◌+◌, [], ◌∷◌, length, map, take, sym, ap, ◌∙◌, subst, arith}
+use Rattle.std.proofs.Common.{◌≡◌, ◌≤◌, [], ◌∷◌, length, map, take, sym, ap, ◌∙◌, subst, arith}
 use Rattle.std.proofs.lemmas.List.{length-map}
 use Rattle.exhaust_ring.specs.Ring.{RingModel}
 use Rattle.exhaust_ring.specs.Visits.{visited1}
@@ -7,12 +7,10 @@ use Rattle.reserve_path.proofs.Places.{nobody}
 use Rattle.reserve_path.proofs.Sound.{waiting_few}
 use Rattle.server_law.specs.Checks.{marks}
 use Rattle.server_law.specs.Endings.{is_quiet}
-use Rattle.server_core.specs.Checks.{step_letters, with_check}
 use Rattle.server_core.specs.Inside.{parked_of, state_of}
 use Rattle.server_core.specs.Out.{HasRoom, going_on, made}
 use Rattle.server_core.proofs.Askers.{askers_parked, in_front, ring_seen}
-use Rattle.server_core.proofs.Checking.{marked_check, marks_go, step_room}
-use Rattle.server_core.proofs.Going.{room_less}
+use Rattle.server_core.proofs.Checking.{marked_check, marks_go, step_fits, step_room}
 use Rattle.server_core.proofs.Sounds.{ring_inside}
 use Rattle.server_core.proofs.states.ServerState.mark.Goals as goal
 
@@ -36,17 +34,13 @@ invariant_of-self c =
     let asked = take c.asked-count.result c.asked-count.new.room in
     let same = ap (λ (m : RingModel). m.ring.check) c.visit1-step.ensures.ring
     ∙ marked_check i.ring c.args.token c.is_quiet-quiet.result i.activity asked in
-    ring_inside i c.self.invariant c.visit1-step.new.self c.visit1-step.ensures.own (subst (λ k. k ≤ i.clock) (sym same) c.self.invariant.sound.check)
+    ring_inside i c.self.invariant c.visit1-step.new.self c.visit1-step.ensures.own
+    (subst (λ k. k ≤ i.clock) (sym same) c.self.invariant.sound.check)
 
 pub tell_step-requires : goal.tell_step-requires
 tell_step-requires c =
-    let s = state_of c.self.inside in
-    let out = c.args.out.now in
-    let n = c.visit1-step.new.self in
-    let step = c.visit1-step.result in
-    let v = with_check s n in
-    let room = subst (λ u. HasRoom u out 9) (sym c.self.view_is) c.requires.room in
-    room_less v out (step_letters step v + 1) (step_letters step v) (omega arith) (step_room step s n out room)
+    let room = subst (λ u. HasRoom u c.args.out.now 9) (sym c.self.view_is) c.requires.room in
+    step_fits c.visit1-step.result (state_of c.self.inside) c.visit1-step.new.self c.args.out.now room
 
 pub returns-clause-made : goal.returns-clause-made
 returns-clause-made c from =

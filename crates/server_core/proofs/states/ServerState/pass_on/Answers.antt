@@ -24,7 +24,8 @@ known c =
     (sound_at c.self.inside c.self.invariant c.args.self.now c.self.view_is) (unanswered c)
 
 -- the server without the rank
-seat : (c : After-remote_grant) → state_of (record c.self.inside { parked = c.remote_grant.new.self }) ≡ released c.args.self.now c.args.rank
+seat : (c : After-remote_grant)
+    → state_of (record c.self.inside { parked = c.remote_grant.new.self }) ≡ released c.args.self.now c.args.rank
 seat c =
     seat_at c.self.inside c.self.invariant c.args.self.now c.self.view_is (λ u. u.kept.queue) (λ u m. gone m c.args.rank)
     c.remote_grant.new.self c.self.inside.queue c.remote_grant.ensures refl

@@ -8,20 +8,23 @@ use Rattle.server_core.specs.Waits.{offered, offered_by}
 use Rattle.server_core.proofs.Going.{asked_room}
 use Rattle.server_core.proofs.Sounds.{ask_stays, closes, grant_pins, parked_at, parked_is, same_pins, seat_at}
 use Rattle.server_core.proofs.states.ServerState.pin_for.Goals as goal
+use Rattle.server_core.proofs.states.ServerState.pin_for.Goals.{After-self}
 
-pub refuse_ask-requires : goal.refuse_ask-requires
-refuse_ask-requires c =
+-- the rank is at home elsewhere, as what waits has it
+away : (c : After-self) → IsAway c.self.inside.parked.config c.self.inside.parked.me c.args.rank
+away c =
     subst (λ (m : ParkedModel). IsAway m.config m.me c.args.rank)
     (sym (parked_at c.self.inside c.self.invariant c.args.self.now c.self.view_is)) c.requires
+
+pub refuse_ask-requires : goal.refuse_ask-requires
+refuse_ask-requires c = away (goal.at.refuse_ask-requires c).After-self
 
 pub invariant_of-self : goal.invariant_of-self
 invariant_of-self c =
     let i = c.self.inside in
     let wish : Wish = record { rank = c.args.rank; request = c.args.request; types = c.args.types.now } in
-    let away = subst (λ (m : ParkedModel). IsAway m.config m.me c.args.rank)
-    (sym (parked_at i c.self.invariant c.args.self.now c.self.view_is)) c.requires in
     closes i c.self.invariant c.refuse_ask.new.self (wished i.parked wish) i.queue i.queue c.refuse_ask.ensures
-    (ask_stays i.parked (parked_is i c.self.invariant) wish away None) refl (same_pins i.queue)
+    (ask_stays i.parked (parked_is i c.self.invariant) wish (away (goal.at.invariant_of-self c).After-self) None) refl (same_pins i.queue)
 
 pub returns-then-self-clause-room : goal.returns-then-self-clause-room
 returns-then-self-clause-room c out more room =
@@ -35,19 +38,16 @@ returns-then-self-clause-room c out more room =
     subst (λ u. HasRoom u out more) (sym made) (asked_room c.args.self.now out more wish room)
 
 pub remote_ask-requires : goal.remote_ask-requires
-remote_ask-requires c =
-    subst (λ (m : ParkedModel). IsAway m.config m.me c.args.rank)
-    (sym (parked_at c.self.inside c.self.invariant c.args.self.now c.self.view_is)) c.requires
+remote_ask-requires c = away (goal.at.remote_ask-requires c).After-self
 
 pub invariant_of-self-2 : goal.invariant_of-self-2
 invariant_of-self-2 c =
     let i = c.self.inside in
     let wish : Wish = record { rank = c.args.rank; request = c.args.request; types = c.args.types.now } in
     let best = best_for i.queue wish.rank wish.types in
-    let away = subst (λ (m : ParkedModel). IsAway m.config m.me c.args.rank)
-    (sym (parked_at i c.self.invariant c.args.self.now c.self.view_is)) c.requires in
     closes i c.self.invariant c.remote_ask.new.self (after_ask i.parked wish best) c.remote_ask.new.queue
-    (with_grant i.queue wish.rank wish.types) c.remote_ask.ensures.parked (ask_stays i.parked (parked_is i c.self.invariant) wish away best)
+    (with_grant i.queue wish.rank wish.types) c.remote_ask.ensures.parked
+    (ask_stays i.parked (parked_is i c.self.invariant) wish (away (goal.at.invariant_of-self-2 c).After-self) best)
     c.remote_ask.ensures.queue (grant_pins i.queue wish.rank wish.types)
 
 pub returns-clause-room : goal.returns-clause-room

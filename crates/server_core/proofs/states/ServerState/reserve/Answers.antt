@@ -16,7 +16,8 @@ use Rattle.server_core.proofs.states.ServerState.reserve.Goals.{Start}
 wished : Start → Wish
 wished c = record { rank = c.args.from; request = c.args.request; types = c.args.types.now }
 
-known : (c : Start) → Reserves c.args.self.now c.args.out.now (record { rank = c.args.from; request = c.args.request; types = c.args.types.now })
+known : (c : Start) → Reserves c.args.self.now c.args.out.now
+    (record { rank = c.args.from; request = c.args.request; types = c.args.types.now })
 known c =
     let wish : Wish = record { rank = c.args.from; request = c.args.request; types = c.args.types.now } in
     reserves c.args.self.now c.args.out.now wish (runs_here c.args.self.now wish c.requires.expected)

@@ -18,7 +18,8 @@ reserve-requires-clause-here c =
 
 pub reserve-requires-clause-new : goal.reserve-requires-clause-new
 reserve-requires-clause-new c =
-    subst (λ m. is_parked m c.args.rank ≡ false) (sym (parked_at c.self.inside c.self.invariant c.args.self.now c.self.view_is)) c.requires.new
+    subst (λ m. is_parked m c.args.rank ≡ false)
+    (sym (parked_at c.self.inside c.self.invariant c.args.self.now c.self.view_is)) c.requires.new
 
 pub invariant_of-self : goal.invariant_of-self
 invariant_of-self c =
@@ -44,4 +45,5 @@ made c =
 pub returns-clause-room : goal.returns-clause-room
 returns-clause-room c out more room =
     let wish : Wish = record { rank = c.args.rank; request = c.args.request; types = c.args.types.now } in
-    subst (λ u. HasRoom u out more) (sym (made (goal.at.returns-clause-room c).After-reserve)) (sought_room c.args.self.now out more wish room)
+    subst (λ u. HasRoom u out more) (sym (made (goal.at.returns-clause-room c).After-reserve))
+    (sought_room c.args.self.now out more wish room)

@@ -17,7 +17,8 @@ use Rattle.server_core.proofs.states.ServerState.settle.Goals as goal
 use Rattle.server_core.proofs.states.ServerState.settle.Goals.{After-is_free}
 
 -- the free unit of this id
-there : (c : After-is_free) → c.is_free.result ≡ true → (p : Placed) × (find (is_free_as c.args.id) c.args.self.now.kept.queue.units ≡ Some p)
+there : (c : After-is_free) → c.is_free.result ≡ true
+    → (p : Placed) × (find (is_free_as c.args.id) c.args.self.now.kept.queue.units ≡ Some p)
 there c free =
     free_there c.args.id c.args.self.now.kept.queue.units
     (subst (λ (u : ServerModel). HasFree c.args.id u.kept.queue.units) c.self.view_is (c.is_free.ensures.0 free))
@@ -34,7 +35,8 @@ pub grant-requires-clause-rank : goal.grant-requires-clause-rank
 grant-requires-clause-rank c =
     let p = there (goal.at.grant-requires-clause-rank c).After-is_free c.if-not-is_free.false in
     let told = sym c.in-Some.is ∙ c.offer.ensures.given p.0 p.1 in
-    let by = one_takes c.args.self.now c.args.out.now c.args.id p.0 p.1 c.offer.ensures.sound c.in-Some.rank c.in-Some.request c.in-Some.note told in
+    let by = one_takes c.args.self.now c.args.out.now c.args.id p.0 p.1 c.offer.ensures.sound c.in-Some.rank c.in-Some.request
+    c.in-Some.note told in
     subst (λ (u : ServerModel). c.in-Some.rank.0 < u.config.ranks) (sym (c.offer.ensures.made p.0 p.1)) by.within
 
 pub grant-requires-clause-places : goal.grant-requires-clause-places
@@ -46,7 +48,8 @@ pub returns-in-Some-clause-made : goal.returns-in-Some-clause-made
 returns-in-Some-clause-made c =
     let p = there (goal.at.returns-in-Some-clause-made c).After-is_free c.if-not-is_free.false in
     let told = sym c.in-Some.is ∙ c.offer.ensures.given p.0 p.1 in
-    let by = one_takes c.args.self.now c.args.out.now c.args.id p.0 p.1 c.offer.ensures.sound c.in-Some.rank c.in-Some.request c.in-Some.note told in
+    let by = one_takes c.args.self.now c.args.out.now c.args.id p.0 p.1 c.offer.ensures.sound c.in-Some.rank c.in-Some.request
+    c.in-Some.note told in
     made_as c.grant.ensures.counted c.grant.ensures.told
     ∙ ap (told_note c.in-Some.rank c.in-Some.request c.in-Some.note c.args.out.now) (c.offer.ensures.made p.0 p.1) ∙ by.goes
 
@@ -54,13 +57,15 @@ pub returns-in-Some-clause-room : goal.returns-in-Some-clause-room
 returns-in-Some-clause-room c =
     let p = there (goal.at.returns-in-Some-clause-room c).After-is_free c.if-not-is_free.false in
     let told = sym c.in-Some.is ∙ c.offer.ensures.given p.0 p.1 in
-    let by = one_takes c.args.self.now c.args.out.now c.args.id p.0 p.1 c.offer.ensures.sound c.in-Some.rank c.in-Some.request c.in-Some.note told in
+    let by = one_takes c.args.self.now c.args.out.now c.args.id p.0 p.1 c.offer.ensures.sound c.in-Some.rank c.in-Some.request
+    c.in-Some.note told in
     c.grant.ensures.room 2 (subst (λ u. HasRoom u c.args.out.now 3) (sym (c.offer.ensures.made p.0 p.1)) (by.room c.requires))
 
 pub hint_homes-requires : goal.hint_homes-requires
 hint_homes-requires c =
     let p = there (goal.at.hint_homes-requires c).After-is_free c.if-not-is_free.false in
-    let none = none_takes c.args.self.now c.args.out.now c.args.id p.0 p.1 c.offer.ensures.sound (sym c.in-None.is ∙ c.offer.ensures.given p.0 p.1) in
+    let none = none_takes c.args.self.now c.args.out.now c.args.id p.0 p.1 c.offer.ensures.sound (sym c.in-None.is
+    ∙ c.offer.ensures.given p.0 p.1) in
     subst (λ u. HasRoom u c.args.out.now 2) (sym (c.offer.ensures.made p.0 p.1 ∙ none.same)) c.requires
 
 pub returns-in-None-clause-made : goal.returns-in-None-clause-made

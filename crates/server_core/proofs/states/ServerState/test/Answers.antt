@@ -1,4 +1,4 @@
-use Rattle.std.proofs.Common.{◌≡◌, ◌⊎◌, ◌≤◌, ◌+◌, ◌==◌, [], ◌∷◌, sym, ap, ◌∙◌, subst, arith}
+use Rattle.std.proofs.Common.{◌≡◌, ◌⊎◌, ◌≤◌, ◌==◌, [], ◌∷◌, sym, ap, ◌∙◌, subst}
 use Rattle.exhaust_ring.specs.Expected.{HasComeBack, IsToTest}
 use Rattle.exhaust_ring.specs.Ring.{RingModel}
 use Rattle.exhaust_ring.specs.Tests.{first_failing}
@@ -7,12 +7,10 @@ use Rattle.work_queue.specs.Fits.{first_fit}
 use Rattle.server_law.specs.Checks.{tests, tests_now}
 use Rattle.server_law.specs.Endings.{is_quiet}
 use Rattle.server_law.specs.State.{ring_at}
-use Rattle.server_core.specs.Checks.{step_letters, with_check}
 use Rattle.server_core.specs.Inside.{state_of}
 use Rattle.server_core.specs.Out.{HasRoom, going_on, made}
 use Rattle.server_core.proofs.Askers.{ring_seen}
-use Rattle.server_core.proofs.Checking.{judged_check, step_room, tests_go, tests_second}
-use Rattle.server_core.proofs.Going.{room_less}
+use Rattle.server_core.proofs.Checking.{judged_check, step_fits, step_room, tests_go, tests_second}
 use Rattle.server_core.proofs.Sounds.{ring_inside}
 use Rattle.server_core.proofs.states.ServerState.test.Goals as goal
 
@@ -27,17 +25,13 @@ invariant_of-self c =
     let t = c.args.token in
     let fails = first_failing c.is_quiet-quiet.result i.ring.ring.mark i.activity c.fits-fits.result in
     let same = ap (λ (m : RingModel). m.ring.check) c.visit2-step.ensures.ring ∙ judged_check i.ring t fails in
-    ring_inside i c.self.invariant c.visit2-step.new.self c.visit2-step.ensures.own (subst (λ k. k ≤ i.clock) (sym same) c.self.invariant.sound.check)
+    ring_inside i c.self.invariant c.visit2-step.new.self c.visit2-step.ensures.own
+    (subst (λ k. k ≤ i.clock) (sym same) c.self.invariant.sound.check)
 
 pub tell_step-requires : goal.tell_step-requires
 tell_step-requires c =
-    let s = state_of c.self.inside in
-    let out = c.args.out.now in
-    let n = c.visit2-step.new.self in
-    let step = c.visit2-step.result in
-    let v = with_check s n in
-    let room = subst (λ u. HasRoom u out 9) (sym c.self.view_is) c.requires.room in
-    room_less v out (step_letters step v + 1) (step_letters step v) (omega arith) (step_room step s n out room)
+    let room = subst (λ u. HasRoom u c.args.out.now 9) (sym c.self.view_is) c.requires.room in
+    step_fits c.visit2-step.result (state_of c.self.inside) c.visit2-step.new.self c.args.out.now room
 
 pub returns-clause-made : goal.returns-clause-made
 returns-clause-made c from =
