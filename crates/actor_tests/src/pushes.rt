@@ -1,9 +1,9 @@
 //! Scripts worked by hand, at queues of limit 64.
 
-ghost use Rattle.std.specs.Prelude.{◌≡◌, IsTrue};
-ghost use Rattle.work_queue.specs.Queue.{HasNoPromise, HasNoUnit};
+ghost use Rattle.std.specs.Prelude.{◌≡◌};
 ghost use Rattle.put_path.specs.Pushes.{is_query, is_under_way};
 
+use crate::queue::{id, is_new};
 use adlb_unit::{Config, Payload, Rank, Server, Target, Unit, UnitId, WorkType};
 use put_path::{Push, PushState, push_query, put};
 use std::alloc::Global;
@@ -26,22 +26,6 @@ enum Act {
     Ack,
     // Whether the push that stands asks this server for room for the unit, has sent it, and stands at all.
     Tells(u32, u64),
-}
-
-// The id of the unit of this number.
-fn id(number: u64) -> UnitId {
-    UnitId {
-        rank: Rank(0),
-        number,
-    }
-}
-
-// Neither a unit nor a promise has this id.
-fn is_new(queue: &WorkQueue, id: UnitId) -> bool
-    ensures unit { IsTrue result → HasNoUnit id queue.now.units }
-    ensures promise { IsTrue result → HasNoPromise id queue.now.promises }
-{
-    !queue.has_unit(id) && queue.promised(id).is_none()
 }
 
 // The push that stands is a query.

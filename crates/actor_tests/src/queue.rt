@@ -36,8 +36,8 @@ enum Step {
     Totals,
 }
 
-// The id of the unit of this number.
-fn id(number: u64) -> UnitId {
+/// The id of the unit of this number.
+pub fn id(number: u64) -> UnitId {
     UnitId {
         rank: Rank(0),
         number,
@@ -74,8 +74,8 @@ fn unit(
     })
 }
 
-// Neither a unit nor a promise has this id.
-fn is_new(queue: &WorkQueue, id: UnitId) -> bool
+/// Neither a unit nor a promise has this id.
+pub fn is_new(queue: &WorkQueue, id: UnitId) -> bool
     ensures unit { IsTrue result → HasNoUnit id queue.now.units }
     ensures promise { IsTrue result → HasNoPromise id queue.now.promises }
 {

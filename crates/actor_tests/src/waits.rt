@@ -1,9 +1,9 @@
 //! Scripts at server 0 of six ranks, worked by hand.
 
 ghost use Rattle.std.specs.Prelude.{◌≡◌, IsTrue, true};
-ghost use Rattle.work_queue.specs.Queue.{HasNoPromise, HasNoUnit};
 ghost use Rattle.reserve_path.specs.Parked.{IsAway, IsHere, IsOther, is_pending};
 
+use crate::queue::{id, is_new};
 use adlb_unit::{Config, Payload, Rank, Server, Target, Types, Unit, UnitId, UnitNote, WorkType};
 use reserve_path::{Parked, ReserveStep};
 use std::alloc::Global;
@@ -33,25 +33,9 @@ enum Act {
     All,
 }
 
-// The id of the unit of this number.
-fn id(number: u64) -> UnitId {
-    UnitId {
-        rank: Rank(0),
-        number,
-    }
-}
-
 // The one type that is wanted.
 fn only(kind: u32) -> Result<Types, Fail> {
     Ok(Types::list(&[WorkType(kind)])?)
-}
-
-// Neither a unit nor a promise has this id.
-fn is_new(queue: &WorkQueue, id: UnitId) -> bool
-    ensures unit { IsTrue result → HasNoUnit id queue.now.units }
-    ensures promise { IsTrue result → HasNoPromise id queue.now.promises }
-{
-    !queue.has_unit(id) && queue.promised(id).is_none()
 }
 
 // Puts the unit of this number, if it is new.

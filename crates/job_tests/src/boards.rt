@@ -48,6 +48,17 @@ const LETTER: &[u8] =
 const SLASH: &[u8] =
     b"................................................................................/";
 
+// Blank cells of side 16 but for the last, and but for the tenth.
+const LAST: &[u8] = b"0000000000000000000000000000000000000000000000000000000000000000\
+    0000000000000000000000000000000000000000000000000000000000000000\
+    0000000000000000000000000000000000000000000000000000000000000000\
+    000000000000000000000000000000000000000000000000000000000000000H";
+
+const TENTH: &[u8] = b"000000000a000000000000000000000000000000000000000000000000000000\
+    0000000000000000000000000000000000000000000000000000000000000000\
+    0000000000000000000000000000000000000000000000000000000000000000\
+    0000000000000000000000000000000000000000000000000000000000000000";
+
 const TEXTS: &[(&[u8], GridFault)] = &[
     (b"", GridFault::Length { got: 0 }),
     (b"ABCD", GridFault::Length { got: 4 }),
@@ -58,6 +69,8 @@ const TEXTS: &[(&[u8], GridFault)] = &[
     (b"4.......-......5", GridFault::Character { place: 8 }),
     (LETTER, GridFault::Character { place: 7 }),
     (SLASH, GridFault::Character { place: 80 }),
+    (LAST, GridFault::Character { place: 255 }),
+    (TENTH, GridFault::Character { place: 9 }),
 ];
 
 #[test]
@@ -65,27 +78,11 @@ fn refuses_texts(rt: HostRuntime) -> Result<(), Fail> {
     for (text, fault) in TEXTS {
         assert_eq!(rt; refusal(text), Some(*fault));
     }
-    assert!(rt; is_refused_at(255, b'H') && is_refused_at(9, b'a'));
     Ok(())
 }
 
 fn refusal(text: &[u8]) -> Option<GridFault> {
     parse_grid(text).err()
-}
-
-// Blank cells with this byte at one place are refused for it.
-fn is_refused_at(place: u8, byte: u8) -> bool {
-    let fault = GridFault::Character {
-        place: u64::from(place),
-    };
-    refusal(&blank_but(place, byte)) == Some(fault)
-}
-
-// Blank cells, and this byte at one place.
-fn blank_but(place: u8, byte: u8) -> [u8; 256] {
-    let mut text = [b'0'; 256];
-    text[place as usize] = byte;
-    text
 }
 
 // The fault is said so.

@@ -111,14 +111,16 @@ fn answers_as_plain_loops_at_each_length(rt: HostRuntime) {
     all_are_plain(&rt, &rising());
 }
 
+const LETTERS: &[u8] = b"abcabc";
+
+const MANY: &[u8] = &[255; 20_000];
+
 #[test]
 fn answers_worked_rows(rt: HostRuntime) {
-    let letters = b"abcabc";
-    assert_eq!(rt; count_range(letters, 97, 98), 4);
-    assert_eq!(rt; sum_bytes(letters), 588);
-    assert_eq!(rt; max_byte(letters), 99);
-    let many = [255; 20_000];
-    assert_eq!(rt; count_range(&many, 255, 255), 20_000);
-    assert_eq!(rt; sum_bytes(&many), 5_100_000);
-    assert_eq!(rt; max_byte(&many), 255);
+    assert_eq!(rt; count_range(LETTERS, 97, 98), 4);
+    assert_eq!(rt; sum_bytes(LETTERS), 588);
+    assert_eq!(rt; max_byte(LETTERS), 99);
+    assert_eq!(rt; count_range(MANY, 255, 255), 20_000);
+    assert_eq!(rt; sum_bytes(MANY), 5_100_000);
+    assert_eq!(rt; max_byte(MANY), 255);
 }

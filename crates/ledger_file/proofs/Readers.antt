@@ -9,10 +9,7 @@ use Rattle.std.specs.Str.Parse.{digits_value}
 use Rattle.std.proofs.lemmas.Bool.{and_parts, and_from, ltb-true, lt-ltb, le-ltb, ne_eqb, cases_lt}
 use Rattle.std.proofs.lemmas.Option.{cond_some}
 use Rattle.adlb_unit.specs.declared.names.Rank.{Rank}
-use Rattle.adlb_unit.specs.declared.names.Server.{Server}
 use Rattle.adlb_unit.specs.declared.names.WorkType.{WorkType}
-use Rattle.adlb_unit.specs.declared.names.UnitId.{UnitId}
-use Rattle.adlb_unit.specs.declared.names.BatchId.{BatchId}
 use Rattle.adlb_unit.specs.declared.names.Target.{Target}
 use Rattle.adlb_unit.specs.declared.names.Target.TheVariants as target
 use Rattle.adlb_unit.specs.declared.notes.End.{End}
@@ -20,7 +17,7 @@ use Rattle.adlb_unit.specs.declared.notes.End.TheVariants as ends
 use Rattle.ledger_file.specs.declared.faults.LineFault.{LineFault}
 use Rattle.ledger_file.specs.declared.faults.LineFault.TheVariants as fault
 use Rattle.ledger_file.specs.Fields.{Field, u32, u64, i32, id, aim, rank_or_none, prio_or_none, wanted, body, told, hex, word, within, in_u32, in_i32, IsWithin}
-use Rattle.ledger_file.specs.Inside.Reading.{checked, unsigned_guess, signed_guess, rank_guess, kind_guess, before_dot, behind_dot, parts_of, target_guess, answer_guess, top_guess, types_guess, end_guess, unhex, bytes_guess, length_in, number_in, prio_in, pair_in, target_in, answer_in, top_in, types_in, bytes_in, end_in, Gives, Finds}
+use Rattle.ledger_file.specs.Inside.Reading.{checked, unsigned_guess, signed_guess, kind_guess, before_dot, behind_dot, parts_of, target_guess, answer_guess, top_guess, types_guess, end_guess, unhex, bytes_guess, length_in, number_in, prio_in, pair_in, target_in, answer_in, top_in, types_in, bytes_in, end_in, Gives, Finds}
 use Rattle.ledger_file.proofs.Bytes.{same_bytes, bytes_alike, above, split_joined, decimal_above, decimal_back, decimal_some, first_digit, first_no_dash, first_joined, glyph_above}
 use Rattle.ledger_file.proofs.Plain.{short_is, long_is, kinds_plain}
 

@@ -1,6 +1,5 @@
 -- The cells of a grid in place are those of a grid.
-use Rattle.std.proofs.Common.{◌≡◌, ◌<◌, ◌≤◌, ℕ, length, arith}
-use Rattle.sudoku_law.specs.Grid.{Cells, IsGrid}
+use Rattle.std.proofs.Common.{arith}
 use Rattle.sudoku_rules.specs.Sides.{IsSudoku}
 use Rattle.sudoku_rules.specs.Inside.Forms.{IsForm, cells_of}
 use Rattle.sudoku_rules.specs.declared.grid.Form.{Form}

@@ -1,6 +1,7 @@
 //! Calls of a rank whose server's letters stand in its mailbox beforehand.
 
 ghost use Rattle.std.specs.Prelude.{◌≡◌, false, IfOk};
+ghost use Rattle.actor_desk.specs.Desks.{IsNew};
 ghost use Rattle.rank_client.specs.Calls.{granted, has_finished, is_fetched};
 ghost use Rattle.rank_mail.specs.Mailboxes.{places_of};
 
@@ -168,39 +169,6 @@ pub fn two_ranks() -> Result<Config, Fail>
     ensures { IfOk result (λ c. (c.servers ≡ 1) × (c.ranks ≡ 2)) }
 {
     Ok(Config::new(2, 1, 64)?)
-}
-
-// The link of rank 0 at the start, the server's desk, and the points that the rank passes.
-#[derive(Drop)]
-struct Scene<R: Wait + Copy, M: Mailing> {
-    link: Link<R, M>,
-    host: Host<M>,
-    points: Receiver<(u32, GatePoint), Global>,
-}
-
-fn make_scene<R: Wait + Copy, M: Mailing>(
-    rt: R,
-    alloc: Global,
-    mail: Mail,
-) -> Result<Scene<R, M>, Fail>
-    requires mail { M.places ≡ places_of mail.inboxes.items }
-    ensures { IfOk result (λ s. has_finished s.link.run.core.transcript ≡ false) }
-{
-    let config = two_ranks()?;
-    let Three {
-        first,
-        second,
-        third,
-    } = three_desks::<M>(alloc, config, mail)?;
-    drop(second);
-    let (seen, points) = bounded(alloc, 16)?;
-    let gate = SeenGate { rt, seen };
-    let link = ThreadedLink::new(alloc, rt, config, Rank(0), first, gate)?;
-    Ok(Scene {
-        link,
-        host: Host { desk: third },
-        points,
-    })
 }
 
 // A call of rank 0.
@@ -429,20 +397,6 @@ fn is_end<R: Wait + Copy, M: Mailing>(link: Link<R, M>, leaves: Leaves) -> bool
     is_left(&end, leaves)
 }
 
-// The calls are told and the points are passed as the play says.
-fn are_played<R: Wait + Copy, M: Mailing>(
-    rt: R,
-    alloc: Global,
-    scene: &mut Scene<R, M>,
-    play: &Play,
-) -> Result<bool, NoMemory>
-    requires { has_finished scene.old.link.run.core.transcript ≡ false }
-    ensures { has_finished scene.new.link.run.core.transcript ≡ false }
-{
-    scene.host.say_all(&rt, alloc, play.says)?;
-    Ok(are_told(&mut scene.link, alloc, play.calls) && passed(&rt, &scene.points, play.passes))
-}
-
 fn is_played<R: Wait + Copy>(rt: R, alloc: Global, play: &Play) -> Result<bool, Fail> {
     is_played_over::<R, Brand>(rt, alloc, play, Mail::new(alloc)?)
 }
@@ -455,35 +409,52 @@ fn is_played_over<R: Wait + Copy, M: Mailing>(
 ) -> Result<bool, Fail>
     requires mail { M.places ≡ places_of mail.inboxes.items }
 {
-    match make_scene::<R, M>(rt, alloc, mail) {
-        Ok(scene) => Ok(is_played_in(rt, alloc, scene, play)?),
-        Err(fail) => Err(fail),
-    }
+    let config = two_ranks()?;
+    let Three {
+        first,
+        second,
+        third,
+    } = three_desks::<M>(alloc, config, mail)?;
+    drop(second);
+    let mut host = Host { desk: third };
+    let played = is_played_with(rt, alloc, config, first, &mut host, play);
+    drop(host);
+    played
 }
 
-fn is_played_in<R: Wait + Copy, M: Mailing>(
+// The server says what the play has, and the rank at this desk then makes its calls.
+fn is_played_with<R: Wait + Copy, M: Mailing>(
     rt: R,
     alloc: Global,
-    mut scene: Scene<R, M>,
+    config: Config,
+    desk: Desk<M>,
+    host: &mut Host<M>,
     play: &Play,
-) -> Result<bool, NoMemory>
-    requires { has_finished scene.link.run.core.transcript ≡ false }
+) -> Result<bool, Fail>
+    requires desk { IsNew config 0 desk }
+    requires ranks { config.ranks ≡ 2 }
 {
-    let played = are_played(rt, alloc, &mut scene, play)?;
-    Ok(played && has_ended(rt, scene, play))
+    host.say_all(&rt, alloc, play.says)?;
+    Ok(is_played_at(rt, alloc, config, desk, play)? && host.are_told(&rt, play.heard))
 }
 
-// The rank's link leaves at its end what the play says, and the server hears what it says.
-fn has_ended<R: Wait + Copy, M: Mailing>(rt: R, scene: Scene<R, M>, play: &Play) -> bool
-    requires { has_finished scene.link.run.core.transcript ≡ false }
+// The calls of the rank at this desk are told, the points are passed and its end is left as the play says.
+fn is_played_at<R: Wait + Copy, M: Mailing>(
+    rt: R,
+    alloc: Global,
+    config: Config,
+    desk: Desk<M>,
+    play: &Play,
+) -> Result<bool, Fail>
+    requires desk { IsNew config 0 desk }
+    requires ranks { config.ranks ≡ 2 }
 {
-    let Scene {
-        link,
-        mut host,
-        points,
-    } = scene;
-    drop(points);
-    is_end(link, play.leaves) && host.are_told(&rt, play.heard)
+    let (seen, points) = bounded(alloc, 16)?;
+    let gate = SeenGate { rt, seen };
+    let mut link = ThreadedLink::new(alloc, rt, config, Rank(0), desk, gate)?;
+    let told = are_told(&mut link, alloc, play.calls);
+    let left = is_end(link, play.leaves);
+    Ok(told && left && passed(&rt, &points, play.passes))
 }
 
 const LATE: u64 = 1 << 48;

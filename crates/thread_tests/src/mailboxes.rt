@@ -6,7 +6,7 @@ use std::alloc::Global;
 use std::sync::Wait;
 use std::test::Fail;
 use std::thread;
-use std::thread::Threads;
+use std::thread::{JoinHandle, Threads};
 use std::time::{Clock, Duration};
 
 /// Actors that receive, and all actors: the others send.
@@ -100,6 +100,46 @@ fn receive_all<R: Wait>(rt: &R, mut inbox: Inbox) -> bool {
     true
 }
 
+// Starts a thread for each receiver.
+fn start_receivers<R: Threads + Wait + Copy + Send + 'static>(
+    rt: R,
+    threads: &mut Vec<JoinHandle<bool>>,
+    inboxes: Vec<Inbox>,
+) -> Result<(), Fail> {
+    for (number, inbox) in inboxes.into_iter().enumerate() {
+        if number < RECEIVERS as usize {
+            let started = thread::spawn(&rt, move || receive_all(&rt, inbox));
+            threads.push(started.ok().ok_or("thread")?)?;
+        }
+    }
+    Ok(())
+}
+
+// Starts a thread for each sender.
+fn start_senders<R: Threads + Wait + Clock + Copy + Send + 'static>(
+    rt: R,
+    threads: &mut Vec<JoinHandle<bool>>,
+    posts: Vec<Post>,
+    pauses: bool,
+) -> Result<(), Fail> {
+    for (number, post) in posts.into_iter().enumerate() {
+        if number >= RECEIVERS as usize {
+            let started = thread::spawn(&rt, move || send_all(&rt, post, pauses));
+            threads.push(started.ok().ok_or("thread")?)?;
+        }
+    }
+    Ok(())
+}
+
+// Each thread ends, and answers that it is so.
+fn all_end_well<R: Threads>(rt: &R, threads: Vec<JoinHandle<bool>>) -> bool {
+    let mut all = true;
+    for thread in threads {
+        all = thread.join(rt) && all;
+    }
+    all
+}
+
 // Eight threads send to the mailboxes of four others.
 fn all_arrive<R: Threads + Wait + Clock + Copy + Send + 'static>(
     rt: R,
@@ -108,23 +148,9 @@ fn all_arrive<R: Threads + Wait + Clock + Copy + Send + 'static>(
 ) -> Result<bool, Fail> {
     let (posts, inboxes) = mailboxes(alloc, ACTORS, 4)?;
     let mut threads = Vec::new(alloc);
-    for (number, inbox) in inboxes.into_iter().enumerate() {
-        if number < RECEIVERS as usize {
-            let started = thread::spawn(&rt, move || receive_all(&rt, inbox));
-            threads.push(started.ok().ok_or("thread")?)?;
-        }
-    }
-    for (number, post) in posts.into_iter().enumerate() {
-        if number >= RECEIVERS as usize {
-            let started = thread::spawn(&rt, move || send_all(&rt, post, pauses));
-            threads.push(started.ok().ok_or("thread")?)?;
-        }
-    }
-    let mut all = true;
-    for thread in threads {
-        all = thread.join(&rt) && all;
-    }
-    Ok(all)
+    start_receivers(rt, &mut threads, inboxes)?;
+    start_senders(rt, &mut threads, posts, pauses)?;
+    Ok(all_end_well(&rt, threads))
 }
 
 #[test]

@@ -1,13 +1,14 @@
 //! What a rank's thread leaves.
 
 ghost use Rattle.std.specs.Prelude.{◌≡◌, []};
+ghost use Rattle.actor_desk.specs.Desks.{IsNew};
 ghost use Rattle.rank_mail.specs.Mailboxes.{places_of};
 
 use crate::calls::{Heard, Host, two_ranks};
 use crate::mail::{Mail, Three, three_desks};
-use actor_desk::Mailing;
+use actor_desk::{Desk, Mailing};
 use adlb_io::FreeGate;
-use adlb_unit::{Rank, Trouble};
+use adlb_unit::{Config, NoMemory, Rank, Trouble};
 use bag_ledger::{Answer, Call};
 use rank_client::{Adlb, RankProgram};
 use std::alloc::Global;
@@ -37,43 +38,6 @@ impl RankProgram for Idle {
         }
         Ok(5)
     }
-}
-
-// The program of rank 0, and the server's desk.
-#[derive(Drop)]
-struct Idling<R: Wait, M: Mailing> {
-    job: RankJob<Idle, R, FreeGate, M>,
-    host: Host<M>,
-}
-
-fn job<R: Wait + Copy, M: Mailing>(
-    rt: R,
-    alloc: Global,
-    fails: bool,
-    mail: Mail,
-) -> Result<Idling<R, M>, Fail>
-    requires mail { M.places ≡ places_of mail.inboxes.items }
-{
-    let config = two_ranks()?;
-    let Three {
-        first,
-        second,
-        third,
-    } = three_desks::<M>(alloc, config, mail)?;
-    drop(second);
-    let job = RankJob::new(
-        alloc,
-        rt,
-        config,
-        Rank(0),
-        Idle { fails },
-        first,
-        FreeGate {},
-    )?;
-    Ok(Idling {
-        job,
-        host: Host { desk: third },
-    })
 }
 
 // What rank 0 leaves that runs the program, and what the server hears last.
@@ -111,9 +75,36 @@ fn is_run_over<R: Wait + Copy, M: Mailing>(
 ) -> Result<bool, Fail>
     requires mail { M.places ≡ places_of mail.inboxes.items }
 {
-    let Idling { job, mut host } = job::<R, M>(rt, alloc, fails, mail)?;
-    let ended = has_ended(&job.run(), wanted);
-    Ok(ended && host.is_told(&rt, wanted.heard))
+    let config = two_ranks()?;
+    let Three {
+        first,
+        second,
+        third,
+    } = three_desks::<M>(alloc, config, mail)?;
+    drop(second);
+    let mut host = Host { desk: third };
+    let run = is_run_at(rt, alloc, config, first, fails, wanted);
+    let told = run == Ok(true) && host.is_told(&rt, wanted.heard);
+    drop(host);
+    run?;
+    Ok(told)
+}
+
+// The rank at this desk runs the program, and leaves this.
+fn is_run_at<R: Wait + Copy, M: Mailing>(
+    rt: R,
+    alloc: Global,
+    config: Config,
+    desk: Desk<M>,
+    fails: bool,
+    wanted: &Ended,
+) -> Result<bool, NoMemory>
+    requires desk { IsNew config 0 desk }
+    requires ranks { config.ranks ≡ 2 }
+{
+    let program = Idle { fails };
+    let job = RankJob::new(alloc, rt, config, Rank(0), program, desk, FreeGate {})?;
+    Ok(has_ended(&job.run(), wanted))
 }
 
 /// Whether the program fails, and what its rank leaves.

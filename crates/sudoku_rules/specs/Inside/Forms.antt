@@ -1,6 +1,6 @@
 -- The cells of a grid in an array of the side's length.
-use Rattle.std.specs.Prelude.{◌≡◌, ℕ, ◌==◌, Bool, true, false, length, if◌then◌else◌, refl}
-use Rattle.std.proofs.Common.{sym, ◌∙◌, ap}
+use Rattle.std.specs.Prelude.{◌≡◌, ◌==◌, length, if◌then◌else◌}
+use Rattle.std.proofs.Common.{ap}
 use Rattle.sudoku_law.specs.Grid.{Cells, IsGrid}
 use Rattle.sudoku_rules.specs.declared.grid.Form.{Form}
 use Rattle.sudoku_rules.specs.declared.grid.Form.TheVariants.{Four, Nine, Sixteen}

@@ -1,6 +1,3 @@
-use Rattle.std.proofs.Common.{◌≡◌, ◌∙◌, ap, sym}
-use Rattle.sudoku_law.specs.Grid.{conflict}
-use Rattle.sudoku_rules.specs.Sides.{box_side}
 use Rattle.sudoku_rules.proofs.Conflict.{test_means}
 use Rattle.sudoku_rules.proofs.Sides.{box_is}
 use Rattle.sudoku_rules.proofs.grid.has_conflict.Goals as goal

@@ -1,5 +1,5 @@
 use Rattle.std.proofs.Common.{◌≡◌, ◌<◌, ◌/◌, ◌%◌, ◌∙◌, ℕ, ap, sym, subst, refl}
-use Rattle.sudoku_law.specs.Grid.{row_of, column_of, box_of, side}
+use Rattle.sudoku_law.specs.Grid.{row_of, column_of, side}
 use Rattle.sudoku_rules.proofs.Sides.{row_within, column_within}
 use Rattle.sudoku_rules.proofs.look.around.Goals as goal
 

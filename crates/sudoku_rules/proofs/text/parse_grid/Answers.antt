@@ -1,9 +1,8 @@
-use Rattle.std.proofs.Common.{◌≡◌, ◌<◌, ◌≤◌, ◌↔◌, ℕ, ◌+◌, List, length, get_or, map, take, sym, ap, ◌∙◌, subst, arith, Ok, Result}
+use Rattle.std.proofs.Common.{◌≡◌, ◌<◌, ◌≤◌, ◌↔◌, ℕ, List, length, get_or, map, take, sym, ap, ◌∙◌, subst, arith, Ok}
 use Rattle.std.proofs.lemmas.List.{length-set, take_all}
-use Rattle.sudoku_law.specs.Grid.{Cells}
-use Rattle.sudoku_rules.specs.Sides.{IsSize, side_for}
+use Rattle.sudoku_rules.specs.Sides.{side_for}
 use Rattle.sudoku_rules.specs.Reading.{IsCellSign, Reads, digit_of}
-use Rattle.sudoku_rules.proofs.Sides.{side_is, sudoku_few, size_few}
+use Rattle.sudoku_rules.proofs.Sides.{side_is, size_few}
 use Rattle.sudoku_rules.proofs.Reading.{map_more, signs_give_grid, read_exact}
 use Rattle.sudoku_rules.proofs.text.parse_grid.Goals as goal
 use borrow.Author.Count.{below_more}

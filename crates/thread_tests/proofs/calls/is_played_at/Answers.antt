@@ -1,5 +1,5 @@
 use Rattle.thread_tests.proofs.Transcripts.{not_begun}
-use Rattle.thread_tests.proofs.calls.make_scene.Goals as goal
+use Rattle.thread_tests.proofs.calls.is_played_at.Goals as goal
 
-pub returns : goal.returns
-returns g c = not_begun _ c.in_ok-link.ensures.empty
+pub are_told-told-requires : goal.are_told-told-requires
+are_told-told-requires g c = not_begun _ c.in_ok-link.ensures.empty

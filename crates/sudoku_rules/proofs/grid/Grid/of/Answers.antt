@@ -1,4 +1,4 @@
-use Rattle.std.proofs.Common.{◌≡◌, length, sym, arith}
+use Rattle.std.proofs.Common.{sym, arith}
 use Rattle.sudoku_rules.proofs.Sides.{sudoku_wide, as_grid}
 use Rattle.sudoku_rules.proofs.grid.Grid.of.Goals as goal
 use Rattle.sudoku_rules.proofs.grid.Grid.of.Goals.{in-Ok, in_default+in-Ok-try_into, in_default+in_default-try_into}
