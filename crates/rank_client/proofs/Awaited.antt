@@ -23,32 +23,10 @@ use Rattle.rank_client.specs.declared.outcomes.Change.TheVariants as changes
 use Rattle.rank_client.specs.declared.rooms.Room.{Room}
 use Rattle.rank_client.specs.Inside.{HasRoom, IsFit, IsFresh, IsInside, IsPlaced, IsSound, accepted_after, awaited, batch_after, handles_after, state_of}
 use Rattle.rank_client.specs.Transcript.{TranscriptModel}
-use Rattle.rank_client.specs.Rules.{ClientResponse, answer_call, expects_note, is_at_server}
+use Rattle.rank_client.specs.Rules.{ClientResponse, answer_call}
 use Rattle.rank_client.specs.State.{ClientModel}
 use Rattle.rank_client.proofs.Insides.{awaited_few, first_letter}
 use Rattle.rank_client.specs.Step.{hear, letter_stamp, made, ticked, told_trouble}
-
--- the test that a rule makes has passed
-pub passes : (o : Option ClientResponse) (t : Bool) (z : ClientResponse) → o ≡ (if t then Some z else None) → IsSome o → o ≡ Some z
-passes o true z is some = is
-passes o false z is some = absurd (cc (is, some))
-
--- the note of a grant that is awaited names servers of the run
-pub note_placed : (s : ClientModel) (for_it : Bool) (note : UnitNote) (z : ClientResponse)
-    → IsSome (if for_it && expects_note s note then Some z else None) → IsPlaced s.config note
-note_placed s for_it note z some = by_test (for_it && expects_note s note) refl some
-  where
-    common_at : (o : Option CommonRef) → is_at_server s o ≡ true → IfSome o (λ (c : CommonRef). c.server.0 < s.config.servers)
-    common_at None is = tt
-    common_at (Some c) is = ltb-true c.server.0 s.config.servers is
-
-    by_test : (t : Bool) → (for_it && expects_note s note) ≡ t → IsSome (if t then Some z else None) → IsPlaced s.config note
-    by_test true is some =
-        let one = (and_parts _ _ (and_parts for_it (expects_note s note) is).1).0 in
-        let two = (and_parts _ _ one).0 in
-        let three = and_parts _ _ two in
-        (ltb-true note.server.0 s.config.servers three.0, common_at note.common three.1)
-    by_test false is some = absurd (cc)
 
 -- a call is pending where a letter is awaited
 pub busy : (s : ClientModel) (p : Pending) (from : Server) (m : Message) → IsSome (answer_call s p from m) → awaited p ≡ 2
@@ -129,8 +107,8 @@ pub ended_inside : (i : Inside) (change : Change) (pending : Pending) (room : Ro
     → vec_len handles ≤ vec_capacity handles → said.items ≡ i.said.items ++ more ∷ [] → i.said.places ≤ said.places + 1
     → i.said.ids ≤ said.ids + 2
     → IsInside (record i { pending = pending; room = room; batch = batch; accepted = accepted; end = end; handles = handles; said = said })
-ended_inside i change pending room batch accepted end handles said more inside fresh fit busy idle batch_is accepted_is notes_is space said_is
-    places ids =
+ended_inside i change pending room batch accepted end handles said more inside fresh fit busy idle batch_is accepted_is notes_is space
+    said_is places ids =
     let s = inside.sound in
     let N : UnitNote → Type 0 = IsPlaced i.config in
     let none : awaited pending ≡ 1 = ap awaited (sym idle) in record {

@@ -1,10 +1,9 @@
 -- The fields of a client stay sound.
-use Rattle.std.proofs.Common.{All, Global, Vec, Option, None, true, refl, ◌∷◌, ◌++◌, [], ◌≡◌, ◌≤◌, ◌<◌, ◌+◌, ℕ, List, length, get_or, set, arith, false, Result, Ok, Err, Some, ◌∙◌, ap, not}
+use Rattle.std.proofs.Common.{All, Global, Vec, Option, None, true, refl, ◌∷◌, ◌++◌, [], ◌≡◌, ◌≤◌, ◌<◌, ◌+◌, ℕ, List, length, get_or, set, arith, Some, ◌∙◌, ap, not}
 use Rattle.std.proofs.Math.ListN.{length-set}
 use Rattle.std.specs.Vec.{vec_capacity, vec_len}
 use Rattle.std.proofs.lemmas.Bool.{and_parts}
 use Rattle.std.proofs.lemmas.List.{length_push}
-use Rattle.std.specs.Prelude.{OnOk, is_err}
 use Rattle.std.proofs.lemmas.List.Elements.{All-filter, All-get_or, All-same, All-set, All-weaker}
 use Rattle.adlb_unit.specs.Ids.{same_unit}
 use Rattle.adlb_unit.specs.declared.configs.Config.{Config}
@@ -21,10 +20,6 @@ use Rattle.rank_client.specs.Rules.{held, is_free, is_idle}
 use Rattle.rank_client.specs.State.{ClientModel}
 use Rattle.rank_client.specs.Step.{ticked}
 use Rattle.rank_client.proofs.Begins.{found_is}
-
-pub on_ok : {T E : Type 0} {P : Type 0} (r : Result T E) → is_err r ≡ false → OnOk r P → P
-on_ok (Ok x) e p = p
-on_ok (Err x) e p = absurd (cc)
 
 -- a letter to a server is the first of the event
 pub first_letter : (s : ClientModel) (to : ℕ) → IsSound s → IsFresh s → to < s.config.servers → get_or s.sent to 0 < s.clock
@@ -71,8 +66,8 @@ begun_sound s pending puts sent handles before spent transcript sound fresh more
 
 -- and waits for an answer, for which a letter was written
 pub asks_inside : (i : Inside) (pending : Pending) (room : Room) (puts : ℕ) (sent : Vec ℕ Global) (handles : Vec UnitNote Global)
-    (before : List UnitNote) (spent : Option UnitId) (said : TranscriptModel) (to : ℕ) → IsInside i → IsFresh (state_of i) → puts ≤ i.puts + 1
-    → to < i.config.servers → HasRoom i.config room pending → sent.items ≡ set i.sent.items to (get_or i.sent.items to 0 + 1)
+    (before : List UnitNote) (spent : Option UnitId) (said : TranscriptModel) (to : ℕ) → IsInside i → IsFresh (state_of i)
+    → puts ≤ i.puts + 1 → to < i.config.servers → HasRoom i.config room pending → sent.items ≡ set i.sent.items to (get_or i.sent.items to 0 + 1)
     → handles.items ≡ unspent spent before → before ≡ i.handles.items → vec_len handles + 1 ≤ vec_capacity handles
     → said.items ≡ i.said.items → 2 ≤ said.places → 4 ≤ said.ids → IsInside (record i {
       pending = pending;
@@ -116,8 +111,8 @@ idle_awaits (waits_for.Count request kind) idle = absurd (cc)
 idle_awaits (waits_for.SetDone request tried) idle = absurd (cc)
 
 -- or is answered at once
-pub over_inside : (i : Inside) (puts : ℕ) (handles : Vec UnitNote Global) (before : List UnitNote) (spent : Option UnitId) (said between : TranscriptModel)
-    (more_said : Said) → IsInside i → IsFresh (state_of i) → is_free (state_of i) ≡ true → puts ≤ i.puts + 1
+pub over_inside : (i : Inside) (puts : ℕ) (handles : Vec UnitNote Global) (before : List UnitNote) (spent : Option UnitId)
+    (said between : TranscriptModel) (more_said : Said) → IsInside i → IsFresh (state_of i) → is_free (state_of i) ≡ true → puts ≤ i.puts + 1
     → handles.items ≡ unspent spent before → before ≡ i.handles.items → vec_len handles + 1 ≤ vec_capacity handles
     → said.items ≡ between.items ++ more_said ∷ [] → between.items ≡ i.said.items → between.places ≤ said.places + 1 → 2 ≤ between.places
     → between.ids ≤ said.ids + 2 → 4 ≤ between.ids

@@ -10,7 +10,8 @@ pub take_in-requires-clause-expected : goal.take_in-requires-clause-expected
 take_in-requires-clause-expected c =
     let s = c.args.self.now in
     let given = c.in-Ok.ensures in
+    let from = c.args.from in
+    let message = c.args.letter.message in
     let heard = heard_is s c.args.from c.args.letter given.untold c.requires.expected in
-    let stamped = subst (λ n. IsSome (answer_call (ticked s n) s.pending c.args.from c.args.letter.message)) (sym given.stamp) heard.awaited in
-    subst (λ (t : ClientModel). IsSome (answer_call (ticked t c.in-Ok.stamp) t.pending c.args.from c.args.letter.message)) (sym c.self.view_is)
-    stamped
+    let stamped = subst (λ n. IsSome (answer_call (ticked s n) s.pending from message)) (sym given.stamp) heard.awaited in
+    subst (λ (t : ClientModel). IsSome (answer_call (ticked t c.in-Ok.stamp) t.pending from message)) (sym c.self.view_is) stamped

@@ -12,7 +12,8 @@ pub invariant_of-self : goal.invariant_of-self
 invariant_of-self c =
     let i = c.self.inside in
     let fresh : IsFresh (state_of i) = subst IsFresh (sym c.self.view_is) c.requires.fresh in
-    let expected = subst (λ (s : ClientModel). IsSome (answer_call s s.pending c.args.from c.args.message)) (sym c.self.view_is) c.requires.expected in
+    let expected = subst (λ (s : ClientModel). IsSome (answer_call s s.pending c.args.from c.args.message)) (sym c.self.view_is)
+    c.requires.expected in
     let pending = sym c.replace-pending.ensures.value in
     let here = subst (λ (p : Pending). IsSome (answer_call (state_of i) p c.args.from c.args.message)) pending expected in
     let heard = c.heard.ensures (state_of i) c.args.from refl refl here in
@@ -25,10 +26,12 @@ pub invariant_of-self-in-Waits : goal.invariant_of-self-in-Waits
 invariant_of-self-in-Waits c =
     let i = c.self.inside in
     let fresh : IsFresh (state_of i) = subst IsFresh (sym c.self.view_is) c.requires.fresh in
-    let expected = subst (λ (s : ClientModel). IsSome (answer_call s s.pending c.args.from c.args.message)) (sym c.self.view_is) c.requires.expected in
+    let expected = subst (λ (s : ClientModel). IsSome (answer_call s s.pending c.args.from c.args.message)) (sym c.self.view_is)
+    c.requires.expected in
     let pending = sym c.replace-pending.ensures.value in
     let here = subst (λ (p : Pending). IsSome (answer_call (state_of i) p c.args.from c.args.message)) pending expected in
     let heard = c.heard.ensures (state_of i) c.args.from refl refl here in
     let fit = subst (λ (o : Outcome). Fits i.config c.heard.new.room o) c.in-Waits.is heard.1 in
     let has = subst (λ (p : Pending). HasRoom i.config c.heard.new.room p) (sym c.replace.ensures.after) fit.0 in
-    waiting_inside i _ _ _ c.in-Waits.to.0 c.self.invariant fresh fit.1 (busy (state_of i) i.pending _ _ expected) has c.write.ensures.counted
+    waiting_inside i _ _ _ c.in-Waits.to.0 c.self.invariant fresh fit.1 (busy (state_of i) i.pending _ _ expected) has
+    c.write.ensures.counted
