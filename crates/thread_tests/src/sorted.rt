@@ -73,7 +73,11 @@ fn sorted(alloc: Global, lists: &[Vec<Stamped>]) -> Result<Vec<(u64, u32, u64)>,
 // The ledger has these entries, in this order.
 fn is_in_order(ledger: &Ledger, expected: &[(u64, u32, u64)]) -> bool {
     ledger.entries().len() == expected.len()
-        && ledger.entries().iter().zip(expected).all(|(entry, wanted)| told(entry) == *wanted)
+        && ledger
+            .entries()
+            .iter()
+            .zip(expected)
+            .all(|(entry, wanted)| told(entry) == *wanted)
 }
 
 #[test]
