@@ -8,11 +8,9 @@
 mod bodies;
 mod entries;
 mod laws;
-mod ledgers;
 mod states;
 
 pub use bodies::Body;
 pub use entries::{Answer, Call, Entry, Said};
 pub use laws::{bag_laws, run_laws};
-pub use ledgers::Ledger;
 pub use states::{Part, Placed, Promise, RankState, Servers, Status, UnitPlace};

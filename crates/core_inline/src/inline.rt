@@ -9,7 +9,8 @@ ghost use Rattle.core_inline.specs.Inline.{seat_of, IsEnd, IsInline, IsStart, ba
 
 use crate::runs::InlineRun;
 use adlb_unit::{Handle, Info, NoMemory, Payload, Rank, Target, Trouble, Types, WorkType};
-use bag_ledger::{Body, Call, Ledger, Said};
+use bag_ledger::{Body, Call, Said};
+use packed_ledger::Ledger;
 use rank_client::{
     Adlb, EndFault, PutFault, TryFault, count_result, done_result, fetch_result, put_result,
     reserve_result, try_result,

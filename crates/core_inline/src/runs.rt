@@ -9,8 +9,9 @@ ghost use Rattle.core_inline.specs.Inline.{IsEnd, IsInline, IsStart, batch_of, f
 
 use crate::pairs::{exchange, finish};
 use adlb_unit::{Config, NoMemory, Rank, Server, Trouble};
-use bag_ledger::{Answer, Call, Ledger, Said};
+use bag_ledger::{Answer, Call, Said};
 use core_world::World;
+use packed_ledger::Ledger;
 use server_core::LeftUnit;
 use std::alloc::Global;
 use std::marker::Model;

@@ -10,8 +10,9 @@ ghost use Rattle.core_world.specs.Stage.{IsReached, IsWhole};
 
 use crate::links::{Links, place_of};
 use adlb_unit::{Actor, Config, NoMemory, Rank, Server, or_no_memory};
-use bag_ledger::{Ledger, Said};
+use bag_ledger::Said;
 use core_run::Event;
+use packed_ledger::Ledger;
 use rank_client::ClientCore;
 use server_core::ServerState;
 use std::alloc::Global;

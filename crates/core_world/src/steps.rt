@@ -18,8 +18,9 @@ ghost use Rattle.server_law.specs.Step.{next_stamp, serve};
 use crate::links::place_of;
 use crate::stages::Stage;
 use adlb_unit::{Actor, Letter, NoMemory, Rank, Sending, Server, Trouble};
-use bag_ledger::{Answer, Call, Entry, Ledger};
+use bag_ledger::{Answer, Call, Entry};
 use core_run::Event;
+use packed_ledger::Ledger;
 use rank_client::ClientStep;
 use server_core::Step;
 

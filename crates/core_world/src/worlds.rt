@@ -8,7 +8,8 @@ ghost use Rattle.server_core.specs.Left.{left_of};
 
 use crate::stages::Stage;
 use adlb_unit::{Actor, Config, NoMemory, Rank, Server, Trouble};
-use bag_ledger::{Ledger, Said};
+use bag_ledger::Said;
+use packed_ledger::Ledger;
 use server_core::LeftUnit;
 use std::alloc::Global;
 use std::marker::Model;

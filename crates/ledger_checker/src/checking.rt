@@ -7,7 +7,8 @@ ghost use Rattle.ledger_checker.specs.Room.{HasRoom};
 
 use crate::machines::Machine;
 use adlb_unit::{Config, NoMemory};
-use bag_ledger::{Entry, Ledger};
+use bag_ledger::Entry;
+use packed_ledger::Ledger;
 use std::alloc::Global;
 
 /// The place of the first entry of the ledger that is no step of the bag from the state which the entries before it

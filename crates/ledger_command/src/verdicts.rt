@@ -7,9 +7,9 @@ ghost use Rattle.ledger_command.specs.Verdicts.{IsVerdict, line_of, numbered};
 ghost use Rattle.ledger_command.specs.declared.verdicts.Verdict.{Verdict};
 
 use adlb_unit::{Config, NoMemory, or_no_memory};
-use bag_ledger::Ledger;
 use itoa::Buffer;
 use ledger_checker::first_illegal;
+use packed_ledger::Ledger;
 use std::alloc::Global;
 
 /// What is told of a ledger.

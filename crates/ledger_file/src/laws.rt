@@ -9,7 +9,7 @@ use crate::faults::LedgerFault;
 use crate::reading::read_ledger;
 use crate::writing::write_ledger;
 use adlb_unit::{Config, NoMemory};
-use bag_ledger::Ledger;
+use packed_ledger::Ledger;
 use std::alloc::Global;
 
 /// A configuration and a ledger have one text (`one_text`), and no text is that of two (`no_text_of_two`). Bytes of

@@ -13,7 +13,8 @@ use crate::faults::{LedgerFault, LineFault};
 use crate::numbers::is_written;
 use crate::rows::entry_of;
 use adlb_unit::Config;
-use bag_ledger::{Entry, Ledger};
+use bag_ledger::Entry;
+use packed_ledger::Ledger;
 use std::alloc::Global;
 
 /// The configuration and the ledger of which the bytes are the text (`IsText`); no other has this text (`text_laws`).

@@ -8,7 +8,8 @@ use crate::fields::Field::{self, Aim, Answer, Bytes, End, Id, Number, Prio, Shor
 use crate::names::Name;
 use crate::texts::append;
 use adlb_unit::{Config, NoMemory};
-use bag_ledger::{Entry, Ledger};
+use bag_ledger::Entry;
+use packed_ledger::Ledger;
 use std::alloc::Global;
 
 /// The text of the configuration and the ledger (`text`). Its only error is `NoMemory`.

@@ -5,7 +5,8 @@ ghost use Rattle.ledger_stats.specs.Stats.{counts, stats_text};
 
 use crate::texts::{append, append_count};
 use adlb_unit::NoMemory;
-use bag_ledger::{Entry, Ledger};
+use bag_ledger::Entry;
+use packed_ledger::Ledger;
 
 /// Appends the seven lines of the ledger's counts (`stats_text`) to the text: how many times a unit was accepted,
 /// refused by a server, rejected, granted, and pushed to another server, and how many units were left, which is

@@ -11,7 +11,7 @@ ghost use Rattle.merge_history.specs.Own.{Compose, Finals, IsOneHistory};
 use crate::fronts::{Front, fronts_of};
 use crate::stamped::Stamped;
 use adlb_unit::NoMemory;
-use bag_ledger::Ledger;
+use packed_ledger::Ledger;
 use std::alloc::Global;
 
 /// The entries that all actors of a run kept, in one ledger: by stamp, among equal stamps by actor, the ranks before the

@@ -4,8 +4,9 @@ use crate::calls::Words;
 use crate::changes::{changed, copied};
 use crate::scripts::driven;
 use adlb_unit::{Config, End, Rank, UnitId};
-use bag_ledger::{Entry, Ledger};
+use bag_ledger::Entry;
 use ledger_checker::first_illegal;
+use packed_ledger::Ledger;
 use std::alloc::Global;
 use std::test::Fail;
 

@@ -3,8 +3,9 @@
 use adlb_unit::{
     BatchId, Config, End, Info, NoMemory, Payload, Rank, Server, Target, Types, UnitId, WorkType,
 };
-use bag_ledger::{Entry, Ledger};
+use bag_ledger::Entry;
 use ledger_checker::first_illegal;
+use packed_ledger::Ledger;
 use std::alloc::Global;
 use std::process::Abort;
 use std::test::Fail;

@@ -1,8 +1,9 @@
 //! A merge of what many actors kept against a sort.
 
 use adlb_unit::Rank;
-use bag_ledger::{Entry, Ledger};
+use bag_ledger::Entry;
 use merge_history::{Stamped, merge};
+use packed_ledger::Ledger;
 use std::alloc::{AllocError, Global};
 use std::test::Fail;
 

@@ -3,8 +3,9 @@
 use adlb_unit::{
     BatchId, End, Info, NoMemory, Payload, Rank, Server, Target, Types, UnitId, WorkType,
 };
-use bag_ledger::{Entry, Ledger};
+use bag_ledger::Entry;
 use ledger_stats::append_stats;
+use packed_ledger::Ledger;
 use std::alloc::Global;
 use std::test::Fail;
 

@@ -1,7 +1,8 @@
 //! The entries of a ledger.
 
 use adlb_unit::{NoMemory, Payload, Rank, Server, Target, Types, UnitId, WorkType};
-use bag_ledger::{Entry, Ledger};
+use bag_ledger::Entry;
+use packed_ledger::Ledger;
 use std::alloc::Global;
 use std::test::Fail;
 

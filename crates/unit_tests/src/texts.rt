@@ -1,8 +1,9 @@
 //! The text of a configuration and a ledger.
 
 use adlb_unit::{Config, End, Info, Rank, Target, Types};
-use bag_ledger::{Entry, Ledger};
+use bag_ledger::Entry;
 use ledger_file::{LedgerFault, read_back, read_ledger, write_ledger};
+use packed_ledger::Ledger;
 use std::alloc::Global;
 use std::test::Fail;
 

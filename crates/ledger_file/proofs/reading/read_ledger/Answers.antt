@@ -1,5 +1,5 @@
 use Rattle.std.proofs.Common.{◌≡◌, sym, ap, refl, Err, Result, rules}
-use Rattle.bag_ledger.specs.declared.ledgers.Ledger.{Ledger}
+use Rattle.packed_ledger.specs.declared.ledgers.Ledger.{Ledger}
 use Rattle.ledger_file.specs.declared.faults.LineFault.TheVariants as fault
 use Rattle.ledger_file.specs.declared.faults.LedgerFault.{LedgerFault}
 use Rattle.ledger_file.specs.declared.faults.LedgerFault.TheVariants as ledger_fault

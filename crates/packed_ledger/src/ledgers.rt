@@ -2,8 +2,8 @@
 
 ghost use Rattle.std.specs.Prelude.{◌≡◌, ◌++◌, ◌∷◌, [], OnOk, OnErr};
 
-use crate::entries::Entry;
 use adlb_unit::NoMemory;
+use bag_ledger::Entry;
 use std::alloc::Global;
 use std::marker::Model;
 
