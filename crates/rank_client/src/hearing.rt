@@ -19,6 +19,7 @@ use crate::puts::hear_put;
 use crate::rooms::Room;
 use crate::steps::ClientStep;
 use adlb_unit::{Letter, Message, STAMP_LIMIT, Server, Trouble};
+use bag_ledger::Said;
 use std::mem;
 
 impl ClientCore {
@@ -85,7 +86,6 @@ impl ClientCore {
                 change,
                 entries,
                 said,
-                answer,
             } => {
                 make_change(
                     &mut self.batch,
@@ -94,7 +94,11 @@ impl ClientCore {
                     &mut self.handles,
                     change,
                 );
-                self.said.push_reserved(said);
+                self.said.add(&said);
+                let Said {
+                    answer,
+                    call: _call,
+                } = said;
                 ClientStep {
                     stamp: self.clock,
                     sends: Vec::new(self.alloc),
