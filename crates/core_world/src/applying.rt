@@ -45,7 +45,7 @@ impl World {
             return Err(ApplyFault::NotEnabled { event });
         }
         match self.carry_out(event) {
-            Ok(answer) => Ok(answer),
+            Ok(told) => Ok(told),
             Err(trouble) => Err(ApplyFault::of(trouble)),
         }
     }

@@ -1,12 +1,10 @@
 //! What a client does to fetch the bytes of a unit: the unit's own, and those of its common part, if it has one.
 
-ghost use Rattle.std.specs.Prelude.{◌≡◌, ◌≤◌, ◌++◌, [], length, filter, not, Some, IfOk};
+ghost use Rattle.std.specs.Prelude.{◌≡◌, ◌≤◌, [], filter, not, Some, IfOk};
 ghost use Rattle.std.specs.Vec.{vec_len, vec_capacity};
 ghost use Rattle.adlb_unit.specs.Ids.{same_unit};
-ghost use Rattle.bag_ledger.specs.declared.entries.Answer.{Answer};
-ghost use Rattle.bag_ledger.specs.declared.entries.Call.{Call};
 ghost use Rattle.rank_client.specs.Inside.{Fits, HasRoom, Hears, Opens, opened, response_of, unspent};
-ghost use Rattle.rank_client.specs.Rules.{ends, fetched, held, own_came};
+ghost use Rattle.rank_client.specs.Rules.{fetched, held, own_came};
 ghost use Rattle.rank_client.specs.State.{ClientModel};
 ghost use Rattle.rank_client.specs.declared.pendings.Pending.{Pending};
 ghost use Rattle.rank_client.specs.declared.rooms.Room.{Room};
@@ -107,12 +105,9 @@ pub(crate) fn hear_fetch(
 // The own bytes of the unit are all, or they stay until the common ones come, for which their server is asked.
 fn own_bytes(place: &Place, request: u64, note: UnitNote, room: &mut Room, own: Payload) -> Outcome
     requires room { HasRoom place.now.config room.old (Pending.Fetch request note) }
-    ensures response { (s : ClientModel) → length own ≡ note.length → response_of s result ≡ Some (own_came s request note own note.common) }
+    ensures response { (s : ClientModel) → response_of s result ≡ Some (own_came s request note own note.common) }
     ensures fits { Fits place.now.config room.new result }
 {
-    if own.len() != note.length as usize {
-        return Outcome::Strange;
-    }
     match note.common {
         None => Outcome::Ends {
             change: Change::Keeps,
@@ -139,7 +134,8 @@ fn own_bytes(place: &Place, request: u64, note: UnitNote, room: &mut Room, own: 
     }
 }
 
-// What a letter makes of the fetch whose own bytes have come: the server of the common part gives its bytes.
+// What a letter makes of the fetch whose own bytes have come: the server of the common part gives its bytes, which
+// stand before the own ones.
 pub(crate) fn hear_common(
     place: &Place,
     request: u64,
@@ -152,26 +148,14 @@ pub(crate) fn hear_common(
     ensures { Hears place.now (Pending.Common request note common own) message room.now result }
 {
     match message {
-        Message::Bytes { body, .. } => joined(place, note, common, own, body),
-        _ => Outcome::Strange,
-    }
-}
-
-// The common bytes have come, and stand before the own ones.
-fn joined(place: &Place, note: UnitNote, part: CommonRef, own: Payload, common: Payload) -> Outcome
-    ensures response { (s : ClientModel) → length common ≡ part.length →
-        response_of s result ≡ Some (ends s [] (Call.Fetch note.id) (Answer.Body (common ++ own))) }
-    ensures fits { (room : Room) → Fits place.now.config room result }
-{
-    if common.len() != part.length as usize {
-        return Outcome::Strange;
-    }
-    Outcome::Ends {
-        change: Change::Keeps,
-        entries: Vec::new(place.alloc),
-        said: Said {
-            call: Call::Fetch { id: note.id },
-            answer: Answer::Body(Body::joined(common, own)),
+        Message::Bytes { body, .. } => Outcome::Ends {
+            change: Change::Keeps,
+            entries: Vec::new(place.alloc),
+            said: Said {
+                call: Call::Fetch { id: note.id },
+                answer: Answer::Body(Body::joined(body, own)),
+            },
         },
+        _ => Outcome::Strange,
     }
 }

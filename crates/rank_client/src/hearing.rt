@@ -19,7 +19,7 @@ use crate::puts::hear_put;
 use crate::rooms::Room;
 use crate::steps::ClientStep;
 use adlb_unit::{Letter, Message, STAMP_LIMIT, Server, Trouble};
-use bag_ledger::Said;
+use bag_ledger::{Answer, Said};
 use std::mem;
 
 impl ClientCore {
@@ -95,15 +95,11 @@ impl ClientCore {
                     change,
                 );
                 self.said.add(&said);
-                let Said {
-                    answer,
-                    call: _call,
-                } = said;
                 ClientStep {
                     stamp: self.clock,
                     sends: Vec::new(self.alloc),
                     entries,
-                    answer: Some(answer),
+                    answer: Some(answer_of(said)),
                 }
             }
             Outcome::Waits {
@@ -158,6 +154,13 @@ fn heard(place: &Place, pending: Pending, room: &mut Room, message: Message) -> 
         Pending::Count { request, kind } => hear_count(place, request, kind, room, &message),
         Pending::SetDone { request, tried } => hear_done(place, request, tried, room, &message),
     }
+}
+
+// The answer, with the call let go of.
+fn answer_of(said: Said) -> Answer
+    ensures { result ≡ said.answer }
+{
+    said.answer
 }
 
 // The trouble of a server that has failed and says so.
