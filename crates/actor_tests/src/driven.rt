@@ -4,10 +4,11 @@ use adlb_unit::{
     Actor, BatchId, CommonRef, Config, End, Info, Letter, Message, Payload, Rank, Sending, Server,
     Target, Types, UnitId, UnitNote, WorkType,
 };
-use bag_ledger::{Answer, Call, Entry, Said};
+use bag_ledger::{Answer, Call, Entry};
 use rank_client::{ClientCore, ClientStep};
 use std::alloc::Global;
 use std::fmt::Write;
+use std::mem;
 use std::process::Abort;
 use std::test::Fail;
 
@@ -318,31 +319,70 @@ fn add_step(all: &mut String, step: &ClientStep) -> Result<(), Fail> {
     add_answer(all, &step.answer)
 }
 
-fn given(alloc: Global, step: ClientStep) -> Result<String, Fail> {
+// The call that the client began last, how many were answered, and the last of them with its answer.
+#[derive(Drop)]
+struct Told {
+    begun: Option<Makes>,
+    answered: usize,
+    last: Option<(Makes, Answer)>,
+}
+
+impl Told {
+    // Nothing yet.
+    fn nothing() -> Told {
+        Told {
+            begun: None,
+            answered: 0,
+            last: None,
+        }
+    }
+
+    // The call that was begun is answered, if this is an answer.
+    fn hear(&mut self, answer: Option<Answer>) {
+        if let (Some(makes), Some(answer)) = (self.begun, answer) {
+            self.answered = self.answered.saturating_add(1);
+            drop(mem::replace(&mut self.last, Some((makes, answer))));
+        }
+    }
+}
+
+fn given(alloc: Global, told: &mut Told, step: ClientStep) -> Result<String, Fail> {
     let mut all = String::new(alloc);
     add_step(&mut all, &step)?;
+    told.hear(step.answer);
     Ok(all)
 }
 
 // What a line of a scene gives, as it is shown.
-fn shown(alloc: Global, client: &mut ClientCore, line: Line) -> Result<String, Fail> {
+fn shown(
+    alloc: Global,
+    client: &mut ClientCore,
+    told: &mut Told,
+    line: Line,
+) -> Result<String, Fail> {
     match line {
-        Line::Begins(makes) => given(alloc, begin(alloc, client, makes)?),
-        Line::Hears(from, stamp, says) => given(alloc, hear(alloc, client, from, stamp, says)?),
+        Line::Begins(makes) => {
+            let step = begin(alloc, client, makes)?;
+            told.begun = Some(makes);
+            given(alloc, told, step)
+        }
+        Line::Hears(from, stamp, says) => {
+            given(alloc, told, hear(alloc, client, from, stamp, says)?)
+        }
         Line::IsReady(makes) => is_ready(alloc, client, makes),
         Line::Expects(from, stamp, says) => expects(alloc, client, from, stamp, says),
         Line::Answered => {
-            let count = client.transcript().len();
+            let count = told.answered;
             Ok(format!(in alloc; "{count}")?)
         }
-        Line::SaidLast => said_last(alloc, client),
+        Line::SaidLast => said_last(alloc, told),
     }
 }
 
-fn said_last(alloc: Global, client: &ClientCore) -> Result<String, Fail> {
-    match client.transcript().last() {
-        Some(said) => {
-            let Said { call, answer } = said;
+fn said_last(alloc: Global, told: &Told) -> Result<String, Fail> {
+    match &told.last {
+        Some((makes, answer)) => {
+            let call = call(alloc, *makes)?;
             Ok(format!(in alloc; "{call:?} {answer:?}")?)
         }
         None => Ok(String::from_str(alloc, "none")?),
@@ -363,8 +403,9 @@ fn go_through(
     client: &mut ClientCore,
     scene: &[(Line, &str)],
 ) -> Result<(), Fail> {
+    let mut told = Told::nothing();
     for (at, (line, expected)) in scene.iter().enumerate() {
-        let given = shown(alloc, client, *line)?;
+        let given = shown(alloc, client, &mut told, *line)?;
         assert_eq!(rt; given.as_str(), *expected, "line {at}");
     }
     Ok(())

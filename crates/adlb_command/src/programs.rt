@@ -11,6 +11,7 @@ use adlb_threads::Report;
 use adlb_unit::{Config, NoMemory, Rank, or_no_memory};
 use bag_ledger::Said;
 use core_inline::InlineWorld;
+use ghost_list::Trace;
 use job_report::Outcome;
 use job_text::Jobs;
 use packed_ledger::Ledger;
@@ -79,7 +80,7 @@ fn close(world: &mut InlineWorld)
 }
 
 // What stands in the world at its end.
-fn end(world: InlineWorld) -> Result<(Ledger, Vec<Said>, Vec<LeftUnit>), RunFault>
+fn end(world: InlineWorld) -> Result<(Ledger, Trace<Said>, Vec<LeftUnit>), RunFault>
     requires finished { world.run.finished ≡ true }
     ensures ended { IfOk result (λ parts. IsEnd world.run parts.0 parts.1.items parts.2.items) }
     ensures transcript { IfOk result (λ parts. parts.1.items ≡ world.run.transcript) }
@@ -93,7 +94,7 @@ fn end(world: InlineWorld) -> Result<(Ledger, Vec<Said>, Vec<LeftUnit>), RunFaul
 fn report_of(
     alloc: Global,
     config: Config,
-    parts: (Ledger, Vec<Said>, Vec<LeftUnit>),
+    parts: (Ledger, Trace<Said>, Vec<LeftUnit>),
     outcome: Result<Outcome, RunFault>,
 ) -> Result<Report<Outcome>, RunFault>
     requires { IfErr outcome IsRunFault }

@@ -10,6 +10,7 @@ ghost use Rattle.core_inline.specs.Inline.{seat_of, IsEnd, IsInline, IsStart, ba
 use crate::runs::InlineRun;
 use adlb_unit::{Handle, Info, NoMemory, Payload, Rank, Target, Trouble, Types, WorkType};
 use bag_ledger::{Body, Call, Said};
+use ghost_list::Trace;
 use packed_ledger::Ledger;
 use rank_client::{
     Adlb, EndFault, PutFault, TryFault, count_result, done_result, fetch_result, put_result,
@@ -66,10 +67,10 @@ impl InlineWorld {
         self.run.finish();
     }
 
-    /// What stands at the end: the ledger, the calls of the rank with their answers, and the units that are left, in arrival
-    /// order, after `finish_inline` was called. It answers `TooLong` exactly where a call of this world, `finish_inline` among them,
-    /// met it; `Memory` where a call met that, or where there is none for the list of what is left.
-    pub fn end(self) -> Result<(Ledger, Vec<Said>, Vec<LeftUnit>), Trouble>
+    /// What stands at the end: the ledger, the calls of the rank with their answers, of which nothing is held, and the units that
+    /// are left, in arrival order, after `finish_inline` was called. It answers `TooLong` exactly where a call of this world,
+    /// `finish_inline` among them, met it; `Memory` where a call met that, or where there is none for the list of what is left.
+    pub fn end(self) -> Result<(Ledger, Trace<Said>, Vec<LeftUnit>), Trouble>
         requires finished { self.run.finished ≡ true }
         ensures whole { OnOk result (self.run.failed ≡ None) }
         ensures ledger { IfOk result (λ parts. parts.0 ≡ self.run.ledger) }
@@ -166,10 +167,6 @@ impl Adlb for InlineWorld {
     fn finish(self) {
         let mut world = self;
         world.finish_inline();
-    }
-
-    fn transcript(&self) -> &[Said] {
-        self.run.transcript()
     }
 
     ghost short = { λ world. world.short };

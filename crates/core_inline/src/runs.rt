@@ -11,6 +11,7 @@ use crate::pairs::{exchange, finish};
 use adlb_unit::{Config, NoMemory, Rank, Server, Trouble};
 use bag_ledger::{Answer, Call, Said};
 use core_world::World;
+use ghost_list::Trace;
 use packed_ledger::Ledger;
 use server_core::LeftUnit;
 use std::alloc::Global;
@@ -107,7 +108,7 @@ impl InlineRun {
     }
 
     // What stands at the end.
-    pub(crate) fn end(self) -> Result<(Ledger, Vec<Said>, Vec<LeftUnit>), Trouble>
+    pub(crate) fn end(self) -> Result<(Ledger, Trace<Said>, Vec<LeftUnit>), Trouble>
         requires finished { self.finished ≡ true }
         ensures whole { OnOk result (self.failed ≡ None) }
         ensures ledger { IfOk result (λ parts. parts.0 ≡ self.ledger) }
@@ -134,12 +135,5 @@ impl InlineRun {
         ensures holds { IsInline self.now }
     {
         self.world.ledger()
-    }
-
-    // The calls with their answers, in order.
-    pub(crate) fn transcript(&self) -> &[Said]
-        ensures { result.now ≡ self.now.transcript }
-    {
-        &self.world.transcript(Rank(0))[..self.answered]
     }
 }

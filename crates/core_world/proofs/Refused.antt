@@ -10,6 +10,7 @@ use Rattle.adlb_unit.specs.declared.actors.Actor.TheVariants as by
 use Rattle.adlb_unit.specs.declared.letters.Letter.{Letter}
 use Rattle.adlb_unit.specs.declared.notes.Trouble.{Trouble}
 use Rattle.adlb_unit.specs.declared.notes.Trouble.TheVariants as troubles
+use Rattle.bag_ledger.specs.declared.entries.Answer.{Answer}
 use Rattle.rank_client.specs.Step.{begin}
 use Rattle.core_run.specs.declared.events.Event.{Event}
 use Rattle.core_run.specs.declared.events.Event.TheVariants as occurs
@@ -118,7 +119,7 @@ receiver_decides w from to waiting false reached is some over =
 -- An answer that says so.
 
 abbrev Answered : Type 0
-Answered = Result (Prim.Unit {0}) ApplyFault
+Answered = Result (Option Answer) ApplyFault
 
 abbrev Says : Seen → Event → Answered → Event → Type 0
 Says now e answer given = (answer ≡ Err (faults.NotEnabled given)) ↔ ((now.trouble ≡ None) × HasNone now.world e × (given ≡ e))
@@ -148,8 +149,8 @@ enabled_says i now e given answer view enabled other =
     subst (λ (s : Seen). Says s e answer given) view
     (λ said. absurd (other said), λ parts. absurd (none_some _ (none_happens i.stage e parts.1) enabled))
 
-pub done_is_none : (answer : Answered) (given : Event) → answer ≡ Ok tt → answer ≡ Err (faults.NotEnabled given) → ⊥
-done_is_none answer given is said = absurd (cc)
+pub done_is_none : (answer : Answered) (told : Option Answer) (given : Event) → answer ≡ Ok told → answer ≡ Err (faults.NotEnabled given) → ⊥
+done_is_none answer told given is said = absurd (cc)
 
 pub trouble_is_none : (answer : Answered) (trouble : Trouble) (given : Event) → answer ≡ Err (fault_of trouble)
     → answer ≡ Err (faults.NotEnabled given) → ⊥

@@ -15,13 +15,15 @@ use bag_ledger::Answer;
 use core_run::Event;
 
 impl World {
-    /// Carries out an event, as `happens` says: a rank begins a call, or an actor handles the front letter of a list. If there
+    /// Carries out an event, as `happens` says: a rank begins a call, or an actor handles the front letter of a list. It tells the
+    /// answer of the call that the event answers, if there is one (`event_answer`). If there
     /// is no such event now, it answers `NotEnabled` with the event, and nothing has changed; this is tested first. It is so
     /// exactly if the rank or an actor is not in the run, the rank is not ready, no letter is under way, or the receiver has
     /// ended (`HasNone`): every other front letter is expected, since a run leads to the world. It answers
     /// `TooLong` exactly when the event is enabled and its stamp would reach `2^48`; the only other error is `Memory`.
     /// After one of these two the world has failed, and answers the same to every event; what stands then is said by `Stops`.
-    pub fn apply(&mut self, event: Event) -> Result<(), ApplyFault>
+    pub fn apply(&mut self, event: Event) -> Result<Option<Answer>, ApplyFault>
+        ensures told { IfOk result (λ answer. answer ≡ event_answer self.old.world event) }
         ensures applied { OnOk result (Applies self.old event self.new) }
         ensures refused { IfErr result (λ fault. Refuses self.old event fault self.new) }
 
@@ -43,7 +45,7 @@ impl World {
             return Err(ApplyFault::NotEnabled { event });
         }
         match self.carry_out(event) {
-            Ok(_) => Ok(()),
+            Ok(told) => Ok(told),
             Err(trouble) => Err(ApplyFault::of(trouble)),
         }
     }
@@ -84,7 +86,7 @@ impl World {
         let mut applied = 0;
         for event in events {
             match self.apply(event) {
-                Ok(()) => applied += 1,
+                Ok(_) => applied += 1,
                 Err(fault) => return Err((applied, fault)),
             }
         }

@@ -12,6 +12,7 @@ use crate::links::{Links, place_of};
 use adlb_unit::{Actor, Config, NoMemory, Rank, Server, or_no_memory};
 use bag_ledger::Said;
 use core_run::Event;
+use ghost_list::Trace;
 use packed_ledger::Ledger;
 use rank_client::ClientCore;
 use server_core::ServerState;
@@ -78,7 +79,7 @@ impl Stage {
     }
 
     // The ledger and the calls of a rank with their answers.
-    pub(crate) fn into_parts(self, rank: Rank) -> (Ledger, Vec<Said>)
+    pub(crate) fn into_parts(self, rank: Rank) -> (Ledger, Trace<Said>)
         requires { rank.0 < self.config.ranks }
         ensures ledger { result.0 ≡ self.ledger }
         ensures transcript { result.1.items ≡ transcript self rank }

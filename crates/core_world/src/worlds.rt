@@ -9,6 +9,7 @@ ghost use Rattle.server_core.specs.Left.{left_of};
 use crate::stages::Stage;
 use adlb_unit::{Actor, Config, NoMemory, Rank, Server, Trouble};
 use bag_ledger::Said;
+use ghost_list::Trace;
 use packed_ledger::Ledger;
 use server_core::LeftUnit;
 use std::alloc::Global;
@@ -59,14 +60,6 @@ impl World {
         self.stage.ledger()
     }
 
-    /// The calls of a rank of the run that it has heard the answer of, in order.
-    pub fn transcript(&self, rank: Rank) -> &[Said]
-        requires { rank.0 < self.now.world.config.ranks }
-        ensures { result.now ≡ transcript self.now.world rank }
-    {
-        self.stage.client_at(rank).transcript()
-    }
-
     /// A batch of a rank of the run is going on.
     pub fn batch_open(&self, rank: Rank) -> bool
         requires { rank.0 < self.now.world.config.ranks }
@@ -100,8 +93,9 @@ impl World {
         self.stage.server_at(server).ended()
     }
 
-    /// The ledger, and the calls of a rank of the run that it has heard the answer of, in order, with the world used up.
-    pub fn into_parts(self, rank: Rank) -> (Ledger, Vec<Said>)
+    /// The ledger, and the calls of a rank of the run that it has heard the answer of, in order, with the world used up. Nothing of
+    /// the calls is held.
+    pub fn into_parts(self, rank: Rank) -> (Ledger, Trace<Said>)
         requires { rank.0 < self.world.config.ranks }
         ensures ledger { result.0 ≡ self.world.ledger }
         ensures transcript { result.1.items ≡ transcript self.world rank }

@@ -126,7 +126,7 @@ fn one_rank_works_puzzles_and_batches(rt: HostRuntime) -> Result<(), Fail> {
 fn stopped_after(alloc: Global, stops: usize) -> Result<Stopped, Fail> {
     let mut link = Fake::new(alloc, 0, stops);
     let made = made_over(alloc, &mut link)?;
-    Ok((link.transcript().len(), made, link.batch_open()))
+    Ok((link.calls(), made, link.batch_open()))
 }
 
 // What a run of one rank on a batch over this link counts as made.

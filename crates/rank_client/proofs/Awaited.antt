@@ -71,7 +71,6 @@ waiting_inside i pending room sent to inside fresh there busy has is =
       room = has;
       space = omega (arith, inside.space, busy, few);
       finish = λ going. let could = inside.finish going in record {
-        said = omega (arith, could.said, busy, few);
         ids = omega (arith, could.ids, busy, few);
         letters = could.letters;
         entry = could.entry;
@@ -104,11 +103,11 @@ pub ended_inside : (i : Inside) (change : Change) (pending : Pending) (room : Ro
     (end : Option End) (handles : Vec UnitNote Global) (said : TranscriptModel) (more : Said) → IsInside i → IsFresh (state_of i)
     → IsFit i.config change → awaited i.pending ≡ 2 → waits_for.Nothing ≡ pending → batch ≡ batch_after i.batch change
     → accepted ≡ accepted_after i.accepted change → handles.items ≡ handles_after i.handles.items change
-    → vec_len handles ≤ vec_capacity handles → said.items ≡ i.said.items ++ more ∷ [] → i.said.places ≤ said.places + 1
+    → vec_len handles ≤ vec_capacity handles → said.items ≡ i.said.items ++ more ∷ []
     → i.said.ids ≤ said.ids + 2
     → IsInside (record i { pending = pending; room = room; batch = batch; accepted = accepted; end = end; handles = handles; said = said })
 ended_inside i change pending room batch accepted end handles said more inside fresh fit busy idle batch_is accepted_is notes_is space
-    said_is places ids =
+    said_is ids =
     let s = inside.sound in
     let N : UnitNote → Type 0 = IsPlaced i.config in
     let none : awaited pending ≡ 1 = ap awaited (sym idle) in record {
@@ -127,7 +126,6 @@ ended_inside i change pending room batch accepted end handles said more inside f
       room = subst (λ (p : Pending). HasRoom i.config room p) idle tt;
       space = omega (arith, space, none);
       finish = λ going. let could = inside.finish going in record {
-        said = omega (arith, could.said, busy, none, places);
         ids = omega (arith, could.ids, busy, none, ids);
         letters = could.letters;
         entry = could.entry;

@@ -69,7 +69,7 @@ pub asks_inside : (i : Inside) (pending : Pending) (room : Room) (puts : ℕ) (s
     (before : List UnitNote) (spent : Option UnitId) (said : TranscriptModel) (to : ℕ) → IsInside i → IsFresh (state_of i)
     → puts ≤ i.puts + 1 → to < i.config.servers → HasRoom i.config room pending → sent.items ≡ set i.sent.items to (get_or i.sent.items to 0 + 1)
     → handles.items ≡ unspent spent before → before ≡ i.handles.items → vec_len handles + 1 ≤ vec_capacity handles
-    → said.items ≡ i.said.items → 2 ≤ said.places → 4 ≤ said.ids → IsInside (record i {
+    → said.items ≡ i.said.items → 4 ≤ said.ids → IsInside (record i {
       pending = pending;
       room = room;
       next = i.next + 1;
@@ -78,7 +78,7 @@ pub asks_inside : (i : Inside) (pending : Pending) (room : Room) (puts : ℕ) (s
       handles = handles;
       said = said;
     })
-asks_inside i pending room puts sent handles before spent said to inside fresh more there has is spends same space said_is places ids =
+asks_inside i pending room puts sent handles before spent said to inside fresh more there has is spends same space said_is ids =
     let s = inside.sound in
     let P : ℕ → Type 0 = λ n. n ≤ i.clock in
     let here = first_letter (state_of i) to s fresh there in
@@ -89,7 +89,6 @@ asks_inside i pending room puts sent handles before spent said to inside fresh m
       room = has;
       space = omega (arith, space, few);
       finish = λ going. let could = inside.finish going in record {
-        said = omega (arith, places, few);
         ids = omega (arith, ids, few);
         letters = could.letters;
         entry = could.entry;
@@ -114,10 +113,9 @@ idle_awaits (waits_for.SetDone request tried) idle = absurd (cc)
 pub over_inside : (i : Inside) (puts : ℕ) (handles : Vec UnitNote Global) (before : List UnitNote) (spent : Option UnitId)
     (said between : TranscriptModel) (more_said : Said) → IsInside i → IsFresh (state_of i) → is_free (state_of i) ≡ true → puts ≤ i.puts + 1
     → handles.items ≡ unspent spent before → before ≡ i.handles.items → vec_len handles + 1 ≤ vec_capacity handles
-    → said.items ≡ between.items ++ more_said ∷ [] → between.items ≡ i.said.items → between.places ≤ said.places + 1 → 2 ≤ between.places
-    → between.ids ≤ said.ids + 2 → 4 ≤ between.ids
+    → said.items ≡ between.items ++ more_said ∷ [] → between.items ≡ i.said.items → between.ids ≤ said.ids + 2 → 4 ≤ between.ids
     → IsInside (record i { next = i.next + 1; puts = puts; handles = handles; said = said })
-over_inside i puts handles before spent said between more_said inside fresh free more spends same space said_is was places two ids four =
+over_inside i puts handles before spent said between more_said inside fresh free more spends same space said_is was ids four =
     let s = inside.sound in
     let none = idle_awaits i.pending (and_parts (is_idle i.pending) (not i.finished) free).0 in record {
       sound = begun_sound (state_of i) i.pending puts i.sent.items handles.items before spent said.items s fresh more s.servers s.sent
@@ -125,7 +123,6 @@ over_inside i puts handles before spent said between more_said inside fresh free
       room = inside.room;
       space = omega (arith, space, none);
       finish = λ going. let could = inside.finish going in record {
-        said = omega (arith, none, places, two);
         ids = omega (arith, none, ids, four);
         letters = could.letters;
         entry = could.entry;

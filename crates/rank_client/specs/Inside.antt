@@ -1,7 +1,6 @@
 -- The fields of a client.
 use Rattle.std.specs.Prelude.{◌≡◌, ℕ, ◌+◌, ◌<◌, ◌≤◌, List, [], ◌∷◌, ◌++◌, length, filter, not, All, IfSome, IsSome, Option, None, Some, false}
 use Rattle.adlb_unit.specs.Ids.{same_unit}
-use Rattle.adlb_unit.specs.Totals.{common_length}
 use Rattle.adlb_unit.specs.declared.names.UnitId.{UnitId}
 use Rattle.bag_ledger.specs.declared.entries.Entry.{Entry}
 use Rattle.adlb_unit.specs.declared.names.CommonRef.{CommonRef}
@@ -68,7 +67,7 @@ pub record IsSound (s : ClientModel) : Type 0 where
   pub notes : All (IsPlaced s.config) s.handles
   pub batch : IfSome s.batch (λ (c : CommonRef). c.server.0 < s.config.servers)
 
--- how many more calls the transcript has room for: Finish, and the pending one
+-- for how many more calls the transcript has room for ids: Finish, and the pending one
 abbrev pub awaited : Pending → ℕ
 awaited waits_for.Nothing = 1
 awaited _ = 2
@@ -83,12 +82,8 @@ HasRoom config room (waits_for.Reserve request types) = Prim.Unit {0}
 HasRoom config room (waits_for.Try request types tried) =
     (vec_len room.tries + tried + 1 ≡ config.servers) × (1 ≤ vec_capacity room.entries) × (room.entries.items ≡ [])
 HasRoom config room (waits_for.Fetch request note) =
-    (note.length ≤ vec_capacity room.own) × (room.own.items ≡ [])
-    × (common_length note.common ≤ vec_capacity room.common) × (room.common.items ≡ [])
-    × (1 ≤ vec_capacity room.sends) × (room.sends.items ≡ []) × IsPlaced config note
-HasRoom config room (waits_for.Common request note common own) =
-    (length own ≤ vec_capacity room.own) × (room.own.items ≡ [])
-    × (common.length ≤ vec_capacity room.common) × (room.common.items ≡ [])
+    (1 ≤ vec_capacity room.sends) × (room.sends.items ≡ []) × IsPlaced config note
+HasRoom config room (waits_for.Common request note common own) = Prim.Unit {0}
 HasRoom config room (waits_for.Keep request common first tried) =
     (vec_len room.tries + tried + 1 ≡ config.servers) × All (λ body. body ≡ common) room.tries.items × (first.0 < config.servers)
     × (1 ≤ vec_capacity room.entries) × (room.entries.items ≡ []) × (length common ≤ body_limit)
@@ -96,9 +91,8 @@ HasRoom config room (waits_for.Close request batch) = Prim.Unit {0}
 HasRoom config room (waits_for.Count request kind) = Prim.Unit {0}
 HasRoom config room (waits_for.SetDone request tried) = vec_len room.tries + tried + 1 ≡ config.servers
 
--- room for the calls to come in the transcript, each of which names two units at most, and for the letters and the entry of Finish
+-- room for the ids of the calls to come, each of which names two units at most, and for the letters and the entry of Finish
 pub record CanFinish (i : Inside) : Type 0 where
-  pub said : awaited i.pending ≤ i.said.places
   pub ids : awaited i.pending + awaited i.pending ≤ i.said.ids
   pub letters : i.config.servers ≤ vec_capacity i.farewell.sends
   pub entry : 1 ≤ vec_capacity i.farewell.entries
@@ -151,8 +145,8 @@ changed s change = record s {
 
 -- the response that it is, if it is one
 abbrev pub response_of : ClientModel → Outcome → Option ClientResponse
-response_of s (comes_to.Ends change entries said answer) =
-    Some (record { state = answered (changed s change) said.call said.answer; says = []; entries = entries.items; answer = Some answer })
+response_of s (comes_to.Ends change entries said) =
+    Some (record { state = answered (changed s change) said.call said.answer; says = []; entries = entries.items; answer = Some said.answer })
 response_of s (comes_to.Waits pending to message sends) =
     Some (record { state = record s { pending = pending }; says = record { to = to; message = message } ∷ []; entries = []; answer = None })
 response_of s comes_to.Strange = None
@@ -164,7 +158,7 @@ IsFit config (changes.Begun part) = part.server.0 < config.servers
 IsFit config _ = Prim.Unit {0}
 
 abbrev pub Fits : Config → Room → Outcome → Type 0
-Fits config room (comes_to.Ends change entries said answer) = IsFit config change
+Fits config room (comes_to.Ends change entries said) = IsFit config change
 Fits config room (comes_to.Waits pending to message sends) =
     HasRoom config room pending × (to.0 < config.servers) × (1 ≤ vec_capacity sends) × (sends.items ≡ [])
 Fits config room comes_to.Strange = Prim.Unit {0}

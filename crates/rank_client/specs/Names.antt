@@ -1,6 +1,5 @@
 -- The ids that stand beside a transcript.
-use Rattle.std.specs.Prelude.{◌≡◌, ◌-◌, ℕ, Bool, ◌&&◌, ◌||◌, nat_eq}
-use Rattle.std.specs.Vec.{vec_len, vec_capacity}
+use Rattle.std.specs.Prelude.{◌≡◌, ℕ, Bool, ◌&&◌, ◌||◌, nat_eq}
 use Rattle.std.specs.HashSet.{HashSet, contains, spare}
 use Rattle.adlb_unit.specs.declared.names.UnitId.{UnitId}
 use Rattle.rank_client.specs.declared.said.Transcript.TheInside.{Inside}
@@ -15,7 +14,7 @@ abbrev pub has_id : {S : Type 0} → HashSet (ℕ × ℕ) S → UnitId → Bool
 has_id ids id = contains same_key ids (id.rank.0, id.number)
 
 abbrev pub transcript_of : Inside → TranscriptModel
-transcript_of i = record { items = i.said.items; places = vec_capacity i.said - vec_len i.said; ids = spare i.ids }
+transcript_of i = record { items = i.said.items; ids = spare i.ids }
 
 -- the ids are those of the units that were granted or fetched
 abbrev pub AreNamed : Inside → Type 0

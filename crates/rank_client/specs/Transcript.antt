@@ -2,8 +2,7 @@
 use Rattle.std.specs.Prelude.{ℕ, List}
 use Rattle.bag_ledger.specs.declared.entries.Said.{Said}
 
--- the calls with their answers, for how many more calls there is room, and for how many ids more
+-- the calls with their answers, and for how many more ids there is room
 pub record TranscriptModel : Type 0 where
   pub items : List Said
-  pub places : ℕ
   pub ids : ℕ

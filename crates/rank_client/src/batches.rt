@@ -129,7 +129,6 @@ pub(crate) fn hear_keep(
                 call: Call::BeginBatch { common },
                 answer: Answer::Ended(*end),
             },
-            answer: Answer::Ended(*end),
         },
         Message::Full { .. } => offer_part(place, request, common, first, tried, room),
         _ => Outcome::Strange,
@@ -160,7 +159,6 @@ fn begun(place: &Place, request: u64, common: Payload, first: Server, tried: u32
             call: Call::BeginBatch { common },
             answer: Answer::Fine,
         },
-        answer: Answer::Fine,
     }
 }
 
@@ -205,7 +203,6 @@ fn offer_part(
                     call: Call::BeginBatch { common },
                     answer: Answer::Rejected,
                 },
-                answer: Answer::Rejected,
             }
         }
     }
@@ -229,7 +226,6 @@ pub(crate) fn hear_close(
                 call: Call::EndBatch,
                 answer: Answer::Fine,
             },
-            answer: Answer::Fine,
         },
         _ => Outcome::Strange,
     }

@@ -34,8 +34,8 @@ pub(crate) fn with_room<T>(alloc: Global, room: usize) -> Result<Vec<T>, NoMemor
     or_no_memory(Vec::with_capacity(alloc, room))
 }
 
-// The lists of a call's beginning, with room for one letter and two entries. Its answer has room among the calls, and a unit that is
-// granted among those that are held.
+// The lists of a call's beginning, with room for one letter and two entries. The ids of its units have room among those of the
+// transcript, and a unit that is granted among those that are held.
 fn asking(
     alloc: Global,
     said: &mut Transcript,
@@ -44,9 +44,7 @@ fn asking(
     ensures sends { IfOk result (λ lists. (lists.0.items ≡ []) × (vec_capacity lists.0 ≡ 1)) }
     ensures entries { IfOk result (λ lists. (lists.1.items ≡ []) × (vec_capacity lists.1 ≡ 2)) }
     ensures said { said.new.items ≡ said.old.items }
-    ensures places { OnOk result (2 ≤ said.new.places) }
     ensures ids { OnOk result (4 ≤ said.new.ids) }
-    ensures no_fewer_places { said.old.places ≤ said.new.places }
     ensures no_fewer_ids { said.old.ids ≤ said.new.ids }
     ensures handles { handles.new.items ≡ handles.old.items }
     ensures held { OnOk result (vec_len handles.new + 1 ≤ vec_capacity handles.new) }
@@ -153,7 +151,7 @@ impl ClientCore {
                 });
                 self.next += 1;
                 let answer = Answer::Ended(end);
-                self.said.push_reserved(Said { call, answer });
+                self.said.add(&Said { call, answer });
                 Ok(ClientStep {
                     stamp: self.clock,
                     sends,
@@ -217,7 +215,7 @@ impl ClientCore {
         });
         self.next += 1;
         self.finished = true;
-        self.said.push_reserved(Said {
+        self.said.add(&Said {
             call: Call::Finish,
             answer: Answer::Fine,
         });

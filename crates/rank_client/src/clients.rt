@@ -18,6 +18,7 @@ use adlb_unit::{
     UnitNote, or_no_memory,
 };
 use bag_ledger::Said;
+use ghost_list::Trace;
 use std::alloc::Global;
 use std::marker::Model;
 
@@ -86,15 +87,8 @@ impl ClientCore {
         })
     }
 
-    /// The calls with their answers, in order.
-    pub fn transcript(&self) -> &[Said]
-        ensures { result.now ≡ self.now.transcript }
-    {
-        self.said.as_slice()
-    }
-
-    /// The calls with their answers, in order, with the client used up.
-    pub fn into_transcript(self) -> Vec<Said>
+    /// The calls with their answers, in order, with the client used up. Nothing of them is held.
+    pub fn into_transcript(self) -> Trace<Said>
         ensures { result.items ≡ self.transcript }
     {
         self.said.into_calls()

@@ -56,7 +56,6 @@ pub(crate) fn hear_count(
                 call: Call::Count { kind },
                 answer: Answer::Info(*info),
             },
-            answer: Answer::Info(*info),
         },
         _ => Outcome::Strange,
     }

@@ -81,7 +81,6 @@ fn tell_on(place: &Place, request: u64, tried: u32, room: &mut Room) -> Outcome
                 call: Call::SetDone,
                 answer: Answer::Fine,
             },
-            answer: Answer::Fine,
         },
     }
 }

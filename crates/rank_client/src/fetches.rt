@@ -1,13 +1,10 @@
 //! What a client does to fetch the bytes of a unit: the unit's own, and those of its common part, if it has one.
 
-ghost use Rattle.std.specs.Prelude.{◌≡◌, ◌≤◌, ◌++◌, [], length, filter, not, Some, IfOk};
+ghost use Rattle.std.specs.Prelude.{◌≡◌, ◌≤◌, [], filter, not, Some, IfOk};
 ghost use Rattle.std.specs.Vec.{vec_len, vec_capacity};
 ghost use Rattle.adlb_unit.specs.Ids.{same_unit};
-ghost use Rattle.adlb_unit.specs.Totals.{common_length};
-ghost use Rattle.bag_ledger.specs.declared.entries.Answer.{Answer};
-ghost use Rattle.bag_ledger.specs.declared.entries.Call.{Call};
 ghost use Rattle.rank_client.specs.Inside.{Fits, HasRoom, Hears, Opens, opened, response_of, unspent};
-ghost use Rattle.rank_client.specs.Rules.{ends, fetched, held, own_came};
+ghost use Rattle.rank_client.specs.Rules.{fetched, held, own_came};
 ghost use Rattle.rank_client.specs.State.{ClientModel};
 ghost use Rattle.rank_client.specs.declared.pendings.Pending.{Pending};
 ghost use Rattle.rank_client.specs.declared.rooms.Room.{Room};
@@ -41,35 +38,6 @@ fn drop_note(handles: &mut Vec<UnitNote>, id: UnitId)
     handles.truncate(kept);
 }
 
-// The bytes of the common part, if there is one.
-fn common_length(common: Option<CommonRef>) -> usize
-    ensures { result ≡ common_length common }
-{
-    match common {
-        Some(part) => part.length as usize,
-        None => 0,
-    }
-}
-
-// A twin of these bytes. If none can be made, as where all owners that can be counted are there, they are copied to
-// this room.
-fn another(alloc: Global, bytes: &Payload, room: &mut Vec<u8>) -> Payload
-    requires room { length bytes.now ≤ vec_capacity room.old }
-    requires none { room.old.items ≡ [] }
-    ensures { result ≡ bytes.now }
-{
-    match bytes.twin(alloc) {
-        Ok(twin) => twin,
-        Err(NoMemory) => {
-            let mut copied = mem::replace(room, Vec::new(alloc));
-            let Ok(()) = copied.extend_from_slice(bytes.bytes()) else {
-                unreachable!()
-            };
-            Payload::from_vec(copied)
-        }
-    }
-}
-
 // Takes the note of this unit out of the list, if there is one.
 pub(crate) fn spend(handles: &mut Vec<UnitNote>, spent: Option<UnitId>)
     ensures items { handles.new.items ≡ unspent spent handles.old.items }
@@ -101,24 +69,19 @@ impl ClientCore {
                 to: note.server,
                 message: Message::Fetch { request, id },
                 pending: Pending::Fetch { request, note },
-                room: bytes_room(self.alloc, &note)?,
+                room: part_room(self.alloc)?,
             },
         })
     }
 }
 
-// Room for the bytes of this unit, and for the letter that asks for its common part.
-fn bytes_room(alloc: Global, note: &UnitNote) -> Result<Room, NoMemory>
-    ensures own { IfOk result (λ r. (note.now.length ≤ vec_capacity r.own) × (r.own.items ≡ [])) }
-    ensures common { IfOk result (λ r. (common_length note.now.common ≤ vec_capacity r.common) × (r.common.items ≡ [])) }
+// Room for the letter that asks for the common part.
+fn part_room(alloc: Global) -> Result<Room, NoMemory>
     ensures sends { IfOk result (λ r. (1 ≤ vec_capacity r.sends) × (r.sends.items ≡ [])) }
 {
     Ok(Room {
-        own: with_room(alloc, note.length as usize)?,
-        common: with_room(alloc, common_length(note.common))?,
         sends: with_room(alloc, 1)?,
-        tries: Vec::new(alloc),
-        entries: Vec::new(alloc),
+        ..Room::none(alloc)
     })
 }
 
@@ -142,25 +105,18 @@ pub(crate) fn hear_fetch(
 // The own bytes of the unit are all, or they stay until the common ones come, for which their server is asked.
 fn own_bytes(place: &Place, request: u64, note: UnitNote, room: &mut Room, own: Payload) -> Outcome
     requires room { HasRoom place.now.config room.old (Pending.Fetch request note) }
-    ensures response { (s : ClientModel) → length own ≡ note.length → response_of s result ≡ Some (own_came s request note own note.common) }
+    ensures response { (s : ClientModel) → response_of s result ≡ Some (own_came s request note own note.common) }
     ensures fits { Fits place.now.config room.new result }
 {
-    if own.len() != note.length as usize {
-        return Outcome::Strange;
-    }
     match note.common {
-        None => {
-            let given = another(place.alloc, &own, &mut room.own);
-            Outcome::Ends {
-                change: Change::Keeps,
-                entries: Vec::new(place.alloc),
-                said: Said {
-                    call: Call::Fetch { id: note.id },
-                    answer: Answer::Body(Body::alone(own)),
-                },
-                answer: Answer::Body(Body::alone(given)),
-            }
-        }
+        None => Outcome::Ends {
+            change: Change::Keeps,
+            entries: Vec::new(place.alloc),
+            said: Said {
+                call: Call::Fetch { id: note.id },
+                answer: Answer::Body(Body::alone(own)),
+            },
+        },
         Some(common) => Outcome::Waits {
             pending: Pending::Common {
                 request,
@@ -178,56 +134,28 @@ fn own_bytes(place: &Place, request: u64, note: UnitNote, room: &mut Room, own: 
     }
 }
 
-// What a letter makes of the fetch whose own bytes have come: the server of the common part gives its bytes.
+// What a letter makes of the fetch whose own bytes have come: the server of the common part gives its bytes, which
+// stand before the own ones.
 pub(crate) fn hear_common(
     place: &Place,
     request: u64,
     note: UnitNote,
     common: CommonRef,
     own: Payload,
-    room: &mut Room,
+    room: &Room,
     message: Message,
 ) -> Outcome
-    requires room { HasRoom place.now.config room.old (Pending.Common request note common own) }
-    ensures { Hears place.now (Pending.Common request note common own) message room.new result }
+    ensures { Hears place.now (Pending.Common request note common own) message room.now result }
 {
     match message {
-        Message::Bytes { body, .. } => joined(place, note, common, own, room, body),
-        _ => Outcome::Strange,
-    }
-}
-
-// The common bytes have come, and stand before the own ones.
-fn joined(
-    place: &Place,
-    note: UnitNote,
-    part: CommonRef,
-    own: Payload,
-    room: &mut Room,
-    common: Payload,
-) -> Outcome
-    requires own { length own ≤ vec_capacity room.old.own }
-    requires no_own { room.old.own.items ≡ [] }
-    requires common { part.length ≤ vec_capacity room.old.common }
-    requires no_common { room.old.common.items ≡ [] }
-    ensures response { (s : ClientModel) → length common ≡ part.length →
-        response_of s result ≡ Some (ends s [] (Call.Fetch note.id) (Answer.Body (common ++ own))) }
-    ensures fits { Fits place.now.config room.new result }
-{
-    if common.len() != part.length as usize {
-        return Outcome::Strange;
-    }
-    let given_own = another(place.alloc, &own, &mut room.own);
-    let given_common = another(place.alloc, &common, &mut room.common);
-    let given = Body::joined(given_common, given_own);
-    let answer = Answer::Body(Body::joined(common, own));
-    Outcome::Ends {
-        change: Change::Keeps,
-        entries: Vec::new(place.alloc),
-        said: Said {
-            call: Call::Fetch { id: note.id },
-            answer,
+        Message::Bytes { body, .. } => Outcome::Ends {
+            change: Change::Keeps,
+            entries: Vec::new(place.alloc),
+            said: Said {
+                call: Call::Fetch { id: note.id },
+                answer: Answer::Body(Body::joined(body, own)),
+            },
         },
-        answer: Answer::Body(given),
+        _ => Outcome::Strange,
     }
 }

@@ -19,6 +19,7 @@ use crate::puts::hear_put;
 use crate::rooms::Room;
 use crate::steps::ClientStep;
 use adlb_unit::{Letter, Message, STAMP_LIMIT, Server, Trouble};
+use bag_ledger::{Answer, Said};
 use std::mem;
 
 impl ClientCore {
@@ -85,7 +86,6 @@ impl ClientCore {
                 change,
                 entries,
                 said,
-                answer,
             } => {
                 make_change(
                     &mut self.batch,
@@ -94,12 +94,12 @@ impl ClientCore {
                     &mut self.handles,
                     change,
                 );
-                self.said.push_reserved(said);
+                self.said.add(&said);
                 ClientStep {
                     stamp: self.clock,
                     sends: Vec::new(self.alloc),
                     entries,
-                    answer: Some(answer),
+                    answer: Some(answer_of(said)),
                 }
             }
             Outcome::Waits {
@@ -154,6 +154,13 @@ fn heard(place: &Place, pending: Pending, room: &mut Room, message: Message) -> 
         Pending::Count { request, kind } => hear_count(place, request, kind, room, &message),
         Pending::SetDone { request, tried } => hear_done(place, request, tried, room, &message),
     }
+}
+
+// The answer, with the call let go of.
+fn answer_of(said: Said) -> Answer
+    ensures { result ≡ said.answer }
+{
+    said.answer
 }
 
 // The trouble of a server that has failed and says so.

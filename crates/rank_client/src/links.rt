@@ -13,9 +13,9 @@ use crate::faults::{EndFault, PutFault, TryFault};
 use adlb_unit::{Handle, Info, Payload, Rank, Target, Trouble, Types, WorkType};
 use bag_ledger::{Body, Call, Said};
 
-/// What a rank can do. Each call but `leave`, `batch_open` and `transcript` waits for its answer and adds itself with the answer to the
-/// transcript, unless it answers `Memory` or `TooLong`. A link that answered one of these two has failed: its transcript stays,
-/// and each later call answers the same.
+/// What a rank can do. Each call but `leave` and `batch_open` waits for its answer and adds itself with the answer to the transcript,
+/// unless it answers `Memory` or `TooLong`. A link that answered one of these two has failed: its transcript stays, and each later
+/// call answers the same. The transcript stands in contracts alone.
 pub trait Adlb {
     // Which rank of which run it serves; this stays.
     ghost seat: { Self → Seat };
@@ -164,10 +164,6 @@ pub trait Adlb {
     fn finish(self)
         requires running { has_finished (transcript self) ≡ false }
         requires batch { batch self ≡ false };
-
-    /// The calls with their answers so far.
-    fn transcript(&self) -> &[Said]
-        ensures { result.now ≡ transcript self.now };
 
     // Each call takes a stamp of its own.
     ghost short: { (link : Self) → length (transcript link) < 2 ^ 48 };

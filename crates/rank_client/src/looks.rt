@@ -89,7 +89,6 @@ pub(crate) fn hear_look(
                 call: Call::Try { types },
                 answer: Answer::Ended(*end),
             },
-            answer: Answer::Ended(*end),
         },
         Message::Nothing { .. } => look_on(place, request, types, tried, room),
         _ => Outcome::Strange,
@@ -133,7 +132,6 @@ fn look_on(place: &Place, request: u64, types: Types, tried: u32, room: &mut Roo
                     call: Call::Try { types },
                     answer: Answer::NoCurrent,
                 },
-                answer: Answer::NoCurrent,
             }
         }
     }
@@ -158,7 +156,6 @@ pub(crate) fn hear_reserve(
                 call: Call::Reserve { types },
                 answer: Answer::Ended(*end),
             },
-            answer: Answer::Ended(*end),
         },
         _ => Outcome::Strange,
     }

@@ -43,12 +43,11 @@ pub(crate) enum Change {
 // What a letter makes of the call that it answers.
 #[derive(Drop)]
 pub(crate) enum Outcome {
-    // The call has its answer: one for the transcript, and one for whoever called.
+    // The call has its answer.
     Ends {
         change: Change,
         entries: Vec<Entry>,
         said: Said,
-        answer: Answer,
     },
     // The call waits for a letter of the server that is asked next, by a letter for which there is room.
     Waits {
@@ -95,11 +94,12 @@ pub(crate) fn granted(alloc: Global, call: Call, note: UnitNote) -> Outcome
     ensures response { (s : ClientModel) → response_of s result ≡ Some (ends (record s { handles = s.handles ++ note ∷ [] }) [] call (Answer.Granted note)) }
     ensures fits { (config : Config) (room : Room) → IsPlaced config note → Fits config room result }
 {
-    let answer = Answer::Granted(note);
     Outcome::Ends {
         change: Change::Granted(note),
         entries: Vec::new(alloc),
-        said: Said { call, answer },
-        answer: Answer::Granted(note),
+        said: Said {
+            call,
+            answer: Answer::Granted(note),
+        },
     }
 }

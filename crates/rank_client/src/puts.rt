@@ -80,7 +80,6 @@ pub(crate) fn hear_put(
                 call: put_call(unit),
                 answer: Answer::Fine,
             },
-            answer: Answer::Fine,
         },
         Message::Ended { end, .. } => Outcome::Ends {
             change: Change::Ended(*end),
@@ -89,7 +88,6 @@ pub(crate) fn hear_put(
                 call: put_call(unit),
                 answer: Answer::Ended(*end),
             },
-            answer: Answer::Ended(*end),
         },
         Message::Full { .. } => offer_next(place, unit, first, tried, room),
         _ => Outcome::Strange,
@@ -128,7 +126,6 @@ fn offer_next(place: &Place, unit: Unit, first: Server, tried: u32, room: &mut R
                     call: put_call(unit),
                     answer: Answer::Rejected,
                 },
-                answer: Answer::Rejected,
             }
         }
     }
@@ -175,8 +172,6 @@ impl ClientCore {
         Ok(Room {
             tries: offers(self.alloc, body, self.config.servers as usize - 1)?,
             entries: with_room(self.alloc, 1)?,
-            own: Vec::new(self.alloc),
-            common: Vec::new(self.alloc),
             sends: Vec::new(self.alloc),
         })
     }

@@ -40,14 +40,11 @@ impl Offer {
     }
 }
 
-// Room for what the rest of a call may need. The bytes of a fetch, the unit's own and those of its common part, are copied to
-// theirs only if they cannot be shared with the transcript.
+// Room for what the rest of a call may need.
 #[derive(Drop)]
 pub(crate) struct Room {
     pub(crate) tries: Vec<Offer>,
     pub(crate) entries: Vec<Entry>,
-    pub(crate) own: Vec<u8>,
-    pub(crate) common: Vec<u8>,
     pub(crate) sends: Vec<Sending>,
 }
 
@@ -57,8 +54,6 @@ impl Room {
         Room {
             tries: Vec::new(alloc),
             entries: Vec::new(alloc),
-            own: Vec::new(alloc),
-            common: Vec::new(alloc),
             sends: Vec::new(alloc),
         }
     }

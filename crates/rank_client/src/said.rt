@@ -9,15 +9,16 @@ ghost use Rattle.rank_client.specs.Names.{has_id};
 
 use adlb_unit::{NoMemory, UnitId, or_no_memory};
 use bag_ledger::{Answer, Call, Said};
+use ghost_list::Trace;
 use std::alloc::Global;
 use std::collections::HashSet;
 use std::marker::Model;
 
-// The calls with their answers, and the ids of the units that were granted or fetched in them, so that a note is known without
-// going over the calls.
+// The calls with their answers, of which none is held, and the ids of the units that were granted or fetched in them, by which a
+// note is known.
 #[derive(Drop)]
 pub(crate) struct Transcript {
-    said: Vec<Said>,
+    said: Trace<Said>,
     ids: HashSet<(u32, u64)>,
 }
 
@@ -34,28 +35,20 @@ impl Model for Transcript {
 }
 
 impl Transcript {
-    // No calls, and room for one. A call names two units at most.
+    // No calls, and room for the ids of one. A call names two units at most.
     pub(crate) fn new(alloc: Global) -> Result<Transcript, NoMemory>
         ensures none { IfOk result (λ t. t.items ≡ []) }
-        ensures places { IfOk result (λ t. 1 ≤ t.places) }
         ensures ids { IfOk result (λ t. 2 ≤ t.ids) }
     {
-        let said = or_no_memory(Vec::with_capacity(alloc, 1))?;
         let ids = or_no_memory(HashSet::with_capacity(alloc, 2))?;
+        let said = Trace::new();
         Ok(Transcript { said, ids })
     }
 }
 
 impl Transcript {
-    // The calls with their answers, in order.
-    pub(crate) fn as_slice(&self) -> &[Said]
-        ensures { result.now ≡ self.now.items }
-    {
-        self.said.as_slice()
-    }
-
     // The calls with their answers, in order, with the transcript used up.
-    pub(crate) fn into_calls(self) -> Vec<Said>
+    pub(crate) fn into_calls(self) -> Trace<Said>
         ensures { result.items ≡ self.items }
     {
         self.said
@@ -68,29 +61,24 @@ impl Transcript {
         self.ids.contains(&(id.rank.0, id.number))
     }
 
-    // Makes room for two more calls.
+    // Makes room for the ids of two more calls.
     pub(crate) fn make_room(&mut self) -> Result<(), NoMemory>
         ensures items { self.new.items ≡ self.old.items }
-        ensures places { OnOk result (2 ≤ self.new.places) }
         ensures ids { OnOk result (4 ≤ self.new.ids) }
-        ensures no_fewer_places { self.old.places ≤ self.new.places }
         ensures no_fewer_ids { self.old.ids ≤ self.new.ids }
     {
-        or_no_memory(self.said.reserve(2))?;
         more_ids(&mut self.ids)
     }
 
-    // Adds a call with its answer.
-    pub(crate) fn push_reserved(&mut self, said: Said)
-        requires place { 1 ≤ self.old.places }
+    // Adds a call with its answer, for whose ids there is room.
+    pub(crate) fn add(&mut self, said: &Said)
         requires ids { 2 ≤ self.old.ids }
-        ensures items { self.new.items ≡ self.old.items ++ said ∷ [] }
-        ensures places { self.old.places ≤ self.new.places + 1 }
+        ensures items { self.new.items ≡ self.old.items ++ said.now ∷ [] }
         ensures ids { self.old.ids ≤ self.new.ids + 2 }
     {
         add_granted(&mut self.ids, &said.answer);
         add_fetched(&mut self.ids, &said.call);
-        self.said.push_reserved(said);
+        self.said = self.said.and(said);
     }
 }
 

@@ -1,7 +1,7 @@
 //! Calls at random, each one that its rank is ready for.
 
 use adlb_unit::{Config, Payload, Rank, Target, Types, UnitId, WorkType};
-use bag_ledger::{Answer, Call, Said};
+use bag_ledger::Call;
 use rand_core::utils::NextWord;
 use rand_pcg::Pcg32;
 use std::alloc::Global;
@@ -36,16 +36,16 @@ impl Words {
     }
 }
 
-/// A call of a rank with this transcript, for which a batch is going on or not. A unit that was granted is fetched at once, but
-/// for one of four. Of some hundred calls one says that the problem is done.
+/// A call of a rank whose last call was granted this unit, for which a batch is going on or not. A unit that was granted is fetched
+/// at once, but for one of four. Of some hundred calls one says that the problem is done.
 pub(crate) fn call(
     alloc: Global,
     words: &mut Words,
     config: Config,
-    said: &[Said],
+    granted: Option<UnitId>,
     open: bool,
 ) -> Result<Call, Fail> {
-    match granted_last(said) {
+    match granted {
         Some(id) if words.below(4) > 0 => Ok(Call::Fetch { id }),
         _ => other_call(alloc, words, config, open),
     }
@@ -89,19 +89,6 @@ pub(crate) fn last_call(ended: bool, open: bool) -> Call {
         },
         (true, true) => Call::EndBatch,
         (true, false) => Call::Finish,
-    }
-}
-
-// The unit that the last call was granted.
-fn granted_last(said: &[Said]) -> Option<UnitId> {
-    match said.last() {
-        Some(
-            Said {
-                answer: Answer::Granted(note),
-                ..
-            },
-        ) => Some(note.id),
-        _ => None,
     }
 }
 

@@ -336,8 +336,9 @@ fn has_ended(
     requires least { 64 ≤ limit }
     requires most { limit ≤ 2 ^ 30 }
 {
-    let (entries, said, units) = played(rt, alloc, limit, acts)?.end()?;
-    let is_left = said.len() == calls && are_left(units.as_slice(), left);
+    let (entries, _, units) = played(rt, alloc, limit, acts)?.end()?;
+    let begun = entries.entries().iter().filter(|e| begins(e)).count();
+    let is_left = begun == calls && are_left(units.as_slice(), left);
     Ok(is_left && has_lines(alloc, entries.entries(), ledger)?)
 }
 
@@ -368,6 +369,22 @@ fn play_out(
     }
     world.finish_inline();
     Ok(())
+}
+
+// The entry begins a call.
+fn begins(entry: &Entry) -> bool {
+    match entry {
+        Entry::Putting { .. }
+        | Entry::Asked { .. }
+        | Entry::Tried { .. }
+        | Entry::Fetching { .. }
+        | Entry::Keeping { .. }
+        | Entry::Closing { .. }
+        | Entry::Counting { .. }
+        | Entry::Done { .. }
+        | Entry::Finished { .. } => true,
+        _ => false,
+    }
 }
 
 // These are the entries, as they are shown.

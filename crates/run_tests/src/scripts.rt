@@ -3,8 +3,8 @@
 ghost use Rattle.std.specs.Prelude.{◌≡◌, ◌<◌};
 
 use crate::calls::{Words, call, last_call};
-use adlb_unit::{Actor, Config, Rank, Server};
-use bag_ledger::{Answer, Call, Said};
+use adlb_unit::{Actor, Config, Rank, Server, UnitId};
+use bag_ledger::{Answer, Call};
 use core_run::Event;
 use core_world::World;
 use std::alloc::Global;
@@ -25,12 +25,46 @@ enum Choice {
     Calls(Rank),
 }
 
-// A run that goes on, with how many calls each rank began.
+// What a rank was told.
+#[derive(Clone, Copy)]
+struct Told {
+    // How many calls were answered.
+    answers: u64,
+    // The unit that the last of them was granted.
+    granted: Option<UnitId>,
+    ended: bool,
+    finished: bool,
+}
+
+impl Told {
+    // Nothing yet.
+    fn nothing() -> Told {
+        Told {
+            answers: 0,
+            granted: None,
+            ended: false,
+            finished: false,
+        }
+    }
+
+    // One more call was answered.
+    fn hear(&mut self, answer: &Answer) {
+        self.answers = self.answers.saturating_add(1);
+        self.granted = match answer {
+            Answer::Granted(note) => Some(note.id),
+            _ => None,
+        };
+        self.ended = self.ended || matches!(answer, Answer::Ended(_));
+    }
+}
+
+// A run that goes on, with how many calls each rank began, and what it was told.
 #[derive(Drop)]
 struct GoingRun {
     world: World,
     config: Config,
     begun: Vec<u64>,
+    told: Vec<Told>,
     words: Words,
     ghost run_is: { world.world.config ≡ config },
 }
@@ -39,6 +73,7 @@ struct GoingRun {
 pub(crate) fn driven(alloc: Global, config: Config, number: u64) -> Result<World, Fail> {
     let mut run = GoingRun {
         begun: vec![in alloc; 0; config.ranks as usize]?,
+        told: vec![in alloc; Told::nothing(); config.ranks as usize]?,
         world: World::new(alloc, config)?,
         config,
         words: Words::new(number),
@@ -67,10 +102,26 @@ impl GoingRun {
         let Some(event) = self.choose(alloc)? else {
             return Ok(false);
         };
-        if self.world.apply(event).is_err() {
-            return Err("an enabled event was refused".into());
+        let caller = caller(&event);
+        let finishes = matches!(event, Event::Call(_, Call::Finish));
+        match self.world.apply(event) {
+            Ok(answer) => {
+                self.note(caller, finishes, &answer);
+                Ok(true)
+            }
+            Err(_) => Err("an enabled event was refused".into()),
         }
-        Ok(true)
+    }
+
+    // The rank that calls or hears of its call has finished, or has its answer, if there is one.
+    fn note(&mut self, caller: Option<Rank>, finishes: bool, answer: &Option<Answer>) {
+        let Some(Rank(number)) = caller else {
+            return;
+        };
+        if let (Some(told), Some(answer)) = (self.told.get_mut(number as usize), answer) {
+            told.hear(answer);
+            told.finished = finishes;
+        }
     }
 
     // One of the events that are enabled; none if there is none.
@@ -156,12 +207,11 @@ impl GoingRun {
 
     // The rank has heard the answer of each of its calls, and has not finished.
     fn may_call(&self, rank: Rank) -> bool {
-        if rank.0 >= self.config.ranks {
-            return false;
-        }
-        let said = self.world.transcript(rank);
         let begun = self.begun.get(rank.0 as usize).copied();
-        begun == Some(said.len() as u64) && !said.iter().any(|s| matches!(s.call, Call::Finish))
+        match self.told.get(rank.0 as usize) {
+            Some(told) => begun == Some(told.answers) && !told.finished,
+            None => false,
+        }
     }
 
     // The rank's next call: at random, and at the last such that it ends.
@@ -170,13 +220,14 @@ impl GoingRun {
             return Err("no such rank".into());
         }
         let at_random = may_begin(&mut self.begun, rank);
-        let said = self.world.transcript(rank);
+        let Some(told) = self.told.get(rank.0 as usize).copied() else {
+            return Err("no such rank".into());
+        };
         let open = self.world.batch_open(rank);
-        let ended = is_ended(said);
-        if at_random && !ended {
-            call(alloc, &mut self.words, self.config, said, open)
+        if at_random && !told.ended {
+            call(alloc, &mut self.words, self.config, told.granted, open)
         } else {
-            Ok(last_call(ended, open))
+            Ok(last_call(told.ended, open))
         }
     }
 }
@@ -193,7 +244,10 @@ fn may_begin(begun: &mut [u64], rank: Rank) -> bool {
     }
 }
 
-// The rank was told an end.
-fn is_ended(said: &[Said]) -> bool {
-    said.iter().any(|s| matches!(s.answer, Answer::Ended(_)))
+// The rank whose event it is, if it is one of a rank.
+fn caller(event: &Event) -> Option<Rank> {
+    match event {
+        Event::Call(rank, _) | Event::Deliver(_, Actor::Rank(rank)) => Some(*rank),
+        Event::Deliver(_, Actor::Server(_)) => None,
+    }
 }

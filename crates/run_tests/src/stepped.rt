@@ -3,7 +3,7 @@
 ghost use Rattle.std.specs.Prelude.{◌≡◌};
 
 use adlb_unit::{Actor, Config, Payload, Rank, Server, Target, Types, UnitId, WorkType};
-use bag_ledger::{Answer, Call, Entry, Said};
+use bag_ledger::{Answer, Call, Entry};
 use core_run::Event;
 use core_world::{ApplyFault, World};
 use std::alloc::Global;
@@ -62,11 +62,13 @@ const FILLS: &[Does] = &[
 enum Line<'a> {
     // It applies the event: done, or refused with the event.
     Applies(Does),
-    // It runs the events: how many were applied, and whether the next was refused.
+    // It runs the events: how many were applied, and whether the next was refused. Their answers are not told.
     Runs(&'a [Does]),
+    // It applies the events one by one: as `Runs`.
+    Plays(&'a [Does]),
     // How many letters are under way from the first to the second.
     Waiting(Actor, Actor),
-    // How many calls of the rank are answered.
+    // How many calls of the rank were answered.
     Answered,
     // The two runs of bytes with which its last call was answered.
     Body,
@@ -235,22 +237,55 @@ fn refusal(fault: &ApplyFault, does: Does) -> &'static str {
     }
 }
 
-fn applies(alloc: Global, world: &mut World, does: Does) -> Result<String, Fail>
+fn applies(
+    alloc: Global,
+    world: &mut World,
+    answers: &mut Vec<Answer>,
+    does: Does,
+) -> Result<String, Fail>
     ensures { world.new.world.config ≡ world.old.world.config }
 {
-    let event = event(alloc, does)?;
-    let told = apply(world, event, does);
+    let told = apply(alloc, world, answers, does)?;
     Ok(String::from_str(alloc, told)?)
 }
 
-// The event, which is this one, is applied or refused.
-fn apply(world: &mut World, event: Event, does: Does) -> &'static str
+// The event is applied or refused. An answer comes to the others.
+fn apply(
+    alloc: Global,
+    world: &mut World,
+    answers: &mut Vec<Answer>,
+    does: Does,
+) -> Result<&'static str, Fail>
     ensures { world.new.world.config ≡ world.old.world.config }
 {
+    let event = event(alloc, does)?;
     match world.apply(event) {
-        Ok(()) => "done",
-        Err(fault) => refusal(&fault, does),
+        Ok(answer) => {
+            if let Some(answer) = answer {
+                answers.push(answer)?;
+            }
+            Ok("done")
+        }
+        Err(fault) => Ok(refusal(&fault, does)),
     }
+}
+
+fn plays(
+    alloc: Global,
+    world: &mut World,
+    answers: &mut Vec<Answer>,
+    all: &[Does],
+) -> Result<String, Fail>
+    ensures { world.new.world.config ≡ world.old.world.config }
+{
+    for (at, does) in all.iter().enumerate() {
+        let told = apply(alloc, world, answers, *does)?;
+        if told != "done" {
+            return Ok(format!(in alloc; "{at} done, then {told}")?);
+        }
+    }
+    let applied = all.len();
+    Ok(format!(in alloc; "{applied} done")?)
 }
 
 fn runs(alloc: Global, world: &mut World, all: &[Does]) -> Result<String, Fail>
@@ -286,16 +321,9 @@ fn text(bytes: &[u8]) -> &str {
     str::from_utf8(bytes).unwrap_or("?")
 }
 
-fn body(alloc: Global, world: &World) -> Result<String, Fail>
-    requires { world.now.world.config.ranks ≡ 1 }
-{
-    match world.transcript(Rank(0)).last() {
-        Some(
-            Said {
-                answer: Answer::Body(body),
-                ..
-            },
-        ) => {
+fn body(alloc: Global, answers: &[Answer]) -> Result<String, Fail> {
+    match answers.last() {
+        Some(Answer::Body(body)) => {
             let (common, own) = body.runs();
             let (common, own) = (text(common), text(own));
             Ok(format!(in alloc; "{common} {own}")?)
@@ -304,33 +332,32 @@ fn body(alloc: Global, world: &World) -> Result<String, Fail>
     }
 }
 
-fn info(alloc: Global, world: &World) -> Result<String, Fail>
-    requires { world.now.world.config.ranks ≡ 1 }
-{
-    match world.transcript(Rank(0)).last() {
-        Some(
-            Said {
-                answer: Answer::Info(info),
-                ..
-            },
-        ) => Ok(format!(in alloc; "{info:?}")?),
+fn info(alloc: Global, answers: &[Answer]) -> Result<String, Fail> {
+    match answers.last() {
+        Some(Answer::Info(info)) => Ok(format!(in alloc; "{info:?}")?),
         _ => Err("the last call was no count".into()),
     }
 }
 
 // What a line of a scene gives, as it is shown.
-fn shown(alloc: Global, world: &mut World, servers: u32, line: Line) -> Result<String, Fail>
-    requires ranks { world.old.world.config.ranks ≡ 1 }
-    requires servers { world.old.world.config.servers ≡ servers }
+fn shown(
+    alloc: Global,
+    world: &mut World,
+    answers: &mut Vec<Answer>,
+    servers: u32,
+    line: Line,
+) -> Result<String, Fail>
+    requires { world.old.world.config.servers ≡ servers }
     ensures { world.new.world.config ≡ world.old.world.config }
 {
     match line {
-        Line::Applies(does) => applies(alloc, world, does),
+        Line::Applies(does) => applies(alloc, world, answers, does),
         Line::Runs(all) => runs(alloc, world, all),
+        Line::Plays(all) => plays(alloc, world, answers, all),
         Line::Waiting(from, to) => count(alloc, world.waiting(from, to)),
-        Line::Answered => count(alloc, world.transcript(Rank(0)).len() as u64),
-        Line::Body => body(alloc, world),
-        Line::Info => info(alloc, world),
+        Line::Answered => count(alloc, answers.len() as u64),
+        Line::Body => body(alloc, answers),
+        Line::Info => info(alloc, answers),
         Line::Ledger => rows(alloc, world.ledger().entries()),
         Line::Left(number) => left(alloc, world, servers, number),
     }
@@ -355,11 +382,11 @@ fn go_through(
     servers: u32,
     scene: &[(Line, &str)],
 ) -> Result<(), Fail>
-    requires ranks { world.old.world.config.ranks ≡ 1 }
-    requires servers { world.old.world.config.servers ≡ servers }
+    requires { world.old.world.config.servers ≡ servers }
 {
+    let mut answers = Vec::new(alloc);
     for (at, (line, expected)) in scene.iter().enumerate() {
-        let given = shown(alloc, world, servers, *line)?;
+        let given = shown(alloc, world, &mut answers, servers, *line)?;
         assert_eq!(rt; given.as_str(), *expected, "line {at}");
     }
     Ok(())
@@ -377,8 +404,8 @@ fn rejects_after_every_server_refused(rt: HostRuntime) -> Result<(), Fail> {
         Does::Delivers(THIRD, RANK),
     ];
     const SCENE: &[(Line, &str)] = &[
-        (Line::Runs(FILLS), "9 done"),
-        (Line::Runs(REFUSED), "7 done"),
+        (Line::Plays(FILLS), "9 done"),
+        (Line::Plays(REFUSED), "7 done"),
         (
             Line::Ledger,
             "putting 0 0 56; accepted 0 0 0; putting 1 0 56; accepted 1 1 0; putting 2 0 56; accepted 2 2 0; \
@@ -438,7 +465,7 @@ fn a_run_stops_at_the_first_refusal(rt: HostRuntime) -> Result<(), Fail> {
 #[test]
 fn each_server_hears_of_the_end_and_keeps_what_is_left(rt: HostRuntime) -> Result<(), Fail> {
     const SCENE: &[(Line, &str)] = &[
-        (Line::Runs(FILLS), "9 done"),
+        (Line::Plays(FILLS), "9 done"),
         (Line::Applies(Does::Finishes), "done"),
         (Line::Waiting(RANK, FIRST), "1"),
         (Line::Applies(Does::Delivers(RANK, FIRST)), "done"),
@@ -494,9 +521,9 @@ const COUNT_2: [Does; 3] = [
 fn a_count_tells_of_the_units_of_a_type(rt: HostRuntime) -> Result<(), Fail> {
     const SCENE: &[(Line, &str)] = &[
         (Line::Runs(TWO_PRIORITIES), "6 done"),
-        (Line::Runs(&COUNT_1), "3 done"),
+        (Line::Plays(&COUNT_1), "3 done"),
         (Line::Info, "Info { free: 2, top: Some(7), at_top: 1 }"),
-        (Line::Runs(&COUNT_2), "3 done"),
+        (Line::Plays(&COUNT_2), "3 done"),
         (Line::Info, "Info { free: 0, top: None, at_top: 0 }"),
         (
             Line::Ledger,
@@ -536,7 +563,7 @@ const LOOKS: &[Does] = &[
 #[test]
 fn there_is_no_work_after_each_server_has_looked(rt: HostRuntime) -> Result<(), Fail> {
     const SCENE: &[(Line, &str)] = &[
-        (Line::Runs(LOOKS), "7 done"),
+        (Line::Plays(LOOKS), "7 done"),
         (
             Line::Ledger,
             "tried 0 0 0; looked 0 0 0; looked 0 1 0; looked 0 2 0; no current 0 0 0; ",
@@ -577,8 +604,8 @@ fn a_try_is_granted_the_unit_of_another_server(rt: HostRuntime) -> Result<(), Fa
         Does::Delivers(SECOND, RANK),
     ];
     const SCENE: &[(Line, &str)] = &[
-        (Line::Runs(PUTS), "6 done"),
-        (Line::Runs(TRIES), "11 done"),
+        (Line::Plays(PUTS), "6 done"),
+        (Line::Plays(TRIES), "11 done"),
         (
             Line::Ledger,
             "putting 0 0 56; accepted 0 0 0; putting 1 0 9; accepted 1 1 0; tried 2 0 0; granted 0 0 0; \
@@ -639,12 +666,12 @@ fn a_common_part_is_fetched_with_each_unit_and_then_freed(rt: HostRuntime) -> Re
         (Line::Runs(BATCH), "9 done"),
         // A batch is going on, so the rank does not finish.
         (Line::Applies(Does::Finishes), "refused"),
-        (Line::Runs(&COUNT_1), "3 done"),
+        (Line::Plays(&COUNT_1), "3 done"),
         (Line::Info, "Info { free: 2, top: Some(0), at_top: 2 }"),
         (Line::Runs(END), "3 done"),
-        (Line::Runs(&WORK_1), "8 done"),
+        (Line::Plays(&WORK_1), "8 done"),
         (Line::Body, "xy a"),
-        (Line::Runs(&WORK_2), "8 done"),
+        (Line::Plays(&WORK_2), "8 done"),
         (Line::Body, "xy b"),
         (
             Line::Ledger,

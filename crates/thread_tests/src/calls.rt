@@ -303,17 +303,29 @@ fn told_of_call<A: Adlb>(link: &mut A, alloc: Global, does: Does) -> Told
     }
 }
 
-// Each call is told what stands beside it.
-fn are_told<A: Adlb>(link: &mut A, alloc: Global, calls: &[(Does, Told)]) -> bool
+// How many calls were answered, if each is told what stands beside it.
+fn are_told<A: Adlb>(link: &mut A, alloc: Global, calls: &[(Does, Told)]) -> Option<usize>
     requires { has_finished (A.transcript link.old) ≡ false }
     ensures { has_finished (A.transcript link.new) ≡ false }
 {
+    let mut answered: usize = 0;
     for (does, wanted) in calls {
-        if told_of_call(link, alloc, *does) != *wanted {
-            return false;
+        let told = told_of_call(link, alloc, *does);
+        if told != *wanted {
+            return None;
         }
+        answered = answered.saturating_add(answers(told));
     }
-    true
+    Some(answered)
+}
+
+// How many calls were answered, if the last one of them was told this.
+fn answers(told: Told) -> usize {
+    match told {
+        Told::Memory | Told::TooLong { .. } => 0,
+        Told::Fine | Told::Exhausted | Told::Other => 1,
+        Told::Bytes => 2,
+    }
 }
 
 // Rank 0 passes these points in its next calls, and no others.
@@ -350,7 +362,7 @@ enum Strange {
     Grant { request: u64 },
 }
 
-// What a link leaves, with how many calls it keeps.
+// What a link leaves, and how many calls were answered.
 #[derive(Clone, Copy)]
 enum Leaves {
     // A batch is going on, in which the link has no end.
@@ -360,13 +372,17 @@ enum Leaves {
     Failed(Trouble, Strange, usize),
 }
 
-fn is_left<M: Mailing>(end: &LinkEnd<M>, leaves: Leaves) -> bool {
+fn is_left<M: Mailing>(end: &LinkEnd<M>, answered: usize, leaves: Leaves) -> bool {
     let (trouble, strange, said) = match leaves {
         Leaves::Open => return false,
         Leaves::Well(said) => (None, Strange::Nothing, said),
         Leaves::Failed(trouble, strange, said) => (Some(trouble), strange, said),
     };
-    end.trouble == trouble && is_strange(&end.strange, strange) && end.said.len() == said
+    // Finish is answered as well, if nothing failed.
+    let finished = if end.trouble.is_none() { 1 } else { 0 };
+    end.trouble == trouble
+        && is_strange(&end.strange, strange)
+        && answered.saturating_add(finished) == said
 }
 
 fn is_strange(kept: &Option<(u32, Letter)>, wanted: Strange) -> bool {
@@ -386,15 +402,15 @@ fn is_of(message: &Message, wanted: Strange) -> bool {
     }
 }
 
-// The link leaves this at its end; if a batch is going on, it has none.
-fn is_end<R: Wait + Copy, M: Mailing>(link: Link<R, M>, leaves: Leaves) -> bool
+// The link, which has answered so many calls, leaves this at its end; if a batch is going on, it has none.
+fn is_end<R: Wait + Copy, M: Mailing>(link: Link<R, M>, answered: usize, leaves: Leaves) -> bool
     requires { has_finished link.run.core.transcript ≡ false }
 {
     if link.batch_open() {
         return matches!(leaves, Leaves::Open);
     }
     let end = link.end();
-    is_left(&end, leaves)
+    is_left(&end, answered, leaves)
 }
 
 fn is_played<R: Wait + Copy>(rt: R, alloc: Global, play: &Play) -> Result<bool, Fail> {
@@ -453,8 +469,8 @@ fn is_played_at<R: Wait + Copy, M: Mailing>(
     let gate = SeenGate { rt, seen };
     let mut link = ThreadedLink::new(alloc, rt, config, Rank(0), desk, gate)?;
     let told = are_told(&mut link, alloc, play.calls);
-    let left = is_end(link, play.leaves);
-    Ok(told && left && passed(&rt, &points, play.passes))
+    let left = is_end(link, told.unwrap_or(0), play.leaves);
+    Ok(told.is_some() && left && passed(&rt, &points, play.passes))
 }
 
 const LATE: u64 = 1 << 48;

@@ -9,7 +9,6 @@ use crate::mail::{Mail, Three, three_desks};
 use actor_desk::{Desk, Mailing};
 use adlb_io::FreeGate;
 use adlb_unit::{Config, NoMemory, Rank, Trouble};
-use bag_ledger::{Answer, Call};
 use rank_client::{Adlb, RankProgram};
 use std::alloc::Global;
 use std::marker::Brand;
@@ -40,26 +39,16 @@ impl RankProgram for Idle {
     }
 }
 
-// What rank 0 leaves that runs the program, and what the server hears last.
+// What rank 0 leaves that runs the program, and what the server hears of it first: Finish, if that is all that the rank said.
 #[derive(Clone, Copy)]
 struct Ended {
     outcome: Option<u32>,
     trouble: Option<Trouble>,
-    said: usize,
     heard: Heard,
 }
 
 fn has_ended<M: Mailing>(end: &RankEnd<u32, M>, wanted: &Ended) -> bool {
-    end.outcome == wanted.outcome && end.trouble == wanted.trouble && said_finish(end, wanted.said)
-}
-
-// It said Finish this many times, and nothing else.
-fn said_finish<M: Mailing>(end: &RankEnd<u32, M>, said: usize) -> bool {
-    let finish = end.said.iter().all(|s| matches!(
-        (&s.call, &s.answer),
-        (Call::Finish, Answer::Fine)
-    ));
-    finish && end.said.len() == said
+    end.outcome == wanted.outcome && end.trouble == wanted.trouble
 }
 
 fn is_run<R: Wait + Copy>(rt: R, alloc: Global, fails: bool, wanted: &Ended) -> Result<bool, Fail> {
@@ -114,7 +103,6 @@ const ENDS: &[(bool, Ended)] = &[
         Ended {
             outcome: Some(5),
             trouble: None,
-            said: 1,
             heard: Heard::Finish,
         },
     ),
@@ -123,7 +111,6 @@ const ENDS: &[(bool, Ended)] = &[
         Ended {
             outcome: None,
             trouble: Some(Trouble::Memory),
-            said: 0,
             heard: Heard::Gone(Trouble::Memory),
         },
     ),

@@ -50,6 +50,11 @@ impl Fake {
         }
     }
 
+    /// How many calls were answered.
+    pub fn calls(&self) -> usize {
+        self.said.len()
+    }
+
     // One more call with its answer.
     fn say(&mut self, call: Call, answer: Answer) -> Result<(), Trouble>
         ensures said { OnOk result (self.new.said.items ≡
@@ -668,10 +673,6 @@ impl Adlb for Fake {
     }
 
     fn finish(self) {}
-
-    fn transcript(&self) -> &[Said] {
-        self.said.as_slice()
-    }
 
     ghost short = { λ l. l.within };
 }

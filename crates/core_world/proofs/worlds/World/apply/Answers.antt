@@ -15,7 +15,7 @@ returns-clause-none_now c = λ given.
     enabled_says c.self.inside c.args.self.now c.args.event given c.match-carry_out.result c.self.view_is
     (c.enables.ensures.0 c.if-not-enables.false)
     (elim c.match-carry_out.branch [
-      | in-Ok w ↦ done_is_none c.match-carry_out.result given w.result-is
+      | in-Ok w ↦ done_is_none c.match-carry_out.result _ given w.result-is
       | in-Err w ↦
           trouble_is_none c.match-carry_out.result w.in-Err.trouble given
           (w.result-is ∙ ap (λ (f : ApplyFault). Err f) w.of-in-Err.ensures)

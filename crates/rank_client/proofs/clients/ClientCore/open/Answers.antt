@@ -28,7 +28,7 @@ invariant_of-self-in-Asks c =
     let pending_has = subst (λ (p : Pending). HasRoom config c.in-Asks.room p) (sym c.replace.ensures.after) has.1 in
     let room_has = subst (λ (r : Room). HasRoom config r c.replace.new.dest) (sym c.replace-in-Asks.ensures.after) pending_has in
     asks_inside c.self.inside _ _ c.args.opening.puts _ _ _ c.args.opening.spent _ c.in-Asks.to.0 c.self.invariant fresh opens.0 has.0
-    room_has c.write.ensures.counted c.spend.ensures.items made.handles space made.said made.places made.ids
+    room_has c.write.ensures.counted c.spend.ensures.items made.handles space made.said made.ids
 
 pub invariant_of-self-in-Over : goal.invariant_of-self-in-Over
 invariant_of-self-in-Over c =
@@ -36,8 +36,8 @@ invariant_of-self-in-Over c =
     let opens = subst (λ (s : ClientModel). Opens s c.args.opening) (sym c.self.view_is) c.requires.opens in
     let free = subst (λ (s : ClientModel). is_free s ≡ true) (sym c.self.view_is) c.requires.free in
     let made = c.in_ok-sends.ensures in
-    let push = c.push_reserved-in-Over-2.ensures in
+    let push = c.add.ensures in
     let held = c.spend.new.handles in
     let space : vec_len held + 1 ≤ vec_capacity held = omega (arith, made.held, c.spend.ensures.fewer, c.spend.ensures.room) in
     over_inside c.self.inside c.args.opening.puts _ _ c.args.opening.spent _ _ _ c.self.invariant fresh free opens.0 c.spend.ensures.items
-    made.handles space push.items made.said push.places made.places push.ids made.ids
+    made.handles space push.items made.said push.ids made.ids

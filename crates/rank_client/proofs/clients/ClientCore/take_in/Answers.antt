@@ -20,7 +20,7 @@ invariant_of-self c =
     let fit = subst (λ (o : Outcome). Fits i.config c.heard.new.room o) c.in-Ends.is heard.1 in
     ended_inside i c.in-Ends.change _ _ _ _ _ _ _ c.in-Ends.said c.self.invariant fresh fit (busy (state_of i) i.pending _ _ expected)
     (sym c.replace-pending.ensures.after) c.make_change.ensures.batch c.make_change.ensures.accepted c.make_change.ensures.handles
-    c.make_change.ensures.space c.push_reserved.ensures.items c.push_reserved.ensures.places c.push_reserved.ensures.ids
+    c.make_change.ensures.space c.add.ensures.items c.add.ensures.ids
 
 pub invariant_of-self-in-Waits : goal.invariant_of-self-in-Waits
 invariant_of-self-in-Waits c =

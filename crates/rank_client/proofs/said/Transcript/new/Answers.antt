@@ -8,7 +8,6 @@ use Rattle.rank_client.proofs.said.Transcript.new.Goals as goal
 
 pub invariant_of-result : goal.invariant_of-result
 invariant_of-result c id =
-    let no_ids = subst (λ r. IfOk r (λ ids. ids.keys ≡ [])) c.in_ok-ids.ensures c.with_capacity-2.ensures.empty in
-    let none = subst (λ r. IfOk r (λ said. said.items ≡ [])) c.in_ok-said.ensures c.with_capacity.ensures.items in
+    let no_ids = subst (λ r. IfOk r (λ ids. ids.keys ≡ [])) c.in_ok-ids.ensures c.with_capacity.ensures.empty in
     ap (λ (keys : List (ℕ × ℕ)). list_any (same_key (id.rank.0, id.number)) keys) no_ids
-    ∙ sym (ap (λ l. is_granted id l || is_fetched id l) none ∙ none_named id)
+    ∙ sym (ap (λ l. is_granted id l || is_fetched id l) c.new-said.ensures ∙ none_named id)
