@@ -76,8 +76,7 @@ fn add<'a>(
     list: &mut Vec<(u32, &'a KeptGrid)>,
     solutions: &'a [(u32, KeptGrid)],
 ) -> Result<(), NoMemory>
-    ensures { OnOk result ((n : ℕ) →
-        found_in n (pairs list.new.items) ≡ found_in n (pairs list.old.items) ++ found_in n solutions.now) }
+    ensures { OnOk result (pairs list.new.items ≡ pairs list.old.items ++ solutions.now) }
 {
     or_no_memory(list.reserve_exact(solutions.len()))?;
     for solution in solutions {
