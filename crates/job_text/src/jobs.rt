@@ -62,12 +62,13 @@ impl Jobs {
         Ok(Jobs { list })
     }
 
-    // These jobs. Its only error is `NoMemory`.
-    fn of(alloc: Global, list: Vec<Job>) -> Result<Jobs, NoMemory>
+    // These jobs, in no more room than they need. Its only error is `NoMemory`.
+    fn of(alloc: Global, mut list: Vec<Job>) -> Result<Jobs, NoMemory>
         requires few { length list.items ≤ 2 ^ 24 }
         requires bytes { All HasFewBytes list.items }
         ensures { IfOk result (λ jobs. jobs ≡ list.items) }
     {
+        list.shrink_to_fit();
         let list = or_no_memory(Arc::new(alloc, list))?;
         Ok(Jobs { list })
     }
