@@ -8,7 +8,7 @@ ghost use Rattle.job_report.specs.Whole.{found, told_over};
 ghost use Rattle.job_report.specs.Inside.{grids_at, is_over_at};
 
 use crate::outcomes::Outcome;
-use crate::told::Told;
+use crate::told_grids::Told;
 use adlb_unit::{NoMemory, or_no_memory};
 use std::alloc::Global;
 use std::collections::BTreeSet;
