@@ -1,5 +1,4 @@
 use Rattle.std.proofs.Common.{◌≡◌, map, take}
-use Rattle.job_report.specs.Pairs.{pairs}
 use Rattle.job_report.proofs.told_grids.Told.grids.Given as goal
 
 abbrev pub invariant-loop-solution : goal.invariant-loop-solution
