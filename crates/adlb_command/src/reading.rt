@@ -49,7 +49,7 @@ pub fn read_twice(alloc: Global, bytes: &[u8]) -> Result<Asked, RunFault>
     ensures refused { IfErr result (RefusesBytes bytes.now) }
 {
     let jobs = read_once(alloc, bytes)?;
-    let shown = read_once(alloc, bytes)?;
+    let shown = jobs.twin()?;
     Ok(Asked { jobs, shown })
 }
 

@@ -1,4 +1,5 @@
 pub mod Pieces
+pub mod Kept
 pub mod Sought
 pub mod Summed
 pub mod Told

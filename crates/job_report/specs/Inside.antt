@@ -3,10 +3,11 @@ use Rattle.std.specs.Prelude.{ℕ, ◌+◌, ◌<◌, ◌≤◌, ◌^◌, Bool, L
 use Rattle.std.specs.declared.cmp.Ordering.{Ordering}
 use Rattle.std.specs.BTreeMap.{get}
 use Rattle.std.specs.BTreeSet.{contains}
-use Rattle.std.specs.Option.{option_map_or, unwrap_or}
+use Rattle.std.specs.Option.{unwrap_or}
 use Rattle.std.specs.Ordering.{nat_cmp, ordering_then}
 use Rattle.job_text.specs.declared.items.Item.{Item}
 use Rattle.job_report.specs.Report.{batch_head, item_line}
+use Rattle.job_report.specs.Whole.{found_in}
 use Rattle.job_report.specs.declared.answers.Answers.{Answers}
 use Rattle.job_report.specs.declared.found.Found.{Found}
 use Rattle.job_report.specs.declared.summaries.Counts.{Counts}
@@ -14,7 +15,7 @@ use Rattle.sudoku_law.specs.Grid.{Cells}
 
 -- the solutions that are told of puzzle n, and whether it is told to be over
 abbrev pub grids_at : Found → ℕ → List Cells
-grids_at f n = option_map_or (λ grids. grids.items) (get nat_cmp f.grids n) []
+grids_at f n = found_in n f.told
 
 abbrev pub is_over_at : Found → ℕ → Bool
 is_over_at f n = contains nat_cmp f.overs n

@@ -2,4 +2,5 @@ pub mod Jobs
 pub mod Report
 pub mod Summary
 pub mod Whole
+pub mod Pairs
 pub mod Inside

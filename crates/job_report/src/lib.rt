@@ -14,6 +14,7 @@ mod puzzles;
 mod reports;
 mod summaries;
 mod texts;
+mod told_grids;
 mod totals;
 
 pub use outcomes::Outcome;

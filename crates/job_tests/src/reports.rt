@@ -8,7 +8,7 @@ use job_text::{Jobs, read_jobs};
 use std::alloc::Global;
 use std::process::Abort;
 use std::test::Fail;
-use sudoku_rules::{Grid, parse_grid};
+use sudoku_rules::{KeptGrid, parse_grid};
 
 /// What a rank is said to have: solutions by their texts, overs, answers, and how many units it made.
 struct Told {
@@ -30,10 +30,10 @@ const NOTHING: Told = Told {
 type Row = (&'static [u8], Told, Told, &'static str);
 
 // The grids of these texts.
-fn grids(alloc: Global, texts: &[(u32, &str)]) -> Result<Vec<(u32, Grid)>, Fail> {
+fn grids(alloc: Global, texts: &[(u32, &str)]) -> Result<Vec<(u32, KeptGrid)>, Fail> {
     let mut grids = Vec::new(alloc);
     for (puzzle, text) in texts {
-        grids.push((*puzzle, parse_grid(text.as_bytes())?))?;
+        grids.push((*puzzle, parse_grid(text.as_bytes())?.keep(alloc)?))?;
     }
     Ok(grids)
 }

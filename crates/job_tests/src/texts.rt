@@ -25,8 +25,8 @@ fn told(alloc: Global, input: &[u8]) -> Result<String, Fail> {
 fn add_jobs(words: &mut String, jobs: &[Job]) -> Result<(), Fail> {
     for job in jobs {
         match job {
-            Job::Puzzle(grid) => add_bytes(words, "puzzle ", grid.text().as_slice())?,
-            Job::Batch { common, items } => add_batch(words, common, items.as_slice())?,
+            Job::Puzzle(grid) => add_bytes(words, "puzzle ", grid.grid().text().as_slice())?,
+            Job::Batch { common, items } => add_batch(words, common.payload(), items.as_slice())?,
         }
     }
     Ok(())

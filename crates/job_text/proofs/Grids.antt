@@ -1,5 +1,5 @@
 -- Each puzzle of an input is a grid.
-use Rattle.std.proofs.Common.{◌≡◌, ◌<◌, ◌∙◌, ℕ, ◌+◌, Bool, true, false, cond, ltb, eqb, ◌||◌, List, [], ◌∷◌, length, get_or, map, refl, sym, arith}
+use Rattle.std.proofs.Common.{◌≡◌, ◌<◌, ◌∙◌, ℕ, Bool, true, false, cond, ltb, eqb, ◌||◌, List, [], ◌∷◌, length, get_or, map, refl, sym}
 use Rattle.std.specs.Prelude.{codes, slice_index}
 use Rattle.std.specs.List.{All, before_first, list_all}
 use Rattle.std.specs.Str.{bytes_eq}

@@ -1,9 +1,11 @@
 //! The items of a batch.
 
-ghost use Rattle.std.specs.Prelude.{◌≡◌};
+ghost use Rattle.std.specs.Prelude.{◌≡◌, IfOk};
 ghost use Rattle.job_text.specs.Kinds.{item_of as item_of_line};
 
 use crate::words::{byte_number, cut_word};
+use adlb_unit::{NoMemory, or_no_memory};
+use std::alloc::Global;
 use std::marker::Model;
 
 /// What is asked of the bytes of a batch: how many are from `lo` to `hi`, their sum, or the greatest.
@@ -17,7 +19,7 @@ pub enum Item {
 /// The items of a batch, in input order, at most 2^24. They are seen as their list.
 #[derive(Drop)]
 pub struct Items {
-    list: Vec<Item>,
+    list: Box<Vec<Item>>,
 }
 
 impl Model for Items {
@@ -26,9 +28,9 @@ impl Model for Items {
 
     ghost Value = { List Item };
 
-    ghost view = { λ items. items.list.items };
+    ghost view = { λ items. items.list.value.items };
 
-    ghost invariant = { λ items. length items.list.items ≤ 2 ^ 24 };
+    ghost invariant = { λ items. length items.list.value.items ≤ 2 ^ 24 };
 }
 
 impl Items {
@@ -42,12 +44,13 @@ impl Items {
         self.list.as_slice()
     }
 
-    // The items of a list.
-    pub(crate) fn of(list: Vec<Item>) -> Items
+    // The items of a list. Its only error is `NoMemory`.
+    pub(crate) fn of(alloc: Global, list: Vec<Item>) -> Result<Items, NoMemory>
         requires { length list.items ≤ 2 ^ 24 }
-        ensures { result ≡ list.items }
+        ensures { IfOk result (λ items. items ≡ list.items) }
     {
-        Items { list }
+        let list = or_no_memory(Box::new(alloc, list))?;
+        Ok(Items { list })
     }
 }
 

@@ -5,6 +5,7 @@
 //! jobs of lines, and which line is refused first. It stands on `sudoku_rules` and on the payloads of `adlb_unit`.
 #![tactic(auto)]
 
+mod commons;
 mod faults;
 mod items;
 mod jobs;
@@ -13,6 +14,7 @@ mod lines;
 mod reading;
 mod words;
 
+pub use commons::CommonBytes;
 pub use faults::{JobsFault, LineWhy};
 pub use items::{Item, Items};
 pub use jobs::{Job, Jobs, read_jobs};

@@ -5,18 +5,19 @@ ghost use Rattle.job_text.specs.Kinds.{kind_of, puzzle, batch as batch_of, item 
 ghost use Rattle.job_text.specs.Jobs.{fault_of};
 ghost use Rattle.job_text.specs.Inside.Read.{Extends, count, is_open, jobs_with};
 
+use crate::commons::CommonBytes;
 use crate::faults::{JobsFault, LineWhy};
 use crate::items::{Item, Items};
 use crate::jobs::Job;
 use crate::kinds::{Line, line_of};
-use adlb_unit::{NoMemory, Payload, or_no_memory};
+use adlb_unit::{NoMemory, or_no_memory};
 use std::alloc::Global;
 use sudoku_rules::Grid;
 
 /// A batch that is going on.
 #[derive(Drop)]
 pub(crate) struct OpenBatch {
-    common: Payload,
+    common: CommonBytes,
     items: Vec<Item>,
 }
 
@@ -48,7 +49,7 @@ impl Reading {
     {
         match line_of(line) {
             Line::Skipped => Ok(self),
-            Line::Puzzle(grid) => Ok(self.with_puzzle(grid)?),
+            Line::Puzzle(grid) => Ok(self.with_puzzle(alloc, grid)?),
             Line::Batch(common) => Ok(self.with_batch(alloc, common)?),
             Line::Item(item) => self.with_item(number, item),
             Line::Bad(why) => Err(JobsFault::Refused { line: number, why }),
@@ -56,28 +57,27 @@ impl Reading {
     }
 
     /// The jobs, with the batch that is going on as the last of them. Its only error is `NoMemory`.
-    pub(crate) fn whole(self) -> Result<Vec<Job>, NoMemory>
+    pub(crate) fn whole(self, alloc: Global) -> Result<Vec<Job>, NoMemory>
         requires { count self ≤ 2 ^ 24 }
         ensures jobs { IfOk result (λ jobs. jobs.items ≡ jobs_with self []) }
         ensures few { IfOk result (λ jobs. length jobs.items ≤ count self) }
     {
         let Reading { mut jobs, current } = self;
         if let Some(batch) = current {
-            or_no_memory(jobs.push(Job::Batch {
-                common: batch.common,
-                items: Items::of(batch.items),
-            }))?;
+            let OpenBatch { common, items } = batch;
+            let items = Items::of(alloc, items)?;
+            or_no_memory(jobs.push(Job::Batch { common, items }))?;
         }
         Ok(jobs)
     }
 
     // With a puzzle, which ends a batch. Its only error is `NoMemory`.
-    fn with_puzzle(self, grid: Grid) -> Result<Reading, NoMemory>
+    fn with_puzzle(self, alloc: Global, grid: Grid) -> Result<Reading, NoMemory>
         requires { count self ≤ 2 ^ 24 }
         ensures { IfOk result (λ next. Extends self (puzzle grid) next) }
     {
-        let mut jobs = self.whole()?;
-        or_no_memory(jobs.push(Job::Puzzle(grid)))?;
+        let mut jobs = self.whole(alloc)?;
+        or_no_memory(jobs.push(Job::Puzzle(grid.keep(alloc)?)))?;
         Ok(Reading {
             jobs,
             current: None,
@@ -89,9 +89,9 @@ impl Reading {
         requires { count self ≤ 2 ^ 24 }
         ensures { IfOk result (λ next. Extends self (batch_of common.now) next) }
     {
-        let jobs = self.whole()?;
+        let jobs = self.whole(alloc)?;
         let batch = OpenBatch {
-            common: Payload::copy(alloc, common)?,
+            common: CommonBytes::copy(alloc, common)?,
             items: Vec::new(alloc),
         };
         Ok(Reading {

@@ -16,14 +16,14 @@ use job_text::Item;
 use job_units::{Board, Fetch, Job, Made, Solution, read_fetch};
 use std::alloc::Global;
 use std::collections::VecDeque;
-use sudoku_rules::{Expansion, Grid, expand};
+use sudoku_rules::{Expansion, Grid, KeptGrid, expand};
 
 /// The units that wait to be put, in order; the solutions and the answers that stay with the rank; the puzzles that are
 /// over; and how many boards, solutions, jobs and answers were made.
 #[derive(Drop)]
 pub struct Desk {
     pub waiting: VecDeque<Made>,
-    pub kept: Vec<(u32, Grid)>,
+    pub kept: Vec<(u32, KeptGrid)>,
     pub answers: Vec<(u32, u32, u64)>,
     pub overs: Vec<u32>,
     pub boards: u128,
@@ -72,7 +72,8 @@ impl Desk {
         match made {
             Made::Board(board) => self.work(alloc, grain, board),
             Made::Solution(solution) => {
-                or_no_memory(self.kept.push((solution.puzzle, solution.grid)))
+                let grid = solution.grid.keep(alloc)?;
+                or_no_memory(self.kept.push((solution.puzzle, grid)))
             }
             Made::Job(job) => {
                 self.answered += 1;

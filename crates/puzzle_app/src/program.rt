@@ -303,12 +303,12 @@ impl PuzzleProgram {
                 let board = Made::Board(Board {
                     puzzle: at.puzzle,
                     budget: self.settings.budget,
-                    grid: *grid,
+                    grid: grid.grid(),
                 });
                 self.put_next(link, desk, board, b"".as_slice())
             }
             Job::Batch { common, items } => {
-                self.put_batch(link, desk, at.batch, common, items.as_slice())
+                self.put_batch(link, desk, at.batch, common.payload(), items.as_slice())
             }
         }
     }

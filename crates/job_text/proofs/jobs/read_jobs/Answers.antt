@@ -1,4 +1,4 @@
-use Rattle.std.proofs.Common.{◌≡◌, sym, ap, subst, Err, Result, arith}
+use Rattle.std.proofs.Common.{◌≡◌, ◌∙◌, sym, ap, length, subst, Err, Result, arith}
 use Rattle.std.specs.List.{All}
 use Rattle.std.proofs.lemmas.Result.{err_from_is_err_and}
 use Rattle.job_text.specs.declared.faults.JobsFault.{JobsFault}
@@ -27,25 +27,25 @@ each-preserved c =
 
 pub returns-clause-jobs : goal.returns-clause-jobs
 returns-clause-jobs c =
-    all_read c.args.bytes.now c.each.reading c.each.lines c.each.number c.in_ok-list.list.items c.each.invariant c.in_default.ensures.line
-    c.in_ok-list.ensures.jobs
-
-pub invariant_of-result : goal.invariant_of-result
-invariant_of-result c =
     let read = all_read c.args.bytes.now c.each.reading c.each.lines c.each.number c.in_ok-list.list.items c.each.invariant
     c.in_default.ensures.line c.in_ok-list.ensures.jobs in
-    let before = c.each.invariant.few in
-    let few = c.in_ok-list.ensures.few in
-    (omega arith, subst (All HasFewBytes) (sym read.1) (few_bytes (lines c.args.bytes.now)))
+    (read.0, c.in_ok-of.ensures ∙ read.1)
+
+pub of-requires-clause-bytes : goal.of-requires-clause-bytes
+of-requires-clause-bytes c =
+    let read = all_read c.args.bytes.now c.each.reading c.each.lines c.each.number c.in_ok-list.list.items c.each.invariant
+    c.in_default.ensures.line c.in_ok-list.ensures.jobs in
+    subst (All HasFewBytes) (sym read.1) (few_bytes (lines c.args.bytes.now))
 
 pub returns-clause-grids : goal.returns-clause-grids
 returns-clause-grids c =
     let read = all_read c.args.bytes.now c.each.reading c.each.lines c.each.number c.in_ok-list.list.items c.each.invariant
     c.in_default.ensures.line c.in_ok-list.ensures.jobs in
-    subst (All HasGrid) (sym read.1) (have_grids (lines c.args.bytes.now))
+    subst (All HasGrid) (sym (c.in_ok-of.ensures ∙ read.1)) (have_grids (lines c.args.bytes.now))
 
 pub returns-clause-few : goal.returns-clause-few
 returns-clause-few c =
     let before = c.each.invariant.few in
     let few = c.in_ok-list.ensures.few in
+    let same = ap length c.in_ok-of.ensures in
     omega arith

@@ -3,11 +3,11 @@ use Rattle.job_text.specs.declared.jobs.Job.TheVariants.{Batch}
 use Rattle.job_text.specs.Inside.Read.{jobs_behind}
 use Rattle.job_text.proofs.SoFar.{nothing_more, batch_ends}
 use Rattle.job_text.proofs.reading.Reading.whole.Goals as goal
-use Rattle.job_text.proofs.reading.Reading.whole.Goals.{in-Some+in_ok-or_no_memory, in_default}
+use Rattle.job_text.proofs.reading.Reading.whole.Goals.{in-Some+in_ok-items+in_ok-or_no_memory, in_default}
 
 pub returns-clause-jobs : goal.returns-clause-jobs
 returns-clause-jobs c = elim c.match-current.branch [
-  | in-Some+in_ok-or_no_memory w ↦
+  | in-Some+in_ok-items+in_ok-or_no_memory w ↦
       let more : c.match-current.jobs.items
       ≡ c.args.self.jobs.items ++ Batch w.in-Some.batch.common w.in-Some.batch.items.items ∷ [] = search rules in
       more ∙ batch_ends c.args.self.jobs.items w.in-Some.batch.common w.in-Some.batch.items.items
