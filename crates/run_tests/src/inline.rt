@@ -338,7 +338,7 @@ fn has_ended(
 {
     let (entries, said, units) = played(rt, alloc, limit, acts)?.end()?;
     let is_left = said.len() == calls && are_left(units.as_slice(), left);
-    Ok(is_left && has_lines(alloc, entries.entries(), ledger)?)
+    Ok(is_left && has_lines(alloc, &entries.list(alloc)?, ledger)?)
 }
 
 // A world with this limit in which each step was made, and the rank finished.

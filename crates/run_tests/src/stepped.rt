@@ -331,7 +331,7 @@ fn shown(alloc: Global, world: &mut World, servers: u32, line: Line) -> Result<S
         Line::Answered => count(alloc, world.transcript(Rank(0)).len() as u64),
         Line::Body => body(alloc, world),
         Line::Info => info(alloc, world),
-        Line::Ledger => rows(alloc, world.ledger().entries()),
+        Line::Ledger => rows(alloc, &world.ledger().list(alloc)?),
         Line::Left(number) => left(alloc, world, servers, number),
     }
 }
