@@ -28,18 +28,23 @@ pub fn append_extras(
 ) -> Result<(), NoMemory>
     ensures { OnOk result (text.new.items ≡ text.old.items ++ behind extras report.now) }
 {
-    append_counts(text, extras.stats, report)?;
+    append_counts(alloc, text, extras.stats, report)?;
     append_ledger(alloc, text, extras.ledger, report)
 }
 
 // Appends the counts of the ledger, if they are asked for.
-fn append_counts(text: &mut Vec<u8>, asked: bool, report: &Report<Outcome>) -> Result<(), NoMemory>
+fn append_counts(
+    alloc: Global,
+    text: &mut Vec<u8>,
+    asked: bool,
+    report: &Report<Outcome>,
+) -> Result<(), NoMemory>
     ensures { OnOk result (text.new.items ≡ text.old.items ++ stats_behind asked report.now) }
 {
     if !asked {
         return Ok(());
     }
-    append_stats(text, &report.ledger, report.left.len() as u64)
+    append_stats(alloc, text, &report.ledger, report.left.len() as u64)
 }
 
 // Appends the text of the ledger, if it is asked for.

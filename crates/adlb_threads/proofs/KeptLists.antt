@@ -8,7 +8,7 @@ use Rattle.core_run.specs.World.{actors}
 use Rattle.merge_history.specs.Events.{OfActor}
 use Rattle.merge_history.specs.Kept.{kept_of}
 use Rattle.merge_history.specs.Merging.{actors_of}
-use Rattle.merge_history.specs.declared.stamped.Stamped.{Stamped}
+use Rattle.packed_ledger.specs.declared.stamped.Stamped.{Stamped}
 use Rattle.adlb_threads.specs.Inside.{AreClear, journals_at, of_events}
 use Rattle.adlb_threads.proofs.Journals.{actors_long}
 

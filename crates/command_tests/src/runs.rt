@@ -49,7 +49,7 @@ pub fn seen(alloc: Global, end: &RunEnd, written: &[u8]) -> Result<Ran, Fail> {
 // The kept ledger, and how many units are left.
 fn kept(alloc: Global, end: &RunEnd) -> Result<(String, usize), Fail> {
     match &end.report {
-        Some(kept) => Ok((names(alloc, kept.ledger.entries())?, kept.left.len())),
+        Some(kept) => Ok((names(alloc, &kept.ledger.list(alloc)?)?, kept.left.len())),
         None => Ok((String::new(alloc), 0)),
     }
 }

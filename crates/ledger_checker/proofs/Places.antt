@@ -20,16 +20,16 @@ found_behind b next e place es is = rw is refl
 pub room_behind : (b next : Bag) (e : Entry) (n : ℕ) → step b e ≡ Some next → HasRoom n b → HasRoom (n + 1) next
 room_behind b next e n is room = rw (is_row b next e is).2 (room_kept n b e room)
 
-pub legal_found : (config : Config) (b : Bag) (es ledger : List Entry) (found : Result (Option ℕ) NoMemory) → b ≡ start config → es ≡ ledger → IfOk found (λ place. place ≡ first_illegal b 0 es) → IfOk found (λ place. (place ≡ None) ↔ IsLegal config ledger)
-legal_found config b es ledger (Err e) start_is ledger_is is = tt
-legal_found config b es ledger (Ok place) start_is ledger_is is =
-    let found : place ≡ first_illegal (start config) 0 ledger = rw (← start_is, ← ledger_is) is in
+pub legal_found : (config : Config) (b : Bag) (ledger : List Entry) (found : Result (Option ℕ) NoMemory) → b ≡ start config → IfOk found (λ place. place ≡ first_illegal b 0 ledger) → IfOk found (λ place. (place ≡ None) ↔ IsLegal config ledger)
+legal_found config b ledger (Err e) start_is is = tt
+legal_found config b ledger (Ok place) start_is is =
+    let found : place ≡ first_illegal (start config) 0 ledger = rw (← start_is) is in
     (λ none. run_from (start config) 0 ledger (sym found ∙ none), λ run. found ∙ none_found (start config) run.0 0 ledger run.1)
 
-pub least_found : (config : Config) (b : Bag) (es ledger : List Entry) (found : Result (Option ℕ) NoMemory) → b ≡ start config → es ≡ ledger → IfOk found (λ place. place ≡ first_illegal b 0 es) → (k : ℕ) → IfOk found (λ place. (place ≡ Some k) ↔ IsFirstIllegal (start config) ledger k)
-least_found config b es ledger (Err e) start_is ledger_is is k = tt
-least_found config b es ledger (Ok place) start_is ledger_is is k =
-    let found : place ≡ first_illegal (start config) 0 ledger = rw (← start_is, ← ledger_is) is in (
+pub least_found : (config : Config) (b : Bag) (ledger : List Entry) (found : Result (Option ℕ) NoMemory) → b ≡ start config → IfOk found (λ place. place ≡ first_illegal b 0 ledger) → (k : ℕ) → IfOk found (λ place. (place ≡ Some k) ↔ IsFirstIllegal (start config) ledger k)
+least_found config b ledger (Err e) start_is is k = tt
+least_found config b ledger (Ok place) start_is is k =
+    let found : place ≡ first_illegal (start config) 0 ledger = rw (← start_is) is in (
       λ some.
           let first = found_is (start config) 0 k ledger (sym found ∙ some) in
           let same : k ≡ first.0 = omega (arith, first.1) in

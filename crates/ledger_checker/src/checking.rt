@@ -7,7 +7,6 @@ ghost use Rattle.ledger_checker.specs.Room.{HasRoom};
 
 use crate::machines::Machine;
 use adlb_unit::{Config, NoMemory};
-use bag_ledger::Entry;
 use packed_ledger::Ledger;
 use std::alloc::Global;
 
@@ -28,18 +27,25 @@ pub fn first_illegal(
     ensures least { (place : ℕ) → IfOk result (λ found. (found ≡ Some place) ↔ IsFirstIllegal (start config.now) ledger.now place) }
 {
     let mut machine = Machine::new(alloc, config)?;
-    let entries = ledger.entries();
-    first_after(&mut machine, entries)
+    first_after(alloc, &mut machine, ledger)
 }
 
 // The place of the first entry that is no step, from the machine's state on.
-fn first_after(machine: &mut Machine, entries: &[Entry]) -> Result<Option<u64>, NoMemory>
+fn first_after(
+    alloc: Global,
+    machine: &mut Machine,
+    ledger: &Ledger,
+) -> Result<Option<u64>, NoMemory>
     requires { HasRoom 0 machine.old }
-    ensures { IfOk result (λ found. found ≡ first_illegal machine.old 0 entries.now) }
+    ensures { IfOk result (λ found. found ≡ first_illegal machine.old 0 ledger.now) }
 {
-    for place in 0..entries.len() {
-        if !machine.apply(&entries[place])? {
-            return Ok(Some(place as u64));
+    let mut entries = ledger.entries();
+    for place in 0..ledger.len() {
+        let Some(entry) = entries.next(alloc)? else {
+            unreachable!()
+        };
+        if !machine.apply(&entry)? {
+            return Ok(Some(place));
         }
     }
     Ok(None)

@@ -29,7 +29,7 @@ impl Verdict {
         match first_illegal(alloc, ledger, config)? {
             Some(place) => Ok(Verdict::Illegal { place }),
             None => Ok(Verdict::Legal {
-                entries: ledger.entries().len() as u64,
+                entries: ledger.len(),
             }),
         }
     }

@@ -149,18 +149,19 @@ bad_behind c bytes first rest at is same bad = at_case bad
         behind c entries left read.within (opens entries _ read
         ∙ sym (append_assoc (open_text c entries) (line (last_row (length entries))) left)) some here
 
--- the line after the entries read is refused
-pub bad_next : (bytes rest : List ℕ) (ledger entries : List Entry) (at : ℕ) → HasRead bytes ledger rest → entries ≡ ledger
-    → IsNoLine rest (length entries) fault.Bad → at ≡ length entries + 2 → IsBadAfter bytes at
-bad_next bytes rest ledger entries at read same none here =
-    none_next entries rest (subst (λ (l : List Entry). HasRead bytes l rest) (sym same) read) none.0 none.1 here
+-- the line after the entries read, of which there are this many, is refused
+pub bad_next : (bytes rest : List ℕ) (ledger : List Entry) (count at : ℕ) → HasRead bytes ledger rest → count ≡ length ledger
+    → IsNoLine rest count fault.Bad → at ≡ count + 2 → IsBadAfter bytes at
+bad_next bytes rest ledger count at read many none here =
+    let none' = subst (λ n. IsNoLine rest n fault.Bad) many none in
+    none_next ledger rest read none'.0 none'.1 (here ∙ ap (λ n. n + 2) many)
 
-pub bad_after_last : (bytes rest after : List ℕ) (ledger entries : List Entry) (at : ℕ) (x : Line) → HasRead bytes ledger rest
-    → entries ≡ ledger → x ≡ next.Last → IsLine rest (length entries) x after → after ≢ [] → at ≡ length entries + 3 → IsBadAfter bytes at
-bad_after_last bytes rest after ledger entries at x read same last is some here =
-    let ends : rest ≡ line (last_row (length entries)) ++ after = subst (λ (y : Line). IsLine rest (length entries) y after) last is in
-    too_much entries after (subst (λ (v : List ℕ). HasRead bytes entries v) ends (subst (λ (l : List Entry). HasRead bytes l rest)
-    (sym same) read)) some here
+pub bad_after_last : (bytes rest after : List ℕ) (ledger : List Entry) (count at : ℕ) (x : Line) → HasRead bytes ledger rest
+    → count ≡ length ledger → x ≡ next.Last → IsLine rest count x after → after ≢ [] → at ≡ count + 3 → IsBadAfter bytes at
+bad_after_last bytes rest after ledger count at x read many last is some here =
+    let is' = subst (λ n. IsLine rest n x after) many is in
+    let ends : rest ≡ line (last_row (length ledger)) ++ after = subst (λ (y : Line). IsLine rest (length ledger) y after) last is' in
+    too_much ledger after (subst (λ (v : List ℕ). HasRead bytes ledger v) ends read) some (here ∙ ap (λ n. n + 3) many)
 
 -- of a text, only memory is a fault
 pub only_memory : {T : Type 0} (c d : Config) (ledger : List Entry) (bytes first rest : List ℕ) (f : LedgerFault)

@@ -69,7 +69,7 @@ fn entries_of(alloc: Global, bytes: &[u8]) -> Result<Ledger, LedgerFault>
     let mut ledger = Ledger::new(alloc);
     let mut rest = bytes;
     'lines: loop {
-        let count = ledger.entries().len() as u64;
+        let count = ledger.len();
         let (line, after) = match next_line(alloc, rest, count) {
             Ok(next) => next,
             Err(LineFault::Bad) => return Err(LedgerFault::Refused { line: count + 2 }),

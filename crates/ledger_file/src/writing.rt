@@ -23,11 +23,11 @@ pub fn write_ledger(alloc: Global, config: &Config, ledger: &Ledger) -> Result<V
         b"ledger",
         &[ranks, servers, Number(config.limit)],
     )?;
-    let entries = ledger.entries();
-    for entry in entries {
-        append_entry(&mut bytes, entry)?;
+    let mut entries = ledger.entries();
+    while let Some(entry) = entries.next(alloc)? {
+        append_entry(&mut bytes, &entry)?;
     }
-    append_line(&mut bytes, b"end", &[Number(entries.len() as u64)])?;
+    append_line(&mut bytes, b"end", &[Number(ledger.len())])?;
     Ok(bytes)
 }
 

@@ -4,7 +4,7 @@ use Rattle.std.proofs.lemmas.List.{map-append}
 use Rattle.bag_ledger.specs.declared.entries.Entry.{Entry}
 use Rattle.flat_merge.specs.Taking.{Climbs, IsLeast, IsMerging}
 use Rattle.flat_merge.proofs.Taking.{merging_end, merging_start, merging_step}
-use Rattle.merge_history.specs.declared.stamped.Stamped.{Stamped}
+use Rattle.packed_ledger.specs.declared.stamped.Stamped.{Stamped}
 use Rattle.merge_history.specs.Merging.{IsLedgerOf, stamp_at}
 
 -- these entries are in the ledger, and these lists are left

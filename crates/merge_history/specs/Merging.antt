@@ -11,7 +11,7 @@ use Rattle.flat_merge.specs.Flat.{IsKeptMerge}
 use Rattle.flat_merge.specs.Taking.{Climbs}
 use Rattle.journal_law.specs.Orders.{IsMerged, Rises}
 use Rattle.merge_history.specs.Events.{Event, OfActor}
-use Rattle.merge_history.specs.declared.stamped.Stamped.{Stamped}
+use Rattle.packed_ledger.specs.declared.stamped.Stamped.{Stamped}
 
 abbrev pub stamp_of : Event → ℕ
 stamp_of e = e.stamp

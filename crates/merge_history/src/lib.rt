@@ -9,8 +9,6 @@
 mod causes;
 mod fronts;
 mod merging;
-mod stamped;
 
 pub use causes::Cause;
 pub use merging::merge;
-pub use stamped::Stamped;

@@ -8,10 +8,9 @@ ghost use Rattle.merge_history.specs.Kept.{kept_of};
 ghost use Rattle.merge_history.specs.Merging.{AllClimb, CanMerge, IsLedgerOf, stamp_at};
 ghost use Rattle.merge_history.specs.Own.{Compose, Finals, IsOneHistory};
 
-use crate::fronts::{Front, fronts_of};
-use crate::stamped::Stamped;
+use crate::fronts::fronts_of;
 use adlb_unit::NoMemory;
-use packed_ledger::Ledger;
+use packed_ledger::{Kept, Ledger, Unread};
 use std::alloc::Global;
 
 /// The entries that all actors of a run kept, in one ledger: by stamp, among equal stamps by actor, the ranks before the
@@ -19,24 +18,24 @@ use std::alloc::Global;
 ///
 /// If it is what is kept of journals that compose, there is one history of all their events, which is a run of all actors, and
 /// the ledger has its entries (`IsOneHistory`). No event is held. Its only error is `NoMemory`.
-pub fn merge(alloc: Global, kept: Vec<Vec<Stamped>>) -> Result<Ledger, NoMemory>
-    ensures merged { IfOk result (λ ledger. AllClimb (map (λ entries. entries.items) kept.items) → IsLedgerOf (map (λ entries. entries.items) kept.items) ledger) }
+pub fn merge(alloc: Global, kept: Vec<Kept>) -> Result<Ledger, NoMemory>
+    ensures merged { IfOk result (λ ledger. AllClimb (map (λ k. k.entries) kept.items) → IsLedgerOf (map (λ k. k.entries) kept.items) ledger) }
     ensures run { IfOk result (λ ledger. (config : Config) (journals : List OfActor) (finals : Finals)
-        → CanMerge config journals → map (λ entries. entries.items) kept.items ≡ map (λ j. kept_of j.events) journals
+        → CanMerge config journals → map (λ k. k.entries) kept.items ≡ map (λ j. kept_of j.events) journals
         → Compose config finals journals → IsOneHistory config finals journals ledger) }
 {
     merged_entries(alloc, kept)
 }
 
 // The entries of all, in order.
-fn merged_entries(alloc: Global, kept: Vec<Vec<Stamped>>) -> Result<Ledger, NoMemory>
-    ensures { IfOk result (λ ledger. AllClimb (map (λ entries. entries.items) kept.items) → IsLedgerOf (map (λ entries. entries.items) kept.items) ledger) }
+fn merged_entries(alloc: Global, kept: Vec<Kept>) -> Result<Ledger, NoMemory>
+    ensures { IfOk result (λ ledger. AllClimb (map (λ k. k.entries) kept.items) → IsLedgerOf (map (λ k. k.entries) kept.items) ledger) }
 {
     let mut ledger = Ledger::new(alloc);
     let mut fronts = fronts_of(alloc, kept)?;
     while let Some(at) = least(&fronts) {
         let front = &mut fronts[at];
-        match front.take_first() {
+        match front.take_first(alloc)? {
             Some(first) => ledger.push(first.entry)?,
             None => return Ok(ledger),
         }
@@ -45,7 +44,7 @@ fn merged_entries(alloc: Global, kept: Vec<Vec<Stamped>>) -> Result<Ledger, NoMe
 }
 
 // The first of those that begin with the lowest stamp.
-fn least(fronts: &[Front]) -> Option<usize>
+fn least(fronts: &[Unread]) -> Option<usize>
     ensures { IsLeast stamp_at fronts.now result }
 {
     let mut best: Option<(usize, u64)> = None;

@@ -7,6 +7,6 @@ mod ledgers;
 mod stamped;
 mod twins;
 
-pub use kept::{Kept, Unread};
+pub use kept::{ENTRY_SIZE, Kept, Unread};
 pub use ledgers::{Entries, Ledger};
 pub use stamped::Stamped;

@@ -89,9 +89,14 @@ fn shows(alloc: Global, entries: &[Entry], config: &Config, place: usize) -> Res
     Ok(first_illegal(alloc, &other, config) == Ok(Some(place as u64)))
 }
 
-// The ledger is legal, and with one entry changed it is illegal at that place.
-fn is_judged(alloc: Global, ledger: &Ledger, config: &Config, number: u64) -> Result<bool, Fail> {
-    let entries = ledger.entries();
+// The ledger, which has these entries, is legal, and with one of them changed it is illegal at that place.
+fn is_judged(
+    alloc: Global,
+    ledger: &Ledger,
+    entries: &[Entry],
+    config: &Config,
+    number: u64,
+) -> Result<bool, Fail> {
     let place = Words::new(number.wrapping_add(RUNS)).place(entries.len());
     Ok(first_illegal(alloc, ledger, config) == Ok(None) && shows(alloc, entries, config, place)?)
 }
@@ -246,9 +251,10 @@ fn is_told(
     ledger: &Ledger,
     seen: &mut Seen,
 ) -> Result<bool, Fail> {
-    seen.look(ledger.entries(), config.servers);
-    let told = all_have_finished(ledger.entries(), config.ranks);
-    Ok(is_judged(alloc, ledger, config, number)? && told)
+    let entries = ledger.list(alloc)?;
+    seen.look(&entries, config.servers);
+    let told = all_have_finished(&entries, config.ranks);
+    Ok(is_judged(alloc, ledger, &entries, config, number)? && told)
 }
 
 #[test]

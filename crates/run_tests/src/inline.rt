@@ -336,10 +336,11 @@ fn has_ended(
     requires least { 64 ≤ limit }
     requires most { limit ≤ 2 ^ 30 }
 {
-    let (entries, _, units) = played(rt, alloc, limit, acts)?.end()?;
-    let begun = entries.entries().iter().filter(|e| begins(e)).count();
+    let (kept, _, units) = played(rt, alloc, limit, acts)?.end()?;
+    let entries = kept.list(alloc)?;
+    let begun = entries.iter().filter(|e| begins(e)).count();
     let is_left = begun == calls && are_left(units.as_slice(), left);
-    Ok(is_left && has_lines(alloc, entries.entries(), ledger)?)
+    Ok(is_left && has_lines(alloc, &entries, ledger)?)
 }
 
 // A world with this limit in which each step was made, and the rank finished.

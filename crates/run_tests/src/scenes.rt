@@ -714,7 +714,7 @@ fn left_by(alloc: Global, world: &World, config: Config) -> Result<String, Fail>
         return Err("an illegal ledger".into());
     }
     let mut rows = String::new(alloc);
-    add_rows(&mut rows, world.ledger().entries())?;
+    add_rows(&mut rows, &world.ledger().list(alloc)?)?;
     let letters = letters(world, config.ranks, config.servers);
     Ok(format!(in alloc; "{rows}{letters}")?)
 }

@@ -358,7 +358,7 @@ fn shown(
         Line::Answered => count(alloc, answers.len() as u64),
         Line::Body => body(alloc, answers),
         Line::Info => info(alloc, answers),
-        Line::Ledger => rows(alloc, world.ledger().entries()),
+        Line::Ledger => rows(alloc, &world.ledger().list(alloc)?),
         Line::Left(number) => left(alloc, world, servers, number),
     }
 }

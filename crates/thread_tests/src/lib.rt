@@ -12,6 +12,8 @@ mod calls;
 #[cfg(test)]
 mod desks;
 #[cfg(test)]
+mod keeping;
+#[cfg(test)]
 mod mail;
 #[cfg(test)]
 mod mailboxes;

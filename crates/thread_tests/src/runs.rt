@@ -148,7 +148,7 @@ impl RunEnd {
 
 fn is_kept(alloc: Global, report: &Report<u32>) -> Result<bool, NoMemory> {
     let illegal = first_illegal(alloc, &report.ledger, &report.config)?;
-    Ok(illegal.is_none() && !report.ledger.entries().is_empty())
+    Ok(illegal.is_none() && report.ledger.len() != 0)
 }
 
 fn total(outcomes: &[u32]) -> u64 {

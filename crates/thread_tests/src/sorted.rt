@@ -1,9 +1,10 @@
 //! A merge of what many actors kept against a sort.
 
-use adlb_unit::Rank;
+use crate::keeping::keep;
+use adlb_unit::{NoMemory, Rank};
 use bag_ledger::Entry;
-use merge_history::{Stamped, merge};
-use packed_ledger::Ledger;
+use merge_history::merge;
+use packed_ledger::{Kept, Ledger};
 use std::alloc::{AllocError, Global};
 use std::test::Fail;
 
@@ -16,16 +17,19 @@ fn next(word: u64) -> u64 {
         .wrapping_add(1442695040888963407)
 }
 
-// An entry that tells the actor, the stamp of its event, and its number among those of this event.
-fn entry(actor: u32, stamp: u64, number: u64) -> Entry {
+/// What an entry tells: the stamp of its event, its actor, and its number among those of this event.
+type Told = (u64, u32, u64);
+
+// An entry that tells this.
+fn entry((stamp, actor, number): Told) -> Entry {
     Entry::Finished {
         rank: Rank(actor),
         call: stamp.wrapping_mul(4).wrapping_add(number),
     }
 }
 
-// What an actor kept of up to 63 events, whose stamps rise by up to 4, each with up to 3 entries.
-fn kept(alloc: Global, actor: u32) -> Result<Vec<Stamped>, AllocError> {
+// What the entries tell of up to 63 events of an actor, whose stamps rise by up to 4, each with up to 3 entries.
+fn made(alloc: Global, actor: u32) -> Result<Vec<Told>, AllocError> {
     let mut word = next(u64::from(actor));
     let mut all = Vec::new(alloc);
     let mut stamp = 0u64;
@@ -33,26 +37,40 @@ fn kept(alloc: Global, actor: u32) -> Result<Vec<Stamped>, AllocError> {
         word = next(word);
         stamp = stamp.wrapping_add(1 + (word >> 33 & 3));
         for number in 0..word >> 40 & 3 {
-            all.push(Stamped {
-                stamp,
-                entry: entry(actor, stamp, number),
-            })?;
+            all.push((stamp, actor, number))?;
         }
     }
     Ok(all)
 }
 
-// What all actors kept.
-fn all_kept(alloc: Global) -> Result<Vec<Vec<Stamped>>, AllocError> {
+// That of all actors.
+fn all_made(alloc: Global) -> Result<Vec<Vec<Told>>, AllocError> {
     let mut all = Vec::new(alloc);
     for actor in 0..ACTORS {
-        all.push(kept(alloc, actor)?)?;
+        all.push(made(alloc, actor)?)?;
     }
     Ok(all)
 }
 
-// What an entry tells: its stamp, its actor, and its number.
-fn told(entry: &Entry) -> (u64, u32, u64) {
+// An actor kept entries that tell this.
+fn kept(alloc: Global, made: &[Told]) -> Result<Kept, NoMemory> {
+    let mut kept = Kept::new(alloc);
+    for told in made {
+        keep(&mut kept, told.0, entry(*told))?;
+    }
+    Ok(kept)
+}
+
+// So did all actors.
+fn all_kept(alloc: Global, lists: &[Vec<Told>]) -> Result<Vec<Kept>, Fail> {
+    let mut all = Vec::new(alloc);
+    for list in lists {
+        all.push(kept(alloc, list)?)?;
+    }
+    Ok(all)
+}
+
+fn told(entry: &Entry) -> Told {
     match entry {
         Entry::Finished { rank, call } => (call / 4, rank.0, call % 4),
         _ => (0, 0, 0),
@@ -60,33 +78,28 @@ fn told(entry: &Entry) -> (u64, u32, u64) {
 }
 
 // What all entries tell, sorted.
-fn sorted(alloc: Global, lists: &[Vec<Stamped>]) -> Result<Vec<(u64, u32, u64)>, AllocError> {
+fn sorted(alloc: Global, lists: &[Vec<Told>]) -> Result<Vec<Told>, AllocError> {
     let mut all = Vec::new(alloc);
     for list in lists {
-        for stamped in list {
-            all.push(told(&stamped.entry))?;
-        }
+        all.extend_from_slice(list)?;
     }
     all.sort()?;
     Ok(all)
 }
 
 // The ledger has these entries, in this order.
-fn is_in_order(ledger: &Ledger, expected: &[(u64, u32, u64)]) -> bool {
-    ledger.entries().len() == expected.len()
-        && ledger
-            .entries()
-            .iter()
-            .zip(expected)
-            .all(|(entry, wanted)| told(entry) == *wanted)
+fn is_in_order(alloc: Global, ledger: &Ledger, expected: &[Told]) -> Result<bool, NoMemory> {
+    let entries = ledger.list(alloc)?;
+    let mut pairs = entries.iter().zip(expected);
+    Ok(entries.len() == expected.len() && pairs.all(|(entry, wanted)| told(entry) == *wanted))
 }
 
 #[test]
 fn a_merge_is_a_sort(rt: HostRuntime) -> Result<(), Fail> {
     let alloc = rt.alloc();
-    let lists = all_kept(alloc)?;
+    let lists = all_made(alloc)?;
     let sorted = sorted(alloc, &lists)?;
-    let ledger = merge(alloc, lists)?;
-    assert!(rt; sorted.len() > 500 && is_in_order(&ledger, &sorted));
+    let ledger = merge(alloc, all_kept(alloc, &lists)?)?;
+    assert!(rt; sorted.len() > 500 && is_in_order(alloc, &ledger, &sorted)?);
     Ok(())
 }

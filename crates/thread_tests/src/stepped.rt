@@ -1,12 +1,14 @@
 //! A batch of two puts with a count in it, two reserves with their fetches, and Finish, of one rank at one server, taken step
 //! by step.
 
+use crate::keeping::keep;
 use adlb_unit::{
     Actor, Config, Letter, Payload, Rank, Sending, Server, Target, Types, UnitId, WorkType,
 };
 use bag_ledger::{Call, Entry};
 use ledger_checker::first_illegal;
-use merge_history::{Stamped, merge};
+use merge_history::merge;
+use packed_ledger::Kept;
 use rank_client::ClientCore;
 use server_core::ServerState;
 use std::alloc::Global;
@@ -54,14 +56,14 @@ fn unit(number: u64) -> UnitId {
 #[derive(Drop)]
 struct Journal {
     events: usize,
-    kept: Vec<Stamped>,
+    kept: Kept,
 }
 
 impl Journal {
     fn new(alloc: Global) -> Journal {
         Journal {
             events: 0,
-            kept: Vec::new(alloc),
+            kept: Kept::new(alloc),
         }
     }
 
@@ -69,7 +71,7 @@ impl Journal {
     fn keep(&mut self, stamp: u64, entries: Vec<Entry>) -> Result<(), Fail> {
         self.events = self.events.wrapping_add(1);
         for entry in entries {
-            self.kept.push(Stamped { stamp, entry })?;
+            keep(&mut self.kept, stamp, entry)?;
         }
         Ok(())
     }
@@ -197,12 +199,12 @@ fn journals(alloc: Global, config: &Config) -> Result<(Journal, Journal), Fail> 
 }
 
 // How many events there were, and how many entries their ledger has; and the first entry that is not legal.
-fn counted(alloc: Global, config: &Config) -> Result<(usize, usize, Option<u64>), Fail> {
+fn counted(alloc: Global, config: &Config) -> Result<(usize, u64, Option<u64>), Fail> {
     let (rank, server) = journals(alloc, config)?;
     let events = rank.events.wrapping_add(server.events);
     let ledger = merge(alloc, vec![in alloc; rank.kept, server.kept]?)?;
     let illegal = first_illegal(alloc, &ledger, config)?;
-    Ok((events, ledger.entries().len(), illegal))
+    Ok((events, ledger.len(), illegal))
 }
 
 #[test]

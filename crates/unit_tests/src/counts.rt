@@ -182,7 +182,7 @@ fn is_text(alloc: Global, (each, more, left, expected): &Row) -> Result<bool, Fa
 
 fn is_counted(alloc: Global, ledger: &Ledger, left: u64, expected: &str) -> Result<bool, Fail> {
     let mut text = b"answer 0\n".to_vec(alloc)?;
-    append_stats(&mut text, ledger, left)?;
+    append_stats(alloc, &mut text, ledger, left)?;
     Ok(text.as_slice() == expected.as_bytes())
 }
 

@@ -73,8 +73,8 @@ fn is_put(entry: &Entry) -> bool {
 #[test]
 fn entries_are_what_was_pushed(rt: HostRuntime) -> Result<(), Fail> {
     let mut ledger = Ledger::new(rt.alloc());
-    assert!(rt; ledger.entries().is_empty());
+    assert!(rt; ledger.list(rt.alloc())?.is_empty());
     push_all(rt.alloc(), &mut ledger)?;
-    assert!(rt; are_those(ledger.entries()));
+    assert!(rt; are_those(&ledger.list(rt.alloc())?));
     Ok(())
 }

@@ -61,7 +61,7 @@ fn is_written(alloc: Global, config: &Config, ledger: &Ledger, text: &[u8]) -> R
 
 fn is_read_back(alloc: Global, config: &Config, ledger: &Ledger) -> Result<bool, Fail> {
     let (same, entries) = read_back(alloc, config, ledger)?;
-    Ok(same == *config && entries.entries().len() == 4)
+    Ok(same == *config && entries.len() == 4)
 }
 
 fn is_kept(alloc: Global, config: &Config, ledger: &Ledger) -> Result<bool, Fail> {
@@ -163,7 +163,7 @@ fn is_counted(entry: &Entry) -> bool {
 fn all_are_read(alloc: Global) -> Result<bool, Fail> {
     let expected = Config::new(32, 8, 1073741824)?;
     let (config, ledger) = read_ledger(alloc, EACH_ENTRY)?;
-    Ok(config == expected && are_each_entry(ledger.entries()))
+    Ok(config == expected && are_each_entry(&ledger.list(alloc)?))
 }
 
 #[test]
@@ -231,9 +231,9 @@ fn bad_texts_are_refused_at_their_line(rt: HostRuntime) {
 }
 
 // The limit and the number of the entries that the text has.
-fn counted(alloc: Global, text: &[u8]) -> Result<(u64, usize), LedgerFault> {
+fn counted(alloc: Global, text: &[u8]) -> Result<(u64, u64), LedgerFault> {
     let (config, ledger) = read_ledger(alloc, text)?;
-    Ok((config.limit, ledger.entries().len()))
+    Ok((config.limit, ledger.len()))
 }
 
 #[test]

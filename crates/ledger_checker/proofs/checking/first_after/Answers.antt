@@ -1,17 +1,44 @@
-use Rattle.std.proofs.Common.{◌≡◌, ◌∙◌, ◌+◌, ◌<◌, ◌∷◌, Some, drop, drop-cons, length, add-one, arith, sym, ap, suc}
-use Rattle.bag_ledger.specs.declared.entries.Entry.{Entry}
+use Rattle.std.proofs.Common.{◌≡◌, ◌∙◌, ◌+◌, ◌∷◌, [], Some, length, arith, sym, ap}
+use Rattle.std.proofs.lemmas.List.{nil_from_length}
 use Rattle.bag_ledger.specs.Step.{step}
 use Rattle.bag_ledger.specs.Runs.{first_illegal}
 use Rattle.ledger_checker.proofs.Places.{found_behind, room_behind}
 use Rattle.ledger_checker.proofs.checking.first_after.Goals as goal
 
+pub loop-place-init : goal.loop-place-init
+loop-place-init c =
+    let same = c.entries-entries.ensures in
+    record {
+      read = let long = ap length same in omega (arith, long);
+      same = ap (first_illegal c.args.machine.now 0) same;
+      room = c.requires;
+    }
+
+pub unreachable-requires : goal.unreachable-requires
+unreachable-requires c =
+    let none = rw c.in_default.is at c.in_ok-entry.ensures.next in
+    let long = ap length none.0 in
+    let read = c.loop-place.invariant.read in
+    let len = c.len-end.ensures in
+    let within = c.loop-place-test.true in omega (arith, long, read, len, within)
+
 pub loop-place-preserved : goal.loop-place-preserved
 loop-place-preserved c =
-    let is : step c.loop-place.machine c.index-entries-place.result ≡ Some c.apply.new.self = rw c.if-not-branch.false at c.in_ok-apply.ensures in
-    let within : c.loop-place.place < length c.args.entries.now = omega arith in
-    let rest : drop c.loop-place.place c.args.entries.now ≡ c.index-entries-place.result ∷ drop (c.loop-place.place + 1) c.args.entries.now =
-    rw add-one (drop-cons c.args.entries.now c.loop-place.place c.index-entries-place.result within ∙ ap (λ (e : Entry). e ∷ drop (suc c.loop-place.place) c.args.entries.now) (sym c.index-entries-place.is)) in
+    let next : c.loop-place.entries ≡ c.in-Some.entry ∷ c.next.new.self = rw c.in-Some.is at c.in_ok-entry.ensures.next in
+    let long = ap length next in
+    let read = c.loop-place.invariant.read in
+    let is : step c.loop-place.machine c.in-Some.entry ≡ Some c.apply.new.self = rw c.if-not-branch.false at c.in_ok-apply.ensures in
     record {
-      same = found_behind c.loop-place.machine c.apply.new.self c.index-entries-place.result c.loop-place.place (drop (c.loop-place.place + 1) c.args.entries.now) is ∙ ap (first_illegal c.loop-place.machine c.loop-place.place) (sym rest) ∙ c.loop-place.invariant.same;
-      room = room_behind c.loop-place.machine c.apply.new.self c.index-entries-place.result c.loop-place.place is c.loop-place.invariant.room;
+      read = omega (arith, long, read);
+      same = found_behind c.loop-place.machine c.apply.new.self c.in-Some.entry c.loop-place.place c.next.new.self is
+          ∙ ap (first_illegal c.loop-place.machine c.loop-place.place) (sym next) ∙ c.loop-place.invariant.same;
+      room = room_behind c.loop-place.machine c.apply.new.self c.in-Some.entry c.loop-place.place is c.loop-place.invariant.room;
     }
+
+pub returns : goal.returns
+returns c =
+    let read = c.loop-place.invariant.read in
+    let len = c.len-end.ensures in
+    let over = c.loop-place-test.false in
+    let none : c.loop-place.entries ≡ [] = nil_from_length c.loop-place.entries (omega (arith, read, len, over)) in
+    sym (ap (first_illegal c.loop-place.machine c.loop-place.place) none) ∙ c.loop-place.invariant.same

@@ -1,4 +1,4 @@
-use Rattle.std.proofs.Common.{◌≡◌, drop}
+use Rattle.std.proofs.Common.{◌≡◌, ◌+◌, length}
 use Rattle.bag_ledger.specs.Runs.{first_illegal}
 use Rattle.ledger_checker.specs.Room.{HasRoom}
 use Rattle.ledger_checker.proofs.checking.first_after.Given as goal
@@ -6,6 +6,7 @@ use Rattle.ledger_checker.proofs.checking.first_after.Given as goal
 -- what is found from here on is what is found from the start, and each counter is at most the place
 abbrev pub invariant-loop-place : goal.invariant-loop-place
 invariant-loop-place l = record {
-  same : first_illegal l.machine l.place (drop l.place l.entries) ≡ first_illegal l.fn.machine 0 l.entries;
+  read : l.place + length l.entries ≡ length l.fn.ledger;
+  same : first_illegal l.machine l.place l.entries ≡ first_illegal l.fn.machine 0 l.fn.ledger;
   room : HasRoom l.place l.machine;
 }

@@ -3,8 +3,8 @@ use Rattle.ledger_checker.proofs.checking.first_illegal.Goals as goal
 
 pub returns-clause-legal : goal.returns-clause-legal
 returns-clause-legal c =
-    legal_found c.args.config.now c.in_ok-machine.machine c.entries-entries.result.now c.args.ledger.now c.first_after.result c.in_ok-machine.ensures c.entries-entries.ensures c.first_after.ensures
+    legal_found c.args.config.now c.in_ok-machine.machine c.args.ledger.now c.first_after.result c.in_ok-machine.ensures c.first_after.ensures
 
 pub returns-clause-least : goal.returns-clause-least
 returns-clause-least c =
-    least_found c.args.config.now c.in_ok-machine.machine c.entries-entries.result.now c.args.ledger.now c.first_after.result c.in_ok-machine.ensures c.entries-entries.ensures c.first_after.ensures
+    least_found c.args.config.now c.in_ok-machine.machine c.args.ledger.now c.first_after.result c.in_ok-machine.ensures c.first_after.ensures
