@@ -1,5 +1,5 @@
 -- Solutions that are told where they stand, and those of one puzzle among them.
-use Rattle.std.proofs.Common.{◌≡◌, ℕ, ◌+◌, ◌-◌, ◌<◌, ◌≤◌, ◌==◌, Bool, true, false, cond, not, ◌&&◌, Bor, List, [], ◌∷◌, ◌++◌, map, refl}
+use Rattle.std.proofs.Common.{◌≡◌, ℕ, ◌+◌, ◌-◌, ◌<◌, ◌≤◌, ◌==◌, Bool, true, false, not, ◌&&◌, Bor, List, [], ◌∷◌, ◌++◌, map, refl}
 use Rattle.std.proofs.Common.{length, drop, take, get_or, sym, ap, ◌∙◌, append_assoc, append-nil, filter, arith, Ok, OnOk, Result, subst, leb, leb-true, ltb, ltb-true}
 use Rattle.std.specs.List.{All, AllWithin, flat_map}
 use Rattle.std.specs.List.Sorted.{IsPartitionPoint, IsStableByKey, ties}

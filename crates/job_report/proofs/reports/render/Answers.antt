@@ -1,4 +1,4 @@
-use Rattle.std.proofs.Common.{arith, subst, ap, Vec, Global, ℕ}
+use Rattle.std.proofs.Common.{◌∙◌, arith, length, subst, ap, Vec, Global, ℕ}
 use Rattle.job_report.specs.Report.{IsReport}
 use Rattle.job_report.specs.Whole.{AreWhole}
 use Rattle.job_report.proofs.Parts.{adds_puzzle, batch_more, before_at, puzzle_more, report_is}
@@ -21,7 +21,7 @@ loop-job-preserved c = elim c.match-job.branch [
     parts = before_at _ _ _ _ _ _ _ _ _ w.puzzle-is w.batch-is (ap (λ (t : Vec ℕ Global). t.items) w.text-is)
         (batch_more c.loop-job.job-index c.loop-job.puzzle c.loop-job.batch c.as_slice-jobs.result.now c.job-item.result
         w.in-Batch.common w.in-Batch.items w.len.result w.as_slice.result.now c.in_ok-answers.answers c.args.outcomes.now
-        c.loop-job.text.items w.append_batch.new.text.items c.loop-job-test.true c.job-item.is w.in-Batch.is w.len.ensures
+        c.loop-job.text.items w.append_batch.new.text.items c.loop-job-test.true c.job-item.is w.in-Batch.is (w.len.ensures ∙ ap length w.payload.ensures)
         w.as_slice.ensures.items c.in_ok-answers.ensures w.in_ok-append_batch-in-Batch.ensures c.loop-job.invariant.parts);
   }
 ]
