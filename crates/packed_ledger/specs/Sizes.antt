@@ -6,7 +6,7 @@ use Rattle.packed_ledger.specs.declared.stamped.Stamped.{Stamped}
 
 -- the most bytes that an entry takes with its stamp, besides the bytes that it tells
 abbrev pub entry_size : ℕ
-entry_size = 128
+entry_size = 160
 
 abbrev pub size_of : Entry → ℕ
 size_of (enters.Putting rank call kind prio target answer body) = entry_size + length body

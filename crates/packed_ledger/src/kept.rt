@@ -1,32 +1,35 @@
 //! The entries of an actor's events.
 
-ghost use Rattle.std.specs.Prelude.{◌≡◌, ◌≤◌, ◌+◌, ◌++◌, ◌∷◌, [], IfOk, OnOk, OnErr, MatchOption, IfSome};
+ghost use Rattle.std.specs.Prelude.{◌≡◌, ◌≤◌, ◌+◌, ◌++◌, ◌∷◌, [], IfOk, OnOk, OnErr, MatchOption};
 ghost use Rattle.packed_ledger.specs.Sizes.{KeptModel, first_stamp, room_for, size_of, stamped};
 
+use crate::codes::{push_stamped, read_stamp, read_stamped};
+use crate::rooms::room_of;
 use crate::stamped::Stamped;
 use adlb_unit::{NoMemory, or_no_memory};
 use bag_ledger::Entry;
+use ghost_list::Trace;
 use std::alloc::Global;
-use std::collections::VecDeque;
 use std::marker::Model;
-
-/// The most bytes that an entry takes with its stamp, besides the bytes that it tells.
-pub const ENTRY_SIZE: usize = 128;
 
 /// Entries with the stamps of their events, in order. They are seen as `KeptModel`, with the bytes that there is room for.
 #[derive(Drop)]
 pub struct Kept {
-    held: Vec<Stamped>,
+    bytes: Vec<u8>,
+    of: Trace<Stamped>,
 }
 
 impl Model for Kept {
-    ghost use Rattle.std.specs.Prelude.{◌-◌, ◌*◌};
+    ghost use Rattle.std.specs.Prelude.{◌-◌};
     ghost use Rattle.std.specs.Vec.{vec_capacity, vec_len};
-    ghost use Rattle.packed_ledger.specs.Sizes.{KeptModel, entry_size};
+    ghost use Rattle.packed_ledger.specs.Sizes.{KeptModel};
+    ghost use Rattle.packed_ledger.specs.Inside.Codes.{Holds, IsKeptStamped, stamped_before};
 
     ghost Value = { KeptModel };
 
-    ghost view = { λ k. record { entries = k.held.items; room = entry_size * (vec_capacity k.held - vec_len k.held) } };
+    ghost view = { λ k. record { entries = k.of.items; room = vec_capacity k.bytes - vec_len k.bytes } };
+
+    ghost invariant = { λ k. Holds stamped_before IsKeptStamped k.bytes.items k.of.items };
 }
 
 impl Kept {
@@ -35,7 +38,8 @@ impl Kept {
         ensures { result.entries ≡ [] }
     {
         Kept {
-            held: Vec::new(alloc),
+            bytes: Vec::new(alloc),
+            of: Trace::new(),
         }
     }
 
@@ -45,7 +49,7 @@ impl Kept {
         ensures room { OnOk result (bytes ≤ self.new.room) }
         ensures refused { OnErr result (self.new ≡ self.old) }
     {
-        or_no_memory(self.held.reserve(bytes / ENTRY_SIZE + 1))
+        or_no_memory(self.bytes.reserve(bytes))
     }
 
     /// Makes room for these entries. Its only error is `NoMemory`; then nothing has changed.
@@ -66,7 +70,9 @@ impl Kept {
         ensures entries { self.new.entries ≡ self.old.entries ++ stamped stamp entry ∷ [] }
         ensures room { self.old.room ≤ self.new.room + size_of entry }
     {
-        self.held.push_reserved(Stamped { stamp, entry });
+        let last = Stamped { stamp, entry };
+        push_stamped(&mut self.bytes, &last);
+        self.of = self.of.and(&last);
     }
 
     /// The entries from the first on, to be taken one after the other.
@@ -74,46 +80,33 @@ impl Kept {
         ensures { result ≡ self.entries }
     {
         Unread {
-            held: VecDeque::from(self.held),
+            bytes: self.bytes,
+            at: 0,
+            done: 0,
+            of: self.of,
         }
-    }
-}
-
-// The room for these entries, if it is a number of bytes at all.
-fn room_of(entries: &[Entry]) -> Option<usize>
-    ensures { IfSome result (λ bytes. bytes ≡ room_for entries.now) }
-{
-    let mut bytes: usize = 0;
-    for entry in entries {
-        bytes = bytes.checked_add(size_of(entry)?)?;
-    }
-    Some(bytes)
-}
-
-// The room for one entry, if it is a number of bytes at all.
-fn size_of(entry: &Entry) -> Option<usize>
-    ensures { IfSome result (λ bytes. bytes ≡ size_of entry.now) }
-{
-    match entry {
-        Entry::Putting { body, .. } => ENTRY_SIZE.checked_add(body.len()),
-        Entry::Keeping { common, .. } => ENTRY_SIZE.checked_add(common.len()),
-        _ => Some(ENTRY_SIZE),
     }
 }
 
 /// Kept entries that are still to be taken, with the stamps of their events. They are seen as their list.
 #[derive(Drop)]
 pub struct Unread {
-    held: VecDeque<Stamped>,
+    bytes: Vec<u8>,
+    at: usize,
+    done: u64,
+    of: Trace<Stamped>,
 }
 
 impl Model for Unread {
-    ghost use Rattle.std.specs.Prelude.{List};
+    ghost use Rattle.std.specs.Prelude.{List, ◌≤◌, drop, length};
     ghost use Rattle.packed_ledger.specs.declared.stamped.Stamped.{Stamped};
+    ghost use Rattle.packed_ledger.specs.Inside.Codes.{Holds, IsKeptStamped, stamped_before};
 
     ghost Value = { List Stamped };
 
-    ghost view = { λ u. u.held.items };
+    ghost view = { λ u. drop u.done u.of.items };
+
+    ghost invariant = { λ u. Holds stamped_before IsKeptStamped (drop u.at u.bytes.items) (drop u.done u.of.items) × (u.at ≤ length u.bytes.items) × (u.done ≤ u.at) };
 }
 
 impl Unread {
@@ -121,10 +114,11 @@ impl Unread {
     pub fn first_stamp(&self) -> Option<u64>
         ensures { result ≡ first_stamp self.now }
     {
-        match self.held.front() {
-            Some(first) => Some(first.stamp),
-            None => None,
+        if self.at == self.bytes.len() {
+            return None;
         }
+        let rest = self.bytes.as_slice().split_at(self.at).1;
+        Some(read_stamp(rest))
     }
 
     /// Takes the next entry off, if one is left. Its only error is `NoMemory`; then it is still to be taken.
@@ -132,7 +126,13 @@ impl Unread {
         ensures first { IfOk result (λ first. MatchOption first ((self.old ≡ []) × (self.new ≡ [])) (λ x. self.old ≡ x ∷ self.new)) }
         ensures same { OnErr result (self.new ≡ self.old) }
     {
-        let _ = alloc;
-        Ok(self.held.pop_front())
+        if self.at == self.bytes.len() {
+            return Ok(None);
+        }
+        let rest = self.bytes.as_slice().split_at(self.at).1;
+        let (first, size) = read_stamped(alloc, rest)?;
+        self.at += size;
+        self.done += 1;
+        Ok(Some(first))
     }
 }

@@ -2,25 +2,32 @@
 
 ghost use Rattle.std.specs.Prelude.{◌≡◌, ◌++◌, ◌∷◌, [], length, IfOk, OnOk, OnErr, MatchOption};
 
-use crate::twins::twin_of;
+use crate::codes::{push_entry, read_entry};
+use crate::rooms::size_of;
 use adlb_unit::{NoMemory, or_no_memory};
 use bag_ledger::Entry;
+use ghost_list::Trace;
 use std::alloc::Global;
 use std::marker::Model;
 
 /// The entries of a run, in order. It is seen as their list.
 #[derive(Drop)]
 pub struct Ledger {
-    held: Vec<Entry>,
+    bytes: Vec<u8>,
+    count: u64,
+    of: Trace<Entry>,
 }
 
 impl Model for Ledger {
-    ghost use Rattle.std.specs.Prelude.{List};
+    ghost use Rattle.std.specs.Prelude.{◌≡◌, List, length};
     ghost use Rattle.bag_ledger.specs.declared.entries.Entry.{Entry};
+    ghost use Rattle.packed_ledger.specs.Inside.Codes.{Holds, IsKept, entry_before};
 
     ghost Value = { List Entry };
 
-    ghost view = { λ l. l.held.items };
+    ghost view = { λ l. l.of.items };
+
+    ghost invariant = { λ l. Holds entry_before IsKept l.bytes.items l.of.items × (l.count ≡ length l.of.items) };
 }
 
 impl Ledger {
@@ -29,7 +36,9 @@ impl Ledger {
         ensures { result ≡ [] }
     {
         Ledger {
-            held: Vec::new(alloc),
+            bytes: Vec::new(alloc),
+            count: 0,
+            of: Trace::new(),
         }
     }
 
@@ -38,14 +47,21 @@ impl Ledger {
         ensures pushed { OnOk result (self.new ≡ self.old ++ entry ∷ []) }
         ensures kept { OnErr result (self.new ≡ self.old) }
     {
-        or_no_memory(self.held.push(entry))
+        let Some(size) = size_of(&entry) else {
+            return Err(NoMemory);
+        };
+        or_no_memory(self.bytes.reserve(size))?;
+        push_entry(&mut self.bytes, &entry);
+        self.of = self.of.and(&entry);
+        self.count += 1;
+        Ok(())
     }
 
     /// How many entries there are.
     pub fn len(&self) -> u64
         ensures { result ≡ length self.now }
     {
-        self.held.len() as u64
+        self.count
     }
 
     /// The entries from the first on, to be read one after the other.
@@ -53,7 +69,9 @@ impl Ledger {
         ensures { result ≡ self.now }
     {
         Entries {
-            rest: self.held.as_slice(),
+            rest: self.bytes.as_slice(),
+            done: 0,
+            of: &self.of,
         }
     }
 
@@ -73,16 +91,21 @@ impl Ledger {
 /// The entries of a ledger that are still to be read. They are seen as their list.
 #[derive(Drop)]
 pub struct Entries<'a> {
-    rest: &'a [Entry],
+    rest: &'a [u8],
+    done: u64,
+    of: &'a Trace<Entry>,
 }
 
 impl<'a> Model for Entries<'a> {
-    ghost use Rattle.std.specs.Prelude.{List};
+    ghost use Rattle.std.specs.Prelude.{List, ◌≤◌, ◌<◌, ◌^◌, drop, length};
     ghost use Rattle.bag_ledger.specs.declared.entries.Entry.{Entry};
+    ghost use Rattle.packed_ledger.specs.Inside.Codes.{Holds, IsKept, entry_before};
 
     ghost Value = { List Entry };
 
-    ghost view = { λ e. e.rest.now };
+    ghost view = { λ e. drop e.done e.of.now.items };
+
+    ghost invariant = { λ e. Holds entry_before IsKept e.rest.now (drop e.done e.of.now.items) × (e.done ≤ length e.of.now.items) × (length e.of.now.items < 2 ^ 64) };
 }
 
 impl<'a> Entries<'a> {
@@ -91,13 +114,12 @@ impl<'a> Entries<'a> {
         ensures next { IfOk result (λ next. MatchOption next ((self.old ≡ []) × (self.new ≡ [])) (λ entry. self.old ≡ entry ∷ self.new)) }
         ensures same { OnErr result (self.new ≡ self.old) }
     {
-        match self.rest.split_first() {
-            None => Ok(None),
-            Some((first, rest)) => {
-                let entry = twin_of(alloc, first)?;
-                self.rest = rest;
-                Ok(Some(entry))
-            }
+        if self.rest.is_empty() {
+            return Ok(None);
         }
+        let (entry, rest) = read_entry(alloc, self.rest)?;
+        self.rest = rest;
+        self.done += 1;
+        Ok(Some(entry))
     }
 }

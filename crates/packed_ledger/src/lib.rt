@@ -2,10 +2,16 @@
 //! `bag_ledger`, and read one after the other.
 #![tactic(auto)]
 
+mod codes;
 mod kept;
 mod ledgers;
+mod making;
+mod numbers;
+mod rooms;
+mod rows;
+mod signs;
 mod stamped;
-mod twins;
+mod telling;
 
 pub use kept::{ENTRY_SIZE, Kept, Unread};
 pub use ledgers::{Entries, Ledger};

@@ -1,0 +1,6 @@
+mod Groups
+mod RowBytes
+mod Signed
+mod ReadBack
+mod EntryBytes
+mod KindBytes
