@@ -13,6 +13,7 @@ mod signs;
 mod stamped;
 mod telling;
 
-pub use kept::{ENTRY_SIZE, Kept, Unread};
+pub use kept::{Kept, Unread};
 pub use ledgers::{Entries, Ledger};
+pub use rooms::ENTRY_SIZE;
 pub use stamped::Stamped;
