@@ -14,7 +14,7 @@ use std::alloc::Global;
 /// The most bytes of an input.
 const INPUT_LIMIT: usize = 0x100_0000;
 
-/// The jobs of an input, twice: for the program, and for its report.
+/// The jobs of an input, twice: for the program, and for its report. The two share one list.
 #[derive(Drop)]
 pub struct Asked {
     pub jobs: Jobs,

@@ -35,7 +35,8 @@ pub fn render(alloc: Global, jobs: &Jobs, outcomes: &[Outcome]) -> Result<Vec<u8
                 puzzle += 1;
             }
             Job::Batch { common, items } => {
-                append_batch(&mut text, batch, common.payload().len(), items.as_slice(), &answers)?;
+                let bytes = common.payload().len();
+                append_batch(&mut text, batch, bytes, items.as_slice(), &answers)?;
                 batch += 1;
             }
         }
