@@ -1,6 +1,6 @@
 //! What a run's ledger counts: units accepted, refused, rejected, granted and pushed, and how many were left.
 //!
-//! It stands on the ledger of `bag_ledger`. `specs/Stats.antt` has which entries are counted (`counts`) and the
+//! It stands on the ledger of `packed_ledger`. `specs/Stats.antt` has which entries are counted (`counts`) and the
 //! seven lines that are written of a ledger (`stats_text`).
 #![tactic(auto)]
 

@@ -1,4 +1,4 @@
-use Rattle.std.proofs.Common.{◌≡◌, ◌<◌, ◌+◌, ◌∙◌, ◌∷◌, [], length, count_by, sym, ap, arith}
+use Rattle.std.proofs.Common.{◌≡◌, [], length, count_by, ap, arith}
 use Rattle.std.proofs.lemmas.List.{nil_from_length}
 use Rattle.ledger_stats.specs.Inside.{told}
 use Rattle.ledger_stats.specs.Stats.{counts}
