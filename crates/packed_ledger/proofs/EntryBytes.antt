@@ -1,8 +1,8 @@
 -- Entries as bytes, one behind the other.
-use Rattle.std.proofs.Common.{ℕ, zero, suc, ◌≡◌, ◌+◌, ◌-◌, ◌*◌, ◌^◌, ◌≤◌, ◌<◌, ℤ, Option, List, [], ◌∷◌, ◌++◌, length, take, drop, append_assoc, length-append, length-drop, refl, sym, ap, ◌∙◌, subst, arith}
+use Rattle.std.proofs.Common.{ℕ, zero, suc, ◌≡◌, ◌+◌, ◌*◌, ◌≤◌, ◌<◌, ℤ, Option, List, [], ◌∷◌, ◌++◌, length, drop, append_assoc, length-append, length-drop, refl, sym, ap, ◌∙◌, subst, arith}
 use Rattle.std.proofs.lemmas.List.{append-nil, drop-drop}
 use Rattle.std.proofs.Math.Seq.{drop-append_seam}
-use Rattle.std.specs.List.{All, flat_map}
+use Rattle.std.specs.List.{flat_map}
 use Rattle.std.proofs.lemmas.List.Elements.{All-push, All-nil, All-head, All-tail}
 use Rattle.adlb_unit.specs.declared.names.Rank.{Rank}
 use Rattle.adlb_unit.specs.declared.names.Target.{Target}
@@ -130,12 +130,16 @@ module _ {X : Type 0} (before : X → List ℕ → List ℕ) (Fits : X → Type 
   pub front : (bytes : List ℕ) (xs : List X) → Holds before Fits bytes xs → (length bytes ≡ 0 → ⊥) → (x : X) × (behind : List X) × Front bytes xs x behind
   unfolding codes
   front bytes [] holds some = absurd (some (ap length holds.coded))
-  front bytes (x ∷ behind) holds some = (x, behind, record {
-    list = refl;
-    fits = All-head Fits x behind holds.kept;
-    coded = holds.coded;
-    holds = record { coded = refl; kept = All-tail Fits x behind holds.kept };
-  })
+  front bytes (x ∷ behind) holds some = (
+    x,
+    behind,
+    record {
+      list = refl;
+      fits = All-head Fits x behind holds.kept;
+      coded = holds.coded;
+      holds = record { coded = refl; kept = All-tail Fits x behind holds.kept };
+    },
+  )
 
   -- nothing is left of no bytes
   pub nothing : (bytes : List ℕ) (xs : List X) → Holds before Fits bytes xs → length bytes ≡ 0 → xs ≡ []
@@ -143,6 +147,13 @@ module _ {X : Type 0} (before : X → List ℕ → List ℕ) (Fits : X → Type 
   nothing bytes [] holds none = refl
   nothing bytes (x ∷ behind) holds none = let some = long x (codes before behind) in absurd (omega (arith, ap length holds.coded))
 
+  no_bytes : (xs : List X) → xs ≡ [] → codes before xs ≡ []
+  unfolding codes
+  no_bytes [] none = refl
+  no_bytes (x ∷ behind) none = absurd (cc)
+
+  pub nothing_back : (bytes : List ℕ) (xs : List X) → Holds before Fits bytes xs → xs ≡ [] → length bytes ≡ 0
+  nothing_back bytes xs holds none = ap length (holds.coded ∙ no_bytes xs none)
 
   -- the next of a list, of which the first ones were read
   pub next : (bytes after : List ℕ) (items : List X) (done : ℕ) (first : X) → Holds before Fits bytes (drop done items) → (length bytes ≡ 0 → ⊥)

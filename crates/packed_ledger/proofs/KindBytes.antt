@@ -1,5 +1,5 @@
 -- Lists of types as bytes.
-use Rattle.std.proofs.Common.{ℕ, suc, ◌≡◌, ◌+◌, ◌^◌, ◌≤◌, ◌<◌, min, Option, Some, inl, inr, List, [], ◌∷◌, ◌++◌, length, get_or, set, take, drop, append_assoc, add-one, drop-cons, refl, sym, ap, ◌∙◌, subst, arith}
+use Rattle.std.proofs.Common.{ℕ, ◌≡◌, ◌+◌, ◌^◌, ◌<◌, min, Option, Some, inl, inr, List, [], ◌∷◌, ◌++◌, length, get_or, set, take, drop, append_assoc, add-one, drop-cons, sym, ap, ◌∙◌, arith}
 use Rattle.std.proofs.lemmas.List.{append-nil, take_all, take_more, take_more_set}
 use Rattle.std.proofs.lemmas.Bool.{cases_lt}
 use Rattle.std.proofs.lemmas.List.Concat.{flat_map-append}
@@ -49,7 +49,7 @@ kind_read i held kinds rest left behind value room within fits before reads =
     let read : WorkType = record { 0 = value } in
     let value_is : read ≡ kind = λ j. record { 0 = back.0 j } in (
       take_more_set held i (record { 0 = value }) room
-      ∙ (λ j. before.0 j ++ value_is j ∷ [])
-      ∙ sym (take_more kinds i no_kind within),
+          ∙ (λ j. before.0 j ++ value_is j ∷ [])
+          ∙ sym (take_more kinds i no_kind within),
       back.1,
     )

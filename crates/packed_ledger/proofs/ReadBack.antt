@@ -1,16 +1,14 @@
 -- Each entry comes back from its row and what it tells besides.
-use Rattle.std.proofs.Common.{ℕ, ◌≡◌, ◌+◌, ◌≤◌, ◌<◌, Bool, true, false, eqb, ◌⊎◌, inl, inr, List, [], take, length, Option, None, Some, ℤ, refl, sym, ap, ◌∙◌, subst, arith}
+use Rattle.std.proofs.Common.{ℕ, ◌≡◌, ◌≤◌, ◌<◌, false, eqb, ◌⊎◌, inl, inr, List, [], take, length, Option, None, Some, ℤ, refl, ap, arith}
 use Rattle.std.proofs.lemmas.Bool.{eqb-false}
 use Rattle.adlb_unit.specs.declared.names.Rank.{Rank}
 use Rattle.adlb_unit.specs.declared.names.Server.{Server}
 use Rattle.adlb_unit.specs.declared.names.Target.{Target}
 use Rattle.adlb_unit.specs.declared.names.Target.TheVariants as targets
 use Rattle.adlb_unit.specs.declared.names.WorkType.{WorkType}
-use Rattle.adlb_unit.specs.declared.notes.End.{End}
 use Rattle.adlb_unit.specs.declared.notes.End.TheVariants as ends
 use Rattle.bag_ledger.specs.declared.entries.Entry.{Entry}
 use Rattle.bag_ledger.specs.declared.entries.Entry.TheVariants as enters
-use Rattle.packed_ledger.specs.declared.rows.Row.{Row}
 use Rattle.packed_ledger.specs.Inside.Told.{row_of, put_head, top_head}
 use Rattle.packed_ledger.specs.Inside.Made.{light_at, with_bytes, with_types}
 use Rattle.packed_ledger.specs.Inside.Codes.{body_of, kinds_of}

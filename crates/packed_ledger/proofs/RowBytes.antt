@@ -1,5 +1,5 @@
 -- Rows as bytes.
-use Rattle.std.proofs.Common.{ℕ, ◌≡◌, ◌+◌, ◌*◌, ◌/◌, ◌%◌, ◌≤◌, List, [], ◌∷◌, ◌++◌, append_assoc, refl, sym, ap, ◌∙◌, arith}
+use Rattle.std.proofs.Common.{ℕ, ◌≡◌, ◌+◌, ◌*◌, ◌/◌, ◌%◌, ◌≤◌, List, [], ◌∷◌, ◌++◌, append_assoc, ap, ◌∙◌, arith}
 use Rattle.std.proofs.lemmas.List.{append-nil}
 use Rattle.packed_ledger.specs.declared.rows.Row.{Row}
 use Rattle.packed_ledger.specs.Inside.Numbers.{part, mark}
@@ -15,18 +15,25 @@ module _ (a b c d e f g h : ℕ) (as_bits : AreBits a b c d e f g h) where
 
   bit_1 : all % 2 ≡ a
   bit_1 = omega arith
+
   bit_2 : all / 2 % 2 ≡ b
   bit_2 = omega arith
+
   bit_3 : all / 4 % 2 ≡ c
   bit_3 = omega arith
+
   bit_4 : all / 8 % 2 ≡ d
   bit_4 = omega arith
+
   bit_5 : all / 16 % 2 ≡ e
   bit_5 = omega arith
+
   bit_6 : all / 32 % 2 ≡ f
   bit_6 = omega arith
+
   bit_7 : all / 64 % 2 ≡ g
   bit_7 = omega arith
+
   bit_8 : all / 128 % 2 ≡ h
   bit_8 = omega arith
 

@@ -3,3 +3,4 @@ pub mod Rows
 pub mod Told
 pub mod Made
 pub mod Codes
+pub mod Chunks

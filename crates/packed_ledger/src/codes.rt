@@ -180,5 +180,8 @@ pub(crate) fn read_stamped(alloc: Global, bytes: &[u8]) -> Result<(Stamped, usiz
 {
     let (stamp, behind) = read_groups(bytes, LONG);
     let (entry, rest) = read_entry(alloc, behind)?;
-    Ok((Stamped { stamp, entry }, bytes.len().saturating_sub(rest.len())))
+    Ok((
+        Stamped { stamp, entry },
+        bytes.len().saturating_sub(rest.len()),
+    ))
 }

@@ -1,35 +1,42 @@
 //! The entries of an actor's events.
 
 ghost use Rattle.std.specs.Prelude.{◌≡◌, ◌≤◌, ◌+◌, ◌++◌, ◌∷◌, [], IfOk, OnOk, OnErr, MatchOption};
+ghost use Rattle.std.specs.List.{All};
 ghost use Rattle.packed_ledger.specs.Sizes.{KeptModel, first_stamp, room_for, size_of, stamped};
+ghost use Rattle.packed_ledger.specs.Inside.Chunks.{IsFilled, behind};
 
-use crate::codes::{push_stamped, read_stamp, read_stamped};
+use crate::chunks::{Chunk, Rest};
 use crate::rooms::room_of;
 use crate::stamped::Stamped;
 use adlb_unit::{NoMemory, or_no_memory};
 use bag_ledger::Entry;
-use ghost_list::Trace;
 use std::alloc::Global;
+use std::collections::VecDeque;
 use std::marker::Model;
+use std::mem;
+
+// Room is made for this many bytes at once, so that what was read is given back piece by piece.
+const CHUNK_SIZE: usize = 1 << 18;
 
 /// Entries with the stamps of their events, in order. They are seen as `KeptModel`, with the bytes that there is room for.
 #[derive(Drop)]
 pub struct Kept {
-    bytes: Vec<u8>,
-    of: Trace<Stamped>,
+    full: Vec<Chunk>,
+    last: Chunk,
+    alloc: Global,
 }
 
 impl Model for Kept {
-    ghost use Rattle.std.specs.Prelude.{◌-◌};
-    ghost use Rattle.std.specs.Vec.{vec_capacity, vec_len};
+    ghost use Rattle.std.specs.List.{All};
+    ghost use Rattle.std.specs.Prelude.{◌++◌};
     ghost use Rattle.packed_ledger.specs.Sizes.{KeptModel};
-    ghost use Rattle.packed_ledger.specs.Inside.Codes.{Holds, IsKeptStamped, stamped_before};
+    ghost use Rattle.packed_ledger.specs.Inside.Chunks.{IsFilled, entries_of};
 
     ghost Value = { KeptModel };
 
-    ghost view = { λ k. record { entries = k.of.items; room = vec_capacity k.bytes - vec_len k.bytes } };
+    ghost view = { λ k. record { entries = entries_of k.full.items ++ k.last.entries; room = k.last.room } };
 
-    ghost invariant = { λ k. Holds stamped_before IsKeptStamped k.bytes.items k.of.items };
+    ghost invariant = { λ k. All IsFilled k.full.items };
 }
 
 impl Kept {
@@ -38,8 +45,9 @@ impl Kept {
         ensures { result.entries ≡ [] }
     {
         Kept {
-            bytes: Vec::new(alloc),
-            of: Trace::new(),
+            full: Vec::new(alloc),
+            last: Chunk::new(alloc),
+            alloc,
         }
     }
 
@@ -49,7 +57,16 @@ impl Kept {
         ensures room { OnOk result (bytes ≤ self.new.room) }
         ensures refused { OnErr result (self.new ≡ self.old) }
     {
-        or_no_memory(self.bytes.reserve(bytes))
+        if bytes <= self.last.room() {
+            return Ok(());
+        }
+        if self.last.is_empty() {
+            return self.last.make_room(bytes.max(CHUNK_SIZE));
+        }
+        let next = Chunk::with_room(self.alloc, bytes.max(CHUNK_SIZE))?;
+        or_no_memory(self.full.reserve(1))?;
+        self.full.push_reserved(mem::replace(&mut self.last, next));
+        Ok(())
     }
 
     /// Makes room for these entries. Its only error is `NoMemory`; then nothing has changed.
@@ -70,43 +87,49 @@ impl Kept {
         ensures entries { self.new.entries ≡ self.old.entries ++ stamped stamp entry ∷ [] }
         ensures room { self.old.room ≤ self.new.room + size_of entry }
     {
-        let last = Stamped { stamp, entry };
-        push_stamped(&mut self.bytes, &last);
-        self.of = self.of.and(&last);
+        self.last.push_reserved(stamp, entry);
     }
 
     /// The entries from the first on, to be taken one after the other.
     pub fn into_unread(self) -> Unread
         ensures { result ≡ self.entries }
     {
-        Unread {
-            bytes: self.bytes,
-            at: 0,
-            done: 0,
-            of: self.of,
+        let mut full = VecDeque::from(self.full);
+        match full.pop_front() {
+            Some(first) => Unread {
+                current: first.into_rest(),
+                full,
+                last: Some(self.last),
+            },
+            None => Unread {
+                current: self.last.into_rest(),
+                full,
+                last: None,
+            },
         }
     }
 }
 
-/// Kept entries that are still to be taken, with the stamps of their events. They are seen as their list.
+/// Kept entries that are still to be taken, with the stamps of their events. They are seen as their list. Their memory is given back as
+/// they are taken.
 #[derive(Drop)]
 pub struct Unread {
-    bytes: Vec<u8>,
-    at: usize,
-    done: u64,
-    of: Trace<Stamped>,
+    current: Rest,
+    full: VecDeque<Chunk>,
+    last: Option<Chunk>,
 }
 
 impl Model for Unread {
-    ghost use Rattle.std.specs.Prelude.{List, ◌≤◌, drop, length};
+    ghost use Rattle.std.specs.Prelude.{List, ◌≡◌, ◌++◌, []};
+    ghost use Rattle.std.specs.List.{All};
     ghost use Rattle.packed_ledger.specs.declared.stamped.Stamped.{Stamped};
-    ghost use Rattle.packed_ledger.specs.Inside.Codes.{Holds, IsKeptStamped, stamped_before};
+    ghost use Rattle.packed_ledger.specs.Inside.Chunks.{IsFilled, behind};
 
     ghost Value = { List Stamped };
 
-    ghost view = { λ u. drop u.done u.of.items };
+    ghost view = { λ u. u.current ++ behind u.full.items u.last };
 
-    ghost invariant = { λ u. Holds stamped_before IsKeptStamped (drop u.at u.bytes.items) (drop u.done u.of.items) × (u.at ≤ length u.bytes.items) × (u.done ≤ u.at) };
+    ghost invariant = { λ u. All IsFilled u.full.items × (u.current ≡ [] → behind u.full.items u.last ≡ []) };
 }
 
 impl Unread {
@@ -114,11 +137,7 @@ impl Unread {
     pub fn first_stamp(&self) -> Option<u64>
         ensures { result ≡ first_stamp self.now }
     {
-        if self.at == self.bytes.len() {
-            return None;
-        }
-        let rest = self.bytes.as_slice().split_at(self.at).1;
-        Some(read_stamp(rest))
+        self.current.first_stamp()
     }
 
     /// Takes the next entry off, if one is left. Its only error is `NoMemory`; then it is still to be taken.
@@ -126,13 +145,30 @@ impl Unread {
         ensures first { IfOk result (λ first. MatchOption first ((self.old ≡ []) × (self.new ≡ [])) (λ x. self.old ≡ x ∷ self.new)) }
         ensures same { OnErr result (self.new ≡ self.old) }
     {
-        if self.at == self.bytes.len() {
+        let Some(first) = self.current.take_first(alloc)? else {
             return Ok(None);
+        };
+        if self.current.is_done() {
+            turn(&mut self.current, &mut self.full, &mut self.last);
         }
-        let rest = self.bytes.as_slice().split_at(self.at).1;
-        let (first, size) = read_stamped(alloc, rest)?;
-        self.at += size;
-        self.done += 1;
         Ok(Some(first))
+    }
+}
+
+// Goes on to the next chunk, if there is one. What was read of the last one is given back.
+fn turn(current: &mut Rest, full: &mut VecDeque<Chunk>, last: &mut Option<Chunk>)
+    requires done { current.old ≡ [] }
+    requires filled { All IsFilled full.old.items }
+    ensures same { current.new ++ behind full.new.items last.new ≡ behind full.old.items last.old }
+    ensures filled { All IsFilled full.new.items }
+    ensures nothing { current.new ≡ [] → behind full.new.items last.new ≡ [] }
+{
+    match full.pop_front() {
+        Some(next) => *current = next.into_rest(),
+        None => {
+            if let Some(next) = last.take() {
+                *current = next.into_rest();
+            }
+        }
     }
 }

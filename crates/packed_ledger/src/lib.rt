@@ -2,6 +2,7 @@
 //! `bag_ledger`, and read one after the other.
 #![tactic(auto)]
 
+mod chunks;
 mod codes;
 mod kept;
 mod ledgers;

@@ -44,7 +44,11 @@ pub(crate) fn read_groups(bytes: &[u8], most: usize) -> (u64, &[u8])
                 return (group as u64, behind);
             }
             let (high, rest) = read_groups(behind, most - 1);
-            (high.saturating_mul(128).saturating_add((group - 128) as u64), rest)
+            (
+                high.saturating_mul(128)
+                    .saturating_add((group - 128) as u64),
+                rest,
+            )
         }
     }
 }

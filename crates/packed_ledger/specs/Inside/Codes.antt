@@ -1,7 +1,6 @@
 -- Entries as bytes.
-use Rattle.std.specs.Prelude.{ℕ, ◌≡◌, ◌+◌, ◌*◌, ◌^◌, ◌<◌, ◌≤◌, List, [], ◌∷◌, ◌++◌, Option, None, Some, length, take, drop}
+use Rattle.std.specs.Prelude.{ℕ, ◌≡◌, ◌^◌, ◌<◌, List, [], ◌∷◌, ◌++◌, Option, None, Some, take}
 use Rattle.std.specs.List.{All, flat_map}
-use Rattle.std.specs.Vec.{vec_capacity, vec_len}
 use Rattle.adlb_unit.specs.declared.names.WorkType.{WorkType}
 use Rattle.bag_ledger.specs.declared.entries.Entry.{Entry}
 use Rattle.bag_ledger.specs.declared.entries.Entry.TheVariants as enters

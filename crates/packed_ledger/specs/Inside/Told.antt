@@ -1,5 +1,5 @@
 -- What an entry tells in numbers.
-use Rattle.std.specs.Prelude.{ℕ, ◌+◌, List, [], ◌∷◌, Option, None, Some, ℤ, length}
+use Rattle.std.specs.Prelude.{ℕ, ◌+◌, List, Option, None, Some, ℤ, length}
 use Rattle.adlb_unit.specs.declared.names.Rank.{Rank}
 use Rattle.adlb_unit.specs.declared.names.Target.{Target}
 use Rattle.adlb_unit.specs.declared.names.Target.TheVariants as targets

@@ -2,7 +2,6 @@ use Rattle.std.proofs.Common.{ℕ, List, [], ◌++◌, sym, ap, ◌∙◌, subst
 use Rattle.std.specs.List.{All, flat_map}
 use Rattle.std.proofs.lemmas.List.Elements.{All-nil}
 use Rattle.adlb_unit.specs.declared.names.WorkType.{WorkType}
-use Rattle.bag_ledger.specs.declared.entries.Entry.{Entry}
 use Rattle.packed_ledger.specs.declared.rows.Row.{Row}
 use Rattle.packed_ledger.specs.Inside.Rows.{RowFits, row_before}
 use Rattle.packed_ledger.specs.Inside.Codes.{body_of, kind_code, kind_fits, kinds_of}

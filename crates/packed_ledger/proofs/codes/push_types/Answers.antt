@@ -1,4 +1,4 @@
-use Rattle.std.proofs.Common.{ℕ, List, ◌++◌, ap, ◌∙◌, subst}
+use Rattle.std.proofs.Common.{List, ◌++◌, ap, ◌∙◌, subst}
 use Rattle.std.specs.List.{All, flat_map}
 use Rattle.adlb_unit.specs.declared.names.WorkType.{WorkType}
 use Rattle.packed_ledger.specs.Inside.Codes.{kind_code, kind_fits}

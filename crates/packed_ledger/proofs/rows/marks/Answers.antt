@@ -1,4 +1,4 @@
-use Rattle.std.proofs.Common.{rules, arith}
+use Rattle.std.proofs.Common.{arith}
 use Rattle.packed_ledger.specs.Inside.Rows.{marks}
 use Rattle.packed_ledger.proofs.rows.marks.Goals as goal
 

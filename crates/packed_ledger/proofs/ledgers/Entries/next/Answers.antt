@@ -1,4 +1,4 @@
-use Rattle.std.proofs.Common.{◌≡◌, ◌∷◌, ℕ, List, length, drop, sym, ap, ◌∙◌, arith}
+use Rattle.std.proofs.Common.{length, drop, sym, ◌∙◌, arith}
 use Rattle.std.proofs.lemmas.Bool.{eqb-true, eqb-false}
 use Rattle.packed_ledger.specs.Inside.Codes.{IsKept, entry_before}
 use Rattle.packed_ledger.proofs.EntryBytes.{entry_long, entry_with_more, next, nothing}

@@ -1,7 +1,7 @@
-use Rattle.std.proofs.Common.{◌≡◌, ◌∷◌, ℕ, List, length, length-drop, drop, sym, ap, ◌∙◌, subst, arith}
-use Rattle.packed_ledger.specs.Inside.Codes.{IsKeptStamped, codes, stamped_before}
+use Rattle.std.proofs.Common.{length, length-drop, drop, sym, ap, ◌∙◌, arith}
+use Rattle.packed_ledger.specs.Inside.Codes.{IsKeptStamped, stamped_before}
 use Rattle.packed_ledger.proofs.EntryBytes.{nothing, stamped_long, stamped_with_more, taken}
-use Rattle.packed_ledger.proofs.kept.Unread.take_first.Goals as goal
+use Rattle.packed_ledger.proofs.chunks.Rest.take_first.Goals as goal
 
 pub returns-then-self-len-clause-first : goal.returns-then-self-len-clause-first
 returns-then-self-len-clause-first c =
