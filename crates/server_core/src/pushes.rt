@@ -1,15 +1,17 @@
 //! The letters of pushes: a unit moves to another server where there is room. PushQuery asks for room; PushYes promises
 //! it, and PushNo ends the push. PushUnit brings the unit, or PushCancel takes the promise back; PushAck ends the push.
 
-ghost use Rattle.std.specs.Prelude.{◌≡◌, ◌<◌, ℕ, true, IsSome, IsTrue, OnErr, OnOk, Some};
-ghost use Rattle.put_path.specs.Pushes.{asks_room, has_sent, is_query, is_under_way};
+ghost use Rattle.std.specs.Prelude.{◌≡◌, ◌<◌, ℕ, true, IsTrue, OnErr, OnOk, Some};
+ghost use Rattle.put_path.specs.Pushes.{Asks, asks_room, has_sent, is_query, is_under_way};
 ghost use Rattle.server_core.specs.Out.{HasRoom, Out, going_on, made, planned};
 ghost use Rattle.server_law.specs.Acts.{Act, Ends_push, Stops_push};
 ghost use Rattle.server_law.specs.Carried.{done};
+ghost use Rattle.server_law.specs.Expected.{IsAwaitedFrom};
 ghost use Rattle.server_law.specs.Plan.{Plan};
 ghost use Rattle.server_law.specs.Presses.{presses};
 ghost use Rattle.server_law.specs.Pushes.{cancel_rule, query_rule, unit_rule, yes_rule};
 ghost use Rattle.server_law.specs.State.{Kept, ServerModel};
+ghost use Rattle.work_queue.specs.Queue.{HasPromise};
 
 use crate::outgoing::Outgoing;
 use crate::states::ServerState;
@@ -42,7 +44,7 @@ impl ServerState {
         out: &mut Outgoing,
     ) -> Result<(), NoMemory>
         requires server { from.0 < self.old.config.servers }
-        requires expected { IsSome (query_rule self.old from id length) }
+        requires awaited { IsAwaitedFrom self.old from (Message.PushQuery id length) }
         requires room { HasRoom self.old out.old 3 }
 
         ensures ok { OnOk result ((p : Plan) → query_rule self.old from id length ≡ Some p →
@@ -66,7 +68,7 @@ impl ServerState {
     // The other server has promised room: the unit goes there if it is still free, otherwise a cancel.
     pub(crate) fn hear_yes(&mut self, from: Server, id: UnitId, out: &mut Outgoing)
         requires server { from.0 < self.old.config.servers }
-        requires expected { IsSome (yes_rule self.old from id) }
+        requires awaited { Asks self.old.kept.pushing from id }
         requires room { HasRoom self.old out.old 3 }
 
         ensures made { (p : Plan) → yes_rule self.old from id ≡ Some p →
@@ -74,15 +76,15 @@ impl ServerState {
         ensures room { HasRoom self.new out.new 1 }
     {
         match self.pushes.push_yes(&mut self.queue) {
-            Push::Go(to, unit) => {
+            Push::Go(_, unit) => {
                 let left = Entry::Left {
                     server: self.me,
-                    to,
+                    to: from,
                     id: unit.id,
                 };
-                self.answer(Actor::Server(to), Message::PushUnit { unit }, left, out);
+                self.answer(Actor::Server(from), Message::PushUnit { unit }, left, out);
             }
-            Push::Cancel(to, id) => self.say(Actor::Server(to), Message::PushCancel { id }, out),
+            Push::Cancel(..) => self.say(Actor::Server(from), Message::PushCancel { id }, out),
         }
     }
 
@@ -98,7 +100,7 @@ impl ServerState {
     // The unit comes into the room that was promised to it and is settled, and then its coming is acknowledged.
     pub(crate) fn hear_unit(&mut self, from: Server, unit: Unit, out: &mut Outgoing)
         requires server { from.0 < self.old.config.servers }
-        requires expected { IsSome (unit_rule self.old from unit) }
+        requires awaited { IsAwaitedFrom self.old from (Message.PushUnit unit) }
         requires fresh { self.old.kept.queue.arrivals < self.old.clock }
         requires room { HasRoom self.old out.old 3 }
 
@@ -119,7 +121,7 @@ impl ServerState {
     // The other server takes the promise back, which is acknowledged.
     pub(crate) fn hear_cancel(&mut self, from: Server, id: UnitId, out: &mut Outgoing)
         requires server { from.0 < self.old.config.servers }
-        requires expected { IsSome (cancel_rule self.old from id) }
+        requires awaited { HasPromise id self.old.kept.queue.promises }
         requires room { HasRoom self.old out.old 3 }
 
         ensures made { (p : Plan) → cancel_rule self.old from id ≡ Some p →

@@ -1,7 +1,4 @@
-use Rattle.std.proofs.Common.{List, sym, ap, refl, ◌∙◌}
-use Rattle.server_law.specs.Acts.{Act}
-use Rattle.server_core.specs.Out.{going_on}
-use Rattle.server_core.proofs.Going.{goes_nowhere}
+use Rattle.server_core.proofs.Prelude.{◌∙◌, Act, List, ap, goes_nowhere, going_on, refl, sym}
 use Rattle.server_core.proofs.states.ServerState.hint_homes.Goals as goal
 
 pub returns-clause-made : goal.returns-clause-made
