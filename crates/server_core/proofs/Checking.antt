@@ -199,6 +199,9 @@ step_fits step n room = room_less (step_room step n room) (omega arith)
 
 -- The row by which a token is expected.
 
+abbrev pub number : ServerModel → ℕ
+number s = s.me.0
+
 module _ (s : ServerModel) (t : Token) where
   abbrev Row : Type 0
   Row = IsToMark (ring_at s) t ⊎ HasComeBack (ring_at s) t ⊎ IsToTest (ring_at s) t ⊎ IsToJudge (ring_at s) t

@@ -25,7 +25,7 @@ pub use Rattle.exhaust_ring.specs.Tests.{first_failing}
 pub use Rattle.exhaust_ring.specs.Visits.{Outcome, verdict_of, visited1, visited2}
 pub use Rattle.reserve_path.specs.Calls.{after_none, asking, asks_next, first_idle, given, gone_if, granted, hints_next, is_idle_since, step_for, taker_of}
 pub use Rattle.reserve_path.specs.Grants.{best_for, with_grant}
-pub use Rattle.reserve_path.specs.Parked.{IsAway, IsOther, IsParked, ParkedModel, entry_of}
+pub use Rattle.reserve_path.specs.Parked.{IsParked, ParkedModel, entry_of}
 pub use Rattle.reserve_path.specs.declared.waits.Waiting.{Waiting}
 pub use Rattle.server_law.proofs.Expected.{expected_have_steps, rule_awaited}
 pub use Rattle.server_law.proofs.Found.{free_is, free_there, none_free, some_there}
@@ -47,7 +47,7 @@ pub use Rattle.server_core.proofs.Arriving.{arrives_goes, settled_config}
 pub use Rattle.server_core.proofs.Asked.{asked_goes}
 pub use Rattle.server_core.proofs.Askers.{askers_parked, in_front, ring_seen}
 pub use Rattle.server_core.proofs.Asking.{waits_by, wants_nothing}
-pub use Rattle.server_core.proofs.Checking.{again_goes, back_goes, comes_again, comes_back, comes_first, comes_last, entered_room, exhaust_goes, exhausted_goes, first_goes, heard_goes, judged_check, judges_go, last_goes, marked_check, marks_go, said_one, stays_room, step_fits, step_room, tests_go, tests_second, token_says, told_from, told_next}
+pub use Rattle.server_core.proofs.Checking.{again_goes, back_goes, comes_again, comes_back, comes_first, comes_last, entered_room, exhaust_goes, exhausted_goes, first_goes, heard_goes, judged_check, judges_go, last_goes, marked_check, marks_go, number, said_one, stays_room, step_fits, step_room, tests_go, tests_second, token_says, told_from, told_next}
 pub use Rattle.server_core.proofs.Going.{asked_room, close_goes, ends_goes, fetch_goes, goes_nowhere, handled_goes, heard_room, looked_room, made_as, released_room, room_as, room_less, rule_apart, serve_rule, server_awaited, serves, sought_room}
 pub use Rattle.server_core.proofs.Hearing.{hears}
 pub use Rattle.server_core.proofs.Hinting.{hint_told, no_more}

@@ -27,7 +27,7 @@ impl ServerState {
         self.is_calm()
     }
 
-    // The test.
+    // No push of this server stands, and each rank of the run rests.
     fn is_calm(&self) -> bool
         ensures { result ≡ is_quiet self.now }
     {

@@ -1,7 +1,7 @@
 //! The letters of pushes: a unit moves to another server where there is room. PushQuery asks for room; PushYes promises
 //! it, and PushNo ends the push. PushUnit brings the unit, or PushCancel takes the promise back; PushAck ends the push.
 
-ghost use Rattle.std.specs.Prelude.{◌≡◌, ◌<◌, ℕ, true, IsTrue, OnErr, OnOk, Some};
+ghost use Rattle.std.specs.Prelude.{◌≡◌, ◌<◌, ℕ, IsTrue, OnErr, OnOk, Some};
 ghost use Rattle.put_path.specs.Pushes.{Asks, asks_room, has_sent, is_query, is_under_way};
 ghost use Rattle.server_core.specs.Out.{HasRoom, Out, going_on, made, planned};
 ghost use Rattle.server_law.specs.Acts.{Act, Ends_push, Stops_push};
@@ -20,12 +20,16 @@ use bag_ledger::Entry;
 use put_path::{Push, push_query};
 
 impl ServerState {
-    // If the queue is pressed, no push stands and a unit may move, the next of the other servers is asked for room.
-    pub(crate) fn press(&mut self, out: &mut Outgoing)
+    // If a unit was taken, the queue is pressed, no push stands and a unit may move, the next of the other servers is asked
+    // for room.
+    pub(crate) fn press(&mut self, taken: bool, out: &mut Outgoing)
         requires { HasRoom self.old out.old 2 }
-        ensures made { made self.new out.new ≡ going_on out.old (presses true self.old) self.old }
+        ensures made { made self.new out.new ≡ going_on out.old (presses taken self.old) self.old }
         ensures room { HasRoom self.new out.new 1 }
     {
+        if !taken {
+            return;
+        }
         if let Some(query) = self.pushes.pressure(&self.queue) {
             let asks = Message::PushQuery {
                 id: query.id,

@@ -31,9 +31,7 @@ impl ServerState {
         let id = unit.id;
         let taken = self.answer_put(from, unit, out)?;
         self.settle(id, out);
-        if taken {
-            self.press(out);
-        }
+        self.press(taken, out);
         Ok(())
     }
 

@@ -6,21 +6,18 @@ loop-number-init c =
     let same = ap (λ (s : ServerModel). s.config.ranks) c.self.view_is in
     record { left = ap (λ n. rest_from c.args.self.now n 0) same ∙ rest_all c.args.self.now; end = same }
 
--- a rank that does not rest
 pub returns-then-not-rests : goal.returns-then-not-rests
 returns-then-not-rests c =
-    let s = c.args.self.now in
     let end = c.self.inside.config.ranks in
-    sym (ap (λ b. b && rest_from s end (c.loop-number.number + 1)) (sym c.rests.ensures ∙ c.if-not-rests.true))
-    ∙ sym (rest_next s end c.loop-number.number c.loop-number-test.true) ∙ c.loop-number.invariant.left
+    sym (ap (λ b. b && rest_from c.args.self.now end (c.loop-number.number + 1)) (sym c.rests.ensures ∙ c.if-not-rests.true))
+    ∙ sym (rest_next c.args.self.now end c.loop-number.number c.loop-number-test.true) ∙ c.loop-number.invariant.left
 
 pub loop-number-preserved : goal.loop-number-preserved
 loop-number-preserved c =
-    let s = c.args.self.now in
     let end = c.self.inside.config.ranks in
     record {
-      left = sym (ap (λ b. b && rest_from s end (c.loop-number.number + 1)) (sym c.rests.ensures ∙ c.if-not-rests.false))
-          ∙ sym (rest_next s end c.loop-number.number c.loop-number-test.true) ∙ c.loop-number.invariant.left;
+      left = sym (ap (λ b. b && rest_from c.args.self.now end (c.loop-number.number + 1)) (sym c.rests.ensures ∙ c.if-not-rests.false))
+          ∙ sym (rest_next c.args.self.now end c.loop-number.number c.loop-number-test.true) ∙ c.loop-number.invariant.left;
       end = c.loop-number.invariant.end;
     }
 

@@ -12,8 +12,6 @@ look_again-step-requires c = pending_of c.args.self.now c.args.from c.args.rank 
 known : (c : Start) → IsParked (parked_of c.args.self.now) → Answered c.args.self.now c.args.out.now c.args.from c.args.rank c.args.request
 known c sound = answered c.args.self.now c.args.out.now c.args.from c.args.rank c.args.request sound c.requires.awaited
 
--- Where calls are over.
-
 pub end_call-requires-clause-rank : goal.end_call-requires-clause-rank
 end_call-requires-clause-rank c =
     rw c.release.ensures.made (known (goal.at.end_call-requires-clause-rank c).Start c.release.ensures.sound).within
@@ -27,8 +25,6 @@ returns-in-Some-clause-made c q rule =
 pub returns-in-Some-clause-room : goal.returns-in-Some-clause-room
 returns-in-Some-clause-room c =
     room_less (c.end_call.ensures.room 2 (room_as c.release.ensures.made (released_room c.args.rank c.requires.room))) (omega arith)
-
--- Where they are not.
 
 pub tell_sought-requires-clause-rank : goal.tell_sought-requires-clause-rank
 tell_sought-requires-clause-rank c =

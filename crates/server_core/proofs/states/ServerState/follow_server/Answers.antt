@@ -4,12 +4,10 @@ use Rattle.server_core.proofs.states.ServerState.follow_server.Goals as goal
 pub hear_token-requires-clause-awaited : goal.hear_token-requires-clause-awaited
 hear_token-requires-clause-awaited c = (c.args.from, rw c.in-Token.is at c.requires.awaited)
 
--- What is heard without a word.
-
 pub returns-in-Notice-clause-ok : goal.returns-in-Notice-clause-ok
 returns-in-Notice-clause-ok c p is =
-    let s = c.args.self.now in
-    heard_goes (s.me.0 == 0) (Wants c.args.from) s c.args.out.now refl refl (c.hear_notice.ensures c.args.from) p (rw c.in-Notice.is at is)
+    heard_goes (c.args.self.now.me.0 == 0) (Wants c.args.from) c.args.self.now c.args.out.now refl refl (c.hear_notice.ensures c.args.from)
+    p (rw c.in-Notice.is at is)
 
 pub returns-in-Notice-clause-room : goal.returns-in-Notice-clause-room
 returns-in-Notice-clause-room c = stays_room (c.hear_notice.ensures c.args.from) c.requires.verdict refl refl refl
@@ -31,8 +29,6 @@ returns-in-Shutdown-clause-ok c p is =
 
 pub returns-in-Shutdown-clause-room : goal.returns-in-Shutdown-clause-room
 returns-in-Shutdown-clause-room c = stays_room (c.hear_shutdown.ensures c.args.from) c.requires.verdict refl refl refl
-
--- The letters by which a push ends.
 
 pub returns-in-PushNo-clause-ok : goal.returns-in-PushNo-clause-ok
 returns-in-PushNo-clause-ok c p is =

@@ -1,9 +1,6 @@
 use Rattle.server_core.proofs.Prelude.{◌∙◌, ap, arith, heard, heard_room, hears, made_as, room_as, room_less, sym, told_ask, waits_by}
 use Rattle.server_core.proofs.states.ServerState.hear_hint.Goals as goal
 
-pub ask-requires-clause-server : goal.ask-requires-clause-server
-ask-requires-clause-server c = rw c.hear_of.ensures.made c.requires.other.0
-
 pub ask-requires-clause-waits : goal.ask-requires-clause-waits
 ask-requires-clause-waits c =
     let all = hears c.args.self.now c.args.out.now c.args.from c.hear_of.ensures.sound c.requires.other c.args.rank c.args.request

@@ -1,4 +1,4 @@
-use Rattle.server_core.proofs.Prelude.{◌∙◌, ◌≡◌, Bool, IsOther, None, Some, ap, cond, false, hinted_stays, is_idle_since, is_some, parked_at, parked_inside, parked_is, refl, true}
+use Rattle.server_core.proofs.Prelude.{◌∙◌, ◌≡◌, Bool, None, Some, ap, cond, false, hinted_stays, is_idle_since, is_some, parked_at, parked_inside, parked_is, refl, true}
 use Rattle.server_core.proofs.states.ServerState.hear_of.Goals as goal
 
 pub hint-requires-clause-here : goal.hint-requires-clause-here
@@ -9,10 +9,9 @@ hint-requires-clause-other c = rw (parked_at c.self.invariant c.self.view_is) c.
 
 pub invariant_of-self : goal.invariant_of-self
 invariant_of-self c =
-    let other : IsOther c.self.inside.parked.config c.self.inside.parked.me c.args.from =
-    rw (parked_at c.self.invariant c.self.view_is) c.requires.other in
     parked_inside c.self.invariant c.hint.ensures.parked
-    (hinted_stays (parked_is c.self.invariant) c.args.rank c.args.request c.args.from other)
+    (hinted_stays (parked_is c.self.invariant) c.args.rank c.args.request c.args.from
+    (rw (parked_at c.self.invariant c.self.view_is) c.requires.other))
 
 pub returns-clause-idle : goal.returns-clause-idle
 returns-clause-idle c =

@@ -3,11 +3,10 @@ use Rattle.server_core.proofs.states.ServerState.judge.Goals as goal
 
 pub returns-clause-made : goal.returns-clause-made
 returns-clause-made c from =
-    let t = c.args.token in
-    let verdict = ap (λ m. verdict_of m t) (ring_seen c.self.invariant) in
+    let verdict = ap (λ m. verdict_of m c.args.token) (ring_seen c.self.invariant) in
     rw (← c.self.view_is)
-    (judges_go (state_of c.self.inside) c.args.out.now from t c.verdict-step.new.self c.verdict-step.result _ c.tell_step.ensures.made
-    (c.verdict-step.ensures.ring ∙ ap (λ (o : Outcome). o.ring) verdict)
+    (judges_go (state_of c.self.inside) c.args.out.now from c.args.token c.verdict-step.new.self c.verdict-step.result _
+    c.tell_step.ensures.made (c.verdict-step.ensures.ring ∙ ap (λ (o : Outcome). o.ring) verdict)
     (c.verdict-step.ensures.step ∙ ap (λ (o : Outcome). o.step) verdict))
 
 pub returns-clause-room : goal.returns-clause-room

@@ -10,9 +10,6 @@ returns-in-Some-clause-made c q rule =
 pub seek-step-requires-clause-new : goal.seek-step-requires-clause-new
 seek-step-requires-clause-new c = new_here c.requires.awaited.1
 
-pub tell_sought-requires-clause-rank : goal.tell_sought-requires-clause-rank
-tell_sought-requires-clause-rank c = rw c.seek-step.ensures.made c.requires.rank
-
 pub tell_sought-requires-clause-asked : goal.tell_sought-requires-clause-asked
 tell_sought-requires-clause-asked c to is =
     let wish = wish_of c.args.from c.args.request c.args.types.now in

@@ -31,15 +31,14 @@ handle-requires-clause-room c =
 
 pub returns-clause-served : goal.returns-clause-served
 returns-clause-served c =
-    let given = c.handle.new.out in
     let parts = c.parts-sends.ensures in
     let now = ticks (goal.at.returns-clause-served c).After-tick in
     let room = c.waiting_and_wishes-waiting.result.0 + c.waiting_and_wishes-waiting.result.1 + 9 in
     let handled = on_ok c.handle.result (sym c.if-is_err.ensures.value) c.handle.ensures.ok in
     let F : Out → Type 0 = λ o. option_map (λ l. going_on o l c.tick.new.self) (acts c.tick.new.self c.args.from c.args.letter.message)
-    ≡ Some (made c.handle.new.self given) in
+    ≡ Some (made c.handle.new.self c.handle.new.out) in
     rw (parts.sends, parts.entries)
-    (serves c.args.self.now c.tick.new.self c.handle.new.self given room c.args.from c.args.letter c.requires.expected now
+    (serves c.args.self.now c.tick.new.self c.handle.new.self c.handle.new.out room c.args.from c.args.letter c.requires.expected now
     (subst F c.in-Ok.ensures handled))
   where
     on_ok : {T E P : Type 0} (r : Result T E) → is_err r ≡ false → OnOk r P → P

@@ -15,9 +15,8 @@ pub returns-in-Exhausted-clause-room : goal.returns-in-Exhausted-clause-room
 returns-in-Exhausted-clause-room c more room =
     let s = c.args.self.now in
     let out = c.args.out.now in
-    let some = s.config.servers_within in
     let entered = entered_room s out enters.Exhausted (s.config.servers - 1 + more)
-    (room_less (rw c.in-Exhausted.is at room) (omega (arith, some.0))) in
+    (room_less (rw c.in-Exhausted.is at room) (omega (arith, s.config.servers_within.0))) in
     c.tell_all.ensures.room more (c.tell_others.ensures.room more (rw c.enter.ensures entered))
 
 pub returns-in-Shutdown-clause-room : goal.returns-in-Shutdown-clause-room
