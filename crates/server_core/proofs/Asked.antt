@@ -1,14 +1,12 @@
 -- The home of a rank asks for it: a unit is pinned to the rank, or its wish is kept.
-use Rattle.std.proofs.Common.{◌≡◌, ◌≢◌, ◌<◌, Bool, true, false, [], Option, None, Some, refl, sym, ap, ◌∙◌}
+use Rattle.std.proofs.Common.{◌≡◌, Bool, true, false, [], Option, None, Some, refl, sym, ap, ◌∙◌}
 use Rattle.std.specs.Option.{option_map}
-use Rattle.adlb_unit.specs.Targets.{home_of}
 use Rattle.adlb_unit.specs.declared.messages.Message.TheVariants as tells
 use Rattle.adlb_unit.specs.declared.names.Server.{Server}
 use Rattle.adlb_unit.specs.declared.notes.UnitNote.{UnitNote}
 use Rattle.work_queue.specs.declared.placing.Placed.{Placed}
 use Rattle.reserve_path.specs.Calls.{after_ask}
 use Rattle.reserve_path.specs.Grants.{best_for, note_of}
-use Rattle.reserve_path.specs.Parked.{IsAway}
 use Rattle.reserve_path.specs.declared.wishes.Wish.{Wish}
 use Rattle.server_law.specs.Acts.{Declines, to_server}
 use Rattle.server_law.specs.Asks.{answer, answer_now, ask_rule, expects_ask}
@@ -18,12 +16,6 @@ use Rattle.server_core.specs.Inside.{parked_of}
 use Rattle.server_core.specs.Out.{Out, planned}
 use Rattle.server_core.specs.Waits.{asked, offered, offered_by, pinning, told_home}
 use Rattle.server_core.proofs.Going.{plan_if, says_only}
-
--- the rank is at home elsewhere
-pub is_away : (s : ServerModel) (from : Server) (wish : Wish) → from ≢ s.me
-    → (wish.rank.0 < s.config.ranks) × (home_of s.config.servers wish.rank ≡ from.0) → IsAway s.config s.me wish.rank
-is_away s from wish differs there =
-    (there.0, λ same. differs (ap (λ k. let r : Server = record { 0 = k } in r) (sym there.1 ∙ same)))
 
 -- what its home is told
 pub asked_goes : (s : ServerModel) (out : Out) (from : Server) (wish : Wish) (note : Option UnitNote)

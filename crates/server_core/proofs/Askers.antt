@@ -43,19 +43,21 @@ are_parked m sound =
         (sym (ap (λ (a : Asker). a.0.0) one) ∙ same ∙ ap (λ (a : Asker). a.0.0) other)
 
 -- what is copied to the front of the room
-pub in_front : (asked rest room : List Asker) (count : ℕ) → count ≡ length asked → room ≡ asked ++ rest → take count room ≡ asked
-in_front asked rest room count many is =
-    ap (λ n. take n room) many ∙ ap (take (length asked)) is ∙ take-append_seam asked rest
+pub in_front : {room : List Asker} {count : ℕ} (waiting : List Waiting) (rest : List Asker) → count ≡ length waiting
+    → room ≡ map wants waiting ++ rest → take count room ≡ map wants waiting
+in_front {room} waiting rest many is =
+    ap (λ n. take n room) (many ∙ sym (length-map waiting wants)) ∙ ap (take (length (map wants waiting))) is
+    ∙ take-append_seam (map wants waiting) rest
 
-module _ (i : Inside) (inside : IsInside i) where
+module _ {i : Inside} (inside : IsInside i) where
   -- the ring, at the server
   pub ring_seen : i.ring ≡ ring_at (state_of i)
   ring_seen =
       ap (λ config. let m : RingModel = record (i.ring) { config = config } in m) inside.ring_config
       ∙ ap (λ me. let m : RingModel = record (i.ring) { config = i.config; me = me } in m) inside.ring_me
 
-  pub askers_parked : (asked : List Asker) → asked ≡ map wants i.parked.parked.waiting → AreParked i.ring.config i.ring.me asked
-  askers_parked asked is =
+  pub askers_parked : {asked : List Asker} → asked ≡ map wants i.parked.parked.waiting → AreParked i.ring.config i.ring.me asked
+  askers_parked {asked} is =
       let P : Config → Server → Type 0 = λ config me. AreParked config me asked in
       let own : P i.config i.me = subst (AreParked i.config i.me) (sym is) (are_parked (parked_of (state_of i)) inside.sound.parked) in
       subst (λ me. P i.ring.config me) (sym inside.ring_me) (subst (λ config. P config i.me) (sym inside.ring_config) own)

@@ -1,5 +1,5 @@
 -- What a check makes of a server, and what is said of it.
-use Rattle.std.proofs.Common.{◌≡◌, ◌≤◌, ◌<◌, ◌+◌, ◌-◌, ◌*◌, ◌==◌, ◌↔◌, ◌⊎◌, inl, inr, ℕ, suc, Bool, true, false, cond, List, [], ◌∷◌, ◌++◌, append-nil, append_assoc, length, map, Option, None, Some, IsSome, IsTrue, All, refl, sym, ap, ◌∙◌, subst, arith}
+use Rattle.std.proofs.Common.{◌≡◌, ◌≤◌, ◌<◌, ◌+◌, ◌-◌, ◌*◌, ◌==◌, ◌↔◌, ◌⊎◌, inl, inr, ℕ, suc, Bool, true, false, cond, List, [], ◌∷◌, ◌++◌, append-nil, append_assoc, length, map, Option, None, Some, IsTrue, All, refl, sym, ap, ◌∙◌, subst, arith}
 use Rattle.std.specs.Prelude.{if◌then◌else◌}
 use Rattle.std.specs.List.{range_with_len}
 use Rattle.std.proofs.lemmas.Bool.{both_ways, eq-eqb, ne_eqb}
@@ -186,27 +186,21 @@ letters_few Exhausted s = s.config.servers_within.1
 letters_few Shutdown s = s.config.servers_within.1
 letters_few Ended s = omega arith
 
-pub step_room : (step : RingStep) (s : ServerModel) (n : RingModel) (out : Out) → HasRoom s out 9
+pub step_room : (step : RingStep) {s : ServerModel} (n : RingModel) {out : Out} → HasRoom s out 9
     → HasRoom (with_check s n) out (step_letters step (with_check s n) + 1)
-step_room step s n out room =
+step_room step {s} n room =
     let few = letters_few step (with_check s n) in
     let was = room.tells in
     record { tells = omega (arith, few, was); places = room.places }
 
-pub step_fits : (step : RingStep) (s : ServerModel) (n : RingModel) (out : Out) → HasRoom s out 9
+pub step_fits : (step : RingStep) {s : ServerModel} (n : RingModel) {out : Out} → HasRoom s out 9
     → HasRoom (with_check s n) out (step_letters step (with_check s n))
-step_fits step s n out room =
-    let v = with_check s n in
-    room_less v out (step_letters step v + 1) (step_letters step v) (omega arith) (step_room step s n out room)
+step_fits step n room = room_less (step_room step n room) (omega arith)
 
 -- The row by which a token is expected.
 
-pub token_row : (s : ServerModel) (from : Server) (t : Token) → IsSome (token_rule s from t) → Expects (ring_at s) from t
-token_row s from t some = expects_is (ring_at s) from t (by_test (expects (ring_at s) from t) some)
-  where
-    by_test : (b : Bool) → IsSome (cond b (visit s from t) None) → b ≡ true
-    by_test true some = refl
-    by_test false some = absurd (cc)
+abbrev pub number : ServerModel → ℕ
+number s = s.me.0
 
 module _ (s : ServerModel) (t : Token) where
   abbrev Row : Type 0
@@ -291,21 +285,21 @@ exhaust_goes s out from n x ring goes =
     plan_if (from.0 == 0) a (d ∷ []) s out x (goes ∙ ap F ring ∙ sym (plan_one a d s out ∙ silent a (d (done a s)) s out refl refl))
 
 -- what is tested of a token
-pub token_says : (m n : RingModel) (from : Server) (t : Token) (b : Bool) → m ≡ n → b ≡ expects m from t → IsTrue b ↔ Expects n from t
-token_says m n from t b same is =
+pub token_says : {m n : RingModel} {b : Bool} (from : Server) (t : Token) → m ≡ n → b ≡ expects m from t → IsTrue b ↔ Expects n from t
+token_says {m} {n} {b} from t same is =
     let now = is ∙ ap (λ k. expects k from t) same in
     (λ yes. expects_is n from t (sym now ∙ yes), λ row. now ∙ expects_tested n from t row)
 
 -- What is heard without a word.
-pub heard_goes : (b : Bool) (a : Act) (s t : ServerModel) (out : Out) → says a s ≡ [] → entries a s ≡ [] → t ≡ does a s
+pub heard_goes : (b : Bool) (a : Act) (s : ServerModel) {t : ServerModel} (out : Out) → says a s ≡ [] → entries a s ≡ [] → t ≡ does a s
     → (p : Plan) → cond b (plan a []) None ≡ Some p → made t out ≡ planned out p s
-heard_goes b a s t out nothing none after =
+heard_goes b a s {t} out nothing none after =
     plan_if b a [] s out (made t out) (ap (λ u. made u out) after ∙ goes_nowhere out (does a s) ∙ sym (silent a [] s out nothing none))
 
 -- the room stays where nobody comes or goes and nothing is said
-pub stays_room : (s t u : ServerModel) (out : Out) → u ≡ t → HasRoom s out 9 → t.kept.parked ≡ s.kept.parked → t.sent ≡ s.sent
+pub stays_room : {s t u : ServerModel} {out : Out} → u ≡ t → HasRoom s out 9 → t.kept.parked ≡ s.kept.parked → t.sent ≡ s.sent
     → t.clock ≡ s.clock → HasRoom u out 1
-stays_room s t u out is room same sent clock =
+stays_room {s} {t} {u} {out} is room same sent clock =
     let was = room.tells in
     let waiting = ap (λ (k : Parked). length k.waiting) same in
     let wishes = ap (λ (k : Parked). length k.wishes) same in

@@ -1,8 +1,9 @@
 -- Acts after acts, with what was sent and entered before.
-use Rattle.std.proofs.Common.{◌≡◌, ◌≤◌, ◌+◌, ◌==◌, ℕ, Bool, true, false, not, cond, ◌&&◌, List, [], ◌∷◌, ◌++◌, append-nil, filter, length, Option, None, Some, IsSome, refl, sym, ap, ◌∙◌, subst, arith, length-append}
+use Rattle.std.proofs.Common.{◌≡◌, ◌≤◌, ◌+◌, ◌==◌, ℕ, Bool, true, false, not, cond, ◌&&◌, List, [], ◌∷◌, ◌++◌, All, append-nil, filter, find, length, Option, None, Some, IsSome, refl, sym, ap, ◌∙◌, subst, arith, length-append}
 use Rattle.std.specs.Prelude.{nat_lt}
 use Rattle.std.specs.Option.{option_map}
 use Rattle.std.proofs.lemmas.List.{length-map}
+use Rattle.std.proofs.lemmas.List.Elements.{All-contains}
 use Rattle.std.proofs.lemmas.List.Filters.{length-filter_both}
 use Rattle.adlb_unit.specs.Limits.{stamp_limit}
 use Rattle.adlb_unit.specs.Links.{is_within}
@@ -15,25 +16,31 @@ use Rattle.adlb_unit.specs.declared.messages.Message.TheVariants as tells
 use Rattle.adlb_unit.specs.declared.names.BatchId.{BatchId}
 use Rattle.adlb_unit.specs.declared.names.Rank.{Rank}
 use Rattle.adlb_unit.specs.declared.names.Server.{Server}
+use Rattle.adlb_unit.specs.declared.names.UnitId.{UnitId}
 use Rattle.adlb_unit.specs.declared.names.WorkType.{WorkType}
 use Rattle.batch_store.specs.Store.{part_in}
 use Rattle.batch_store.specs.declared.parts.Part.{Part}
 use Rattle.bag_ledger.specs.declared.entries.Entry.{Entry}
 use Rattle.bag_ledger.proofs.Tests.{some_is}
-use Rattle.work_queue.specs.Queue.{Queue}
+use Rattle.work_queue.specs.Queue.{HasPinned, Queue, id_of}
 use Rattle.work_queue.specs.declared.placing.Placed.{Placed}
 use Rattle.reserve_path.specs.Calls.{after_ask, after_none, asking, asks_next, gone, hears_of, hinted, is_since, reserved, turned, wished}
 use Rattle.reserve_path.specs.Grants.{best_for, pinned_to}
 use Rattle.reserve_path.specs.Parked.{Parked, is_by, is_of}
 use Rattle.reserve_path.specs.declared.wishes.Wish.{Wish}
-use Rattle.server_law.specs.Acts.{Act, Around, Asks_on, Closes, ServerSaying, does, entries, says, to_server, unwished}
+use Rattle.server_law.specs.Acts.{Act, Around, Asks_on, Closes, Fetches, ServerSaying, does, entries, says, to_server, unwished}
 use Rattle.server_law.specs.Batches.{can_close, close, close_rule, part_if}
 use Rattle.server_law.specs.Endings.{checks, ends_event, notices}
+use Rattle.server_law.specs.Expected.{IsAwaitedFrom}
+use Rattle.server_law.specs.Fetches.{fetch}
+use Rattle.server_law.specs.Finding.{is_pinned_as}
 use Rattle.server_law.specs.Step.{acts, at_event, rule, serve, server_rule}
 use Rattle.server_law.specs.Carried.{Served, all_done, carried, counted, done, posted}
 use Rattle.server_law.specs.Plan.{Decider, Plan, decided, in_order, plan}
 use Rattle.server_law.specs.State.{ServerModel}
 use Rattle.server_law.proofs.Carrying.{decided_carried, followed, followed_by, followed_more, followed_none, with_act}
+use Rattle.server_law.proofs.Expected.{server_rule_awaited}
+use Rattle.server_law.proofs.Found.{pinned_is, pinned_there}
 use Rattle.server_core.specs.Out.{HasRoom, Out, going_on, made, nothing, planned, with_answer, with_letter}
 use Rattle.server_core.specs.Inside.{parked_of}
 use Rattle.server_core.specs.Waits.{asked, heard, looked, offered, pinning, released, sought, told_ask, with_parked}
@@ -112,13 +119,20 @@ serve_rule s from letter some =
     by_test false o some = absurd (cc)
 
 -- the rule of another server's letter
-pub server_rule_is : (s : ServerModel) (from : Server) (message : Message) (p : Plan) → rule s (by.Server from) message ≡ Some p
-    → server_rule s from message ≡ Some p
-server_rule_is s from message p is = by_test (from.0 == s.me.0) is
+pub rule_apart : (s : ServerModel) (from : Server) (message : Message) → IsSome (rule s (by.Server from) message)
+    → (from.0 == s.me.0) ≡ false
+rule_apart s from message some = by_test (from.0 == s.me.0) some
   where
-    by_test : (t : Bool) → cond t None (server_rule s from message) ≡ Some p → server_rule s from message ≡ Some p
-    by_test true is = absurd (cc)
-    by_test false is = is
+    by_test : (t : Bool) → IsSome (cond t None (server_rule s from message)) → t ≡ false
+    by_test true some = absurd (cc)
+    by_test false some = refl
+
+-- what it was expected by
+pub server_awaited : (s : ServerModel) (from : Server) (message : Message) → IsSome (rule s (by.Server from) message)
+    → IsAwaitedFrom s from message
+server_awaited s from message some =
+    (server_rule_awaited s from message).0
+    (subst (λ t. IsSome (cond t None (server_rule s from message))) (rule_apart s from message some) some)
 
 -- what a rule with a test does
 pub plan_if : (b : Bool) (first : Act) (follow : List Decider) (s : ServerModel) (out : Out) (x : Served)
@@ -126,10 +140,6 @@ pub plan_if : (b : Bool) (first : Act) (follow : List Decider) (s : ServerModel)
     → (p : Plan) → cond b (plan first follow) None ≡ Some p → x ≡ planned out p s
 plan_if true first follow s out x made_is p is = subst (λ q. x ≡ planned out q s) (some_is is) made_is
 plan_if false first follow s out x made_is p is = absurd (cc)
-
-pub tested : {X : Type 0} (b : Bool) (x : X) → IsSome (cond b (Some x) None) → b ≡ true
-tested true x some = refl
-tested false x some = absurd (cc)
 
 -- likewise with one decider
 pub plan_one : (first : Act) (d : Decider) (s : ServerModel) (out : Out)
@@ -142,6 +152,18 @@ pub plan_two : (first : Act) (d e : Decider) (s : ServerModel) (out : Out) (l m 
 plan_two first d e s out l m one two =
     ap (λ k. going_on out (first ∷ (k ++ (e (all_done k (done first s)) ++ []))) s) one
     ∙ ap (λ k. going_on out (first ∷ (l ++ k)) s) (append-nil (e (all_done l (done first s))) ∙ two)
+
+-- what a fetch makes is its plan
+pub fetch_goes : (s : ServerModel) (out : Out) (from : Rank) (request : ℕ) (id : UnitId) (x : Served)
+    → HasPinned id from s.kept.queue.units
+    → All (λ p. id_of p ≡ id → x ≡ going_on out (Fetches from request id p.unit ∷ []) s) s.kept.queue.units
+    → (q : Plan) → fetch from request id (find (is_pinned_as id from) s.kept.queue.units) ≡ Some q → x ≡ planned out q s
+fetch_goes s out from request id x pinned goes q is =
+    let p = pinned_there id from s.kept.queue.units pinned in
+    let u = pinned_is id from s.kept.queue.units p.0 p.1 in
+    let G : Placed → Type 0 = λ u. id_of u ≡ id → x ≡ going_on out (Fetches from request id u.unit ∷ []) s in
+    subst (λ r. x ≡ planned out r s) (some_is (sym (ap (fetch from request id) p.1) ∙ is))
+    (All-contains G s.kept.queue.units p.0 goes u.2 u.0)
 
 -- what a batch that ends makes is its plan
 pub close_goes : (s : ServerModel) (out : Out) (from : Rank) (request : ℕ) (batch : BatchId) (accepted : ℕ) (x : Served)
@@ -216,8 +238,11 @@ room_left s queue parked out n k fewer room =
     let was = room.tells in
     record { tells = omega (arith, fewer, was); places = room.places }
 
-pub room_less : (s : ServerModel) (out : Out) (n k : ℕ) → k ≤ n → HasRoom s out n → HasRoom s out k
-room_less s out n k fewer room = let was = room.tells in record { tells = omega (arith, fewer, was); places = room.places }
+pub room_less : {s : ServerModel} {out : Out} {n k : ℕ} → HasRoom s out n → k ≤ n → HasRoom s out k
+room_less room fewer = let was = room.tells in record { tells = omega (arith, fewer, was); places = room.places }
+
+pub room_as : {s t : ServerModel} {out : Out} {n : ℕ} → t ≡ s → HasRoom s out n → HasRoom t out n
+room_as {s} {t} {out} {n} same room = subst (λ u. HasRoom u out n) (sym same) room
 
 -- fewer wait, or are wished for, where one is taken off
 fewer_kept : {X : Type 0} (test : X → Bool) (xs : List X) → length (filter (λ x. not (test x)) xs) ≤ length xs
@@ -225,7 +250,7 @@ fewer_kept test xs =
     let both = length-filter_both test (λ x. not (test x)) (λ x. refl) xs in
     omega (arith, both)
 
-module _ (s : ServerModel) (out : Out) (more : ℕ) where
+module _ {s : ServerModel} {out : Out} {more : ℕ} where
   pub released_room : (rank : Rank) → HasRoom s out more → HasRoom (released s rank) out more
   released_room rank room =
       let fewer = fewer_kept (is_of rank) s.kept.parked.waiting in

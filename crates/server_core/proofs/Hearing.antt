@@ -8,7 +8,7 @@ use Rattle.adlb_unit.specs.declared.names.Server.{Server}
 use Rattle.bag_ledger.proofs.Tests.{some_is}
 use Rattle.reserve_path.proofs.Places.{none_any, none_turned}
 use Rattle.reserve_path.specs.Calls.{hears_of, is_idle_since, is_since}
-use Rattle.reserve_path.specs.Parked.{IsOther, IsParked, entry_of, is_idle, is_of}
+use Rattle.reserve_path.specs.Parked.{IsHere, IsOther, IsParked, entry_of, is_idle, is_of}
 use Rattle.reserve_path.specs.declared.waits.Waiting.{Waiting}
 use Rattle.server_law.specs.Acts.{Act, Asks_on, Drops_hint, Is_hinted, hinted}
 use Rattle.server_law.specs.Carried.{done}
@@ -18,6 +18,7 @@ use Rattle.server_law.specs.Plan.{Plan}
 use Rattle.server_law.specs.State.{ServerModel, awaiting, idle}
 use Rattle.server_law.specs.Waits.{ask_next, asks_on}
 use Rattle.server_law.proofs.Places.{none_found}
+use Rattle.server_law.proofs.Tests.{expects_hint_says}
 use Rattle.server_core.specs.Inside.{parked_of}
 use Rattle.server_core.specs.Out.{Out, going_on, made, planned}
 use Rattle.server_core.specs.Waits.{heard, told_ask}
@@ -133,9 +134,12 @@ module _ (s : ServerModel) (out : Out) (from : Server) (sound : IsParked (parked
               waits = λ busy. let no = sym busy ∙ idle_as ∙ ap (λ (k : Option Server). is_none k) asked in absurd (cc);
             }
 
-  pub hears : (rank : Rank) (request : ℕ) → expects_hint s rank ≡ true → Heard s out from rank request
-  hears rank request expected = by_place (place_in (is_since rank request) s.kept.parked.waiting) refl
+  pub hears : (rank : Rank) (request : ℕ) → IsHere s.config s.me rank → Heard s out from rank request
+  hears rank request here = by_place (place_in (is_since rank request) s.kept.parked.waiting) refl
     where
+      expected : expects_hint s rank ≡ true
+      expected = (expects_hint_says s rank).1 here
+
       by_place : (o : Option Place) → place_in (is_since rank request) s.kept.parked.waiting ≡ o → Heard s out from rank request
       by_place None found = dropped rank request expected found
       by_place (Some p) found =

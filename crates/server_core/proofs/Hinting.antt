@@ -14,7 +14,7 @@ use Rattle.adlb_unit.specs.declared.messages.Message.TheVariants as tells
 use Rattle.adlb_unit.specs.declared.units.Unit.{Unit as Work}
 use Rattle.work_queue.proofs.Searched.{find_none}
 use Rattle.reserve_path.specs.Calls.{call_of, forgotten_if, hints_next, is_soft_for, or_else, suits, suits_first}
-use Rattle.reserve_path.specs.Parked.{Parked, is_by}
+use Rattle.reserve_path.specs.Parked.{IsParked, is_by}
 use Rattle.reserve_path.specs.declared.wishes.Wish.{Wish}
 use Rattle.server_law.specs.Acts.{Hints, ServerSaying, to_server, unwished}
 use Rattle.server_law.specs.Carried.{counted, posted}
@@ -24,7 +24,7 @@ use Rattle.server_law.specs.State.{ServerModel}
 use Rattle.server_core.specs.Inside.{parked_of}
 use Rattle.server_core.specs.Out.{HasRoom, Out, going_on, with_letter}
 use Rattle.server_core.proofs.Going.{room_left, says_one}
-use Rattle.server_core.specs.Waits.{with_parked}
+use Rattle.server_core.specs.Waits.{unwished_next, with_parked}
 use Rattle.server_core.proofs.Alone.{IsSplit, NonePasses, before_others, behind_others, found_split, gone_one}
 
 -- The hints to ranks whose wishes pass a test.
@@ -179,60 +179,46 @@ told_hint unit s out w next =
     let more = hint_all unit (unwished w.rank s.kept.parked.wishes) in
     sym (ap (λ l. going_on out l s) next.hints ∙ says_one (Hints w) more s out (hint_for s w.rank w.request) refl refl)
 
-module _ (s : ServerModel) (once : AreOnce s.kept.parked.wishes) (kind : WorkType) (target : Target) (n : Parked)
-    (left : n ≡ (forgotten_if (parked_of s) (hints_next kind target s.kept.parked.wishes)).parked) where
-  abbrev v : ServerModel
-  v = with_parked s s.kept.queue n
+-- What comes of the wish that is taken off next.
+pub record HintTold (s : ServerModel) (kind : WorkType) (target : Target) (u : ServerModel) (rank : Rank) (request : ℕ) : Type 0 where
+  pub fewer : length u.kept.parked.wishes < length s.kept.parked.wishes
+  pub room : (out : Out) → HasRoom s out 2 → HasRoom u out 3
+  pub goes : (unit : Work) → unit.kind ≡ kind → unit.target ≡ target → (out : Out)
+      → going_on (with_letter out (posted u (hint_for u rank request))) (hint_all unit u.kept.parked.wishes)
+      (counted u (by.Server (home u.config rank))) ≡ going_on out (hint_all unit s.kept.parked.wishes) s
 
-  module _ (rank : Rank) (request : ℕ)
-      (told : Some (rank, request) ≡ option_map call_of (hints_next kind target s.kept.parked.wishes)) where
-    gone : n ≡ record { waiting = s.kept.parked.waiting; wishes = unwished rank s.kept.parked.wishes }
-    gone =
-        let w = call_told (hints_next kind target s.kept.parked.wishes) rank request told in
-        left ∙ ap (λ o. (forgotten_if (parked_of s) o).parked) w.1
-        ∙ ap (λ (k : Rank × ℕ). let p : Parked = record { waiting = s.kept.parked.waiting; wishes = unwished k.0 s.kept.parked.wishes } in p) w.2
+module _ (s : ServerModel) (sound : IsParked (parked_of s)) (kind : WorkType) (target : Target) where
+  abbrev named : Option Wish
+  named = hints_next kind target s.kept.parked.wishes
 
-    next : (unit : Work) → unit.kind ≡ kind → unit.target ≡ target
-        → (w : Wish) × HintsNext unit s.kept.parked.wishes w × (call_of w ≡ (rank, request))
-    next unit same_kind same_target =
-        let w = call_told (hints_next kind target s.kept.parked.wishes) rank request told in
-        let own = ap (λ k. hints_next k unit.target s.kept.parked.wishes) same_kind
-        ∙ ap (λ a. hints_next kind a s.kept.parked.wishes) same_target in
-        (w.0, next_hint unit s.kept.parked.wishes once w.0 (own ∙ w.1), w.2)
+  abbrev without : Option Wish → ServerModel
+  without o = with_parked s s.kept.queue (forgotten_if (parked_of s) o).parked
 
-    pub fewer_wishes : length n.wishes < length s.kept.parked.wishes
-    fewer_wishes =
-        let w = call_told (hints_next kind target s.kept.parked.wishes) rank request told in
-        let fewer = next_left kind target s.kept.parked.wishes once w.0 w.1 in
-        let same = ap (λ (p : Parked). length p.wishes) gone in
-        let own = ap (λ (k : Rank × ℕ). length (unwished k.0 s.kept.parked.wishes)) w.2 in
-        omega (arith, same, own, fewer)
+  own : (unit : Work) → unit.kind ≡ kind → unit.target ≡ target → hints_next unit.kind unit.target s.kept.parked.wishes ≡ named
+  own unit same_kind same_target =
+      ap (λ k. hints_next k unit.target s.kept.parked.wishes) same_kind ∙ ap (λ a. hints_next kind a s.kept.parked.wishes) same_target
 
-    pub hint_room : (out : Out) → HasRoom s out 2 → HasRoom v out 3
-    hint_room out room =
-        let waiting = ap (λ (p : Parked). length p.waiting) gone in
-        room_left s s.kept.queue n out 2 3 (omega (arith, waiting, fewer_wishes)) room
+  hints : (w : Wish) → named ≡ Some w → HintTold s kind target (without (Some w)) w.rank w.request
+  hints w is =
+      let fewer = next_left kind target s.kept.parked.wishes sound.wished_once w is in
+      record {
+        fewer = fewer;
+        room = λ out room. room_left s s.kept.queue (forgotten_if (parked_of s) (Some w)).parked out 2 3 (omega (arith, fewer)) room;
+        goes = λ unit same_kind same_target out.
+            told_hint unit s out w (next_hint unit s.kept.parked.wishes sound.wished_once w (own unit same_kind same_target ∙ is));
+      }
 
-    pub hint_goes : (unit : Work) → unit.kind ≡ kind → unit.target ≡ target → (out end : Out) (t : ServerModel)
-        → t ≡ counted v (by.Server (home s.config rank)) → end ≡ with_letter out (posted v (hint_for s rank request))
-        → going_on end (hint_all unit t.kept.parked.wishes) t ≡ going_on out (hint_all unit s.kept.parked.wishes) s
-    hint_goes unit same_kind same_target out end t after sent =
-        let w = next unit same_kind same_target in
-        let Goes : Rank × ℕ → Type 0 = λ k.
-        let now = without_wish s k.0 in
-        going_on (with_letter out (posted now (hint_for s k.0 k.1))) (hint_all unit (unwished k.0 s.kept.parked.wishes))
-        (counted now (by.Server (home s.config k.0)))
-        ≡ going_on out (hint_all unit s.kept.parked.wishes) s in
-        let told : Goes (call_of w.0) = told_hint unit s out w.0 w.1 in
-        let all : Goes (rank, request) = subst Goes w.2 told in
-        rw (after, sent, gone) all
+  pub hint_told : {u : ServerModel} {rank : Rank} {request : ℕ} → u ≡ unwished_next kind target s → Some (rank, request) ≡ option_map call_of named
+      → HintTold s kind target u rank request
+  hint_told {u} {rank} {request} made told =
+      let w = call_told named rank request told in
+      let now = subst (λ (k : Rank × ℕ). HintTold s kind target (without (Some w.0)) k.0 k.1) w.2 (hints w.0 w.1) in
+      subst (λ v. HintTold s kind target v rank request) (sym (made ∙ ap without w.1)) now
 
   -- or there is none
-  pub no_more : None ≡ option_map call_of (hints_next kind target s.kept.parked.wishes) → (unit : Work) → unit.kind ≡ kind
-      → unit.target ≡ target → hint_all unit n.wishes ≡ []
-  no_more told unit same_kind same_target =
-      let none = call_none (hints_next kind target s.kept.parked.wishes) told in
-      let same = left ∙ ap (λ o. (forgotten_if (parked_of s) o).parked) none in
-      let own = ap (λ k. hints_next k unit.target s.kept.parked.wishes) same_kind
-      ∙ ap (λ a. hints_next kind a s.kept.parked.wishes) same_target in
-      ap (λ (p : Parked). hint_all unit p.wishes) same ∙ no_hint unit s.kept.parked.wishes once (own ∙ none)
+  pub no_more : {u : ServerModel} → u ≡ unwished_next kind target s → None ≡ option_map call_of named → (unit : Work) → unit.kind ≡ kind
+      → unit.target ≡ target → hint_all unit u.kept.parked.wishes ≡ []
+  no_more made told unit same_kind same_target =
+      let none = call_none named told in
+      ap (λ (v : ServerModel). hint_all unit v.kept.parked.wishes) (made ∙ ap without none)
+      ∙ no_hint unit s.kept.parked.wishes sound.wished_once (own unit same_kind same_target ∙ none)

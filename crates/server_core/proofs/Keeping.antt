@@ -25,9 +25,9 @@ abbrev pub with_parts : ServerModel → Queue → Store → ServerModel
 with_parts s queue parts = record s { kept = record s.kept { queue = queue; parts = parts } }
 
 -- where it is sound, its fields are as they are to be
-pub parts_inside : (i : Inside) → IsInside i → (queue : Queue) (parts : Store) → IsSound (with_parts (state_of i) queue parts)
+parts_inside : {i : Inside} {queue : Queue} {parts : Store} → IsInside i → IsSound (with_parts (state_of i) queue parts)
     → IsInside (record i { queue = queue; parts = parts })
-parts_inside i inside queue parts sound =
+parts_inside inside sound =
     record {
       sound = sound;
       config = inside.config;
@@ -54,29 +54,28 @@ stays_sound s queue parts sound same charged = record {
 }
 
 -- a part is kept
-pub keep_sound : (s : ServerModel) (queue : Queue) (parts : Store) (batch : BatchId) (bytes : List ℕ) → IsSound s
-    → parts ≡ with_fresh s.kept.parts batch bytes
-    → queue ≡ with_common s.kept.queue (length bytes) → IsSound (with_parts s queue parts)
-keep_sound s queue parts batch bytes sound kept charged =
-    let more = kept_within s.kept.parts batch (fresh bytes) in
-    let was = sound.charged in
-    let all : bytes_in (with_fresh s.kept.parts batch bytes) ≤ s.kept.queue.common + length bytes = omega (arith, more, was) in
-    let now = with_common s.kept.queue (length bytes) in
-    rw (kept, charged) (stays_sound s now (with_fresh s.kept.parts batch bytes) sound refl all)
+pub keep_inside : {i : Inside} {queue : Queue} {parts : Store} (batch : BatchId) (bytes : List ℕ) → IsInside i
+    → parts ≡ with_fresh i.parts batch bytes → queue ≡ with_common i.queue (length bytes)
+    → IsInside (record i { queue = queue; parts = parts })
+keep_inside {i} batch bytes inside kept charged =
+    let more = kept_within i.parts batch (fresh bytes) in
+    let was = inside.sound.charged in
+    let all : bytes_in (with_fresh i.parts batch bytes) ≤ i.queue.common + length bytes = omega (arith, more, was) in
+    let now = with_common i.queue (length bytes) in
+    rw (kept, charged) (parts_inside inside (stays_sound (state_of i) now (with_fresh i.parts batch bytes) inside.sound refl all))
 
 -- a part is changed
-pub change_sound : (f : Part → Part) → ((p : Part) → (f p).bytes ≡ p.bytes) → (s : ServerModel) (queue : Queue) (parts : Store)
-    → (batch : BatchId) → IsSound s → parts ≡ changed f s.kept.parts batch
-    → queue ≡ released f s.kept.parts batch s.kept.queue → IsSound (with_parts s queue parts)
-change_sound f keeps s queue parts batch sound turned freed =
-    let q = s.kept.queue in
-    let all = changed_within f keeps s.kept.parts batch q sound.charged in
-    let same = by_due (frees f s.kept.parts batch) in
-    rw (turned, freed) (stays_sound s (released f s.kept.parts batch q) (changed f s.kept.parts batch) sound same all)
+pub change_inside : {i : Inside} {queue : Queue} {parts : Store} (f : Part → Part) → ((p : Part) → (f p).bytes ≡ p.bytes)
+    → (batch : BatchId) → IsInside i → parts ≡ changed f i.parts batch → queue ≡ released f i.parts batch i.queue
+    → IsInside (record i { queue = queue; parts = parts })
+change_inside {i} f keeps batch inside turned freed =
+    let q = i.queue in
+    let all = changed_within f keeps i.parts batch q inside.sound.charged in
+    let same = by_due (frees f i.parts batch) in
+    let sound = stays_sound (state_of i) (released f i.parts batch q) (changed f i.parts batch) inside.sound same all in
+    rw (turned, freed) (parts_inside inside sound)
   where
-    by_due : (t : Bool)
-        → (if t then without_common s.kept.queue (size_of (part_in s.kept.parts batch)) else s.kept.queue).arrivals
-        ≡ s.kept.queue.arrivals
+    by_due : (t : Bool) → (if t then without_common i.queue (size_of (part_in i.parts batch)) else i.queue).arrivals ≡ i.queue.arrivals
     by_due true = refl
     by_due false = refl
 
@@ -85,27 +84,27 @@ change_sound f keeps s queue parts batch sound turned freed =
 module _ (s : ServerModel) (out end : Out) (t : ServerModel) (from : Rank) (request : ℕ) (common : List ℕ)
     (working : s.kept.done ≡ false) where
   -- where there is room
-  pub keeps_now : (queue : Queue) (parts : Store) → (Exceeds s.kept.queue (length common) → ⊥)
+  pub keeps_now : {queue : Queue} {parts : Store} → (Exceeds s.kept.queue (length common) → ⊥)
       → parts ≡ with_fresh s.kept.parts (batch_of from request) common → queue ≡ with_common s.kept.queue (length common)
       → t ≡ counted (with_parts s queue parts) (by.Rank from)
       → end ≡ with_answer out (posted (with_parts s queue parts) (to_rank from (tells.Accepted request)))
       (enters.Kept s.me (batch_of from request))
       → made t end ≡ going_on out (keep_now s.kept from request common ∷ []) s
-  keeps_now queue parts within kept charged after told =
+  keeps_now within kept charged after told =
       let q = s.kept.queue in
       let room : exceeds q (length common) ≡ false =
       false_from_ne_true _ (λ is. within (ltb-true q.limit (charge_of q + length common) is)) in
       rw (after, told, kept, charged, working, room) refl
 
   -- where there is none
-  pub refuses_now : (queue : Queue) (parts : Store) (charge : ℕ) → Exceeds s.kept.queue (length common)
+  pub refuses_now : {queue : Queue} {parts : Store} {charge : ℕ} → Exceeds s.kept.queue (length common)
       → charge ≡ charge_of s.kept.queue
       → parts ≡ s.kept.parts → queue ≡ s.kept.queue
       → t ≡ counted (with_parts s queue parts) (by.Rank from)
       → end ≡ with_answer out (posted (with_parts s queue parts) (to_rank from (tells.Full request charge)))
       (enters.Refused s.me (unit_of from request) charge)
       → made t end ≡ going_on out (keep_now s.kept from request common ∷ []) s
-  refuses_now queue parts charge beyond is kept charged after told =
+  refuses_now beyond is kept charged after told =
       let q = s.kept.queue in
       let full : exceeds q (length common) ≡ true = lt-ltb q.limit (charge_of q + length common) beyond in
       rw (after, told, kept, charged, working, full, is) refl

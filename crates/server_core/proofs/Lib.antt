@@ -11,6 +11,7 @@ pub mod Hinting
 pub mod Keeping
 pub mod LeftUnits
 pub mod Parts
+pub mod Prelude
 pub mod Pushing
 pub mod Quiet
 pub mod Reserving

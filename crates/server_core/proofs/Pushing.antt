@@ -1,5 +1,5 @@
 -- The letters of pushes: what a server makes of them.
-use Rattle.std.proofs.Common.{◌≡◌, ◌≤◌, ◌+◌, ℕ, Bool, true, false, cond, [], ◌∷◌, find, IsSome, Option, None, Some, All, refl, sym, ap, ◌∙◌, subst}
+use Rattle.std.proofs.Common.{◌≡◌, ◌≤◌, ◌+◌, ℕ, Bool, true, false, cond, [], ◌∷◌, find, Option, None, Some, All, refl, sym, ap, ◌∙◌, subst}
 use Rattle.std.proofs.lemmas.Bool.{le-ltb, lt-ltb}
 use Rattle.std.proofs.lemmas.List.Elements.{All-contains}
 use Rattle.adlb_unit.specs.declared.actors.Actor.TheVariants as by
@@ -10,7 +10,7 @@ use Rattle.adlb_unit.specs.declared.names.UnitId.{UnitId}
 use Rattle.adlb_unit.specs.declared.units.Unit.{Unit as Work}
 use Rattle.bag_ledger.specs.declared.entries.Entry.TheVariants as enters
 use Rattle.bag_ledger.proofs.Tests.{some_is}
-use Rattle.work_queue.specs.Queue.{HasFree, HasPromise, Queue, charge_of, id_of, without, without_promise}
+use Rattle.work_queue.specs.Queue.{HasFree, Queue, charge_of, id_of, without, without_promise}
 use Rattle.work_queue.specs.declared.placing.Placed.{Placed}
 use Rattle.put_path.specs.Pushes.{IsPromise, PushModel, Pushing, asks_room, has_sent, with_push, with_pushing}
 use Rattle.put_path.proofs.StandingPushes.{push_from}
@@ -19,23 +19,23 @@ use Rattle.server_law.specs.Carried.{Served, counted, posted}
 use Rattle.server_law.specs.Finding.{exceeds, has_promise, is_free_as}
 use Rattle.server_law.specs.Plan.{Plan, plan}
 use Rattle.server_law.specs.Presses.{presses}
-use Rattle.server_law.specs.Pushes.{ack_rule, answer_query, cancel_rule, expects_query, no_rule, query_rule, sends as sends_on, yes_at, yes_rule}
+use Rattle.server_law.specs.Pushes.{answer_query, cancel_rule, expects_query, query_rule, sends as sends_on, yes_at, yes_rule}
 use Rattle.server_law.specs.Puts.{expects_put, is_taken, put_now, put_rule, settles}
 use Rattle.server_law.specs.State.{ServerModel}
-use Rattle.server_law.proofs.Expected.{server_rule_awaited}
 use Rattle.server_law.proofs.Found.{free_is, free_there, none_free}
 use Rattle.server_core.specs.Inside.{IsInside, IsSound, bytes_in, state_of}
 use Rattle.server_core.specs.Out.{HasRoom, Out, going_on, made, planned, with_answer, with_letter}
 use Rattle.server_core.specs.declared.states.ServerState.TheInside.{Inside}
 use Rattle.server_core.proofs.Going.{answers_only, decides, goes_on, plan_if, says_only}
+use Rattle.server_core.proofs.Sounds.{IsPinned}
 
 -- the server with this queue and this push
 abbrev pub moved : ServerModel → Queue → Pushing → ServerModel
 moved s queue pushing = record s { kept = record s.kept { queue = queue; pushing = pushing } }
 
-pub room_moved : (s : ServerModel) (queue : Queue) (pushing : Pushing) (out : Out) (n : ℕ) → HasRoom s out n
+pub room_moved : {s : ServerModel} {out : Out} {n : ℕ} (queue : Queue) (pushing : Pushing) → HasRoom s out n
     → HasRoom (moved s queue pushing) out n
-room_moved s queue pushing out n room = record { tells = room.tells; places = room.places }
+room_moved queue pushing room = record { tells = room.tells; places = room.places }
 
 -- A put: it is answered, the unit is settled, and a push begins where it may.
 pub puts_goes : (s t u v : ServerModel) (out mid end last : Out) (from : Rank) (unit : Work)
@@ -66,10 +66,12 @@ moved_sound s queue pushing sound arrivals same = record {
   clock = sound.clock;
 }
 
-pub moved_inside : (i : Inside) → IsInside i → (n : PushModel) (pushing : Pushing) (queue : Queue) → n ≡ with_pushing i.pushes pushing
-    → queue.arrivals ≤ i.clock → queue.common ≡ i.queue.common → IsInside (record i { queue = queue; pushes = n })
-moved_inside i inside n pushing queue is arrivals same = record {
-  sound = moved_sound (state_of i) queue n.pushing inside.sound arrivals same;
+pub moved_inside : {i : Inside} {n : PushModel} {queue after : Queue} (pushing : Pushing) → IsInside i → n ≡ with_pushing i.pushes pushing
+    → queue ≡ after → IsPinned i.queue after → IsInside (record i { queue = queue; pushes = n })
+moved_inside {i} {n} {queue} pushing inside is now pins = record {
+  sound = moved_sound (state_of i) queue n.pushing inside.sound
+      (subst (λ k. k ≤ i.clock) (sym (ap (λ (q : Queue). q.arrivals) now ∙ pins.arrivals)) inside.sound.arrivals)
+      (ap (λ (q : Queue). q.common) now ∙ pins.common);
   config = inside.config;
   me = inside.me;
   push_config = ap (λ (m : PushModel). m.config) is ∙ inside.push_config;
@@ -77,21 +79,6 @@ moved_inside i inside n pushing queue is arrivals same = record {
   ring_config = inside.ring_config;
   ring_me = inside.ring_me;
 }
-
--- The push that a letter is about.
-
-module _ (s : ServerModel) (from : Server) (id : UnitId) where
-  pub yes_stands : IsSome (yes_rule s from id) → (n : ℕ) × (s.kept.pushing.push ≡ Some (asks_room from id n))
-  yes_stands some = (server_rule_awaited s from (tells.PushYes id)).0 some
-
-  pub no_stands : IsSome (no_rule s from id) → (n : ℕ) × (s.kept.pushing.push ≡ Some (asks_room from id n))
-  no_stands some = (server_rule_awaited s from (tells.PushNo id)).0 some
-
-  pub ack_stands : IsSome (ack_rule s from id) → (n : ℕ) × (s.kept.pushing.push ≡ Some (has_sent from id n))
-  ack_stands some = (server_rule_awaited s from (tells.PushAck id)).0 some
-
-  pub promise_stands : IsSome (cancel_rule s from id) → HasPromise id s.kept.queue.promises
-  promise_stands some = (server_rule_awaited s from (tells.PushCancel id)).0 some
 
 -- The unit goes, or a cancel.
 
@@ -103,13 +90,13 @@ module _ (s : ServerModel) (out : Out) (from : Server) (id : UnitId) (n : ℕ)
       ∙ ap (λ t. cond t (plan (sends_on from id n (find (is_free_as id) s.kept.queue.units)) []) None) (push_from from id n false)
       ∙ ap (λ q. plan (sends_on from id n q) []) found
 
-  pub sends_goes : (unit : Work) (queue : Queue) (pushing : Pushing) → HasFree id s.kept.queue.units
+  pub sends_goes : (unit : Work) {queue : Queue} {pushing : Pushing} → HasFree id s.kept.queue.units
       → All (λ p. id_of p ≡ id → unit ≡ p.unit) s.kept.queue.units → queue ≡ without s.kept.queue id
-      → pushing ≡ with_push s.kept.pushing (Some (has_sent from id n)) → (t : ServerModel) (last : Out)
+      → pushing ≡ with_push s.kept.pushing (Some (has_sent from id n)) → {t : ServerModel} {last : Out}
       → t ≡ counted (moved s queue pushing) (by.Server from)
       → last ≡ with_answer out (posted (moved s queue pushing) (to_server from (tells.PushUnit unit))) (enters.Left s.me from unit.id)
       → (p : Plan) → yes_rule s from id ≡ Some p → made t last ≡ planned out p s
-  sends_goes unit queue pushing free own gone sent t last after told p is =
+  sends_goes unit {queue} {pushing} free own gone sent {t} {last} after told p is =
       let u = free_there id s.kept.queue.units free in
       let at = free_is id s.kept.queue.units u.0 u.1 in
       let P : Placed → Type 0 = λ q. id_of q ≡ id → unit ≡ q.unit in
@@ -127,12 +114,12 @@ module _ (s : ServerModel) (out : Out) (from : Server) (id : UnitId) (n : ℕ)
       let rule = yes_is (Some u.0) u.1 ∙ ap (λ w. plan (Sends_unit from n w) []) (sym same) in
       subst (λ r. made t last ≡ planned out r s) (some_is (sym rule ∙ is)) (rw (now, letter) goes)
 
-  pub cancels_goes : (queue : Queue) (pushing : Pushing) → (HasFree id s.kept.queue.units → ⊥) → queue ≡ s.kept.queue
-      → pushing ≡ with_push s.kept.pushing (Some (has_sent from id n)) → (t : ServerModel) (last : Out)
+  pub cancels_goes : {queue : Queue} {pushing : Pushing} → (HasFree id s.kept.queue.units → ⊥) → queue ≡ s.kept.queue
+      → pushing ≡ with_push s.kept.pushing (Some (has_sent from id n)) → {t : ServerModel} {last : Out}
       → t ≡ counted (moved s queue pushing) (by.Server from)
       → last ≡ with_letter out (posted (moved s queue pushing) (to_server from (tells.PushCancel id)))
       → (p : Plan) → yes_rule s from id ≡ Some p → made t last ≡ planned out p s
-  cancels_goes queue pushing unfree same sent t last after told p is =
+  cancels_goes {queue} {pushing} unfree same sent {t} {last} after told p is =
       let a = Cancels from id n in
       let x = to_server from (tells.PushCancel id) in
       let seat : moved s queue pushing ≡ does a s =
@@ -178,12 +165,12 @@ module _ (s : ServerModel) (out : Out) (from : Server) (id : UnitId) (n : ℕ) (
       (rw (state, letter) (says_only a s out x refl refl) ∙ ap Q (sym over))
 
 -- The promise is taken back.
-pub withdraws_goes : (s : ServerModel) (out : Out) (from : Server) (id : UnitId) (queue : Queue)
-    → queue ≡ without_promise s.kept.queue id → (t : ServerModel) (last : Out)
+pub withdraws_goes : (s : ServerModel) (out : Out) (from : Server) (id : UnitId) {queue : Queue}
+    → queue ≡ without_promise s.kept.queue id → {t : ServerModel} {last : Out}
     → t ≡ counted (moved s queue s.kept.pushing) (by.Server from)
     → last ≡ with_answer out (posted (moved s queue s.kept.pushing) (to_server from (tells.PushAck id))) (enters.Withdrawn s.me id)
     → (p : Plan) → cancel_rule s from id ≡ Some p → made t last ≡ planned out p s
-withdraws_goes s out from id queue gone t last after told p is =
+withdraws_goes s out from id {queue} gone {t} {last} after told p is =
     let a = Withdraws from id in
     let x = to_server from (tells.PushAck id) in
     let seat : moved s queue s.kept.pushing ≡ does a s = ap (λ q. moved s q s.kept.pushing) gone in

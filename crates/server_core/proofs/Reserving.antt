@@ -1,40 +1,34 @@
 -- What a reserve comes to.
-use Rattle.std.proofs.Common.{◌≡◌, ◌<◌, Bool, true, false, List, [], ◌∷◌, ◌++◌, Option, None, Some, IsSome, refl, sym, ap, ◌∙◌}
-use Rattle.std.proofs.lemmas.Bool.{and_parts, eqb-true, not-true}
+use Rattle.std.proofs.Common.{◌≡◌, Bool, true, false, List, [], ◌∷◌, ◌++◌, Option, None, Some, refl, sym, ap, ◌∙◌}
 use Rattle.adlb_unit.specs.Ring.{others}
+use Rattle.adlb_unit.specs.declared.names.Rank.{Rank}
 use Rattle.adlb_unit.specs.declared.names.Server.{Server}
 use Rattle.adlb_unit.specs.declared.notes.End.{End}
 use Rattle.bag_ledger.proofs.Tests.{some_is}
 use Rattle.work_queue.specs.declared.placing.Placed.{Placed}
 use Rattle.reserve_path.specs.Calls.{asking, reserved, step_for}
 use Rattle.reserve_path.specs.Grants.{best_for, pinned_to}
-use Rattle.reserve_path.specs.Parked.{IsHere, entry_of, is_of}
+use Rattle.reserve_path.specs.Parked.{entry_of, is_of}
 use Rattle.reserve_path.specs.declared.steps.ReserveStep.TheVariants as comes_to
 use Rattle.reserve_path.specs.declared.wishes.Wish.{Wish}
 use Rattle.server_law.specs.Acts.{Act, Around, Asks_on, Ends_reserve, Grants, Parks}
 use Rattle.server_law.specs.Carried.{done}
+use Rattle.server_law.specs.Expected.{IsHome, Runs}
 use Rattle.server_law.specs.Plan.{Plan}
 use Rattle.server_law.specs.Reserves.{reserve, reserve_now, reserve_rule}
 use Rattle.server_law.specs.State.{ServerModel, idle, is_waiting, runs_at_home}
 use Rattle.server_law.specs.Waits.{ask_next, asks_on}
+use Rattle.server_law.proofs.Tests.{waits_not_says}
 use Rattle.server_core.specs.Inside.{parked_of}
 use Rattle.server_core.specs.Out.{Out, going_on, made, planned}
 use Rattle.server_core.specs.Waits.{over, over_by, sought, told_ask, told_end, told_step, with_parked}
 use Rattle.server_core.proofs.Alone.{NonePasses}
 use Rattle.server_core.proofs.Asking.{asks_gone, asks_here, at_waiting, none_pass, waits_here}
-use Rattle.server_core.proofs.Going.{asks_then, nothing_said, plan_if, plan_one, tested}
+use Rattle.server_core.proofs.Going.{asks_then, nothing_said, plan_if, plan_one}
 
--- the rule's test holds
-pub runs_here : (s : ServerModel) (wish : Wish) → IsSome (reserve_rule s wish) → runs_at_home s wish.rank ≡ true
-runs_here s wish some = tested (runs_at_home s wish.rank) _ some
-
-pub is_here : (s : ServerModel) (wish : Wish) → wish.rank.0 < s.config.ranks → runs_at_home s wish.rank ≡ true
-    → IsHere s.config s.me wish.rank
-is_here s wish within expected = (within, eqb-true _ _ (and_parts _ _ expected).0)
-
--- the rank does not wait
-pub new_here : (s : ServerModel) (wish : Wish) → runs_at_home s wish.rank ≡ true → is_waiting s.kept wish.rank ≡ false
-new_here s wish expected = not-true _ (and_parts _ _ (and_parts _ _ expected).1).0
+-- who runs does not wait
+pub new_here : {s : ServerModel} {rank : Rank} → Runs s rank → is_waiting s.kept rank ≡ false
+new_here {s} {rank} runs = (waits_not_says s.kept rank).1 runs.waits_not
 
 -- What comes of the call of a rank that runs and is at home here.
 pub record Reserves (s : ServerModel) (out : Out) (wish : Wish) : Type 0 where
@@ -61,9 +55,9 @@ decides_on true exhausted best wish is = absurd (cc)
 decides_on false true best wish is = absurd (cc)
 decides_on false false best wish is = refl
 
-module _ (s : ServerModel) (out : Out) (wish : Wish) (expected : runs_at_home s wish.rank ≡ true) where
+module _ (s : ServerModel) (out : Out) (wish : Wish) (runs : IsHome s wish.rank × Runs s wish.rank) where
   none : NonePasses (is_of wish.rank) s.kept.parked.waiting
-  none = none_pass (is_of wish.rank) s.kept.parked.waiting (new_here s wish expected)
+  none = none_pass (is_of wish.rank) s.kept.parked.waiting (new_here runs.1)
 
   abbrev at : Around
   at = record { before = s.kept.parked.waiting; behind = [] }

@@ -3,7 +3,9 @@ use Rattle.std.proofs.Common.{◌≡◌, ◌<◌, ℕ, Bool, true, false, cond, 
 use Rattle.std.specs.Option.{IfSome, option_map}
 use Rattle.std.proofs.lemmas.Bool.{eq-eqb}
 use Rattle.adlb_unit.specs.declared.names.Rank.{Rank}
+use Rattle.adlb_unit.specs.declared.names.Target.{Target}
 use Rattle.adlb_unit.specs.declared.names.UnitId.{UnitId}
+use Rattle.adlb_unit.specs.declared.names.WorkType.{WorkType}
 use Rattle.adlb_unit.specs.declared.notes.UnitNote.{UnitNote}
 use Rattle.adlb_unit.specs.declared.units.Unit.{Unit as Work}
 use Rattle.bag_ledger.proofs.Tests.{some_is}
@@ -52,6 +54,23 @@ taker_here unit waiting =
     ∙ ap (λ o. or_else o (here_of (place_in (is_idle_for unit) waiting))) (here_found (is_idle_first unit) waiting)
     ∙ ap (λ o. or_else (find (is_idle_first unit) waiting) o) (here_found (is_idle_for unit) waiting)
 
+-- What is told of the free unit.
+
+abbrev pub kind_and_target : Placed → WorkType × Target
+kind_and_target p = (p.unit.kind, p.unit.target)
+
+pub told_free : (o : Option Placed) {kind : WorkType} {target : Target}
+    → (let said : Option (WorkType × Target) = Some (kind, target) in said ≡ option_map kind_and_target o)
+    → (p : Placed) × (o ≡ Some p) × (p.unit.kind ≡ kind) × (p.unit.target ≡ target)
+told_free None told = absurd (cc)
+told_free (Some p) told =
+    let is = some_is (sym told) in
+    (p, refl, ap (λ (f : WorkType × Target). f.0) is, ap (λ (f : WorkType × Target). f.1) is)
+
+pub told_unfree : (o : Option Placed) → None ≡ option_map kind_and_target o → o ≡ None
+told_unfree None told = refl
+told_unfree (Some p) told = absurd (cc)
+
 -- What comes of the unit: this rank takes it.
 pub record TakenBy (s : ServerModel) (out : Out) (id : UnitId) (p : Placed) (rank : Rank) (request : ℕ) (note : UnitNote) : Type 0 where
   pub within : rank.0 < s.config.ranks
@@ -98,9 +117,9 @@ module _ (s : ServerModel) (out : Out) (id : UnitId) (p : Placed) (found : find 
               ∙ ap (λ l. going_on out l s) (sym (settled (Some q) is));
         }
 
-  pub one_takes : (rank : Rank) (request : ℕ) (note : UnitNote)
+  pub one_takes : {rank : Rank} {request : ℕ} {note : UnitNote}
       → Some (rank, request, note) ≡ option_map (granted s.me p.unit) (taker_of p.unit (parked_of s)) → TakenBy s out id p rank request note
-  one_takes rank request note told =
+  one_takes {rank} {request} {note} told =
       by_place (taker p.unit s.kept.parked.waiting) refl
       (told ∙ ap (option_map (granted s.me p.unit)) (sym (taker_here p.unit s.kept.parked.waiting)))
     where

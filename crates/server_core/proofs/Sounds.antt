@@ -32,7 +32,7 @@ pub record Stays (m n : ParkedModel) : Type 0 where
 stays : (m : ParkedModel) (parked : Parked) → IsParked (record m { parked = parked }) → Stays m (record m { parked = parked })
 stays m parked sound = record { sound = sound; config = refl; me = refl }
 
-module _ (m : ParkedModel) (sound : IsParked m) where
+module _ {m : ParkedModel} (sound : IsParked m) where
   pub same_stays : Stays m m
   same_stays = stays m m.parked sound
 
@@ -87,39 +87,36 @@ pub record IsPinned (q r : Queue) : Type 0 where
   pub arrivals : r.arrivals ≡ q.arrivals
   pub common : r.common ≡ q.common
 
-pub same_pins : (q : Queue) → IsPinned q q
-same_pins q = record { arrivals = refl; common = refl }
+pub same_pins : {q : Queue} → IsPinned q q
+same_pins = record { arrivals = refl; common = refl }
 
 pinned_pins : (q : Queue) (rank : Rank) (o : Option Placed) → IsPinned q (pinned_to rank o q)
-pinned_pins q rank None = same_pins q
+pinned_pins q rank None = same_pins
 pinned_pins q rank (Some p) = record { arrivals = refl; common = refl }
 
-pub grant_pins : (q : Queue) (rank : Rank) (types : Option (List WorkType)) → IsPinned q (with_grant q rank types)
-grant_pins q rank types = pinned_pins q rank (best_for q rank types)
-
 pub given_pins : (o : Option Waiting) (p : Placed) (q : Queue) → IsPinned q (given o p q)
-given_pins None p q = same_pins q
+given_pins None p q = same_pins
 given_pins (Some e) p q = pinned_pins q e.wish.rank (Some p)
 
 -- The server.
 
-module _ (i : Inside) (inside : IsInside i) where
+module _ {i : Inside} (inside : IsInside i) where
   pub seen : i.parked ≡ parked_of (state_of i)
   seen =
       ap (λ config. let m : ParkedModel = record { config = config; me = i.parked.me; parked = i.parked.parked } in m) inside.config
       ∙ ap (λ me. let m : ParkedModel = record { config = i.config; me = me; parked = i.parked.parked } in m) inside.me
 
   -- what a call makes of what waits, at the server
-  pub made_of : (f : ParkedModel → ParkedModel) (n : ParkedModel) → n ≡ f i.parked → n.parked ≡ (f (parked_of (state_of i))).parked
-  made_of f n is = ap (λ (m : ParkedModel). m.parked) is ∙ ap (λ m. (f m).parked) seen
+  pub made_of : (f : ParkedModel → ParkedModel) {n : ParkedModel} → n ≡ f i.parked → n.parked ≡ (f (parked_of (state_of i))).parked
+  made_of f is = ap (λ (m : ParkedModel). m.parked) is ∙ ap (λ m. (f m).parked) seen
 
   pub parked_is : IsParked i.parked
   parked_is = subst IsParked (sym seen) inside.sound.parked
 
   -- after the call
-  pub closes : (n now : ParkedModel) (queue after : Queue) → n ≡ now → Stays i.parked now → queue ≡ after → IsPinned i.queue after
+  pub closes : {n now : ParkedModel} {queue after : Queue} → n ≡ now → Stays i.parked now → queue ≡ after → IsPinned i.queue after
       → IsInside (record i { parked = n; queue = queue })
-  closes n now queue after is stays pinned pins =
+  closes {n} {now} {queue} {after} is stays pinned pins =
       let config = ap (λ (m : ParkedModel). m.config) is ∙ stays.config ∙ inside.config in
       let me = ap (λ (m : ParkedModel). m.me) is ∙ stays.me ∙ inside.me in
       let arrivals = ap (λ (q : Queue). q.arrivals) pinned ∙ pins.arrivals in
@@ -148,32 +145,38 @@ module _ (i : Inside) (inside : IsInside i) where
         ring_me = inside.ring_me;
       }
 
--- where the queue alone changes
-pub queue_inside : (i : Inside) → IsInside i → (queue after : Queue) → queue ≡ after → IsPinned i.queue after
-    → IsInside (record i { queue = queue })
-queue_inside i inside queue after is pins =
-    closes i inside i.parked i.parked queue after refl (same_stays i.parked (parked_is i inside)) is pins
+  -- where a unit is pinned, if there is one
+  pub grants_inside : {n now : ParkedModel} {queue : Queue} (rank : Rank) (types : Option (List WorkType)) → n ≡ now → Stays i.parked now
+      → queue ≡ with_grant i.queue rank types → IsInside (record i { parked = n; queue = queue })
+  grants_inside rank types is stays pinned = closes is stays pinned (pinned_pins i.queue rank (best_for i.queue rank types))
+
+  -- where what waits alone changes, and where the queue alone does
+  pub parked_inside : {n now : ParkedModel} → n ≡ now → Stays i.parked now → IsInside (record i { parked = n })
+  parked_inside is stays = closes {queue = i.queue} {after = i.queue} is stays refl same_pins
+
+  pub queue_inside : {queue after : Queue} → queue ≡ after → IsPinned i.queue after → IsInside (record i { queue = queue })
+  queue_inside is pins = closes {n = i.parked} {now = i.parked} refl (same_stays parked_is) is pins
 
 -- what is seen of the whole server
-module _ (i : Inside) (inside : IsInside i) (s : ServerModel) (is : state_of i ≡ s) where
+module _ {i : Inside} (inside : IsInside i) {s : ServerModel} (is : state_of i ≡ s) where
   pub parked_at : i.parked ≡ parked_of s
-  parked_at = seen i inside ∙ ap parked_of is
+  parked_at = seen inside ∙ ap parked_of is
 
   pub sound_at : IsParked (parked_of s)
   sound_at = subst (λ u. IsParked (parked_of u)) is inside.sound.parked
 
   -- after a call
-  pub seat_at : (q : ServerModel → Queue) (f : ServerModel → ParkedModel → ParkedModel) (n : ParkedModel) (queue : Queue)
+  pub seat_at : (q : ServerModel → Queue) (f : ServerModel → ParkedModel → ParkedModel) {n : ParkedModel} {queue : Queue}
       → n ≡ f (state_of i) i.parked → queue ≡ q (state_of i)
       → with_parked (state_of i) queue n.parked ≡ with_parked s (q s) (f s (parked_of s)).parked
-  seat_at q f n queue left pinned =
+  seat_at q f {n} {queue} left pinned =
       ap (λ k. with_parked (state_of i) k n.parked) pinned
-      ∙ ap (λ m. with_parked (state_of i) (q (state_of i)) m) (made_of i inside (f (state_of i)) n left)
+      ∙ ap (λ m. with_parked (state_of i) (q (state_of i)) m) (made_of inside (f (state_of i)) left)
       ∙ ap (λ u. with_parked u (q u) (f u (parked_of u)).parked) is
 
 -- the ring may change, at the server as before
-pub ring_inside : (i : Inside) → IsInside i → (n : RingModel) → AreOfOne i.ring n → n.ring.check ≤ i.clock → IsInside (record i { ring = n })
-ring_inside i inside n same check = record {
+pub ring_inside : {i : Inside} {n : RingModel} → IsInside i → AreOfOne i.ring n → n.ring.check ≤ i.clock → IsInside (record i { ring = n })
+ring_inside inside same check = record {
   sound = record {
     finished = inside.sound.finished;
     actors = inside.sound.actors;
@@ -193,10 +196,14 @@ ring_inside i inside n same check = record {
   ring_me = same.0 ∙ inside.ring_me;
 }
 
+pub visited_inside : {i : Inside} {n : RingModel} → IsInside i → AreOfOne i.ring n → n.ring.check ≡ i.ring.ring.check
+    → IsInside (record i { ring = n })
+visited_inside {i} inside same is = ring_inside inside same (subst (λ k. k ≤ i.clock) (sym is) inside.sound.check)
+
 -- no more wait and are wished for than there are ranks
-pub counts_within : (i : Inside) → IsInside i
+pub counts_within : {i : Inside} → IsInside i
     → (length i.parked.parked.waiting ≤ i.config.ranks) × (length i.parked.parked.wishes ≤ i.config.ranks)
-counts_within i inside =
+counts_within {i} inside =
     let sound = inside.sound.parked in
     let some = nobody (record { 0 = 0 }) in
     (waiting_few (parked_of (state_of i)) sound some, wishes_few (parked_of (state_of i)) sound some.wish)

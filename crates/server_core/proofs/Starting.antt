@@ -1,14 +1,15 @@
 -- A check that starts, and what is said of it.
-use Rattle.std.proofs.Common.{◌≡◌, ◌≤◌, ◌+◌, ◌-◌, ◌==◌, ℕ, Bool, true, false, cond, List, [], ◌∷◌, map, Option, None, Some, refl, sym, ap, ◌∙◌, arith}
+use Rattle.std.proofs.Common.{◌≡◌, ◌≤◌, ◌<◌, ◌+◌, ◌-◌, ◌==◌, ℕ, Bool, true, false, cond, List, [], ◌∷◌, map, Option, None, Some, refl, sym, ap, ◌∙◌, subst, arith}
 use Rattle.std.specs.List.{range_with_len}
 use Rattle.std.proofs.lemmas.Bool.{eq-eqb, eqb-true}
 use Rattle.adlb_unit.specs.Ring.{behind}
 use Rattle.adlb_unit.specs.declared.messages.Message.{Message}
 use Rattle.adlb_unit.specs.declared.messages.Message.TheVariants as tells
 use Rattle.adlb_unit.specs.declared.messages.Why.{Why}
+use Rattle.adlb_unit.specs.declared.names.Server.{Server}
 use Rattle.adlb_unit.specs.declared.names.UnitId.{UnitId}
 use Rattle.adlb_unit.specs.declared.notes.End.TheVariants as ends_by
-use Rattle.exhaust_ring.specs.Ring.{Asker, MayStart, RingModel, begun, ended, with_exhausted, with_ring, with_tests}
+use Rattle.exhaust_ring.specs.Ring.{AreOfOne, Asker, MayStart, RingModel, begun, ended, with_exhausted, with_ring, with_tests}
 use Rattle.exhaust_ring.specs.Tests.{first_failing}
 use Rattle.exhaust_ring.specs.Visits.{Outcome, first_token, judged, judged_alone, outcome, started}
 use Rattle.exhaust_ring.specs.declared.steps.RingStep.{RingStep}
@@ -18,11 +19,15 @@ use Rattle.server_law.specs.Endings.{checks, finds_alone, is_quiet, starts, tell
 use Rattle.server_law.specs.State.{ServerModel, ring_at}
 use Rattle.server_law.proofs.Starting.{may_tested}
 use Rattle.server_core.specs.Checks.{step_enters, step_letters, step_says, step_tells, stepped, with_check}
+use Rattle.server_core.specs.Inside.{IsInside, state_of}
 use Rattle.server_core.specs.Out.{Out, going_on}
+use Rattle.server_core.specs.declared.states.ServerState.TheInside.{Inside}
+use Rattle.server_core.proofs.Askers.{ring_seen}
 use Rattle.server_core.proofs.Checking.{act_steps}
+use Rattle.server_core.proofs.Sounds.{ring_inside}
 
 -- where other servers are in the run, what fits does not matter
-pub started_same : (m : RingModel) (activity : ℕ) (parked : List Asker) (f g : Option UnitId) → ((m.config.servers == 1) ≡ true → f ≡ g)
+started_same : (m : RingModel) (activity : ℕ) (parked : List Asker) (f g : Option UnitId) → ((m.config.servers == 1) ≡ true → f ≡ g)
     → started m activity parked f ≡ started m activity parked g
 started_same m activity parked f g same = by_test (m.config.servers == 1) refl
   where
@@ -79,12 +84,39 @@ module _ (m : RingModel) (activity : ℕ) (parked : List Asker) where
       rw (eq-eqb m.config.servers 1 alone) (found (first_failing true activity activity fits) zeroth)
 
   -- of each check that starts, the number is one more
-  pub one_more : (fits : Option UnitId) → m.me.0 ≡ 0 → (started m activity parked fits).ring.ring.check ≡ m.ring.check + 1
+  one_more : (fits : Option UnitId) → m.me.0 ≡ 0 → (started m activity parked fits).ring.ring.check ≡ m.ring.check + 1
   one_more fits zeroth = by_test (m.config.servers == 1) refl
     where
       by_test : (b : Bool) → (m.config.servers == 1) ≡ b → (started m activity parked fits).ring.ring.check ≡ m.ring.check + 1
       by_test true alone = (found_alone fits (eqb-true m.config.servers 1 alone) zeroth).check
       by_test false others = rw others refl
+
+-- The check of this server, with the ranks that wait.
+
+check_here : {i : Inside} {asked : List Asker} {fits : Option UnitId} → IsInside i → asked ≡ askers (state_of i).kept
+    → (i.config.servers ≡ 1 → fits ≡ fit_among (state_of i).kept asked) → started i.ring i.activity asked fits ≡ check_alone (state_of i)
+check_here {i} {asked} {fits} inside front alone =
+    let s = state_of i in
+    ap (λ (l : List Asker). started i.ring i.activity l fits) front
+    ∙ ap (λ (m : RingModel). started m i.activity (askers s.kept) fits) (ring_seen inside)
+    ∙ started_same (ring_at s) i.activity (askers s.kept) fits (fit_among s.kept (askers s.kept))
+    (λ one. alone (eqb-true s.config.servers 1 one) ∙ ap (fit_among s.kept) front)
+
+pub check_is : {i : Inside} {s : ServerModel} {asked : List Asker} {fits : Option UnitId} → IsInside i → state_of i ≡ s
+    → asked ≡ askers s.kept → (s.config.servers ≡ 1 → fits ≡ fit_among s.kept asked) → started i.ring i.activity asked fits ≡ check_alone s
+check_is {i} {s} {asked} {fits} inside is =
+    subst
+    (λ (u : ServerModel). asked ≡ askers u.kept → (u.config.servers ≡ 1 → fits ≡ fit_among u.kept asked)
+    → started i.ring i.activity asked fits ≡ check_alone u) is (check_here inside)
+
+pub started_inside : {i : Inside} {s : ServerModel} {n : RingModel} (asked : List Asker) (fits : Option UnitId) → IsInside i → state_of i ≡ s
+    → n ≡ (started i.ring i.activity asked fits).ring → AreOfOne i.ring n → s.me.0 ≡ 0 → s.kept.ring.check < s.clock
+    → IsInside (record i { ring = n })
+started_inside {i} asked fits inside is now own zeroth young =
+    let at = ap (λ (me : Server). me.0) inside.ring_me ∙ ap (λ (s : ServerModel). s.me.0) is ∙ zeroth in
+    let check = ap (λ (m : RingModel). m.ring.check) now ∙ one_more i.ring i.activity asked fits at in
+    let before = subst (λ (s : ServerModel). s.kept.ring.check < s.clock) (sym is) young in
+    ring_inside inside own (omega (arith, check, before))
 
 -- What is said.
 

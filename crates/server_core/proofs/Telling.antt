@@ -1,5 +1,5 @@
 -- How the end is told to idle ranks, one after the other.
-use Rattle.std.proofs.Common.{◌≡◌, ◌<◌, ◌+◌, ℕ, true, false, List, [], ◌∷◌, ◌++◌, append-nil, append_assoc, length, find, Option, None, Some, refl, sym, ap, ◌∙◌, subst, arith}
+use Rattle.std.proofs.Common.{◌≡◌, ◌<◌, ◌+◌, ℕ, true, false, List, [], ◌∷◌, ◌++◌, append-nil, append_assoc, filter, length, find, not, Option, None, Some, refl, sym, ap, ◌∙◌, subst, arith}
 use Rattle.std.specs.Prelude.{is_none}
 use Rattle.std.specs.List.{AllPairs}
 use Rattle.std.specs.Option.{option_map}
@@ -14,8 +14,8 @@ use Rattle.bag_ledger.specs.declared.entries.Entry.TheVariants as enters
 use Rattle.bag_ledger.proofs.Tests.{some_is}
 use Rattle.work_queue.proofs.Searched.{find_none}
 use Rattle.reserve_path.proofs.Places.{AreApart}
-use Rattle.reserve_path.specs.Calls.{call_of, gone, gone_if}
-use Rattle.reserve_path.specs.Parked.{IsParked, Parked, is_idle, is_of}
+use Rattle.reserve_path.specs.Calls.{call_of, first_idle, gone, gone_if}
+use Rattle.reserve_path.specs.Parked.{IsParked, is_idle, is_of}
 use Rattle.reserve_path.specs.declared.waits.Waiting.{Waiting}
 use Rattle.server_law.specs.Acts.{Act, Around, Tells, to_rank}
 use Rattle.server_law.specs.Carried.{counted, posted}
@@ -23,9 +23,9 @@ use Rattle.server_law.specs.Endings.{tells_all, tells_one}
 use Rattle.server_law.specs.State.{ServerModel}
 use Rattle.server_core.specs.Inside.{parked_of}
 use Rattle.server_core.specs.Out.{HasRoom, Out, going_on, with_answer}
-use Rattle.server_core.proofs.Alone.{IsSplit, NonePasses, before_others, behind_others, found_split, gone_one, one_fewer}
+use Rattle.server_core.proofs.Alone.{NonePasses, before_others, behind_others, found_split, gone_one, one_fewer}
 use Rattle.server_core.proofs.Going.{answers_one, room_left}
-use Rattle.server_core.specs.Waits.{with_parked}
+use Rattle.server_core.specs.Waits.{unidle_first, with_parked}
 use Rattle.server_core.proofs.Sounds.{waits_within}
 
 -- Those that are not idle are passed.
@@ -81,78 +81,62 @@ none_waits : (o : Option Waiting) → None ≡ option_map (λ (e : Waiting). cal
 none_waits None told = refl
 none_waits (Some e) told = absurd (cc)
 
-module _ (s : ServerModel) (once : AllPairs AreApart s.kept.parked.waiting) (n : Parked)
-    (left : n ≡ (gone_if (parked_of s) (find is_idle s.kept.parked.waiting)).parked) where
-  abbrev v : ServerModel
-  v = with_parked s s.kept.queue n
+-- What comes of the first idle rank.
+pub record EndTold (s u : ServerModel) (rank : Rank) (request : ℕ) : Type 0 where
+  pub within : rank.0 < u.config.ranks
+  pub fewer : length u.kept.parked.waiting < length s.kept.parked.waiting
+  pub room : (out : Out) (more : ℕ) → HasRoom s out more → HasRoom u out (more + 1)
+  pub goes : (end : End) (out : Out)
+      → going_on (with_answer out (posted u (to_rank rank (tells.Ended request end))) (enters.Over rank request end))
+      (tells_all end [] u.kept.parked.waiting) (counted u (by.Rank rank)) ≡ going_on out (tells_all end [] s.kept.parked.waiting) s
 
+module _ (s : ServerModel) (sound : IsParked (parked_of s)) where
   abbrev first : Option Waiting
-  first = find is_idle s.kept.parked.waiting
+  first = first_idle (parked_of s)
 
-  module _ (e : Waiting) (found : find is_idle s.kept.parked.waiting ≡ Some e) where
-    abbrev at : IsSplit is_idle s.kept.parked.waiting e
-    at = found_split is_idle s.kept.parked.waiting e found
+  abbrev without : Option Waiting → ServerModel
+  without o = with_parked s s.kept.queue (gone_if (parked_of s) o).parked
 
-    others : n ≡ record { waiting = at.before ++ at.behind; wishes = s.kept.parked.wishes }
-    others =
-        let apart = subst (AllPairs AreApart) at.stands once in
-        let number : Waiting → ℕ = λ x. x.wish.rank.0 in
-        left ∙ ap (λ o. (gone_if (parked_of s) o).parked) found
-        ∙ ap (λ (l : List Waiting). (gone (record (parked_of s) { parked = record { waiting = l; wishes = s.kept.parked.wishes } }) e.wish.rank).parked) at.stands
-        ∙ ap (λ l. let p : Parked = record { waiting = l; wishes = s.kept.parked.wishes } in p)
-        (gone_one (is_of e.wish.rank) at.before e at.behind (before_others number at.before e at.behind apart)
-        (eq-eqb e.wish.rank.0 e.wish.rank.0 refl) (behind_others number at.before e at.behind apart))
+  ends : (e : Waiting) → first ≡ Some e → EndTold s (without (Some e)) e.wish.rank e.wish.request
+  ends e is =
+      let at = found_split is_idle s.kept.parked.waiting e is in
+      let apart = subst (AllPairs AreApart) at.stands sound.once in
+      let number : Waiting → ℕ = λ x. x.wish.rank.0 in
+      let left = ap (filter (λ (x : Waiting). not (is_of e.wish.rank x))) at.stands
+      ∙ gone_one (is_of e.wish.rank) at.before e at.behind (before_others number at.before e at.behind apart)
+      (eq-eqb e.wish.rank.0 e.wish.rank.0 refl) (behind_others number at.before e at.behind apart) in
+      let now = ap (λ (l : List Waiting). length l) left in
+      let was = ap (λ (l : List Waiting). length l) at.stands ∙ one_fewer at.before e at.behind in
+      record {
+        within = waits_within (parked_of s) sound is_idle e is;
+        fewer = omega (arith, now, was);
+        room = λ out more room.
+            room_left s s.kept.queue (gone (parked_of s) e.wish.rank).parked out more (more + 1) (omega (arith, now, was)) room;
+        goes = λ end out.
+            let x = to_rank e.wish.rank (tells.Ended e.wish.request end) in
+            let over = enters.Over e.wish.rank e.wish.request end in
+            let tell : Act = Tells (around at.before at.behind) e.wish e.to_ask end in
+            let more = tells_all end [] (at.before ++ at.behind) in
+            let acts = ap (tells_all end []) at.stands ∙ next_told end at.before e at.behind at.fails at.passes in
+            let Goes : List Waiting → Type 0 = λ l.
+            let v = with_parked s s.kept.queue (record { waiting = l; wishes = s.kept.parked.wishes }) in
+            going_on (with_answer out (posted v x) over) (tells_all end [] l) (counted v (by.Rank e.wish.rank))
+            ≡ going_on out (tells_all end [] s.kept.parked.waiting) s in
+            let told : Goes (at.before ++ at.behind) = sym (ap (λ l. going_on out l s) acts ∙ answers_one tell more s out x over refl refl) in
+            subst Goes (sym left) told;
+      }
 
-    fewer : length s.kept.parked.waiting ≡ length n.waiting + 1
-    fewer =
-        let now = ap (λ (p : Parked). length p.waiting) others in
-        let was = ap (λ (l : List Waiting). length l) at.stands ∙ one_fewer at.before e at.behind in
-        omega (arith, now, was)
-
-    told_end : (end : End) (out : Out)
-        → going_on (with_answer out (posted v (to_rank e.wish.rank (tells.Ended e.wish.request end))) (enters.Over e.wish.rank e.wish.request end))
-        (tells_all end [] n.waiting) (counted v (by.Rank e.wish.rank))
-        ≡ going_on out (tells_all end [] s.kept.parked.waiting) s
-    told_end end out =
-        let x = to_rank e.wish.rank (tells.Ended e.wish.request end) in
-        let over = enters.Over e.wish.rank e.wish.request end in
-        let tell : Act = Tells (around at.before at.behind) e.wish e.to_ask end in
-        let more = tells_all end [] (at.before ++ at.behind) in
-        let acts = ap (tells_all end []) at.stands ∙ next_told end at.before e at.behind at.fails at.passes in
-        rw others (sym (ap (λ l. going_on out l s) acts ∙ answers_one tell more s out x over refl refl))
-
-  module _ (rank : Rank) (request : ℕ) (told : Some (rank, request) ≡ option_map (λ (e : Waiting). call_of e.wish) first) where
-    pub end_within : IsParked (parked_of s) → rank.0 < s.config.ranks
-    end_within sound =
-        let e = waits_told first rank request told in
-        subst (λ (k : Rank × ℕ). k.0.0 < s.config.ranks) e.2 (waits_within (parked_of s) sound is_idle e.0 e.1)
-
-    pub fewer_wait : length n.waiting < length s.kept.parked.waiting
-    fewer_wait = let e = waits_told first rank request told in omega (arith, fewer e.0 e.1)
-
-    pub end_room : (out : Out) (more : ℕ) → HasRoom s out more → HasRoom v out (more + 1)
-    end_room out more room =
-        let e = waits_told first rank request told in
-        let wishes = ap (λ (p : Parked). length p.wishes) (others e.0 e.1) in
-        room_left s s.kept.queue n out more (more + 1) (omega (arith, wishes, fewer e.0 e.1)) room
-
-    pub end_goes : (end : End) (out last : Out) (t : ServerModel) → t ≡ counted v (by.Rank rank)
-        → last ≡ with_answer out (posted v (to_rank rank (tells.Ended request end))) (enters.Over rank request end)
-        → going_on last (tells_all end [] t.kept.parked.waiting) t ≡ going_on out (tells_all end [] s.kept.parked.waiting) s
-    end_goes end out last t after sent =
-        let e = waits_told first rank request told in
-        let Goes : Rank × ℕ → Type 0 = λ k.
-        going_on (with_answer out (posted v (to_rank k.0 (tells.Ended k.1 end))) (enters.Over k.0 k.1 end)) (tells_all end [] n.waiting)
-        (counted v (by.Rank k.0))
-        ≡ going_on out (tells_all end [] s.kept.parked.waiting) s in
-        let one : Goes (call_of e.0.wish) = told_end e.0 e.1 end out in
-        let all : Goes (rank, request) = subst Goes e.2 one in
-        rw (after, sent) all
+  pub end_told : {u : ServerModel} {rank : Rank} {request : ℕ} → u ≡ unidle_first s
+      → Some (rank, request) ≡ option_map (λ (e : Waiting). call_of e.wish) first → EndTold s u rank request
+  end_told {u} {rank} {request} made told =
+      let e = waits_told first rank request told in
+      let now = subst (λ (k : Rank × ℕ). EndTold s (without (Some e.0)) k.0 k.1) e.2 (ends e.0 e.1) in
+      subst (λ v. EndTold s v rank request) (sym (made ∙ ap without e.1)) now
 
   -- or none is idle
-  pub nobody_idle : None ≡ option_map (λ (e : Waiting). call_of e.wish) first → (end : End) → tells_all end [] n.waiting ≡ []
-  nobody_idle told end =
+  pub nobody_idle : {u : ServerModel} → u ≡ unidle_first s → None ≡ option_map (λ (e : Waiting). call_of e.wish) first → (end : End)
+      → tells_all end [] u.kept.parked.waiting ≡ []
+  nobody_idle made told end =
       let none = none_waits first told in
-      let same = left ∙ ap (λ o. (gone_if (parked_of s) o).parked) none in
-      ap (λ (p : Parked). tells_all end [] p.waiting) same
+      ap (λ (v : ServerModel). tells_all end [] v.kept.parked.waiting) (made ∙ ap without none)
       ∙ none_told end s.kept.parked.waiting (find_none is_idle s.kept.parked.waiting none)

@@ -5,13 +5,14 @@ use Rattle.adlb_unit.specs.declared.messages.Message.TheVariants as tells
 use Rattle.adlb_unit.specs.declared.names.Rank.{Rank}
 use Rattle.adlb_unit.specs.declared.names.Server.{Server}
 use Rattle.adlb_unit.specs.declared.names.WorkType.{WorkType}
+use Rattle.adlb_unit.specs.declared.names.Target.{Target}
 use Rattle.adlb_unit.specs.declared.notes.End.{End}
 use Rattle.adlb_unit.specs.declared.notes.End.TheVariants as ends_by
 use Rattle.adlb_unit.specs.declared.notes.UnitNote.{UnitNote}
 use Rattle.bag_ledger.specs.declared.entries.Entry.TheVariants as enters
 use Rattle.work_queue.specs.Queue.{Queue}
 use Rattle.work_queue.specs.declared.placing.Placed.{Placed}
-use Rattle.reserve_path.specs.Calls.{after_ask, after_none, given, gone, gone_if, hinted, reserved, taker_of}
+use Rattle.reserve_path.specs.Calls.{after_ask, after_none, first_idle, forgotten_if, given, gone, gone_if, hinted, hints_next, reserved, taker_of}
 use Rattle.reserve_path.specs.Grants.{best_for, pinned_to}
 use Rattle.reserve_path.specs.Parked.{Parked, ParkedModel}
 use Rattle.reserve_path.specs.declared.steps.ReserveStep.{ReserveStep}
@@ -31,6 +32,9 @@ over_by false false = None
 
 abbrev pub over : Kept → Option End
 over k = over_by k.done k.exhausted
+
+abbrev pub wish_of : Rank → ℕ → Option (List WorkType) → Wish
+wish_of rank request types = record { rank = rank; request = request; types = types }
 
 -- Who waits.
 
@@ -78,6 +82,14 @@ abbrev pub taken : ServerModel → Placed → ServerModel
 taken s p =
     let who = taker_of p.unit (parked_of s) in
     with_parked s (given who p s.kept.queue) (gone_if (parked_of s) who).parked
+
+-- the next wish that such a unit takes off is taken off
+abbrev pub unwished_next : WorkType → Target → ServerModel → ServerModel
+unwished_next kind target s = with_parked s s.kept.queue (forgotten_if (parked_of s) (hints_next kind target s.kept.parked.wishes)).parked
+
+-- the first idle rank waits no longer
+abbrev pub unidle_first : ServerModel → ServerModel
+unidle_first s = with_parked s s.kept.queue (gone_if (parked_of s) (first_idle (parked_of s))).parked
 
 -- What is told.
 

@@ -1,8 +1,10 @@
 //! The letters Ask, AskGrant and AskNone: the home of a rank that waits asks another server for it, and is answered.
 
-ghost use Rattle.std.specs.Prelude.{◌≡◌, ◌≢◌, ◌<◌, ℕ, Some, IsSome};
+ghost use Rattle.std.specs.Prelude.{◌≡◌, Some};
+ghost use Rattle.reserve_path.specs.Parked.{IsOther};
 ghost use Rattle.server_core.specs.Out.{HasRoom, Out, made, planned};
 ghost use Rattle.server_law.specs.Asks.{ask_rule, grant_rule, none_rule};
+ghost use Rattle.server_law.specs.Expected.{IsAwaitedFrom, IsUnanswered};
 ghost use Rattle.server_law.specs.Plan.{Plan};
 ghost use Rattle.server_law.specs.State.{ServerModel};
 
@@ -21,9 +23,8 @@ impl ServerState {
         types: &Types,
         out: &mut Outgoing,
     )
-        requires server { from.0 < self.old.config.servers }
-        requires other { from ≢ self.old.me }
-        requires expected { IsSome (ask_rule self.old from (record { rank = rank; request = request; types = types.now })) }
+        requires other { IsOther self.old.config self.old.me from }
+        requires awaited { IsAwaitedFrom self.old from (Message.Ask rank request types.now) }
         requires room { HasRoom self.old out.old 3 }
 
         ensures made { (p : Plan) →
@@ -60,20 +61,20 @@ impl ServerState {
         note: UnitNote,
         out: &mut Outgoing,
     )
-        requires expected { IsSome (grant_rule self.old from rank request note) }
+        requires awaited { IsUnanswered self.old from rank request }
         requires room { HasRoom self.old out.old 3 }
 
         ensures made { (p : Plan) → grant_rule self.old from rank request note ≡ Some p →
             made self.new out.new ≡ planned out.old p self.old }
         ensures room { HasRoom self.new out.new 1 }
     {
-        self.parked.remote_grant(rank);
+        self.release(rank);
         self.say(Actor::Rank(rank), Message::Grant { request, note }, out);
     }
 
     // The server that was asked for the rank had no unit: what is here is looked at again, and then the next is asked.
     pub(crate) fn ask_again(&mut self, from: Server, rank: Rank, request: u64, out: &mut Outgoing)
-        requires expected { IsSome (none_rule self.old from rank request) }
+        requires awaited { IsUnanswered self.old from rank request }
         requires room { HasRoom self.old out.old 3 }
 
         ensures made { (p : Plan) → none_rule self.old from rank request ≡ Some p →

@@ -1,11 +1,12 @@
 //! The letters about batches and their common parts: KeepCommon, CloseBatch and FetchCommon.
 
-ghost use Rattle.std.specs.Prelude.{◌≡◌, ◌<◌, ◌∷◌, [], true, OnOk, OnErr, Some, if◌then◌else◌};
+ghost use Rattle.std.specs.Prelude.{◌≡◌, ◌<◌, ◌∷◌, [], OnOk, OnErr, Some, if◌then◌else◌};
 ghost use Rattle.batch_store.specs.Store.{CanClose, CanFetch, Keeps, part_in};
 ghost use Rattle.batch_store.specs.declared.parts.Part.{Part};
 ghost use Rattle.server_core.specs.Out.{HasRoom, Out, going_on, made, with_entry};
 ghost use Rattle.server_law.specs.Acts.{Act, Closes, Fetches_part};
-ghost use Rattle.server_law.specs.Batches.{expects_keep, keep_now};
+ghost use Rattle.server_law.specs.Batches.{keep_now};
+ghost use Rattle.server_law.specs.Expected.{IsAwaited};
 ghost use Rattle.server_law.specs.State.{Kept, ServerModel};
 
 use crate::outgoing::Outgoing;
@@ -24,7 +25,7 @@ impl ServerState {
         out: &mut Outgoing,
     ) -> Result<(), NoMemory>
         requires rank { from.0 < self.old.config.ranks }
-        requires expected { expects_keep self.old from request common ≡ true }
+        requires awaited { IsAwaited self.old from (Message.KeepCommon request common) }
         requires room { HasRoom self.old out.old 2 }
 
         ensures ok { OnOk result (made self.new out.new ≡

@@ -1,11 +1,11 @@
 //! The letters Notice, Token, Failed, Exhaust and Shutdown: several servers find that all work is used up, or that no rank
 //! waits or runs any more, by checks that go round the ring of servers.
 
-ghost use Rattle.std.specs.Prelude.{◌≡◌, ◌<◌, ◌+◌, ◌-◌, ◌∷◌, ◌⊎◌, [], ℕ, IsSome, Some};
+ghost use Rattle.std.specs.Prelude.{◌≡◌, ◌<◌, ◌+◌, ◌-◌, ◌∷◌, ◌⊎◌, [], ℕ, Some};
 ghost use Rattle.adlb_unit.specs.Ring.{behind};
 ghost use Rattle.adlb_unit.specs.declared.actors.Actor.TheVariants as by;
 ghost use Rattle.adlb_unit.specs.declared.messages.Why.{Why};
-ghost use Rattle.exhaust_ring.specs.Expected.{HasComeBack, IsRunning, IsToJudge, IsToMark, IsToTest};
+ghost use Rattle.exhaust_ring.specs.Expected.{Expects, HasComeBack, IsRunning, IsToJudge, IsToMark, IsToTest};
 ghost use Rattle.exhaust_ring.specs.declared.steps.RingStep.{RingStep};
 ghost use Rattle.server_core.specs.Checks.{said, step_letters, stepped, verdict};
 ghost use Rattle.server_core.specs.Out.{HasRoom, Out, going_on, made, planned, with_letter};
@@ -32,7 +32,7 @@ impl ServerState {
 
     // The token comes from the server before: after the first wave and in it, and in the second and after it.
     pub(crate) fn hear_token(&mut self, token: Token, out: &mut Outgoing)
-        requires expected { (from : Server) × IsSome (token_rule self.old from token) }
+        requires awaited { (from : Server) × Expects (ring_at self.old) from token }
         requires room { HasRoom self.old out.old 9 }
 
         ensures made { (from : Server) (p : Plan) → token_rule self.old from token ≡ Some p →
@@ -64,10 +64,10 @@ impl ServerState {
     {
         let quiet = self.is_quiet();
         let mut room = std::array::from_fn(|_| (Rank(0), Types::any()));
-        let count = self.parked.asked(&mut room);
+        let count = self.put_askers(&mut room);
         let step = self
             .ring
-            .visit1(token, quiet, self.activity, &room[..count as usize]);
+            .visit1(token, quiet, self.activity, &room[..count]);
         self.tell_step(step, out);
     }
 

@@ -1,12 +1,12 @@
 //! What follows each event: a quiet server that has changed gives notice, and a check is started where one is wanted. And how
 //! an end is told to the ranks that wait.
 
-ghost use Rattle.std.specs.Prelude.{◌≡◌, ◌<◌, [], ◌↔◌, ℕ, IsTrue, length, true, false};
+ghost use Rattle.std.specs.Prelude.{◌≡◌, ◌<◌, [], ◌↔◌, ℕ, IsTrue, is_some, length, true, false};
 ghost use Rattle.exhaust_ring.specs.Ring.{MayStart};
 ghost use Rattle.server_core.specs.Checks.{with_check};
 ghost use Rattle.server_core.specs.Out.{HasRoom, Out, going_on, made};
 ghost use Rattle.server_core.specs.Quiet.{all_rest};
-ghost use Rattle.server_law.specs.Acts.{check_alone};
+ghost use Rattle.server_law.specs.Acts.{check_alone, fit_among};
 ghost use Rattle.server_law.specs.Endings.{checks, ends_event, is_noted, is_quiet, notices, rests, tells_all};
 ghost use Rattle.server_law.specs.Expected.{IsQuiet};
 ghost use Rattle.server_law.specs.Plan.{decided};
@@ -14,7 +14,7 @@ ghost use Rattle.server_law.specs.State.{Kept, ServerModel, ring_at};
 
 use crate::outgoing::Outgoing;
 use crate::states::ServerState;
-use adlb_unit::{Actor, End, Message, Rank, Server, Types};
+use adlb_unit::{Actor, End, Message, Rank, Server, Types, UnitId};
 use exhaust_ring::RingStep;
 
 impl ServerState {
@@ -24,7 +24,21 @@ impl ServerState {
         ensures quiet { IsTrue result ↔ IsQuiet self.now }
         ensures test { result ≡ is_quiet self.now }
     {
-        !self.pushes.going() && self.all_rest()
+        self.is_calm()
+    }
+
+    // No push of this server stands, and each rank of the run rests.
+    fn is_calm(&self) -> bool
+        ensures { result ≡ is_quiet self.now }
+    {
+        !self.is_pushing() && self.all_rest()
+    }
+
+    // A push of this server stands.
+    fn is_pushing(&self) -> bool
+        ensures { result ≡ is_some self.now.kept.pushing.push }
+    {
+        self.pushes.going()
     }
 
     // Each rank of the run rests, as far as the server knows.
@@ -111,14 +125,21 @@ impl ServerState {
         ensures ring { self.new ≡ with_check self.old (check_alone self.old).ring }
     {
         let mut room = std::array::from_fn(|_| (Rank(0), Types::any()));
-        let count = self.parked.asked(&mut room);
-        let asked = &room[..count as usize];
-        let fits = if self.config.servers == 1 {
+        let count = self.put_askers(&mut room);
+        let asked = &room[..count];
+        let fits = self.fits_alone(asked);
+        self.ring.start(self.activity, asked, fits)
+    }
+
+    // The first free unit that fits a rank of the list, where this server is alone.
+    fn fits_alone(&self, asked: &[(Rank, Types)]) -> Option<UnitId>
+        ensures { self.now.config.servers ≡ 1 → result ≡ fit_among self.now.kept asked.now }
+    {
+        if self.config.servers == 1 {
             self.queue.fits(asked)
         } else {
             None
-        };
-        self.ring.start(self.activity, asked, fits)
+        }
     }
 
     // All idle ranks are told the end, in the order in which they came.
@@ -139,7 +160,7 @@ impl ServerState {
         ensures last { result ≡ false → tells_all end [] self.new.kept.parked.waiting ≡ [] }
         ensures room { (more : ℕ) → HasRoom self.old out.old more → HasRoom self.new out.new more }
     {
-        match self.parked.end_idle() {
+        match self.release_idle() {
             Some((rank, request)) => {
                 self.end_call(rank, request, end, out);
                 true

@@ -1,8 +1,12 @@
 //! The letter Hint, and the hints that a free unit makes.
 
-ghost use Rattle.std.specs.Prelude.{◌≡◌, ◌≢◌, ◌<◌, ℕ, [], true, false, Some, IsSome, MatchBool, length};
+ghost use Rattle.std.specs.Prelude.{◌≡◌, ◌<◌, ◌+◌, ℕ, [], true, false, Some, length};
+ghost use Rattle.adlb_unit.specs.Targets.{home};
 ghost use Rattle.adlb_unit.specs.declared.units.Unit.{Unit};
-ghost use Rattle.server_core.specs.Out.{HasRoom, Out, going_on, made, planned};
+ghost use Rattle.reserve_path.specs.Parked.{IsHere, IsOther};
+ghost use Rattle.server_core.specs.Out.{HasPlaces, HasRoom, Out, going_on, made, planned, with_letter};
+ghost use Rattle.server_law.specs.Acts.{to_server};
+ghost use Rattle.server_law.specs.Carried.{counted, posted};
 ghost use Rattle.server_law.specs.Hints.{hint_all, hint_rule};
 ghost use Rattle.server_law.specs.Plan.{Plan};
 ghost use Rattle.server_law.specs.State.{Kept, ServerModel};
@@ -14,9 +18,8 @@ use adlb_unit::{Actor, Message, Rank, Server, Target, WorkType};
 impl ServerState {
     // Another server has a unit for the rank by now: if the rank still waits, that server is asked, at once or in its turn.
     pub(crate) fn hear_hint(&mut self, from: Server, rank: Rank, request: u64, out: &mut Outgoing)
-        requires server { from.0 < self.old.config.servers }
-        requires other { from ≢ self.old.me }
-        requires expected { IsSome (hint_rule self.old from rank request) }
+        requires other { IsOther self.old.config self.old.me from }
+        requires here { IsHere self.old.config self.old.me rank }
         requires room { HasRoom self.old out.old 3 }
 
         ensures made { (p : Plan) → hint_rule self.old from rank request ≡ Some p →
@@ -50,13 +53,26 @@ impl ServerState {
             hint_all unit self.new.kept.parked.wishes ≡ [] }
         ensures room { HasRoom self.new out.new 2 }
     {
-        match self.parked.next_hint(kind, target) {
+        match self.forget(kind, target) {
             Some((rank, request)) => {
-                let home = self.config.home(rank);
-                self.say(Actor::Server(home), Message::Hint { rank, request }, out);
+                self.tell_home(rank, request, out);
                 true
             }
             None => false,
         }
+    }
+
+    // The home of the rank is told that a unit for it is here by now.
+    fn tell_home(&mut self, rank: Rank, request: u64, out: &mut Outgoing)
+        requires room { 0 < out.old.room }
+        requires places { HasPlaces self.old out.old }
+
+        ensures counted { self.new ≡ counted self.old (Actor.Server (home self.old.config rank)) }
+        ensures told { out.new ≡ with_letter out.old
+            (posted self.old (to_server (home self.old.config rank) (Message.Hint rank request))) }
+        ensures room { (more : ℕ) → HasRoom self.old out.old (more + 1) → HasRoom self.new out.new more }
+    {
+        let home = self.config.home(rank);
+        self.say(Actor::Server(home), Message::Hint { rank, request }, out);
     }
 }

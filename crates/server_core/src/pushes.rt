@@ -1,15 +1,17 @@
 //! The letters of pushes: a unit moves to another server where there is room. PushQuery asks for room; PushYes promises
 //! it, and PushNo ends the push. PushUnit brings the unit, or PushCancel takes the promise back; PushAck ends the push.
 
-ghost use Rattle.std.specs.Prelude.{◌≡◌, ◌<◌, ℕ, true, IsSome, IsTrue, OnErr, OnOk, Some};
-ghost use Rattle.put_path.specs.Pushes.{asks_room, has_sent, is_query, is_under_way};
+ghost use Rattle.std.specs.Prelude.{◌≡◌, ◌<◌, ℕ, IsTrue, OnErr, OnOk, Some};
+ghost use Rattle.put_path.specs.Pushes.{Asks, asks_room, has_sent, is_query, is_under_way};
 ghost use Rattle.server_core.specs.Out.{HasRoom, Out, going_on, made, planned};
 ghost use Rattle.server_law.specs.Acts.{Act, Ends_push, Stops_push};
 ghost use Rattle.server_law.specs.Carried.{done};
+ghost use Rattle.server_law.specs.Expected.{IsAwaitedFrom};
 ghost use Rattle.server_law.specs.Plan.{Plan};
 ghost use Rattle.server_law.specs.Presses.{presses};
 ghost use Rattle.server_law.specs.Pushes.{cancel_rule, query_rule, unit_rule, yes_rule};
 ghost use Rattle.server_law.specs.State.{Kept, ServerModel};
+ghost use Rattle.work_queue.specs.Queue.{HasPromise};
 
 use crate::outgoing::Outgoing;
 use crate::states::ServerState;
@@ -18,12 +20,16 @@ use bag_ledger::Entry;
 use put_path::{Push, push_query};
 
 impl ServerState {
-    // If the queue is pressed, no push stands and a unit may move, the next of the other servers is asked for room.
-    pub(crate) fn press(&mut self, out: &mut Outgoing)
+    // If a unit was taken, the queue is pressed, no push stands and a unit may move, the next of the other servers is asked
+    // for room.
+    pub(crate) fn press(&mut self, taken: bool, out: &mut Outgoing)
         requires { HasRoom self.old out.old 2 }
-        ensures made { made self.new out.new ≡ going_on out.old (presses true self.old) self.old }
+        ensures made { made self.new out.new ≡ going_on out.old (presses taken self.old) self.old }
         ensures room { HasRoom self.new out.new 1 }
     {
+        if !taken {
+            return;
+        }
         if let Some(query) = self.pushes.pressure(&self.queue) {
             let asks = Message::PushQuery {
                 id: query.id,
@@ -42,7 +48,7 @@ impl ServerState {
         out: &mut Outgoing,
     ) -> Result<(), NoMemory>
         requires server { from.0 < self.old.config.servers }
-        requires expected { IsSome (query_rule self.old from id length) }
+        requires awaited { IsAwaitedFrom self.old from (Message.PushQuery id length) }
         requires room { HasRoom self.old out.old 3 }
 
         ensures ok { OnOk result ((p : Plan) → query_rule self.old from id length ≡ Some p →
@@ -66,7 +72,7 @@ impl ServerState {
     // The other server has promised room: the unit goes there if it is still free, otherwise a cancel.
     pub(crate) fn hear_yes(&mut self, from: Server, id: UnitId, out: &mut Outgoing)
         requires server { from.0 < self.old.config.servers }
-        requires expected { IsSome (yes_rule self.old from id) }
+        requires awaited { Asks self.old.kept.pushing from id }
         requires room { HasRoom self.old out.old 3 }
 
         ensures made { (p : Plan) → yes_rule self.old from id ≡ Some p →
@@ -74,15 +80,15 @@ impl ServerState {
         ensures room { HasRoom self.new out.new 1 }
     {
         match self.pushes.push_yes(&mut self.queue) {
-            Push::Go(to, unit) => {
+            Push::Go(_, unit) => {
                 let left = Entry::Left {
                     server: self.me,
-                    to,
+                    to: from,
                     id: unit.id,
                 };
-                self.answer(Actor::Server(to), Message::PushUnit { unit }, left, out);
+                self.answer(Actor::Server(from), Message::PushUnit { unit }, left, out);
             }
-            Push::Cancel(to, id) => self.say(Actor::Server(to), Message::PushCancel { id }, out),
+            Push::Cancel(..) => self.say(Actor::Server(from), Message::PushCancel { id }, out),
         }
     }
 
@@ -98,7 +104,7 @@ impl ServerState {
     // The unit comes into the room that was promised to it and is settled, and then its coming is acknowledged.
     pub(crate) fn hear_unit(&mut self, from: Server, unit: Unit, out: &mut Outgoing)
         requires server { from.0 < self.old.config.servers }
-        requires expected { IsSome (unit_rule self.old from unit) }
+        requires awaited { IsAwaitedFrom self.old from (Message.PushUnit unit) }
         requires fresh { self.old.kept.queue.arrivals < self.old.clock }
         requires room { HasRoom self.old out.old 3 }
 
@@ -119,7 +125,7 @@ impl ServerState {
     // The other server takes the promise back, which is acknowledged.
     pub(crate) fn hear_cancel(&mut self, from: Server, id: UnitId, out: &mut Outgoing)
         requires server { from.0 < self.old.config.servers }
-        requires expected { IsSome (cancel_rule self.old from id) }
+        requires awaited { HasPromise id self.old.kept.queue.promises }
         requires room { HasRoom self.old out.old 3 }
 
         ensures made { (p : Plan) → cancel_rule self.old from id ≡ Some p →

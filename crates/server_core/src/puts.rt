@@ -1,14 +1,17 @@
 //! The letter Put, and what comes of a free unit.
 
-ghost use Rattle.std.specs.Prelude.{◌≡◌, ◌<◌, ◌∷◌, [], true, IfOk, OnErr, OnOk, Some};
+ghost use Rattle.std.specs.Prelude.{◌≡◌, ◌<◌, ◌∷◌, [], IfOk, OnErr, OnOk, Some, find};
+ghost use Rattle.std.specs.Option.{option_map};
 ghost use Rattle.server_core.specs.Out.{HasRoom, Out, going_on, made, planned};
+ghost use Rattle.server_law.specs.Expected.{IsNew};
+ghost use Rattle.server_law.specs.Finding.{is_free_as};
 ghost use Rattle.server_law.specs.Plan.{Plan};
-ghost use Rattle.server_law.specs.Puts.{expects_put, is_taken, put_now, put_rule, settles};
+ghost use Rattle.server_law.specs.Puts.{is_taken, put_now, put_rule, settles};
 ghost use Rattle.server_law.specs.State.{Kept, ServerModel};
 
 use crate::outgoing::Outgoing;
 use crate::states::ServerState;
-use adlb_unit::{Actor, End, Message, NoMemory, Rank, Unit, UnitId};
+use adlb_unit::{Actor, End, Message, NoMemory, Rank, Target, Unit, UnitId, WorkType};
 use bag_ledger::Entry;
 use put_path::{PutStep, put};
 
@@ -16,7 +19,7 @@ impl ServerState {
     // The unit is taken, if there is room, and goes to a rank that waits for it; and then a push may begin.
     pub(crate) fn put(&mut self, from: Rank, unit: Unit, out: &mut Outgoing) -> Result<(), NoMemory>
         requires rank { from.0 < self.old.config.ranks }
-        requires expected { expects_put self.old from unit ≡ true }
+        requires awaited { IsNew self.old from unit }
         requires fresh { self.old.kept.queue.arrivals < self.old.clock }
         requires room { HasRoom self.old out.old 3 }
 
@@ -28,16 +31,14 @@ impl ServerState {
         let id = unit.id;
         let taken = self.answer_put(from, unit, out)?;
         self.settle(id, out);
-        if taken {
-            self.press(out);
-        }
+        self.press(taken, out);
         Ok(())
     }
 
     // The put is answered: whether it is accepted.
     fn answer_put(&mut self, from: Rank, unit: Unit, out: &mut Outgoing) -> Result<bool, NoMemory>
         requires rank { from.0 < self.old.config.ranks }
-        requires expected { expects_put self.old from unit ≡ true }
+        requires awaited { IsNew self.old from unit }
         requires fresh { self.old.kept.queue.arrivals < self.old.clock }
         requires room { HasRoom self.old out.old 3 }
 
@@ -88,13 +89,23 @@ impl ServerState {
         ensures made { made self.new out.new ≡ going_on out.old (settles id self.old) self.old }
         ensures room { HasRoom self.new out.new 2 }
     {
-        if !self.queue.is_free(id) {
+        let Some((kind, target)) = self.free_unit(id) else {
             return;
-        }
-        let (facts, target) = self.queue.facts(id);
+        };
         match self.offer(id) {
             Some((rank, request, note)) => self.grant(rank, request, note, out),
-            None => self.hint_homes(facts.kind, target, out),
+            None => self.hint_homes(kind, target, out),
         }
+    }
+
+    // The type and the target of the free unit of this id, if there is one.
+    fn free_unit(&self, id: UnitId) -> Option<(WorkType, Target)>
+        ensures { result ≡ option_map (λ p. (p.unit.kind, p.unit.target)) (find (is_free_as id) self.now.kept.queue.units) }
+    {
+        if !self.queue.is_free(id) {
+            return None;
+        }
+        let (facts, target) = self.queue.facts(id);
+        Some((facts.kind, target))
     }
 }

@@ -1,6 +1,6 @@
 //! The letter Reserve, and how calls are answered by a unit or an end.
 
-ghost use Rattle.std.specs.Prelude.{◌≡◌, ◌<◌, ◌+◌, ℕ, Some, IsSome, IsTrue};
+ghost use Rattle.std.specs.Prelude.{◌≡◌, ◌<◌, ◌+◌, ℕ, Some, IsTrue};
 ghost use Rattle.adlb_unit.specs.declared.names.Server.{Server};
 ghost use Rattle.reserve_path.specs.Parked.{entry_of};
 ghost use Rattle.reserve_path.specs.declared.waits.Waiting.{Waiting};
@@ -10,6 +10,7 @@ ghost use Rattle.server_core.specs.Inside.{parked_of};
 ghost use Rattle.server_core.specs.Waits.{told_step};
 ghost use Rattle.server_law.specs.Acts.{to_rank};
 ghost use Rattle.server_law.specs.Carried.{counted, posted};
+ghost use Rattle.server_law.specs.Expected.{IsHome, Runs};
 ghost use Rattle.server_law.specs.Plan.{Plan};
 ghost use Rattle.server_law.specs.Reserves.{reserve_rule};
 ghost use Rattle.server_law.specs.State.{Kept, ServerModel, is_waiting};
@@ -24,7 +25,7 @@ impl ServerState {
     // The rank gets the best free unit; if there is none, it waits, and the first of the other servers is asked.
     pub(crate) fn reserve(&mut self, from: Rank, request: u64, types: &Types, out: &mut Outgoing)
         requires rank { from.0 < self.old.config.ranks }
-        requires expected { IsSome (reserve_rule self.old (record { rank = from; request = request; types = types.now })) }
+        requires awaited { IsHome self.old from × Runs self.old from }
         requires room { HasRoom self.old out.old 3 }
 
         ensures made { (p : Plan) →

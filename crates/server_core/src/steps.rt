@@ -1,10 +1,12 @@
 //! One step of a server.
 
-ghost use Rattle.std.specs.Prelude.{◌≡◌, ◌≢◌, ◌≤◌, ◌<◌, ℕ, ◌↔◌, None, Some, Err, IsSome, IfOk, IfErr, IfSome, OnOk, OnErr};
+ghost use Rattle.std.specs.Prelude.{◌≡◌, ◌≤◌, ◌<◌, ◌+◌, ℕ, ◌↔◌, length, None, Some, Err, IsSome, IfOk, IfErr, IfSome, OnOk, OnErr};
 ghost use Rattle.std.specs.Option.{option_map};
+ghost use Rattle.reserve_path.specs.Parked.{IsOther};
 ghost use Rattle.adlb_unit.specs.Limits.{stamp_limit};
 ghost use Rattle.server_core.specs.Failing.{finishing, with_finished};
-ghost use Rattle.server_core.specs.Out.{HasRoom, IsWithin, Out, going_on, made, planned};
+ghost use Rattle.server_core.specs.Out.{HasRoom, IsWithin, Out, event_letters, going_on, made, planned};
+ghost use Rattle.server_law.specs.Expected.{IsAwaited, IsAwaitedFrom};
 ghost use Rattle.server_law.specs.Plan.{Plan};
 ghost use Rattle.server_law.specs.State.{Kept, ServerModel};
 ghost use Rattle.server_law.specs.Step.{acts, heard_finish, next_stamp, raises, rank_rule, rule, serve, server_rule};
@@ -49,7 +51,7 @@ impl ServerState {
         // An event answers its letter, or enters that a unit has come; asks a server, frees a part, or says what a push
         // needs; or enters a verdict and tells each of at most seven other servers. It answers each rank that waits, or
         // hints for each wish. Then it gives notice, or starts a check.
-        let (waiting, wishes) = self.parked.counts();
+        let (waiting, wishes) = self.waiting_and_wishes();
         let Ok(mut out) = Outgoing::new(self.alloc, waiting + wishes + 9) else {
             return Err(self.fail(finishes, Trouble::Memory));
         };
@@ -65,6 +67,15 @@ impl ServerState {
         })
     }
 
+    // How many ranks wait here, and how many wishes are kept: fewer than the letters of an event.
+    fn waiting_and_wishes(&self) -> (usize, usize)
+        ensures waiting { result.0 ≡ length self.now.kept.parked.waiting }
+        ensures wishes { result.1 ≡ length self.now.kept.parked.wishes }
+        ensures few { result.0 + result.1 + 9 ≤ event_letters }
+    {
+        self.parked.counts()
+    }
+
     // Handles what a letter says, and then what follows the event.
     fn handle(&mut self, from: Actor, message: Message, out: &mut Outgoing) -> Result<(), NoMemory>
         requires actor { IsWithin self.old.config from }
@@ -77,24 +88,39 @@ impl ServerState {
             Some (made self.new out.new)) }
         ensures err { OnErr result (self.new ≡ self.old) }
     {
+        self.follow_rule(from, message, out)?;
+        self.end_event(out);
+        Ok(())
+    }
+
+    // Does what the rule of the letter says.
+    fn follow_rule(
+        &mut self,
+        from: Actor,
+        message: Message,
+        out: &mut Outgoing,
+    ) -> Result<(), NoMemory>
+        requires actor { IsWithin self.old.config from }
+        requires expected { IsSome (rule self.old from message) }
+        requires fresh { self.old.kept.queue.arrivals < self.old.clock }
+        requires room { HasRoom self.old out.old 9 }
+
+        ensures ok { OnOk result ((p : Plan) → rule self.old from message ≡ Some p →
+            made self.new out.new ≡ planned out.old p self.old) }
+        ensures room { OnOk result (HasRoom self.new out.new 1) }
+        ensures err { OnErr result (self.new ≡ self.old) }
+    {
         match from {
-            Actor::Rank(from) => {
-                self.follow(from, message, out)?;
-                self.end_event(out);
-                Ok(())
-            }
-            Actor::Server(from) => {
-                self.follow_server(from, message, out)?;
-                self.end_event(out);
-                Ok(())
-            }
+            Actor::Rank(from) => self.follow(from, message, out)?,
+            Actor::Server(from) => self.follow_server(from, message, out)?,
         }
+        Ok(())
     }
 
     // Does what the rule of a rank's letter says.
     fn follow(&mut self, from: Rank, message: Message, out: &mut Outgoing) -> Result<(), NoMemory>
         requires rank { from.0 < self.old.config.ranks }
-        requires expected { IsSome (rank_rule self.old from message) }
+        requires awaited { IsAwaited self.old from message }
         requires fresh { self.old.kept.queue.arrivals < self.old.clock }
         requires room { HasRoom self.old out.old 3 }
 
@@ -129,9 +155,8 @@ impl ServerState {
         message: Message,
         out: &mut Outgoing,
     ) -> Result<(), NoMemory>
-        requires server { from.0 < self.old.config.servers }
-        requires other { from ≢ self.old.me }
-        requires expected { IsSome (server_rule self.old from message) }
+        requires other { IsOther self.old.config self.old.me from }
+        requires awaited { IsAwaitedFrom self.old from message }
         requires fresh { self.old.kept.queue.arrivals < self.old.clock }
         requires room { HasRoom self.old out.old 3 }
         requires verdict { HasRoom self.old out.old 9 }

@@ -1,23 +1,22 @@
 //! What becomes of the ranks that wait here, and of wishes: a rank waits, waits no longer or is looked at again, and where
 //! it gets a unit, the unit is pinned to it. Nobody is told of it here.
 
-ghost use Rattle.std.specs.Prelude.{◌≡◌, ◌+◌, ℕ, Some, find, true, false};
+ghost use Rattle.std.specs.Prelude.{◌≡◌, Some, find, true, false};
 ghost use Rattle.std.specs.Option.{option_map};
 ghost use Rattle.adlb_unit.specs.Ring.{others};
 ghost use Rattle.work_queue.specs.Queue.{HasFree};
 ghost use Rattle.work_queue.specs.declared.placing.Placed.{Placed};
-ghost use Rattle.reserve_path.specs.Calls.{granted, is_idle_since, step_for, taker_of};
+ghost use Rattle.reserve_path.specs.Calls.{call_of, first_idle, granted, hints_next, is_idle_since, step_for, taker_of};
 ghost use Rattle.reserve_path.specs.Grants.{best_for, note_of};
 ghost use Rattle.reserve_path.specs.Parked.{IsAway, IsHere, IsOther, IsParked, entry_of, is_pending};
 ghost use Rattle.reserve_path.specs.declared.waits.Waiting.{Waiting};
 ghost use Rattle.server_core.specs.Inside.{parked_of};
-ghost use Rattle.server_core.specs.Out.{HasRoom, Out};
-ghost use Rattle.server_core.specs.Waits.{asked, heard, looked, offered, over, released, sought, taken};
+ghost use Rattle.server_core.specs.Waits.{asked, heard, looked, offered, over, released, sought, taken, unidle_first, unwished_next};
 ghost use Rattle.server_law.specs.Finding.{is_free_as};
 ghost use Rattle.server_law.specs.State.{Kept, ServerModel, is_waiting};
 
 use crate::states::ServerState;
-use adlb_unit::{End, Rank, Server, Types, UnitId, UnitNote};
+use adlb_unit::{End, Rank, Server, Target, Types, UnitId, UnitNote, WorkType};
 use reserve_path::ReserveStep;
 
 impl ServerState {
@@ -43,7 +42,6 @@ impl ServerState {
             step_for self.old.me (best_for self.old.kept.queue rank types.now) (others self.old.config self.old.me) }
         ensures made { self.new ≡ sought self.old (record { rank = rank; request = request; types = types.now }) }
         ensures ask { (to : Server) → result ≡ ReserveStep.Ask to → IsOther self.old.config self.old.me to }
-        ensures room { (out : Out) (more : ℕ) → HasRoom self.old out (more + 1) → HasRoom self.new out more }
     {
         self.parked.reserve(&mut self.queue, rank, request, types)
     }
@@ -53,7 +51,6 @@ impl ServerState {
         requires { is_pending (parked_of self.old) rank ≡ true }
         ensures made { self.new ≡ released self.old rank }
         ensures sound { IsParked (parked_of self.old) }
-        ensures room { (out : Out) (more : ℕ) → HasRoom self.old out more → HasRoom self.new out more }
     {
         self.parked.remote_end(rank);
     }
@@ -81,7 +78,6 @@ impl ServerState {
         ensures idle { result ≡ is_idle_since (parked_of self.old) rank request }
         ensures made { self.new ≡ heard self.old rank request from }
         ensures sound { IsParked (parked_of self.old) }
-        ensures room { (out : Out) (more : ℕ) → HasRoom self.old out more → HasRoom self.new out more }
     {
         self.parked.hint(rank, request, from).is_some()
     }
@@ -94,7 +90,6 @@ impl ServerState {
         ensures note { result ≡ option_map (λ p. note_of self.old.me p.unit)
             (offered self.old.kept (record { rank = rank; request = request; types = types.now })) }
         ensures made { self.new ≡ asked self.old (record { rank = rank; request = request; types = types.now }) }
-        ensures room { (out : Out) (more : ℕ) → HasRoom self.old out (more + 1) → HasRoom self.new out more }
     {
         if self.done {
             self.parked.refuse_ask(rank, request, types);
@@ -102,6 +97,24 @@ impl ServerState {
         }
         self.parked
             .remote_ask(&mut self.queue, rank, request, types)
+    }
+
+    // The next wish that a unit of this type and target takes off, if there is one, is kept no longer.
+    pub(crate) fn forget(&mut self, kind: WorkType, target: Target) -> Option<(Rank, u64)>
+        ensures wish { result ≡ option_map call_of (hints_next kind target self.old.kept.parked.wishes) }
+        ensures made { self.new ≡ unwished_next kind target self.old }
+        ensures sound { IsParked (parked_of self.old) }
+    {
+        self.parked.next_hint(kind, target)
+    }
+
+    // The first idle rank, if there is one, waits no longer.
+    pub(crate) fn release_idle(&mut self) -> Option<(Rank, u64)>
+        ensures idle { result ≡ option_map (λ e. call_of e.wish) (first_idle (parked_of self.old)) }
+        ensures made { self.new ≡ unidle_first self.old }
+        ensures sound { IsParked (parked_of self.old) }
+    {
+        self.parked.end_idle()
     }
 
     // The free unit of this id goes to the idle rank that takes it, if one does.

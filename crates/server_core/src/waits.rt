@@ -1,19 +1,20 @@
 //! Ranks that wait, and the servers that are asked for them.
 
-ghost use Rattle.std.specs.Prelude.{◌≡◌, ◌<◌, ◌+◌, ◌↔◌, ◌&&◌, ℕ, IsTrue, Some};
+ghost use Rattle.std.specs.Prelude.{◌≡◌, ◌≤◌, ◌<◌, ◌+◌, ◌↔◌, ◌&&◌, ℕ, IsTrue, Some, take};
 ghost use Rattle.std.specs.List.{list_any};
+ghost use Rattle.adlb_unit.specs.Limits.{rank_limit};
 ghost use Rattle.reserve_path.specs.Parked.{entry_of, is_idle, is_of};
 ghost use Rattle.reserve_path.specs.declared.waits.Waiting.{Waiting};
 ghost use Rattle.server_core.specs.Inside.{parked_of};
 ghost use Rattle.server_core.specs.Out.{HasPlaces, HasRoom, Out, with_letter};
-ghost use Rattle.server_law.specs.Acts.{to_server};
+ghost use Rattle.server_law.specs.Acts.{askers, to_server};
 ghost use Rattle.server_law.specs.Carried.{counted, posted};
 ghost use Rattle.server_law.specs.Expected.{IsUnanswered};
 ghost use Rattle.server_law.specs.State.{Kept, ServerModel, is_waiting, runs};
 
 use crate::outgoing::Outgoing;
 use crate::states::ServerState;
-use adlb_unit::{Actor, Message, Rank, Server};
+use adlb_unit::{Actor, Message, RANK_LIMIT, Rank, Server, Types};
 
 impl ServerState {
     // The rank waits here.
@@ -41,6 +42,14 @@ impl ServerState {
             Some((since, asked)) => since == request && asked == Some(from),
             None => false,
         }
+    }
+
+    // Copies the ranks that wait, as a check names them, to the front of the room: how many they are.
+    pub(crate) fn put_askers(&self, room: &mut [(Rank, Types); RANK_LIMIT as usize]) -> usize
+        ensures front { take result room.new ≡ askers self.now.kept }
+        ensures within { result ≤ rank_limit }
+    {
+        self.parked.asked(room) as usize
     }
 
     // The rank runs, as far as the server knows.

@@ -1,7 +1,4 @@
-use Rattle.std.proofs.Common.{◌≡◌, true, false, ◌&&◌, ◌+◌, sym, ap, ◌∙◌, arith}
-use Rattle.server_law.specs.Endings.{rests}
-use Rattle.server_law.specs.State.{ServerModel}
-use Rattle.server_core.proofs.Quiet.{rest_all, rest_from, rest_next, rest_none}
+use Rattle.server_core.proofs.Prelude.{◌&&◌, ◌+◌, ◌∙◌, ◌≡◌, ServerModel, ap, arith, rest_all, rest_from, rest_next, rest_none, sym}
 use Rattle.server_core.proofs.states.ServerState.all_rest.Goals as goal
 
 pub loop-number-init : goal.loop-number-init
@@ -9,29 +6,23 @@ loop-number-init c =
     let same = ap (λ (s : ServerModel). s.config.ranks) c.self.view_is in
     record { left = ap (λ n. rest_from c.args.self.now n 0) same ∙ rest_all c.args.self.now; end = same }
 
--- a rank that does not rest
 pub returns-then-not-rests : goal.returns-then-not-rests
 returns-then-not-rests c =
-    let s = c.args.self.now in
     let end = c.self.inside.config.ranks in
-    let runs : rests s (record { 0 = c.loop-number.number }) ≡ false = sym c.rests.ensures ∙ c.if-not-rests.true in
-    sym (ap (λ b. b && rest_from s end (c.loop-number.number + 1)) runs)
-    ∙ sym (rest_next s end c.loop-number.number c.loop-number-test.true) ∙ c.loop-number.invariant.left
+    sym (ap (λ b. b && rest_from c.args.self.now end (c.loop-number.number + 1)) (sym c.rests.ensures ∙ c.if-not-rests.true))
+    ∙ sym (rest_next c.args.self.now end c.loop-number.number c.loop-number-test.true) ∙ c.loop-number.invariant.left
 
 pub loop-number-preserved : goal.loop-number-preserved
 loop-number-preserved c =
-    let s = c.args.self.now in
     let end = c.self.inside.config.ranks in
-    let rest : rests s (record { 0 = c.loop-number.number }) ≡ true = sym c.rests.ensures ∙ c.if-not-rests.false in
     record {
-      left = sym (ap (λ b. b && rest_from s end (c.loop-number.number + 1)) rest)
-          ∙ sym (rest_next s end c.loop-number.number c.loop-number-test.true) ∙ c.loop-number.invariant.left;
+      left = sym (ap (λ b. b && rest_from c.args.self.now end (c.loop-number.number + 1)) (sym c.rests.ensures ∙ c.if-not-rests.false))
+          ∙ sym (rest_next c.args.self.now end c.loop-number.number c.loop-number-test.true) ∙ c.loop-number.invariant.left;
       end = c.loop-number.invariant.end;
     }
 
 pub returns : goal.returns
 returns c =
-    let s = c.args.self.now in
     let end = c.self.inside.config.ranks in
     let last : c.loop-number.number ≡ end = omega arith in
-    sym (rest_none s end) ∙ ap (λ n. rest_from s end n) (sym last) ∙ c.loop-number.invariant.left
+    sym (rest_none c.args.self.now end) ∙ ap (λ n. rest_from c.args.self.now end n) (sym last) ∙ c.loop-number.invariant.left

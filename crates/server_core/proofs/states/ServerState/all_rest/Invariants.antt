@@ -1,6 +1,4 @@
-use Rattle.std.proofs.Common.{◌≡◌}
-use Rattle.server_core.specs.Quiet.{all_rest}
-use Rattle.server_core.proofs.Quiet.{rest_from}
+use Rattle.server_core.proofs.Prelude.{◌≡◌, all_rest, rest_from}
 use Rattle.server_core.proofs.states.ServerState.all_rest.Given as goal
 
 abbrev pub invariant-loop-number : goal.invariant-loop-number

@@ -1,4 +1,4 @@
-use Rattle.server_law.proofs.Expected.{expected_have_steps}
+use Rattle.server_core.proofs.Prelude.{expected_have_steps}
 use Rattle.server_core.proofs.states.ServerState.expects.Goals as goal
 
 pub returns-clause-served : goal.returns-clause-served

@@ -1,8 +1,6 @@
-use Rattle.std.proofs.Common.{◌≡◌, length}
-use Rattle.adlb_unit.specs.declared.units.Unit.{Unit}
-use Rattle.server_law.specs.Hints.{hint_all}
-use Rattle.server_core.specs.Out.{HasRoom, going_on}
+use Rattle.server_core.proofs.Prelude.{◌≡◌, HasRoom, going_on, hint_all, length}
 use Rattle.server_core.proofs.states.ServerState.hint_homes.Given as goal
+use Rattle.adlb_unit.specs.declared.units.Unit.{Unit}
 
 abbrev pub invariant-loop-kind : goal.invariant-loop-kind
 invariant-loop-kind l = record {

@@ -1,6 +1,4 @@
-use Rattle.std.proofs.Common.{◌≡◌, sym, ◌∙◌, true, refl, arith}
-use Rattle.std.specs.Result.{is_ok}
-use Rattle.server_core.proofs.LeftUnits.{left_more}
+use Rattle.server_core.proofs.Prelude.{◌∙◌, ◌≡◌, arith, is_ok, left_more, refl, sym, true}
 use Rattle.server_core.proofs.states.ServerState.left.Goals as goal
 
 pub loop-id-preserved : goal.loop-id-preserved

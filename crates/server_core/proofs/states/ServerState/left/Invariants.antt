@@ -1,6 +1,4 @@
-use Rattle.std.proofs.Common.{◌≡◌, ◌-◌, ◌≤◌, length, map, take}
-use Rattle.std.specs.Vec.{vec_len}
-use Rattle.server_core.specs.Left.{left_unit}
+use Rattle.server_core.proofs.Prelude.{◌-◌, ◌≡◌, ◌≤◌, left_unit, length, map, take, vec_len}
 use Rattle.server_core.proofs.states.ServerState.left.Given as goal
 
 abbrev pub invariant-loop-id : goal.invariant-loop-id

@@ -1,17 +1,9 @@
-use Rattle.std.proofs.Common.{◌∙◌, ap, sym}
-use Rattle.server_law.specs.Presses.{presses}
-use Rattle.server_core.specs.Out.{going_on}
-use Rattle.server_core.proofs.Pushing.{puts_goes}
+use Rattle.server_core.proofs.Prelude.{◌∙◌, ap, going_on, presses, puts_goes}
 use Rattle.server_core.proofs.states.ServerState.put.Goals as goal
 
-pub returns-then-taken-clause-ok : goal.returns-then-taken-clause-ok
-returns-then-taken-clause-ok c =
-    let s = c.args.self.now in
-    let t = c.answer_put.new.self in
+pub returns-clause-ok : goal.returns-clause-ok
+returns-clause-ok c =
     let u = c.settle.new.self in
-    let end = c.settle.new.out in
-    let told = c.in_ok-taken.ensures in
-    let taken = sym c.if-taken.true ∙ told.taken in
-    let pressed = c.press.ensures.made ∙ ap (λ b. going_on end (presses b u) u) taken in
-    puts_goes s t u c.press.new.self c.args.out.now c.answer_put.new.out end c.press.new.out c.args.from c.args.unit told.ok
-    c.settle.ensures.made pressed
+    puts_goes c.args.self.now c.answer_put.new.self u c.press.new.self c.args.out.now c.answer_put.new.out c.settle.new.out c.press.new.out
+    c.args.from c.args.unit c.in_ok-taken.ensures.ok c.settle.ensures.made
+    (c.press.ensures.made ∙ ap (λ b. going_on c.settle.new.out (presses b u) u) c.in_ok-taken.ensures.taken)

@@ -1,15 +1,12 @@
-use Rattle.std.proofs.Common.{List, sym, ap, refl, ◌∙◌}
-use Rattle.server_law.specs.Acts.{Act}
-use Rattle.server_core.specs.Out.{going_on}
-use Rattle.server_core.proofs.Going.{goes_nowhere}
+use Rattle.server_core.proofs.Prelude.{◌∙◌, Act, List, ap, goes_nowhere, going_on, refl, sym}
 use Rattle.server_core.proofs.states.ServerState.tell_all.Goals as goal
 
 pub returns-clause-made : goal.returns-clause-made
 returns-clause-made c =
-    let t = c.tell_next.new.self in
-    let end = c.tell_next.new.out in
     let last = c.loop-end-test.ensures in
-    goes_nowhere end t ∙ ap (λ (l : List Act). going_on end l t) (sym (last.last refl)) ∙ last.told ∙ c.loop-end.invariant.left
+    goes_nowhere c.tell_next.new.out c.tell_next.new.self
+    ∙ ap (λ (l : List Act). going_on c.tell_next.new.out l c.tell_next.new.self) (sym (last.last refl))
+    ∙ last.told ∙ c.loop-end.invariant.left
 
 pub returns-clause-room : goal.returns-clause-room
 returns-clause-room c more room = c.loop-end-test.ensures.room more (c.loop-end.invariant.rooms more room)

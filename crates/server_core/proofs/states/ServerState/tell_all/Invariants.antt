@@ -1,6 +1,4 @@
-use Rattle.std.proofs.Common.{◌≡◌, ℕ, [], length}
-use Rattle.server_core.specs.Out.{HasRoom, going_on}
-use Rattle.server_law.specs.Endings.{tells_all}
+use Rattle.server_core.proofs.Prelude.{◌≡◌, HasRoom, [], going_on, length, tells_all, ℕ}
 use Rattle.server_core.proofs.states.ServerState.tell_all.Given as goal
 
 abbrev pub invariant-loop-end : goal.invariant-loop-end

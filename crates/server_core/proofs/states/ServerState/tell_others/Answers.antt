@@ -1,39 +1,24 @@
-use Rattle.std.proofs.Common.{◌<◌, ◌+◌, ◌-◌, sym, ap, ◌∙◌, arith}
-use Rattle.adlb_unit.specs.Ring.{behind}
-use Rattle.adlb_unit.specs.declared.configs.Config.{Config}
-use Rattle.server_law.specs.Acts.{to_server}
-use Rattle.server_law.specs.Carried.{counted}
-use Rattle.server_law.specs.State.{ServerModel}
-use Rattle.server_core.specs.Checks.{said, verdict}
-use Rattle.server_core.proofs.Checking.{said_one, told_from, told_next}
-use Rattle.server_core.proofs.Going.{room_less}
+use Rattle.server_core.proofs.Prelude.{◌+◌, ◌-◌, ◌<◌, ◌∙◌, Config, ServerModel, ap, arith, behind, counted, room_less, said, said_one, sym, to_server, told_from, told_next, verdict}
 use Rattle.server_core.proofs.states.ServerState.tell_others.Goals as goal
 
 pub loop-places-preserved : goal.loop-places-preserved
 loop-places-preserved c =
     let t = c.loop-places.self in
-    let out = c.loop-places.out in
-    let end = c.tell_behind.new.out in
     let n = c.loop-places.places in
     let message = verdict c.args.shut in
     let x = to_server (behind t.config t.me n) message in
-    let after = c.tell_behind.ensures.counted in
     let servers = ap (λ (k : Config). k.servers) c.loop-places.invariant.config in
     let within : n < t.config.servers = omega (arith, servers, c.loop-places.invariant.end) in
     record {
-      left = ap (λ w. said end (told_from w message (n + 1)) w) after
+      left = ap (λ w. said c.tell_behind.new.out (told_from w message (n + 1)) w) c.tell_behind.ensures.counted
           ∙ ap (λ o. said o (told_from t message (n + 1)) (counted t x.to)) c.tell_behind.ensures.told
-          ∙ said_one out x (told_from t message (n + 1)) t
-          ∙ ap (λ l. said out l t) (sym (told_next t message n within)) ∙ c.loop-places.invariant.left;
-      config = ap (λ (s : ServerModel). s.config) after ∙ c.loop-places.invariant.config;
+          ∙ said_one c.loop-places.out x (told_from t message (n + 1)) t
+          ∙ ap (λ l. said c.loop-places.out l t) (sym (told_next t message n within)) ∙ c.loop-places.invariant.left;
+      config = ap (λ (s : ServerModel). s.config) c.tell_behind.ensures.counted ∙ c.loop-places.invariant.config;
       end = c.loop-places.invariant.end;
       room = λ more room. c.tell_behind.ensures.room (c.args.self.now.config.servers - (n + 1) + more)
-          (room_less t out (c.args.self.now.config.servers - n + more) (c.args.self.now.config.servers - (n + 1) + more + 1)
-          (omega (arith, servers, within)) (c.loop-places.invariant.room more room));
+          (room_less (c.loop-places.invariant.room more room) (omega (arith, servers, within)));
     }
 
 pub returns-clause-room : goal.returns-clause-room
-returns-clause-room c more room =
-    let n = c.loop-places.places in
-    room_less c.loop-places.self c.loop-places.out (c.args.self.now.config.servers - n + more) more (omega arith)
-    (c.loop-places.invariant.room more room)
+returns-clause-room c more room = room_less (c.loop-places.invariant.room more room) (omega arith)

@@ -1,8 +1,4 @@
-use Rattle.std.proofs.Common.{◌≡◌, ◌+◌, ◌-◌, ℕ}
-use Rattle.server_law.specs.Acts.{to_others}
-use Rattle.server_core.specs.Checks.{said, verdict}
-use Rattle.server_core.specs.Out.{HasRoom}
-use Rattle.server_core.proofs.Checking.{told_from}
+use Rattle.server_core.proofs.Prelude.{◌+◌, ◌-◌, ◌≡◌, HasRoom, said, to_others, told_from, verdict, ℕ}
 use Rattle.server_core.proofs.states.ServerState.tell_others.Given as goal
 
 abbrev pub invariant-loop-places : goal.invariant-loop-places
