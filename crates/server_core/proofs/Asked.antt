@@ -1,5 +1,5 @@
 -- The home of a rank asks for it: a unit is pinned to the rank, or its wish is kept.
-use Rattle.std.proofs.Common.{◌≡◌, Bool, true, false, [], Option, None, Some, refl, sym, ap, ◌∙◌}
+use Rattle.std.proofs.Common.{◌≡◌, Bool, true, false, [], Option, None, Some, refl, ap, ◌∙◌}
 use Rattle.std.specs.Option.{option_map}
 use Rattle.adlb_unit.specs.declared.messages.Message.TheVariants as tells
 use Rattle.adlb_unit.specs.declared.names.Server.{Server}
