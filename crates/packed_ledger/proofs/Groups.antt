@@ -1,5 +1,6 @@
 -- Numbers as bytes, and what is read of them.
-use Rattle.std.proofs.Common.{ℕ, zero, suc, ◌≡◌, ◌+◌, ◌-◌, ◌*◌, ◌/◌, ◌%◌, ◌^◌, ◌<◌, ◌≤◌, min, List, [], ◌∷◌, ◌++◌, length, append_assoc, refl, sym, ap, ◌∙◌, subst, inl, inr, arith}
+use Rattle.std.proofs.Common.{ℕ, zero, suc, ◌≡◌, ◌+◌, ◌-◌, ◌*◌, ◌/◌, ◌%◌, ◌^◌, ◌<◌, ◌≤◌, min}
+use Rattle.std.proofs.Common.{List, [], ◌∷◌, ◌++◌, length, append_assoc, refl, sym, ap, ◌∙◌, subst, inl, inr, arith}
 use Rattle.std.proofs.lemmas.Bool.{cases_lt, lt-ltb, le-ltb, cases_eq, eq-eqb, ne_eqb}
 use Rattle.std.proofs.lemmas.List.{append-nil}
 use Rattle.std.proofs.Math.Nat.{pow-suc}
@@ -35,7 +36,8 @@ pub smaller : (most n : ℕ) → 0 < most → n < 128 ^ most → n / 128 < 128 ^
 smaller most n positive = at_most (λ m k. n < 128 ^ m → n / 128 < 128 ^ k) (λ k h. omega (arith, pow-suc 128 k, h)) most positive
 
 pub Back : ℕ → List ℕ → ℕ → List ℕ → Type 0
-Back most bytes value behind = (n : ℕ) (rest : List ℕ) → n < 2 ^ 64 → n < 128 ^ most → bytes ≡ groups most n ++ rest → (value ≡ n) × (behind ≡ rest)
+Back most bytes value behind = (n : ℕ) (rest : List ℕ) → n < 2 ^ 64 → n < 128 ^ most → bytes ≡ groups most n ++ rest
+    → (value ≡ n) × (behind ≡ rest)
 
 -- nothing is read of no groups, and nothing is written
 pub read_none : (most n : ℕ) (bytes rest : List ℕ) → most ≡ 0 → n < 128 ^ most → bytes ≡ groups most n ++ rest → (0 ≡ n) × (bytes ≡ rest)
@@ -48,7 +50,8 @@ unfolding groups
 none_written zero n bytes none = sym (append-nil bytes)
 none_written (suc k) n bytes none = absurd (omega arith)
 
-pub many_written : (most n : ℕ) (bytes after last : List ℕ) → 0 < most → 128 ≤ n → after ≡ bytes ++ (128 + n % 128) ∷ [] → last ≡ after ++ groups (most - 1) (n / 128) → last ≡ bytes ++ groups most n
+pub many_written : (most n : ℕ) (bytes after last : List ℕ) → 0 < most → 128 ≤ n → after ≡ bytes ++ (128 + n % 128) ∷ []
+    → last ≡ after ++ groups (most - 1) (n / 128) → last ≡ bytes ++ groups most n
 many_written most n bytes after last positive large e f =
     f
     ∙ ap (λ (l : List ℕ). l ++ groups (most - 1) (n / 128)) e
@@ -65,7 +68,8 @@ filled most n rest positive = elim (cases_lt n 128) [
 pub not_empty : (most n : ℕ) (bytes rest : List ℕ) → 0 < most → bytes ≡ groups most n ++ rest → length bytes ≡ 0 → ⊥
 not_empty most n bytes rest positive e none = let f = filled most n rest positive in omega (arith, f, ap length e)
 
-pub read_last : (most n b : ℕ) (bytes behind rest : List ℕ) → 0 < most → b < 128 → bytes ≡ b ∷ behind → bytes ≡ groups most n ++ rest → (b ≡ n) × (behind ≡ rest)
+pub read_last : (most n b : ℕ) (bytes behind rest : List ℕ) → 0 < most → b < 128 → bytes ≡ b ∷ behind → bytes ≡ groups most n ++ rest
+    → (b ≡ n) × (behind ≡ rest)
 read_last most n b bytes behind rest positive small front e = elim (cases_lt n 128) [
   | inl h ↦ let f = few_groups most n positive h in
       let g : b ∷ behind ≡ n ∷ rest = sym front ∙ e ∙ ap (λ (l : List ℕ). l ++ rest) f in
@@ -76,7 +80,8 @@ read_last most n b bytes behind rest positive small front e = elim (cases_lt n 1
       absurd (omega arith)
 ]
 
-pub read_more : (most n b high : ℕ) (bytes behind left rest : List ℕ) → 0 < most → 128 ≤ b → n < 2 ^ 64 → n < 128 ^ most → bytes ≡ b ∷ behind → bytes ≡ groups most n ++ rest
+pub read_more : (most n b high : ℕ) (bytes behind left rest : List ℕ) → 0 < most → 128 ≤ b → n < 2 ^ 64 → n < 128 ^ most
+    → bytes ≡ b ∷ behind → bytes ≡ groups most n ++ rest
     → ((m : ℕ) (r : List ℕ) → m < 2 ^ 64 → m < 128 ^ (most - 1) → behind ≡ groups (most - 1) m ++ r → (high ≡ m) × (left ≡ r))
     → (min (min (high * 128) (2 ^ 64 - 1) + (b - 128)) (2 ^ 64 - 1) ≡ n) × (left ≡ rest)
 read_more most n b high bytes behind left rest positive large fits within front e reads = elim (cases_lt n 128) [
@@ -119,10 +124,12 @@ mark_small n = elim (cases_eq n 0) [
   | inr other ↦ rw (ne_eqb n 0 other) (omega arith)
 ]
 
-pub read_no_part : (most n marked : ℕ) (bytes rest : List ℕ) → marked ≡ 0 → marked ≡ mark n → bytes ≡ part most n ++ rest → (0 ≡ n) × (bytes ≡ rest)
+pub read_no_part : (most n marked : ℕ) (bytes rest : List ℕ) → marked ≡ 0 → marked ≡ mark n → bytes ≡ part most n ++ rest
+    → (0 ≡ n) × (bytes ≡ rest)
 read_no_part most n marked bytes rest none same e =
     let zero_is : n ≡ 0 = mark_zero n (sym same ∙ none) in
     (sym zero_is, e ∙ ap (λ (l : List ℕ). l ++ rest) (part_zero most n zero_is))
 
-pub some_part : (most n marked : ℕ) (bytes rest : List ℕ) → (marked ≡ 0 → ⊥) → marked ≡ mark n → bytes ≡ part most n ++ rest → bytes ≡ groups most n ++ rest
+pub some_part : (most n marked : ℕ) (bytes rest : List ℕ) → (marked ≡ 0 → ⊥) → marked ≡ mark n → bytes ≡ part most n ++ rest
+    → bytes ≡ groups most n ++ rest
 some_part most n marked bytes rest some same e = e ∙ ap (λ (l : List ℕ). l ++ rest) (part_more most n (mark_more n (λ z. some (same ∙ z))))

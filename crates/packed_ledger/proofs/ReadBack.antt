@@ -28,7 +28,8 @@ pub record IsLight (e : Entry) : Type 0 where
   pub body : body_of e ≡ []
   pub kinds : kinds_of e ≡ []
 
-counted : (server : Server) (rank : Rank) (call free at_top : ℕ) (top : Option ℤ) → IsLight (enters.Counted server rank call (record { free = free; top = top; at_top = at_top }))
+counted : (server : Server) (rank : Rank) (call free at_top : ℕ) (top : Option ℤ)
+    → IsLight (enters.Counted server rank call (record { free = free; top = top; at_top = at_top }))
 unfolding light_at
 counted server rank call free at_top None = record { entry = refl; body = refl; kinds = refl }
 counted server rank call free at_top (Some prio) = record {
@@ -56,7 +57,8 @@ pub record HasBytes (e : Entry) : Type 0 where
   pub size : (row_of e).number ≡ length (body_of e)
   pub kinds : kinds_of e ≡ []
 
-put : (rank : Rank) (call : ℕ) (kind : WorkType) (prio : ℤ) (target : Target) (answer : Option Rank) (body : List ℕ) → HasBytes (enters.Putting rank call kind prio target answer body)
+put : (rank : Rank) (call : ℕ) (kind : WorkType) (prio : ℤ) (target : Target) (answer : Option Rank) (body : List ℕ)
+    → HasBytes (enters.Putting rank call kind prio target answer body)
 put rank call kind prio targets.Any None body = record {
   entry = ap (λ (p : ℤ). enters.Putting rank call kind p targets.Any None body) (comes_back prio);
   size = refl;

@@ -59,7 +59,16 @@ are_marks r m same =
     let f = mark r.call in
     let g = mark r.number in
     let h = mark r.amount in
-    let small : AreBits a b c d e f g h = (mark_small r.first, mark_small r.second, mark_small r.third, mark_small r.fourth, mark_small r.fifth, mark_small r.call, mark_small r.number, mark_small r.amount) in record {
+    let small : AreBits a b c d e f g h = (
+      mark_small r.first,
+      mark_small r.second,
+      mark_small r.third,
+      mark_small r.fourth,
+      mark_small r.fifth,
+      mark_small r.call,
+      mark_small r.number,
+      mark_small r.amount,
+    ) in record {
       first = ap (λ (n : ℕ). n % 2) same ∙ bit_1 a b c d e f g h small;
       second = ap (λ (n : ℕ). n / 2 % 2) same ∙ bit_2 a b c d e f g h small;
       third = ap (λ (n : ℕ). n / 4 % 2) same ∙ bit_3 a b c d e f g h small;
@@ -77,7 +86,8 @@ row_with_more r a b = simp append_assoc
 
 -- a row that is written part by part
 pub row_by_parts : (r : Row) (bytes : List ℕ)
-    → ((((((((((bytes ++ r.head ∷ []) ++ marks r ∷ []) ++ part 5 r.first) ++ part 5 r.second) ++ part 5 r.third) ++ part 5 r.fourth) ++ part 5 r.fifth) ++ part 10 r.call) ++ part 10 r.number) ++ part 10 r.amount)
+    → ((((((((((bytes ++ r.head ∷ []) ++ marks r ∷ []) ++ part 5 r.first) ++ part 5 r.second) ++ part 5 r.third) ++ part 5 r.fourth) ++
+    part 5 r.fifth) ++ part 10 r.call) ++ part 10 r.number) ++ part 10 r.amount)
     ≡ bytes ++ row_before r []
 unfolding row_before
 row_by_parts r bytes = simp (append_assoc, append-nil)

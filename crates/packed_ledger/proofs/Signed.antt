@@ -1,5 +1,6 @@
 -- Priorities without a sign.
-use Rattle.std.proofs.Common.{ℕ, zero, suc, ◌≡◌, ◌+◌, ◌-◌, ◌*◌, ◌/◌, ◌%◌, ◌^◌, ◌<◌, ℤ, pos, negsuc, ◌-ℤ◌, unsigned_abs, true, false, refl, sym, ap, ◌∙◌, zero-add, w32, arith}
+use Rattle.std.proofs.Common.{ℕ, zero, suc, ◌≡◌, ◌+◌, ◌-◌, ◌*◌, ◌/◌, ◌%◌, ◌^◌, ◌<◌, ℤ}
+use Rattle.std.proofs.Common.{pos, negsuc, ◌-ℤ◌, unsigned_abs, true, false, refl, sym, ap, ◌∙◌, zero-add, w32, arith}
 use Rattle.std.proofs.lemmas.Bool.{eq-eqb, ne_eqb, ltb-true, true≢false}
 use Rattle.std.proofs.lemmas.Int.{to_z-of_z, to_z_pos}
 use lib.Signed.{lt_z}

@@ -11,7 +11,8 @@ use ghost_list::Trace;
 use std::alloc::Global;
 use std::marker::Model;
 
-/// Entries with the stamps of their events, in order, in one piece of memory. They are seen as `KeptModel`, with the bytes that there is room for.
+/// Entries with the stamps of their events, in order, in one piece of memory. They are seen as `KeptModel`, with the bytes that there is
+/// room for.
 #[derive(Drop)]
 pub(crate) struct Chunk {
     bytes: Vec<u8>,
@@ -116,7 +117,8 @@ impl Model for Rest {
 
     ghost view = { λ u. drop u.done u.of.items };
 
-    ghost invariant = { λ u. Holds stamped_before IsKeptStamped (drop u.at u.bytes.items) (drop u.done u.of.items) × (u.at ≤ length u.bytes.items) × (u.done ≤ u.at) };
+    ghost invariant = { λ u. Holds stamped_before IsKeptStamped (drop u.at u.bytes.items) (drop u.done u.of.items)
+        × (u.at ≤ length u.bytes.items) × (u.done ≤ u.at) };
 }
 
 impl Rest {

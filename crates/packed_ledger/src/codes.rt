@@ -19,7 +19,7 @@ use adlb_unit::{NoMemory, Payload, Rank, TYPE_LIMIT, Types, WorkType, or_no_memo
 use bag_ledger::Entry;
 use std::alloc::Global;
 
-/// Appends the entry. There is room for it, and for 10 bytes fewer.
+/// Appends the entry. There is room for it, where 10 bytes fewer are enough: those of a stamp.
 pub(crate) fn push_entry(bytes: &mut Vec<u8>, entry: &Entry)
     requires { vec_len bytes.old + size_of entry.now ≤ vec_capacity bytes.old + 10 }
     ensures items { bytes.new.items ≡ bytes.old.items ++ entry_before entry.now [] }
@@ -92,7 +92,8 @@ fn read_with_bytes<'a>(
     row: &Row,
     rest: &'a [u8],
 ) -> Result<(Entry, &'a [u8]), NoMemory>
-    ensures { (body behind : List ℕ) → row.now.number ≡ length body → rest.now ≡ body ++ behind → IfOk result (λ r. (r.0 ≡ with_bytes row.now body) × (r.1.now ≡ behind)) }
+    ensures { (body behind : List ℕ) → row.now.number ≡ length body → rest.now ≡ body ++ behind →
+        IfOk result (λ r. (r.0 ≡ with_bytes row.now body) × (r.1.now ≡ behind)) }
 {
     let (body, behind) = rest.split_at(at_most(row.number, rest.len()));
     let body = Payload::from_vec(or_no_memory(Vec::from_slice(alloc, body))?);
@@ -121,7 +122,8 @@ fn at_most(number: u64, limit: usize) -> usize
 
 // Of at most 16 types. That there are more, or none, does not come.
 fn read_with_types<'a>(row: &Row, rest: &'a [u8]) -> Result<(Entry, &'a [u8]), NoMemory>
-    ensures { (kinds : List WorkType) (behind : List ℕ) → row.now.number ≡ length kinds → All kind_fits (take 16 kinds) → rest.now ≡ flat_map kind_code (take 16 kinds) ++ behind →
+    ensures { (kinds : List WorkType) (behind : List ℕ) → row.now.number ≡ length kinds → All kind_fits (take 16 kinds) →
+        rest.now ≡ flat_map kind_code (take 16 kinds) ++ behind →
         IfOk result (λ r. (r.0 ≡ with_types row.now (Some kinds)) × (r.1.now ≡ behind)) }
 {
     if row.number > TYPE_LIMIT as u64 {
@@ -138,8 +140,8 @@ fn read_with_types<'a>(row: &Row, rest: &'a [u8]) -> Result<(Entry, &'a [u8]), N
 
 fn read_types(bytes: &[u8], count: usize) -> Result<(Types, &[u8]), NoMemory>
     requires { count ≤ 16 }
-    ensures { (kinds : List WorkType) (rest : List ℕ) → count ≡ length kinds → All kind_fits kinds → bytes.now ≡ flat_map kind_code kinds ++ rest →
-        IfOk result (λ r. (r.0 ≡ Some kinds) × (r.1.now ≡ rest)) }
+    ensures { (kinds : List WorkType) (rest : List ℕ) → count ≡ length kinds → All kind_fits kinds →
+        bytes.now ≡ flat_map kind_code kinds ++ rest → IfOk result (λ r. (r.0 ≡ Some kinds) × (r.1.now ≡ rest)) }
 {
     let mut kinds = [WorkType(0); TYPE_LIMIT];
     let mut rest = bytes;
@@ -176,7 +178,8 @@ pub(crate) fn read_stamp(bytes: &[u8]) -> u64
 /// The entry in front with its stamp, and how many bytes they are. Its only error is `NoMemory`.
 pub(crate) fn read_stamped(alloc: Global, bytes: &[u8]) -> Result<(Stamped, usize), NoMemory>
     ensures within { IfOk result (λ r. r.1 ≤ length bytes.now) }
-    ensures read { (s : Stamped) (rest : List ℕ) → IsKeptStamped s → bytes.now ≡ stamped_before s rest → IfOk result (λ r. (r.0 ≡ s) × (r.1 + length rest ≡ length bytes.now)) }
+    ensures read { (s : Stamped) (rest : List ℕ) → IsKeptStamped s → bytes.now ≡ stamped_before s rest →
+        IfOk result (λ r. (r.0 ≡ s) × (r.1 + length rest ≡ length bytes.now)) }
 {
     let (stamp, behind) = read_groups(bytes, LONG);
     let (entry, rest) = read_entry(alloc, behind)?;

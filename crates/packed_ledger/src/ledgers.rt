@@ -105,7 +105,8 @@ impl<'a> Model for Entries<'a> {
 
     ghost view = { λ e. drop e.done e.of.now.items };
 
-    ghost invariant = { λ e. Holds entry_before IsKept e.rest.now (drop e.done e.of.now.items) × (e.done ≤ length e.of.now.items) × (length e.of.now.items < 2 ^ 64) };
+    ghost invariant = { λ e. Holds entry_before IsKept e.rest.now (drop e.done e.of.now.items)
+        × (e.done ≤ length e.of.now.items) × (length e.of.now.items < 2 ^ 64) };
 }
 
 impl<'a> Entries<'a> {

@@ -31,7 +31,8 @@ pub(crate) fn push_groups(bytes: &mut Vec<u8>, most: usize, number: u64)
 
 /// The number whose groups, at most `most`, stand in front, and what stands behind them.
 pub(crate) fn read_groups(bytes: &[u8], most: usize) -> (u64, &[u8])
-    ensures { (n : ℕ) (rest : List ℕ) → n < 2 ^ 64 → n < 128 ^ most → bytes.now ≡ groups most n ++ rest → (result.0 ≡ n) × (result.1.now ≡ rest) }
+    ensures { (n : ℕ) (rest : List ℕ) → n < 2 ^ 64 → n < 128 ^ most → bytes.now ≡ groups most n ++ rest →
+        (result.0 ≡ n) × (result.1.now ≡ rest) }
 {
     if most == 0 {
         return (0, bytes);
@@ -90,7 +91,8 @@ pub(crate) fn mark(number: u64) -> u8
 
 /// The number whose groups stand in front if the mark is 1, and otherwise 0, and what stands behind it.
 pub(crate) fn read_long_part(bytes: &[u8], marked: u8) -> (u64, &[u8])
-    ensures { (n : ℕ) (rest : List ℕ) → n < 2 ^ 64 → marked ≡ mark n → bytes.now ≡ part 10 n ++ rest → (result.0 ≡ n) × (result.1.now ≡ rest) }
+    ensures { (n : ℕ) (rest : List ℕ) → n < 2 ^ 64 → marked ≡ mark n → bytes.now ≡ part 10 n ++ rest →
+        (result.0 ≡ n) × (result.1.now ≡ rest) }
 {
     if marked == 0 {
         return (0, bytes);
@@ -100,7 +102,8 @@ pub(crate) fn read_long_part(bytes: &[u8], marked: u8) -> (u64, &[u8])
 
 /// As `read_long_part`, of a number below 2 ^ 32.
 pub(crate) fn read_short_part(bytes: &[u8], marked: u8) -> (u32, &[u8])
-    ensures { (n : ℕ) (rest : List ℕ) → n < 2 ^ 32 → marked ≡ mark n → bytes.now ≡ part 5 n ++ rest → (result.0 ≡ n) × (result.1.now ≡ rest) }
+    ensures { (n : ℕ) (rest : List ℕ) → n < 2 ^ 32 → marked ≡ mark n → bytes.now ≡ part 5 n ++ rest →
+        (result.0 ≡ n) × (result.1.now ≡ rest) }
 {
     if marked == 0 {
         return (0, bytes);

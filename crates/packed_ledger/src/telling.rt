@@ -1,7 +1,8 @@
 //! What an entry tells: its row.
 
 ghost use Rattle.std.specs.Prelude.{◌≡◌, ◌<◌};
-ghost use Rattle.packed_ledger.specs.Inside.Told.{aim, end_head, kinds_in, put_head, rank_or_0, row_of, small, top_head, top_or_0, wanted_head};
+ghost use Rattle.packed_ledger.specs.Inside.Told.{end_head, put_head, top_head, wanted_head};
+ghost use Rattle.packed_ledger.specs.Inside.Told.{aim, kinds_in, rank_or_0, row_of, small, top_or_0};
 
 use crate::rows::Row;
 use crate::signs::unsigned;

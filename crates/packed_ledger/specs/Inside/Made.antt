@@ -29,7 +29,8 @@ abbrev pub batch_at : ℕ → ℕ → BatchId
 batch_at rank number = record { rank = rank_at rank; number = number }
 
 abbrev pub target_at : ℕ → ℕ → Target
-target_at head rank = if head % 3 == 0 then targets.Any else (if head % 3 == 1 then targets.Only (rank_at rank) else targets.Soft (rank_at rank))
+target_at head rank = if head % 3 == 0 then targets.Any else
+    (if head % 3 == 1 then targets.Only (rank_at rank) else targets.Soft (rank_at rank))
 
 abbrev pub answer_at : ℕ → ℕ → Option Rank
 answer_at head rank = if nat_lt head 3 then None else Some (rank_at rank)

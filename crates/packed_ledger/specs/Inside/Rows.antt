@@ -6,7 +6,8 @@ use Rattle.packed_ledger.specs.Inside.Numbers.{part, mark}
 -- which numbers of the row are not 0, the first in the lowest bit
 unfoldable pub marks : Row → ℕ
 marks r =
-    mark r.first + 2 * mark r.second + 4 * mark r.third + 8 * mark r.fourth + 16 * mark r.fifth + 32 * mark r.call + 64 * mark r.number + 128 * mark r.amount
+    mark r.first + 2 * mark r.second + 4 * mark r.third + 8 * mark r.fourth + 16 * mark r.fifth + 32 * mark r.call + 64 * mark r.number +
+    128 * mark r.amount
 
 -- the row, and these bytes behind it
 unfoldable pub row_before : Row → List ℕ → List ℕ

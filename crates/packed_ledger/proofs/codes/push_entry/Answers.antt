@@ -39,7 +39,8 @@ returns-in-Tried-clause-items c =
 pub returns-in_default : goal.returns-in_default
 returns-in_default c =
     let row = c.push_row.ensures.items ∙ ap (λ (r : Row). c.args.bytes.now.items ++ row_before r []) c.row_of.ensures in
-    let is = plain c.args.entry.now c.in_default.not-Putting c.in_default.not-Keeping c.in_default.not-Asked c.in_default.not-Tried in record {
+    let is = plain c.args.entry.now c.in_default.not-Putting c.in_default.not-Keeping c.in_default.not-Asked c.in_default.not-Tried in
+    record {
       items = row_pushed c.args.entry.now c.args.bytes.now.items _ row is.body is.kinds;
       len = omega (arith, c.push_row.ensures.len, is.size);
       capacity = omega (arith, c.push_row.ensures.capacity);

@@ -19,7 +19,8 @@ returns-then-row-lt7 c = λ e rest kept code.
     let size = ap (λ (r : Row). r.number) row.0 ∙ has.size in
     let behind = row.1 ∙ ap (λ (k : List WorkType). body_of e ++ (flat_map kind_code k ++ rest)) has.kinds in
     let entry = ap (λ (r : Row). with_bytes r (body_of e)) row.0 ∙ has.entry in
-    subst (λ (y : Entry). IfOk c.read_with_bytes.result (λ r. (r.0 ≡ y) × (r.1.now ≡ rest))) entry (c.read_with_bytes.ensures (body_of e) rest size behind)
+    subst (λ (y : Entry). IfOk c.read_with_bytes.result (λ r. (r.0 ≡ y) × (r.1.now ≡ rest))) entry
+    (c.read_with_bytes.ensures (body_of e) rest size behind)
 
 pub returns-then-row-eq8 : goal.returns-then-row-eq8
 unfolding entry_before
@@ -33,17 +34,21 @@ returns-then-row-eq8 c = λ e rest kept code.
     let kinds = lists.0 in
     let is = lists.1 in
     let size = ap (λ (r : Row). r.number) row.0 ∙ is.size in
-    let behind = row.1 ∙ ap (λ (b : List ℕ). b ++ (flat_map kind_code (kinds_of e) ++ rest)) is.body ∙ ap (λ (k : List WorkType). flat_map kind_code k ++ rest) is.listed in
+    let behind = row.1 ∙ ap (λ (b : List ℕ). b ++ (flat_map kind_code (kinds_of e) ++ rest)) is.body
+    ∙ ap (λ (k : List WorkType). flat_map kind_code k ++ rest) is.listed in
     let fits = subst (λ (k : List WorkType). All kind_fits k) is.listed kept.kinds in
     let entry = ap (λ (r : Row). with_types r (Some kinds)) row.0 ∙ is.entry in
-    subst (λ (y : Entry). IfOk c.read_with_types.result (λ r. (r.0 ≡ y) × (r.1.now ≡ rest))) entry (c.read_with_types.ensures kinds rest size fits behind)
+    subst (λ (y : Entry). IfOk c.read_with_types.result (λ r. (r.0 ≡ y) × (r.1.now ≡ rest))) entry
+    (c.read_with_types.ensures kinds rest size fits behind)
 
 pub returns : goal.returns
 unfolding entry_before
 returns c = λ e rest kept code.
     let row = c.read_row.ensures (row_of e) (body_of e ++ (flat_map kind_code (kinds_of e) ++ rest)) kept.row code in
     let head : c.read_row.result.0.head ≡ (row_of e).head = ap (λ (r : Row). r.head) row.0 in
-    let light = is_light e (omega (arith, head, c.if-row-lt7.false)) (λ is. c.if-row-eq8.false (head ∙ is)) (λ is. c.if-row-eq10.false (head ∙ is)) in (
+    let light = is_light e (omega (arith, head, c.if-row-lt7.false)) (λ is. c.if-row-eq8.false (head ∙ is))
+    (λ is. c.if-row-eq10.false (head ∙ is)) in (
       c.light_of.ensures ∙ ap (λ (r : Row). light_at r) row.0 ∙ light.entry,
-      row.1 ∙ ap (λ (b : List ℕ). b ++ (flat_map kind_code (kinds_of e) ++ rest)) light.body ∙ ap (λ (k : List WorkType). flat_map kind_code k ++ rest) light.kinds,
+      row.1 ∙ ap (λ (b : List ℕ). b ++ (flat_map kind_code (kinds_of e) ++ rest)) light.body
+          ∙ ap (λ (k : List WorkType). flat_map kind_code k ++ rest) light.kinds,
     )

@@ -7,5 +7,6 @@ use Rattle.packed_ledger.proofs.codes.read_types.Given as goal
 abbrev pub invariant-loop-i : goal.invariant-loop-i
 invariant-loop-i l =
     (length l.kinds ≡ 16)
-    × ((kinds : List WorkType) (left : List ℕ) → l.fn.count ≡ length kinds → All kind_fits kinds → l.fn.bytes ≡ flat_map kind_code kinds ++ left
+    × ((kinds : List WorkType) (left : List ℕ) → l.fn.count ≡ length kinds → All kind_fits kinds
+    → l.fn.bytes ≡ flat_map kind_code kinds ++ left
     → (take l.i l.kinds ≡ take l.i kinds) × (l.rest ≡ flat_map kind_code (drop l.i kinds) ++ left))

@@ -22,12 +22,24 @@ pub returns-then-row-lt29 : goal.returns-then-row-lt29
 unfolding light_at
 returns-then-row-lt29 c =
     let head = c.args.row.now.head in
-    rw (le-ltb head 16 c.if-row-lt16.false, le-ltb head 20 c.if-row-lt20.false, le-ltb head 25 c.if-row-lt25.false, lt-ltb head 29 c.if-row-lt29.true)
+    rw (
+      le-ltb head 16 c.if-row-lt16.false,
+      le-ltb head 20 c.if-row-lt20.false,
+      le-ltb head 25 c.if-row-lt25.false,
+      lt-ltb head 29
+          c.if-row-lt29.true,
+    )
     c.given_of.ensures
 
 pub returns : goal.returns
 unfolding light_at
 returns c =
     let head = c.args.row.now.head in
-    rw (le-ltb head 16 c.if-row-lt16.false, le-ltb head 20 c.if-row-lt20.false, le-ltb head 25 c.if-row-lt25.false, le-ltb head 29 c.if-row-lt29.false)
+    rw (
+      le-ltb head 16 c.if-row-lt16.false,
+      le-ltb head 20 c.if-row-lt20.false,
+      le-ltb head 25 c.if-row-lt25.false,
+      le-ltb head 29
+          c.if-row-lt29.false,
+    )
     c.moved_of.ensures

@@ -17,5 +17,9 @@ pub returns-else-group-lt128 : goal.returns-else-group-lt128
 returns-else-group-lt128 t c = λ n rest fits small e.
     let front : c.args.bytes.now ≡ c.in-Some.group.now ∷ c.in-Some.behind.now = c.in-Some.ensures.cases.0 in
     let high = c.read_groups-high.result.0 in
-    let back = read_more c.args.most n c.in-Some.group.now high c.args.bytes.now c.in-Some.behind.now c.read_groups-high.result.1.now rest (omega arith) c.if-group-lt128.false fits small front e c.read_groups-high.ensures in
-    (c.saturating_add.ensures ∙ ap (λ (v : ℕ). min (v + (c.in-Some.group.now - 128)) (2 ^ 64 - 1)) c.saturating_mul.ensures ∙ back.0, back.1)
+    let back = read_more c.args.most n c.in-Some.group.now high c.args.bytes.now c.in-Some.behind.now c.read_groups-high.result.1.now
+    rest (omega arith) c.if-group-lt128.false fits small front e c.read_groups-high.ensures in (
+      c.saturating_add.ensures ∙ ap (λ (v : ℕ). min (v + (c.in-Some.group.now - 128)) (2 ^ 64 - 1)) c.saturating_mul.ensures
+          ∙ back.0,
+      back.1,
+    )

@@ -5,7 +5,8 @@ use Rattle.packed_ledger.proofs.numbers.push_part.Goals as goal
 
 pub returns-then-number-ne0-clause-items : goal.returns-then-number-ne0-clause-items
 returns-then-number-ne0-clause-items c =
-    c.push_groups.ensures.items ∙ ap (λ (l : List ℕ). c.args.bytes.now.items ++ l) (sym (part_more c.args.most c.args.number c.if-number-ne0.true))
+    c.push_groups.ensures.items ∙ ap (λ (l : List ℕ). c.args.bytes.now.items ++ l)
+    (sym (part_more c.args.most c.args.number c.if-number-ne0.true))
 
 pub returns-else-number-ne0-clause-items : goal.returns-else-number-ne0-clause-items
 returns-else-number-ne0-clause-items c =

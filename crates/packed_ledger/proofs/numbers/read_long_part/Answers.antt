@@ -6,4 +6,5 @@ pub returns-then-marked-eq0 : goal.returns-then-marked-eq0
 returns-then-marked-eq0 c = λ n rest fits same e. read_no_part 10 n c.args.marked c.args.bytes.now rest c.if-marked-eq0.true same e
 
 pub returns : goal.returns
-returns c = λ n rest fits same e. c.read_groups.ensures n rest fits (omega arith) (some_part 10 n c.args.marked c.args.bytes.now rest c.if-marked-eq0.false same e)
+returns c = λ n rest fits same e. c.read_groups.ensures n rest fits (omega arith)
+    (some_part 10 n c.args.marked c.args.bytes.now rest c.if-marked-eq0.false same e)

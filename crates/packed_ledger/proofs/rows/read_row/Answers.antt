@@ -25,5 +25,17 @@ returns c = λ row rest fits e.
     let fifth = c.read_short_part-fifth.ensures row.fifth at_call fits.fifth are.fifth fourth.1 in
     let call = c.read_long_part-call.ensures row.call at_number fits.call are.call fifth.1 in
     let number = c.read_long_part-number.ensures row.number at_amount fits.number are.number call.1 in
-    let amount = c.read_long_part-amount.ensures row.amount rest fits.amount are.amount number.1 in
-    (λ i. record { head = head.0 i; first = first.0 i; second = second.0 i; third = third.0 i; fourth = fourth.0 i; fifth = fifth.0 i; call = call.0 i; number = number.0 i; amount = amount.0 i }, amount.1)
+    let amount = c.read_long_part-amount.ensures row.amount rest fits.amount are.amount number.1 in (
+      λ i. record {
+        head = head.0 i;
+        first = first.0 i;
+        second = second.0 i;
+        third = third.0 i;
+        fourth = fourth.0 i;
+        fifth = fifth.0 i;
+        call = call.0 i;
+        number = number.0 i;
+        amount = amount.0 i;
+      },
+      amount.1,
+    )

@@ -8,9 +8,11 @@ use Rattle.packed_ledger.proofs.signs.unsigned.Goals as goal
 pub returns-then-prio-lt0 : goal.returns-then-prio-lt0
 returns-then-prio-lt0 c =
     let prio = c.args.prio in
-    down_is (to_z w32 (of_z w32 prio)) c.unsigned_abs-size.result c.unsigned_abs-size.ensures.value c.if-prio-lt0.true ∙ ap (λ (z : ℤ). unsigned z) (to_z-of_z w32 prio c.ranges.prio)
+    down_is (to_z w32 (of_z w32 prio)) c.unsigned_abs-size.result c.unsigned_abs-size.ensures.value c.if-prio-lt0.true
+    ∙ ap (λ (z : ℤ). unsigned z) (to_z-of_z w32 prio c.ranges.prio)
 
 pub returns : goal.returns
 returns c =
     let prio = c.args.prio in
-    up_is (to_z w32 (of_z w32 prio)) c.unsigned_abs-size.result c.unsigned_abs-size.ensures.value c.if-prio-lt0.false ∙ ap (λ (z : ℤ). unsigned z) (to_z-of_z w32 prio c.ranges.prio)
+    up_is (to_z w32 (of_z w32 prio)) c.unsigned_abs-size.result c.unsigned_abs-size.ensures.value c.if-prio-lt0.false
+    ∙ ap (λ (z : ℤ). unsigned z) (to_z-of_z w32 prio c.ranges.prio)

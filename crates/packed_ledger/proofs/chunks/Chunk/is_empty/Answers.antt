@@ -11,7 +11,8 @@ returns c =
     let inside = c.self.inside in
     let view = ap (λ (k : KeptModel). k.entries) c.self.view_is in
     let none = nothing stamped_before IsKeptStamped stamped_with_more stamped_long inside.bytes.items inside.of.items c.self.invariant in
-    let back = nothing_back stamped_before IsKeptStamped stamped_with_more stamped_long inside.bytes.items inside.of.items c.self.invariant in
+    let back = nothing_back stamped_before IsKeptStamped stamped_with_more stamped_long inside.bytes.items inside.of.items
+    c.self.invariant in
     Decides-like c.is_empty.result
     (λ zero. sym view ∙ none (omega (arith, zero, inside.bytes.ok.0)))
     (λ e. let zero = back (view ∙ e) in omega (arith, zero, inside.bytes.ok.0))

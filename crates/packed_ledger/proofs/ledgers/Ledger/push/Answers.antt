@@ -13,6 +13,7 @@ overflow_add-self c =
 pub invariant_of-self-2 : goal.invariant_of-self-2
 invariant_of-self-2 c =
     let coded = c.push_entry.ensures.items ∙ ap (λ (l : List ℕ). l ++ entry_before c.args.entry []) c.reserve.ensures.items in (
-      holds_push entry_before IsKept entry_with_more entry_long _ _ _ _ c.args.entry c.self.invariant.0 c.push_entry.ensures.kept coded c.and-self-inside.ensures,
+      holds_push entry_before IsKept entry_with_more entry_long _ _ _ _ c.args.entry c.self.invariant.0 c.push_entry.ensures.kept coded
+          c.and-self-inside.ensures,
       omega (arith, c.self.invariant.1, ap length c.and-self-inside.ensures, length-append c.self.inside.of.items (c.args.entry ∷ [])),
     )
