@@ -1,6 +1,7 @@
 -- Solutions that are told where they stand, and those of one puzzle among them.
 use Rattle.std.proofs.Common.{◌≡◌, ℕ, ◌+◌, ◌-◌, ◌<◌, ◌≤◌, ◌==◌, Bool, true, false, not, ◌&&◌, Bor, List, [], ◌∷◌, ◌++◌, map, refl}
-use Rattle.std.proofs.Common.{length, drop, take, get_or, sym, ap, ◌∙◌, append_assoc, append-nil, filter, arith, Ok, OnOk, Result, subst, leb, leb-true, ltb, ltb-true}
+use Rattle.std.proofs.Common.{length, drop, take, get_or, sym, ap, ◌∙◌, append_assoc, append-nil, filter, arith}
+use Rattle.std.proofs.Common.{Ok, OnOk, Result, subst, leb, leb-true, ltb, ltb-true}
 use Rattle.std.specs.List.{All, AllWithin, flat_map}
 use Rattle.std.specs.List.Sorted.{IsPartitionPoint, IsStableByKey, ties}
 use Rattle.std.specs.Ordering.{is_lt, nat_cmp}
@@ -78,7 +79,8 @@ tie_at : (a b : ℕ) → (not (is_lt (nat_cmp a b)) && not (is_lt (nat_cmp b a))
 tie_at a b = grind (arith, nat_tests)
 
 map_if : (hit : Bool) (s : ℕ × Bor Cells) (xs : List (ℕ × Bor Cells)) →
-    map (λ (s : ℕ × Bor Cells). s.1.now) (if hit then s ∷ xs else xs) ≡ (if hit then s.1.now ∷ map (λ s. s.1.now) xs else map (λ s. s.1.now) xs)
+    map (λ (s : ℕ × Bor Cells). s.1.now) (if hit then s ∷ xs else xs)
+    ≡ (if hit then s.1.now ∷ map (λ s. s.1.now) xs else map (λ s. s.1.now) xs)
 map_if true s xs = refl
 map_if false s xs = refl
 
@@ -88,7 +90,8 @@ unfolding found_in
 found_ties n r [] = refl
 found_ties n r (s ∷ told) =
     map_if (ties earlier (n, r) s) s (filter (ties earlier (n, r)) told)
-    ∙ ap (λ hit. if hit then s.1.now ∷ map (λ s. s.1.now) (filter (ties earlier (n, r)) told) else map (λ s. s.1.now) (filter (ties earlier (n, r)) told)) (tie_at n s.0)
+    ∙ ap (λ hit. if hit then s.1.now ∷ map (λ s. s.1.now) (filter (ties earlier (n, r)) told)
+    else map (λ s. s.1.now) (filter (ties earlier (n, r)) told)) (tie_at n s.0)
     ∙ ap (λ l. if s.0 == n then s.1.now ∷ l else l) (found_ties n r told)
 
 -- a stable sort by the puzzles leaves those of each
@@ -108,7 +111,8 @@ none_found n (s ∷ told) none =
     ap (λ hit. if hit then s.1.now ∷ found_in n (pairs told) else found_in n (pairs told)) (none 0 s (omega arith))
     ∙ none_found n told (All-tail (λ s. (s.0 == n) ≡ false) s told none)
 
-all_found : (n : ℕ) (told : List (ℕ × Bor Cells)) → All (λ s. (s.0 == n) ≡ true) told → found_in n (pairs told) ≡ map (λ s. s.1) (pairs told)
+all_found : (n : ℕ) (told : List (ℕ × Bor Cells)) → All (λ s. (s.0 == n) ≡ true) told →
+    found_in n (pairs told) ≡ map (λ s. s.1) (pairs told)
 unfolding found_in
 all_found n [] all = refl
 all_found n (s ∷ told) all =
@@ -159,7 +163,8 @@ pub stand_together : (n a b : ℕ) (told : List (ℕ × Bor Cells)) → a ≤ le
 stand_together n a b told within more first second =
     let rest : List (ℕ × Bor Cells) = drop a told in
     let low : All (λ s. n ≤ s.0) rest = all_rest (λ s. ltb s.0 n ≡ false) (λ s. n ≤ s.0) (λ s. ltb-false s.0 n) a told first.1 in
-    let high : All (λ s. s.0 ≤ n) (take b rest) = all_front (λ s. leb s.0 n ≡ true) (λ s. s.0 ≤ n) (λ s. leb-true s.0 n) b rest more second.0 in
+    let high : All (λ s. s.0 ≤ n) (take b rest) =
+    all_front (λ s. leb s.0 n ≡ true) (λ s. s.0 ≤ n) (λ s. leb-true s.0 n) b rest more second.0 in
     let before : All (λ s. (s.0 == n) ≡ false) (take a told) =
     all_front (λ s. ltb s.0 n ≡ true) (λ s. (s.0 == n) ≡ false) (λ s less. differs s.0 n (ltb-true s.0 n less)) a told within first.0 in
     let behind : All (λ s. (s.0 == n) ≡ false) (drop b rest) =

@@ -1,36 +1,10 @@
--- What was noted of puzzles.
-use Rattle.std.proofs.Common.{◌≡◌, ℕ, ◌+◌, ◌<◌, ◌≤◌, ◌==◌, ◌||◌, Bool, true, false, List, [], ◌∷◌, ◌++◌, refl}
-use Rattle.std.proofs.Common.{length, drop, get_or, sym, ap, ◌∙◌, append_assoc, append-nil}
+-- What was noted of over puzzles.
+use Rattle.std.proofs.Common.{◌≡◌, ℕ, ◌+◌, ◌<◌, ◌≤◌, ◌==◌, ◌||◌, Bool, true, false, List, ◌∷◌, refl}
+use Rattle.std.proofs.Common.{length, drop, get_or, sym, ap, ◌∙◌}
 use Rattle.std.specs.List.{list_any}
-use Rattle.std.specs.Prelude.{if◌then◌else◌}
 use Rattle.std.proofs.lemmas.List.{drop_all, drop_more}
-use Rattle.sudoku_law.specs.Grid.{Cells}
-use Rattle.job_report.specs.Whole.{found, found_in, told_over}
+use Rattle.job_report.specs.Whole.{told_over}
 use Rattle.job_report.specs.declared.outcomes.Outcome.{Outcome}
-
--- a solution is noted first, or stands before those that are told
-noted_first : (hit : Bool) (g : Cells) (held rest : List Cells) →
-    (if hit then held ++ g ∷ [] else held) ++ rest ≡ held ++ (if hit then g ∷ rest else rest)
-noted_first true g held rest = append_assoc held (g ∷ []) rest
-noted_first false g held rest = refl
-
--- one more solution is noted
-pub solution_noted : (n i : ℕ) (sols : List (ℕ × Cells)) (s : ℕ × Cells) (held next : List Cells) → i < length sols →
-    s ≡ get_or sols i s → next ≡ (if s.0 == n then held ++ s.1 ∷ [] else held) →
-    next ++ found_in n (drop (i + 1) sols) ≡ held ++ found_in n (drop i sols)
-unfolding found_in
-solution_noted n i sols s held next within is noted =
-    let rest : List Cells = found_in n (drop (i + 1) sols) in
-    let here : found_in n (drop i sols) ≡ (if s.0 == n then s.1 ∷ rest else rest) =
-    ap (found_in n) (drop_more sols i s within ∙ ap (λ x. x ∷ drop (i + 1) sols) (sym is)) in
-    ap (λ x. x ++ rest) noted ∙ noted_first (s.0 == n) s.1 held rest ∙ ap (λ x. held ++ x) (sym here)
-
--- all solutions are noted
-pub solutions_noted : (n i : ℕ) (sols : List (ℕ × Cells)) (held all : List Cells) → length sols ≤ i →
-    held ++ found_in n (drop i sols) ≡ all → held ≡ all
-unfolding found_in
-solutions_noted n i sols held all past so_far =
-    sym (append-nil held) ∙ ap (λ l. held ++ found_in n l) (sym (drop_all i sols past)) ∙ so_far
 
 or_or : (a b c : Bool) → ((a || b) || c) ≡ (a || (b || c))
 or_or true b c = refl
@@ -55,16 +29,10 @@ pub overs_noted : (n i : ℕ) (overs : List ℕ) (held all : Bool) → length ov
 overs_noted n i overs held all past so_far =
     sym (or_none held) ∙ ap (λ l. held || list_any (λ k. k == n) l) (sym (drop_all i overs past)) ∙ so_far
 
--- The solutions and the over puzzles of one more outcome are noted.
+-- The over puzzles of one more outcome are noted.
 module _ (n i : ℕ) (outcomes : List Outcome) (o : Outcome) (within : i < length outcomes) (is : o ≡ get_or outcomes i o) where
   begins : drop i outcomes ≡ o ∷ drop (i + 1) outcomes
   begins = drop_more outcomes i o within ∙ ap (λ x. x ∷ drop (i + 1) outcomes) (sym is)
-
-  pub grids_more : (held next : List Cells) (told : List (ℕ × Cells)) → told ≡ o.solutions.items → next ≡ held ++ found_in n told →
-      next ++ found n (drop (i + 1) outcomes) ≡ held ++ found n (drop i outcomes)
-  grids_more held next told same noted =
-      let rest : List Cells = found n (drop (i + 1) outcomes) in
-      ap (λ x. x ++ rest) (noted ∙ ap (λ l. held ++ found_in n l) same) ∙ append_assoc held (found_in n o.solutions.items) rest ∙ ap (λ l. held ++ found n l) (sym begins)
 
   pub overs_more : (held next : Bool) (told : List ℕ) → told ≡ o.overs.items → next ≡ (held || list_any (λ k. k == n) told) →
       (next || told_over n (drop (i + 1) outcomes)) ≡ (held || told_over n (drop i outcomes))
@@ -74,11 +42,6 @@ module _ (n i : ℕ) (outcomes : List Outcome) (o : Outcome) (within : i < lengt
       ∙ ap (λ l. held || told_over n l) (sym begins)
 
 -- no outcome is left
-pub grids_all : (n i : ℕ) (outcomes : List Outcome) (held all : List Cells) → length outcomes ≤ i →
-    held ++ found n (drop i outcomes) ≡ all → held ≡ all
-grids_all n i outcomes held all past so_far =
-    sym (append-nil held) ∙ ap (λ l. held ++ found n l) (sym (drop_all i outcomes past)) ∙ so_far
-
 pub overs_all : (n i : ℕ) (outcomes : List Outcome) (held all : Bool) → length outcomes ≤ i →
     (held || told_over n (drop i outcomes)) ≡ all → held ≡ all
 overs_all n i outcomes held all past so_far =

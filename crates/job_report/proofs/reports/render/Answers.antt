@@ -21,7 +21,8 @@ loop-job-preserved c = elim c.match-job.branch [
     parts = before_at _ _ _ _ _ _ _ _ _ w.puzzle-is w.batch-is (ap (λ (t : Vec ℕ Global). t.items) w.text-is)
         (batch_more c.loop-job.job-index c.loop-job.puzzle c.loop-job.batch c.as_slice-jobs.result.now c.job-item.result
         w.in-Batch.common w.in-Batch.items w.len-bytes.result w.as_slice.result.now c.in_ok-answers.answers c.args.outcomes.now
-        c.loop-job.text.items w.append_batch.new.text.items c.loop-job-test.true c.job-item.is w.in-Batch.is (w.len-bytes.ensures ∙ ap length w.payload.ensures)
+        c.loop-job.text.items w.append_batch.new.text.items c.loop-job-test.true c.job-item.is w.in-Batch.is
+        (w.len-bytes.ensures ∙ ap length w.payload.ensures)
         w.as_slice.ensures.items c.in_ok-answers.ensures w.in_ok-append_batch-in-Batch.ensures c.loop-job.invariant.parts);
   }
 ]
