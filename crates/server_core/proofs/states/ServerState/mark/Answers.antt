@@ -1,8 +1,5 @@
-use Rattle.server_core.proofs.Prelude.{◌∙◌, ◌∷◌, Outcome, RingModel, [], ap, arith, askers, askers_parked, going_on, is_quiet, marked_check, marks, marks_go, ring_seen, state_of, step_fits, step_room, visited1, visited_inside}
+use Rattle.server_core.proofs.Prelude.{◌∙◌, ◌∷◌, Outcome, RingModel, [], ap, askers, askers_parked, going_on, is_quiet, marked_check, marks, marks_go, ring_seen, state_of, step_fits, step_room, visited1, visited_inside}
 use Rattle.server_core.proofs.states.ServerState.mark.Goals as goal
-
-pub shared_whole_as_front-visit1 : goal.shared_whole_as_front-visit1
-shared_whole_as_front-visit1 c = (omega (arith, c.put_askers-count.ensures.within), omega arith)
 
 pub visit1-step-requires-clause-parked : goal.visit1-step-requires-clause-parked
 visit1-step-requires-clause-parked c = askers_parked c.self.invariant (rw (← c.self.view_is) at c.put_askers-count.ensures.front)

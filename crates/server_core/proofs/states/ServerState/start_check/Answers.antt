@@ -1,8 +1,5 @@
-use Rattle.server_core.proofs.Prelude.{◌∙◌, Outcome, ap, arith, askers_parked, check_alone, check_is, started_inside, state_of, take, with_check}
+use Rattle.server_core.proofs.Prelude.{◌∙◌, Outcome, ap, askers_parked, check_alone, check_is, started_inside, state_of, take, with_check}
 use Rattle.server_core.proofs.states.ServerState.start_check.Goals as goal
-
-pub shared_whole_as_front-asked : goal.shared_whole_as_front-asked
-shared_whole_as_front-asked c = (omega (arith, c.put_askers-count.ensures.within), omega arith)
 
 pub start-requires-clause-parked : goal.start-requires-clause-parked
 start-requires-clause-parked c = askers_parked c.self.invariant (rw (← c.self.view_is) at c.put_askers-count.ensures.front)
