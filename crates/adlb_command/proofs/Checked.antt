@@ -1,12 +1,12 @@
 -- How `check` ends.
-use Rattle.std.proofs.Common.{◌≡◌, ◌⊎◌, ◌<◌, ◌≤◌, ◌+◌, ℕ, List, length, Option, Some, None, Result, Ok, Err, refl, sym, ap, ◌∙◌, inl, inr}
+use Rattle.std.proofs.Common.{◌≡◌, ◌⊎◌, ◌<◌, ◌≤◌, ◌+◌, ℕ, List, length, Option, Some, None, Result, Ok, Err, refl, ap, ◌∙◌, inl, inr}
 use Rattle.std.specs.Prelude.{MatchResult}
 use Rattle.adlb_io.specs.Outside.{Rises}
-use Rattle.adlb_threads.specs.Reports.{Reported}
 use Rattle.adlb_unit.specs.declared.configs.Config.{Config}
 use Rattle.bag_ledger.specs.declared.entries.Entry as of
 use Rattle.job_report.specs.declared.outcomes.Outcome.{Outcome}
-use Rattle.adlb_io.specs.Inputs.{Seen}
+use Rattle.run_command.specs.Ends.{Scene}
+use Rattle.run_command.specs.Kept.{Kept}
 use Rattle.ledger_command.specs.Input.{input_limit}
 use Rattle.ledger_command.specs.Verdicts.{IsVerdict}
 use Rattle.ledger_command.specs.declared.faults.CheckFault.{CheckFault}
@@ -15,32 +15,10 @@ use Rattle.ledger_command.specs.declared.verdicts.Verdict.{Verdict}
 use Rattle.ledger_command.proofs.Ending.{RefusesNone, overlong_told, refused_there, text_told}
 use Rattle.ledger_file.specs.Lines.{IsFirstBad, IsText}
 use Rattle.adlb_command.specs.Ends.{fault_at_check, fault_told}
-use Rattle.adlb_command.specs.Top.{EndsAsChecked}
+use Rattle.adlb_command.specs.Top.{EndsAsChecked, seen_in}
 use Rattle.adlb_command.specs.declared.ends.RunFault.{RunFault}
-use Rattle.adlb_command.specs.declared.ends.RunFault.TheVariants.{Entry, Memory, TooLarge, Usage}
-
--- before anything is read
-pub checks_early : (before after : Seen) → after.reads ≡ before.reads → after.taken ≡ before.taken →
-    EndsAsChecked before after (Some Memory) None
-checks_early before after reads same = record {
-  checked = Err checks.Memory;
-  ends = (reads, inl same);
-  fault_is = refl;
-  none_kept = refl;
-}
-
--- it never ends as refused words do
-no_usage : (checked : Result Verdict CheckFault) → Some Usage ≡ fault_told checked → ⊥
-no_usage (Ok verdict) e = absurd (cc)
-no_usage (Err checks.Read) e = absurd (cc)
-no_usage (Err checks.Write) e = absurd (cc)
-no_usage (Err checks.Memory) e = absurd (cc)
-no_usage (Err (checks.TooLarge taken)) e = absurd (cc)
-no_usage (Err (checks.Entry line)) e = absurd (cc)
-
-pub never_usage : (before after : Seen) (fault : Option RunFault) (report : Option (Reported Outcome)) →
-    EndsAsChecked before after fault report → fault ≡ Some Usage → ⊥
-never_usage before after fault report ends is = no_usage ends.checked (sym is ∙ ends.fault_is)
+use Rattle.adlb_command.specs.declared.ends.RunFault.TheVariants.{Input, Memory, TooLarge}
+use Rattle.adlb_command.specs.declared.ends.LineWhy.TheVariants.{Entry}
 
 fine_or : (checked : Result Verdict CheckFault) (config : Config) (ledger : List of.Entry) →
     MatchResult checked (IsVerdict config ledger) (λ fault. fault ≡ checks.Memory) → (fault_told checked ≡ None) ⊎ (fault_told checked ≡ Some Memory)
@@ -56,25 +34,25 @@ either_is : (fault told : Option RunFault) (a b : Option RunFault) → fault ≡
 either_is fault told a b same (inl e) = inl (same ∙ e)
 either_is fault told a b same (inr e) = inr (same ∙ e)
 
-module _ (before after : Seen) (fault : Option RunFault) (report : Option (Reported Outcome)) (bytes : List ℕ)
-    (ends : EndsAsChecked before after fault report) (told : before.left ≡ Some bytes) (no_read : Rises before.reads after.reads → ⊥) where
+module _ (before after : Scene) (fault : Option RunFault) (kept : Option (Kept Outcome)) (bytes : List ℕ)
+    (ends : EndsAsChecked before after fault kept) (told : before.left ≡ Some bytes) (no_read : Rises before.reads after.reads → ⊥) where
   -- a text of a ledger is told
   pub text_checked : RefusesNone → ((c d : Config) (l m : List of.Entry) → IsText c l bytes → IsText d m bytes → (c ≡ d) × (l ≡ m)) →
       (config : Config) (ledger : List of.Entry) → length bytes ≤ input_limit → IsText config ledger bytes →
       (Rises before.writes after.writes → ⊥) → (fault ≡ None) ⊎ (fault ≡ Some Memory)
   text_checked none two config ledger short text no_write =
       either_is fault (fault_told ends.checked) None (Some Memory) ends.fault_is (fine_or ends.checked config ledger
-      (text_told before after bytes told no_read none two config ledger short text no_write ends.checked ends.ends))
+      (text_told (seen_in before) (seen_in after) bytes told no_read none two config ledger short text no_write ends.checked ends.ends))
 
   -- a text of none is refused
   pub bad_checked : RefusesNone → ((a b : ℕ) → IsFirstBad bytes a → IsFirstBad bytes b → a ≡ b) → (line : ℕ) →
-      length bytes ≤ input_limit → IsFirstBad bytes line → (fault ≡ Some (Entry line)) ⊎ (fault ≡ Some Memory)
+      length bytes ≤ input_limit → IsFirstBad bytes line → (fault ≡ Some (Input line Entry)) ⊎ (fault ≡ Some Memory)
   bad_checked none one line short bad =
-      either_is fault (fault_told ends.checked) (Some (Entry line)) (Some Memory) ends.fault_is (either_told ends.checked (checks.Entry line)
-      (refused_there before after bytes told no_read none one line short bad ends.checked ends.ends))
+      either_is fault (fault_told ends.checked) (Some (Input line Entry)) (Some Memory) ends.fault_is (either_told ends.checked (checks.Entry line)
+      (refused_there (seen_in before) (seen_in after) bytes told no_read none one line short bad ends.checked ends.ends))
 
   -- one that is too long is told as such
   pub long_checked : input_limit < length bytes → (fault ≡ Some (TooLarge (input_limit + 1))) ⊎ (fault ≡ Some Memory)
   long_checked long =
       either_is fault (fault_told ends.checked) (Some (TooLarge (input_limit + 1))) (Some Memory) ends.fault_is (either_told ends.checked
-      (checks.TooLarge (input_limit + 1)) (overlong_told before after bytes told no_read long ends.checked ends.ends))
+      (checks.TooLarge (input_limit + 1)) (overlong_told (seen_in before) (seen_in after) bytes told no_read long ends.checked ends.ends))

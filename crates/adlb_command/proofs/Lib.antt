@@ -1,9 +1,4 @@
 pub mod Ending
-pub mod Forms
-pub mod Keeping
 pub mod Checked
 pub mod Made
-pub mod Drilled
-pub mod RunKept
-pub mod Running
-pub mod Stopping
+pub mod Solved

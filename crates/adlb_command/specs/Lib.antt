@@ -1,6 +1,2 @@
 pub mod Ends
-pub mod Input
-pub mod Inside
-pub mod Kept
 pub mod Top
-pub mod Words

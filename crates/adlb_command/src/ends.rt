@@ -1,16 +1,56 @@
 //! How a command ends.
 
-ghost use Rattle.std.specs.Prelude.{◌≡◌, ◌⊎◌, Some};
+ghost use Rattle.std.specs.Prelude.{◌≡◌, Some};
 
-use adlb_io::{SinkFault, SourceFault};
-use adlb_threads::{RanFault, Report};
-use adlb_unit::{NoMemory, Trouble};
 use command_words::WordsFault;
 use job_report::Outcome;
-use job_text::{JobsFault, LineWhy};
 use ledger_command::CheckFault;
 use made_jobs::MadeFault;
+use run_command::{Ended, Fault, Kept};
 use thiserror::Error;
+
+/// Why a line of an input is refused. Its text is what the user is told.
+#[derive(Clone, Copy, Debug, Error)]
+pub enum LineWhy {
+    /// It has more than 2^20 bytes.
+    #[error("long")]
+    Long,
+    /// It is a puzzle whose text has not 16, 81 or 256 bytes.
+    #[error("length")]
+    Length,
+    /// It is a puzzle with a byte that is no sign of a cell.
+    #[error("character")]
+    Character,
+    /// It is an item, and no batch is going on.
+    #[error("item")]
+    Item,
+    /// It is an item that is not of its form.
+    #[error("number")]
+    Number,
+    /// It begins with none of the words.
+    #[error("word")]
+    Word,
+    /// It is not what is due in the text of a ledger.
+    #[error("entry")]
+    Entry,
+}
+
+impl From<job_text::LineWhy> for LineWhy {
+    ghost use Rattle.adlb_command.specs.Ends.{why_of};
+
+    ghost from_gives = { λ met why. why ≡ why_of met };
+
+    fn from(met: job_text::LineWhy) -> LineWhy {
+        match met {
+            job_text::LineWhy::Long => LineWhy::Long,
+            job_text::LineWhy::Length => LineWhy::Length,
+            job_text::LineWhy::Character => LineWhy::Character,
+            job_text::LineWhy::Item => LineWhy::Item,
+            job_text::LineWhy::Number => LineWhy::Number,
+            job_text::LineWhy::Word => LineWhy::Word,
+        }
+    }
+}
 
 /// Why a command did not write its whole output. Its text is what the user is told.
 #[derive(Clone, Copy, Debug, Error)]
@@ -36,9 +76,6 @@ pub enum RunFault {
     /// The input has more than 2^24 bytes, or 2^26 for `check`, of which this many were taken.
     #[error("input too large")]
     TooLarge { taken: u64 },
-    /// The input of `check` is the text of no ledger: its first line, from 1, that is not what is due.
-    #[error("line {line}: entry")]
-    Entry { line: u64 },
     /// A start of a thread was refused.
     #[error("a thread could not be started")]
     NoThread,
@@ -52,7 +89,7 @@ impl RunFault {
         ensures { result ≡ status_of (Some self.now) }
     {
         match self {
-            RunFault::Input { .. } | RunFault::Entry { .. } => 1,
+            RunFault::Input { .. } => 1,
             RunFault::Usage => 2,
             RunFault::Read => 3,
             RunFault::Write => 4,
@@ -64,74 +101,10 @@ impl RunFault {
     }
 }
 
-impl From<NoMemory> for RunFault {
-    ghost use Rattle.adlb_command.specs.declared.ends.RunFault.TheVariants.{Memory};
-
-    ghost from_gives = { λ _ fault. fault ≡ Memory };
-
-    fn from(_: NoMemory) -> RunFault {
-        RunFault::Memory
-    }
-}
-
-impl From<Trouble> for RunFault {
-    ghost use Rattle.adlb_command.specs.Ends.{fault_by};
-
-    ghost from_gives = { λ trouble fault. fault ≡ fault_by trouble };
-
-    fn from(trouble: Trouble) -> RunFault {
-        match trouble {
-            Trouble::Memory => RunFault::Memory,
-            Trouble::TooLong { stamp } => RunFault::TooLong { stamp },
-        }
-    }
-}
-
-impl From<JobsFault> for RunFault {
-    ghost use Rattle.adlb_command.specs.Ends.{fault_in};
-
-    ghost from_gives = { λ refusal fault. fault ≡ fault_in refusal };
-
-    fn from(refusal: JobsFault) -> RunFault {
-        match refusal {
-            JobsFault::Refused { line, why } => RunFault::Input { line, why },
-            JobsFault::Memory => RunFault::Memory,
-        }
-    }
-}
-
-impl From<RanFault> for RunFault {
-    ghost use Rattle.adlb_command.specs.Ends.{fault_ran};
-
-    ghost from_gives = { λ met fault. fault ≡ fault_ran met };
-
-    fn from(met: RanFault) -> RunFault {
-        match met {
-            RanFault::NoThread => RunFault::NoThread,
-            RanFault::Memory => RunFault::Memory,
-            RanFault::TooLong { stamp } => RunFault::TooLong { stamp },
-        }
-    }
-}
-
-impl From<SourceFault> for RunFault {
-    ghost use Rattle.adlb_command.specs.Ends.{fault_at};
-
-    ghost from_gives = { λ met fault. fault ≡ fault_at met };
-
-    fn from(met: SourceFault) -> RunFault {
-        match met {
-            SourceFault::Failed => RunFault::Read,
-            SourceFault::Memory => RunFault::Memory,
-        }
-    }
-}
-
 impl From<WordsFault> for RunFault {
-    ghost use Rattle.command_words.specs.declared.commands.WordsFault.TheVariants as words;
-    ghost use Rattle.adlb_command.specs.declared.ends.RunFault.TheVariants as faults;
+    ghost use Rattle.adlb_command.specs.Ends.{fault_said};
 
-    ghost from_gives = { λ met fault. ((met ≡ words.Usage) × (fault ≡ faults.Usage)) ⊎ ((met ≡ words.Memory) × (fault ≡ faults.Memory)) };
+    ghost from_gives = { λ met fault. fault ≡ fault_said met };
 
     fn from(met: WordsFault) -> RunFault {
         match met {
@@ -141,15 +114,23 @@ impl From<WordsFault> for RunFault {
     }
 }
 
-impl From<SinkFault> for RunFault {
-    ghost use Rattle.adlb_command.specs.Ends.{fault_of};
+impl From<Fault<job_text::LineWhy>> for RunFault {
+    ghost use Rattle.adlb_command.specs.Ends.{fault_run};
 
-    ghost from_gives = { λ met fault. fault ≡ fault_of met };
+    ghost from_gives = { λ met fault. fault ≡ fault_run met };
 
-    fn from(met: SinkFault) -> RunFault {
+    fn from(met: Fault<job_text::LineWhy>) -> RunFault {
         match met {
-            SinkFault::Failed => RunFault::Write,
-            SinkFault::Memory => RunFault::Memory,
+            Fault::Input { line, why } => RunFault::Input {
+                line,
+                why: LineWhy::from(why),
+            },
+            Fault::Read => RunFault::Read,
+            Fault::Write => RunFault::Write,
+            Fault::NoThread => RunFault::NoThread,
+            Fault::Memory => RunFault::Memory,
+            Fault::TooLong { stamp } => RunFault::TooLong { stamp },
+            Fault::TooLarge { taken } => RunFault::TooLarge { taken },
         }
     }
 }
@@ -165,7 +146,10 @@ impl From<CheckFault> for RunFault {
             CheckFault::Write => RunFault::Write,
             CheckFault::Memory => RunFault::Memory,
             CheckFault::TooLarge { taken } => RunFault::TooLarge { taken },
-            CheckFault::Entry { line } => RunFault::Entry { line },
+            CheckFault::Entry { line } => RunFault::Input {
+                line,
+                why: LineWhy::Entry,
+            },
         }
     }
 }
@@ -183,32 +167,64 @@ impl From<MadeFault> for RunFault {
     }
 }
 
-/// How a command ended: its exit status, why it did not write its whole output, if so, and what it kept: a report of a run if some of
-/// it was written, or if a write failed.
+/// How a command ended: its exit status, why it did not write its whole output, if so, and what it kept of a run: something if some of
+/// the output was written, or if a write failed.
 #[derive(Drop)]
 pub struct RunEnd {
     pub status: u8,
     pub fault: Option<RunFault>,
-    pub report: Option<Report<Outcome>>,
+    pub kept: Option<Kept<Outcome>>,
 }
 
 impl RunEnd {
-    ghost use Rattle.adlb_command.specs.Ends.{status_of};
+    ghost use Rattle.std.specs.Prelude.{None};
+    ghost use Rattle.adlb_command.specs.Ends.{fault_ended, status_of};
 
-    /// The end of a run with this fault, if there is one, and this report, if one is kept.
-    pub fn new(fault: Option<RunFault>, report: Option<Report<Outcome>>) -> RunEnd
+    /// The end of a command with this fault, if there is one, which keeps nothing.
+    pub fn new(fault: Option<RunFault>) -> RunEnd
         ensures status { result.status ≡ status_of fault }
         ensures fault { result.fault ≡ fault }
-        ensures report { result.report ≡ report }
+        ensures kept { result.kept ≡ None }
     {
-        let status = match &fault {
+        RunEnd {
+            status: RunEnd::status_of(fault),
+            fault,
+            kept: None,
+        }
+    }
+
+    /// The end of a command that ran over puzzles and batches, as its run ended.
+    pub fn of(ended: Ended<job_text::LineWhy, Outcome>) -> RunEnd
+        ensures status { result.status ≡ status_of result.fault }
+        ensures fault { result.fault ≡ fault_ended ended.fault }
+        ensures kept { result.kept ≡ ended.kept }
+    {
+        let Ended { fault, kept } = ended;
+        let fault = RunEnd::fault_of(fault);
+        RunEnd {
+            status: RunEnd::status_of(fault),
+            fault,
+            kept,
+        }
+    }
+
+    // The fault of a run, as that of a command.
+    fn fault_of(met: Option<Fault<job_text::LineWhy>>) -> Option<RunFault>
+        ensures { result ≡ fault_ended met }
+    {
+        match met {
+            None => None,
+            Some(met) => Some(RunFault::from(met)),
+        }
+    }
+
+    // The exit status of an end with this fault, if there is one.
+    fn status_of(fault: Option<RunFault>) -> u8
+        ensures { result ≡ status_of fault }
+    {
+        match &fault {
             None => 0,
             Some(fault) => fault.status(),
-        };
-        RunEnd {
-            status,
-            fault,
-            report,
         }
     }
 }

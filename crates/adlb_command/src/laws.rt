@@ -2,26 +2,30 @@
 
 ghost use Rattle.std.specs.Prelude.{◌≡◌, ◌⊎◌, ◌≤◌, ◌<◌, ◌+◌, ℕ, List, Option, Some, None, length};
 ghost use Rattle.adlb_io.specs.Outside.{Rises};
-ghost use Rattle.adlb_threads.specs.Reports.{Reported};
 ghost use Rattle.adlb_unit.specs.declared.configs.Config.{Config};
 ghost use Rattle.bag_ledger.specs.declared.entries.Entry.{Entry};
+ghost use Rattle.command_words.specs.declared.commands.Command.{Command};
+ghost use Rattle.command_words.specs.declared.commands.RunOptions.{RunOptions};
+ghost use Rattle.command_words.specs.declared.commands.SolveWords.{SolveWords};
 ghost use Rattle.job_report.specs.declared.outcomes.Outcome.{Outcome};
-ghost use Rattle.job_text.specs.declared.faults.LineWhy.{LineWhy};
+ghost use Rattle.job_text.specs.declared.faults.LineWhy as of_jobs;
 ghost use Rattle.job_text.specs.Jobs.{input_refused};
-ghost use Rattle.adlb_io.specs.Inputs.{Seen};
 ghost use Rattle.ledger_command.specs.Input.{input_limit as ledger_limit};
 ghost use Rattle.ledger_file.specs.Lines.{IsFirstBad, IsText};
-ghost use Rattle.puzzle_app.specs.declared.outcomes.Settings.{Settings};
+ghost use Rattle.run_command.specs.Ends.{Scene, input_limit};
+ghost use Rattle.run_command.specs.Kept.{Kept};
+ghost use Rattle.adlb_command.specs.declared.ends.LineWhy.{LineWhy};
 ghost use Rattle.adlb_command.specs.declared.ends.RunFault.{RunFault};
-ghost use Rattle.adlb_command.specs.declared.wanted.Wanted.{Wanted};
-ghost use Rattle.adlb_command.specs.Ends.{IsFine};
-ghost use Rattle.adlb_command.specs.Input.{IsAccepted, input_limit};
-ghost use Rattle.adlb_command.specs.Top.{EndsAsChecked, EndsAsDrilled, EndsAsMade, EndsBy, Scene};
+ghost use Rattle.adlb_command.specs.Ends.{IsFine, why_of};
+ghost use Rattle.adlb_command.specs.Top.{EndsAs};
 
 use ledger_file::text_laws;
 use made_jobs::made_laws;
 use made_law::made_is_accepted;
 
+/// What follows from how a command ended (`EndsAs`). It ends with `Usage` only if the words say none (`usage`), and if they say none, with
+/// that or `Memory` (`unsaid`).
+///
 /// What follows of a source that tells its bytes, if no read failed. `solve`: an accepted input is answered, if no write failed and no
 /// start was refused either (`complete`), a refused one is refused at its first such line (`refused`), and one that is too long is told as
 /// such (`overlong`), unless memory fails; besides, only the stamps can end.
@@ -30,32 +34,37 @@ use made_law::made_is_accepted;
 /// fails (`made`). `drill`: if no write failed and no start was refused, the summary was written, but for the ends that `complete` leaves
 /// (`drilled`).
 pub fn end_laws()
-    ensures complete { (settings : Settings) (wanted : Wanted) (before after : Scene) (fault : Option RunFault) (report : Option (Reported Outcome)) (bytes : List ℕ) →
-        EndsBy settings wanted before after fault report → before.left ≡ Some bytes → (Rises before.reads after.reads → ⊥) →
-        IsAccepted bytes → (Rises before.writes after.writes → ⊥) → (Rises before.refused after.refused → ⊥) → IsFine fault }
-    ensures refused { (settings : Settings) (wanted : Wanted) (before after : Scene) (fault : Option RunFault) (report : Option (Reported Outcome)) (bytes : List ℕ) →
-        EndsBy settings wanted before after fault report → before.left ≡ Some bytes → (Rises before.reads after.reads → ⊥) →
-        (line : ℕ) (why : LineWhy) → length bytes ≤ input_limit → input_refused bytes ≡ Some (line, why) →
-        (fault ≡ Some (RunFault.Input line why)) ⊎ (fault ≡ Some RunFault.Memory) }
-    ensures overlong { (settings : Settings) (wanted : Wanted) (before after : Scene) (fault : Option RunFault) (report : Option (Reported Outcome)) (bytes : List ℕ) →
-        EndsBy settings wanted before after fault report → before.left ≡ Some bytes → (Rises before.reads after.reads → ⊥) →
+    ensures usage { (said : Option Command) (before after : Scene) (kept : Option (Kept Outcome)) →
+        EndsAs said before after (Some RunFault.Usage) kept → said ≡ None }
+    ensures unsaid { (before after : Scene) (fault : Option RunFault) (kept : Option (Kept Outcome)) →
+        EndsAs None before after fault kept → (fault ≡ Some RunFault.Usage) ⊎ (fault ≡ Some RunFault.Memory) }
+    ensures complete { (words : SolveWords) (before after : Scene) (fault : Option RunFault) (kept : Option (Kept Outcome)) (bytes : List ℕ) →
+        EndsAs (Some (Command.Solve words)) before after fault kept → before.left ≡ Some bytes → (Rises before.reads after.reads → ⊥) →
+        length bytes ≤ input_limit → input_refused bytes ≡ None →
+        (Rises before.writes after.writes → ⊥) → (Rises before.refused after.refused → ⊥) → IsFine fault }
+    ensures refused { (words : SolveWords) (before after : Scene) (fault : Option RunFault) (kept : Option (Kept Outcome)) (bytes : List ℕ) →
+        EndsAs (Some (Command.Solve words)) before after fault kept → before.left ≡ Some bytes → (Rises before.reads after.reads → ⊥) →
+        (line : ℕ) (why : of_jobs.LineWhy) → length bytes ≤ input_limit → input_refused bytes ≡ Some (line, why) →
+        (fault ≡ Some (RunFault.Input line (why_of why))) ⊎ (fault ≡ Some RunFault.Memory) }
+    ensures overlong { (words : SolveWords) (before after : Scene) (fault : Option RunFault) (kept : Option (Kept Outcome)) (bytes : List ℕ) →
+        EndsAs (Some (Command.Solve words)) before after fault kept → before.left ≡ Some bytes → (Rises before.reads after.reads → ⊥) →
         input_limit < length bytes → (fault ≡ Some (RunFault.TooLarge (input_limit + 1))) ⊎ (fault ≡ Some RunFault.Memory) }
-    ensures checked { (before after : Seen) (fault : Option RunFault) (report : Option (Reported Outcome)) (bytes : List ℕ) →
-        EndsAsChecked before after fault report → before.left ≡ Some bytes → (Rises before.reads after.reads → ⊥) →
+    ensures checked { (before after : Scene) (fault : Option RunFault) (kept : Option (Kept Outcome)) (bytes : List ℕ) →
+        EndsAs (Some Command.Check) before after fault kept → before.left ≡ Some bytes → (Rises before.reads after.reads → ⊥) →
         (config : Config) (ledger : List Entry) → length bytes ≤ ledger_limit → IsText config ledger bytes →
         (Rises before.writes after.writes → ⊥) → (fault ≡ None) ⊎ (fault ≡ Some RunFault.Memory) }
-    ensures bad { (before after : Seen) (fault : Option RunFault) (report : Option (Reported Outcome)) (bytes : List ℕ) →
-        EndsAsChecked before after fault report → before.left ≡ Some bytes → (Rises before.reads after.reads → ⊥) →
+    ensures bad { (before after : Scene) (fault : Option RunFault) (kept : Option (Kept Outcome)) (bytes : List ℕ) →
+        EndsAs (Some Command.Check) before after fault kept → before.left ≡ Some bytes → (Rises before.reads after.reads → ⊥) →
         (line : ℕ) → length bytes ≤ ledger_limit → IsFirstBad bytes line →
-        (fault ≡ Some (RunFault.Entry line)) ⊎ (fault ≡ Some RunFault.Memory) }
-    ensures long { (before after : Seen) (fault : Option RunFault) (report : Option (Reported Outcome)) (bytes : List ℕ) →
-        EndsAsChecked before after fault report → before.left ≡ Some bytes → (Rises before.reads after.reads → ⊥) →
+        (fault ≡ Some (RunFault.Input line LineWhy.Entry)) ⊎ (fault ≡ Some RunFault.Memory) }
+    ensures long { (before after : Scene) (fault : Option RunFault) (kept : Option (Kept Outcome)) (bytes : List ℕ) →
+        EndsAs (Some Command.Check) before after fault kept → before.left ≡ Some bytes → (Rises before.reads after.reads → ⊥) →
         ledger_limit < length bytes → (fault ≡ Some (RunFault.TooLarge (ledger_limit + 1))) ⊎ (fault ≡ Some RunFault.Memory) }
-    ensures drilled { (settings : Settings) (count seed : ℕ) (before after : Scene) (fault : Option RunFault) (report : Option (Reported Outcome)) →
-        EndsAsDrilled settings count seed before after fault report → count ≤ 100000 → (Rises before.writes after.writes → ⊥) →
-        (Rises before.refused after.refused → ⊥) → IsFine fault }
-    ensures made { (count seed : ℕ) (before after : Seen) (fault : Option RunFault) (report : Option (Reported Outcome)) →
-        EndsAsMade count seed before after fault report → (Rises before.writes after.writes → ⊥) →
+    ensures drilled { (count seed : ℕ) (options : RunOptions) (before after : Scene) (fault : Option RunFault) (kept : Option (Kept Outcome)) →
+        EndsAs (Some (Command.Drill count seed options)) before after fault kept → count ≤ 100000 →
+        (Rises before.writes after.writes → ⊥) → (Rises before.refused after.refused → ⊥) → IsFine fault }
+    ensures made { (count seed : ℕ) (before after : Scene) (fault : Option RunFault) (kept : Option (Kept Outcome)) →
+        EndsAs (Some (Command.Make count seed)) before after fault kept → (Rises before.writes after.writes → ⊥) →
         (fault ≡ None) ⊎ (fault ≡ Some RunFault.Memory) }
 {
     text_laws();

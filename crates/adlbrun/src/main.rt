@@ -28,7 +28,7 @@ fn main(rt: HostRuntime) -> ExitCode {
                 FreeGate {},
             )
         }
-        Err(fault) => RunEnd::new(Some(fault), None),
+        Err(fault) => RunEnd::new(Some(fault)),
     };
     if let Some(fault) = end.fault {
         let _ = eprintln!(&rt; "adlbrun: {fault}");

@@ -2,10 +2,12 @@
 
 use crate::runs::{Ran, seen};
 use crate::tables::{BLANK, FORCED, FORCED_SOLVED, OVER, TWO};
-use adlb_command::{Extras, solve_inline};
+use adlb_command::RunEnd;
 use adlb_io::{SteadySink, SteadySource};
 use adlb_unit::Config;
 use puzzle_app::Settings;
+use run_command::run_inline;
+use solve_command::{Extras, Puzzles, Wanted};
 use std::alloc::Global;
 use std::test::Fail;
 
@@ -34,9 +36,12 @@ fn solve_on(
         stats: false,
         ledger: false,
     };
-    let settings = Settings { budget, grain };
-    let end = solve_inline(alloc, config, settings, extras, &mut input, &mut output);
-    seen(alloc, &end, output.taken())
+    let puzzles = Puzzles {
+        settings: Settings { budget, grain },
+        wanted: Wanted::Report(extras),
+    };
+    let ended = run_inline(alloc, &puzzles, config, &mut input, &mut output);
+    seen(alloc, &RunEnd::of(ended), output.taken())
 }
 
 // With this grain and limit the report begins with these solutions.

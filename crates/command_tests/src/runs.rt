@@ -48,8 +48,11 @@ pub fn seen(alloc: Global, end: &RunEnd, written: &[u8]) -> Result<Ran, Fail> {
 
 // The kept ledger, and how many units are left.
 fn kept(alloc: Global, end: &RunEnd) -> Result<(String, usize), Fail> {
-    match &end.report {
-        Some(kept) => Ok((names(alloc, &kept.ledger.list(alloc)?)?, kept.left.len())),
+    match &end.kept {
+        Some(kept) => {
+            let report = kept.report();
+            Ok((names(alloc, &report.ledger.list(alloc)?)?, report.left.len()))
+        }
         None => Ok((String::new(alloc), 0)),
     }
 }

@@ -281,10 +281,11 @@ fn is_legal<T: Spawner>(
         threads,
         FreeGate {},
     );
-    let Some(kept) = &end.report else {
+    let Some(kept) = &end.kept else {
         return Ok(false);
     };
-    let illegal = first_illegal(alloc, &kept.ledger, &kept.config)?;
+    let report_kept = kept.report();
+    let illegal = first_illegal(alloc, &report_kept.ledger, &report_kept.config)?;
     Ok(end.status == 0 && illegal.is_none() && output.taken() == report.as_bytes())
 }
 

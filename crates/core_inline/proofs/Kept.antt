@@ -1,6 +1,7 @@
 -- The fields of a run in line, call by call.
 use Rattle.std.proofs.Common.{◌≡◌, ℕ, zero, suc, ◌+◌, ◌<◌, ◌≤◌, ◌*◌, ◌||◌, ◌&&◌, Bool, true, false, List, [], ◌∷◌, length, take}
-use Rattle.std.proofs.Common.{Option, None, Some, is_some, refl, sym, ap, ◌∙◌, arith}
+use Rattle.std.proofs.Common.{Option, None, Some, Result, Ok, Err, IfOk, is_some, refl, sym, ap, ◌∙◌, arith, subst}
+use Rattle.std.specs.Prelude.{OnOk}
 use Rattle.std.proofs.lemmas.List.{length_push}
 use Rattle.adlb_unit.specs.Limits.{stamp_limit}
 use Rattle.adlb_unit.specs.declared.configs.Config.{Config}
@@ -12,17 +13,19 @@ use Rattle.bag_ledger.specs.declared.entries.Call.{Call}
 use Rattle.bag_ledger.specs.declared.entries.Call.TheVariants as calls_to
 use Rattle.bag_ledger.specs.declared.entries.Said.{Said}
 use Rattle.bag_ledger.specs.Bag.{Bag}
-use Rattle.rank_client.specs.Calls.{Began, has_finished, is_open, plus}
+use Rattle.rank_client.specs.Answers.{CanCall, IsAnswerTo, answered, answers_done, troubled}
+use Rattle.rank_client.specs.Calls.{Pends, has_finished, is_open, plus}
+use Rattle.rank_client.specs.Link.{Can, HasGrant, Made}
+use Rattle.rank_client.proofs.LinkLaws.{batch_fell, batch_moved, can_call, made_again, made_answered, made_failed}
 use Rattle.rank_client.proofs.Transcripts.{finished_more}
 use Rattle.server_law.specs.State.{ServerModel, is_finished}
 use Rattle.server_core.specs.Left.{left_of}
 use Rattle.core_world.specs.Seen.{Seen}
 use Rattle.core_inline.specs.declared.runs.InlineRun.TheInside.{Inside}
-use Rattle.core_inline.specs.Inline.{IsTold, batch_of, zeroth}
+use Rattle.core_inline.specs.Inline.{IsTold, Run, finish_answer, link_of, seat_by, zeroth}
 use Rattle.core_inline.specs.Left.{IsLeft}
 use Rattle.core_inline.specs.inside.Fields.{IsInside, run_of}
 use Rattle.core_inline.specs.inside.Pairs.{IsAnswered, IsFailed, IsFinished, IsReady, IsTrue, is_ended, rank_in, server_in, with_call}
-use Rattle.rank_client.proofs.OpenBatches.{not_open}
 use Rattle.core_inline.proofs.Begun.{begun_is, retold}
 use Rattle.core_inline.proofs.Reached.{facts}
 
@@ -71,11 +74,36 @@ module _ (i : Inside) (begun : Option Call) (t : IsTold i.world.world.config i.w
     short = short;
   }
 
--- while nothing failed, no batch of the client is going on if contracts see none
-pub batch_closed : (i : Inside) → IsInside i → i.world.trouble ≡ None → batch_of (run_of i) ≡ false
-    → is_open (rank_in i.world).transcript ≡ false
-batch_closed i inside none closed =
-    ap is_open (sym (take_all i.answered (rank_in i.world).transcript (inside.all none))) ∙ not_open (said_in i) i.world.trouble none closed
+-- what the rank can call, its client can begin
+pub begins_call : (i : Inside) (call : Call) → IsInside i → i.world.trouble ≡ None → Can (link_of (run_of i)) call
+    → HasGrant (said_in i) call → CanCall 1 1 (rank_in i.world).transcript call
+begins_call i call inside whole can grant =
+    subst (λ (l : List Said). CanCall 1 1 l call) (take_all i.answered (rank_in i.world).transcript (inside.all whole))
+    (subst (λ (n : ℕ). CanCall 1 n (said_in i) call) inside.inline.one_server
+    (subst (λ (n : ℕ). CanCall n i.world.world.config.servers (said_in i) call) inside.inline.one_rank
+    (can_call (link_of (run_of i)) call refl whole can grant)))
+
+-- a call of a world that had failed
+pub again_made : (i : Inside) (call : Call) (trouble : Trouble) → has_finished (said_in i) ≡ false → i.world.trouble ≡ Some trouble
+    → Made (link_of (run_of i)) (link_of (run_of i)) call (Err trouble)
+again_made i call trouble running failed =
+    let m = link_of (run_of i) in made_again m m call trouble running failed refl refl (batch_fell m trouble refl failed) failed refl
+
+-- and as contracts see it
+module _ (m : Run) (i : Inside) (is : run_of i ≡ m) (call : Call) (trouble : Trouble) (running : has_finished m.transcript ≡ false)
+    (failed : i.world.trouble ≡ Some trouble) where
+  again_inside : Made (link_of (run_of i)) (link_of (run_of i)) call (Err trouble)
+  again_inside = again_made i call trouble (ap (λ (r : Run). has_finished r.transcript) is ∙ running) failed
+
+  pub again_seen : Made (link_of m) (link_of m) call (Err trouble)
+  again_seen = subst (λ (r : Run). Made (link_of r) (link_of r) call (Err trouble)) is again_inside
+
+  pub again_left : Made (link_of m) (link_of (run_of i)) call (Err trouble)
+  again_left = subst (λ (r : Run). Made (link_of r) (link_of (run_of i)) call (Err trouble)) is again_inside
+
+-- the link serves the only rank
+same_seat : (c d : Config) → d ≡ c → seat_by d ≡ seat_by c
+same_seat c d same = ap (λ (g : Config). seat_by g) same
 
 -- A call that did not fail adds its answer, and nothing is open.
 module _ (i : Inside) (now : Seen) (finished : Bool) (call : Call) (answer : Answer) (before : IsInside i) (whole : i.world.trouble ≡ None)
@@ -98,8 +126,24 @@ module _ (i : Inside) (now : Seen) (finished : Bool) (call : Call) (answer : Ans
   abbrev told : IsTold now.world.config now.world.ledger (said_in j) None
   told = retold now.world.config now.world.ledger (rank_in now).transcript (said_in j) None None true_now.told all_said refl
 
-  pub grown_began : Began i.world.trouble (run_of i).begun call now.trouble (run_of j).begun
-  grown_began = rw (whole, goes_on) (begun_now j None told)
+  pub grown_made : has_finished (said_in i) ≡ false → now.world.config ≡ i.world.world.config
+      → IsAnswerTo (rank_in i.world).transcript call answer → Made (link_of (run_of i)) (link_of (run_of j)) call (Ok answer)
+  grown_made running same fits =
+      let old = link_of (run_of i) in
+      let new = link_of (run_of j) in
+      made_answered old new call running whole (same_seat i.world.world.config now.world.config same) answer answer_fits grown_transcript
+      (batch_moved old new call answer refl refl whole goes_on grown_transcript) goes_on (begun_now j None told)
+    where
+      answer_fits : IsAnswerTo (said_in i) call answer
+      answer_fits =
+          subst (λ (l : List Said). IsAnswerTo l call answer)
+          (sym (take_all i.answered (rank_in i.world).transcript (before.all whole))) fits
+
+  pub grown_seen : (m : Run) → run_of i ≡ m → has_finished m.transcript ≡ false → now.world.config ≡ i.world.world.config
+      → IsAnswerTo (rank_in i.world).transcript call answer → Made (link_of m) (link_of (run_of j)) call (Ok answer)
+  grown_seen m is running same fits =
+      subst (λ (r : Run). Made (link_of r) (link_of (run_of j)) call (Ok answer)) is
+      (grown_made (ap (λ (r : Run). has_finished r.transcript) is ∙ running) same fits)
 
   pub grown_inside : now.world.config ≡ i.world.world.config → finished ≡ has_finished (rank_in now).transcript
       → is_ended (server_in now) ≡ finished → is_some (rank_in now).batch ≡ is_open (rank_in now).transcript
@@ -141,6 +185,27 @@ answered_inside i now call answer before whole running done same =
     (not_ended (server_in now) ((facts now.world done.ready.lone).unhandled rests.going) ∙ sym going) rests.rank.opened
     (λ none. done.ready)
 
+-- Finish is answered by Fine alone
+pub finish_fits : (said : List Said) → IsAnswerTo said calls_to.Finish answers.Fine
+finish_fits said = record { kind = refl; known = tt; again = λ heeds. absurd (cc heeds) }
+
+fine_of : (a : Answer) → answers_done a ≡ true → a ≡ answers.Fine
+fine_of answers.Fine kind = refl
+fine_of _ kind = absurd (cc)
+
+-- what it leaves, by what failed
+pub finish_says : (said now : List Said) (failed : Option Trouble) (r : Result Answer Trouble) → now ≡ plus said calls_to.Finish (answered r)
+    → failed ≡ troubled r → IfOk r (λ a. answers_done a ≡ true) → now ≡ plus said calls_to.Finish (finish_answer failed)
+finish_says said now failed (Ok a) says fine kind =
+    says ∙ ap (λ (x : Answer). plus said calls_to.Finish (Some x)) (fine_of a kind)
+    ∙ sym (ap (λ (t : Option Trouble). plus said calls_to.Finish (finish_answer t)) fine)
+finish_says said now failed (Err e) says fails kind =
+    says ∙ sym (ap (λ (t : Option Trouble). plus said calls_to.Finish (finish_answer t)) fails)
+
+pub finish_heard : (failed : Option Trouble) (r : Result Answer Trouble) (P : Type 0) → failed ≡ troubled r → OnOk r P → failed ≡ None → P
+finish_heard failed (Ok a) P fine heard none = heard
+finish_heard failed (Err e) P fails heard none = absurd (cc (fails, none))
+
 -- The rank has finished.
 pub left_inside : (i : Inside) (now : Seen) → IsInside i → i.world.trouble ≡ None → IsFinished (rank_in i.world).transcript now
     → now.world.config ≡ i.world.world.config → IsInside (record i { world = now; answered = i.answered + 1; finished = true })
@@ -172,8 +237,19 @@ module _ (i : Inside) (now : Seen) (finished : Bool) (call : Call) (trouble : Tr
   told_failed =
       retold now.world.config now.world.ledger (rank_in i.world).transcript (said_in k) failed.begun failed.begun failed.told was_said refl
 
-  pub failed_began : Began i.world.trouble (run_of i).begun call now.trouble (run_of k).begun
-  failed_began = rw (whole, is, begun_now k failed.begun told_failed) failed.began
+  pub failed_made : has_finished (said_in i) ≡ false → now.world.config ≡ i.world.world.config
+      → Made (link_of (run_of i)) (link_of (run_of k)) call (Err trouble)
+  failed_made running same =
+      let new = link_of (run_of k) in
+      made_failed (link_of (run_of i)) new call running whole (same_seat i.world.world.config now.world.config same) trouble
+      failed_transcript (batch_fell new trouble refl is) is
+      (subst (λ (o : Option Call). Pends o call) (sym (begun_now k failed.begun told_failed)) failed.began)
+
+  pub failed_seen : (m : Run) → run_of i ≡ m → has_finished m.transcript ≡ false → now.world.config ≡ i.world.world.config
+      → Made (link_of m) (link_of (run_of k)) call (Err trouble)
+  failed_seen m same_run running same =
+      subst (λ (r : Run). Made (link_of r) (link_of (run_of k)) call (Err trouble)) same_run
+      (failed_made (ap (λ (r : Run). has_finished r.transcript) same_run ∙ running) same)
 
   inner : (stamp : ℕ) → Some trouble ≡ Some (TooLong stamp) → trouble ≡ TooLong stamp
   inner stamp e = cc

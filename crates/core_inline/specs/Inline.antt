@@ -14,6 +14,7 @@ use Rattle.bag_ledger.specs.declared.states.RankState.{RankState}
 use Rattle.bag_ledger.specs.Bag.{Bag, rank_at, start}
 use Rattle.bag_ledger.specs.Runs.{IsRun, call_of, calls}
 use Rattle.rank_client.specs.Calls.{has_finished, is_open}
+use Rattle.rank_client.specs.Link.{LinkModel}
 use Rattle.rank_client.specs.Seat.{Seat}
 use Rattle.server_core.specs.declared.states.LeftUnit.{LeftUnit}
 use Rattle.core_inline.specs.Left.{IsLeft}
@@ -52,12 +53,20 @@ abbrev pub zeroth : Rank
 zeroth = record { 0 = 0 }
 
 -- whose link it is
+abbrev pub seat_by : Config → Seat
+seat_by config = record { ranks = config.ranks; servers = config.servers; limit = config.limit; me = zeroth }
+
 abbrev pub seat_of : Run → Seat
-seat_of run = record { ranks = run.config.ranks; servers = run.config.servers; limit = run.config.limit; me = zeroth }
+seat_of run = seat_by run.config
 
 -- a batch is going on: it was begun and not ended, and nothing failed
 abbrev pub batch_of : Run → Bool
 batch_of run = is_open run.transcript && is_none run.failed
+
+-- the link of its rank
+abbrev pub link_of : Run → LinkModel
+link_of run =
+    record { seat = seat_of run; said = run.transcript; batch = batch_of run; failed = run.failed; begun = run.begun }
 
 -- What the ledger says beyond the transcript, and which call was begun: nothing, and then the one that is pending in the bag, if any;
 -- or that call with an answer which did not come back.

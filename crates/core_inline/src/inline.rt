@@ -5,17 +5,14 @@ ghost use Rattle.adlb_unit.specs.Limits.{stamp_limit};
 ghost use Rattle.adlb_unit.specs.declared.notes.Trouble.{Trouble};
 ghost use Rattle.bag_ledger.specs.declared.entries.Call.{Call};
 ghost use Rattle.rank_client.specs.Calls.{Began, Repeats, has_finished, plus};
-ghost use Rattle.core_inline.specs.Inline.{seat_of, IsEnd, IsInline, IsStart, batch_of, finish_answer};
+ghost use Rattle.core_inline.specs.Inline.{IsEnd, IsInline, IsStart, batch_of, finish_answer, link_of};
 
 use crate::runs::InlineRun;
-use adlb_unit::{Handle, Info, NoMemory, Payload, Rank, Target, Trouble, Types, WorkType};
-use bag_ledger::{Body, Call, Said};
+use adlb_unit::{NoMemory, Trouble};
+use bag_ledger::{Answer, Call, Said};
 use ghost_list::Trace;
 use packed_ledger::Ledger;
-use rank_client::{
-    Adlb, EndFault, PutFault, TryFault, count_result, done_result, fetch_result, put_result,
-    reserve_result, try_result,
-};
+use rank_client::Carrier;
 use server_core::LeftUnit;
 use std::alloc::Global;
 
@@ -64,7 +61,7 @@ impl InlineWorld {
         ensures heard { self.new.run.failed ≡ None → self.new.run.ended ≡ true }
         ensures holds { IsInline self.new.run }
     {
-        self.run.finish();
+        let _ = self.run.finish();
     }
 
     /// What stands at the end: the ledger, the calls of the rank with their answers, of which nothing is held, and the units that
@@ -89,85 +86,23 @@ impl InlineWorld {
     }
 }
 
-impl Adlb for InlineWorld {
-    ghost seat = { λ world. seat_of world.run };
+impl Carrier for InlineWorld {
+    ghost carried = { λ world. link_of world.run };
 
-    ghost transcript = { λ world. world.run.transcript };
-
-    ghost batch = { λ world. batch_of world.run };
-
-    ghost failed = { λ world. world.run.failed };
-
-    ghost begun = { λ world. world.run.begun };
-
-    fn put(
-        &mut self,
-        kind: WorkType,
-        prio: i32,
-        target: Target,
-        answer: Option<Rank>,
-        body: Payload,
-    ) -> Result<(), PutFault> {
-        put_result(
-            self.run.call(Call::Put {
-                kind,
-                prio,
-                target,
-                answer,
-                body,
-            }),
-        )
+    fn exchange(&mut self, call: Call) -> Result<Answer, Trouble> {
+        match call {
+            Call::Finish => self.run.finish(),
+            call => self.run.call(call),
+        }
     }
 
-    fn reserve(&mut self, types: &Types) -> Result<Handle, EndFault> {
-        reserve_result(
-            self.run.call(Call::Reserve {
-                types: types.twin(),
-            }),
-        )
-    }
-
-    fn ireserve(&mut self, types: &Types) -> Result<Handle, TryFault> {
-        try_result(
-            self.run.call(Call::Try {
-                types: types.twin(),
-            }),
-        )
-    }
-
-    fn get_reserved(&mut self, handle: Handle) -> Result<Body, (Handle, Trouble)> {
-        let id = handle.note().id;
-        fetch_result(handle, self.run.call(Call::Fetch { id }))
-    }
-
-    fn leave(&mut self, handle: Handle) {
-        let _ = handle.spend();
-    }
-
-    fn begin_batch(&mut self, common: Payload) -> Result<(), PutFault> {
-        put_result(self.run.call(Call::BeginBatch { common }))
-    }
-
-    fn end_batch(&mut self) -> Result<(), Trouble> {
-        done_result(self.run.call(Call::EndBatch))
-    }
-
-    fn num_units(&mut self, kind: WorkType) -> Result<Info, Trouble> {
-        count_result(self.run.call(Call::Count { kind }))
-    }
-
-    fn set_problem_done(&mut self) -> Result<(), Trouble> {
-        done_result(self.run.call(Call::SetDone))
-    }
-
-    fn batch_open(&self) -> bool {
+    fn has_batch(&self) -> bool {
         self.run.batch_open()
     }
 
-    fn finish(self) {
-        let mut world = self;
-        world.finish_inline();
+    fn count_ranks(&self) -> u32 {
+        1
     }
 
-    ghost short = { λ world. world.short };
+    ghost few = { λ world. world.short };
 }

@@ -1,11 +1,12 @@
 //! A run of one rank and one server, call by call.
 
-ghost use Rattle.std.specs.Prelude.{◌≡◌, ◌<◌, ◌≤◌, ◌^◌, ◌↔◌, ◌++◌, ◌∷◌, [], ℕ, None, Some, Err, true, false, IfOk, IfErr, OnOk};
+ghost use Rattle.std.specs.Prelude.{◌≡◌, ◌≤◌, ◌^◌, ◌↔◌, ℕ, None, Some, Err, true, false, IfOk, IfErr, OnOk};
 ghost use Rattle.adlb_unit.specs.declared.notes.Trouble.{Trouble};
 ghost use Rattle.bag_ledger.specs.declared.entries.Call.{Call};
-ghost use Rattle.rank_client.specs.Answers.{CanCall, IsAnswer, answered, answers_call, heeds_end, troubled};
-ghost use Rattle.rank_client.specs.Calls.{Began, Repeats, TellsAgain, end_told, has_finished, is_finish, plus};
-ghost use Rattle.core_inline.specs.Inline.{IsEnd, IsInline, IsStart, batch_of, finish_answer};
+ghost use Rattle.rank_client.specs.Answers.{answers_call, answers_done};
+ghost use Rattle.rank_client.specs.Calls.{has_finished, is_finish};
+ghost use Rattle.rank_client.specs.Link.{Can, HasGrant, Made};
+ghost use Rattle.core_inline.specs.Inline.{IsEnd, IsInline, IsStart, batch_of, link_of};
 
 use crate::pairs::{exchange, finish};
 use adlb_unit::{Config, NoMemory, Rank, Server, Trouble};
@@ -55,18 +56,13 @@ impl InlineRun {
         })
     }
 
-    // One call of the rank, from its beginning to its answer.
+    // One call of the rank other than Finish, from its beginning to its answer.
     pub(crate) fn call(&mut self, call: Call) -> Result<Answer, Trouble>
-        requires running { has_finished self.old.transcript ≡ false }
-        requires can { self.old.failed ≡ None → CanCall 1 1 self.old.transcript call }
+        requires can { Can (link_of self.old) call }
+        requires granted { HasGrant self.old.transcript call }
         requires going { is_finish call ≡ false }
-        ensures says { self.new.transcript ≡ plus self.old.transcript call (answered result) }
+        ensures made { Made (link_of self.old) (link_of self.new) call result }
         ensures kind { IfOk result (λ a. answers_call call a ≡ true) }
-        ensures known { IfOk result (λ a. IsAnswer self.old.transcript call a) }
-        ensures told { heeds_end call ≡ true → TellsAgain (end_told self.old.transcript) (answered result) }
-        ensures failed { self.new.failed ≡ troubled result }
-        ensures repeats { Repeats self.old.failed (troubled result) }
-        ensures began { Began self.old.failed self.old.begun call self.new.failed self.new.begun }
         ensures config { self.new.config ≡ self.old.config }
         ensures holds { IsInline self.new }
     {
@@ -79,25 +75,22 @@ impl InlineRun {
     }
 
     // The rank finishes, and the server hears of it.
-    pub(crate) fn finish(&mut self)
-        requires running { has_finished self.old.transcript ≡ false }
-        requires closed { batch_of self.old ≡ false }
+    pub(crate) fn finish(&mut self) -> Result<Answer, Trouble>
+        requires can { Can (link_of self.old) Call.Finish }
+        ensures made { Made (link_of self.old) (link_of self.new) Call.Finish result }
+        ensures kind { IfOk result (λ a. answers_done a ≡ true) }
         ensures finished { self.new.finished ≡ true }
-        ensures says { self.new.transcript ≡ plus self.old.transcript Call.Finish (finish_answer self.new.failed) }
-        ensures repeats { Repeats self.old.failed self.new.failed }
-        ensures began { Began self.old.failed self.old.begun Call.Finish self.new.failed self.new.begun }
         ensures config { self.new.config ≡ self.old.config }
-        ensures heard { self.new.failed ≡ None → self.new.ended ≡ true }
+        ensures heard { OnOk result (self.new.ended ≡ true) }
         ensures holds { IsInline self.new }
     {
         self.finished = true;
-        if self.world.trouble().is_some() {
-            return;
+        if let Some(failed) = self.world.trouble() {
+            return Err(failed);
         }
-        match finish(&mut self.world) {
-            Ok(()) => self.answered += 1,
-            Err(_) => {}
-        }
+        finish(&mut self.world)?;
+        self.answered += 1;
+        Ok(Answer::Fine)
     }
 
     // A batch is going on.

@@ -2,7 +2,7 @@
 use Rattle.std.proofs.Common.{◌≡◌, ℕ, ◌+◌, ◌<◌, ◌≤◌, Bool, true, false, List, [], length, take, drop, ltb, Option, Some, None}
 use Rattle.std.proofs.Common.{Result, Ok, Err, refl, sym, ap, ◌∙◌, subst, arith}
 use Rattle.std.specs.Prelude.{IfErr}
-use Rattle.adlb_io.proofs.Inputs.{read_whole}
+use Rattle.adlb_io.proofs.Inputs.{read_end, read_whole}
 use Rattle.adlb_io.specs.Whole.{Reads}
 use Rattle.ledger_file.specs.Lines.{IsFirstBad, IsText}
 use Rattle.ledger_file.specs.declared.faults.LedgerFault.{LedgerFault}
@@ -30,10 +30,11 @@ module _ (before after : Option (List ℕ)) (read : List ℕ) (reads : Reads bef
 
   -- why nothing is told of the bytes is why nothing is of the input
   pub read_refuses : length read ≤ input_limit → (faults now : ℕ) → now ≡ faults → (fault : CheckFault) → RefusesText read fault
-      → Refuses before faults now fault
+      → Refuses before after faults now fault
   read_refuses short faults now same (Entry line) is = (
     λ all told. let same_bytes = whole all short told in
         (omega (arith, short, ap length same_bytes), subst (λ l. IsFirstBad l line) same_bytes is),
+    read_end input_limit before after read reads short,
     same,
   )
   read_refuses short faults now same Memory is = same

@@ -1,7 +1,8 @@
 -- For the crate itself. Why an input has no verdict, and how the writing of one ended.
 use Rattle.std.specs.Prelude.{◌≡◌, ◌+◌, ℕ, Bool, true, List, Option, Result, Ok, Err}
+use Rattle.adlb_io.specs.Inputs.{IsAtEnd}
 use Rattle.adlb_io.specs.Outside.{Rises, Takes}
-use Rattle.adlb_io.specs.Whole.{TakesPrefix}
+use Rattle.adlb_io.specs.Whole.{Reads, TakesPrefix}
 use Rattle.adlb_unit.specs.declared.configs.Config.{Config}
 use Rattle.bag_ledger.specs.declared.entries.Entry.{Entry}
 use Rattle.ledger_file.specs.Lines.{IsFirstBad, IsText}
@@ -24,13 +25,14 @@ RefusesText bytes (faults.Entry line) = IsFirstBad bytes line
 RefusesText bytes faults.Memory = Unit {0}
 RefusesText bytes fault = ⊥
 
--- why nothing is told of an input, with the counts of faults of its source before and after
-abbrev pub Refuses : Option (List ℕ) → ℕ → ℕ → CheckFault → Type 0
-Refuses left reads reads' (faults.Entry line) = IsRefusedAt left line × (reads' ≡ reads)
-Refuses left reads reads' (faults.TooLarge taken) = (taken ≡ input_limit + 1) × IsTooLong left × (reads' ≡ reads)
-Refuses left reads reads' faults.Read = Rises reads reads'
-Refuses left reads reads' faults.Memory = reads' ≡ reads
-Refuses left reads reads' faults.Write = ⊥
+-- why nothing is told of an input, with what its source has left and the counts of its faults, before and after
+abbrev pub Refuses : Option (List ℕ) → Option (List ℕ) → ℕ → ℕ → CheckFault → Type 0
+Refuses left left' reads reads' (faults.Entry line) = IsRefusedAt left line × IsAtEnd left' × (reads' ≡ reads)
+Refuses left left' reads reads' (faults.TooLarge taken) =
+    (taken ≡ input_limit + 1) × IsTooLong left × ((read : List ℕ) × Reads left left' taken read) × (reads' ≡ reads)
+Refuses left left' reads reads' faults.Read = Rises reads reads'
+Refuses left left' reads reads' faults.Memory = reads' ≡ reads
+Refuses left left' reads reads' faults.Write = ⊥
 
 -- how the writing of a verdict's line ended, with the sink's counts of faults before and after
 abbrev pub Writes : Verdict → Option (List ℕ) → Option (List ℕ) → ℕ → ℕ → Bool → Result Verdict CheckFault → Type 0

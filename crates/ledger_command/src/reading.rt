@@ -21,7 +21,7 @@ pub fn read_verdict<S: Source>(alloc: Global, input: &mut S) -> Result<Verdict, 
     ensures told { IfOk result (IsVerdictOn (S.left input.old)) }
     ensures end { OnOk result (IsAtEnd (S.left input.new)) }
     ensures counted { OnOk result (S.faults input.new ≡ S.faults input.old) }
-    ensures refused { IfErr result (Refuses (S.left input.old) (S.faults input.old) (S.faults input.new)) }
+    ensures refused { IfErr result (Refuses (S.left input.old) (S.left input.new) (S.faults input.old) (S.faults input.new)) }
     ensures later { S.faults input.old ≤ S.faults input.new }
 {
     let bytes = read_up_to(alloc, input, INPUT_LIMIT + 1)?;

@@ -1,5 +1,4 @@
 pub mod Counting
-pub mod Transcripts
 pub mod Calling
 pub mod Adding
 pub mod Tallies

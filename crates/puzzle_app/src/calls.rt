@@ -1,10 +1,11 @@
 //! The calls of the puzzle program over any link.
 
-ghost use Rattle.std.specs.Prelude.{◌≡◌, ◌<◌, ◌≤◌, ◌^◌, ◌++◌, ◌∷◌, [], ℕ, length, Some, None, Err, false, IfOk, IfErr, OnOk, OnErr};
+ghost use Rattle.std.specs.Prelude.{◌≡◌, ◌<◌, ◌≤◌, ◌^◌, ◌++◌, ◌∷◌, [], ℕ, length, Some, None, Ok, Err, false, IfOk, IfErr, OnOk, OnErr};
 ghost use Rattle.bag_ledger.specs.declared.entries.Call.{Call};
 ghost use Rattle.job_units.specs.Forms.{IsUnit};
 ghost use Rattle.job_units.specs.Puts.{put_of};
-ghost use Rattle.rank_client.specs.Calls.{Pends, has_finished, put_answer, put_trouble, unanswered};
+ghost use Rattle.rank_client.specs.Calls.{Pends, has_finished, unanswered};
+ghost use Rattle.rank_client.specs.Link.{put_came};
 ghost use Rattle.puzzle_app.specs.Books.{said_of};
 ghost use Rattle.puzzle_app.specs.Calls.{Fails, IsWhole, Takes, answer_of, is_accepted};
 
@@ -31,19 +32,19 @@ pub enum Taken {
 
 /// Puts a unit that was made (`put_of`).
 pub fn put<A: Adlb>(alloc: Global, link: &mut A, made: &Made) -> Result<Reply, Trouble>
-    requires running { has_finished (A.transcript link.old) ≡ false }
-    requires whole { A.failed link.old ≡ None }
-    requires ranks { 0 < (A.seat link.old).ranks }
-    ensures says { IfOk result (λ reply. A.transcript link.new ≡
-        A.transcript link.old ++ said_of (put_of made.now) (answer_of reply) ∷ []) }
+    requires running { has_finished (A.link link.old).said ≡ false }
+    requires whole { (A.link link.old).failed ≡ None }
+    requires ranks { 0 < (A.link link.old).seat.ranks }
+    ensures says { IfOk result (λ reply. (A.link link.new).said ≡
+        (A.link link.old).said ++ said_of (put_of made.now) (answer_of reply) ∷ []) }
     ensures form { OnOk result (IsUnit made.now) }
-    ensures same { OnErr result (A.transcript link.new ≡ A.transcript link.old) }
-    ensures begun { Pends (unanswered (A.failed link.new) (A.begun link.new)) (put_of made.now) }
-    ensures fine { OnOk result (A.failed link.new ≡ None) }
-    ensures seat { A.seat link.new ≡ A.seat link.old }
-    ensures batch { OnOk result (A.batch link.new ≡ A.batch link.old) }
+    ensures same { OnErr result ((A.link link.new).said ≡ (A.link link.old).said) }
+    ensures begun { Pends (unanswered (A.link link.new).failed (A.link link.new).begun) (put_of made.now) }
+    ensures fine { OnOk result ((A.link link.new).failed ≡ None) }
+    ensures seat { (A.link link.new).seat ≡ (A.link link.old).seat }
+    ensures batch { OnOk result ((A.link link.new).batch ≡ (A.link link.old).batch) }
     ensures too_long { (stamp : ℕ) → result ≡ Err (Trouble.TooLong stamp) →
-        A.failed link.new ≡ Some (Trouble.TooLong stamp) }
+        (A.link link.new).failed ≡ Some (Trouble.TooLong stamp) }
 {
     let Ok(putting) = made.putting(alloc) else {
         return Err(Trouble::Memory);
@@ -60,19 +61,19 @@ pub fn put<A: Adlb>(alloc: Global, link: &mut A, made: &Made) -> Result<Reply, T
 
 /// Begins a batch of these common bytes.
 pub fn begin<A: Adlb>(alloc: Global, link: &mut A, common: &Payload) -> Result<Reply, Trouble>
-    requires running { has_finished (A.transcript link.old) ≡ false }
-    requires whole { A.failed link.old ≡ None }
+    requires running { has_finished (A.link link.old).said ≡ false }
+    requires whole { (A.link link.old).failed ≡ None }
     requires common { length common.now ≤ 2 ^ 20 }
-    requires closed { A.batch link.old ≡ false }
-    ensures says { IfOk result (λ reply. A.transcript link.new ≡
-        A.transcript link.old ++ said_of (Call.BeginBatch common.now) (answer_of reply) ∷ []) }
-    ensures same { OnErr result (A.transcript link.new ≡ A.transcript link.old) }
-    ensures begun { Pends (unanswered (A.failed link.new) (A.begun link.new)) (Call.BeginBatch common.now) }
-    ensures fine { OnOk result (A.failed link.new ≡ None) }
-    ensures seat { A.seat link.new ≡ A.seat link.old }
-    ensures batch { IfOk result (λ reply. A.batch link.new ≡ is_accepted reply) }
+    requires closed { (A.link link.old).batch ≡ false }
+    ensures says { IfOk result (λ reply. (A.link link.new).said ≡
+        (A.link link.old).said ++ said_of (Call.BeginBatch common.now) (answer_of reply) ∷ []) }
+    ensures same { OnErr result ((A.link link.new).said ≡ (A.link link.old).said) }
+    ensures begun { Pends (unanswered (A.link link.new).failed (A.link link.new).begun) (Call.BeginBatch common.now) }
+    ensures fine { OnOk result ((A.link link.new).failed ≡ None) }
+    ensures seat { (A.link link.new).seat ≡ (A.link link.old).seat }
+    ensures batch { IfOk result (λ reply. (A.link link.new).batch ≡ is_accepted reply) }
     ensures too_long { (stamp : ℕ) → result ≡ Err (Trouble.TooLong stamp) →
-        A.failed link.new ≡ Some (Trouble.TooLong stamp) }
+        (A.link link.new).failed ≡ Some (Trouble.TooLong stamp) }
 {
     let Ok(common) = common.twin(alloc) else {
         return Err(Trouble::Memory);
@@ -82,10 +83,8 @@ pub fn begin<A: Adlb>(alloc: Global, link: &mut A, common: &Payload) -> Result<R
 
 // What such a call comes to, or the trouble with which it fails.
 fn reply_of(told: Result<(), PutFault>) -> Result<Reply, Trouble>
-    ensures answer { IfOk result (λ reply. put_answer told ≡ Some (answer_of reply)) }
-    ensures fine { OnOk result (put_trouble told ≡ None) }
-    ensures trouble { IfErr result (λ t. put_trouble told ≡ Some t) }
-    ensures none { OnErr result (put_answer told ≡ None) }
+    ensures answer { IfOk result (λ reply. put_came told ≡ Ok (answer_of reply)) }
+    ensures trouble { IfErr result (λ t. put_came told ≡ Err t) }
 {
     match told {
         Ok(()) => Ok(Reply::Accepted),
@@ -99,17 +98,17 @@ fn reply_of(told: Result<(), PutFault>) -> Result<Reply, Trouble>
 
 /// Reserves a unit of any type and fetches it, or is told an end (`Takes`). If the fetch fails, the grant stands.
 pub fn take<A: Adlb>(link: &mut A) -> Result<Taken, Trouble>
-    requires running { has_finished (A.transcript link.old) ≡ false }
-    requires whole { A.failed link.old ≡ None }
-    ensures takes { IfOk result (λ taken. Takes (A.transcript link.old) (A.transcript link.new) taken) }
+    requires running { has_finished (A.link link.old).said ≡ false }
+    requires whole { (A.link link.old).failed ≡ None }
+    ensures takes { IfOk result (λ taken. Takes (A.link link.old).said (A.link link.new).said taken) }
     ensures whole { IfOk result IsWhole }
-    ensures part { OnErr result (Fails (A.transcript link.old) (A.transcript link.new)
-        (unanswered (A.failed link.new) (A.begun link.new))) }
-    ensures fine { OnOk result (A.failed link.new ≡ None) }
-    ensures seat { A.seat link.new ≡ A.seat link.old }
-    ensures batch { OnOk result (A.batch link.new ≡ A.batch link.old) }
+    ensures part { OnErr result (Fails (A.link link.old).said (A.link link.new).said
+        (unanswered (A.link link.new).failed (A.link link.new).begun)) }
+    ensures fine { OnOk result ((A.link link.new).failed ≡ None) }
+    ensures seat { (A.link link.new).seat ≡ (A.link link.old).seat }
+    ensures batch { OnOk result ((A.link link.new).batch ≡ (A.link link.old).batch) }
     ensures too_long { (stamp : ℕ) → result ≡ Err (Trouble.TooLong stamp) →
-        A.failed link.new ≡ Some (Trouble.TooLong stamp) }
+        (A.link link.new).failed ≡ Some (Trouble.TooLong stamp) }
 {
     let types = Types::any();
     match link.reserve(&types) {

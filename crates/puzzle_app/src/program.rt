@@ -92,21 +92,21 @@ impl PuzzleProgram {
         desk: &mut Desk,
         common: &[u8],
     ) -> Result<bool, Trouble>
-        requires going { CanDo self.now (A.transcript link.old) desk.old common.now [] }
+        requires going { CanDo self.now (A.link link.old).said desk.old common.now [] }
         requires common { length common.now < 2 ^ 56 }
-        requires ranks { 0 < (A.seat link.old).ranks }
-        requires whole { A.failed link.old ≡ None }
+        requires ranks { 0 < (A.link link.old).seat.ranks }
+        requires whole { (A.link link.old).failed ≡ None }
         ensures told { (rest : List Task) (on : Option (List ℕ)) → bytes_on on ≡ common.now →
-            IsGoing self.now (A.transcript link.old) desk.old rest on →
-            IfOk result (λ all. Passes self.now (A.transcript link.new) desk.new rest on all) }
-        ensures so_far { IsUnderWay self.now (A.transcript link.new)
-            (unanswered (A.failed link.new) (A.begun link.new)) }
-        ensures whole { OnOk result (A.failed link.new ≡ None) }
-        ensures more { length (A.transcript link.old) ≤ length (A.transcript link.new) }
-        ensures seat { A.seat link.new ≡ A.seat link.old }
-        ensures batch { OnOk result (A.batch link.new ≡ A.batch link.old) }
+            IsGoing self.now (A.link link.old).said desk.old rest on →
+            IfOk result (λ all. Passes self.now (A.link link.new).said desk.new rest on all) }
+        ensures so_far { IsUnderWay self.now (A.link link.new).said
+            (unanswered (A.link link.new).failed (A.link link.new).begun) }
+        ensures whole { OnOk result ((A.link link.new).failed ≡ None) }
+        ensures more { length (A.link link.old).said ≤ length (A.link link.new).said }
+        ensures seat { (A.link link.new).seat ≡ (A.link link.old).seat }
+        ensures batch { OnOk result ((A.link link.new).batch ≡ (A.link link.old).batch) }
         ensures too_long { (stamp : ℕ) → result ≡ Err (Trouble.TooLong stamp) →
-            A.failed link.new ≡ Some (Trouble.TooLong stamp) }
+            (A.link link.new).failed ≡ Some (Trouble.TooLong stamp) }
     {
         'puts: while let Some(made) = desk.waiting.pop_front() {
             match put(self.alloc, link, &made)? {
@@ -131,20 +131,20 @@ impl PuzzleProgram {
         common: &[u8],
     ) -> Result<bool, Trouble>
         requires none { desk.old.waiting.items ≡ [] }
-        requires going { CanDo self.now (A.transcript link.old) desk.old common.now (Put made ∷ []) }
+        requires going { CanDo self.now (A.link link.old).said desk.old common.now (Put made ∷ []) }
         requires common { length common.now < 2 ^ 56 }
-        requires ranks { 0 < (A.seat link.old).ranks }
-        requires whole { A.failed link.old ≡ None }
+        requires ranks { 0 < (A.link link.old).seat.ranks }
+        requires whole { (A.link link.old).failed ≡ None }
         ensures told { (rest : List Task) (on : Option (List ℕ)) → bytes_on on ≡ common.now →
-            IsGoing self.now (A.transcript link.old) desk.old (Put made ∷ rest) on →
-            IfOk result (λ all. Passes self.now (A.transcript link.new) desk.new rest on all) }
-        ensures so_far { IsUnderWay self.now (A.transcript link.new)
-            (unanswered (A.failed link.new) (A.begun link.new)) }
-        ensures whole { OnOk result (A.failed link.new ≡ None) }
-        ensures seat { A.seat link.new ≡ A.seat link.old }
-        ensures batch { OnOk result (A.batch link.new ≡ A.batch link.old) }
+            IsGoing self.now (A.link link.old).said desk.old (Put made ∷ rest) on →
+            IfOk result (λ all. Passes self.now (A.link link.new).said desk.new rest on all) }
+        ensures so_far { IsUnderWay self.now (A.link link.new).said
+            (unanswered (A.link link.new).failed (A.link link.new).begun) }
+        ensures whole { OnOk result ((A.link link.new).failed ≡ None) }
+        ensures seat { (A.link link.new).seat ≡ (A.link link.old).seat }
+        ensures batch { OnOk result ((A.link link.new).batch ≡ (A.link link.old).batch) }
         ensures too_long { (stamp : ℕ) → result ≡ Err (Trouble.TooLong stamp) →
-            A.failed link.new ≡ Some (Trouble.TooLong stamp) }
+            (A.link link.new).failed ≡ Some (Trouble.TooLong stamp) }
     {
         match desk.waiting.push_back(made) {
             Ok(()) => self.put_all(link, desk, common),
@@ -162,21 +162,21 @@ impl PuzzleProgram {
         items: &[Item],
     ) -> Result<bool, Trouble>
         requires none { desk.old.waiting.items ≡ [] }
-        requires going { CanDo self.now (A.transcript link.old) desk.old common.now (job_tasks batch items.now) }
+        requires going { CanDo self.now (A.link link.old).said desk.old common.now (job_tasks batch items.now) }
         requires common { length common.now < 2 ^ 56 }
         requires few { length items.now ≤ 2 ^ 24 }
-        requires ranks { 0 < (A.seat link.old).ranks }
-        requires whole { A.failed link.old ≡ None }
+        requires ranks { 0 < (A.link link.old).seat.ranks }
+        requires whole { (A.link link.old).failed ≡ None }
         ensures told { (rest : List Task) (on : Option (List ℕ)) → bytes_on on ≡ common.now →
-            IsGoing self.now (A.transcript link.old) desk.old (job_tasks batch items.now ++ rest) on →
-            IfOk result (λ all. Passes self.now (A.transcript link.new) desk.new rest on all) }
-        ensures so_far { IsUnderWay self.now (A.transcript link.new)
-            (unanswered (A.failed link.new) (A.begun link.new)) }
-        ensures whole { OnOk result (A.failed link.new ≡ None) }
-        ensures seat { A.seat link.new ≡ A.seat link.old }
-        ensures batch { OnOk result (A.batch link.new ≡ A.batch link.old) }
+            IsGoing self.now (A.link link.old).said desk.old (job_tasks batch items.now ++ rest) on →
+            IfOk result (λ all. Passes self.now (A.link link.new).said desk.new rest on all) }
+        ensures so_far { IsUnderWay self.now (A.link link.new).said
+            (unanswered (A.link link.new).failed (A.link link.new).begun) }
+        ensures whole { OnOk result ((A.link link.new).failed ≡ None) }
+        ensures seat { (A.link link.new).seat ≡ (A.link link.old).seat }
+        ensures batch { OnOk result ((A.link link.new).batch ≡ (A.link link.old).batch) }
         ensures too_long { (stamp : ℕ) → result ≡ Err (Trouble.TooLong stamp) →
-            A.failed link.new ≡ Some (Trouble.TooLong stamp) }
+            (A.link link.new).failed ≡ Some (Trouble.TooLong stamp) }
     {
         let mut number: u32 = 1;
         for item in items {
@@ -204,24 +204,24 @@ impl PuzzleProgram {
     ) -> Result<bool, Trouble>
         requires none { desk.old.waiting.items ≡ [] }
         requires going { (rest : List Task) ×
-            IsGoing self.now (A.transcript link.old) desk.old
+            IsGoing self.now (A.link link.old).said desk.old
             (job_tasks batch items.now ++ End ∷ rest) (Some common.now) }
         requires common { length common.now < 2 ^ 56 }
         requires few { length items.now ≤ 2 ^ 24 }
-        requires ranks { 0 < (A.seat link.old).ranks }
-        requires whole { A.failed link.old ≡ None }
-        requires open { A.batch link.old ≡ true }
+        requires ranks { 0 < (A.link link.old).seat.ranks }
+        requires whole { (A.link link.old).failed ≡ None }
+        requires open { (A.link link.old).batch ≡ true }
         ensures told { (rest : List Task) →
-            IsGoing self.now (A.transcript link.old) desk.old
+            IsGoing self.now (A.link link.old).said desk.old
             (job_tasks batch items.now ++ End ∷ rest) (Some common.now) →
-            IfOk result (λ all. Passes self.now (A.transcript link.new) desk.new rest None all) }
-        ensures so_far { IsUnderWay self.now (A.transcript link.new)
-            (unanswered (A.failed link.new) (A.begun link.new)) }
-        ensures whole { OnOk result (A.failed link.new ≡ None) }
-        ensures seat { A.seat link.new ≡ A.seat link.old }
-        ensures batch { OnOk result (A.batch link.new ≡ false) }
+            IfOk result (λ all. Passes self.now (A.link link.new).said desk.new rest None all) }
+        ensures so_far { IsUnderWay self.now (A.link link.new).said
+            (unanswered (A.link link.new).failed (A.link link.new).begun) }
+        ensures whole { OnOk result ((A.link link.new).failed ≡ None) }
+        ensures seat { (A.link link.new).seat ≡ (A.link link.old).seat }
+        ensures batch { OnOk result ((A.link link.new).batch ≡ false) }
         ensures too_long { (stamp : ℕ) → result ≡ Err (Trouble.TooLong stamp) →
-            A.failed link.new ≡ Some (Trouble.TooLong stamp) }
+            (A.link link.new).failed ≡ Some (Trouble.TooLong stamp) }
     {
         let all = self.put_jobs(link, desk, batch, common, items)?;
         match link.end_batch() {
@@ -240,24 +240,24 @@ impl PuzzleProgram {
         items: &[Item],
     ) -> Result<bool, Trouble>
         requires none { desk.old.waiting.items ≡ [] }
-        requires going { CanDoNext self.now (A.transcript link.old) desk.old
+        requires going { CanDoNext self.now (A.link link.old).said desk.old
             (Begin common.now (jobs_from batch 1 items.now)) }
         requires common { length common.now ≤ 2 ^ 20 }
         requires few { length items.now ≤ 2 ^ 24 }
-        requires ranks { 0 < (A.seat link.old).ranks }
-        requires whole { A.failed link.old ≡ None }
-        requires closed { A.batch link.old ≡ false }
+        requires ranks { 0 < (A.link link.old).seat.ranks }
+        requires whole { (A.link link.old).failed ≡ None }
+        requires closed { (A.link link.old).batch ≡ false }
         ensures told { (rest : List Task) →
-            IsGoing self.now (A.transcript link.old) desk.old
+            IsGoing self.now (A.link link.old).said desk.old
             (Begin common.now (jobs_from batch 1 items.now) ∷ rest) None →
-            IfOk result (λ all. Passes self.now (A.transcript link.new) desk.new rest None all) }
-        ensures so_far { IsUnderWay self.now (A.transcript link.new)
-            (unanswered (A.failed link.new) (A.begun link.new)) }
-        ensures whole { OnOk result (A.failed link.new ≡ None) }
-        ensures seat { A.seat link.new ≡ A.seat link.old }
-        ensures batch { OnOk result (A.batch link.new ≡ false) }
+            IfOk result (λ all. Passes self.now (A.link link.new).said desk.new rest None all) }
+        ensures so_far { IsUnderWay self.now (A.link link.new).said
+            (unanswered (A.link link.new).failed (A.link link.new).begun) }
+        ensures whole { OnOk result ((A.link link.new).failed ≡ None) }
+        ensures seat { (A.link link.new).seat ≡ (A.link link.old).seat }
+        ensures batch { OnOk result ((A.link link.new).batch ≡ false) }
         ensures too_long { (stamp : ℕ) → result ≡ Err (Trouble.TooLong stamp) →
-            A.failed link.new ≡ Some (Trouble.TooLong stamp) }
+            (A.link link.new).failed ≡ Some (Trouble.TooLong stamp) }
     {
         match begin(self.alloc, link, common)? {
             Reply::Accepted => self.put_kept(link, desk, batch, common.bytes(), items),
@@ -280,23 +280,23 @@ impl PuzzleProgram {
         at: Place,
     ) -> Result<bool, Trouble>
         requires none { desk.old.waiting.items ≡ [] }
-        requires going { CanDoNext self.now (A.transcript link.old) desk.old
+        requires going { CanDoNext self.now (A.link link.old).said desk.old
             (task_at self.now.settings.budget at job.now) }
         requires bytes { HasFewBytes job.now }
-        requires ranks { 0 < (A.seat link.old).ranks }
-        requires whole { A.failed link.old ≡ None }
-        requires closed { A.batch link.old ≡ false }
+        requires ranks { 0 < (A.link link.old).seat.ranks }
+        requires whole { (A.link link.old).failed ≡ None }
+        requires closed { (A.link link.old).batch ≡ false }
         ensures told { (rest : List Task) →
-            IsGoing self.now (A.transcript link.old) desk.old
+            IsGoing self.now (A.link link.old).said desk.old
             (task_at self.now.settings.budget at job.now ∷ rest) None →
-            IfOk result (λ all. Passes self.now (A.transcript link.new) desk.new rest None all) }
-        ensures so_far { IsUnderWay self.now (A.transcript link.new)
-            (unanswered (A.failed link.new) (A.begun link.new)) }
-        ensures whole { OnOk result (A.failed link.new ≡ None) }
-        ensures seat { A.seat link.new ≡ A.seat link.old }
-        ensures batch { OnOk result (A.batch link.new ≡ false) }
+            IfOk result (λ all. Passes self.now (A.link link.new).said desk.new rest None all) }
+        ensures so_far { IsUnderWay self.now (A.link link.new).said
+            (unanswered (A.link link.new).failed (A.link link.new).begun) }
+        ensures whole { OnOk result ((A.link link.new).failed ≡ None) }
+        ensures seat { (A.link link.new).seat ≡ (A.link link.old).seat }
+        ensures batch { OnOk result ((A.link link.new).batch ≡ false) }
         ensures too_long { (stamp : ℕ) → result ≡ Err (Trouble.TooLong stamp) →
-            A.failed link.new ≡ Some (Trouble.TooLong stamp) }
+            (A.link link.new).failed ≡ Some (Trouble.TooLong stamp) }
     {
         match job {
             Job::Puzzle(grid) => {
@@ -321,21 +321,21 @@ impl PuzzleProgram {
         jobs: &[Job],
     ) -> Result<bool, Trouble>
         requires none { desk.old.waiting.items ≡ [] }
-        requires going { IsGoing self.now (A.transcript link.old) desk.old
+        requires going { IsGoing self.now (A.link link.old).said desk.old
             (tasks_from self.now.settings.budget 1 1 jobs.now) None }
         requires bytes { All HasFewBytes jobs.now }
         requires few { length jobs.now ≤ 2 ^ 24 }
-        requires ranks { 0 < (A.seat link.old).ranks }
-        requires whole { A.failed link.old ≡ None }
-        requires closed { A.batch link.old ≡ false }
-        ensures told { IfOk result (λ all. Passes self.now (A.transcript link.new) desk.new [] None all) }
-        ensures so_far { IsUnderWay self.now (A.transcript link.new)
-            (unanswered (A.failed link.new) (A.begun link.new)) }
-        ensures whole { OnOk result (A.failed link.new ≡ None) }
-        ensures seat { A.seat link.new ≡ A.seat link.old }
-        ensures batch { OnOk result (A.batch link.new ≡ false) }
+        requires ranks { 0 < (A.link link.old).seat.ranks }
+        requires whole { (A.link link.old).failed ≡ None }
+        requires closed { (A.link link.old).batch ≡ false }
+        ensures told { IfOk result (λ all. Passes self.now (A.link link.new).said desk.new [] None all) }
+        ensures so_far { IsUnderWay self.now (A.link link.new).said
+            (unanswered (A.link link.new).failed (A.link link.new).begun) }
+        ensures whole { OnOk result ((A.link link.new).failed ≡ None) }
+        ensures seat { (A.link link.new).seat ≡ (A.link link.old).seat }
+        ensures batch { OnOk result ((A.link link.new).batch ≡ false) }
         ensures too_long { (stamp : ℕ) → result ≡ Err (Trouble.TooLong stamp) →
-            A.failed link.new ≡ Some (Trouble.TooLong stamp) }
+            (A.link link.new).failed ≡ Some (Trouble.TooLong stamp) }
     {
         let mut at = Place {
             puzzle: 1,
@@ -352,16 +352,16 @@ impl PuzzleProgram {
 
     // Takes units, works, and puts what was made, until an end is told.
     fn take_all<A: Adlb>(&self, link: &mut A, desk: &mut Desk) -> Result<(), Trouble>
-        requires going { HasPut self.now (A.transcript link.old) desk.old [] None }
-        requires ranks { 0 < (A.seat link.old).ranks }
-        requires whole { A.failed link.old ≡ None }
-        ensures stopped { OnOk result (IsStopped self.now (A.transcript link.new) desk.new None) }
-        ensures so_far { IsUnderWay self.now (A.transcript link.new)
-            (unanswered (A.failed link.new) (A.begun link.new)) }
-        ensures seat { A.seat link.new ≡ A.seat link.old }
-        ensures batch { OnOk result (A.batch link.new ≡ A.batch link.old) }
+        requires going { HasPut self.now (A.link link.old).said desk.old [] None }
+        requires ranks { 0 < (A.link link.old).seat.ranks }
+        requires whole { (A.link link.old).failed ≡ None }
+        ensures stopped { OnOk result (IsStopped self.now (A.link link.new).said desk.new None) }
+        ensures so_far { IsUnderWay self.now (A.link link.new).said
+            (unanswered (A.link link.new).failed (A.link link.new).begun) }
+        ensures seat { (A.link link.new).seat ≡ (A.link link.old).seat }
+        ensures batch { OnOk result ((A.link link.new).batch ≡ (A.link link.old).batch) }
         ensures too_long { (stamp : ℕ) → result ≡ Err (Trouble.TooLong stamp) →
-            A.failed link.new ≡ Some (Trouble.TooLong stamp) }
+            (A.link link.new).failed ≡ Some (Trouble.TooLong stamp) }
     {
         'rounds: loop {
             match take(link)? {
@@ -381,18 +381,18 @@ impl PuzzleProgram {
     // Does what its jobs ask, if it has any. False: an end was told.
     fn put_own<A: Adlb>(&self, link: &mut A, desk: &mut Desk) -> Result<bool, Trouble>
         requires none { desk.old.waiting.items ≡ [] }
-        requires going { IsGoing self.now (A.transcript link.old) desk.old (tasks_of self.now) None }
-        requires ranks { 0 < (A.seat link.old).ranks }
-        requires whole { A.failed link.old ≡ None }
-        requires closed { A.batch link.old ≡ false }
-        ensures told { IfOk result (λ all. Passes self.now (A.transcript link.new) desk.new [] None all) }
-        ensures so_far { IsUnderWay self.now (A.transcript link.new)
-            (unanswered (A.failed link.new) (A.begun link.new)) }
-        ensures whole { OnOk result (A.failed link.new ≡ None) }
-        ensures seat { A.seat link.new ≡ A.seat link.old }
-        ensures batch { OnOk result (A.batch link.new ≡ false) }
+        requires going { IsGoing self.now (A.link link.old).said desk.old (tasks_of self.now) None }
+        requires ranks { 0 < (A.link link.old).seat.ranks }
+        requires whole { (A.link link.old).failed ≡ None }
+        requires closed { (A.link link.old).batch ≡ false }
+        ensures told { IfOk result (λ all. Passes self.now (A.link link.new).said desk.new [] None all) }
+        ensures so_far { IsUnderWay self.now (A.link link.new).said
+            (unanswered (A.link link.new).failed (A.link link.new).begun) }
+        ensures whole { OnOk result ((A.link link.new).failed ≡ None) }
+        ensures seat { (A.link link.new).seat ≡ (A.link link.old).seat }
+        ensures batch { OnOk result ((A.link link.new).batch ≡ false) }
         ensures too_long { (stamp : ℕ) → result ≡ Err (Trouble.TooLong stamp) →
-            A.failed link.new ≡ Some (Trouble.TooLong stamp) }
+            (A.link link.new).failed ≡ Some (Trouble.TooLong stamp) }
     {
         match &self.jobs {
             Some(jobs) => self.put_input(link, desk, jobs.as_slice()),
@@ -403,17 +403,17 @@ impl PuzzleProgram {
     // Does what its jobs ask, and takes units until an end is told.
     fn work<A: Adlb>(&self, link: &mut A, desk: &mut Desk) -> Result<(), Trouble>
         requires none { desk.old.waiting.items ≡ [] }
-        requires going { IsGoing self.now (A.transcript link.old) desk.old (tasks_of self.now) None }
-        requires ranks { 0 < (A.seat link.old).ranks }
-        requires whole { A.failed link.old ≡ None }
-        requires closed { A.batch link.old ≡ false }
-        ensures stopped { OnOk result (IsStopped self.now (A.transcript link.new) desk.new None) }
-        ensures so_far { IsUnderWay self.now (A.transcript link.new)
-            (unanswered (A.failed link.new) (A.begun link.new)) }
-        ensures seat { A.seat link.new ≡ A.seat link.old }
-        ensures batch { OnOk result (A.batch link.new ≡ false) }
+        requires going { IsGoing self.now (A.link link.old).said desk.old (tasks_of self.now) None }
+        requires ranks { 0 < (A.link link.old).seat.ranks }
+        requires whole { (A.link link.old).failed ≡ None }
+        requires closed { (A.link link.old).batch ≡ false }
+        ensures stopped { OnOk result (IsStopped self.now (A.link link.new).said desk.new None) }
+        ensures so_far { IsUnderWay self.now (A.link link.new).said
+            (unanswered (A.link link.new).failed (A.link link.new).begun) }
+        ensures seat { (A.link link.new).seat ≡ (A.link link.old).seat }
+        ensures batch { OnOk result ((A.link link.new).batch ≡ false) }
         ensures too_long { (stamp : ℕ) → result ≡ Err (Trouble.TooLong stamp) →
-            A.failed link.new ≡ Some (Trouble.TooLong stamp) }
+            (A.link link.new).failed ≡ Some (Trouble.TooLong stamp) }
     {
         if !self.put_own(link, desk)? {
             return Ok(());

@@ -10,6 +10,7 @@ pub mod Granted
 pub mod Hears
 pub mod Insides
 mod LettersTell
+pub mod LinkLaws
 mod Naming
 mod Notes
 pub mod OpenBatches

@@ -1,96 +1,21 @@
--- What a call answers, and what it adds to a transcript.
-use Rattle.std.specs.Prelude.{ℕ, ◌≡◌, ◌⊎◌, List, [], ◌∷◌, ◌++◌, Option, Some, None, Bool, true, false, Result, Ok, Err, MatchOption, Contains}
+-- What a call adds to a transcript, and what a transcript has.
+use Rattle.std.specs.Prelude.{◌≡◌, ◌⊎◌, List, [], ◌∷◌, ◌++◌, Option, Some, None, Bool, true, false, MatchOption, Contains}
 use Rattle.std.specs.List.{list_any}
 use Rattle.adlb_unit.specs.Ids.{same_unit}
 use Rattle.adlb_unit.specs.declared.names.UnitId.{UnitId}
 use Rattle.adlb_unit.specs.declared.notes.End.{End}
-use Rattle.adlb_unit.specs.declared.notes.End.TheVariants as ends_by
-use Rattle.adlb_unit.specs.declared.notes.Info.{Info}
 use Rattle.adlb_unit.specs.declared.notes.Trouble.{Trouble}
-use Rattle.adlb_unit.specs.declared.notes.Trouble.TheVariants as troubles
 use Rattle.adlb_unit.specs.declared.notes.UnitNote.{UnitNote}
 use Rattle.bag_ledger.specs.declared.entries.Call.{Call}
 use Rattle.bag_ledger.specs.declared.entries.Call.TheVariants as calls_to
 use Rattle.bag_ledger.specs.declared.entries.Answer.{Answer}
 use Rattle.bag_ledger.specs.declared.entries.Answer.TheVariants as answers
 use Rattle.bag_ledger.specs.declared.entries.Said.{Said}
-use Rattle.rank_client.specs.declared.faults.PutFault.{PutFault}
-use Rattle.rank_client.specs.declared.faults.PutFault.TheVariants as put_faults
-use Rattle.rank_client.specs.declared.faults.EndFault.{EndFault}
-use Rattle.rank_client.specs.declared.faults.EndFault.TheVariants as end_faults
-use Rattle.rank_client.specs.declared.faults.TryFault.{TryFault}
-use Rattle.rank_client.specs.declared.faults.TryFault.TheVariants as try_faults
 
 -- a call that has an answer is added with it; one that has none is not
 abbrev pub plus : List Said → Call → Option Answer → List Said
 plus said call None = said
 plus said call (Some answer) = said ++ record { call = call; answer = answer } ∷ []
-
--- The answer of a call, and the trouble with which it failed.
-
-abbrev pub put_answer : Result (Unit {0}) PutFault → Option Answer
-put_answer (Ok done) = Some answers.Fine
-put_answer (Err put_faults.Rejected) = Some answers.Rejected
-put_answer (Err put_faults.NoMoreWork) = Some (answers.Ended ends_by.NoMoreWork)
-put_answer (Err put_faults.Exhausted) = Some (answers.Ended ends_by.Exhausted)
-put_answer (Err put_faults.Memory) = None
-put_answer (Err (put_faults.TooLong stamp)) = None
-
-abbrev pub put_trouble : Result (Unit {0}) PutFault → Option Trouble
-put_trouble (Err put_faults.Memory) = Some troubles.Memory
-put_trouble (Err (put_faults.TooLong stamp)) = Some (troubles.TooLong stamp)
-put_trouble _ = None
-
-abbrev pub end_answer : Result UnitNote EndFault → Option Answer
-end_answer (Ok note) = Some (answers.Granted note)
-end_answer (Err end_faults.NoMoreWork) = Some (answers.Ended ends_by.NoMoreWork)
-end_answer (Err end_faults.Exhausted) = Some (answers.Ended ends_by.Exhausted)
-end_answer (Err end_faults.Memory) = None
-end_answer (Err (end_faults.TooLong stamp)) = None
-
-abbrev pub end_trouble : Result UnitNote EndFault → Option Trouble
-end_trouble (Err end_faults.Memory) = Some troubles.Memory
-end_trouble (Err (end_faults.TooLong stamp)) = Some (troubles.TooLong stamp)
-end_trouble _ = None
-
-abbrev pub try_answer : Result UnitNote TryFault → Option Answer
-try_answer (Ok note) = Some (answers.Granted note)
-try_answer (Err try_faults.NoCurrentWork) = Some answers.NoCurrent
-try_answer (Err try_faults.NoMoreWork) = Some (answers.Ended ends_by.NoMoreWork)
-try_answer (Err try_faults.Exhausted) = Some (answers.Ended ends_by.Exhausted)
-try_answer (Err try_faults.Memory) = None
-try_answer (Err (try_faults.TooLong stamp)) = None
-
-abbrev pub try_trouble : Result UnitNote TryFault → Option Trouble
-try_trouble (Err try_faults.Memory) = Some troubles.Memory
-try_trouble (Err (try_faults.TooLong stamp)) = Some (troubles.TooLong stamp)
-try_trouble _ = None
-
-abbrev pub fetch_answer : Result (List ℕ) (UnitNote × Trouble) → Option Answer
-fetch_answer (Ok body) = Some (answers.Body body)
-fetch_answer (Err e) = None
-
-abbrev pub fetch_trouble : Result (List ℕ) (UnitNote × Trouble) → Option Trouble
-fetch_trouble (Ok body) = None
-fetch_trouble (Err e) = Some e.1
-
--- the end of a batch, and of the problem
-abbrev pub done_answer : Result (Unit {0}) Trouble → Option Answer
-done_answer (Ok done) = Some answers.Fine
-done_answer (Err trouble) = None
-
-abbrev pub done_trouble : Result (Unit {0}) Trouble → Option Trouble
-done_trouble (Ok done) = None
-done_trouble (Err trouble) = Some trouble
-
--- a count
-abbrev pub count_answer : Result Info Trouble → Option Answer
-count_answer (Ok info) = Some (answers.Info info)
-count_answer (Err trouble) = None
-
-abbrev pub count_trouble : Result Info Trouble → Option Trouble
-count_trouble (Ok info) = None
-count_trouble (Err trouble) = Some trouble
 
 -- What a transcript has.
 

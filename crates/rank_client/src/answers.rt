@@ -1,20 +1,19 @@
-//! The answers of a rank's calls, as each call of a link tells them.
+//! What a call of a link tells, by what it came to.
 
-ghost use Rattle.std.specs.Prelude.{◌≡◌, None, Some, Err, IfOk, IfErr, true};
-ghost use Rattle.rank_client.specs.Answers.{answered, answers_count, answers_done, answers_fetch, answers_put, answers_reserve, answers_try, troubled};
-ghost use Rattle.rank_client.specs.Calls.{count_answer, count_trouble, done_answer, done_trouble, end_answer, end_trouble, fetch_answer, fetch_trouble, put_answer, put_trouble, try_answer, try_trouble};
+ghost use Rattle.std.specs.Prelude.{◌≡◌, IfErr, IfOk, true};
+ghost use Rattle.rank_client.specs.Answers.{answers_count, answers_done, answers_fetch, answers_put, answers_reserve, answers_try};
+ghost use Rattle.rank_client.specs.Link.{count_came, done_came, fetch_came, put_came, reserve_came, try_came};
 
 use crate::faults::{EndFault, PutFault, TryFault};
 use adlb_unit::{End, Handle, Info, Trouble};
 use bag_ledger::{Answer, Body};
 
-/// What a put tells, or the beginning of a batch, if it had this answer, or failed with this trouble.
-pub fn put_result(answer: Result<Answer, Trouble>) -> Result<(), PutFault>
-    requires { IfOk answer (λ a. answers_put a ≡ true) }
-    ensures answer { put_answer result ≡ answered answer }
-    ensures trouble { put_trouble result ≡ troubled answer }
+// What a put tells, or the beginning of a batch, if it came to this answer or trouble.
+pub(crate) fn put_result(came: Result<Answer, Trouble>) -> Result<(), PutFault>
+    requires { IfOk came (λ a. answers_put a ≡ true) }
+    ensures { put_came result ≡ came }
 {
-    match answer {
+    match came {
         Ok(Answer::Fine) => Ok(()),
         Ok(Answer::Rejected) => Err(PutFault::Rejected),
         Ok(Answer::Ended(End::NoMoreWork)) => Err(PutFault::NoMoreWork),
@@ -25,13 +24,12 @@ pub fn put_result(answer: Result<Answer, Trouble>) -> Result<(), PutFault>
     }
 }
 
-/// What a reserve tells, if it had this answer, or failed with this trouble.
-pub fn reserve_result(answer: Result<Answer, Trouble>) -> Result<Handle, EndFault>
-    requires { IfOk answer (λ a. answers_reserve a ≡ true) }
-    ensures answer { end_answer result ≡ answered answer }
-    ensures trouble { end_trouble result ≡ troubled answer }
+// What a reserve tells, if it came to this answer or trouble.
+pub(crate) fn reserve_result(came: Result<Answer, Trouble>) -> Result<Handle, EndFault>
+    requires { IfOk came (λ a. answers_reserve a ≡ true) }
+    ensures { reserve_came result ≡ came }
 {
-    match answer {
+    match came {
         Ok(Answer::Granted(note)) => Ok(Handle::of(note)),
         Ok(Answer::Ended(End::NoMoreWork)) => Err(EndFault::NoMoreWork),
         Ok(Answer::Ended(End::Exhausted)) => Err(EndFault::Exhausted),
@@ -41,13 +39,12 @@ pub fn reserve_result(answer: Result<Answer, Trouble>) -> Result<Handle, EndFaul
     }
 }
 
-/// What a try tells, if it had this answer, or failed with this trouble.
-pub fn try_result(answer: Result<Answer, Trouble>) -> Result<Handle, TryFault>
-    requires { IfOk answer (λ a. answers_try a ≡ true) }
-    ensures answer { try_answer result ≡ answered answer }
-    ensures trouble { try_trouble result ≡ troubled answer }
+// What a try tells, if it came to this answer or trouble.
+pub(crate) fn try_result(came: Result<Answer, Trouble>) -> Result<Handle, TryFault>
+    requires { IfOk came (λ a. answers_try a ≡ true) }
+    ensures { try_came result ≡ came }
 {
-    match answer {
+    match came {
         Ok(Answer::Granted(note)) => Ok(Handle::of(note)),
         Ok(Answer::NoCurrent) => Err(TryFault::NoCurrentWork),
         Ok(Answer::Ended(End::NoMoreWork)) => Err(TryFault::NoMoreWork),
@@ -58,17 +55,16 @@ pub fn try_result(answer: Result<Answer, Trouble>) -> Result<Handle, TryFault>
     }
 }
 
-/// What a fetch tells, if it had this answer, or failed with this trouble, which hands the handle back.
-pub fn fetch_result(
+// What a fetch tells, if it came to this answer, or to trouble, which hands the handle back.
+pub(crate) fn fetch_result(
     handle: Handle,
-    answer: Result<Answer, Trouble>,
+    came: Result<Answer, Trouble>,
 ) -> Result<Body, (Handle, Trouble)>
-    requires { IfOk answer (λ a. answers_fetch a ≡ true) }
-    ensures answer { fetch_answer result ≡ answered answer }
-    ensures trouble { fetch_trouble result ≡ troubled answer }
+    requires { IfOk came (λ a. answers_fetch a ≡ true) }
+    ensures came { fetch_came result ≡ came }
     ensures back { IfErr result (λ e. e.0 ≡ handle) }
 {
-    match answer {
+    match came {
         Ok(Answer::Body(body)) => {
             let _ = handle.spend();
             Ok(body)
@@ -78,28 +74,26 @@ pub fn fetch_result(
     }
 }
 
-/// What the end of a batch or of the problem tells, if it had this answer, or failed with this trouble.
-pub fn done_result(answer: Result<Answer, Trouble>) -> Result<(), Trouble>
-    requires { IfOk answer (λ a. answers_done a ≡ true) }
-    ensures answer { done_answer result ≡ answered answer }
-    ensures trouble { done_trouble result ≡ troubled answer }
+// What the end of a batch, of the problem or of the rank tells, if it came to this answer or trouble.
+pub(crate) fn done_result(came: Result<Answer, Trouble>) -> Result<(), Trouble>
+    requires { IfOk came (λ a. answers_done a ≡ true) }
+    ensures { done_came result ≡ came }
 {
-    match answer {
+    match came {
         Ok(Answer::Fine) => Ok(()),
         Ok(_) => unreachable!(),
         Err(trouble) => Err(trouble),
     }
 }
 
-/// What a count tells, if it had this answer, or failed with this trouble.
-pub fn count_result(answer: Result<Answer, Trouble>) -> Result<Info, Trouble>
-    requires { IfOk answer (λ a. answers_count a ≡ true) }
-    ensures answer { count_answer result ≡ answered answer }
-    ensures trouble { count_trouble result ≡ troubled answer }
+// What a count tells, if it came to this answer or trouble.
+pub(crate) fn count_result(came: Result<Answer, Trouble>) -> Result<Info, Trouble>
+    requires { IfOk came (λ a. answers_count a ≡ true) }
+    ensures { count_came result ≡ came }
 {
-    match answer {
+    match came {
         Ok(Answer::Info(info)) => Ok(info),
         Ok(_) => unreachable!(),
-        Err(met) => Err(met),
+        Err(trouble) => Err(trouble),
     }
 }

@@ -5,12 +5,13 @@
 //! each call and of each letter, `specs/Step.antt` the step that follows it, and `specs/Expected.antt` says which letters have a
 //! step; `laws` states that the entries of a step are steps of the bag, and that its answers are those that the bag's ledger
 //! gives. `specs/Answers.antt` says which calls a rank can make and what each can be answered, and `specs/Says.antt` what the steps
-//! of a call make of the transcript.
+//! of a call make of the transcript. `Adlb` is the link of a rank's program: `specs/Link.antt` says what each call makes of it.
 #![tactic(auto)]
 
 mod answers;
 mod batches;
 mod calls;
+mod carriers;
 mod clients;
 mod counts;
 mod dones;
@@ -30,9 +31,7 @@ mod rooms;
 mod said;
 mod steps;
 
-pub use answers::{
-    count_result, done_result, fetch_result, put_result, reserve_result, try_result,
-};
+pub use carriers::Carrier;
 pub use clients::ClientCore;
 pub use faults::{EndFault, PutFault, TryFault};
 pub use laws::{client_laws, says_laws};

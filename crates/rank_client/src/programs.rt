@@ -27,15 +27,16 @@ pub trait RankProgram {
     /// `Ok` and at `Err` it is as it can be while the program runs. Whoever runs it ends the batch that is going on at an `Err`, if
     /// one is, and finishes the link.
     fn run<A: Adlb>(&self, rank: Rank, link: &mut A) -> Result<Self::Outcome, Trouble>
-        requires rank { rank.0 < (A.seat link.old).ranks }
-        requires fits { fits self.now (A.seat link.old).ranks }
-        requires empty { A.transcript link.old ≡ [] }
-        requires batch { A.batch link.old ≡ false }
-        requires whole { A.failed link.old ≡ None }
-        ensures follows { IfOk result (λ outcome. follows self.now rank (A.transcript link.new) outcome) }
-        ensures so_far { so_far self.now rank (A.transcript link.new) (unanswered (A.failed link.new) (A.begun link.new)) }
-        ensures closed { IfOk result (λ outcome. A.batch link.new ≡ false) }
-        ensures seat { A.seat link.new ≡ A.seat link.old }
-        ensures open { has_finished (A.transcript link.new) ≡ false }
-        ensures too_long { (stamp : ℕ) → result ≡ Err (Trouble.TooLong stamp) → A.failed link.new ≡ Some (Trouble.TooLong stamp) };
+        requires rank { rank.0 < (A.link link.old).seat.ranks }
+        requires fits { fits self.now (A.link link.old).seat.ranks }
+        requires empty { (A.link link.old).said ≡ [] }
+        requires running { has_finished (A.link link.old).said ≡ false }
+        requires batch { (A.link link.old).batch ≡ false }
+        requires whole { (A.link link.old).failed ≡ None }
+        ensures follows { IfOk result (λ outcome. follows self.now rank (A.link link.new).said outcome) }
+        ensures so_far { so_far self.now rank (A.link link.new).said (unanswered (A.link link.new).failed (A.link link.new).begun) }
+        ensures closed { IfOk result (λ outcome. (A.link link.new).batch ≡ false) }
+        ensures seat { (A.link link.new).seat ≡ (A.link link.old).seat }
+        ensures open { has_finished (A.link link.new).said ≡ false }
+        ensures too_long { (stamp : ℕ) → result ≡ Err (Trouble.TooLong stamp) → (A.link link.new).failed ≡ Some (Trouble.TooLong stamp) };
 }

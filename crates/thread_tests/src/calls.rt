@@ -215,8 +215,8 @@ fn told_of_end(fault: EndFault) -> Told {
 }
 
 fn put<A: Adlb>(link: &mut A, alloc: Global) -> Result<(), PutFault>
-    requires { has_finished (A.transcript link.old) ≡ false }
-    ensures { has_finished (A.transcript link.new) ≡ false }
+    requires { has_finished (A.link link.old).said ≡ false }
+    ensures { has_finished (A.link link.new).said ≡ false }
 {
     match Payload::copy(alloc, b"a".as_slice()) {
         Ok(body) => link.put(WorkType(1), 0, Target::Any, None, body),
@@ -225,17 +225,17 @@ fn put<A: Adlb>(link: &mut A, alloc: Global) -> Result<(), PutFault>
 }
 
 fn reserve<A: Adlb>(link: &mut A) -> Result<Handle, EndFault>
-    requires { has_finished (A.transcript link.old) ≡ false }
-    ensures running { has_finished (A.transcript link.new) ≡ false }
-    ensures granted { IfOk result (λ note. granted note (A.transcript link.new)) }
-    ensures once { IfOk result (λ note. is_fetched note.id (A.transcript link.new) ≡ false) }
+    requires { has_finished (A.link link.old).said ≡ false }
+    ensures running { has_finished (A.link link.new).said ≡ false }
+    ensures granted { IfOk result (λ note. granted note (A.link link.new).said) }
+    ensures once { IfOk result (λ note. is_fetched note.id (A.link link.new).said ≡ false) }
 {
     link.reserve(&Types::any())
 }
 
 fn reserve_and_spend<A: Adlb>(link: &mut A) -> Told
-    requires { has_finished (A.transcript link.old) ≡ false }
-    ensures { has_finished (A.transcript link.new) ≡ false }
+    requires { has_finished (A.link link.old).said ≡ false }
+    ensures { has_finished (A.link link.new).said ≡ false }
 {
     match reserve(link) {
         Ok(handle) => {
@@ -247,8 +247,8 @@ fn reserve_and_spend<A: Adlb>(link: &mut A) -> Told
 }
 
 fn work<A: Adlb>(link: &mut A) -> Told
-    requires { has_finished (A.transcript link.old) ≡ false }
-    ensures { has_finished (A.transcript link.new) ≡ false }
+    requires { has_finished (A.link link.old).said ≡ false }
+    ensures { has_finished (A.link link.new).said ≡ false }
 {
     match reserve(link) {
         Ok(handle) => fetch(link, handle),
@@ -257,10 +257,10 @@ fn work<A: Adlb>(link: &mut A) -> Told
 }
 
 fn fetch<A: Adlb>(link: &mut A, handle: Handle) -> Told
-    requires running { has_finished (A.transcript link.old) ≡ false }
-    requires granted { granted handle (A.transcript link.old) }
-    requires once { is_fetched handle.id (A.transcript link.old) ≡ false }
-    ensures { has_finished (A.transcript link.new) ≡ false }
+    requires running { has_finished (A.link link.old).said ≡ false }
+    requires granted { granted handle (A.link link.old).said }
+    requires once { is_fetched handle.id (A.link link.old).said ≡ false }
+    ensures { has_finished (A.link link.new).said ≡ false }
 {
     match link.get_reserved(handle) {
         Ok(body) => told_of_body(&body),
@@ -279,8 +279,8 @@ fn told_of_body(body: &Body) -> Told {
 }
 
 fn begin_batch<A: Adlb>(link: &mut A, alloc: Global) -> Result<(), PutFault>
-    requires { has_finished (A.transcript link.old) ≡ false }
-    ensures { has_finished (A.transcript link.new) ≡ false }
+    requires { has_finished (A.link link.old).said ≡ false }
+    ensures { has_finished (A.link link.new).said ≡ false }
 {
     if link.batch_open() {
         return Err(PutFault::Rejected);
@@ -292,8 +292,8 @@ fn begin_batch<A: Adlb>(link: &mut A, alloc: Global) -> Result<(), PutFault>
 }
 
 fn told_of_call<A: Adlb>(link: &mut A, alloc: Global, does: Does) -> Told
-    requires { has_finished (A.transcript link.old) ≡ false }
-    ensures { has_finished (A.transcript link.new) ≡ false }
+    requires { has_finished (A.link link.old).said ≡ false }
+    ensures { has_finished (A.link link.new).said ≡ false }
 {
     match does {
         Does::Put => told_of_put(put(link, alloc)),
@@ -305,8 +305,8 @@ fn told_of_call<A: Adlb>(link: &mut A, alloc: Global, does: Does) -> Told
 
 // How many calls were answered, if each is told what stands beside it.
 fn are_told<A: Adlb>(link: &mut A, alloc: Global, calls: &[(Does, Told)]) -> Option<usize>
-    requires { has_finished (A.transcript link.old) ≡ false }
-    ensures { has_finished (A.transcript link.new) ≡ false }
+    requires { has_finished (A.link link.old).said ≡ false }
+    ensures { has_finished (A.link link.new).said ≡ false }
 {
     let mut answered: usize = 0;
     for (does, wanted) in calls {

@@ -42,12 +42,12 @@ impl RankProgram for Worker {
 
 // Puts this many units of three bytes.
 fn put_all<A: Adlb>(alloc: Global, link: &mut A, count: u32) -> Result<(), Trouble>
-    requires running { has_finished (A.transcript link.old) ≡ false }
-    requires closed { A.batch link.old ≡ false }
-    ensures running { has_finished (A.transcript link.new) ≡ false }
-    ensures closed { A.batch link.new ≡ false }
-    ensures seat { A.seat link.new ≡ A.seat link.old }
-    ensures failed { (stamp : _) → result ≡ Err (Trouble.TooLong stamp) → A.failed link.new ≡ Some (Trouble.TooLong stamp) }
+    requires running { has_finished (A.link link.old).said ≡ false }
+    requires closed { (A.link link.old).batch ≡ false }
+    ensures running { has_finished (A.link link.new).said ≡ false }
+    ensures closed { (A.link link.new).batch ≡ false }
+    ensures seat { (A.link link.new).seat ≡ (A.link link.old).seat }
+    ensures failed { (stamp : _) → result ≡ Err (Trouble.TooLong stamp) → (A.link link.new).failed ≡ Some (Trouble.TooLong stamp) }
 {
     for _ in 0..count {
         put_one(alloc, link)?;
@@ -57,12 +57,12 @@ fn put_all<A: Adlb>(alloc: Global, link: &mut A, count: u32) -> Result<(), Troub
 
 // Puts a unit of three bytes.
 fn put_one<A: Adlb>(alloc: Global, link: &mut A) -> Result<(), Trouble>
-    requires running { has_finished (A.transcript link.old) ≡ false }
-    requires closed { A.batch link.old ≡ false }
-    ensures running { has_finished (A.transcript link.new) ≡ false }
-    ensures closed { A.batch link.new ≡ false }
-    ensures seat { A.seat link.new ≡ A.seat link.old }
-    ensures failed { (stamp : _) → result ≡ Err (Trouble.TooLong stamp) → A.failed link.new ≡ Some (Trouble.TooLong stamp) }
+    requires running { has_finished (A.link link.old).said ≡ false }
+    requires closed { (A.link link.old).batch ≡ false }
+    ensures running { has_finished (A.link link.new).said ≡ false }
+    ensures closed { (A.link link.new).batch ≡ false }
+    ensures seat { (A.link link.new).seat ≡ (A.link link.old).seat }
+    ensures failed { (stamp : _) → result ≡ Err (Trouble.TooLong stamp) → (A.link link.new).failed ≡ Some (Trouble.TooLong stamp) }
 {
     let Ok(body) = Payload::copy(alloc, b"abc") else {
         return Err(Trouble::Memory);
@@ -76,12 +76,12 @@ fn put_one<A: Adlb>(alloc: Global, link: &mut A) -> Result<(), Trouble>
 
 // Takes units until an end is told, and counts them.
 fn take_all<A: Adlb>(link: &mut A) -> Result<u32, Trouble>
-    requires running { has_finished (A.transcript link.old) ≡ false }
-    requires closed { A.batch link.old ≡ false }
-    ensures running { has_finished (A.transcript link.new) ≡ false }
-    ensures closed { A.batch link.new ≡ false }
-    ensures seat { A.seat link.new ≡ A.seat link.old }
-    ensures failed { (stamp : _) → result ≡ Err (Trouble.TooLong stamp) → A.failed link.new ≡ Some (Trouble.TooLong stamp) }
+    requires running { has_finished (A.link link.old).said ≡ false }
+    requires closed { (A.link link.old).batch ≡ false }
+    ensures running { has_finished (A.link link.new).said ≡ false }
+    ensures closed { (A.link link.new).batch ≡ false }
+    ensures seat { (A.link link.new).seat ≡ (A.link link.old).seat }
+    ensures failed { (stamp : _) → result ≡ Err (Trouble.TooLong stamp) → (A.link link.new).failed ≡ Some (Trouble.TooLong stamp) }
 {
     for taken in 0..1000 {
         if !take_one(link)? {
@@ -93,12 +93,12 @@ fn take_all<A: Adlb>(link: &mut A) -> Result<u32, Trouble>
 
 // Takes a unit, if no end is told.
 fn take_one<A: Adlb>(link: &mut A) -> Result<bool, Trouble>
-    requires running { has_finished (A.transcript link.old) ≡ false }
-    requires closed { A.batch link.old ≡ false }
-    ensures running { has_finished (A.transcript link.new) ≡ false }
-    ensures closed { A.batch link.new ≡ false }
-    ensures seat { A.seat link.new ≡ A.seat link.old }
-    ensures failed { (stamp : _) → result ≡ Err (Trouble.TooLong stamp) → A.failed link.new ≡ Some (Trouble.TooLong stamp) }
+    requires running { has_finished (A.link link.old).said ≡ false }
+    requires closed { (A.link link.old).batch ≡ false }
+    ensures running { has_finished (A.link link.new).said ≡ false }
+    ensures closed { (A.link link.new).batch ≡ false }
+    ensures seat { (A.link link.new).seat ≡ (A.link link.old).seat }
+    ensures failed { (stamp : _) → result ≡ Err (Trouble.TooLong stamp) → (A.link link.new).failed ≡ Some (Trouble.TooLong stamp) }
 {
     let handle = match link.reserve(&Types::any()) {
         Ok(handle) => handle,

@@ -1,17 +1,23 @@
 //! A link of one rank, which keeps its own units.
 
-ghost use Rattle.std.specs.Prelude.{◌≡◌, ◌<◌, ◌≤◌, ◌^◌, ◌++◌, ◌∷◌, [], Option, length, Some, None, Ok, Err, false, true, OnOk, OnErr, IfOk, IfErr, is_none, ◌&&◌};
+ghost use Rattle.std.specs.Prelude.{◌≡◌, ◌<◌, ◌≤◌, ◌^◌, ◌++◌, ◌∷◌, [], ℕ, Option, length, Some, None, false, true, OnOk, OnErr, IfOk, IfErr};
+ghost use Rattle.std.specs.List.{list_any};
 ghost use Rattle.adlb_unit.specs.Ids.{same_unit};
+ghost use Rattle.adlb_unit.specs.Totals.{total_of};
 ghost use Rattle.adlb_unit.specs.declared.notes.End.{End};
-ghost use Rattle.adlb_unit.specs.declared.notes.Trouble.{Trouble};
-ghost use Rattle.rank_client.specs.Calls.{Repeats, TellsAgain, end_answer, end_of, end_told, end_trouble, fetches, grants, is_fetched, is_granted, plus, put_answer, put_trouble, try_answer, try_trouble};
+ghost use Rattle.adlb_unit.specs.declared.notes.UnitNote.{UnitNote};
+ghost use Rattle.bag_ledger.specs.declared.entries.Call.{Call};
+ghost use Rattle.rank_client.specs.Answers.{IsAnswer, IsAnswerTo, answers_put, answers_reserve, answers_try};
+ghost use Rattle.rank_client.specs.Calls.{TellsAgain, end_of, end_told, fetches, goes_on, granted, grants, is_fetched, is_granted};
+ghost use Rattle.rank_client.specs.Link.{Can};
+ghost use Rattle.job_tests.specs.Fake.{IsShort, fake_link, misfits};
 
 use adlb_unit::{
-    BatchId, CommonRef, End, Handle, Info, NoMemory, Payload, Rank, Server, Target, Trouble, Types,
-    UnitId, UnitNote, WorkType,
+    BatchId, CommonRef, End, Handle, Info, NoMemory, Payload, Rank, Server, Trouble, UnitId,
+    UnitNote, WorkType,
 };
 use bag_ledger::{Answer, Body, Call, Said};
-use rank_client::{Adlb, EndFault, PutFault, TryFault};
+use rank_client::Carrier;
 use std::alloc::Global;
 use std::collections::VecDeque;
 
@@ -55,31 +61,44 @@ impl Fake {
         self.said.len()
     }
 
-    // One more call with its answer.
-    fn say(&mut self, call: Call, answer: Answer) -> Result<(), Trouble>
-        ensures said { OnOk result (self.new.said.items ≡
-            self.old.said.items ++ record { call = call; answer = answer } ∷ []) }
+    // One more call with its answer, if it can be kept. Otherwise the link has failed.
+    fn say(&mut self, call: Call, answer: Answer) -> Result<Answer, Trouble>
+        ensures said { IfOk result (λ a. self.new.said.items ≡ self.old.said.items ++ record { call = call; answer = a } ∷ []) }
+        ensures same { IfOk result (λ a. a ≡ answer) }
         ensures kept { OnErr result (self.new.said.items ≡ self.old.said.items) }
-        ensures fine { OnOk result (self.new.trouble ≡ None) }
+        ensures fine { OnOk result (self.new.trouble ≡ self.old.trouble) }
         ensures trouble { IfErr result (λ t. self.new.trouble ≡ Some t) }
-        ensures going { self.new.going ≡ self.old.going }
+        ensures going { IfOk result (λ a. self.new.going ≡ goes_on call a self.old.going) }
+        ensures shut { OnErr result (self.new.going ≡ false) }
     {
-        let said = Said { call, answer };
         if self.said.len() >= (1 << 48) - 1 {
-            let trouble = Trouble::TooLong { stamp: 1 << 48 };
-            self.trouble = Some(trouble);
-            return Err(trouble);
+            return Err(self.fail(Trouble::TooLong { stamp: 1 << 48 }));
         }
-        match self.said.push(said) {
+        let Ok(shown) = twin(self.alloc, &answer) else {
+            return Err(self.fail(Trouble::Memory));
+        };
+        let going = goes_on(&call, &answer, self.going);
+        match self.said.push(Said {
+            call,
+            answer: shown,
+        }) {
             Ok(()) => {
-                self.trouble = None;
-                Ok(())
+                self.going = going;
+                Ok(answer)
             }
-            Err(_) => {
-                self.trouble = Some(Trouble::Memory);
-                Err(Trouble::Memory)
-            }
+            Err(_) => Err(self.fail(Trouble::Memory)),
         }
+    }
+
+    // The link has failed, and has no batch.
+    fn fail(&mut self, trouble: Trouble) -> Trouble
+        ensures said { self.new.said ≡ self.old.said }
+        ensures trouble { (self.new.trouble ≡ Some trouble) × (result ≡ trouble) }
+        ensures going { self.new.going ≡ false }
+    {
+        self.trouble = Some(trouble);
+        self.going = false;
+        trouble
     }
 
     // An end that is to be told: one that was told, or the first.
@@ -238,441 +257,201 @@ fn same(a: UnitId, b: UnitId) -> bool
     a.rank.0 == b.rank.0 && a.number == b.number
 }
 
-fn put_fault(trouble: Trouble) -> PutFault
-    ensures trouble { put_trouble (Err result) ≡ Some trouble }
-    ensures answer { put_answer (Err result) ≡ None }
+// The bytes of the unit are as many as each note says by which a unit of this id was granted.
+fn all_fit(id: UnitId, total: u64, said: &[Said]) -> bool
+    ensures { result ≡ true → (note : UnitNote) → granted note said.now → note.id ≡ id → total ≡ total_of note }
 {
-    match trouble {
-        Trouble::Memory => PutFault::Memory,
-        Trouble::TooLong { stamp } => PutFault::TooLong { stamp },
+    !is_misfit(id, total, said)
+}
+
+// A unit of this id was granted with another number of bytes.
+fn is_misfit(id: UnitId, total: u64, said: &[Said]) -> bool
+    ensures { result ≡ list_any (λ s. misfits id total s.answer) said.now }
+{
+    said.iter().any(|s| misfits(id, total, &s.answer))
+}
+
+fn misfits(id: UnitId, total: u64, answer: &Answer) -> bool
+    ensures { result ≡ misfits id total answer.now }
+{
+    match answer {
+        Answer::Granted(note) => same(note.id, id) && total_of(note) != total,
+        _ => false,
     }
 }
 
-fn put_end(end: End) -> PutFault
-    ensures trouble { put_trouble (Err result) ≡ None }
-    ensures answer { put_answer (Err result) ≡ Some (Answer.Ended end) }
+fn total_of(note: &UnitNote) -> u64
+    ensures { result ≡ total_of note.now }
 {
-    match end {
-        End::NoMoreWork => PutFault::NoMoreWork,
-        End::Exhausted => PutFault::Exhausted,
+    let handle = Handle::of(*note);
+    let total = handle.total();
+    let _ = handle.spend();
+    total
+}
+
+// Whether a batch goes on behind a call with this answer.
+fn goes_on(call: &Call, answer: &Answer, on: bool) -> bool
+    ensures { result ≡ goes_on call.now answer.now on }
+{
+    match (call, answer) {
+        (Call::BeginBatch { .. }, Answer::Fine) => true,
+        (Call::EndBatch, Answer::Fine) => false,
+        _ => on,
     }
 }
 
-// The answer of a put that ends so, or the trouble with which it fails.
-fn of_put(told: Result<(), PutFault>) -> Result<Answer, Trouble>
-    ensures answer { IfOk result (λ a. put_answer told ≡ Some a) }
-    ensures fine { OnOk result (put_trouble told ≡ None) }
-    ensures trouble { IfErr result (λ t. put_trouble told ≡ Some t) }
-    ensures none { OnErr result (put_answer told ≡ None) }
+fn twin(alloc: Global, answer: &Answer) -> Result<Answer, NoMemory>
+    ensures { IfOk result (λ a. a ≡ answer.now) }
 {
-    match told {
-        Ok(()) => Ok(Answer::Fine),
-        Err(PutFault::Rejected) => Ok(Answer::Rejected),
-        Err(PutFault::NoMoreWork) => Ok(Answer::Ended(End::NoMoreWork)),
-        Err(PutFault::Exhausted) => Ok(Answer::Ended(End::Exhausted)),
-        Err(PutFault::Memory) => Err(Trouble::Memory),
-        Err(PutFault::TooLong { stamp }) => Err(Trouble::TooLong { stamp }),
-    }
-}
-
-fn end_fault(trouble: Trouble) -> EndFault
-    ensures trouble { end_trouble (Err result) ≡ Some trouble }
-    ensures answer { end_answer (Err result) ≡ None }
-{
-    match trouble {
-        Trouble::Memory => EndFault::Memory,
-        Trouble::TooLong { stamp } => EndFault::TooLong { stamp },
-    }
-}
-
-fn end_end(end: End) -> EndFault
-    ensures trouble { end_trouble (Err result) ≡ None }
-    ensures answer { end_answer (Err result) ≡ Some (Answer.Ended end) }
-{
-    match end {
-        End::NoMoreWork => EndFault::NoMoreWork,
-        End::Exhausted => EndFault::Exhausted,
-    }
-}
-
-fn try_fault(trouble: Trouble) -> TryFault
-    ensures trouble { try_trouble (Err result) ≡ Some trouble }
-    ensures answer { try_answer (Err result) ≡ None }
-{
-    match trouble {
-        Trouble::Memory => TryFault::Memory,
-        Trouble::TooLong { stamp } => TryFault::TooLong { stamp },
-    }
-}
-
-fn try_end(end: End) -> TryFault
-    ensures trouble { try_trouble (Err result) ≡ None }
-    ensures answer { try_answer (Err result) ≡ Some (Answer.Ended end) }
-{
-    match end {
-        End::NoMoreWork => TryFault::NoMoreWork,
-        End::Exhausted => TryFault::Exhausted,
-    }
-}
-
-// The answer of a reserve that ends so, or the trouble with which it fails.
-fn of_reserve(told: Result<UnitNote, EndFault>) -> Result<Answer, Trouble>
-    ensures answer { IfOk result (λ a. end_answer told ≡ Some a) }
-    ensures fine { OnOk result (end_trouble told ≡ None) }
-    ensures trouble { IfErr result (λ t. end_trouble told ≡ Some t) }
-    ensures none { OnErr result (end_answer told ≡ None) }
-{
-    match told {
-        Ok(note) => Ok(Answer::Granted(note)),
-        Err(EndFault::NoMoreWork) => Ok(Answer::Ended(End::NoMoreWork)),
-        Err(EndFault::Exhausted) => Ok(Answer::Ended(End::Exhausted)),
-        Err(EndFault::Memory) => Err(Trouble::Memory),
-        Err(EndFault::TooLong { stamp }) => Err(Trouble::TooLong { stamp }),
-    }
+    Ok(match answer {
+        Answer::Fine => Answer::Fine,
+        Answer::Rejected => Answer::Rejected,
+        Answer::Ended(end) => Answer::Ended(*end),
+        Answer::Granted(note) => Answer::Granted(*note),
+        Answer::NoCurrent => Answer::NoCurrent,
+        Answer::Body(body) => Answer::Body(body.twin(alloc)?),
+        Answer::Info(info) => Answer::Info(*info),
+    })
 }
 
 impl Fake {
-    // Tells the put how it ends.
-    fn told_put(
+    // What a put is answered: a unit that is accepted waits.
+    fn answer_put(
         &mut self,
         kind: WorkType,
         prio: i32,
         answer: Option<Rank>,
         body: &Payload,
-    ) -> Result<(), PutFault>
+    ) -> Result<Answer, Trouble>
         requires body { length body.now ≤ 2 ^ 20 }
-        ensures said { self.new.said ≡ self.old.said }
-        ensures told { TellsAgain (end_told self.old.said.items) (put_answer result) }
-        ensures repeats { Repeats self.old.trouble (put_trouble result) }
-        ensures going { self.new.going ≡ self.old.going }
-    {
-        if let Some(trouble) = self.trouble {
-            return Err(put_fault(trouble));
-        }
-        if let Some(end) = self.end() {
-            return Err(put_end(end));
-        }
-        if self.rejects() {
-            return Err(PutFault::Rejected);
-        }
-        match self.keep(kind, prio, answer, body) {
-            Ok(()) => Ok(()),
-            Err(trouble) => Err(put_fault(trouble)),
-        }
-    }
-
-    // No batch is going on after a failure.
-    fn shut(&mut self)
+        ensures kind { IfOk result (λ a. answers_put a ≡ true) }
+        ensures again { IfOk result (λ a. TellsAgain (end_told self.old.said.items) (Some a)) }
         ensures said { self.new.said ≡ self.old.said }
         ensures trouble { self.new.trouble ≡ self.old.trouble }
-        ensures going { self.new.going ≡ (self.old.going && is_none self.old.trouble) }
+        ensures going { self.new.going ≡ self.old.going }
     {
-        if self.trouble.is_some() {
-            self.going = false;
-        }
-    }
-
-    // Tells the beginning of a batch how it ends.
-    fn told_begin(&mut self, common: &Payload) -> Result<(), PutFault>
-        ensures said { self.new.said ≡ self.old.said }
-        ensures told { TellsAgain (end_told self.old.said.items) (put_answer result) }
-        ensures repeats { Repeats self.old.trouble (put_trouble result) }
-    {
-        if let Some(trouble) = self.trouble {
-            return Err(put_fault(trouble));
-        }
         if let Some(end) = self.end() {
-            return Err(put_end(end));
+            return Ok(Answer::Ended(end));
         }
         if self.rejects() {
-            return Err(PutFault::Rejected);
+            return Ok(Answer::Rejected);
         }
-        match common.twin(self.alloc) {
-            Ok(common) => {
-                self.common = Some(common);
-                Ok(())
-            }
-            Err(_) => Err(PutFault::Memory),
-        }
+        self.keep(kind, prio, answer, body)?;
+        Ok(Answer::Fine)
     }
 
-    // The put, or the beginning of a batch, ends so, if its answer can be kept.
-    fn end_put(&mut self, call: Call, told: Result<(), PutFault>) -> Result<(), PutFault>
-        ensures says { self.new.said.items ≡ plus self.old.said.items call (put_answer result) }
-        ensures told { (end : Option End) → TellsAgain end (put_answer told) → TellsAgain end (put_answer result) }
-        ensures failed { self.new.trouble ≡ put_trouble result }
-        ensures repeats { (t : Trouble) → put_trouble told ≡ Some t → put_trouble result ≡ Some t }
+    // What the beginning of a batch is answered: a common part that is accepted is kept.
+    fn answer_begin(&mut self, common: &Payload) -> Result<Answer, Trouble>
+        ensures kind { IfOk result (λ a. answers_put a ≡ true) }
+        ensures again { IfOk result (λ a. TellsAgain (end_told self.old.said.items) (Some a)) }
+        ensures said { self.new.said ≡ self.old.said }
+        ensures trouble { self.new.trouble ≡ self.old.trouble }
         ensures going { self.new.going ≡ self.old.going }
     {
-        match of_put(told) {
-            Ok(answer) => match self.say(call, answer) {
-                Ok(()) => told,
-                Err(trouble) => Err(put_fault(trouble)),
-            },
-            Err(trouble) => {
-                self.trouble = Some(trouble);
-                told
-            }
+        if let Some(end) = self.end() {
+            return Ok(Answer::Ended(end));
         }
+        if self.rejects() {
+            return Ok(Answer::Rejected);
+        }
+        let Ok(common) = common.twin(self.alloc) else {
+            return Err(Trouble::Memory);
+        };
+        self.common = Some(common);
+        Ok(Answer::Fine)
     }
 
-    // The next unit, if no end was told.
-    fn told_reserve(&self) -> Result<UnitNote, EndFault>
-        ensures told { TellsAgain (end_told self.now.said.items) (end_answer result) }
-        ensures once { IfOk result (λ note. is_granted note.id self.now.said.items ≡ false) }
-        ensures unfetched { IfOk result (λ note. is_fetched note.id self.now.said.items ≡ false) }
-        ensures repeats { Repeats self.now.trouble (end_trouble result) }
+    // What a reserve is answered: the next unit, if no end was told.
+    fn answer_reserve(&self) -> Result<Answer, Trouble>
+        ensures kind { IfOk result (λ a. answers_reserve a ≡ true) }
+        ensures known { (types : _) → IfOk result (λ a. IsAnswer self.now.said.items (Call.Reserve types) a) }
+        ensures again { IfOk result (λ a. TellsAgain (end_told self.now.said.items) (Some a)) }
     {
-        if let Some(trouble) = self.trouble {
-            return Err(end_fault(trouble));
-        }
         if let Some(end) = self.end() {
-            return Err(end_end(end));
+            return Ok(Answer::Ended(end));
         }
         match self.next() {
-            Some(note) if is_known(note.id, &self.said) => Err(EndFault::Memory),
-            Some(note) => Ok(note),
-            None => Err(EndFault::Exhausted),
+            Some(note) if is_known(note.id, &self.said) => Err(Trouble::Memory),
+            Some(note) => Ok(Answer::Granted(note)),
+            None => Ok(Answer::Ended(End::Exhausted)),
         }
     }
 
-    // The reserve ends so, if its answer can be kept.
-    fn end_reserve(
-        &mut self,
-        call: Call,
-        told: Result<UnitNote, EndFault>,
-    ) -> Result<UnitNote, EndFault>
-        ensures says { self.new.said.items ≡ plus self.old.said.items call (end_answer result) }
-        ensures told { (end : Option End) → TellsAgain end (end_answer told) → TellsAgain end (end_answer result) }
-        ensures same { IfOk result (λ note. told ≡ Ok note) }
-        ensures failed { self.new.trouble ≡ end_trouble result }
-        ensures repeats { (t : Trouble) → end_trouble told ≡ Some t → end_trouble result ≡ Some t }
-        ensures going { self.new.going ≡ self.old.going }
+    // What a try is answered: that there is no unit now, if no end was told.
+    fn answer_try(&self) -> Answer
+        ensures kind { answers_try result ≡ true }
+        ensures known { (types : _) → IsAnswer self.now.said.items (Call.Try types) result }
+        ensures again { TellsAgain (end_told self.now.said.items) (Some result) }
     {
-        match of_reserve(told) {
-            Ok(answer) => match self.say(call, answer) {
-                Ok(()) => told,
-                Err(trouble) => Err(end_fault(trouble)),
-            },
-            Err(trouble) => {
-                self.trouble = Some(trouble);
-                told
-            }
+        match self.end() {
+            Some(end) => Answer::Ended(end),
+            None => Answer::NoCurrent,
         }
     }
 
-    // Finds no unit now, or tells the end again.
-    fn try_in_vain(&mut self, types: Types) -> TryFault
-        ensures says { self.new.said.items ≡ plus self.old.said.items (Call.Try types) (try_answer (Err result)) }
-        ensures told { TellsAgain (end_told self.old.said.items) (try_answer (Err result)) }
-        ensures failed { self.new.trouble ≡ try_trouble (Err result) }
-        ensures repeats { Repeats self.old.trouble (try_trouble (Err result)) }
-        ensures going { self.new.going ≡ self.old.going }
-    {
-        if let Some(trouble) = self.trouble {
-            return try_fault(trouble);
-        }
-        if let Some(end) = self.end() {
-            return match self.say(Call::Try { types }, Answer::Ended(end)) {
-                Ok(()) => try_end(end),
-                Err(trouble) => try_fault(trouble),
-            };
-        }
-        match self.say(Call::Try { types }, Answer::NoCurrent) {
-            Ok(()) => TryFault::NoCurrentWork,
-            Err(trouble) => try_fault(trouble),
-        }
-    }
-
-    // The bytes of the next unit twice, if they are as many.
-    fn next_bodies(&mut self, total: u64) -> Result<(Body, Body), Trouble>
+    // What a fetch is answered: the bytes of the next unit, if they are as many as its note says.
+    fn answer_fetch(&mut self, id: UnitId) -> Result<Answer, Trouble>
+        ensures fits { IfOk result (λ a. IsAnswerTo self.old.said.items (Call.Fetch id) a) }
         ensures said { self.new.said ≡ self.old.said }
+        ensures trouble { self.new.trouble ≡ self.old.trouble }
         ensures going { self.new.going ≡ self.old.going }
-        ensures total { IfOk result (λ two. length two.0 ≡ total) }
-        ensures same { IfOk result (λ two. two.0 ≡ two.1) }
     {
-        let Some((_, body)) = self.units.pop_front() else {
-            return Err(Trouble::Memory);
-        };
-        if body.len() as u64 != total {
-            return Err(Trouble::Memory);
-        }
-        match body.twin(self.alloc) {
-            Ok(shown) => Ok((body, shown)),
-            Err(_) => Err(Trouble::Memory),
+        match self.units.pop_front() {
+            Some((_, body)) if all_fit(id, body.len() as u64, &self.said) => Ok(Answer::Body(body)),
+            _ => Err(Trouble::Memory),
         }
     }
 
-    // Fetches the next unit, which has this id and this number of bytes.
-    fn fetch(&mut self, id: UnitId, total: u64) -> Result<Body, Trouble>
-        ensures says { IfOk result (λ body. self.new.said.items ≡
-            self.old.said.items ++ record { call = Call.Fetch id; answer = Answer.Body body } ∷ []) }
-        ensures kept { OnErr result (self.new.said.items ≡ self.old.said.items) }
-        ensures total { IfOk result (λ body. length body ≡ total) }
-        ensures fine { OnOk result (self.new.trouble ≡ None) }
-        ensures failed { IfErr result (λ t. self.new.trouble ≡ Some t) }
-        ensures repeats { (t : Trouble) → self.old.trouble ≡ Some t → result ≡ Err t }
+    // What a call is answered.
+    fn answer(&mut self, call: &Call) -> Result<Answer, Trouble>
+        requires short { IsShort call.now }
+        ensures fits { IfOk result (λ a. IsAnswerTo self.old.said.items call.now a) }
+        ensures said { self.new.said ≡ self.old.said }
+        ensures trouble { self.new.trouble ≡ self.old.trouble }
         ensures going { self.new.going ≡ self.old.going }
     {
-        if let Some(trouble) = self.trouble {
-            return Err(trouble);
-        }
-        match self.next_bodies(total) {
-            Ok((body, shown)) => {
-                match self.say(Call::Fetch { id }, Answer::Body(shown)) {
-                    Ok(()) => Ok(body),
-                    Err(trouble) => Err(trouble),
-                }
-            }
-            Err(trouble) => {
-                self.trouble = Some(trouble);
-                Err(trouble)
-            }
-        }
-    }
-
-    // Counts no unit.
-    fn count(&mut self, kind: WorkType) -> Result<Info, Trouble>
-        ensures says { IfOk result (λ info. self.new.said.items ≡
-            self.old.said.items ++ record { call = Call.Count kind; answer = Answer.Info info } ∷ []) }
-        ensures kept { OnErr result (self.new.said.items ≡ self.old.said.items) }
-        ensures fine { OnOk result (self.new.trouble ≡ None) }
-        ensures failed { IfErr result (λ t. self.new.trouble ≡ Some t) }
-        ensures repeats { (t : Trouble) → self.old.trouble ≡ Some t → result ≡ Err t }
-        ensures going { self.new.going ≡ self.old.going }
-    {
-        if let Some(trouble) = self.trouble {
-            return Err(trouble);
-        }
-        let info = Info {
-            free: 0,
-            top: None,
-            at_top: 0,
-        };
-        match self.say(Call::Count { kind }, Answer::Info(info)) {
-            Ok(()) => Ok(info),
-            Err(trouble) => Err(trouble),
-        }
-    }
-
-    // Takes note that the problem is done.
-    fn done(&mut self) -> Result<(), Trouble>
-        ensures says { OnOk result (self.new.said.items ≡
-            self.old.said.items ++ record { call = Call.SetDone; answer = Answer.Fine } ∷ []) }
-        ensures kept { OnErr result (self.new.said.items ≡ self.old.said.items) }
-        ensures fine { OnOk result (self.new.trouble ≡ None) }
-        ensures failed { IfErr result (λ t. self.new.trouble ≡ Some t) }
-        ensures repeats { (t : Trouble) → self.old.trouble ≡ Some t → result ≡ Err t }
-        ensures going { self.new.going ≡ self.old.going }
-    {
-        match self.trouble {
-            Some(trouble) => Err(trouble),
-            None => self.say(Call::SetDone, Answer::Fine),
+        match call {
+            Call::Put {
+                kind,
+                prio,
+                answer,
+                body,
+                ..
+            } => self.answer_put(*kind, *prio, *answer, body),
+            Call::BeginBatch { common } => self.answer_begin(common),
+            Call::Reserve { .. } => self.answer_reserve(),
+            Call::Try { .. } => Ok(self.answer_try()),
+            Call::Fetch { id } => self.answer_fetch(*id),
+            Call::Count { .. } => Ok(Answer::Info(Info {
+                free: 0,
+                top: None,
+                at_top: 0,
+            })),
+            Call::EndBatch | Call::SetDone | Call::Finish => Ok(Answer::Fine),
         }
     }
 }
 
-impl Adlb for Fake {
-    ghost seat = { λ l. record { ranks = 1; servers = 1; limit = 64; me = record { 0 = 0 } } };
+impl Carrier for Fake {
+    ghost carried = { λ l. fake_link l.said.items l.going l.trouble };
 
-    ghost transcript = { λ l. l.said.items };
-
-    ghost batch = { λ l. l.going };
-
-    ghost failed = { λ l. l.trouble };
-
-    ghost begun = { λ l. None };
-
-    fn put(
-        &mut self,
-        kind: WorkType,
-        prio: i32,
-        target: Target,
-        answer: Option<Rank>,
-        body: Payload,
-    ) -> Result<(), PutFault> {
-        let told = self.told_put(kind, prio, answer, &body);
-        let call = Call::Put {
-            kind,
-            prio,
-            target,
-            answer,
-            body,
-        };
-        let ended = self.end_put(call, told);
-        self.shut();
-        ended
-    }
-
-    fn reserve(&mut self, types: &Types) -> Result<Handle, EndFault> {
-        let call = Call::Reserve {
-            types: types.twin(),
-        };
-        let told = self.told_reserve();
-        let ended = self.end_reserve(call, told);
-        self.shut();
-        match ended {
-            Ok(note) => Ok(Handle::of(note)),
-            Err(fault) => Err(fault),
+    fn exchange(&mut self, call: Call) -> Result<Answer, Trouble> {
+        if let Some(trouble) = self.trouble {
+            return Err(self.fail(trouble));
+        }
+        match self.answer(&call) {
+            Ok(answer) => self.say(call, answer),
+            Err(trouble) => Err(self.fail(trouble)),
         }
     }
 
-    fn ireserve(&mut self, types: &Types) -> Result<Handle, TryFault> {
-        let fault = self.try_in_vain(types.twin());
-        self.shut();
-        Err(fault)
-    }
-
-    fn get_reserved(&mut self, handle: Handle) -> Result<Body, (Handle, Trouble)> {
-        let id = handle.note().id;
-        let total = handle.total();
-        let fetched = self.fetch(id, total);
-        self.shut();
-        match fetched {
-            Ok(body) => {
-                let _ = handle.spend();
-                Ok(body)
-            }
-            Err(trouble) => Err((handle, trouble)),
-        }
-    }
-
-    fn leave(&mut self, handle: Handle) {
-        let _ = handle.spend();
-    }
-
-    fn begin_batch(&mut self, common: Payload) -> Result<(), PutFault> {
-        let told = self.told_begin(&common);
-        let ended = self.end_put(Call::BeginBatch { common }, told);
-        self.going = ended.is_ok();
-        ended
-    }
-
-    fn end_batch(&mut self) -> Result<(), Trouble> {
-        self.going = false;
-        match self.trouble {
-            Some(trouble) => Err(trouble),
-            None => self.say(Call::EndBatch, Answer::Fine),
-        }
-    }
-
-    fn num_units(&mut self, kind: WorkType) -> Result<Info, Trouble> {
-        let counted = self.count(kind);
-        self.shut();
-        counted
-    }
-
-    fn set_problem_done(&mut self) -> Result<(), Trouble> {
-        let done = self.done();
-        self.shut();
-        done
-    }
-
-    fn batch_open(&self) -> bool {
+    fn has_batch(&self) -> bool {
         self.going
     }
 
-    fn finish(self) {}
+    fn count_ranks(&self) -> u32 {
+        1
+    }
 
-    ghost short = { λ l. l.within };
+    ghost few = { λ l. l.within };
 }

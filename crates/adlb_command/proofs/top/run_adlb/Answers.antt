@@ -1,69 +1,72 @@
-use Rattle.std.proofs.Common.{ℕ, None, Err, refl, ap, subst, map}
+use Rattle.std.proofs.Common.{◌≡◌, ◌∙◌, Some, ap, map, subst}
 use Rattle.std.specs.String.{string_bytes}
-use Rattle.command_words.specs.declared.commands.Command.TheVariants.{Check, Make}
-use Rattle.adlb_io.specs.Inputs.{Seen, seen}
-use Rattle.adlb_command.specs.Top.{EndsAsChecked, EndsAsDrilled, EndsAsMade, IsRunWith, Scene, scene}
-use Rattle.adlb_command.specs.Inside.{IsAcceptedAs}
-use Rattle.adlb_command.specs.Words.{settings_of}
-use Rattle.adlb_command.proofs.Checked.{checks_early}
-use Rattle.adlb_command.proofs.Drilled.{early, never_usage_drilled, same_drill}
-use Rattle.adlb_command.proofs.Made.{makes_early}
-use Rattle.adlb_command.proofs.Running.{none_ran}
+use Rattle.command_words.specs.Said.{command_of}
+use Rattle.run_command.specs.Ends.{scene}
+use Rattle.adlb_command.proofs.Ending.{ends_checked, ends_drilled, ends_made, ends_solved, ends_unread}
 use Rattle.adlb_command.proofs.top.run_adlb.Goals as goal
 
-pub returns-in-Ok-Drill-clause-usage : goal.returns-in-Ok-Drill-clause-usage
-returns-in-Ok-Drill-clause-usage g c = λ is accepted.
-    never_usage_drilled (settings_of c.in-Ok-Drill.options) c.in-Ok-Drill.count c.in-Ok-Drill.seed
-    (scene None 0 (g.K.Sink.taken c.args.output.now) (g.K.Sink.faults c.args.output.now)
-    (g.K.Sink.all_flushed c.args.output.now) (g.T.Spawner.faults c.args.threads.now) (g.T.Spawner.starts c.args.threads.now))
-    (scene None 0 (g.K.Sink.taken c.drill.new.output) (g.K.Sink.faults c.drill.new.output)
-    (g.K.Sink.all_flushed c.drill.new.output) (g.T.Spawner.faults c.drill.new.threads) (g.T.Spawner.starts c.drill.new.threads))
-    c.drill.result.fault c.drill.result.report (c.drill.ensures.ends None 0) is
+pub returns-in-Ok-Solve-clause-ends : goal.returns-in-Ok-Solve-clause-ends
+returns-in-Ok-Solve-clause-ends g c =
+    let said = command_of (map string_bytes c.args.words.now) in
+    ends_solved said
+    (scene (g.S.Source.left c.args.input.now) (g.S.Source.faults c.args.input.now) (g.K.Sink.taken c.args.output.now)
+    (g.K.Sink.faults c.args.output.now) (g.K.Sink.all_flushed c.args.output.now) (g.T.Spawner.faults c.args.threads.now)
+    (g.T.Spawner.starts c.args.threads.now))
+    (scene (g.S.Source.left c.solve.new.input) (g.S.Source.faults c.solve.new.input) (g.K.Sink.taken c.solve.new.output)
+    (g.K.Sink.faults c.solve.new.output) (g.K.Sink.all_flushed c.solve.new.output) (g.T.Spawner.faults c.solve.new.threads)
+    (g.T.Spawner.starts c.solve.new.threads))
+    c.of.result.fault c.of.result.kept c.in-Ok-Solve.words
+    (subst (λ x. said ≡ Some x) c.in-Ok-Solve.field-0-is c.in-Ok-Solve.ensures.said)
+    c.solve.result.fault c.solve.result.kept c.of.ensures.fault c.of.ensures.kept c.solve.ensures.solves
 
-pub returns-in-Ok-Drill-clause-drilled : goal.returns-in-Ok-Drill-clause-drilled
-returns-in-Ok-Drill-clause-drilled g c = λ count seed o says.
+pub returns-in-Ok-Check-clause-ends : goal.returns-in-Ok-Check-clause-ends
+returns-in-Ok-Check-clause-ends g c =
+    let said = command_of (map string_bytes c.args.words.now) in
+    let refused = g.T.Spawner.faults c.args.threads.now in
+    let started = g.T.Spawner.starts c.args.threads.now in
+    ends_checked said
+    (scene (g.S.Source.left c.args.input.now) (g.S.Source.faults c.args.input.now) (g.K.Sink.taken c.args.output.now)
+    (g.K.Sink.faults c.args.output.now) (g.K.Sink.all_flushed c.args.output.now) refused started)
+    (scene (g.S.Source.left c.check.new.input) (g.S.Source.faults c.check.new.input) (g.K.Sink.taken c.check.new.output)
+    (g.K.Sink.faults c.check.new.output) (g.K.Sink.all_flushed c.check.new.output) refused started)
+    c.check.result.fault c.check.result.kept
+    (subst (λ x. said ≡ Some x) c.in-Ok-Check.field-0-is c.in-Ok-Check.ensures.said) (c.check.ensures.ends refused started)
+
+pub returns-in-Ok-Make-clause-ends : goal.returns-in-Ok-Make-clause-ends
+returns-in-Ok-Make-clause-ends g c =
+    let said = command_of (map string_bytes c.args.words.now) in
     let left = g.S.Source.left c.args.input.now in
-    let reads : ℕ = g.S.Source.faults c.args.input.now in
-    let before : Scene = scene left reads (g.K.Sink.taken c.args.output.now) (g.K.Sink.faults c.args.output.now)
-    (g.K.Sink.all_flushed c.args.output.now) (g.T.Spawner.faults c.args.threads.now) (g.T.Spawner.starts c.args.threads.now) in
-    let after : Scene = scene left reads (g.K.Sink.taken c.drill.new.output) (g.K.Sink.faults c.drill.new.output)
-    (g.K.Sink.all_flushed c.drill.new.output) (g.T.Spawner.faults c.drill.new.threads) (g.T.Spawner.starts c.drill.new.threads) in
-    same_drill (λ a b p. EndsAsDrilled (settings_of p) a b before after c.drill.result.fault c.drill.result.report)
-    (map string_bytes c.args.words.now) c.in-Ok-Drill.count c.in-Ok-Drill.seed count seed c.in-Ok-Drill.options o
-    (subst (λ a. IsAcceptedAs (map string_bytes c.args.words.now) a) c.in-Ok-Drill.field-0-is c.in-Ok-Drill.ensures.said).0 says
-    (c.drill.ensures.ends left reads)
+    let reads = g.S.Source.faults c.args.input.now in
+    let refused = g.T.Spawner.faults c.args.threads.now in
+    let started = g.T.Spawner.starts c.args.threads.now in
+    ends_made said
+    (scene left reads (g.K.Sink.taken c.args.output.now) (g.K.Sink.faults c.args.output.now) (g.K.Sink.all_flushed c.args.output.now)
+    refused started)
+    (scene left reads (g.K.Sink.taken c.make.new.output) (g.K.Sink.faults c.make.new.output) (g.K.Sink.all_flushed c.make.new.output)
+    refused started)
+    c.make.result.fault c.make.result.kept c.in-Ok-Make.count c.in-Ok-Make.seed
+    (subst (λ x. said ≡ Some x) c.in-Ok-Make.field-0-is c.in-Ok-Make.ensures.said) (c.make.ensures.ends left reads refused started)
 
-pub returns-in-Ok-Drill-clause-drill_ran : goal.returns-in-Ok-Drill-clause-drill_ran
-returns-in-Ok-Drill-clause-drill_ran g c = λ count seed o says.
+pub returns-in-Ok-Drill-clause-ends : goal.returns-in-Ok-Drill-clause-ends
+returns-in-Ok-Drill-clause-ends g c =
+    let said = command_of (map string_bytes c.args.words.now) in
     let left = g.S.Source.left c.args.input.now in
-    let reads : ℕ = g.S.Source.faults c.args.input.now in
-    let before : Scene = scene left reads (g.K.Sink.taken c.args.output.now) (g.K.Sink.faults c.args.output.now)
-    (g.K.Sink.all_flushed c.args.output.now) (g.T.Spawner.faults c.args.threads.now) (g.T.Spawner.starts c.args.threads.now) in
-    let after : Scene = scene left reads (g.K.Sink.taken c.drill.new.output) (g.K.Sink.faults c.drill.new.output)
-    (g.K.Sink.all_flushed c.drill.new.output) (g.T.Spawner.faults c.drill.new.threads) (g.T.Spawner.starts c.drill.new.threads) in
-    same_drill (λ a b p. IsRunWith p before after c.drill.result.report)
-    (map string_bytes c.args.words.now) c.in-Ok-Drill.count c.in-Ok-Drill.seed count seed c.in-Ok-Drill.options o
-    (subst (λ a. IsAcceptedAs (map string_bytes c.args.words.now) a) c.in-Ok-Drill.field-0-is c.in-Ok-Drill.ensures.said).0 says
-    (c.drill.ensures.ran left reads)
+    let reads = g.S.Source.faults c.args.input.now in
+    ends_drilled said
+    (scene left reads (g.K.Sink.taken c.args.output.now) (g.K.Sink.faults c.args.output.now) (g.K.Sink.all_flushed c.args.output.now)
+    (g.T.Spawner.faults c.args.threads.now) (g.T.Spawner.starts c.args.threads.now))
+    (scene left reads (g.K.Sink.taken c.drill.new.output) (g.K.Sink.faults c.drill.new.output) (g.K.Sink.all_flushed c.drill.new.output)
+    (g.T.Spawner.faults c.drill.new.threads) (g.T.Spawner.starts c.drill.new.threads))
+    c.of-in-Ok-Drill.result.fault c.of-in-Ok-Drill.result.kept c.in-Ok-Drill.count c.in-Ok-Drill.seed c.in-Ok-Drill.options
+    (subst (λ x. said ≡ Some x) c.in-Ok-Drill.field-0-is c.in-Ok-Drill.ensures.said)
+    c.drill.result.fault c.drill.result.kept c.of-in-Ok-Drill.ensures.fault c.of-in-Ok-Drill.ensures.kept
+    (c.drill.ensures.drills left reads)
 
-pub returns-in-Err-clause-ran : goal.returns-in-Err-clause-ran
-returns-in-Err-clause-ran g c = λ w says. none_ran w.options _ _ c.new.ensures.report
-
-pub returns-in-Err-clause-drill_ran : goal.returns-in-Err-clause-drill_ran
-returns-in-Err-clause-drill_ran g c = λ count seed o says. none_ran o _ _ c.new.ensures.report
-
-pub returns-in-Err-clause-made : goal.returns-in-Err-clause-made
-returns-in-Err-clause-made g c = λ count seed says.
-    let here : Seen = seen (g.S.Source.left c.args.input.now) (g.S.Source.faults c.args.input.now) (g.K.Sink.taken c.args.output.now)
-    (g.K.Sink.faults c.args.output.now) (g.K.Sink.all_flushed c.args.output.now) in
-    early (λ f r. EndsAsMade count seed here here f r) c.in-Err.fault c.new.result.fault c.new.result.report c.in-Err.ensures.faults
-    (λ u. c.in-Err.ensures.refused (ap Err u) (Make count seed, says, tt)) c.new.ensures.fault c.new.ensures.report
-    (makes_early count seed here here refl refl)
-
-pub returns-in-Err-clause-checked : goal.returns-in-Err-clause-checked
-returns-in-Err-clause-checked g c = λ says.
-    let here : Seen = seen (g.S.Source.left c.args.input.now) (g.S.Source.faults c.args.input.now) (g.K.Sink.taken c.args.output.now)
-    (g.K.Sink.faults c.args.output.now) (g.K.Sink.all_flushed c.args.output.now) in
-    early (λ f r. EndsAsChecked here here f r) c.in-Err.fault c.new.result.fault c.new.result.report c.in-Err.ensures.faults
-    (λ u. c.in-Err.ensures.refused (ap Err u) (Check, says, tt)) c.new.ensures.fault c.new.ensures.report
-    (checks_early here here refl refl)
+pub returns-in-Err-clause-ends : goal.returns-in-Err-clause-ends
+returns-in-Err-clause-ends g c =
+    ends_unread
+    (scene (g.S.Source.left c.args.input.now) (g.S.Source.faults c.args.input.now) (g.K.Sink.taken c.args.output.now)
+    (g.K.Sink.faults c.args.output.now) (g.K.Sink.all_flushed c.args.output.now) (g.T.Spawner.faults c.args.threads.now)
+    (g.T.Spawner.starts c.args.threads.now))
+    (command_of (map string_bytes c.args.words.now)) c.in-Err.met c.new.result.fault c.new.result.kept c.in-Err.ensures.refused
+    (c.new.ensures.fault ∙ ap Some c.from.ensures) c.new.ensures.kept

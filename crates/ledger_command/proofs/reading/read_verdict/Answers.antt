@@ -1,4 +1,4 @@
-use Rattle.std.proofs.Common.{◌≤◌, ◌+◌, ap, sym, subst, arith, length}
+use Rattle.std.proofs.Common.{◌≡◌, ◌≤◌, ◌+◌, ℕ, List, ap, sym, subst, arith, length}
 use Rattle.std.proofs.lemmas.Result.{IfOk-weaker}
 use Rattle.adlb_io.proofs.Inputs.{read_end, read_too_long}
 use Rattle.adlb_io.specs.Whole.{Reads}
@@ -7,11 +7,18 @@ use Rattle.ledger_command.proofs.Forms.{fault_weaker, read_refuses, read_told}
 use Rattle.ledger_command.proofs.reading.read_verdict.Goals as goal
 
 pub returns-then-len-gt-INPUT_LIMIT-clause-refused : goal.returns-then-len-gt-INPUT_LIMIT-clause-refused
-returns-then-len-gt-INPUT_LIMIT-clause-refused g c = (
-  omega (arith, c.len-taken.ensures, c.len.ensures, c.if-len-gt-INPUT_LIMIT.true, c.in_ok-bytes.ensures.bound),
-  read_too_long input_limit _ _ c.in_ok-bytes.bytes.items c.in_ok-bytes.ensures.read (omega (arith, c.len.ensures, c.if-len-gt-INPUT_LIMIT.true)),
-  c.in_ok-bytes.ensures.counted,
-)
+returns-then-len-gt-INPUT_LIMIT-clause-refused g c =
+    let count : c.len-taken.result ≡ input_limit + 1 =
+    omega (arith, c.len-taken.ensures, c.len.ensures, c.if-len-gt-INPUT_LIMIT.true, c.in_ok-bytes.ensures.bound) in
+    let before = g.S.Source.left c.args.input.now in
+    let after = g.S.Source.left c.read_up_to.new.source in
+    let bytes : List ℕ = c.in_ok-bytes.bytes.items in
+    (
+      count,
+      read_too_long input_limit before after bytes c.in_ok-bytes.ensures.read (omega (arith, c.len.ensures, c.if-len-gt-INPUT_LIMIT.true)),
+      (bytes, subst (λ n. Reads before after n bytes) (sym count) c.in_ok-bytes.ensures.read),
+      c.in_ok-bytes.ensures.counted,
+    )
 
 pub returns-clause-told : goal.returns-clause-told
 returns-clause-told g c =

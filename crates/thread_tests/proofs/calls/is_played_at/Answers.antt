@@ -1,4 +1,4 @@
-use Rattle.thread_tests.proofs.Transcripts.{not_begun}
+use Rattle.rank_client.proofs.LinkLaws.{not_begun}
 use Rattle.thread_tests.proofs.calls.is_played_at.Goals as goal
 
 pub are_told-told-requires : goal.are_told-told-requires

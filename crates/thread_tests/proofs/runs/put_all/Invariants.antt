@@ -4,7 +4,7 @@ use Rattle.thread_tests.proofs.runs.put_all.Given as goal
 
 abbrev pub invariant-loop : goal.invariant-loop
 invariant-loop g l = record {
-  running : has_finished (g.A.Adlb.transcript l.link) ≡ false;
-  closed : g.A.Adlb.batch l.link ≡ false;
-  seat : g.A.Adlb.seat l.link ≡ g.A.Adlb.seat l.fn.link;
+  running : has_finished (g.A.Adlb.link l.link).said ≡ false;
+  closed : (g.A.Adlb.link l.link).batch ≡ false;
+  seat : (g.A.Adlb.link l.link).seat ≡ (g.A.Adlb.link l.fn.link).seat;
 }

@@ -1,24 +1,27 @@
-use Rattle.std.proofs.Common.{◌≡◌, ◌+◌, None, List, sym, ap, ◌∙◌, subst}
-use Rattle.bag_ledger.specs.declared.entries.Said.{Said}
-use Rattle.rank_client.specs.Calls.{Began, has_finished}
-use Rattle.rank_client.proofs.Awaited.{none_left}
-use Rattle.rank_client.specs.Answers.{CanCall}
-use Rattle.core_inline.specs.Inline.{Run}
-use Rattle.core_inline.specs.inside.Fields.{run_of}
-use Rattle.core_inline.specs.inside.Pairs.{rank_in}
-use Rattle.core_inline.proofs.Kept.{answered_inside, failed_began, failed_inside, grown_began, take_all}
+use Rattle.std.proofs.Common.{sym, ap, ◌∙◌, subst}
+use Rattle.std.proofs.lemmas.Result.{err_from_is_err_and}
+use Rattle.rank_client.specs.Calls.{has_finished}
+use Rattle.rank_client.specs.Link.{Can, HasGrant}
+use Rattle.core_inline.specs.Inline.{Run, link_of}
+use Rattle.core_inline.proofs.Kept.{again_seen, answered_inside, begins_call, failed_inside, failed_seen, grown_seen}
 use Rattle.core_inline.proofs.runs.InlineRun.call.Goals as goal
+
+pub returns-in-Some-clause-made : goal.returns-in-Some-clause-made
+returns-in-Some-clause-made c =
+    again_seen c.args.self.now c.self.inside c.self.view_is c.args.call c.in-Some.met c.requires.can.running
+    (sym c.trouble.ensures ∙ c.in-Some.is)
 
 pub exchange-requires : goal.exchange-requires
 exchange-requires c =
     let i = c.self.inside in
-    let whole : i.world.trouble ≡ None = none_left i.world.trouble (λ x e. c.in_default.not-Some x (c.trouble.ensures ∙ e)) in
-    let running = ap (λ (r : Run). has_finished r.transcript) c.self.view_is ∙ c.requires.running in
-    let all : c.args.self.now.transcript ≡ (rank_in i.world).transcript =
-    sym (ap (λ (r : Run). r.transcript) c.self.view_is) ∙ take_all i.answered (rank_in i.world).transcript (c.self.invariant.all whole) in
+    let whole = sym c.trouble.ensures ∙ c.in_default.is in
+    let running = ap (λ (r : Run). has_finished r.transcript) c.self.view_is ∙ c.requires.can.running in
     record {
       ready = c.self.invariant.ready whole running;
-      can = subst (λ (l : List Said). CanCall 1 1 l c.args.call) all (c.requires.can (sym (ap (λ (r : Run). r.failed) c.self.view_is) ∙ whole));
+      can =
+          begins_call i c.args.call c.self.invariant whole
+          (subst (λ (r : Run). Can (link_of r) c.args.call) (sym c.self.view_is) c.requires.can)
+          (subst (λ (r : Run). HasGrant r.transcript c.args.call) (sym c.self.view_is) c.requires.granted);
       going = c.requires.going;
     }
 
@@ -26,23 +29,24 @@ exchange-requires c =
 pub invariant_of-self : goal.invariant_of-self
 invariant_of-self c =
     let i = c.self.inside in
-    let whole : i.world.trouble ≡ None = none_left i.world.trouble (λ x e. c.in_default.not-Some x (c.trouble.ensures ∙ e)) in
+    let whole = sym c.trouble.ensures ∙ c.in_default.is in
     let e = c.in_err-answer.ensures in
     failed_inside i c.exchange.new.world i.finished c.args.call _ c.self.invariant whole e.failed e.trouble c.exchange.ensures.config
 
-pub returns-in_err-answer-clause-began : goal.returns-in_err-answer-clause-began
-returns-in_err-answer-clause-began c =
+pub returns-in_err-answer-clause-made : goal.returns-in_err-answer-clause-made
+returns-in_err-answer-clause-made c =
     let i = c.self.inside in
-    let whole : i.world.trouble ≡ None = none_left i.world.trouble (λ x e. c.in_default.not-Some x (c.trouble.ensures ∙ e)) in
+    let whole = sym c.trouble.ensures ∙ c.in_default.is in
     let e = c.in_err-answer.ensures in
-    let now = c.exchange.new.world in
-    subst (λ (r : Run). Began r.failed r.begun c.args.call now.trouble (run_of (record i { world = now })).begun) c.self.view_is
-    (failed_began i now i.finished c.args.call _ c.self.invariant whole e.failed e.trouble)
+    let p = err_from_is_err_and c.from_residual.result c.from_residual.ensures.1 in
+    rw (p.1, p.2)
+    (failed_seen i c.exchange.new.world i.finished c.args.call _ c.self.invariant whole e.failed e.trouble c.args.self.now c.self.view_is
+    c.requires.can.running c.exchange.ensures.config)
 
 pub returns-in_err-answer-clause-holds : goal.returns-in_err-answer-clause-holds
 returns-in_err-answer-clause-holds c =
     let i = c.self.inside in
-    let whole : i.world.trouble ≡ None = none_left i.world.trouble (λ x e. c.in_default.not-Some x (c.trouble.ensures ∙ e)) in
+    let whole = sym c.trouble.ensures ∙ c.in_default.is in
     let e = c.in_err-answer.ensures in
     (failed_inside i c.exchange.new.world i.finished c.args.call _ c.self.invariant whole e.failed e.trouble
     c.exchange.ensures.config).inline
@@ -51,25 +55,23 @@ returns-in_err-answer-clause-holds c =
 pub invariant_of-self-2 : goal.invariant_of-self-2
 invariant_of-self-2 c =
     let i = c.self.inside in
-    let whole : i.world.trouble ≡ None = none_left i.world.trouble (λ x e. c.in_default.not-Some x (c.trouble.ensures ∙ e)) in
-    let running = ap (λ (r : Run). has_finished r.transcript) c.self.view_is ∙ c.requires.running in
+    let whole = sym c.trouble.ensures ∙ c.in_default.is in
+    let running = ap (λ (r : Run). has_finished r.transcript) c.self.view_is ∙ c.requires.can.running in
     answered_inside i c.exchange.new.world c.args.call _ c.self.invariant whole running c.in_ok-answer.ensures.answered
     c.exchange.ensures.config
 
-pub returns-clause-began : goal.returns-clause-began
-returns-clause-began c =
+pub returns-clause-made : goal.returns-clause-made
+returns-clause-made c =
     let i = c.self.inside in
-    let whole : i.world.trouble ≡ None = none_left i.world.trouble (λ x e. c.in_default.not-Some x (c.trouble.ensures ∙ e)) in
+    let whole = sym c.trouble.ensures ∙ c.in_default.is in
     let done = c.in_ok-answer.ensures.answered in
-    let now = c.exchange.new.world in
-    subst (λ (r : Run). Began r.failed r.begun c.args.call now.trouble
-    (run_of (record i { world = now; answered = i.answered + 1 })).begun) c.self.view_is
-    (grown_began i now i.finished c.args.call _ c.self.invariant whole done.ready.whole done.true_now done.grown)
+    grown_seen i c.exchange.new.world i.finished c.args.call _ c.self.invariant whole done.ready.whole done.true_now done.grown
+    c.args.self.now c.self.view_is c.requires.can.running c.exchange.ensures.config done.fits
 
 pub returns-clause-holds : goal.returns-clause-holds
 returns-clause-holds c =
     let i = c.self.inside in
-    let whole : i.world.trouble ≡ None = none_left i.world.trouble (λ x e. c.in_default.not-Some x (c.trouble.ensures ∙ e)) in
-    let running = ap (λ (r : Run). has_finished r.transcript) c.self.view_is ∙ c.requires.running in
+    let whole = sym c.trouble.ensures ∙ c.in_default.is in
+    let running = ap (λ (r : Run). has_finished r.transcript) c.self.view_is ∙ c.requires.can.running in
     (answered_inside i c.exchange.new.world c.args.call _ c.self.invariant whole running c.in_ok-answer.ensures.answered
     c.exchange.ensures.config).inline

@@ -26,7 +26,7 @@ put_kept-requires-clause-going g c =
     let at = c.requires.going in
     let jobs : List Job = jobs_from c.args.batch 1 c.args.items.now in (
       at.0,
-      subst (λ bytes. IsGoing c.args.self.now (g.A.Adlb.transcript c.begin.new.link) c.args.desk.now
+      subst (λ bytes. IsGoing c.args.self.now (g.A.Adlb.link c.begin.new.link).said c.args.desk.now
           (put_all (as_units jobs) ++ End ∷ at.0) (Some bytes)) (sym c.bytes.ensures)
           (begun_is c.args.self.now _ _ c.args.desk.now c.args.common.now jobs at.0 at.1 c.requires.none
           (replied _ _ (BeginBatch c.args.common.now) _ replies.Accepted c.in_ok-begin.ensures.says c.in-Accepted.is)),
@@ -58,7 +58,7 @@ pub returns-in-Accepted-clause-told : goal.returns-in-Accepted-clause-told
 returns-in-Accepted-clause-told g c = λ rest start.
     let jobs : List Job = jobs_from c.args.batch 1 c.args.items.now in
     c.put_kept.ensures.told rest
-    (subst (λ bytes. IsGoing c.args.self.now (g.A.Adlb.transcript c.begin.new.link) c.args.desk.now (put_all (as_units jobs) ++ End ∷ rest)
+    (subst (λ bytes. IsGoing c.args.self.now (g.A.Adlb.link c.begin.new.link).said c.args.desk.now (put_all (as_units jobs) ++ End ∷ rest)
     (Some bytes)) (sym c.bytes.ensures)
     (begun_is c.args.self.now _ _ c.args.desk.now c.args.common.now jobs rest start c.requires.none
     (replied _ _ (BeginBatch c.args.common.now) _ replies.Accepted c.in_ok-begin.ensures.says c.in-Accepted.is)))

@@ -41,7 +41,7 @@ loop-job-preserved g c =
         c.loop-job.invariant.few,
       );
       none = put.none;
-      going = subst (λ at. IsGoing c.args.self.now (g.A.Adlb.transcript c.put_job.new.link) c.put_job.new.desk (tasks_at at) None)
+      going = subst (λ at. IsGoing c.args.self.now (g.A.Adlb.link c.put_job.new.link).said c.put_job.new.desk (tasks_at at) None)
           (sym c.behind-at.ensures) put.going;
       whole = c.in_ok-put_job.ensures.whole;
       seat = c.in_ok-put_job.ensures.seat ∙ c.loop-job.invariant.seat;

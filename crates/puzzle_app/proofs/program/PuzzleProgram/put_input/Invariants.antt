@@ -7,9 +7,9 @@ abbrev pub invariant-loop-job : goal.invariant-loop-job
 invariant-loop-job g l = record {
   few : l.at.puzzle + l.at.batch ≤ 2 + l.job-index;
   none : l.desk.waiting.items ≡ [];
-  going : IsGoing l.self (g.A.Adlb.transcript l.link) l.desk
+  going : IsGoing l.self (g.A.Adlb.link l.link).said l.desk
       (tasks_from l.self.settings.budget l.at.puzzle l.at.batch (drop l.job-index l.jobs)) None;
-  whole : g.A.Adlb.failed l.link ≡ None;
-  seat : g.A.Adlb.seat l.link ≡ g.A.Adlb.seat l.fn.link;
-  batch : g.A.Adlb.batch l.link ≡ false;
+  whole : (g.A.Adlb.link l.link).failed ≡ None;
+  seat : (g.A.Adlb.link l.link).seat ≡ (g.A.Adlb.link l.fn.link).seat;
+  batch : (g.A.Adlb.link l.link).batch ≡ false;
 }

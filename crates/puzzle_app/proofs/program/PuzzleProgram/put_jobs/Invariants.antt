@@ -9,10 +9,10 @@ invariant-loop-item g l = record {
   numbered : l.number ≡ l.item-index + 1;
   none : l.desk.waiting.items ≡ [];
   going : (rest : List Task) (on : Option (List ℕ)) → bytes_on on ≡ l.common →
-      IsGoing l.self (g.A.Adlb.transcript l.fn.link) l.fn.desk (put_all (as_units (jobs_from l.batch 1 l.items)) ++ rest) on →
-      IsGoing l.self (g.A.Adlb.transcript l.link) l.desk
+      IsGoing l.self (g.A.Adlb.link l.fn.link).said l.fn.desk (put_all (as_units (jobs_from l.batch 1 l.items)) ++ rest) on →
+      IsGoing l.self (g.A.Adlb.link l.link).said l.desk
       (put_all (as_units (jobs_from l.batch l.number (drop l.item-index l.items))) ++ rest) on;
-  whole : g.A.Adlb.failed l.link ≡ None;
-  seat : g.A.Adlb.seat l.link ≡ g.A.Adlb.seat l.fn.link;
-  batch : g.A.Adlb.batch l.link ≡ g.A.Adlb.batch l.fn.link;
+  whole : (g.A.Adlb.link l.link).failed ≡ None;
+  seat : (g.A.Adlb.link l.link).seat ≡ (g.A.Adlb.link l.fn.link).seat;
+  batch : (g.A.Adlb.link l.link).batch ≡ (g.A.Adlb.link l.fn.link).batch;
 }

@@ -1,0 +1,7 @@
+pub mod Asking
+pub mod Ending
+pub mod Keeping
+pub mod Laws
+pub mod RunKept
+pub mod Running
+pub mod Stopping

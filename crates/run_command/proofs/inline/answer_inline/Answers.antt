@@ -1,0 +1,28 @@
+use Rattle.std.proofs.Common.{sym, subst}
+use Rattle.std.proofs.lemmas.Result.{IfOk-weaker}
+use Rattle.run_command.specs.Inside.{Stops}
+use Rattle.run_command.proofs.Stopping.{memory_stops, told_asked, trouble_stops}
+use Rattle.run_command.proofs.inline.answer_inline.Goals as goal
+
+pub returns-in-Err-run_in_line-clause-stopped : goal.returns-in-Err-run_in_line-clause-stopped
+returns-in-Err-run_in_line-clause-stopped g c = λ refused refused'.
+    subst
+    (λ f. Stops (g.C.Command.asks c.args.command.now) (g.C.Command.refuses c.args.command.now) (g.S.Source.left c.args.input.now)
+    (g.S.Source.left c.read_input.new.input) (g.S.Source.faults c.args.input.now) (g.S.Source.faults c.read_input.new.input) refused refused' f)
+    (sym c.by.ensures)
+    (trouble_stops (g.C.Command.asks c.args.command.now) (g.C.Command.refuses c.args.command.now) (g.S.Source.left c.args.input.now)
+    (g.S.Source.left c.read_input.new.input) (g.S.Source.faults c.args.input.now) (g.S.Source.faults c.read_input.new.input)
+    refused refused'
+    (told_asked (g.C.Command.asks c.args.command.now) (g.S.Source.left c.args.input.now) c.in-Ok.asked c.in-Ok.ensures.asked)
+    c.in-Err-run_in_line.trouble c.in-Err-run_in_line.ensures.faults)
+
+pub returns-clause-answered : goal.returns-clause-answered
+returns-clause-answered g c =
+    IfOk-weaker c.answer_of.result _ _
+    (λ a is. record { asked = c.in-Ok.asked; read = c.in-Ok.ensures.asked; kept = is.0; text = is.1 }) c.answer_of.ensures.answered
+
+pub returns-clause-stopped : goal.returns-clause-stopped
+returns-clause-stopped g c = λ refused refused'.
+    memory_stops (g.C.Command.asks c.args.command.now) (g.C.Command.refuses c.args.command.now) (g.S.Source.left c.args.input.now)
+    (g.S.Source.left c.read_input.new.input) (g.S.Source.faults c.args.input.now) (g.S.Source.faults c.read_input.new.input)
+    refused refused' c.answer_of.result c.answer_of.ensures.fault

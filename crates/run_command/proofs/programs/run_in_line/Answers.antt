@@ -1,0 +1,26 @@
+use Rattle.std.proofs.Common.{◌∙◌, refl, sym, subst}
+use Rattle.core_inline.proofs.Batches.{start_closed}
+use Rattle.run_command.proofs.Keeping.{finishes, first_at, numbers_of, reports_run}
+use Rattle.run_command.proofs.programs.run_in_line.Goals as goal
+
+pub work-outcome-requires-clause-closed : goal.work-outcome-requires-clause-closed
+work-outcome-requires-clause-closed g c = start_closed c.args.config.limit c.in-Ok-new.world.run c.in-Ok-new.ensures
+
+pub work-outcome-requires-clause-fits : goal.work-outcome-requires-clause-fits
+work-outcome-requires-clause-fits g c =
+    subst (λ n. g.C.Program.RankProgram.fits c.index.result.now n) (c.requires.one_rank ∙ sym c.in-Ok-new.ensures.one_rank)
+    (c.in-Ok.ensures.fits 0 c.index.result.now
+    (first_at c.in-Ok.programs.items c.index.result.now (c.in-Ok.ensures.all ∙ c.requires.one_rank) c.index.ensures))
+
+pub returns-clause-run : goal.returns-clause-run
+returns-clause-run g c =
+    reports_run (g.C.Command.are_programs c.args.command.now) g.C.Program.RankProgram.follows c.args.asked.now c.in-Ok.programs.items
+    c.index.result.now c.args.config c.finish_inline.new.self.run c.work-outcome.new.world.run.transcript c.in_ok-parts.parts.1.items
+    c.in_ok-parts.parts.0 c.in_ok-parts.parts.2.items c.requires.one_rank
+    (numbers_of c.args.config c.args.config.limit c.in-Ok-new.world.run c.work-outcome.new.world.run c.finish_inline.new.self.run
+    c.requires.one_rank c.requires.one_server refl c.in-Ok-new.ensures c.work-outcome.ensures.config c.finish_inline.ensures.config)
+    c.in-Ok.ensures.programs
+    (first_at c.in-Ok.programs.items c.index.result.now (c.in-Ok.ensures.all ∙ c.requires.one_rank) c.index.ensures)
+    (finishes c.work-outcome.new.world.run c.finish_inline.new.self.run c.in_ok-parts.parts.1.items c.finish_inline.ensures.says
+    c.in_ok-parts.ensures.whole c.in_ok-parts.ensures.transcript)
+    c.in_ok-parts.ensures.ended c.work-outcome.result c.report_of.result c.work-outcome.ensures.follows c.report_of.ensures.report

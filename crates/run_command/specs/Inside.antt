@@ -1,0 +1,118 @@
+-- For the crate itself. Why an input has no answer, what the world of a run in line was, and how the writing ended.
+use Rattle.std.specs.Prelude.{◌≡◌, ◌≤◌, ◌+◌, ◌^◌, ◌⊎◌, ◌==◌, ℕ, Bool, true, List, [], ◌∷◌, length, take}
+use Rattle.std.specs.Prelude.{Option, Some, None, Result, Ok, if◌then◌else◌}
+use Rattle.adlb_io.specs.Inputs.{HasMore, IsAtEnd}
+use Rattle.adlb_io.specs.Outside.{Rises, Takes}
+use Rattle.adlb_io.specs.Whole.{Reads}
+use Rattle.adlb_io.specs.declared.sinks.SinkFault.{SinkFault}
+use Rattle.adlb_io.specs.declared.sinks.SinkFault.TheVariants as sinks
+use Rattle.adlb_io.specs.declared.whole.Unwritten.{Unwritten}
+use Rattle.adlb_threads.specs.Reports.{Reported}
+use Rattle.adlb_threads.specs.declared.faults.RanFault.{RanFault}
+use Rattle.adlb_threads.specs.declared.faults.RanFault.TheVariants as runs
+use Rattle.adlb_unit.specs.declared.configs.Config.{Config}
+use Rattle.adlb_unit.specs.declared.notes.Trouble.{Trouble}
+use Rattle.adlb_unit.specs.declared.notes.Trouble.TheVariants as troubles
+use Rattle.bag_ledger.specs.declared.entries.Entry.{Entry}
+use Rattle.bag_ledger.specs.declared.entries.Said.{Said}
+use Rattle.core_inline.specs.Inline.{Run}
+use Rattle.server_core.specs.declared.states.LeftUnit.{LeftUnit}
+use Rattle.run_command.specs.Ends.{HasAsked, IsRefusedAt, input_limit}
+use Rattle.run_command.specs.declared.faults.Fault.{Fault}
+use Rattle.run_command.specs.declared.faults.Fault.TheVariants.{Input, Read, Write, NoThread, Memory, TooLong, TooLarge}
+
+-- Why there was no answer.
+
+-- why bytes ask nothing: a line is refused; or an allocation failed
+abbrev pub IsRefusal : {W : Type 0} → (ℕ → W → Type 0) → Fault W → Type 0
+IsRefusal refuses (Input line why) = refuses line why
+IsRefusal refuses Memory = Unit {0}
+IsRefusal refuses fault = ⊥
+
+-- why an input has no answer, with what its source has left, the counts of its faults and those of refused starts, before and after
+abbrev pub Stops : {A W : Type 0} → (List ℕ → A → Type 0) → (List ℕ → ℕ → W → Type 0) → Option (List ℕ) → Option (List ℕ) → ℕ → ℕ → ℕ → ℕ
+    → Fault W → Type 0
+Stops asks refuses left left' reads reads' refused refused' (Input line why) =
+    IsRefusedAt refuses left line why × IsAtEnd left' × (reads' ≡ reads)
+Stops asks refuses left left' reads reads' refused refused' Read = Rises reads reads'
+Stops asks refuses left left' reads reads' refused refused' Write = ⊥
+Stops asks refuses left left' reads reads' refused refused' NoThread = Rises refused refused' × HasAsked asks left
+Stops asks refuses left left' reads reads' refused refused' Memory = Unit {0}
+Stops asks refuses left left' reads reads' refused refused' (TooLong stamp) = (2 ^ 48 ≤ stamp) × HasAsked asks left
+Stops asks refuses left left' reads reads' refused refused' (TooLarge taken) =
+    (taken ≡ input_limit + 1) × HasMore input_limit left × ((read : List ℕ) × Reads left left' taken read) × (reads' ≡ reads)
+
+-- why a run in line had no report
+abbrev pub IsTroubleOf : Trouble → Type 0
+IsTroubleOf troubles.Memory = Unit {0}
+IsTroubleOf (troubles.TooLong stamp) = 2 ^ 48 ≤ stamp
+
+-- Which fault one of a run is.
+
+abbrev pub fault_by : {W : Type 0} → Trouble → Fault W
+fault_by troubles.Memory = Memory
+fault_by (troubles.TooLong stamp) = TooLong stamp
+
+abbrev pub fault_ran : {W : Type 0} → RanFault → Fault W
+fault_ran runs.NoThread = NoThread
+fault_ran runs.Memory = Memory
+fault_ran (runs.TooLong stamp) = TooLong stamp
+
+-- and one of the sink
+abbrev pub fault_of : {W : Type 0} → SinkFault → Fault W
+fault_of sinks.Failed = Write
+fault_of sinks.Memory = Memory
+
+-- What the world of a run in line was.
+
+-- the run has these numbers
+pub record HasNumbers (config : Config) (run : Run) : Type 0 where
+  pub ranks : run.config.ranks ≡ config.ranks
+  pub servers : run.config.servers ≡ config.servers
+  pub limit : run.config.limit ≡ config.limit
+
+-- the report of a run with one rank
+abbrev pub one_report : {O : Type 0} → Config → List Entry → List Said → List LeftUnit → O → Reported O
+one_report config ledger transcript left outcome = record {
+  config = config;
+  ledger = ledger;
+  transcripts = transcript ∷ [];
+  outcomes = outcome ∷ [];
+  left = left;
+}
+
+-- the report of such a run, whose rank had an outcome
+pub record IsReportOf {O : Type 0} (config : Config) (ledger : List Entry) (transcript : List Said) (left : List LeftUnit)
+    (outcome : Result O Trouble) (r : Reported O) : Type 0 where
+  pub found : O
+  pub is : outcome ≡ Ok found
+  pub report : r ≡ one_report config ledger transcript left found
+
+-- How the writing ended.
+
+-- the report is kept if a write failed, and if an allocation failed after the sink took a byte
+abbrev pub kept_of : {K : Type 0} → SinkFault → ℕ → K → Option K
+kept_of sinks.Failed taken kept = Some kept
+kept_of sinks.Memory taken kept = if taken == 0 then None else Some kept
+
+-- the whole text was written and flushed, and the report is kept
+pub record WritesAll {W K : Type 0} (kept : K) (text : List ℕ) (before after : Option (List ℕ)) (flushed : Bool)
+    (fault : Option (Fault W)) (keeps : Option K) : Type 0 where
+  pub fine : fault ≡ None
+  pub keeps_it : keeps ≡ Some kept
+  pub taken : Takes before after text
+  pub flush : flushed ≡ true
+
+-- `taken` bytes of its front were
+pub record WritesPart {W K : Type 0} (kept : K) (text : List ℕ) (before after : Option (List ℕ)) (faults faults' : ℕ)
+    (fault : Option (Fault W)) (keeps : Option K) : Type 0 where
+  pub unwritten : Unwritten
+  pub fails : fault ≡ Some (fault_of unwritten.fault)
+  pub keeps_it : keeps ≡ kept_of unwritten.fault unwritten.taken kept
+  pub part : unwritten.taken ≤ length text
+  pub taken : Takes before after (take unwritten.taken text)
+  pub cause : unwritten.fault ≡ sinks.Failed → Rises faults faults'
+
+abbrev pub Writes : {W K : Type 0} → K → List ℕ → Option (List ℕ) → Option (List ℕ) → ℕ → ℕ → Bool → Option (Fault W) → Option K → Type 0
+Writes kept text before after faults faults' flushed fault keeps =
+    WritesAll kept text before after flushed fault keeps ⊎ WritesPart kept text before after faults faults' fault keeps

@@ -1,0 +1,4 @@
+pub mod Ends
+pub mod Inside
+pub mod Kept
+pub mod Reading

@@ -1,0 +1,70 @@
+//! A command that runs a rank program over an input.
+
+ghost use Rattle.std.specs.Prelude.{◌≡◌, ◌≤◌, ◌<◌, ◌^◌, ℕ, List, Some, length, slice_get, IfOk, IfErr};
+ghost use Rattle.run_command.specs.Kept.{HasRun, IsWorkedUp, Kept};
+ghost use Rattle.run_command.specs.Reading.{RefusesBy};
+
+use crate::kept::Kept;
+use adlb_unit::NoMemory;
+use rank_client::RankProgram;
+use std::alloc::Global;
+
+/// Why bytes ask nothing.
+#[derive(Clone, Copy, Drop)]
+pub enum ReadFault<W> {
+    /// A line is refused: the first such line, from 1, and why.
+    Refused { line: u64, why: W },
+    /// Allocation failed. Contracts never say when: any call that allocates may answer it.
+    Memory,
+}
+
+/// What a command reads, runs and tells.
+pub trait Command {
+    /// What an input asks.
+    type Asked;
+    /// Why a line of the input is refused.
+    type Why;
+    /// What a rank does.
+    type Program: RankProgram;
+
+    // These bytes ask this; this line of them is refused, the first, for this reason.
+    ghost asks: { Self → List ℕ → Self.Asked → Type 0 };
+
+    ghost refuses: { Self → List ℕ → ℕ → Self.Why → Type 0 };
+
+    // The ranks of a run over what is asked, of which there are so many, have these programs.
+    ghost are_programs: { Self → ℕ → Self.Asked → List Self.Program → Type 0 };
+
+    // This is told of a run over what is asked, of which this is kept.
+    ghost tells: { Self → Self.Asked → Kept Self.Program.Outcome → List ℕ → Type 0 };
+
+    /// Reads what the bytes of an input of at most 2^24 bytes ask.
+    fn read(&self, alloc: Global, bytes: &[u8]) -> Result<Self::Asked, ReadFault<Self::Why>>
+        requires { length bytes.now ≤ 2 ^ 24 }
+        ensures asked { IfOk result (asks self.now bytes.now) }
+        ensures refused { IfErr result (RefusesBy (refuses self.now bytes.now)) };
+
+    /// The programs of the ranks, of which there are `ranks`, in their order. Its only error is `NoMemory`.
+    fn programs(
+        &self,
+        alloc: Global,
+        ranks: u32,
+        asked: &Self::Asked,
+    ) -> Result<Vec<Self::Program>, NoMemory>
+        requires { 0 < ranks }
+        ensures all { IfOk result (λ programs. length programs.items ≡ ranks) }
+        ensures fits { IfOk result (λ programs. (k : ℕ) (p : Self.Program) → slice_get programs.items k ≡ Some p →
+            Self.Program.fits p ranks) }
+        ensures programs { IfOk result (λ programs. are_programs self.now ranks asked.now programs.items) };
+
+    /// What is told of a run over what was asked. All its work is done. Its only error is `NoMemory`.
+    fn tell(
+        &self,
+        alloc: Global,
+        asked: &Self::Asked,
+        kept: &Kept<<Self::Program as RankProgram>::Outcome>,
+    ) -> Result<Vec<u8>, NoMemory>
+        requires run { HasRun (are_programs self.now) Self.Program.follows asked.now kept.now.report }
+        ensures told { IfOk result (λ text. tells self.now asked.now kept.now text.items) }
+        ensures worked_up { IfOk result (λ text. IsWorkedUp kept.now.report) };
+}

@@ -1,0 +1,52 @@
+-- What follows from how a run over puzzles and batches ended, where no read failed.
+use Rattle.std.proofs.Common.{◌≡◌, ◌⊎◌, ◌<◌, ◌≤◌, ◌+◌, ℕ, List, length, Option, Some, None, sym, ap, ◌∙◌}
+use Rattle.adlb_io.specs.Outside.{Rises}
+use Rattle.job_report.specs.declared.outcomes.Outcome.{Outcome}
+use Rattle.job_text.specs.declared.faults.LineWhy.{LineWhy}
+use Rattle.job_text.specs.Jobs.{input_refused}
+use Rattle.puzzle_app.specs.declared.outcomes.Settings.{Settings}
+use Rattle.run_command.specs.Ends.{IsFine, Scene, input_limit}
+use Rattle.run_command.specs.Kept.{IsKept, Kept}
+use Rattle.run_command.specs.declared.faults.Fault.{Fault}
+use Rattle.run_command.specs.declared.faults.Fault.TheVariants.{Input, Memory, TooLarge}
+use Rattle.run_command.proofs.Laws as ends
+use Rattle.solve_command.specs.Ends.{EndsWith}
+use Rattle.solve_command.specs.Puzzles.{AreJobs, ArePrograms, FollowsPuzzles, RefusesLine}
+use Rattle.solve_command.specs.Told.{IsTold}
+use Rattle.solve_command.specs.declared.wanted.Wanted.{Wanted}
+
+-- something is not nothing
+not_both : {X : Type 0} (o : Option X) (x : X) → o ≡ Some x → o ≡ None → ⊥
+not_both None x some none = absurd (cc)
+not_both (Some y) x some none = absurd (cc)
+
+-- the fault of a refused line
+abbrev fault_with : Option (ℕ × LineWhy) → Option (Fault LineWhy)
+fault_with None = None
+fault_with (Some x) = Some (Input x.0 x.1)
+
+module _ (settings : Settings) (wanted : Wanted) (before after : Scene) (fault : Option (Fault LineWhy)) (kept : Option (Kept Outcome))
+    (bytes : List ℕ) (ended : EndsWith settings wanted before after fault kept) (told : before.left ≡ Some bytes)
+    (no_read : Rises before.reads after.reads → ⊥)
+  where
+    -- an accepted input is answered
+    pub accepted_fine : length bytes ≤ input_limit → input_refused bytes ≡ None → (Rises before.writes after.writes → ⊥) →
+        (Rises before.refused after.refused → ⊥) → IsFine fault
+    accepted_fine short fine no_write no_refusal =
+        ends.asked_fine AreJobs RefusesLine (IsKept (λ ranks. ArePrograms settings) FollowsPuzzles)
+        (λ jobs k told. IsTold settings wanted jobs k.report told) before after kept bytes told no_read
+        (λ line why is. not_both (input_refused bytes) (line, why) is fine) short no_write no_refusal fault ended
+
+    -- a refused one is refused at its line
+    pub refused_at_line : (line : ℕ) (why : LineWhy) → length bytes ≤ input_limit → input_refused bytes ≡ Some (line, why) →
+        (fault ≡ Some (Input line why)) ⊎ (fault ≡ Some Memory)
+    refused_at_line line why short is =
+        ends.refused_there AreJobs RefusesLine (IsKept (λ ranks. ArePrograms settings) FollowsPuzzles)
+        (λ jobs k told. IsTold settings wanted jobs k.report told) before after kept bytes told no_read
+        (λ jobs are. not_both (input_refused bytes) (line, why) is are.0) short line why (λ l w at. ap fault_with (sym at ∙ is)) fault ended
+
+    -- one that is too long is told as such
+    pub overlong_told : input_limit < length bytes → (fault ≡ Some (TooLarge (input_limit + 1))) ⊎ (fault ≡ Some Memory)
+    overlong_told long =
+        ends.overlong_told AreJobs RefusesLine (IsKept (λ ranks. ArePrograms settings) FollowsPuzzles)
+        (λ jobs k told. IsTold settings wanted jobs k.report told) before after kept bytes told no_read long fault ended

@@ -1,0 +1,5 @@
+pub mod Drilled
+pub mod Ended
+pub mod Joining
+pub mod Programs
+pub mod Starting

@@ -1,0 +1,4 @@
+pub mod Ends
+pub mod Puzzles
+pub mod Told
+pub mod Words

@@ -1,0 +1,34 @@
+-- What is told of a run over puzzles and batches.
+use Rattle.std.specs.Prelude.{◌≡◌, ◌++◌, ℕ, Bool, List, [], length, if◌then◌else◌, codes, decimal}
+use Rattle.adlb_threads.specs.Reports.{Reported}
+use Rattle.job_report.specs.Report.{IsReport}
+use Rattle.job_report.specs.Summary.{summary}
+use Rattle.job_report.specs.declared.outcomes.Outcome.{Outcome}
+use Rattle.job_text.specs.declared.jobs.Job.{Job}
+use Rattle.ledger_file.specs.Lines.{text}
+use Rattle.ledger_stats.specs.Stats.{stats_text}
+use Rattle.puzzle_app.specs.declared.outcomes.Settings.{Settings}
+use Rattle.solve_command.specs.declared.extras.Extras.{Extras}
+use Rattle.solve_command.specs.declared.wanted.Wanted.{Wanted}
+use Rattle.solve_command.specs.declared.wanted.Wanted.TheVariants.{Report, Summary}
+
+-- the counts of the kept ledger, and its text, if they are asked for
+abbrev pub stats_behind : Bool → Reported Outcome → List ℕ
+stats_behind asked r = if asked then stats_text r.ledger (length r.left) else []
+
+abbrev pub ledger_behind : Bool → Reported Outcome → List ℕ
+ledger_behind asked r = if asked then text r.config r.ledger else []
+
+-- what follows the report
+abbrev pub behind : Extras → Reported Outcome → List ℕ
+behind extras r = stats_behind extras.stats r ++ ledger_behind extras.ledger r
+
+-- the first line of a summary: what was drilled
+abbrev pub drill_line : ℕ → ℕ → List ℕ
+drill_line count seed = codes "drill " ++ decimal count ++ codes " " ++ decimal seed ++ codes "\n"
+
+-- the text is what is wanted of the jobs: their report, and behind it what the words ask for; or the summary of a drill
+abbrev pub IsTold : Settings → Wanted → List Job → Reported Outcome → List ℕ → Type 0
+IsTold settings (Report extras) jobs r told =
+    (report : List ℕ) × IsReport settings.budget settings.grain jobs report × (told ≡ report ++ behind extras r)
+IsTold settings (Summary count seed) jobs r told = told ≡ drill_line count seed ++ summary settings.budget settings.grain jobs

@@ -1,0 +1,20 @@
+-- What the words say of a run over puzzles and batches.
+use Rattle.std.specs.Prelude.{◌≡◌, if◌then◌else◌}
+use Rattle.adlb_unit.specs.declared.configs.Config.{Config}
+use Rattle.command_words.specs.declared.commands.RunOptions.{RunOptions}
+use Rattle.command_words.specs.declared.commands.SolveWords.{SolveWords}
+use Rattle.puzzle_app.specs.declared.outcomes.Settings.{Settings}
+use Rattle.solve_command.specs.declared.extras.Extras.{Extras}
+
+-- the settings of the puzzles, and what follows the report
+abbrev pub settings_of : RunOptions → Settings
+settings_of options = record { budget = options.budget; grain = options.grain }
+
+abbrev pub extras_of : SolveWords → Extras
+extras_of words = record { stats = words.stats; ledger = words.ledger }
+
+-- the numbers of the run: ranks, servers and their limit as the options say, but one rank and one server in line
+pub record IsConfigOf (options : RunOptions) (config : Config) : Type 0 where
+  pub ranks : config.ranks ≡ (if options.inline then 1 else options.ranks)
+  pub servers : config.servers ≡ (if options.inline then 1 else options.servers)
+  pub limit : config.limit ≡ options.limit

@@ -1,0 +1,22 @@
+//! The commands `solve` and `drill`: puzzles and batches of items that are read from an input, or made, and worked.
+//!
+//! `Puzzles` is a command of `run_command`: it asks for the jobs of an input (`job_text`), which the programs of `puzzle_app` work, and
+//! tells their report or a summary (`job_report`). `solve` runs it over an input, and `drill` over a made text. `specs/Ends.antt` says how
+//! the two end, `specs/Puzzles.antt` what is asked and run, `specs/Told.antt` what is told, and `specs/Words.antt` what the words say of it.
+#![tactic(auto)]
+
+mod drilling;
+mod extras;
+mod laws;
+mod puzzles;
+mod solving;
+mod telling;
+mod wanted;
+mod words;
+
+pub use drilling::drill;
+pub use extras::Extras;
+pub use laws::puzzle_laws;
+pub use puzzles::{PuzzleJobs, Puzzles};
+pub use solving::solve;
+pub use wanted::Wanted;

@@ -1,0 +1,113 @@
+//! Runs over puzzles and batches, as a command.
+
+ghost use Rattle.std.specs.Prelude.{◌≡◌, ◌≤◌, ◌<◌, ◌^◌, IfOk, IfErr, length};
+ghost use Rattle.run_command.specs.Reading.{RefusesBy};
+ghost use Rattle.solve_command.specs.Puzzles.{AreJobs, ArePrograms, RefusesLine};
+ghost use Rattle.solve_command.specs.Told.{IsTold};
+
+use crate::telling::tell_run;
+use crate::wanted::Wanted;
+use adlb_unit::{NoMemory, or_no_memory};
+use job_report::Outcome;
+use job_text::{Jobs, JobsFault, LineWhy, read_jobs};
+use puzzle_app::{PuzzleProgram, Settings};
+use run_command::{Command, Kept, ReadFault};
+use std::alloc::Global;
+use std::marker::Model;
+
+/// The jobs of an input, of which each puzzle is a grid. They are seen as their list.
+#[derive(Drop)]
+pub struct PuzzleJobs {
+    jobs: Jobs,
+}
+
+impl Model for PuzzleJobs {
+    ghost use Rattle.std.specs.Prelude.{List, All};
+    ghost use Rattle.job_text.specs.declared.jobs.Job.{Job};
+    ghost use Rattle.job_text.specs.Jobs.{HasGrid};
+
+    ghost Value = { List Job };
+
+    ghost view = { λ asked. asked.jobs };
+
+    ghost invariant = { λ asked. All HasGrid asked.jobs };
+}
+
+impl PuzzleJobs {
+    ghost use Rattle.std.specs.Prelude.{All};
+    ghost use Rattle.job_text.specs.Jobs.{HasGrid};
+
+    /// The jobs.
+    pub fn jobs(&self) -> &Jobs
+        ensures jobs { result.now ≡ self.now }
+        ensures grids { All HasGrid self.now }
+    {
+        &self.jobs
+    }
+}
+
+/// A run over the puzzles and batches of an input: its settings, and what is wanted of it.
+#[derive(Clone, Copy)]
+pub struct Puzzles {
+    pub settings: Settings,
+    pub wanted: Wanted,
+}
+
+impl Command for Puzzles {
+    type Asked = PuzzleJobs;
+    type Why = LineWhy;
+    type Program = PuzzleProgram;
+
+    ghost asks = { λ puzzles bytes jobs. AreJobs bytes jobs };
+
+    ghost refuses = { λ puzzles bytes line why. RefusesLine bytes line why };
+
+    ghost are_programs = { λ puzzles ranks jobs programs. ArePrograms puzzles.settings jobs programs };
+
+    ghost tells = { λ puzzles jobs kept told. IsTold puzzles.settings puzzles.wanted jobs kept.report told };
+
+    fn read(&self, alloc: Global, bytes: &[u8]) -> Result<PuzzleJobs, ReadFault<LineWhy>> {
+        read_puzzles(alloc, bytes)
+    }
+
+    fn programs(&self, alloc: Global, ranks: u32, asked: &PuzzleJobs) -> Result<Vec<PuzzleProgram>, NoMemory> {
+        programs_of(alloc, self.settings, ranks, asked)
+    }
+
+    fn tell(&self, alloc: Global, asked: &PuzzleJobs, kept: &Kept<Outcome>) -> Result<Vec<u8>, NoMemory> {
+        tell_run(alloc, self.settings, self.wanted, asked, kept)
+    }
+}
+
+// The jobs of an input of these bytes.
+fn read_puzzles(alloc: Global, bytes: &[u8]) -> Result<PuzzleJobs, ReadFault<LineWhy>>
+    requires { length bytes.now ≤ 2 ^ 24 }
+    ensures asked { IfOk result (AreJobs bytes.now) }
+    ensures refused { IfErr result (RefusesBy (RefusesLine bytes.now)) }
+{
+    match read_jobs(alloc, bytes) {
+        Ok(jobs) => Ok(PuzzleJobs { jobs }),
+        Err(JobsFault::Refused { line, why }) => Err(ReadFault::Refused { line, why }),
+        Err(JobsFault::Memory) => Err(ReadFault::Memory),
+    }
+}
+
+// The programs of the ranks: the first has the jobs. Its only error is `NoMemory`.
+fn programs_of(
+    alloc: Global,
+    settings: Settings,
+    ranks: u32,
+    asked: &PuzzleJobs,
+) -> Result<Vec<PuzzleProgram>, NoMemory>
+    requires some { 0 < ranks }
+    ensures all { IfOk result (λ programs. length programs.items ≡ ranks) }
+    ensures programs { IfOk result (λ programs. ArePrograms settings asked.now programs.items) }
+{
+    let jobs = asked.jobs().twin()?;
+    let mut programs = or_no_memory(Vec::with_capacity(alloc, ranks as usize))?;
+    programs.push_reserved(PuzzleProgram::new(alloc, settings, Some(jobs)));
+    for _rank in 1..ranks {
+        programs.push_reserved(PuzzleProgram::new(alloc, settings, None));
+    }
+    Ok(programs)
+}

@@ -1,0 +1,94 @@
+//! What is wanted of a run: its report, or a summary.
+
+ghost use Rattle.std.specs.Prelude.{◌≡◌, ◌++◌, ◌<◌, ◌^◌, ℕ, IfOk, OnOk};
+ghost use Rattle.job_report.specs.Whole.{AreWhole, made_in};
+ghost use Rattle.solve_command.specs.Told.{IsTold, drill_line};
+
+use crate::extras::{Extras, append_extras};
+use adlb_threads::Report;
+use adlb_unit::{NoMemory, or_no_memory};
+use itoa::Buffer;
+use job_report::{Outcome, render, summarize};
+use job_text::Jobs;
+use puzzle_app::Settings;
+use std::alloc::Global;
+
+/// What is written of a run.
+#[derive(Clone, Copy)]
+pub enum Wanted {
+    /// The report of its jobs, and these behind it.
+    Report(Extras),
+    /// The summary of a drill of `count` puzzles from `seed`.
+    Summary { count: u32, seed: u64 },
+}
+
+/// The text that is wanted of a run over these jobs (`IsTold`). Its only error is `NoMemory`.
+pub fn text_of(
+    alloc: Global,
+    wanted: Wanted,
+    jobs: &Jobs,
+    report: &Report<Outcome>,
+) -> Result<Vec<u8>, NoMemory>
+    requires room { (k : ℕ) → made_in k report.now.outcomes < 2 ^ 128 }
+    ensures { (settings : Settings) → AreWhole settings.budget settings.grain jobs.now report.now.outcomes →
+        IfOk result (λ text. IsTold settings wanted jobs.now report.now text.items) }
+{
+    match wanted {
+        Wanted::Report(extras) => report_of(alloc, extras, jobs, report),
+        Wanted::Summary { count, seed } => summary_of(alloc, count, seed, jobs, report),
+    }
+}
+
+// The report, and behind it what is asked for. Its only error is `NoMemory`.
+fn report_of(
+    alloc: Global,
+    extras: Extras,
+    jobs: &Jobs,
+    report: &Report<Outcome>,
+) -> Result<Vec<u8>, NoMemory>
+    requires room { (k : ℕ) → made_in k report.now.outcomes < 2 ^ 128 }
+    ensures { (settings : Settings) → AreWhole settings.budget settings.grain jobs.now report.now.outcomes →
+        IfOk result (λ text. IsTold settings (Wanted.Report extras) jobs.now report.now text.items) }
+{
+    let mut text = render(alloc, jobs, &report.outcomes)?;
+    append_extras(alloc, &mut text, extras, report)?;
+    Ok(text)
+}
+
+// The summary of a drill. Its only error is `NoMemory`.
+fn summary_of(
+    alloc: Global,
+    count: u32,
+    seed: u64,
+    jobs: &Jobs,
+    report: &Report<Outcome>,
+) -> Result<Vec<u8>, NoMemory>
+    requires room { (k : ℕ) → made_in k report.now.outcomes < 2 ^ 128 }
+    ensures { (settings : Settings) → AreWhole settings.budget settings.grain jobs.now report.now.outcomes →
+        IfOk result (λ text. IsTold settings (Wanted.Summary count seed) jobs.now report.now text.items) }
+{
+    let summary = summarize(alloc, jobs, &report.outcomes)?;
+    let mut text = line_of_drill(alloc, count, seed)?;
+    or_no_memory(text.extend_from_slice(&summary))?;
+    Ok(text)
+}
+
+// The first line of the summary. Its only error is `NoMemory`.
+fn line_of_drill(alloc: Global, count: u32, seed: u64) -> Result<Vec<u8>, NoMemory>
+    ensures { IfOk result (λ line. line.items ≡ drill_line count seed) }
+{
+    let mut line = Vec::new(alloc);
+    append(&mut line, b"drill ")?;
+    append(&mut line, Buffer::new().format(count).as_bytes())?;
+    append(&mut line, b" ")?;
+    append(&mut line, Buffer::new().format(seed).as_bytes())?;
+    append(&mut line, b"\n")?;
+    Ok(line)
+}
+
+// Appends the piece. Its only error is `NoMemory`.
+fn append(line: &mut Vec<u8>, piece: &[u8]) -> Result<(), NoMemory>
+    ensures { OnOk result (line.new.items ≡ line.old.items ++ piece.now) }
+{
+    or_no_memory(line.extend_from_slice(piece))
+}

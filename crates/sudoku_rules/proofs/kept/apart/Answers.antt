@@ -1,0 +1,31 @@
+use Rattle.std.proofs.Common.{◌≡◌, ◌<◌, ◌≤◌, ◌+◌, ◌%◌, ◌/◌, [], ◌∷◌, ◌++◌, append_assoc, append-nil, arith, ap, drop, get_or, length, set, sym, take, ◌∙◌}
+use Rattle.std.proofs.lemmas.List.{length-set}
+use Rattle.sudoku_rules.specs.Inside.Packed.{halves}
+use Rattle.sudoku_rules.proofs.Packed.{halves_next, halves_none, two_more}
+use Rattle.sudoku_rules.proofs.kept.apart.Goals as goal
+
+pub loop-byte-preserved : goal.loop-byte-preserved
+loop-byte-preserved c =
+    let v = c.loop-byte.invariant in
+    let k = c.loop-byte.byte-index in
+    let at = c.loop-byte.at in
+    let b = get_or c.args.bytes.now k 0 in
+    let rest = halves (drop (k + 1) c.args.bytes.now) in
+    let room : at + 1 < length c.loop-byte.cells = omega (arith, v.long, v.place, c.requires, c.loop-byte-test.true) in
+    record {
+      long = length-set (set c.loop-byte.cells at (b % 16)) (at + 1) (b / 16) ∙ length-set c.loop-byte.cells at (b % 16) ∙ v.long;
+      place = omega (arith, v.place);
+      written = ap (λ l. l ++ rest) (two_more c.loop-byte.cells at (b % 16) (b / 16) room)
+          ∙ append_assoc (take at c.loop-byte.cells) (b % 16 ∷ b / 16 ∷ []) rest
+          ∙ ap (λ l. take at c.loop-byte.cells ++ l) (sym (halves_next c.args.bytes.now k c.loop-byte-test.true)) ∙ v.written;
+    }
+
+pub returns-clause-halves : goal.returns-clause-halves
+returns-clause-halves c =
+    let v = c.loop-byte.invariant in
+    let k = c.loop-byte.byte-index in
+    let bytes = c.args.bytes.now in
+    let over : length bytes ≤ k = omega (arith, c.loop-byte-test.false) in
+    let all : length bytes + length bytes ≡ c.loop-byte.at = omega (arith, v.place, over, c.loop-byte.auto.byte-index-end) in
+    ap (λ n. take n c.loop-byte.cells) all ∙ sym (append-nil (take c.loop-byte.at c.loop-byte.cells))
+    ∙ ap (λ l. take c.loop-byte.at c.loop-byte.cells ++ l) (sym (halves_none bytes k over)) ∙ v.written

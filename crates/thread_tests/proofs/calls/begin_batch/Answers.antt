@@ -1,8 +1,0 @@
-use Rattle.std.proofs.Common.{refl}
-use Rattle.thread_tests.proofs.Transcripts.{still_running}
-use Rattle.thread_tests.proofs.calls.begin_batch.Goals as goal
-
-pub returns-in-Ok : goal.returns-in-Ok
-returns-in-Ok g c =
-    still_running (g.A.Adlb.transcript c.args.link.now) (g.A.Adlb.transcript c.begin_batch.new.self) _ _ c.begin_batch.ensures.says c.requires
-    refl
