@@ -87,7 +87,7 @@ impl World {
         for event in events {
             match self.apply(event) {
                 Ok(told) => {
-                    let_go(told);
+                    drop(told);
                     applied += 1;
                 }
                 Err(fault) => return Err((applied, fault)),
@@ -96,6 +96,3 @@ impl World {
         Ok(applied)
     }
 }
-
-// Lets go of an answer that nobody asks for.
-fn let_go(_told: Option<Answer>) {}

@@ -61,9 +61,6 @@ fn sizes_of(line: &[u8]) -> Result<(u32, u32, u64), LineFault>
     words.last(sizes)
 }
 
-/// The most entries whose lines can still be numbered; memory ends long before.
-const MOST: u64 = u64::MAX - 3;
-
 // The entries of the lines behind the first, up to the last line, with which the bytes end.
 fn entries_of(alloc: Global, bytes: &[u8]) -> Result<Ledger, LedgerFault>
     ensures read { IfOk result (IsRest bytes.now) }
@@ -73,9 +70,6 @@ fn entries_of(alloc: Global, bytes: &[u8]) -> Result<Ledger, LedgerFault>
     let mut rest = bytes;
     'lines: loop {
         let count = ledger.len();
-        if count > MOST {
-            return Err(LedgerFault::Memory);
-        }
         let (line, after) = match next_line(alloc, rest, count) {
             Ok(next) => next,
             Err(LineFault::Bad) => return Err(LedgerFault::Refused { line: count + 2 }),

@@ -1,6 +1,6 @@
 //! The ledger of a run.
 
-ghost use Rattle.std.specs.Prelude.{◌≡◌, ◌++◌, ◌∷◌, [], length, IfOk, OnOk, OnErr, MatchOption};
+ghost use Rattle.std.specs.Prelude.{◌≡◌, ◌++◌, ◌∷◌, ◌^◌, ◌<◌, [], length, IfOk, OnOk, OnErr, MatchOption};
 
 use crate::codes::{push_entry, read_entry};
 use crate::rooms::size_of;
@@ -57,9 +57,10 @@ impl Ledger {
         Ok(())
     }
 
-    /// How many entries there are.
+    /// How many entries there are. Each takes a byte at least, so there are fewer than 2^63.
     pub fn len(&self) -> u64
-        ensures { result ≡ length self.now }
+        ensures exact { result ≡ length self.now }
+        ensures few { result < 2 ^ 63 }
     {
         self.count
     }

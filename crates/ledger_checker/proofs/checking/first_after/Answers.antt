@@ -19,7 +19,7 @@ unreachable-requires c =
     let none = rw c.in_default.is at c.in_ok-entry.ensures.next in
     let long = ap length none.0 in
     let read = c.loop-place.invariant.read in
-    let len = c.len-place-end.ensures in
+    let len = c.len-place-end.ensures.exact in
     let within = c.loop-place-test.true in omega (arith, long, read, len, within)
 
 pub loop-place-preserved : goal.loop-place-preserved
@@ -38,7 +38,7 @@ loop-place-preserved c =
 pub returns : goal.returns
 returns c =
     let read = c.loop-place.invariant.read in
-    let len = c.len-place-end.ensures in
+    let len = c.len-place-end.ensures.exact in
     let over = c.loop-place-test.false in
     let none : c.loop-place.entries ≡ [] = nil_from_length c.loop-place.entries (omega (arith, read, len, over)) in
     sym (ap (first_illegal c.loop-place.machine c.loop-place.place) none) ∙ c.loop-place.invariant.same

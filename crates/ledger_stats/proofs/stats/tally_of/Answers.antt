@@ -18,14 +18,14 @@ unreachable-requires c =
     let none = rw c.in_default.is at c.in_ok-entry.ensures.next in
     let long = ap length none.0 in
     let read = c.loop.invariant.read in
-    let len = c.len-end.ensures in
+    let len = c.len-end.ensures.exact in
     let within = c.loop-test.true in omega (arith, long, read, len, within)
 
 pub add-requires : goal.add-requires
 add-requires c = λ s.
     let next = rw c.in-Some.is at c.in_ok-entry.ensures.next in
     let few = counted_few (counts s) (told c.loop.tally s) c.in-Some.entry c.loop.entries c.next.new.self c.args.ledger.now next (c.loop.invariant.counted s) in
-    let len = c.len-end.ensures in omega (arith, few, len)
+    let len = c.len-end.ensures.exact in omega (arith, few, len)
 
 pub loop-preserved : goal.loop-preserved
 loop-preserved c =
@@ -41,7 +41,7 @@ loop-preserved c =
 pub returns : goal.returns
 returns c = λ s.
     let read = c.loop.invariant.read in
-    let len = c.len-end.ensures in
+    let len = c.len-end.ensures.exact in
     let over = c.loop-test.false in
     let none : c.loop.entries ≡ [] = nil_from_length c.loop.entries (omega (arith, read, len, over)) in
     let counted = c.loop.invariant.counted s in

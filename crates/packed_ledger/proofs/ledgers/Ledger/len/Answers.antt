@@ -1,0 +1,11 @@
+use Rattle.std.proofs.Common.{length, ap, arith}
+use Rattle.packed_ledger.specs.Inside.Codes.{IsKept, entry_before}
+use Rattle.packed_ledger.proofs.EntryBytes.{codes_long, entry_long, entry_with_more}
+use Rattle.packed_ledger.proofs.ledgers.Ledger.len.Goals as goal
+
+pub returns-clause-few : goal.returns-clause-few
+returns-clause-few c =
+    let inside = c.self.inside in
+    let holds = c.self.invariant.0 in
+    let long = codes_long entry_before IsKept entry_with_more entry_long inside.of.items in
+    omega (arith, long, ap length holds.coded, c.self.invariant.1, inside.bytes.ok.0, inside.bytes.ok.1, inside.bytes.small)
