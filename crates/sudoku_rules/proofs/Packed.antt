@@ -1,12 +1,9 @@
 -- Cells that are kept two in a byte.
-use Rattle.std.proofs.Common.{◌≡◌, ◌<◌, ◌≤◌, ℕ, Bool, zero, suc, ◌+◌, ◌*◌, ◌/◌, ◌%◌, ◌==◌, false, List, [], ◌∷◌, ◌++◌, All, append_assoc, drop, length, take, get_or, set, if◌then◌else◌, refl, sym, ap, ◌∙◌, subst, inl, inr, arith}
-use Rattle.std.proofs.lemmas.Bool.{cases_eq, cond-false, ne_eqb}
-use Rattle.std.proofs.lemmas.List.{at_drop_all, at_drop_more, get_or_default, length-set, length-take-le, take-take}
+use Rattle.std.proofs.Common.{◌≡◌, ◌<◌, ◌≤◌, ℕ, zero, suc, ◌+◌, ◌*◌, ◌/◌, ◌%◌, List, [], ◌∷◌, ◌++◌, All, append_assoc, append-nil, drop, length, take, get_or, set, refl, sym, ap, ◌∙◌, arith}
+use Rattle.std.proofs.lemmas.List.{at_drop_all, at_drop_more, get_or_default, length-set}
 use Rattle.std.proofs.lemmas.Grind.{take-set_at}
-use Rattle.sudoku_law.specs.Grid.{Cells, side}
-use Rattle.sudoku_rules.specs.Sides.{IsSudoku}
-use Rattle.sudoku_rules.specs.Inside.Packed.{count_in, halves, kept_cells, pairs}
-use Rattle.sudoku_rules.proofs.Sides.{as_grid, sudoku_few, sudoku_size}
+use Rattle.sudoku_law.specs.Grid.{Cells, IsGrid}
+use Rattle.sudoku_rules.specs.Inside.Packed.{halves, pairs}
 
 -- the halves of a byte of two cells
 lower : (x y : ℕ) → x < 16 → (x + 16 * y) % 16 ≡ x
@@ -15,51 +12,66 @@ lower x y small = omega (arith, small)
 upper : (x y : ℕ) → x < 16 → (x + 16 * y) / 16 ≡ y
 upper x y small = omega (arith, small)
 
+-- the cell that is left over
+unfoldable pub odd : Cells → Cells
+odd [] = []
+odd (x ∷ []) = x ∷ []
+odd (x ∷ y ∷ rest) = odd rest
+
 -- cells are taken out of their bytes as they were
-pub pairs_back : (xs : Cells) → All (λ x. x < 16) xs → take (length xs) (halves (pairs xs)) ≡ xs
-unfolding pairs halves
+pub pairs_back : (xs : Cells) → All (λ x. x < 16) xs → halves (pairs xs) ++ odd xs ≡ xs
+unfolding pairs halves odd
 pairs_back [] small = refl
-pairs_back (x ∷ []) small =
-    let one : x % 16 ≡ x = omega (arith, small 0 0 (omega arith)) in λ i. one i ∷ []
+pairs_back (x ∷ []) small = refl
 pairs_back (x ∷ y ∷ rest) small =
     let first : (x + 16 * y) % 16 ≡ x = lower x y (small 0 0 (omega arith)) in
     let second : (x + 16 * y) / 16 ≡ y = upper x y (small 0 0 (omega arith)) in
-    let others : take (length rest) (halves (pairs rest)) ≡ rest = pairs_back rest (λ k d within. small (suc (suc k)) d (omega (arith, within))) in
+    let others : halves (pairs rest) ++ odd rest ≡ rest = pairs_back rest (λ k d within. small (suc (suc k)) d (omega (arith, within))) in
     λ i. first i ∷ second i ∷ others i
 
+-- no cell is left over of an even number of them
+pub odd_none : (n : ℕ) (xs : Cells) → length xs ≡ n + n → odd xs ≡ []
+unfolding odd
+odd_none n [] long = refl
+odd_none n (x ∷ []) long = absurd (omega (arith, long))
+odd_none zero (x ∷ y ∷ rest) long = absurd (omega (arith, long))
+odd_none (suc n) (x ∷ y ∷ rest) long = odd_none n rest (omega (arith, long))
+
+-- the last cell is left over of an odd number
+pub odd_last : (n : ℕ) (xs : Cells) → length xs ≡ n + n + 1 → odd xs ≡ get_or xs (n + n) 0 ∷ []
+unfolding odd
+odd_last n [] long = absurd (omega (arith, long))
+odd_last zero (x ∷ []) long = refl
+odd_last (suc n) (x ∷ []) long = absurd (omega (arith, long))
+odd_last zero (x ∷ y ∷ rest) long = absurd (omega (arith, long))
+odd_last (suc n) (x ∷ y ∷ rest) long =
+    let same : suc (suc (n + n)) ≡ suc n + suc n = omega arith in
+    odd_last n rest (omega (arith, long)) ∙ ap (λ k. get_or (x ∷ y ∷ rest) k 0 ∷ []) same
+
 -- half as many bytes as cells
-pub pairs_long : (xs : Cells) → (length xs ≤ 2 * length (pairs xs)) × (2 * length (pairs xs) ≤ length xs + 1)
+pub pairs_long : (n : ℕ) (xs : Cells) → n + n ≤ length xs → length xs ≤ n + n + 1 → length (pairs xs) ≡ n
 unfolding pairs
-pairs_long [] = (omega arith, omega arith)
-pairs_long (x ∷ []) = (omega arith, omega arith)
-pairs_long (x ∷ y ∷ rest) = let more = pairs_long rest in (omega (arith, more.0), omega (arith, more.1))
+pairs_long zero [] least most = refl
+pairs_long (suc n) [] least most = absurd (omega (arith, least))
+pairs_long zero (x ∷ []) least most = refl
+pairs_long (suc n) (x ∷ []) least most = absurd (omega (arith, least))
+pairs_long zero (x ∷ y ∷ rest) least most = absurd (omega (arith, most))
+pairs_long (suc n) (x ∷ y ∷ rest) least most = let more = pairs_long n rest (omega (arith, least)) (omega (arith, most)) in omega (arith, more)
 
 -- a grid of side 4 or 9 has small cells
-pub small_cells : (g : Cells) → IsSudoku g → (length g ≡ 256 → ⊥) → All (λ x. x < 16) g
-small_cells g is narrow = elim (sudoku_size g is) [
-  | inl e ↦
-      λ k d within. omega (arith, (as_grid 2 (omega arith) (omega arith) g is e).digits k within, get_or_default g k d 0 within)
-  | inr (inl e) ↦
-      λ k d within. omega (arith, (as_grid 3 (omega arith) (omega arith) g is e).digits k within, get_or_default g k d 0 within)
-  | inr (inr e) ↦ absurd (narrow e)
-]
+pub small_four : (g : Cells) → IsGrid 2 g → All (λ x. x < 16) g
+small_four g is = λ k d within. omega (arith, is.digits k within, get_or_default g k d 0 within)
+
+pub small_nine : (g : Cells) → IsGrid 3 g → All (λ x. x < 16) g
+small_nine g is = λ k d within. omega (arith, is.digits k within, get_or_default g k d 0 within)
 
 -- and is kept so
-pub kept_narrow : (g : Cells) → IsSudoku g → (length g ≡ 256 → ⊥) → kept_cells (pairs g) ≡ g
-kept_narrow g is narrow =
-    let long = pairs_long g in
-    let back = pairs_back g (small_cells g is narrow) in
-    elim (sudoku_size g is) [
-      | inl e ↦
-          let n : length (pairs g) ≡ 8 = omega (arith, long.0, long.1, e) in
-          ap (λ k. if k == 256 then pairs g else take (count_in k) (halves (pairs g))) n
-          ∙ ap (λ k. take k (halves (pairs g))) (sym e) ∙ back
-      | inr (inl e) ↦
-          let n : length (pairs g) ≡ 41 = omega (arith, long.0, long.1, e) in
-          ap (λ k. if k == 256 then pairs g else take (count_in k) (halves (pairs g))) n
-          ∙ ap (λ k. take k (halves (pairs g))) (sym e) ∙ back
-      | inr (inr e) ↦ absurd (narrow e)
-    ]
+pub kept_four : (g : Cells) → IsGrid 2 g → halves (pairs g) ≡ g
+kept_four g is =
+    sym (append-nil (halves (pairs g))) ∙ ap (λ l. halves (pairs g) ++ l) (sym (odd_none 8 g is.long)) ∙ pairs_back g (small_four g is)
+
+pub kept_nine : (g : Cells) → IsGrid 3 g → halves (pairs g) ++ get_or g 80 0 ∷ [] ≡ g
+kept_nine g is = ap (λ l. halves (pairs g) ++ l) (sym (odd_last 40 g is.long)) ∙ pairs_back g (small_nine g is)
 
 -- two more cells are written
 pub two_more : (cells : Cells) (at a b : ℕ) → at + 1 < length cells →
@@ -75,41 +87,32 @@ unfolding halves
 halves_long [] = refl
 halves_long (b ∷ bs) = omega (arith, halves_long bs)
 
--- bytes that keep a grid of side 4 or 9
-module _ (bytes : List ℕ) (is : IsSudoku (kept_cells bytes)) (narrow : length bytes ≡ 256 → ⊥) where
-  taken : kept_cells bytes ≡ take (count_in (length bytes)) (halves bytes)
-  taken = ap (λ (b : Bool). if b then bytes else take (count_in (length bytes)) (halves bytes)) (ne_eqb _ _ narrow)
-
-  pub kept_few : (length bytes ≤ 128) × (count_in (length bytes) ≤ length bytes + length bytes)
-  kept_few = elim (cases_eq (length bytes) 41) [
-    | inl e ↦ (omega (arith, e), subst (λ k. count_in k ≤ k + k) (sym e) (omega arith))
-    | inr other ↦
-        let count : count_in (length bytes) ≡ length bytes + length bytes = cond-false (length bytes == 41) 81 _ (ne_eqb _ _ other) in
-        let long : length (kept_cells bytes) ≡ length bytes + length bytes =
-        ap length taken ∙ ap (λ k. length (take k (halves bytes))) count
-        ∙ length-take-le _ (halves bytes) (omega (arith, halves_long bytes)) in
-        (omega (arith, long, sudoku_few _ is), omega (arith, count))
-  ]
-
 -- One step of packing, and its end.
 
-pub pairs_two : (rest two : Cells) → 1 < length rest → two ≡ take 2 rest →
-    pairs rest ≡ (get_or two 0 0 + 16 * get_or two 1 0) ∷ pairs (drop 2 rest)
+pairs_next : (xs : Cells) (k : ℕ) → suc k < length xs →
+    pairs (drop k xs) ≡ (get_or xs k 0 + 16 * get_or xs (suc k) 0) ∷ pairs (drop (suc (suc k)) xs)
 unfolding pairs
-pairs_two [] two some is = absurd (omega (arith, some))
-pairs_two (x ∷ []) two some is = absurd (omega (arith, some))
-pairs_two (x ∷ y ∷ rest) two some is = ap (λ t. (get_or t 0 0 + 16 * get_or t 1 0) ∷ pairs rest) (sym is)
+pairs_next [] k within = absurd (omega (arith, within))
+pairs_next (x ∷ []) zero within = absurd (omega (arith, within))
+pairs_next (x ∷ y ∷ rest) zero within = refl
+pairs_next (x ∷ xs) (suc k) within = pairs_next xs k (omega (arith, within))
 
-pub small_after : (rest : Cells) → All (λ x. x < 16) rest → All (λ x. x < 16) (drop 2 rest)
-small_after [] small = small
-small_after (x ∷ []) small = λ k d within. absurd (omega (arith, within))
-small_after (x ∷ y ∷ rest) small = λ k d within. small (suc (suc k)) d (omega (arith, within))
+pub pairs_at : (xs : Cells) (k : ℕ) → k + 1 < length xs →
+    pairs (drop k xs) ≡ (get_or xs k 0 + 16 * get_or xs (k + 1) 0) ∷ pairs (drop (k + 2) xs)
+pairs_at xs k within =
+    let one : suc k ≡ k + 1 = omega arith in
+    let two : suc (suc k) ≡ k + 2 = omega arith in
+    pairs_next xs k (omega (arith, within))
+    ∙ ap (λ n. (get_or xs k 0 + 16 * get_or xs n 0) ∷ pairs (drop (suc (suc k)) xs)) one
+    ∙ ap (λ n. (get_or xs k 0 + 16 * get_or xs (k + 1) 0) ∷ pairs (drop n xs)) two
 
-pub pairs_last : (rest : Cells) → length rest ≤ 1 → pairs rest ≡ rest
+pub pairs_over : (xs : Cells) (k : ℕ) → length xs ≤ k + 1 → pairs (drop k xs) ≡ []
 unfolding pairs
-pairs_last [] few = refl
-pairs_last (x ∷ []) few = refl
-pairs_last (x ∷ y ∷ rest) few = absurd (omega (arith, few))
+pairs_over [] zero over = refl
+pairs_over [] (suc k) over = refl
+pairs_over (x ∷ []) zero over = refl
+pairs_over (x ∷ y ∷ rest) zero over = absurd (omega (arith, over))
+pairs_over (x ∷ xs) (suc k) over = pairs_over xs k (omega (arith, over))
 
 -- and one step of taking apart
 pub halves_next : (bytes : List ℕ) (k : ℕ) → k < length bytes →

@@ -1,48 +1,50 @@
 //! Grids as they are kept.
 
-ghost use Rattle.std.specs.Prelude.{◌≡◌, ◌≤◌, ◌<◌, ◌+◌, All, IfOk, length, take};
-ghost use Rattle.sudoku_rules.specs.Sides.{IsSudoku};
-ghost use Rattle.sudoku_rules.specs.Inside.Packed.{count_in, halves, kept_cells, pairs};
+ghost use Rattle.std.specs.Prelude.{◌≡◌, ◌≤◌, ◌<◌, ◌+◌, ◌++◌, ◌∷◌, [], All, IfOk, length, take};
+ghost use Rattle.sudoku_rules.specs.Inside.Forms.{IsForm, cells_of};
+ghost use Rattle.sudoku_rules.specs.Inside.Packed.{IsHeld, halves, kept_cells, pairs};
 
-use crate::grid::Grid;
+use crate::grid::{Form, Grid};
 use adlb_unit::{NoMemory, or_no_memory};
 use std::alloc::Global;
 use std::marker::Model;
 
-/// A grid that is kept: its cells on the heap, two in a byte for sides 4 and 9. It is seen as the list of its cells, as the grid is.
+/// The cells on the heap, two in a byte for sides 4 and 9. The last cell of side 9 stands apart, since 41 bytes would take a
+/// larger block of the allocator than 40.
+#[derive(Drop)]
+enum Held {
+    Four(Box<[u8; 8]>),
+    Nine(u8, Box<[u8; 40]>),
+    Sixteen(Box<[u8; 256]>),
+}
+
+/// A grid that is kept on the heap. It is seen as the list of its cells, as the grid is.
 #[derive(Drop)]
 pub struct KeptGrid {
-    bytes: Vec<u8>,
+    held: Held,
 }
 
 impl Model for KeptGrid {
     ghost use Rattle.std.specs.Prelude.{List, ℕ};
-    ghost use Rattle.sudoku_rules.specs.Sides.{IsSudoku};
-    ghost use Rattle.sudoku_rules.specs.Inside.Packed.{kept_cells};
+    ghost use Rattle.sudoku_rules.specs.Inside.Packed.{IsHeld, kept_cells};
 
     ghost Value = { List ℕ };
 
-    ghost view = { λ kept. kept_cells kept.bytes.items };
+    ghost view = { λ kept. kept_cells kept.held };
 
-    ghost invariant = { λ kept. IsSudoku (kept_cells kept.bytes.items) };
+    ghost invariant = { λ kept. IsHeld kept.held };
 }
-
-// How many bytes keep the cells of a grid of side 16, each of which has one to itself, and of side 9.
-const SIXTEEN: usize = 256;
-
-const NINE: usize = 41;
 
 impl KeptGrid {
     /// The grid.
     pub fn grid(&self) -> Grid
         ensures { result ≡ self.now }
     {
-        let bytes = self.bytes.as_slice();
-        if bytes.len() == SIXTEEN {
-            return Grid::of(bytes);
+        match &self.held {
+            Held::Four(bytes) => Grid::of(&apart(bytes.as_ref(), 0)[..16]),
+            Held::Nine(last, bytes) => Grid::of(&apart(bytes.as_ref(), *last)[..81]),
+            Held::Sixteen(cells) => Grid::of(cells.as_ref()),
         }
-        let cells = apart(bytes);
-        Grid::of(&cells[..count_in(bytes.len())])
     }
 }
 
@@ -51,50 +53,46 @@ impl Grid {
     pub fn keep(&self, alloc: Global) -> Result<KeptGrid, NoMemory>
         ensures { IfOk result (λ kept. kept ≡ self.now) }
     {
-        let bytes = packed(alloc, self.cells())?;
-        Ok(KeptGrid { bytes })
+        let held = hold(alloc, self.form())?;
+        Ok(KeptGrid { held })
     }
 }
 
-// How many cells of a grid of side 4 or 9 this many bytes keep.
-fn count_in(bytes: usize) -> usize
-    requires { bytes ≤ 128 }
-    ensures { result ≡ count_in bytes }
+// The cells of a grid on the heap.
+fn hold(alloc: Global, form: &Form) -> Result<Held, NoMemory>
+    requires { IsForm form.now }
+    ensures held { IfOk result IsHeld }
+    ensures cells { IfOk result (λ held. kept_cells held ≡ cells_of form.now) }
 {
-    if bytes == NINE { 81 } else { bytes + bytes }
-}
-
-// The bytes that keep these cells.
-fn packed(alloc: Global, cells: &[u8]) -> Result<Vec<u8>, NoMemory>
-    requires { IsSudoku cells.now }
-    ensures { IfOk result (λ bytes. kept_cells bytes.items ≡ cells.now) }
-{
-    if cells.len() == SIXTEEN {
-        return or_no_memory(Vec::from_slice(alloc, cells));
+    match form {
+        Form::Four(cells) => Ok(Held::Four(or_no_memory(Box::new(alloc, in_pairs(cells)))?)),
+        Form::Nine(cells) => Ok(Held::Nine(
+            cells[80],
+            or_no_memory(Box::new(alloc, in_pairs(cells)))?,
+        )),
+        Form::Sixteen(cells) => Ok(Held::Sixteen(or_no_memory(Box::new(alloc, *cells))?)),
     }
-    in_pairs(alloc, cells)
 }
 
-// These cells, two in a byte.
-fn in_pairs(alloc: Global, cells: &[u8]) -> Result<Vec<u8>, NoMemory>
-    requires { All (λ cell. cell < 16) cells.now }
-    ensures { IfOk result (λ bytes. bytes.items ≡ pairs cells.now) }
+// These cells, two in a byte. An odd one is left out.
+fn in_pairs<const N: usize>(cells: &[u8]) -> [u8; N]
+    requires enough { N + N ≤ length cells.now }
+    requires few { length cells.now ≤ N + N + 1 }
+    requires small { All (λ cell. cell < 16) cells.now }
+    ensures { result ≡ pairs cells.now }
 {
-    let mut bytes = or_no_memory(Vec::with_capacity(alloc, cells.len().div_ceil(2)))?;
-    let mut rest = cells;
-    while rest.len() > 1 {
-        let (two, after) = rest.split_at(2);
-        or_no_memory(bytes.push(two[0] + 16 * two[1]))?;
-        rest = after;
+    let mut bytes = [0; N];
+    for at in 0..N {
+        bytes[at] = cells[at + at] + 16 * cells[at + at + 1];
     }
-    or_no_memory(bytes.extend_from_slice(rest))?;
-    Ok(bytes)
+    bytes
 }
 
-// The halves of these bytes.
-fn apart(bytes: &[u8]) -> [u8; 256]
-    requires { length bytes.now ≤ 128 }
+// The halves of these bytes, with a last cell after them.
+fn apart(bytes: &[u8], last: u8) -> [u8; 256]
+    requires { length bytes.now ≤ 127 }
     ensures halves { take (length bytes.now + length bytes.now) result ≡ halves bytes.now }
+    ensures last { take (length bytes.now + length bytes.now + 1) result ≡ halves bytes.now ++ last ∷ [] }
     ensures long { length result ≡ 256 }
 {
     let mut cells = [0; 256];
@@ -104,5 +102,6 @@ fn apart(bytes: &[u8]) -> [u8; 256]
         cells[at + 1] = byte / 16;
         at += 2;
     }
+    cells[at] = last;
     cells
 }

@@ -1,11 +1,13 @@
 -- Cells as they are kept: two in a byte where each is below 16, which is so of sides 4 and 9.
-use Rattle.std.specs.Prelude.{ℕ, ◌+◌, ◌*◌, ◌/◌, ◌%◌, ◌==◌, List, [], ◌∷◌, length, take, if◌then◌else◌}
-use Rattle.sudoku_law.specs.Grid.{Cells}
+use Rattle.std.specs.Prelude.{◌≡◌, ℕ, ◌+◌, ◌*◌, ◌/◌, ◌%◌, List, [], ◌∷◌, ◌++◌, length}
+use Rattle.sudoku_law.specs.Grid.{Cells, IsGrid}
+use Rattle.sudoku_rules.specs.declared.kept.Held.{Held}
+use Rattle.sudoku_rules.specs.declared.kept.Held.TheVariants.{Four, Nine, Sixteen}
 
--- the first of two cells in the lower half of their byte; an odd cell has the last byte to itself
+-- the first of two cells in the lower half of their byte; an odd cell is left out
 unfoldable pub pairs : Cells → List ℕ
 pairs [] = []
-pairs (x ∷ []) = x ∷ []
+pairs (x ∷ []) = []
 pairs (x ∷ y ∷ rest) = (x + 16 * y) ∷ pairs rest
 
 -- the halves of bytes
@@ -13,10 +15,14 @@ unfoldable pub halves : List ℕ → Cells
 halves [] = []
 halves (b ∷ bs) = b % 16 ∷ b / 16 ∷ halves bs
 
--- how many cells this many bytes hold: 8 hold those of side 4, and 41 those of side 9
-abbrev pub count_in : ℕ → ℕ
-count_in n = if n == 41 then 81 else n + n
+-- the cells that are held
+abbrev pub kept_cells : Held → Cells
+kept_cells (Four bytes) = halves bytes.value
+kept_cells (Nine last bytes) = halves bytes.value ++ last ∷ []
+kept_cells (Sixteen cells) = cells.value
 
--- the cells that are kept in these bytes
-abbrev pub kept_cells : List ℕ → Cells
-kept_cells bytes = if length bytes == 256 then bytes else take (count_in (length bytes)) (halves bytes)
+-- they are those of a grid
+abbrev pub IsHeld : Held → Type 0
+IsHeld (Four bytes) = (length bytes.value ≡ 8) × IsGrid 2 (halves bytes.value)
+IsHeld (Nine last bytes) = (length bytes.value ≡ 40) × IsGrid 3 (halves bytes.value ++ last ∷ [])
+IsHeld (Sixteen cells) = IsGrid 4 cells.value

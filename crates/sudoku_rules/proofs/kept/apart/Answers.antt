@@ -1,8 +1,9 @@
 use Rattle.std.proofs.Common.{◌≡◌, ◌<◌, ◌≤◌, ◌+◌, ◌%◌, ◌/◌, [], ◌∷◌, ◌++◌, append_assoc, append-nil, arith, ap, drop, get_or, length, set, sym, take, ◌∙◌}
-use Rattle.std.proofs.lemmas.List.{length-set}
+use Rattle.std.proofs.lemmas.List.{length-set, take-set, take_more_set}
 use Rattle.sudoku_rules.specs.Inside.Packed.{halves}
 use Rattle.sudoku_rules.proofs.Packed.{halves_next, halves_none, two_more}
 use Rattle.sudoku_rules.proofs.kept.apart.Goals as goal
+use Rattle.sudoku_rules.proofs.kept.apart.Goals.{After-loop-byte}
 
 pub loop-byte-preserved : goal.loop-byte-preserved
 loop-byte-preserved c =
@@ -20,12 +21,29 @@ loop-byte-preserved c =
           ∙ ap (λ l. take at c.loop-byte.cells ++ l) (sym (halves_next c.args.bytes.now k c.loop-byte-test.true)) ∙ v.written;
     }
 
-pub returns-clause-halves : goal.returns-clause-halves
-returns-clause-halves c =
+-- what is written after the loop: all halves
+all_halves : (c : After-loop-byte) → (c.loop-byte.at ≡ length c.args.bytes.now + length c.args.bytes.now)
+    × (take c.loop-byte.at c.loop-byte.cells ≡ halves c.args.bytes.now)
+all_halves c =
     let v = c.loop-byte.invariant in
     let k = c.loop-byte.byte-index in
     let bytes = c.args.bytes.now in
-    let over : length bytes ≤ k = omega (arith, c.loop-byte-test.false) in
-    let all : length bytes + length bytes ≡ c.loop-byte.at = omega (arith, v.place, over, c.loop-byte.auto.byte-index-end) in
-    ap (λ n. take n c.loop-byte.cells) all ∙ sym (append-nil (take c.loop-byte.at c.loop-byte.cells))
-    ∙ ap (λ l. take c.loop-byte.at c.loop-byte.cells ++ l) (sym (halves_none bytes k over)) ∙ v.written
+    let over : length bytes ≤ k = omega (arith, c.loop-byte-test.false) in (
+      omega (arith, v.place, over, c.loop-byte.auto.byte-index-end),
+      sym (append-nil (take c.loop-byte.at c.loop-byte.cells))
+      ∙ ap (λ l. take c.loop-byte.at c.loop-byte.cells ++ l) (sym (halves_none bytes k over)) ∙ v.written,
+    )
+
+pub returns-clause-halves : goal.returns-clause-halves
+returns-clause-halves c =
+    let all = all_halves c in
+    ap (λ n. take n (set c.loop-byte.cells c.loop-byte.at c.args.last)) (sym all.0)
+    ∙ take-set c.loop-byte.cells c.loop-byte.at c.args.last ∙ all.1
+
+pub returns-clause-last : goal.returns-clause-last
+returns-clause-last c =
+    let all = all_halves c in
+    let v = c.loop-byte.invariant in
+    ap (λ n. take (n + 1) (set c.loop-byte.cells c.loop-byte.at c.args.last)) (sym all.0)
+    ∙ take_more_set c.loop-byte.cells c.loop-byte.at c.args.last (omega (arith, v.long, all.0, c.requires))
+    ∙ ap (λ l. l ++ c.args.last ∷ []) all.1

@@ -1,12 +1,9 @@
-use Rattle.std.proofs.Common.{◌≡◌, ◌<◌, ◌++◌, All, length}
+use Rattle.std.proofs.Common.{◌≡◌, ◌+◌, ◌++◌, drop, length, take}
 use Rattle.sudoku_rules.specs.Inside.Packed.{pairs}
 use Rattle.sudoku_rules.proofs.kept.in_pairs.Given as goal
 
-abbrev pub invariant-loop-rest : goal.invariant-loop-rest
-invariant-loop-rest l = record {
-  small : All (λ x. x < 16) l.rest;
-  written : l.bytes.items ++ pairs l.rest ≡ pairs l.fn.cells;
+abbrev pub invariant-loop-at : goal.invariant-loop-at
+invariant-loop-at g l = record {
+  long : length l.bytes ≡ g.row.N;
+  written : take l.at l.bytes ++ pairs (drop (l.at + l.at) l.fn.cells) ≡ pairs l.fn.cells;
 }
-
-abbrev pub decreases-loop-rest : goal.decreases-loop-rest
-decreases-loop-rest l = length l.rest
