@@ -44,9 +44,7 @@ pub fn run_adlb<S: Source, K: Sink, T: Spawner, G: Gate + Send + Drop + 'static>
     ensures threads { T.faults threads.old ≤ T.faults threads.new }
 {
     match read_words(alloc, words) {
-        Ok(Command::Solve(words)) => RunEnd::of(solve(
-            alloc, &words, input, output, threads, gate,
-        )),
+        Ok(Command::Solve(words)) => RunEnd::of(solve(alloc, &words, input, output, threads, gate)),
         Ok(Command::Check) => check(alloc, input, output),
         Ok(Command::Make { count, seed }) => make(alloc, count, seed, output),
         Ok(
@@ -55,9 +53,7 @@ pub fn run_adlb<S: Source, K: Sink, T: Spawner, G: Gate + Send + Drop + 'static>
                 seed,
                 options,
             },
-        ) => RunEnd::of(drill(
-            alloc, count, seed, &options, output, threads, gate,
-        )),
+        ) => RunEnd::of(drill(alloc, count, seed, &options, output, threads, gate)),
         Err(met) => RunEnd::new(Some(RunFault::from(met))),
     }
 }

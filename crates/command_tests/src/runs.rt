@@ -51,7 +51,10 @@ fn kept(alloc: Global, end: &RunEnd) -> Result<(String, usize), Fail> {
     match &end.kept {
         Some(kept) => {
             let report = kept.report();
-            Ok((names(alloc, &report.ledger.list(alloc)?)?, report.left.len()))
+            Ok((
+                names(alloc, &report.ledger.list(alloc)?)?,
+                report.left.len(),
+            ))
         }
         None => Ok((String::new(alloc), 0)),
     }

@@ -31,15 +31,7 @@ use Rattle.rank_client.specs.Step.{hear, letter_stamp, made, ticked, told_troubl
 -- a call is pending where a letter is awaited
 pub busy : (s : ClientModel) (p : Pending) (from : Server) (m : Message) → IsSome (answer_call s p from m) → awaited p ≡ 2
 busy s waits_for.Nothing from m some = absurd (cc)
-busy s (waits_for.Put unit first tried) from m some = refl
-busy s (waits_for.Reserve request types) from m some = refl
-busy s (waits_for.Try request types tried) from m some = refl
-busy s (waits_for.Fetch request note) from m some = refl
-busy s (waits_for.Common request note common own) from m some = refl
-busy s (waits_for.Keep request common first tried) from m some = refl
-busy s (waits_for.Close request batch) from m some = refl
-busy s (waits_for.Count request kind) from m some = refl
-busy s (waits_for.SetDone request tried) from m some = refl
+busy s _ from m some = refl
 
 -- The fields stay sound.
 

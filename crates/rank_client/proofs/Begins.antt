@@ -53,15 +53,7 @@ post_entries (y ∷ says) x = post_entries says _
 
 counted_said : (s : ClientModel) (to : Server) (p : Pending) → said (counted s to) p None ≡ said s p None
 counted_said s to waits_for.Nothing = refl
-counted_said s to (waits_for.Put unit first tried) = refl
-counted_said s to (waits_for.Reserve request types) = refl
-counted_said s to (waits_for.Try request types tried) = refl
-counted_said s to (waits_for.Fetch request note) = refl
-counted_said s to (waits_for.Common request note common own) = refl
-counted_said s to (waits_for.Keep request common first tried) = refl
-counted_said s to (waits_for.Close request batch) = refl
-counted_said s to (waits_for.Count request kind) = refl
-counted_said s to (waits_for.SetDone request tried) = refl
+counted_said s to _ = refl
 
 -- the transcript, with the pending call where the ledger has its answer
 abbrev said_now : ClientModel → List Said
@@ -84,15 +76,7 @@ pub record IsFree (s : ClientModel) (b : Bag) : Type 0 where
 
 pub idle_is : (p : Pending) → is_idle p ≡ true → p ≡ waits_for.Nothing
 idle_is waits_for.Nothing e = refl
-idle_is (waits_for.Put unit first tried) e = absurd (cc)
-idle_is (waits_for.Reserve request types) e = absurd (cc)
-idle_is (waits_for.Try request types tried) e = absurd (cc)
-idle_is (waits_for.Fetch request note) e = absurd (cc)
-idle_is (waits_for.Common request note common own) e = absurd (cc)
-idle_is (waits_for.Keep request common first tried) e = absurd (cc)
-idle_is (waits_for.Close request batch) e = absurd (cc)
-idle_is (waits_for.Count request kind) e = absurd (cc)
-idle_is (waits_for.SetDone request tried) e = absurd (cc)
+idle_is _ e = absurd (cc)
 
 -- a rank that is free runs in the bag
 pub free_of : (s : ClientModel) (b : Bag) → is_free s ≡ true → ClientAgrees s None b → IsFalse (has_due b) → IsFree s b
@@ -146,6 +130,12 @@ module _ (found : Bag → Bool) where
   abbrev pub LawOf : List Said → Rank → Bag → Option ClientResponse → Type 0
   LawOf before me b None = Prim.Unit {0}
   LawOf before me b (Some z) = Holds before me b (bare z)
+
+  -- of a rule with a test
+  pub if_told : (before : List Said) (me : Rank) (b : Bag) (t : Bool) (z : ClientResponse) → Holds before me b (bare z)
+      → LawOf before me b (if t then Some z else None)
+  if_told before me b true z law = law
+  if_told before me b false z law = tt
 
   pub law_of_made : (before : List Said) (me : Rank) (b : Bag) (o : Option ClientResponse) (x : Made) → LawOf before me b o
       → option_map made o ≡ Some x → Holds before me b x
@@ -388,11 +378,8 @@ module _ (found : Bag → Bool) where
       })
 
   opens : (s : ClientModel) (b : Bag) (call : Call) → IsFree s b → LawOf s.transcript s.me b (open_call s call)
-  opens s b (calls_to.Put kind prio target answer body) free = by_test (nat_le (length body) (2 ^ 20) && in_ranks s.config target)
-    where
-      by_test : (t : Bool) → LawOf s.transcript s.me b (if t then Some (put s (unit_put s kind prio target answer body) s.end) else None)
-      by_test true = put_follows s b kind prio target answer body s.end free refl
-      by_test false = tt
+  opens s b (calls_to.Put kind prio target answer body) free =
+      if_told _ _ b (nat_le (length body) (2 ^ 20) && in_ranks s.config target) _ (put_follows s b kind prio target answer body s.end free refl)
   opens s b (calls_to.Reserve types) free = reserve_follows s b types s.end free refl
   opens s b (calls_to.Try types) free = look_follows s b types s.end free refl
   opens s b (calls_to.Fetch id) free = fetch_follows s b id (held s id) free refl

@@ -73,15 +73,16 @@ note_is s note = (
       (not_from_false (is_fetched note.id s.transcript) new.unfetched),
 )
 
+-- such an answer has a step
+plain_is : (request : ℕ) (at from : Server) (to : ℕ) (z : ClientResponse) → IsSome (cond (is_for request at from to) (Some z) None) ↔ IsFor request at from to
+plain_is request at from to z = let is = for_is request at from to in (λ some. is.0 (if_some _ _ some), λ here. some_if _ _ (is.1 here))
+
 -- The pending call.
 
 put_awaited : (s : ClientModel) (unit : Unit) (first : Server) (tried : ℕ) (from : Server) (m : Message) → IsSome (hear_put s unit first tried from m) ↔ AnswersPut unit.id.number (asked s first tried) from m
-put_awaited s unit first tried from (tells.Accepted to) =
-    let is = for_is unit.id.number (asked s first tried) from to in (λ some. is.0 (if_some _ _ some), λ here. some_if _ _ (is.1 here))
-put_awaited s unit first tried from (tells.Full to charge) =
-    let is = for_is unit.id.number (asked s first tried) from to in (λ some. is.0 (if_some _ _ some), λ here. some_if _ _ (is.1 here))
-put_awaited s unit first tried from (tells.Ended to end) =
-    let is = for_is unit.id.number (asked s first tried) from to in (λ some. is.0 (if_some _ _ some), λ here. some_if _ _ (is.1 here))
+put_awaited s unit first tried from (tells.Accepted to) = plain_is unit.id.number (asked s first tried) from to _
+put_awaited s unit first tried from (tells.Full to charge) = plain_is unit.id.number (asked s first tried) from to _
+put_awaited s unit first tried from (tells.Ended to end) = plain_is unit.id.number (asked s first tried) from to _
 put_awaited s unit first tried from _ = (λ some. absurd (cc), λ here. absurd here)
 
 reserve_awaited : (s : ClientModel) (request : ℕ) (types : Option (List WorkType)) (from : Server) (m : Message) → IsSome (hear_reserve s request types from m) ↔ AnswersReserve s request from m
@@ -91,8 +92,7 @@ reserve_awaited s request types from (tells.Grant to note) =
       λ some. let parts = and_parts (is_for request (home s.config s.me) from to) (expects_note s note) (if_some _ _ some) in (is.0 parts.0, new.0 parts.1),
       λ here. some_if _ _ (and_from _ _ (is.1 here.0) (new.1 here.1)),
     )
-reserve_awaited s request types from (tells.Ended to end) =
-    let is = for_is request (home s.config s.me) from to in (λ some. is.0 (if_some _ _ some), λ here. some_if _ _ (is.1 here))
+reserve_awaited s request types from (tells.Ended to end) = plain_is request (home s.config s.me) from to _
 reserve_awaited s request types from _ = (λ some. absurd (cc), λ here. absurd here)
 
 look_awaited : (s : ClientModel) (request : ℕ) (types : Option (List WorkType)) (tried : ℕ) (from : Server) (m : Message)
@@ -103,10 +103,8 @@ look_awaited s request types tried from (tells.Grant to note) =
       λ some. let parts = and_parts (is_for request (looks_at s tried) from to) (expects_note s note) (if_some _ _ some) in (is.0 parts.0, new.0 parts.1),
       λ here. some_if _ _ (and_from _ _ (is.1 here.0) (new.1 here.1)),
     )
-look_awaited s request types tried from (tells.Nothing to) =
-    let is = for_is request (looks_at s tried) from to in (λ some. is.0 (if_some _ _ some), λ here. some_if _ _ (is.1 here))
-look_awaited s request types tried from (tells.Ended to end) =
-    let is = for_is request (looks_at s tried) from to in (λ some. is.0 (if_some _ _ some), λ here. some_if _ _ (is.1 here))
+look_awaited s request types tried from (tells.Nothing to) = plain_is request (looks_at s tried) from to _
+look_awaited s request types tried from (tells.Ended to end) = plain_is request (looks_at s tried) from to _
 look_awaited s request types tried from _ = (λ some. absurd (cc), λ here. absurd here)
 
 fetch_awaited : (s : ClientModel) (request : ℕ) (note : UnitNote) (from : Server) (m : Message) → IsSome (hear_fetch s request note from m) ↔ AnswersFetch request note from m
@@ -126,29 +124,23 @@ common_awaited s request note common own from (tells.Bytes to body) =
 common_awaited s request note common own from _ = (λ some. absurd (cc), λ here. absurd here)
 
 keep_awaited : (s : ClientModel) (request : ℕ) (common : List ℕ) (first : Server) (tried : ℕ) (from : Server) (m : Message) → IsSome (hear_keep s request common first tried from m) ↔ AnswersPut request (asked s first tried) from m
-keep_awaited s request common first tried from (tells.Accepted to) =
-    let is = for_is request (asked s first tried) from to in (λ some. is.0 (if_some _ _ some), λ here. some_if _ _ (is.1 here))
-keep_awaited s request common first tried from (tells.Full to charge) =
-    let is = for_is request (asked s first tried) from to in (λ some. is.0 (if_some _ _ some), λ here. some_if _ _ (is.1 here))
-keep_awaited s request common first tried from (tells.Ended to end) =
-    let is = for_is request (asked s first tried) from to in (λ some. is.0 (if_some _ _ some), λ here. some_if _ _ (is.1 here))
+keep_awaited s request common first tried from (tells.Accepted to) = plain_is request (asked s first tried) from to _
+keep_awaited s request common first tried from (tells.Full to charge) = plain_is request (asked s first tried) from to _
+keep_awaited s request common first tried from (tells.Ended to end) = plain_is request (asked s first tried) from to _
 keep_awaited s request common first tried from _ = (λ some. absurd (cc), λ here. absurd here)
 
 close_awaited : (s : ClientModel) (request : ℕ) (batch : CommonRef) (from : Server) (m : Message) → IsSome (hear_close s request batch from m) ↔ AnswersClose request batch from m
-close_awaited s request batch from (tells.Closed to) =
-    let is = for_is request batch.server from to in (λ some. is.0 (if_some _ _ some), λ here. some_if _ _ (is.1 here))
+close_awaited s request batch from (tells.Closed to) = plain_is request batch.server from to _
 close_awaited s request batch from _ = (λ some. absurd (cc), λ here. absurd here)
 
 count_awaited : (s : ClientModel) (request : ℕ) (kind : WorkType) (from : Server) (m : Message)
     → IsSome (hear_count s request kind from m) ↔ AnswersCount request (home s.config s.me) from m
-count_awaited s request kind from (tells.Counted to info) =
-    let is = for_is request (home s.config s.me) from to in (λ some. is.0 (if_some _ _ some), λ here. some_if _ _ (is.1 here))
+count_awaited s request kind from (tells.Counted to info) = plain_is request (home s.config s.me) from to _
 count_awaited s request kind from _ = (λ some. absurd (cc), λ here. absurd here)
 
 done_awaited : (s : ClientModel) (request tried : ℕ) (from : Server) (m : Message)
     → IsSome (hear_done s request tried from m) ↔ AnswersDone request (looks_at s tried) from m
-done_awaited s request tried from (tells.DoneHeard to) =
-    let is = for_is request (looks_at s tried) from to in (λ some. is.0 (if_some _ _ some), λ here. some_if _ _ (is.1 here))
+done_awaited s request tried from (tells.DoneHeard to) = plain_is request (looks_at s tried) from to _
 done_awaited s request tried from _ = (λ some. absurd (cc), λ here. absurd here)
 
 awaited : (s : ClientModel) (p : Pending) (from : Server) (m : Message) → IsSome (answer_call s p from m) ↔ IsAwaited s p from m
@@ -193,15 +185,9 @@ look_ticked s stamp request tried from _ = (λ here. here, λ here. here)
 
 awaited_ticked : (s : ClientModel) (stamp : ℕ) (p : Pending) (from : Server) (m : Message) → IsAwaited s p from m ↔ IsAwaited (ticked s stamp) p from m
 awaited_ticked s stamp waits_for.Nothing from m = (λ here. here, λ here. here)
-awaited_ticked s stamp (waits_for.Put unit first tried) from m = (λ here. here, λ here. here)
 awaited_ticked s stamp (waits_for.Reserve request types) from m = reserve_ticked s stamp request from m
 awaited_ticked s stamp (waits_for.Try request types tried) from m = look_ticked s stamp request tried from m
-awaited_ticked s stamp (waits_for.Fetch request note) from m = (λ here. here, λ here. here)
-awaited_ticked s stamp (waits_for.Common request note common own) from m = (λ here. here, λ here. here)
-awaited_ticked s stamp (waits_for.Keep request common first tried) from m = (λ here. here, λ here. here)
-awaited_ticked s stamp (waits_for.Close request batch) from m = (λ here. here, λ here. here)
-awaited_ticked s stamp (waits_for.Count request kind) from m = (λ here. here, λ here. here)
-awaited_ticked s stamp (waits_for.SetDone request tried) from m = (λ here. here, λ here. here)
+awaited_ticked s stamp _ from m = (λ here. here, λ here. here)
 
 pub expected_are_heard : ExpectedAreHeard
 expected_are_heard s from letter =

@@ -30,7 +30,7 @@ use Rattle.rank_client.specs.Calls.{plus}
 use Rattle.rank_client.specs.Rules.{answer_call, asked, begun_batch, call_of, ends, expects_note, is_for, looked, looks_at, own_came, part_refused, refused, told_done}
 use Rattle.rank_client.specs.State.{ClientModel}
 use Rattle.rank_client.specs.Step.{Made, hear, letter_stamp, made, ticked}
-use Rattle.rank_client.proofs.Begins.{Holds, LawOf, bare, free_agrees, law_of_made}
+use Rattle.rank_client.proofs.Begins.{Holds, LawOf, bare, free_agrees, if_told, law_of_made}
 use Rattle.rank_client.proofs.Entries.{rank_changed, saying, step_of}
 use Rattle.rank_client.proofs.Ring.{all_asked}
 
@@ -86,38 +86,27 @@ module _ (found : Bag → Bool) where
 
   put_heard : (s : ClientModel) (b : Bag) (unit : Unit) (first : Server) (tried : ℕ) (from : Server) (m : Message) → Awaits s b (waits_for.Put unit first tried) m
       → LawOf found (said s (waits_for.Put unit first tried) (Some m)) s.me b (answer_call s (waits_for.Put unit first tried) from m)
-  put_heard s b unit first tried from (tells.Accepted to) a = by_test (is_for unit.id.number (asked s first tried) from to)
-    where
-      by_test : (t : Bool) → LawOf found (said s (waits_for.Put unit first tried) (Some (tells.Accepted to))) s.me b (if t then Some (ends (record s { accepted = s.accepted + 1 }) [] (call_of unit) answers.Fine) else None)
-      by_test true =
-          heard s (record s { accepted = s.accepted + 1 }) b (call_of unit) answers.Fine a.rank a.servers a.caused (alone s b a.held) a.accepted a.going refl refl refl
-      by_test false = tt
-  put_heard s b unit first tried from (tells.Full to charge) a = by_test (is_for unit.id.number (asked s first tried) from to)
-    where
-      by_test : (t : Bool) → LawOf found s.transcript s.me b (if t then Some (refused s unit first tried (nat_lt (tried + 1) s.config.servers)) else None)
-      by_test true = refusal s b unit first tried to charge (nat_lt (tried + 1) s.config.servers) refl a
-      by_test false = tt
-  put_heard s b unit first tried from (tells.Ended to end) a = by_test (is_for unit.id.number (asked s first tried) from to)
-    where
-      by_test : (t : Bool) → LawOf found (said s (waits_for.Put unit first tried) (Some (tells.Ended to end))) s.me b (if t then Some (ends (record s { end = Some end }) [] (call_of unit) (answers.Ended end)) else None)
-      by_test true = heard s (record s { end = Some end }) b (call_of unit) (answers.Ended end) a.rank a.servers a.caused (alone s b a.held) a.accepted a.going refl refl refl
-      by_test false = tt
+  put_heard s b unit first tried from (tells.Accepted to) a =
+      if_told found _ _ b (is_for unit.id.number (asked s first tried) from to) _
+      (heard s (record s { accepted = s.accepted + 1 }) b (call_of unit) answers.Fine a.rank a.servers a.caused (alone s b a.held) a.accepted a.going refl refl refl)
+  put_heard s b unit first tried from (tells.Full to charge) a =
+      if_told found _ _ b (is_for unit.id.number (asked s first tried) from to) _
+      (refusal s b unit first tried to charge (nat_lt (tried + 1) s.config.servers) refl a)
+  put_heard s b unit first tried from (tells.Ended to end) a =
+      if_told found _ _ b (is_for unit.id.number (asked s first tried) from to) _
+      (heard s (record s { end = Some end }) b (call_of unit) (answers.Ended end) a.rank a.servers a.caused (alone s b a.held) a.accepted a.going refl refl refl)
   put_heard s b unit first tried from _ a = tt
 
   -- Reserve.
 
   reserve_heard : (s : ClientModel) (b : Bag) (request : ℕ) (types : Option (List WorkType)) (from : Server) (m : Message) → Awaits s b (waits_for.Reserve request types) m
       → LawOf found (said s (waits_for.Reserve request types) (Some m)) s.me b (answer_call s (waits_for.Reserve request types) from m)
-  reserve_heard s b request types from (tells.Grant to note) a = by_test (is_for request (home s.config s.me) from to && expects_note s note)
-    where
-      by_test : (t : Bool) → LawOf found (said s (waits_for.Reserve request types) (Some (tells.Grant to note))) s.me b (if t then Some (ends (record s { handles = s.handles ++ note ∷ [] }) [] (calls_to.Reserve types) (answers.Granted note)) else None)
-      by_test true = heard s (record s { handles = s.handles ++ note ∷ [] }) b (calls_to.Reserve types) (answers.Granted note) a.rank a.servers a.caused a.held a.accepted a.going refl refl refl
-      by_test false = tt
-  reserve_heard s b request types from (tells.Ended to end) a = by_test (is_for request (home s.config s.me) from to)
-    where
-      by_test : (t : Bool) → LawOf found (said s (waits_for.Reserve request types) (Some (tells.Ended to end))) s.me b (if t then Some (ends (record s { end = Some end }) [] (calls_to.Reserve types) (answers.Ended end)) else None)
-      by_test true = heard s (record s { end = Some end }) b (calls_to.Reserve types) (answers.Ended end) a.rank a.servers a.caused (alone s b a.held) a.accepted a.going refl refl refl
-      by_test false = tt
+  reserve_heard s b request types from (tells.Grant to note) a =
+      if_told found _ _ b (is_for request (home s.config s.me) from to && expects_note s note) _
+      (heard s (record s { handles = s.handles ++ note ∷ [] }) b (calls_to.Reserve types) (answers.Granted note) a.rank a.servers a.caused a.held a.accepted a.going refl refl refl)
+  reserve_heard s b request types from (tells.Ended to end) a =
+      if_told found _ _ b (is_for request (home s.config s.me) from to) _
+      (heard s (record s { end = Some end }) b (calls_to.Reserve types) (answers.Ended end) a.rank a.servers a.caused (alone s b a.held) a.accepted a.going refl refl refl)
   reserve_heard s b request types from _ a = tt
 
   -- Try.
@@ -149,21 +138,15 @@ module _ (found : Bag → Bool) where
   look_heard : (s : ClientModel) (b : Bag) (request : ℕ) (types : Option (List WorkType)) (tried : ℕ) (from : Server) (m : Message)
       → Awaits s b (waits_for.Try request types tried) m
       → LawOf found (said s (waits_for.Try request types tried) (Some m)) s.me b (answer_call s (waits_for.Try request types tried) from m)
-  look_heard s b request types tried from (tells.Grant to note) a = by_test (is_for request (looks_at s tried) from to && expects_note s note)
-    where
-      by_test : (t : Bool) → LawOf found (said s (waits_for.Try request types tried) (Some (tells.Grant to note))) s.me b (if t then Some (ends (record s { handles = s.handles ++ note ∷ [] }) [] (calls_to.Try types) (answers.Granted note)) else None)
-      by_test true = heard s (record s { handles = s.handles ++ note ∷ [] }) b (calls_to.Try types) (answers.Granted note) a.rank a.servers a.caused a.held a.accepted a.going refl refl refl
-      by_test false = tt
-  look_heard s b request types tried from (tells.Nothing to) a = by_test (is_for request (looks_at s tried) from to)
-    where
-      by_test : (t : Bool) → LawOf found s.transcript s.me b (if t then Some (looked s request types tried (nat_lt (tried + 1) s.config.servers)) else None)
-      by_test true = in_vain s b request types tried to (nat_lt (tried + 1) s.config.servers) refl a
-      by_test false = tt
-  look_heard s b request types tried from (tells.Ended to end) a = by_test (is_for request (looks_at s tried) from to)
-    where
-      by_test : (t : Bool) → LawOf found (said s (waits_for.Try request types tried) (Some (tells.Ended to end))) s.me b (if t then Some (ends (record s { end = Some end }) [] (calls_to.Try types) (answers.Ended end)) else None)
-      by_test true = heard s (record s { end = Some end }) b (calls_to.Try types) (answers.Ended end) a.rank a.servers a.caused (alone s b a.held) a.accepted a.going refl refl refl
-      by_test false = tt
+  look_heard s b request types tried from (tells.Grant to note) a =
+      if_told found _ _ b (is_for request (looks_at s tried) from to && expects_note s note) _
+      (heard s (record s { handles = s.handles ++ note ∷ [] }) b (calls_to.Try types) (answers.Granted note) a.rank a.servers a.caused a.held a.accepted a.going refl refl refl)
+  look_heard s b request types tried from (tells.Nothing to) a =
+      if_told found _ _ b (is_for request (looks_at s tried) from to) _
+      (in_vain s b request types tried to (nat_lt (tried + 1) s.config.servers) refl a)
+  look_heard s b request types tried from (tells.Ended to end) a =
+      if_told found _ _ b (is_for request (looks_at s tried) from to) _
+      (heard s (record s { end = Some end }) b (calls_to.Try types) (answers.Ended end) a.rank a.servers a.caused (alone s b a.held) a.accepted a.going refl refl refl)
   look_heard s b request types tried from _ a = tt
 
   -- Fetch.
@@ -190,21 +173,17 @@ module _ (found : Bag → Bool) where
 
   fetch_heard : (s : ClientModel) (b : Bag) (request : ℕ) (note : UnitNote) (from : Server) (m : Message) → Awaits s b (waits_for.Fetch request note) m
       → LawOf found (said s (waits_for.Fetch request note) (Some m)) s.me b (answer_call s (waits_for.Fetch request note) from m)
-  fetch_heard s b request note from (tells.Bytes to body) a = by_test (is_for request note.server from to && (length body == note.length))
-    where
-      by_test : (t : Bool) → LawOf found (said s (waits_for.Fetch request note) (Some (tells.Bytes to body))) s.me b (if t then Some (own_came s request note body note.common) else None)
-      by_test true = own_heard s b request note to body note.common refl a
-      by_test false = tt
+  fetch_heard s b request note from (tells.Bytes to body) a =
+      if_told found _ _ b (is_for request note.server from to && (length body == note.length)) _
+      (own_heard s b request note to body note.common refl a)
   fetch_heard s b request note from _ a = tt
 
   common_heard : (s : ClientModel) (b : Bag) (request : ℕ) (note : UnitNote) (common : CommonRef) (own : List ℕ) (from : Server) (m : Message)
       → Awaits s b (waits_for.Common request note common own) m
       → LawOf found (said s (waits_for.Common request note common own) (Some m)) s.me b (answer_call s (waits_for.Common request note common own) from m)
-  common_heard s b request note common own from (tells.Bytes to body) a = by_test (is_for request common.server from to && (length body == common.length))
-    where
-      by_test : (t : Bool) → LawOf found (said s (waits_for.Common request note common own) (Some (tells.Bytes to body))) s.me b (if t then Some (ends s [] (calls_to.Fetch note.id) (answers.Body (body ++ own))) else None)
-      by_test true = heard s s b (calls_to.Fetch note.id) (answers.Body (body ++ own)) a.rank a.servers a.caused (alone s b a.held) a.accepted a.going refl refl refl
-      by_test false = tt
+  common_heard s b request note common own from (tells.Bytes to body) a =
+      if_told found _ _ b (is_for request common.server from to && (length body == common.length)) _
+      (heard s s b (calls_to.Fetch note.id) (answers.Body (body ++ own)) a.rank a.servers a.caused (alone s b a.held) a.accepted a.going refl refl refl)
   common_heard s b request note common own from _ a = tt
 
   -- Batches.
@@ -234,46 +213,30 @@ module _ (found : Bag → Bool) where
   keep_heard : (s : ClientModel) (b : Bag) (request : ℕ) (common : List ℕ) (first : Server) (tried : ℕ) (from : Server) (m : Message)
       → Awaits s b (waits_for.Keep request common first tried) m
       → LawOf found (said s (waits_for.Keep request common first tried) (Some m)) s.me b (answer_call s (waits_for.Keep request common first tried) from m)
-  keep_heard s b request common first tried from (tells.Accepted to) a = by_test (is_for request (asked s first tried) from to)
-    where
-      now : ClientModel
-      now = record s { batch = Some (begun_batch s request common (asked s first tried)); accepted = 0 }
-
-      by_test : (t : Bool) → LawOf found (said s (waits_for.Keep request common first tried) (Some (tells.Accepted to))) s.me b (if t then Some (ends now [] (calls_to.BeginBatch common) answers.Fine) else None)
-      by_test true = heard s now b (calls_to.BeginBatch common) answers.Fine a.rank a.servers a.caused (alone s b a.held) a.accepted a.going refl refl refl
-      by_test false = tt
-  keep_heard s b request common first tried from (tells.Full to charge) a = by_test (is_for request (asked s first tried) from to)
-    where
-      by_test : (t : Bool) → LawOf found s.transcript s.me b (if t then Some (part_refused s request common first tried (nat_lt (tried + 1) s.config.servers)) else None)
-      by_test true = part_refusal s b request common first tried to charge (nat_lt (tried + 1) s.config.servers) refl a
-      by_test false = tt
-  keep_heard s b request common first tried from (tells.Ended to end) a = by_test (is_for request (asked s first tried) from to)
-    where
-      by_test : (t : Bool) → LawOf found (said s (waits_for.Keep request common first tried) (Some (tells.Ended to end))) s.me b (if t then Some (ends (record s { end = Some end }) [] (calls_to.BeginBatch common) (answers.Ended end)) else None)
-      by_test true = heard s (record s { end = Some end }) b (calls_to.BeginBatch common) (answers.Ended end) a.rank a.servers a.caused (alone s b a.held) a.accepted a.going refl refl refl
-      by_test false = tt
+  keep_heard s b request common first tried from (tells.Accepted to) a =
+      if_told found _ _ b (is_for request (asked s first tried) from to) _
+      (heard s (record s { batch = Some (begun_batch s request common (asked s first tried)); accepted = 0 }) b (calls_to.BeginBatch common) answers.Fine a.rank a.servers a.caused (alone s b a.held) a.accepted a.going refl refl refl)
+  keep_heard s b request common first tried from (tells.Full to charge) a =
+      if_told found _ _ b (is_for request (asked s first tried) from to) _
+      (part_refusal s b request common first tried to charge (nat_lt (tried + 1) s.config.servers) refl a)
+  keep_heard s b request common first tried from (tells.Ended to end) a =
+      if_told found _ _ b (is_for request (asked s first tried) from to) _
+      (heard s (record s { end = Some end }) b (calls_to.BeginBatch common) (answers.Ended end) a.rank a.servers a.caused (alone s b a.held) a.accepted a.going refl refl refl)
   keep_heard s b request common first tried from _ a = tt
 
   close_heard : (s : ClientModel) (b : Bag) (request : ℕ) (batch : CommonRef) (from : Server) (m : Message) → Awaits s b (waits_for.Close request batch) m
       → LawOf found (said s (waits_for.Close request batch) (Some m)) s.me b (answer_call s (waits_for.Close request batch) from m)
-  close_heard s b request batch from (tells.Closed to) a = by_test (is_for request batch.server from to)
-    where
-      by_test : (t : Bool) → LawOf found (said s (waits_for.Close request batch) (Some (tells.Closed to))) s.me b (if t then Some (ends (record s { batch = None }) [] calls_to.EndBatch answers.Fine) else None)
-      by_test true = heard s (record s { batch = None }) b calls_to.EndBatch answers.Fine a.rank a.servers a.caused (alone s b a.held) tt a.going refl refl refl
-      by_test false = tt
+  close_heard s b request batch from (tells.Closed to) a =
+      if_told found _ _ b (is_for request batch.server from to) _
+      (heard s (record s { batch = None }) b calls_to.EndBatch answers.Fine a.rank a.servers a.caused (alone s b a.held) tt a.going refl refl refl)
   close_heard s b request batch from _ a = tt
 
   count_heard : (s : ClientModel) (b : Bag) (request : ℕ) (kind : WorkType) (from : Server) (m : Message)
       → Awaits s b (waits_for.Count request kind) m
       → LawOf found (said s (waits_for.Count request kind) (Some m)) s.me b (answer_call s (waits_for.Count request kind) from m)
-  count_heard s b request kind from (tells.Counted to info) a = by_test (is_for request (home s.config s.me) from to)
-    where
-      by_test : (t : Bool)
-          → LawOf found (said s (waits_for.Count request kind) (Some (tells.Counted to info))) s.me b
-          (if t then Some (ends s [] (calls_to.Count kind) (answers.Info info)) else None)
-      by_test true =
-          heard s s b (calls_to.Count kind) (answers.Info info) a.rank a.servers a.caused (alone s b a.held) a.accepted a.going refl refl refl
-      by_test false = tt
+  count_heard s b request kind from (tells.Counted to info) a =
+      if_told found _ _ b (is_for request (home s.config s.me) from to) _
+      (heard s s b (calls_to.Count kind) (answers.Info info) a.rank a.servers a.caused (alone s b a.held) a.accepted a.going refl refl refl)
   count_heard s b request kind from _ a = tt
 
   -- the next server is told, or each has heard it
@@ -290,13 +253,9 @@ module _ (found : Bag → Bool) where
 
   done_heard : (s : ClientModel) (b : Bag) (request tried : ℕ) (from : Server) (m : Message) → Awaits s b (waits_for.SetDone request tried) m
       → LawOf found (said s (waits_for.SetDone request tried) (Some m)) s.me b (answer_call s (waits_for.SetDone request tried) from m)
-  done_heard s b request tried from (tells.DoneHeard to) a = by_test (is_for request (looks_at s tried) from to)
-    where
-      by_test : (t : Bool)
-          → LawOf found (said s (waits_for.SetDone request tried) (Some (tells.DoneHeard to))) s.me b
-          (if t then Some (told_done s request tried (nat_lt (tried + 1) s.config.servers)) else None)
-      by_test true = told_on s b request tried to (nat_lt (tried + 1) s.config.servers) a
-      by_test false = tt
+  done_heard s b request tried from (tells.DoneHeard to) a =
+      if_told found _ _ b (is_for request (looks_at s tried) from to) _
+      (told_on s b request tried to (nat_lt (tried + 1) s.config.servers) a)
   done_heard s b request tried from _ a = tt
 
   call_heard : (s : ClientModel) (b : Bag) (p : Pending) (from : Server) (m : Message) → Awaits s b p m → LawOf found (said s p (Some m)) s.me b (answer_call s p from m)
@@ -317,15 +276,7 @@ module _ (found : Bag → Bool) where
     where
       said_ticked : (s : ClientModel) (stamp : ℕ) (p : Pending) (m : Message) → said s p (Some m) ≡ said (ticked s stamp) p (Some m)
       said_ticked s stamp waits_for.Nothing m = refl
-      said_ticked s stamp (waits_for.Put unit first tried) m = refl
-      said_ticked s stamp (waits_for.Reserve request types) m = refl
-      said_ticked s stamp (waits_for.Try request types tried) m = refl
-      said_ticked s stamp (waits_for.Fetch request note) m = refl
-      said_ticked s stamp (waits_for.Common request note common own) m = refl
-      said_ticked s stamp (waits_for.Keep request common first tried) m = refl
-      said_ticked s stamp (waits_for.Close request batch) m = refl
-      said_ticked s stamp (waits_for.Count request kind) m = refl
-      said_ticked s stamp (waits_for.SetDone request tried) m = refl
+      said_ticked s stamp _ m = refl
 
   -- the law of a letter
   pub hears : (s : ClientModel) (from : Server) (letter : Letter) (x : Made) (b : Bag) → hear s from letter ≡ Some x → ClientAgrees s (Some letter.message) b → IsFalse (has_due b) → Follows found s (Some letter.message) b x

@@ -29,15 +29,7 @@ first_letter s to sound fresh there =
 
 pub awaited_few : (pending : Pending) → awaited pending ≤ 2
 awaited_few waits_for.Nothing = omega arith
-awaited_few (waits_for.Put unit first tried) = omega arith
-awaited_few (waits_for.Reserve request types) = omega arith
-awaited_few (waits_for.Try request types tried) = omega arith
-awaited_few (waits_for.Fetch request note) = omega arith
-awaited_few (waits_for.Common request note common own) = omega arith
-awaited_few (waits_for.Keep request common first tried) = omega arith
-awaited_few (waits_for.Close request batch) = omega arith
-awaited_few (waits_for.Count request kind) = omega arith
-awaited_few (waits_for.SetDone request tried) = omega arith
+awaited_few _ = omega arith
 
 -- the notes that are still held
 kept_notes : (config : Config) (spent : Option UnitId) (handles : List UnitNote) → All (IsPlaced config) handles
@@ -99,15 +91,7 @@ asks_inside i pending room puts sent handles before spent said to inside fresh m
 
 idle_awaits : (pending : Pending) → is_idle pending ≡ true → awaited pending ≡ 1
 idle_awaits waits_for.Nothing idle = refl
-idle_awaits (waits_for.Put unit first tried) idle = absurd (cc)
-idle_awaits (waits_for.Reserve request types) idle = absurd (cc)
-idle_awaits (waits_for.Try request types tried) idle = absurd (cc)
-idle_awaits (waits_for.Fetch request note) idle = absurd (cc)
-idle_awaits (waits_for.Common request note common own) idle = absurd (cc)
-idle_awaits (waits_for.Keep request common first tried) idle = absurd (cc)
-idle_awaits (waits_for.Close request batch) idle = absurd (cc)
-idle_awaits (waits_for.Count request kind) idle = absurd (cc)
-idle_awaits (waits_for.SetDone request tried) idle = absurd (cc)
+idle_awaits _ idle = absurd (cc)
 
 -- or is answered at once
 pub over_inside : (i : Inside) (puts : ℕ) (handles : Vec UnitNote Global) (before : List UnitNote) (spent : Option UnitId)

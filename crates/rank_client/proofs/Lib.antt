@@ -15,6 +15,7 @@ mod Naming
 mod Notes
 pub mod OpenBatches
 pub mod Ring
+mod RoomLeft
 pub mod StepsTell
 mod Telling
 pub mod Transcripts

@@ -1,6 +1,6 @@
 -- What a call makes of a link, from what whoever carries it knows.
-use Rattle.std.proofs.Common.{◌≡◌, ◌≤◌, ◌&&◌, ◌||◌, Bool, true, false, List, [], ◌∷◌, ◌++◌, length, Option, Some, None, Result, Ok, Err, refl, sym, ap, ◌∙◌, subst, arith}
-use Rattle.std.specs.Prelude.{IfOk, is_none}
+use Rattle.std.proofs.Common.{◌≡◌, ◌≤◌, ◌&&◌, Bool, true, false, List, [], ◌∷◌, ◌++◌, length, Option, Some, None, Result, Ok, Err, refl, sym, ap, ◌∙◌, subst, arith}
+use Rattle.std.specs.Prelude.{is_none}
 use Rattle.std.proofs.lemmas.Bool.{or_from}
 use Rattle.std.proofs.lemmas.List.{length_push}
 use Rattle.adlb_unit.specs.declared.notes.End.{End}
@@ -11,7 +11,7 @@ use Rattle.bag_ledger.specs.declared.entries.Call.{Call}
 use Rattle.bag_ledger.specs.declared.entries.Call.TheVariants as calls_to
 use Rattle.bag_ledger.specs.declared.entries.Said.{Said}
 use Rattle.rank_client.specs.Answers.{CanCall, IsAnswer, IsAnswerTo, answers_call}
-use Rattle.rank_client.specs.Calls.{Pends, TellsAgain, end_told, goes_on, has_finished, is_fetched, is_finish, is_open, plus}
+use Rattle.rank_client.specs.Calls.{Pends, TellsAgain, end_told, goes_on, has_finished, is_finish, is_open, plus}
 use Rattle.rank_client.specs.Link.{Can, HasGrant, IsFresh, LinkModel, Made, batch_after, done_came}
 use Rattle.rank_client.proofs.OpenBatches.{fell, opened_more, stands}
 use Rattle.rank_client.proofs.Transcripts.{fetched_more, finished_more, granted_last, none_finished}

@@ -1,5 +1,6 @@
 -- The ids that stand beside a transcript, after one call more.
-use Rattle.std.proofs.Common.{◌≡◌, ◌||◌, cond, Bool, true, false, List, [], ◌∷◌, ◌++◌, refl, sym, ap, ◌∙◌}
+use Rattle.std.proofs.Common.{◌≡◌, ◌||◌, cond, Result, Ok, Err, Bool, true, false, List, [], ◌∷◌, ◌++◌, refl, sym, ap, ◌∙◌}
+use Rattle.std.specs.Prelude.{IsOk, OnOk}
 use Rattle.adlb_unit.specs.declared.names.UnitId.{UnitId}
 use Rattle.bag_ledger.specs.declared.entries.Said.{Said}
 use Rattle.rank_client.specs.Calls.{fetches, grants, is_fetched, is_granted}
@@ -35,3 +36,8 @@ named_more said s id now between before last first was =
 pub none_named : (id : UnitId) → (is_granted id [] || is_fetched id []) ≡ false
 unfolding is_granted is_fetched
 none_named id = refl
+
+-- what holds if a call succeeds, where it does
+pub when_ok : {T E P : Type 0} (r : Result T E) → IsOk r → OnOk r P → P
+when_ok (Ok x) is p = p
+when_ok (Err e) is p = absurd (cc)

@@ -1,5 +1,5 @@
 -- The fields of a client.
-use Rattle.std.specs.Prelude.{◌≡◌, ℕ, ◌+◌, ◌<◌, ◌≤◌, List, [], ◌∷◌, ◌++◌, length, filter, not, All, IfSome, IsSome, Option, None, Some, false}
+use Rattle.std.specs.Prelude.{◌≡◌, ℕ, ◌+◌, ◌<◌, ◌≤◌, List, [], ◌∷◌, ◌++◌, length, filter, not, All, IfSome, IsSome, Option, None, Some, Bool, false}
 use Rattle.adlb_unit.specs.Ids.{same_unit}
 use Rattle.adlb_unit.specs.declared.names.UnitId.{UnitId}
 use Rattle.bag_ledger.specs.declared.entries.Entry.{Entry}
@@ -8,7 +8,9 @@ use Rattle.adlb_unit.specs.declared.notes.UnitNote.{UnitNote}
 use Rattle.std.specs.Vec.{vec_len, vec_capacity}
 use Rattle.adlb_unit.specs.Limits.{body_limit, stamp_limit}
 use Rattle.adlb_unit.specs.declared.configs.Config.{Config}
+use Rattle.adlb_unit.specs.Targets.{home}
 use Rattle.adlb_unit.specs.declared.messages.Message.{Message}
+use Rattle.adlb_unit.specs.declared.messages.Message.TheVariants as tells
 use Rattle.adlb_unit.specs.declared.names.Server.{Server}
 use Rattle.adlb_unit.specs.declared.notes.End.{End}
 use Rattle.rank_client.specs.declared.clients.ClientCore.TheInside.{Inside}
@@ -23,8 +25,11 @@ use Rattle.rank_client.specs.declared.outcomes.Place.{Place}
 use Rattle.rank_client.specs.declared.pendings.Pending.{Pending}
 use Rattle.rank_client.specs.declared.pendings.Pending.TheVariants as waits_for
 use Rattle.rank_client.specs.declared.rooms.Room.{Room}
+use Rattle.rank_client.specs.declared.rounds.Errand.{Errand}
+use Rattle.rank_client.specs.declared.rounds.Errand.TheVariants as goes_to
+use Rattle.rank_client.specs.declared.rounds.Round.{Round}
 use Rattle.rank_client.specs.declared.steps.ClientStep.{ClientStep}
-use Rattle.rank_client.specs.Rules.{ClientResponse, answer_call, answered, asks, over}
+use Rattle.rank_client.specs.Rules.{ClientResponse, answer_call, answered, asks, looked, over, part_refused, refused, told_done}
 use Rattle.rank_client.specs.State.{ClientModel}
 use Rattle.rank_client.specs.Step.{Made}
 
@@ -72,24 +77,26 @@ abbrev pub awaited : Pending → ℕ
 awaited waits_for.Nothing = 1
 awaited _ = 2
 
+-- room to ask each server behind the one that is being asked, after so many were, and for an entry at the end
+abbrev pub HasTries : Config → Room → ℕ → Type 0
+HasTries config room tried =
+    (vec_len room.tries + tried + 1 ≡ config.servers) × (1 ≤ vec_capacity room.entries) × (room.entries.items ≡ [])
+
 -- room for what the rest of the pending call may send, enter and keep
 abbrev pub HasRoom : Config → Room → Pending → Type 0
 HasRoom config room waits_for.Nothing = Prim.Unit {0}
 HasRoom config room (waits_for.Put unit first tried) =
-    (vec_len room.tries + tried + 1 ≡ config.servers) × All (λ body. body ≡ unit.body) room.tries.items × (first.0 < config.servers)
-    × (1 ≤ vec_capacity room.entries) × (room.entries.items ≡ [])
+    HasTries config room tried × All (λ body. body ≡ unit.body) room.tries.items × (first.0 < config.servers)
 HasRoom config room (waits_for.Reserve request types) = Prim.Unit {0}
-HasRoom config room (waits_for.Try request types tried) =
-    (vec_len room.tries + tried + 1 ≡ config.servers) × (1 ≤ vec_capacity room.entries) × (room.entries.items ≡ [])
+HasRoom config room (waits_for.Try request types tried) = HasTries config room tried
 HasRoom config room (waits_for.Fetch request note) =
     (1 ≤ vec_capacity room.sends) × (room.sends.items ≡ []) × IsPlaced config note
 HasRoom config room (waits_for.Common request note common own) = Prim.Unit {0}
 HasRoom config room (waits_for.Keep request common first tried) =
-    (vec_len room.tries + tried + 1 ≡ config.servers) × All (λ body. body ≡ common) room.tries.items × (first.0 < config.servers)
-    × (1 ≤ vec_capacity room.entries) × (room.entries.items ≡ []) × (length common ≤ body_limit)
+    HasTries config room tried × All (λ body. body ≡ common) room.tries.items × (first.0 < config.servers) × (length common ≤ body_limit)
 HasRoom config room (waits_for.Close request batch) = Prim.Unit {0}
 HasRoom config room (waits_for.Count request kind) = Prim.Unit {0}
-HasRoom config room (waits_for.SetDone request tried) = vec_len room.tries + tried + 1 ≡ config.servers
+HasRoom config room (waits_for.SetDone request tried) = HasTries config room tried
 
 -- room for the ids of the calls to come, each of which names two units at most, and for the letters and the entry of Finish
 pub record CanFinish (i : Inside) : Type 0 where
@@ -168,6 +175,50 @@ abbrev pub Hears : Place → Pending → Message → Room → Outcome → Type 0
 Hears place pending message room outcome =
     (s : ClientModel) (from : Server) → s.config ≡ place.config → s.me ≡ place.me → IsSome (answer_call s pending from message)
     → (answer_call s pending from message ≡ response_of s outcome) × Fits place.config room outcome
+
+-- What goes to one server after the other.
+
+-- the round at the next server
+abbrev pub later : Round → Round
+later round = record { first = round.first; tried = round.tried + 1 }
+
+-- it begins at a server of the run; of a try, and of that the problem is done, at the rank's home
+abbrev pub Starts : Place → Round → Errand → Type 0
+Starts place round (goes_to.Put unit) = round.first.0 < place.config.servers
+Starts place round (goes_to.Keep request common) = round.first.0 < place.config.servers
+Starts place round (goes_to.Try request types) = round.first ≡ home place.config place.me
+Starts place round (goes_to.SetDone request) = round.first ≡ home place.config place.me
+
+-- what is pending while the round is there
+abbrev pub pending_at : Round → Errand → Pending
+pending_at round (goes_to.Put unit) = waits_for.Put unit round.first round.tried
+pending_at round (goes_to.Keep request common) = waits_for.Keep request common round.first round.tried
+pending_at round (goes_to.Try request types) = waits_for.Try request types round.tried
+pending_at round (goes_to.SetDone request) = waits_for.SetDone request round.tried
+
+-- what each server is asked, and the bytes that it is offered, if any
+abbrev pub message_of : Errand → Message
+message_of (goes_to.Put unit) = tells.Put unit
+message_of (goes_to.Keep request common) = tells.KeepCommon request common
+message_of (goes_to.Try request types) = tells.Try request types
+message_of (goes_to.SetDone request) = tells.Done request
+
+abbrev pub IsOffer : Errand → List ℕ → Type 0
+IsOffer (goes_to.Put unit) body = body ≡ unit.body
+IsOffer (goes_to.Keep request common) body = body ≡ common
+IsOffer _ body = Prim.Unit {0}
+
+-- a common part has at most as many bytes as a batch can have
+abbrev pub IsShort : Errand → Type 0
+IsShort (goes_to.Keep request common) = length common ≤ body_limit
+IsShort _ = Prim.Unit {0}
+
+-- a server has refused, found nothing or heard it; there is a next one, or none
+abbrev pub passed : ClientModel → Round → Errand → Bool → ClientResponse
+passed s round (goes_to.Put unit) more = refused s unit round.first round.tried more
+passed s round (goes_to.Keep request common) more = part_refused s request common round.first round.tried more
+passed s round (goes_to.Try request types) more = looked s request types round.tried more
+passed s round (goes_to.SetDone request) more = told_done s request round.tried more
 
 -- What begins a call.
 

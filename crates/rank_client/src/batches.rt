@@ -1,25 +1,23 @@
 //! What a client does to begin a batch and to end it.
 
-ghost use Rattle.std.specs.Prelude.{◌≡◌, ◌<◌, ◌≤◌, ◌+◌, ◌^◌, [], length, nat_lt, Some, IfOk};
+ghost use Rattle.std.specs.Prelude.{◌≡◌, ◌<◌, ◌≤◌, ◌+◌, ◌^◌, [], length, Some, IfOk};
 ghost use Rattle.adlb_unit.specs.Limits.{body_limit, stamp_limit};
-ghost use Rattle.adlb_unit.specs.declared.messages.Message.{Message};
-ghost use Rattle.adlb_unit.specs.declared.names.Target.{Target};
 ghost use Rattle.bag_ledger.specs.declared.entries.Answer.{Answer};
 ghost use Rattle.bag_ledger.specs.declared.entries.Call.{Call};
-ghost use Rattle.bag_ledger.specs.declared.entries.Entry.{Entry};
-ghost use Rattle.rank_client.specs.Inside.{Fits, HasFirst, HasRoom, Hears, Opens, opened, response_of, response_to};
-ghost use Rattle.rank_client.specs.Rules.{asked, asks, begun_batch, closing, ends, first_server, keep, part_refused};
+ghost use Rattle.rank_client.specs.Inside.{Fits, HasRoom, Hears, Opens, opened, response_of};
+ghost use Rattle.rank_client.specs.Rules.{asked, begun_batch, closing, ends, keep};
 ghost use Rattle.rank_client.specs.State.{ClientModel};
 ghost use Rattle.rank_client.specs.declared.pendings.Pending.{Pending};
 ghost use Rattle.rank_client.specs.declared.rooms.Room.{Room};
 
-use crate::clients::{ClientCore, behind};
+use crate::clients::ClientCore;
 use crate::openings::{First, Opening};
-use crate::outcomes::{Change, Outcome, Place};
+use crate::outcomes::{Change, Outcome, Place, ended, ends};
 use crate::pendings::Pending;
-use crate::rooms::{Offer, Room};
-use adlb_unit::{BatchId, CommonRef, Message, NoMemory, Payload, Server, Target};
-use bag_ledger::{Answer, Call, Entry, Said};
+use crate::rooms::Room;
+use crate::rounds::{Errand, Round};
+use adlb_unit::{BatchId, CommonRef, Message, NoMemory, Payload, Target};
+use bag_ledger::{Answer, Call, Entry};
 
 impl ClientCore {
     // Begins a batch: its common part is offered to the first server.
@@ -40,42 +38,18 @@ impl ClientCore {
                 call: Call::BeginBatch { common },
                 end,
             },
-            None => self.offer_common(common)?,
+            None => {
+                let request = self.next;
+                let server = self.first_server(Target::Any);
+                let body = common.twin(self.alloc)?;
+                self.go_round(Errand::Keep { request, common }, body, server, server)?
+            }
         };
         Ok(Opening {
             puts: self.puts + 1,
             spent: None,
             entry,
             first,
-        })
-    }
-
-    // Offers the common part to the first server.
-    fn offer_common(&self, common: Payload) -> Result<First, NoMemory>
-        requires few { self.now.puts < stamp_limit }
-        requires common { length common ≤ 2 ^ 20 }
-        ensures ok { IfOk result (λ first. (s : ClientModel) (entry : Entry) → response_to s entry first
-            ≡ asks s entry (first_server self.now Target.Any) (Message.KeepCommon self.now.next common)
-            (Pending.Keep self.now.next common (first_server self.now Target.Any) 0)) }
-        ensures has { IfOk result (λ first. HasFirst self.now.config first) }
-    {
-        let request = self.next;
-        let room = self.offer_room(&common)?;
-        let message = Message::KeepCommon {
-            request,
-            common: common.twin(self.alloc)?,
-        };
-        let first = self.first_server(Target::Any);
-        Ok(First::Asks {
-            to: first,
-            message,
-            pending: Pending::Keep {
-                request,
-                common,
-                first,
-                tried: 0,
-            },
-            room,
         })
     }
 
@@ -112,36 +86,31 @@ pub(crate) fn hear_keep(
     place: &Place,
     request: u64,
     common: Payload,
-    first: Server,
-    tried: u32,
+    round: Round,
     room: &mut Room,
     message: &Message,
 ) -> Outcome
-    requires room { HasRoom place.now.config room.old (Pending.Keep request common first tried) }
-    ensures { Hears place.now (Pending.Keep request common first tried) message.now room.new result }
+    requires room { HasRoom place.now.config room.old (Pending.Keep request common round.first round.tried) }
+    ensures { Hears place.now (Pending.Keep request common round.first round.tried) message.now room.new result }
 {
     match message {
-        Message::Accepted { .. } => begun(place, request, common, first, tried),
-        Message::Ended { end, .. } => Outcome::Ends {
-            change: Change::Ended(*end),
-            entries: Vec::new(place.alloc),
-            said: Said {
-                call: Call::BeginBatch { common },
-                answer: Answer::Ended(*end),
-            },
-        },
-        Message::Full { .. } => offer_part(place, request, common, first, tried, room),
+        Message::Accepted { .. } => begun(place, request, common, round),
+        Message::Ended { end, .. } => ended(
+            *end,
+            Vec::new(place.alloc),
+            Call::BeginBatch { common },
+        ),
+        Message::Full { .. } => Errand::Keep { request, common }.offer_next(place, round, room),
         _ => Outcome::Strange,
     }
 }
 
 // A server keeps the common part, and the batch goes on.
-fn begun(place: &Place, request: u64, common: Payload, first: Server, tried: u32) -> Outcome
+fn begun(place: &Place, request: u64, common: Payload, round: Round) -> Outcome
     requires common { length common ≤ body_limit }
-    requires first { first.0 < place.now.config.servers }
-    requires tried { tried < place.now.config.servers }
+    requires first { round.first.0 < place.now.config.servers }
     ensures response { (s : ClientModel) → s.config ≡ place.now.config → s.me ≡ place.now.me → response_of s result
-        ≡ Some (ends (record s { batch = Some (begun_batch s request common (asked s first tried)); accepted = 0 }) [] (Call.BeginBatch common) Answer.Fine) }
+        ≡ Some (ends (record s { batch = Some (begun_batch s request common (asked s round.first round.tried)); accepted = 0 }) [] (Call.BeginBatch common) Answer.Fine) }
     ensures fits { (room : Room) → Fits place.now.config room result }
 {
     let part = CommonRef {
@@ -149,63 +118,15 @@ fn begun(place: &Place, request: u64, common: Payload, first: Server, tried: u32
             rank: place.me,
             number: request,
         },
-        server: behind(&place.config, first, tried as u64),
+        server: round.server(&place.config),
         length: common.len() as u32,
     };
-    Outcome::Ends {
-        change: Change::Begun(part),
-        entries: Vec::new(place.alloc),
-        said: Said {
-            call: Call::BeginBatch { common },
-            answer: Answer::Fine,
-        },
-    }
-}
-
-// A server is full: the common part is offered to the next one, and the beginning is rejected if there is none.
-fn offer_part(
-    place: &Place,
-    request: u64,
-    common: Payload,
-    first: Server,
-    tried: u32,
-    room: &mut Room,
-) -> Outcome
-    requires room { HasRoom place.now.config room.old (Pending.Keep request common first tried) }
-    ensures response { (s : ClientModel) → s.config ≡ place.now.config → s.me ≡ place.now.me →
-        response_of s result ≡ Some (part_refused s request common first tried (nat_lt (tried + 1) s.config.servers)) }
-    ensures fits { Fits place.now.config room.new result }
-{
-    match room.next(&place.config, first, tried) {
-        Some((to, Offer { body, sends })) => Outcome::Waits {
-            pending: Pending::Keep {
-                request,
-                common,
-                first,
-                tried: tried + 1,
-            },
-            to,
-            message: Message::KeepCommon {
-                request,
-                common: body,
-            },
-            sends,
-        },
-        None => {
-            let entry = Entry::Rejected {
-                rank: place.me,
-                call: request,
-            };
-            Outcome::Ends {
-                change: Change::Keeps,
-                entries: room.entered(place.alloc, entry),
-                said: Said {
-                    call: Call::BeginBatch { common },
-                    answer: Answer::Rejected,
-                },
-            }
-        }
-    }
+    ends(
+        Change::Begun(part),
+        Vec::new(place.alloc),
+        Call::BeginBatch { common },
+        Answer::Fine,
+    )
 }
 
 // What a letter makes of the end of a batch: the server has closed it.
@@ -219,14 +140,14 @@ pub(crate) fn hear_close(
     ensures { Hears place.now (Pending.Close request batch) message.now room.now result }
 {
     match message {
-        Message::Closed { .. } => Outcome::Ends {
-            change: Change::Closed,
-            entries: Vec::new(place.alloc),
-            said: Said {
-                call: Call::EndBatch,
-                answer: Answer::Fine,
-            },
-        },
+        Message::Closed { .. } => {
+            ends(
+                Change::Closed,
+                Vec::new(place.alloc),
+                Call::EndBatch,
+                Answer::Fine,
+            )
+        }
         _ => Outcome::Strange,
     }
 }

@@ -1,6 +1,6 @@
 //! What a client does with a call.
 
-ghost use Rattle.std.specs.Prelude.{◌≡◌, ◌⊎◌, ◌<◌, ◌≤◌, ◌+◌, ◌^◌, ◌↔◌, ◌∷◌, ◌++◌, [], ℕ, true, false, length, map, find, All, Some, None, Err, IsSome, IsTrue, IfOk, IfErr, OnOk, OnErr, is_none, nat_le, slice_index_or};
+ghost use Rattle.std.specs.Prelude.{◌≡◌, ◌⊎◌, ◌<◌, ◌≤◌, ◌+◌, ◌^◌, ◌↔◌, ◌∷◌, ◌++◌, [], ℕ, true, false, length, map, find, All, Some, None, Err, IsSome, IsTrue, IfOk, IfErr, IfSome, is_some, not, OnOk, OnErr, is_none, nat_le, slice_index_or};
 ghost use Rattle.std.specs.Option.{option_map};
 ghost use Rattle.std.specs.List.{range_with_len};
 ghost use Rattle.std.specs.Vec.{vec_capacity, vec_len};
@@ -285,42 +285,46 @@ impl ClientCore {
         ensures err { OnErr result (self.new ≡ self.old) }
         ensures finish { OnErr result (is_finish call ≡ false) }
     {
-        match call {
-            Call::Finish => Ok(self.finish()),
-            other => {
-                let opening = self.opening(other)?;
-                self.open(opening)
-            }
+        match self.opening(call)? {
+            Some(opening) => self.open(opening),
+            None => Ok(self.finish()),
         }
     }
 
-    // What begins the call, which is not Finish.
-    fn opening(&self, call: Call) -> Result<Opening, NoMemory>
-        requires other { is_finish call ≡ false }
+    // What begins the call; nothing at Finish, which takes no memory.
+    fn opening(&self, call: Call) -> Result<Option<Opening>, NoMemory>
         requires fresh { IsFresh self.now }
         requires ready { IsSome (open_call self.now call) }
-        ensures ok { IfOk result (λ o. open_call self.now call ≡ Some (opened self.now o)) }
-        ensures opens { IfOk result (λ o. Opens self.now o) }
+        ensures ok { IfOk result (λ o. IfSome o (λ x. open_call self.now call ≡ Some (opened self.now x))) }
+        ensures opens { IfOk result (λ o. IfSome o (λ x. Opens self.now x)) }
+        ensures finish { IfOk result (λ o. is_some o ≡ not (is_finish call)) }
+        ensures err { OnErr result (is_finish call ≡ false) }
     {
         match call {
-            Call::Put { .. } => {
-                let unit = self.unit(call)?;
-                self.put(unit)
+            Call::Put {
+                kind,
+                prio,
+                target,
+                answer,
+                body,
+            } => {
+                let unit = self.unit(kind, prio, target, answer, body)?;
+                Ok(Some(self.put(unit)?))
             }
-            Call::Reserve { types } => Ok(self.reserve(types)),
-            Call::Try { types } => self.look(types),
+            Call::Reserve { types } => Ok(Some(self.reserve(types))),
+            Call::Try { types } => Ok(Some(self.look(types)?)),
             Call::Fetch { id } => match self.held(id) {
-                Some(note) => self.fetch(id, note),
-                None => unreachable!(),
+                Some(note) => Ok(Some(self.fetch(id, note)?)),
+                None => Ok(None),
             },
-            Call::BeginBatch { common } => self.keep(common),
+            Call::BeginBatch { common } => Ok(Some(self.keep(common)?)),
             Call::EndBatch => match self.batch {
-                Some(batch) => Ok(self.close(batch)),
-                None => unreachable!(),
+                Some(batch) => Ok(Some(self.close(batch))),
+                None => Ok(None),
             },
-            Call::Count { kind } => Ok(self.count(kind)),
-            Call::SetDone => self.set_done(),
-            Call::Finish => unreachable!(),
+            Call::Count { kind } => Ok(Some(self.count(kind))),
+            Call::SetDone => Ok(Some(self.set_done()?)),
+            Call::Finish => Ok(None),
         }
     }
 }

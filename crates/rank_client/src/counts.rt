@@ -7,11 +7,11 @@ ghost use Rattle.rank_client.specs.declared.pendings.Pending.{Pending};
 
 use crate::clients::ClientCore;
 use crate::openings::{First, Opening};
-use crate::outcomes::{Change, Outcome, Place};
+use crate::outcomes::{Change, Outcome, Place, ends};
 use crate::pendings::Pending;
 use crate::rooms::Room;
 use adlb_unit::{Message, WorkType};
-use bag_ledger::{Answer, Call, Entry, Said};
+use bag_ledger::{Answer, Call, Entry};
 
 impl ClientCore {
     // Asks the home.
@@ -49,14 +49,12 @@ pub(crate) fn hear_count(
     ensures { Hears place.now (Pending.Count request kind) message.now room.now result }
 {
     match message {
-        Message::Counted { info, .. } => Outcome::Ends {
-            change: Change::Keeps,
-            entries: Vec::new(place.alloc),
-            said: Said {
-                call: Call::Count { kind },
-                answer: Answer::Info(*info),
-            },
-        },
+        Message::Counted { info, .. } => ends(
+            Change::Keeps,
+            Vec::new(place.alloc),
+            Call::Count { kind },
+            Answer::Info(*info),
+        ),
         _ => Outcome::Strange,
     }
 }

@@ -6,8 +6,9 @@ ghost use Rattle.rank_client.specs.Expected.{AnswersClose, AnswersCommon, Answer
 ghost use Rattle.rank_client.specs.Rules.{expects_note, is_at_server, is_for};
 ghost use Rattle.rank_client.specs.Step.{hear};
 
-use crate::clients::{ClientCore, behind};
+use crate::clients::ClientCore;
 use crate::pendings::Pending;
+use crate::rounds::Round;
 use adlb_unit::{CommonRef, Letter, Message, STAMP_LIMIT, Server, UnitNote};
 
 impl ClientCore {
@@ -27,7 +28,11 @@ impl ClientCore {
         match &self.pending {
             Pending::Nothing => false,
             Pending::Put { unit, first, tried } => {
-                let at = behind(&self.config, *first, *tried as u64);
+                let round = Round {
+                    first: *first,
+                    tried: *tried,
+                };
+                let at = round.server(&self.config);
                 answers_put(unit.id.number, at, from, message)
             }
             Pending::Reserve { request, .. } => self.answers_reserve(*request, from, message),
@@ -46,7 +51,11 @@ impl ClientCore {
                 tried,
                 ..
             } => {
-                let at = behind(&self.config, *first, *tried as u64);
+                let round = Round {
+                    first: *first,
+                    tried: *tried,
+                };
+                let at = round.server(&self.config);
                 answers_put(*request, at, from, message)
             }
             Pending::Close { request, batch } => answers_close(*request, batch, from, message),
@@ -55,7 +64,7 @@ impl ClientCore {
                 answers_count(*request, home, from, message)
             }
             Pending::SetDone { request, tried } => {
-                let at = behind(&self.config, self.config.home(self.me), *tried as u64);
+                let at = Round::from_home(&self.config, self.me, *tried).server(&self.config);
                 answers_done(*request, at, from, message)
             }
         }
@@ -77,7 +86,7 @@ impl ClientCore {
     fn answers_try(&self, request: u64, tried: u32, from: Server, message: &Message) -> bool
         ensures { IsTrue result ↔ AnswersTry self.now request tried from message.now }
     {
-        let at = behind(&self.config, self.config.home(self.me), tried as u64);
+        let at = Round::from_home(&self.config, self.me, tried).server(&self.config);
         match message {
             Message::Grant { request: to, note } => {
                 is_for(request, at, from, *to) && self.expects_note(note)

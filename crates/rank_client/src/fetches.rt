@@ -12,11 +12,11 @@ ghost use Rattle.rank_client.specs.declared.rooms.Room.{Room};
 use crate::calls::with_room;
 use crate::clients::ClientCore;
 use crate::openings::{First, Opening};
-use crate::outcomes::{Change, Outcome, Place};
+use crate::outcomes::{Change, Outcome, Place, ends};
 use crate::pendings::Pending;
 use crate::rooms::Room;
 use adlb_unit::{CommonRef, Message, NoMemory, Payload, UnitId, UnitNote};
-use bag_ledger::{Answer, Body, Call, Entry, Said};
+use bag_ledger::{Answer, Body, Call, Entry};
 use std::alloc::Global;
 use std::mem;
 
@@ -109,14 +109,12 @@ fn own_bytes(place: &Place, request: u64, note: UnitNote, room: &mut Room, own: 
     ensures fits { Fits place.now.config room.new result }
 {
     match note.common {
-        None => Outcome::Ends {
-            change: Change::Keeps,
-            entries: Vec::new(place.alloc),
-            said: Said {
-                call: Call::Fetch { id: note.id },
-                answer: Answer::Body(Body::alone(own)),
-            },
-        },
+        None => ends(
+            Change::Keeps,
+            Vec::new(place.alloc),
+            Call::Fetch { id: note.id },
+            Answer::Body(Body::alone(own)),
+        ),
         Some(common) => Outcome::Waits {
             pending: Pending::Common {
                 request,
@@ -148,14 +146,12 @@ pub(crate) fn hear_common(
     ensures { Hears place.now (Pending.Common request note common own) message room.now result }
 {
     match message {
-        Message::Bytes { body, .. } => Outcome::Ends {
-            change: Change::Keeps,
-            entries: Vec::new(place.alloc),
-            said: Said {
-                call: Call::Fetch { id: note.id },
-                answer: Answer::Body(Body::joined(body, own)),
-            },
-        },
+        Message::Bytes { body, .. } => ends(
+            Change::Keeps,
+            Vec::new(place.alloc),
+            Call::Fetch { id: note.id },
+            Answer::Body(Body::joined(body, own)),
+        ),
         _ => Outcome::Strange,
     }
 }

@@ -17,6 +17,7 @@ use crate::outcomes::{Outcome, Place, make_change};
 use crate::pendings::Pending;
 use crate::puts::hear_put;
 use crate::rooms::Room;
+use crate::rounds::Round;
 use crate::steps::ClientStep;
 use adlb_unit::{Letter, Message, STAMP_LIMIT, Server, Trouble};
 use bag_ledger::{Answer, Said};
@@ -130,7 +131,9 @@ fn heard(place: &Place, pending: Pending, room: &mut Room, message: Message) -> 
 {
     match pending {
         Pending::Nothing => Outcome::Strange,
-        Pending::Put { unit, first, tried } => hear_put(place, unit, first, tried, room, &message),
+        Pending::Put { unit, first, tried } => {
+            hear_put(place, unit, Round { first, tried }, room, &message)
+        }
         Pending::Reserve { request, types } => hear_reserve(place, request, types, room, &message),
         Pending::Try {
             request,
@@ -149,7 +152,16 @@ fn heard(place: &Place, pending: Pending, room: &mut Room, message: Message) -> 
             common,
             first,
             tried,
-        } => hear_keep(place, request, common, first, tried, room, &message),
+        } => {
+            hear_keep(
+                place,
+                request,
+                common,
+                Round { first, tried },
+                room,
+                &message,
+            )
+        }
         Pending::Close { request, batch } => hear_close(place, request, batch, room, &message),
         Pending::Count { request, kind } => hear_count(place, request, kind, room, &message),
         Pending::SetDone { request, tried } => hear_done(place, request, tried, room, &message),

@@ -28,6 +28,7 @@ mod pendings;
 mod programs;
 mod puts;
 mod rooms;
+mod rounds;
 mod said;
 mod steps;
 

@@ -8,6 +8,8 @@ ghost use Rattle.bag_ledger.specs.declared.entries.Answer.{Answer};
 ghost use Rattle.rank_client.specs.Inside.{Fits, IsPlaced, accepted_after, batch_after, end_after, handles_after, response_of};
 ghost use Rattle.rank_client.specs.Rules.{ends};
 ghost use Rattle.rank_client.specs.State.{ClientModel};
+ghost use Rattle.rank_client.specs.declared.outcomes.Change.{Change};
+ghost use Rattle.rank_client.specs.declared.outcomes.Outcome.{Outcome};
 ghost use Rattle.rank_client.specs.declared.rooms.Room.{Room};
 
 use crate::pendings::Pending;
@@ -89,17 +91,33 @@ pub(crate) fn make_change(
     }
 }
 
+// The call has this answer, and these entries.
+pub(crate) fn ends(change: Change, entries: Vec<Entry>, call: Call, answer: Answer) -> Outcome
+    ensures { result ≡ Outcome.Ends change entries (record { call = call; answer = answer }) }
+{
+    Outcome::Ends {
+        change,
+        entries,
+        said: Said { call, answer },
+    }
+}
+
 // The call is answered by a unit.
 pub(crate) fn granted(alloc: Global, call: Call, note: UnitNote) -> Outcome
     ensures response { (s : ClientModel) → response_of s result ≡ Some (ends (record s { handles = s.handles ++ note ∷ [] }) [] call (Answer.Granted note)) }
     ensures fits { (config : Config) (room : Room) → IsPlaced config note → Fits config room result }
 {
-    Outcome::Ends {
-        change: Change::Granted(note),
-        entries: Vec::new(alloc),
-        said: Said {
-            call,
-            answer: Answer::Granted(note),
-        },
-    }
+    ends(
+        Change::Granted(note),
+        Vec::new(alloc),
+        call,
+        Answer::Granted(note),
+    )
+}
+
+// The call is answered by an end.
+pub(crate) fn ended(end: End, entries: Vec<Entry>, call: Call) -> Outcome
+    ensures { result ≡ Outcome.Ends (Change.Ended end) entries (record { call = call; answer = Answer.Ended end }) }
+{
+    ends(Change::Ended(end), entries, call, Answer::Ended(end))
 }

@@ -2,9 +2,8 @@
 
 use adlb_unit::{CommonRef, Payload, Server, Types, Unit, UnitNote, WorkType};
 
-/// The pending call. A put or a common part has gone to its first server and, after so many of them refused it, to the next in
-/// ring order. A try has gone to the home and, after so many servers looked in vain, to the next; and so has that the problem is
-/// done, after so many have heard it.
+/// The pending call. Of one that goes to one server after the other, `tried` servers, from `first` on in ring order, have refused it,
+/// found nothing or heard it, and the next is being asked. A try goes so from the home on, and so does that the problem is done.
 #[derive(Drop)]
 pub enum Pending {
     /// No call is pending.

@@ -1,23 +1,21 @@
 //! What a client does to put a unit.
 
-ghost use Rattle.std.specs.Prelude.{◌≡◌, ◌<◌, ◌+◌, [], nat_lt, All, Some, IsSome, IfOk};
+ghost use Rattle.std.specs.Prelude.{◌≡◌, ◌<◌, ◌+◌, [], All, IfOk};
 ghost use Rattle.std.specs.Vec.{vec_len, vec_capacity};
 ghost use Rattle.adlb_unit.specs.Limits.{stamp_limit};
-ghost use Rattle.adlb_unit.specs.declared.messages.Message.{Message};
-ghost use Rattle.bag_ledger.specs.declared.entries.Entry.{Entry};
-ghost use Rattle.rank_client.specs.Inside.{Fits, HasFirst, HasRoom, Hears, Opens, opened, response_of, response_to};
-ghost use Rattle.rank_client.specs.Rules.{asks, call_of, entry_of, first_server, put, refused, unit_of};
-ghost use Rattle.rank_client.specs.State.{ClientModel};
+ghost use Rattle.rank_client.specs.Inside.{HasRoom, Hears, Opens, opened};
+ghost use Rattle.rank_client.specs.Rules.{call_of, entry_of, first_server, put, unit_put};
 ghost use Rattle.rank_client.specs.declared.pendings.Pending.{Pending};
 
 use crate::calls::with_room;
 use crate::clients::{ClientCore, behind};
 use crate::openings::{First, Opening};
-use crate::outcomes::{Change, Outcome, Place};
+use crate::outcomes::{Change, Outcome, Place, ended, ends};
 use crate::pendings::Pending;
 use crate::rooms::{Offer, Room};
-use adlb_unit::{Message, NoMemory, Payload, Server, Target, Unit, UnitId};
-use bag_ledger::{Answer, Call, Entry, Said};
+use crate::rounds::{Errand, Round};
+use adlb_unit::{Message, NoMemory, Payload, Rank, Server, Target, Unit, UnitId, WorkType};
+use bag_ledger::{Answer, Call, Entry};
 use std::alloc::Global;
 
 // The entry that begins the put of this unit.
@@ -64,89 +62,40 @@ fn offers(alloc: Global, body: &Payload, servers: usize) -> Result<Vec<Offer>, N
 pub(crate) fn hear_put(
     place: &Place,
     unit: Unit,
-    first: Server,
-    tried: u32,
+    round: Round,
     room: &mut Room,
     message: &Message,
 ) -> Outcome
-    requires room { HasRoom place.now.config room.old (Pending.Put unit first tried) }
-    ensures { Hears place.now (Pending.Put unit first tried) message.now room.new result }
+    requires room { HasRoom place.now.config room.old (Pending.Put unit round.first round.tried) }
+    ensures { Hears place.now (Pending.Put unit round.first round.tried) message.now room.new result }
 {
     match message {
-        Message::Accepted { .. } => Outcome::Ends {
-            change: Change::Accepted,
-            entries: Vec::new(place.alloc),
-            said: Said {
-                call: put_call(unit),
-                answer: Answer::Fine,
-            },
-        },
-        Message::Ended { end, .. } => Outcome::Ends {
-            change: Change::Ended(*end),
-            entries: Vec::new(place.alloc),
-            said: Said {
-                call: put_call(unit),
-                answer: Answer::Ended(*end),
-            },
-        },
-        Message::Full { .. } => offer_next(place, unit, first, tried, room),
+        Message::Accepted { .. } => {
+            ends(
+                Change::Accepted,
+                Vec::new(place.alloc),
+                put_call(unit),
+                Answer::Fine,
+            )
+        }
+        Message::Ended { end, .. } => ended(*end, Vec::new(place.alloc), put_call(unit)),
+        Message::Full { .. } => Errand::Put(unit).offer_next(place, round, room),
         _ => Outcome::Strange,
     }
 }
 
-// A server is full: the unit is offered to the next one, and rejected if there is none.
-fn offer_next(place: &Place, unit: Unit, first: Server, tried: u32, room: &mut Room) -> Outcome
-    requires room { HasRoom place.now.config room.old (Pending.Put unit first tried) }
-    ensures response { (s : ClientModel) → s.config ≡ place.now.config → s.me ≡ place.now.me →
-        response_of s result ≡ Some (refused s unit first tried (nat_lt (tried + 1) s.config.servers)) }
-    ensures fits { Fits place.now.config room.new result }
-{
-    match room.next(&place.config, first, tried) {
-        Some((to, Offer { body, sends })) => Outcome::Waits {
-            message: Message::Put {
-                unit: unit_with(&unit, body),
-            },
-            pending: Pending::Put {
-                unit,
-                first,
-                tried: tried + 1,
-            },
-            to,
-            sends,
-        },
-        None => {
-            let entry = Entry::Rejected {
-                rank: place.me,
-                call: unit.id.number,
-            };
-            Outcome::Ends {
-                change: Change::Keeps,
-                entries: room.entered(place.alloc, entry),
-                said: Said {
-                    call: put_call(unit),
-                    answer: Answer::Rejected,
-                },
-            }
-        }
-    }
-}
-
 impl ClientCore {
-    // The unit that this call puts, whose twins will share its bytes.
-    pub(crate) fn unit(&self, call: Call) -> Result<Unit, NoMemory>
-        requires { IsSome (unit_of self.now call) }
-        ensures { IfOk result (λ unit. unit_of self.now call ≡ Some unit) }
+    // The unit that is put, whose twins will share its bytes.
+    pub(crate) fn unit(
+        &self,
+        kind: WorkType,
+        prio: i32,
+        target: Target,
+        answer: Option<Rank>,
+        body: Payload,
+    ) -> Result<Unit, NoMemory>
+        ensures { IfOk result (λ unit. unit ≡ unit_put self.now kind prio target answer body) }
     {
-        let Call::Put {
-            kind,
-            prio,
-            target,
-            answer,
-            body,
-        } = call
-        else {
-            unreachable!()
-        };
         let id = UnitId {
             rank: self.me,
             number: self.next,
@@ -188,37 +137,17 @@ impl ClientCore {
                 call: put_call(unit),
                 end,
             },
-            None => self.offer(unit)?,
+            None => {
+                let server = self.first_server(unit.target);
+                let body = unit.body.twin(self.alloc)?;
+                self.go_round(Errand::Put(unit), body, server, server)?
+            }
         };
         Ok(Opening {
             puts: self.puts + 1,
             spent: None,
             entry,
             first,
-        })
-    }
-
-    // Offers the unit to the first server.
-    fn offer(&self, unit: Unit) -> Result<First, NoMemory>
-        requires few { self.now.puts < stamp_limit }
-        ensures ok { IfOk result (λ first. (s : ClientModel) (entry : Entry) → response_to s entry first
-            ≡ asks s entry (first_server self.now unit.target) (Message.Put unit) (Pending.Put unit (first_server self.now unit.target) 0)) }
-        ensures has { IfOk result (λ first. HasFirst self.now.config first) }
-    {
-        let room = self.offer_room(&unit.body)?;
-        let message = Message::Put {
-            unit: unit.twin(self.alloc)?,
-        };
-        let first = self.first_server(unit.target);
-        Ok(First::Asks {
-            to: first,
-            message,
-            pending: Pending::Put {
-                unit,
-                first,
-                tried: 0,
-            },
-            room,
         })
     }
 
@@ -231,20 +160,5 @@ impl ClientCore {
             Target::Any => behind(&self.config, self.config.home(self.me), self.puts),
             Target::Only(rank) | Target::Soft(rank) => self.config.home(rank),
         }
-    }
-}
-
-// The unit with these bytes.
-fn unit_with(unit: &Unit, body: Payload) -> Unit
-    ensures { result ≡ record unit.now { body = body } }
-{
-    Unit {
-        id: unit.id,
-        kind: unit.kind,
-        prio: unit.prio,
-        target: unit.target,
-        answer: unit.answer,
-        common: unit.common,
-        body,
     }
 }

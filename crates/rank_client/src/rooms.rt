@@ -1,11 +1,9 @@
 //! Memory that a client keeps, so that a letter that answers a call takes none.
 
-ghost use Rattle.std.specs.Prelude.{◌≡◌, ◌≤◌, ◌<◌, ◌+◌, ◌∷◌, ◌++◌, [], ℕ, List, All, IfOk, IfSome, is_some, nat_lt};
-ghost use Rattle.std.specs.Vec.{vec_capacity, vec_len};
-ghost use Rattle.adlb_unit.specs.Ring.{behind};
+ghost use Rattle.std.specs.Prelude.{◌≡◌, ◌≤◌, ◌∷◌, [], IfOk};
+ghost use Rattle.std.specs.Vec.{vec_capacity};
 
-use crate::clients::behind;
-use adlb_unit::{Config, NoMemory, Payload, Sending, Server, or_no_memory};
+use adlb_unit::{NoMemory, Payload, Sending, or_no_memory};
 use bag_ledger::Entry;
 use std::alloc::Global;
 use std::marker::Model;
@@ -56,26 +54,6 @@ impl Room {
             entries: Vec::new(alloc),
             sends: Vec::new(alloc),
         }
-    }
-
-    // What it takes to ask the next server in ring order, after so many were asked from the first one on; nothing if all were.
-    pub(crate) fn next(
-        &mut self,
-        config: &Config,
-        first: Server,
-        tried: u32,
-    ) -> Option<(Server, Offer)>
-        requires first { first.0 < config.now.servers }
-        requires room { vec_len self.old.tries + tried + 1 ≡ config.now.servers }
-        ensures more { is_some result ≡ nat_lt (tried + 1) config.now.servers }
-        ensures server { IfSome result (λ next. (next.0 ≡ behind config.now first (tried + 1)) × (next.0.0 < config.now.servers)) }
-        ensures offer { IfSome result (λ next. self.old.tries.items ≡ self.new.tries.items ++ next.1 ∷ []) }
-        ensures bodies { (body : List ℕ) → All (λ b. b ≡ body) self.old.tries.items → All (λ b. b ≡ body) self.new.tries.items }
-        ensures room { IfSome result (λ next. vec_len self.new.tries + (tried + 1) + 1 ≡ config.now.servers) }
-        ensures others { self.new ≡ record self.old { tries = self.new.tries } }
-    {
-        let offer = self.tries.pop()?;
-        Some((behind(config, first, tried as u64 + 1), offer))
     }
 
     // The list of this entry alone.

@@ -55,7 +55,9 @@ pub struct Puzzles {
 
 impl Command for Puzzles {
     type Asked = PuzzleJobs;
+
     type Why = LineWhy;
+
     type Program = PuzzleProgram;
 
     ghost asks = { λ puzzles bytes jobs. AreJobs bytes jobs };
@@ -70,11 +72,21 @@ impl Command for Puzzles {
         read_puzzles(alloc, bytes)
     }
 
-    fn programs(&self, alloc: Global, ranks: u32, asked: &PuzzleJobs) -> Result<Vec<PuzzleProgram>, NoMemory> {
+    fn programs(
+        &self,
+        alloc: Global,
+        ranks: u32,
+        asked: &PuzzleJobs,
+    ) -> Result<Vec<PuzzleProgram>, NoMemory> {
         programs_of(alloc, self.settings, ranks, asked)
     }
 
-    fn tell(&self, alloc: Global, asked: &PuzzleJobs, kept: &Kept<Outcome>) -> Result<Vec<u8>, NoMemory> {
+    fn tell(
+        &self,
+        alloc: Global,
+        asked: &PuzzleJobs,
+        kept: &Kept<Outcome>,
+    ) -> Result<Vec<u8>, NoMemory> {
         tell_run(alloc, self.settings, self.wanted, asked, kept)
     }
 }

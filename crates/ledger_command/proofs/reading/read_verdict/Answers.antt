@@ -12,8 +12,7 @@ returns-then-len-gt-INPUT_LIMIT-clause-refused g c =
     omega (arith, c.len-taken.ensures, c.len.ensures, c.if-len-gt-INPUT_LIMIT.true, c.in_ok-bytes.ensures.bound) in
     let before = g.S.Source.left c.args.input.now in
     let after = g.S.Source.left c.read_up_to.new.source in
-    let bytes : List ℕ = c.in_ok-bytes.bytes.items in
-    (
+    let bytes : List ℕ = c.in_ok-bytes.bytes.items in (
       count,
       read_too_long input_limit before after bytes c.in_ok-bytes.ensures.read (omega (arith, c.len.ensures, c.if-len-gt-INPUT_LIMIT.true)),
       (bytes, subst (λ n. Reads before after n bytes) (sym count) c.in_ok-bytes.ensures.read),

@@ -31,7 +31,7 @@ all_halves c =
     let over : length bytes ≤ k = omega (arith, c.loop-byte-test.false) in (
       omega (arith, v.place, over, c.loop-byte.auto.byte-index-end),
       sym (append-nil (take c.loop-byte.at c.loop-byte.cells))
-      ∙ ap (λ l. take c.loop-byte.at c.loop-byte.cells ++ l) (sym (halves_none bytes k over)) ∙ v.written,
+          ∙ ap (λ l. take c.loop-byte.at c.loop-byte.cells ++ l) (sym (halves_none bytes k over)) ∙ v.written,
     )
 
 pub returns-clause-halves : goal.returns-clause-halves

@@ -15,11 +15,11 @@ loop-at-preserved g c =
     record {
       long = length-set c.loop-at.bytes at byte ∙ v.long;
       written = ap (λ l. l ++ pairs (drop (at + 1 + (at + 1)) cells))
-            (take-set_at c.loop-at.bytes at (at + 1) byte refl (omega (arith, v.long, c.loop-at-test.true)))
+          (take-set_at c.loop-at.bytes at (at + 1) byte refl (omega (arith, v.long, c.loop-at-test.true)))
           ∙ append_assoc (take at c.loop-at.bytes) (byte ∷ []) (pairs (drop (at + 1 + (at + 1)) cells))
           ∙ ap (λ n. take at c.loop-at.bytes ++ byte ∷ pairs (drop n cells)) (sym next)
           ∙ ap (λ l. take at c.loop-at.bytes ++ l)
-            (sym (pairs_at cells (at + at) (omega (arith, c.requires.enough, c.loop-at-test.true))))
+          (sym (pairs_at cells (at + at) (omega (arith, c.requires.enough, c.loop-at-test.true))))
           ∙ v.written;
     }
 
