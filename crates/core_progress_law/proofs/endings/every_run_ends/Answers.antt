@@ -1,0 +1,5 @@
+use Rattle.core_progress_law.proofs.Dead.{ends_within}
+use Rattle.core_progress_law.proofs.endings.every_run_ends.Goals as goal
+
+pub returns : goal.returns
+returns c = ends_within

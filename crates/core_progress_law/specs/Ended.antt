@@ -1,0 +1,39 @@
+-- When a run can go no further, and when it has ended.
+use Rattle.std.specs.Prelude.{◌≡◌, ◌≢◌, ◌<◌, ◌≤◌, ◌⊎◌, ℕ, ◌+◌, ◌*◌, ◌^◌, true, List, [], None, length}
+use Rattle.adlb_unit.specs.Links.{is_within, place_of}
+use Rattle.adlb_unit.specs.declared.actors.Actor.{Actor}
+use Rattle.adlb_unit.specs.declared.names.Rank.{Rank}
+use Rattle.adlb_unit.specs.declared.names.Server.{Server}
+use Rattle.rank_client.specs.Rules.{is_free}
+use Rattle.core_run.specs.declared.events.Event.{Event}
+use Rattle.core_run.specs.declared.events.Event.TheVariants as occurs
+use Rattle.core_run.specs.Runs.{is_over}
+use Rattle.core_run.specs.World.{World, client_of, happens, has_ended, link, pool_of}
+
+-- no rank can begin a call: each waits for the answer of one, or has finished
+abbrev pub NoneIsFree : World → Type 0
+NoneIsFree w = (r : Rank) → r.0 < w.config.ranks → is_free (client_of w r) ≢ true
+
+-- no letter is under way, but to servers that have ended; and no rank can begin a call
+pub record IsStill (w : World) : Type 0 where
+  pub letters : (from to : Actor) → is_within w.config from ≡ true → is_within w.config to ≡ true
+      → (link w.links (place_of w.config from) (place_of w.config to) ≡ []) ⊎ (is_over w to ≡ true)
+  pub ranks : NoneIsFree w
+
+-- each rank has finished, and each server has ended
+pub record IsEnded (w : World) : Type 0 where
+  pub ranks : (r : Rank) → r.0 < w.config.ranks → (client_of w r).finished ≡ true
+  pub servers : (t : Server) → t.0 < w.config.servers → has_ended (pool_of w t) ≡ true
+
+-- no letter can be delivered
+abbrev pub NoneIsDelivered : World → Type 0
+NoneIsDelivered w = (from to : Actor) → happens w (occurs.Deliver from to) ≡ None
+
+-- The run so far begins `n` calls at most: then it has at most so many events, whatever the order in which letters are delivered. And
+-- where it can go no further, since no letter is under way to an actor that goes on and no rank can begin a call, it has ended. Where no
+-- letter can be delivered, for whatever reason, none is under way to an actor that goes on, if the calls are fewer than 2^34: up to there
+-- no stamp reaches its limit.
+pub record EndsWithin (n : ℕ) (events : List Event) (w : World) : Type 0 where
+  pub few : length events ≤ 8192 * (n + 1)
+  pub ends : IsStill w → IsEnded w
+  pub rests : n < 2 ^ 34 → NoneIsDelivered w → NoneIsFree w → IsEnded w

@@ -1,0 +1,15 @@
+//! That every run ends: none gets stuck, and where a run can go no further all has ended.
+//!
+//! It stands on the laws of runs in `core_law` and `core_check_law`, on the bound on events in `core_bound_law`, and on what
+//! servers know of each other in `core_wish_law`. `specs/Ended.antt` says when a run can go no further and when it has ended,
+//! `specs/Going.antt` what keeps it going, and `specs/Room.antt` how many letters are under way to one actor. It speaks of
+//! definitions alone and has no code.
+#![tactic(auto)]
+
+mod endings;
+mod laws;
+mod rooms;
+
+pub use endings::every_run_ends;
+pub use laws::progress_laws;
+pub use rooms::room_laws;

@@ -1,0 +1,10 @@
+pub mod Agreed
+pub mod AskedOut
+pub mod Busy
+pub mod Covered
+pub mod Covering
+pub mod Foreseen
+pub mod Having
+pub mod Pools
+pub mod Taken
+pub mod Wished
