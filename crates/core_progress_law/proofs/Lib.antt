@@ -3,7 +3,7 @@ pub mod AloneGoes
 pub mod Along
 pub mod Always
 pub mod Causes
-pub mod Dead
+pub mod Enabled
 pub mod Ended
 pub mod Ends
 pub mod Failing

@@ -19,7 +19,7 @@ use Rattle.core_law.proofs.Owed.{all_fit, finishes_are, letters_are}
 use Rattle.core_law.proofs.Own.{fits_is}
 use Rattle.core_law.proofs.Sums.{links_le}
 use Rattle.core_law.proofs.UnderWay.{each_weaker, weaker}
-use Rattle.core_law.specs.Letters.{call_letter, finish_letter, fits_between, is_finish, is_request, misfit, one, one_letter}
+use Rattle.core_law.specs.Letters.{call_letter, finish_letter, fits_between, is_finish, is_request, misfit, one, one_letter, remote_letter}
 use Rattle.core_law.specs.Measures.{links_weight, measure, weights}
 use Rattle.core_law.specs.OnLinks.{OnLinks}
 use Rattle.core_law.specs.Pushed.{letters_of}
@@ -87,60 +87,34 @@ module _ (config : Config) (t : Server) where
   its_push : (a : Server) (from to : Actor) (m : Message) → a.0 < config.servers → 1 ≤ push_letter a from to m → 1 ≤ of_all from to m
   its_push a from to m low some = let part = part_of_total config.servers a.0 of_pushes from to m low in omega arith
 
-  own : (n : ℕ) → one (n == n) ≡ 1
-  own n = rw (eq-eqb n n refl) refl
+  own : (n : ℕ) → 1 ≤ one (n == n)
+  own n = let is : one (n == n) ≡ 1 = rw (eq-eqb n n refl) refl in omega arith
+
+  at_most : (s : Server) (k : Actor) (m : Message) → 1 ≤ of_all k (by.Server s) m → one (s.0 == t.0) ≤ of_all k (by.Server s) m
+  at_most s k m some = let most = at_most_one (s.0 == t.0) in omega arith
+
+  of_remote : (k s : Server) (m : Message) (rank : Rank) (more : Bool) → (nat_lt rank.0 config.ranks && more) ≡ true
+      → 1 ≤ remote_letter rank m → one (s.0 == t.0) ≤ of_all (by.Server k) (by.Server s) m
+  of_remote k s m rank more fits some =
+      at_most s (by.Server k) m
+      (its_rank rank (by.Server k) (by.Server s) m (ltb-true rank.0 config.ranks (and_parts (nat_lt rank.0 config.ranks) more fits).0) some)
+
+  of_push : (k s a : Server) (m : Message) → a.0 < config.servers → 1 ≤ push_letter a (by.Server k) (by.Server s) m
+      → one (s.0 == t.0) ≤ of_all (by.Server k) (by.Server s) m
+  of_push k s a m low some = at_most s (by.Server k) m (its_push a (by.Server k) (by.Server s) m low some)
 
   between : (k s : Server) (m : Message) → k.0 < config.servers → s.0 < config.servers → fits_between config k s m ≡ true
       → one (s.0 == t.0) ≤ of_all (by.Server k) (by.Server s) m
-  between k s (tells.Ask rank request types) low there fits =
-      let inside = ltb-true rank.0 config.ranks (and_parts (nat_lt rank.0 config.ranks) _ fits).0 in
-      let is = own rank.0 in
-      let some = its_rank rank (by.Server k) (by.Server s) (tells.Ask rank request types) inside (omega (arith, is)) in
-      let most = at_most_one (s.0 == t.0) in
-      omega arith
-  between k s (tells.AskGrant rank request note) low there fits =
-      let inside = ltb-true rank.0 config.ranks (and_parts (nat_lt rank.0 config.ranks) _ fits).0 in
-      let is = own rank.0 in
-      let some = its_rank rank (by.Server k) (by.Server s) (tells.AskGrant rank request note) inside (omega (arith, is)) in
-      let most = at_most_one (s.0 == t.0) in
-      omega arith
-  between k s (tells.AskNone rank request) low there fits =
-      let inside = ltb-true rank.0 config.ranks (and_parts (nat_lt rank.0 config.ranks) _ fits).0 in
-      let is = own rank.0 in
-      let some = its_rank rank (by.Server k) (by.Server s) (tells.AskNone rank request) inside (omega (arith, is)) in
-      let most = at_most_one (s.0 == t.0) in
-      omega arith
+  between k s (tells.Ask rank request types) low there fits = of_remote k s (tells.Ask rank request types) rank _ fits (own rank.0)
+  between k s (tells.AskGrant rank request note) low there fits = of_remote k s (tells.AskGrant rank request note) rank _ fits (own rank.0)
+  between k s (tells.AskNone rank request) low there fits = of_remote k s (tells.AskNone rank request) rank _ fits (own rank.0)
   between k s (tells.Hint rank request) low there fits = omega arith
-  between k s (tells.PushQuery id length) low there fits =
-      let is = own k.0 in
-      let some = its_push k (by.Server k) (by.Server s) (tells.PushQuery id length) low (omega (arith, is)) in
-      let most = at_most_one (s.0 == t.0) in
-      omega arith
-  between k s (tells.PushUnit unit) low there fits =
-      let is = own k.0 in
-      let some = its_push k (by.Server k) (by.Server s) (tells.PushUnit unit) low (omega (arith, is)) in
-      let most = at_most_one (s.0 == t.0) in
-      omega arith
-  between k s (tells.PushCancel id) low there fits =
-      let is = own k.0 in
-      let some = its_push k (by.Server k) (by.Server s) (tells.PushCancel id) low (omega (arith, is)) in
-      let most = at_most_one (s.0 == t.0) in
-      omega arith
-  between k s (tells.PushYes id) low there fits =
-      let is = own s.0 in
-      let some = its_push s (by.Server k) (by.Server s) (tells.PushYes id) there (omega (arith, is)) in
-      let most = at_most_one (s.0 == t.0) in
-      omega arith
-  between k s (tells.PushNo id) low there fits =
-      let is = own s.0 in
-      let some = its_push s (by.Server k) (by.Server s) (tells.PushNo id) there (omega (arith, is)) in
-      let most = at_most_one (s.0 == t.0) in
-      omega arith
-  between k s (tells.PushAck id) low there fits =
-      let is = own s.0 in
-      let some = its_push s (by.Server k) (by.Server s) (tells.PushAck id) there (omega (arith, is)) in
-      let most = at_most_one (s.0 == t.0) in
-      omega arith
+  between k s (tells.PushQuery id length) low there fits = of_push k s k (tells.PushQuery id length) low (own k.0)
+  between k s (tells.PushUnit unit) low there fits = of_push k s k (tells.PushUnit unit) low (own k.0)
+  between k s (tells.PushCancel id) low there fits = of_push k s k (tells.PushCancel id) low (own k.0)
+  between k s (tells.PushYes id) low there fits = of_push k s s (tells.PushYes id) there (own s.0)
+  between k s (tells.PushNo id) low there fits = of_push k s s (tells.PushNo id) there (own s.0)
+  between k s (tells.PushAck id) low there fits = of_push k s s (tells.PushAck id) there (own s.0)
   between k s tells.Notice low there fits = omega arith
   between k s (tells.Token token) low there fits = let most = at_most_one (s.0 == t.0) in omega arith
   between k s (tells.Failed token why) low there fits = let most = at_most_one (s.0 == t.0) in omega arith

@@ -1,5 +1,5 @@
 -- When a run can go no further, and when it has ended.
-use Rattle.std.specs.Prelude.{◌≡◌, ◌≢◌, ◌<◌, ◌≤◌, ◌⊎◌, ℕ, ◌+◌, ◌*◌, ◌^◌, true, List, [], None, length}
+use Rattle.std.specs.Prelude.{◌≡◌, ◌≢◌, ◌<◌, ◌≤◌, ◌⊎◌, ℕ, ◌+◌, ◌*◌, ◌^◌, true, List, [], None, Some, length}
 use Rattle.adlb_unit.specs.Links.{is_within, place_of}
 use Rattle.adlb_unit.specs.declared.actors.Actor.{Actor}
 use Rattle.adlb_unit.specs.declared.names.Rank.{Rank}
@@ -29,11 +29,17 @@ pub record IsEnded (w : World) : Type 0 where
 abbrev pub NoneIsDelivered : World → Type 0
 NoneIsDelivered w = (from to : Actor) → happens w (occurs.Deliver from to) ≡ None
 
--- The run so far begins `n` calls at most: then it has at most so many events, whatever the order in which letters are delivered. And
--- where it can go no further, since no letter is under way to an actor that goes on and no rank can begin a call, it has ended. Where no
--- letter can be delivered, for whatever reason, none is under way to an actor that goes on, if the calls are fewer than 2^34: up to there
--- no stamp reaches its limit.
+-- a letter can be delivered, or a rank can begin a call
+abbrev pub CanGoOn : World → Type 0
+CanGoOn w =
+    ((from : Actor) × (to : Actor) × (next : World) × (happens w (occurs.Deliver from to) ≡ Some next))
+    ⊎ ((r : Rank) × (r.0 < w.config.ranks) × (is_free (client_of w r) ≡ true))
+
+-- Of a run so far that begins `n` calls at most: it has so many events at most, whatever the order in which letters are delivered. It has
+-- ended where no letter is under way but to servers that have ended, and no rank can begin a call. Up to 2^34 calls no stamp reaches its
+-- limit: so the run has ended, or goes on; and where no letter can be delivered, and no rank can begin a call, it has ended.
 pub record EndsWithin (n : ℕ) (events : List Event) (w : World) : Type 0 where
   pub few : length events ≤ 8192 * (n + 1)
   pub ends : IsStill w → IsEnded w
+  pub goes : n < 2 ^ 34 → IsEnded w ⊎ CanGoOn w
   pub rests : n < 2 ^ 34 → NoneIsDelivered w → NoneIsFree w → IsEnded w

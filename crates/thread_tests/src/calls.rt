@@ -9,8 +9,8 @@ use crate::mail::{Mail, Three, send, three_desks};
 use actor_desk::{Desk, Mailing};
 use adlb_io::{Gate, GatePoint};
 use adlb_unit::{
-    Actor, BatchId, CommonRef, Config, End, Handle, Letter, Message, NoMemory, Payload, Rank,
-    Server, Target, Trouble, Types, UnitId, UnitNote, WorkType, or_no_memory,
+    Actor, BatchId, CommonRef, Config, End, Handle, Message, NoMemory, Payload, Rank, Server,
+    Target, Trouble, Types, UnitId, UnitNote, WorkType, or_no_memory,
 };
 use bag_ledger::Body;
 use crossbeam_channel::{Receiver, Sender, bounded};
@@ -19,7 +19,7 @@ use std::alloc::Global;
 use std::marker::Brand;
 use std::sync::Wait;
 use std::test::Fail;
-use thread_client::{LinkEnd, ThreadedLink};
+use thread_client::{ActorFault, LinkEnd, ThreadedLink};
 
 // A gate that tells which points were passed, by which rank.
 #[derive(Drop)]
@@ -354,52 +354,24 @@ struct Play<'a> {
     leaves: Leaves,
 }
 
-// The letter of the server that a link did not expect.
-#[derive(Clone, Copy)]
-enum Strange {
-    Nothing,
-    Accepted { request: u64 },
-    Grant { request: u64 },
-}
-
 // What a link leaves, and how many calls were answered.
 #[derive(Clone, Copy)]
 enum Leaves {
     // A batch is going on, in which the link has no end.
     Open,
     Well(usize),
-    // Its trouble, and the letter that it did not expect.
-    Failed(Trouble, Strange, usize),
+    Failed(ActorFault, usize),
 }
 
 fn is_left<M: Mailing>(end: &LinkEnd<M>, answered: usize, leaves: Leaves) -> bool {
-    let (trouble, strange, said) = match leaves {
+    let (fault, said) = match leaves {
         Leaves::Open => return false,
-        Leaves::Well(said) => (None, Strange::Nothing, said),
-        Leaves::Failed(trouble, strange, said) => (Some(trouble), strange, said),
+        Leaves::Well(said) => (None, said),
+        Leaves::Failed(fault, said) => (Some(fault), said),
     };
     // Finish is answered as well, if nothing failed.
-    let finished = if end.trouble.is_none() { 1 } else { 0 };
-    end.trouble == trouble
-        && is_strange(&end.strange, strange)
-        && answered.saturating_add(finished) == said
-}
-
-fn is_strange(kept: &Option<(u32, Letter)>, wanted: Strange) -> bool {
-    match (kept, wanted) {
-        (None, Strange::Nothing) => true,
-        (Some((2, letter)), _) => is_of(&letter.message, wanted),
-        _ => false,
-    }
-}
-
-fn is_of(message: &Message, wanted: Strange) -> bool {
-    match (message, wanted) {
-        (Message::Accepted { request }, Strange::Accepted { request: wanted }) => *request
-            == wanted,
-        (Message::Grant { request, .. }, Strange::Grant { request: wanted }) => *request == wanted,
-        _ => false,
-    }
+    let finished = if end.fault.is_none() { 1 } else { 0 };
+    end.fault == fault && answered.saturating_add(finished) == said
 }
 
 // The link, which has answered so many calls, leaves this at its end; if a batch is going on, it has none.
@@ -477,6 +449,9 @@ const LATE: u64 = 1 << 48;
 
 const TOO_LONG: Trouble = Trouble::TooLong { stamp: LATE };
 
+// The server, actor 2, sent a letter that was not expected.
+const STRANGE: ActorFault = ActorFault::Unexpected { from: 2 };
+
 const PLAYS: &[Play] = &[
     Play {
         shows: "a put is accepted, and each server hears of Finish",
@@ -522,7 +497,7 @@ const PLAYS: &[Play] = &[
         ],
         passes: &[],
         heard: &[Heard::Put, Heard::Gone(TOO_LONG)],
-        leaves: Leaves::Failed(TOO_LONG, Strange::Nothing, 0),
+        leaves: Leaves::Failed(ActorFault::TooLong { stamp: LATE }, 0),
     },
     Play {
         shows: "a stamp that is not too long is not told",
@@ -530,7 +505,7 @@ const PLAYS: &[Play] = &[
         calls: &[(Does::Put, Told::Memory)],
         passes: &[],
         heard: &[],
-        leaves: Leaves::Failed(Trouble::Memory, Strange::Nothing, 0),
+        leaves: Leaves::Failed(ActorFault::Memory, 0),
     },
     Play {
         shows: "a letter that is not expected is kept",
@@ -538,7 +513,7 @@ const PLAYS: &[Play] = &[
         calls: &[(Does::Put, Told::Memory)],
         passes: &[],
         heard: &[],
-        leaves: Leaves::Failed(Trouble::Memory, Strange::Accepted { request: 4 }, 0),
+        leaves: Leaves::Failed(STRANGE, 0),
     },
     Play {
         shows: "a unit is not granted twice",
@@ -546,7 +521,7 @@ const PLAYS: &[Play] = &[
         calls: &[(Does::Reserve, Told::Fine), (Does::Reserve, Told::Memory)],
         passes: &[GatePoint::Granted { call: 0 }],
         heard: &[],
-        leaves: Leaves::Failed(Trouble::Memory, Strange::Grant { request: 1 }, 1),
+        leaves: Leaves::Failed(STRANGE, 1),
     },
     Play {
         shows: "a batch is going on after its beginning",

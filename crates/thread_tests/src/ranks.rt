@@ -14,7 +14,7 @@ use std::alloc::Global;
 use std::marker::Brand;
 use std::sync::Wait;
 use std::test::Fail;
-use thread_client::{RankEnd, RankJob};
+use thread_client::{ActorFault, RankEnd, RankJob};
 
 // A program that makes no call.
 #[derive(Drop)]
@@ -43,12 +43,12 @@ impl RankProgram for Idle {
 #[derive(Clone, Copy)]
 struct Ended {
     outcome: Option<u32>,
-    trouble: Option<Trouble>,
+    fault: Option<ActorFault>,
     heard: Heard,
 }
 
 fn has_ended<M: Mailing>(end: &RankEnd<u32, M>, wanted: &Ended) -> bool {
-    end.outcome == wanted.outcome && end.trouble == wanted.trouble
+    end.outcome == wanted.outcome && end.fault == wanted.fault
 }
 
 fn is_run<R: Wait + Copy>(rt: R, alloc: Global, fails: bool, wanted: &Ended) -> Result<bool, Fail> {
@@ -102,7 +102,7 @@ const ENDS: &[(bool, Ended)] = &[
         false,
         Ended {
             outcome: Some(5),
-            trouble: None,
+            fault: None,
             heard: Heard::Finish,
         },
     ),
@@ -110,7 +110,7 @@ const ENDS: &[(bool, Ended)] = &[
         true,
         Ended {
             outcome: None,
-            trouble: Some(Trouble::Memory),
+            fault: Some(ActorFault::Memory),
             heard: Heard::Gone(Trouble::Memory),
         },
     ),

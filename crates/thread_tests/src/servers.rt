@@ -6,13 +6,12 @@ ghost use Rattle.rank_mail.specs.Mailboxes.{places_of};
 
 use crate::mail::{Mail, Three, send, three_desks};
 use actor_desk::{Desk, Mailing};
-use adlb_unit::{
-    Actor, Config, Letter, Message, NoMemory, Payload, STAMP_LIMIT, Server, Trouble, Types,
-};
+use adlb_unit::{Actor, Config, Message, NoMemory, Payload, STAMP_LIMIT, Server, Trouble, Types};
 use std::alloc::Global;
 use std::marker::Brand;
 use std::sync::Wait;
 use std::test::Fail;
+use thread_client::ActorFault;
 use thread_server::{ServerEnd, ServerJob};
 
 // What the rank sends.
@@ -54,22 +53,13 @@ fn send_all<R: Wait + Copy, M: Mailing>(
 // How the server ends.
 #[derive(Clone, Copy)]
 struct Wanted {
-    trouble: Option<Trouble>,
-    // A letter with bytes of the rank is kept, which was not expected.
-    strange: bool,
+    fault: Option<ActorFault>,
     // What the rank is told, if it sent more than its last letter.
     told: Option<Trouble>,
 }
 
 fn has_ended<M: Mailing>(end: &ServerEnd<M>, wanted: &Wanted) -> bool {
-    end.trouble == wanted.trouble && is_strange(&end.strange) == wanted.strange
-}
-
-fn is_strange(letter: &Option<(u32, Letter)>) -> bool {
-    match letter {
-        Some((0, letter)) => matches!(letter.message, Message::Bytes { .. }),
-        _ => false,
-    }
+    end.fault == wanted.fault
 }
 
 // What broke the server, if it tells so.
@@ -157,8 +147,7 @@ const ENDS: &[(Sent, Wanted)] = &[
     (
         Sent::Strange,
         Wanted {
-            trouble: Some(Trouble::Memory),
-            strange: true,
+            fault: Some(ActorFault::Unexpected { from: 0 }),
             told: Some(Trouble::Memory),
         },
     ),
@@ -167,8 +156,7 @@ const ENDS: &[(Sent, Wanted)] = &[
             stamp: STAMP_LIMIT - 1,
         },
         Wanted {
-            trouble: Some(Trouble::TooLong { stamp: STAMP_LIMIT }),
-            strange: false,
+            fault: Some(ActorFault::TooLong { stamp: STAMP_LIMIT }),
             told: None,
         },
     ),
@@ -177,8 +165,7 @@ const ENDS: &[(Sent, Wanted)] = &[
             stamp: STAMP_LIMIT - 2,
         },
         Wanted {
-            trouble: None,
-            strange: false,
+            fault: None,
             told: None,
         },
     ),

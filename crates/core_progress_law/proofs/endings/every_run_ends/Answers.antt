@@ -1,4 +1,4 @@
-use Rattle.core_progress_law.proofs.Dead.{ends_within}
+use Rattle.core_progress_law.proofs.Always.{ends_within}
 use Rattle.core_progress_law.proofs.endings.every_run_ends.Goals as goal
 
 pub returns : goal.returns

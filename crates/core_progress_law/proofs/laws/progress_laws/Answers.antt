@@ -1,5 +1,4 @@
-use Rattle.core_progress_law.proofs.Always.{always_ends, always_goes}
-use Rattle.core_progress_law.proofs.Dead.{dead_ends}
+use Rattle.core_progress_law.proofs.Always.{always_ends, always_goes, dead_ends}
 use Rattle.core_progress_law.proofs.laws.progress_laws.Goals as goal
 
 pub returns : goal.returns

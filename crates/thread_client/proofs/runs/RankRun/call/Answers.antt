@@ -5,6 +5,7 @@ use Rattle.rank_client.specs.Answers.{answers_call}
 use Rattle.rank_client.specs.Link.{Can, Made}
 use Rattle.thread_client.specs.Run.{link_in, link_of}
 use Rattle.thread_client.proofs.Called.{done_kind, run_again, wire_can, wire_left, wire_made}
+use Rattle.thread_client.proofs.Walks.{not_cut}
 use Rattle.thread_client.proofs.runs.RankRun.call.Goals as goal
 
 -- Finish
@@ -36,6 +37,10 @@ exchange-requires-clause-can g c =
     let w = c.self.inside.wire in
     wire_can c.args.self.now w.config w.core w.desk c.self.view_is c.args.call c.requires.can c.requires.granted
     (sym c.failed.ensures ∙ c.in_default-failed.is)
+
+pub exchange-requires-clause-expected : goal.exchange-requires-clause-expected
+exchange-requires-clause-expected g c =
+    let w = c.self.inside.wire in not_cut w.desk w.core _ c.self.invariant.2 (sym c.failed.ensures ∙ c.in_default-failed.is)
 
 pub returns-in-Some-clause-made : goal.returns-in-Some-clause-made
 returns-in-Some-clause-made g c =

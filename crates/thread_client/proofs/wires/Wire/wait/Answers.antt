@@ -31,6 +31,7 @@ loop-preserved g c =
       whole = h.whole;
       knows = h.knows;
       recorded = h.recorded;
+      expected = h.expected;
       config = h.config ∙ was.config;
       me = h.me ∙ was.me;
     }

@@ -1,0 +1,38 @@
+//! What journals say whatever their actors met.
+
+ghost use Rattle.std.specs.Prelude.{◌≡◌, ◌<◌, ◌≤◌, ◌+◌, ◌*◌, ℕ, List, true, map, length};
+ghost use mathlib.Core.List.{IsPrefix};
+ghost use Rattle.adlb_unit.specs.Limits.{stamp_limit};
+ghost use Rattle.adlb_unit.specs.Links.{is_within};
+ghost use Rattle.adlb_unit.specs.declared.actors.Actor.{Actor};
+ghost use Rattle.adlb_unit.specs.declared.configs.Config.{Config};
+ghost use Rattle.adlb_unit.specs.declared.letters.Letter.{Letter};
+ghost use Rattle.core_bound_law.specs.Bounds.{begun};
+ghost use Rattle.core_run.specs.World.{actors};
+ghost use Rattle.rank_mail.specs.Mailboxes.{letters_of};
+ghost use Rattle.merge_history.specs.Events.{Event, OfActor};
+ghost use Rattle.merge_history.specs.Own.{Finals, IsCoreRun, Walks, got, occurrence, sent};
+ghost use Rattle.actor_desk.specs.Desks.{DeskModel, sent_at};
+ghost use Rattle.fallen_law.specs.Fallen.{Begins, Expects, GoesOn, IsNext};
+
+/// On each link what a journal got is a prefix of what the other sent, if what went through the mailboxes of each begins with
+/// what its journal says, and the receiver's is its own run: so journals of actors that failed compose, too (`links`). Where
+/// journals are a run of all actors, up to whatever moment, an actor that has not ended has a step for the next letter that it
+/// has not got, if the stamp is below its limit: no letter comes that is not expected (`expected`). Such a run has at most
+/// `8192 * (n + 1)` events if `n` calls were begun in it (`few`), and the stamp of the next letter is at most the number of
+/// events (`stamps`).
+pub fn fallen_laws()
+    ensures links { (config : Config) (finals : Finals) (me : Actor) (from to : ℕ) (d e : DeskModel) → d.config ≡ config →
+        e.config ≡ config → from < actors config → to < actors config → Begins d → Begins e → Walks config finals me e.events →
+        IsPrefix (letters_of from e.got) (sent_at d to) → IsPrefix (got config from e.events) (sent config to d.events) }
+    ensures expected { (config : Config) (finals : Finals) (journals : List OfActor) (events : List (Actor × Event)) (from to : Actor)
+        (letter : Letter) (rest : List Letter) → IsCoreRun config finals journals events → is_within config from ≡ true →
+        is_within config to ≡ true → IsNext config journals from to letter rest → GoesOn finals to → letter.stamp < stamp_limit →
+        Expects config finals from to letter }
+    ensures few { (config : Config) (finals : Finals) (journals : List OfActor) (events : List (Actor × Event)) →
+        IsCoreRun config finals journals events →
+        length events ≤ 8192 * (begun (map (λ (x : Actor × Event). occurrence x.0 x.1.cause) events) + 1) }
+    ensures stamps { (config : Config) (finals : Finals) (journals : List OfActor) (events : List (Actor × Event)) (from to : Actor)
+        (letter : Letter) (rest : List Letter) → IsCoreRun config finals journals events → is_within config from ≡ true →
+        is_within config to ≡ true → IsNext config journals from to letter rest → letter.stamp ≤ length events }
+{}
