@@ -1,0 +1,28 @@
+//! `example_queens SIDE RANKS` counts the ways to place queens on a board of this side so that none attacks another.
+#![tactic(auto)]
+
+mod boards;
+mod queens;
+
+use queens::ways;
+use std::env;
+use std::io;
+
+fn main(rt: HostRuntime) -> io::Result<()> {
+    let mut words = env::args(&rt)?;
+    let _ = words.next();
+    let (Some(side), Some(ranks)) = (number(words.next()), number(words.next())) else {
+        return println!(rt; "usage: example_queens SIDE RANKS");
+    };
+    if side > 15 {
+        return println!(rt; "the side is at most 15");
+    }
+    match ways(rt.alloc(), rt, side as u8, ranks) {
+        Ok(total) => println!(rt; "{total} ways to place {side} queens"),
+        Err(fault) => println!(rt; "{fault}"),
+    }
+}
+
+fn number(word: Option<String>) -> Option<u32> {
+    word?.parse().ok()
+}
