@@ -4,9 +4,7 @@ use Rattle.std.specs.Prelude.{MatchResult}
 use Rattle.adlb_io.specs.Outside.{Rises}
 use Rattle.adlb_unit.specs.declared.configs.Config.{Config}
 use Rattle.bag_ledger.specs.declared.entries.Entry as of
-use Rattle.job_report.specs.declared.outcomes.Outcome.{Outcome}
 use Rattle.run_command.specs.Ends.{Scene}
-use Rattle.run_command.specs.Kept.{Kept}
 use Rattle.ledger_command.specs.Input.{input_limit}
 use Rattle.ledger_command.specs.Verdicts.{IsVerdict}
 use Rattle.ledger_command.specs.declared.faults.CheckFault.{CheckFault}
@@ -16,6 +14,7 @@ use Rattle.ledger_command.proofs.Ending.{RefusesNone, overlong_told, refused_the
 use Rattle.ledger_file.specs.Lines.{IsFirstBad, IsText}
 use Rattle.adlb_command.specs.Ends.{fault_at_check, fault_told}
 use Rattle.adlb_command.specs.Top.{EndsAsChecked, seen_in}
+use Rattle.adlb_command.specs.declared.ends.AnyKept.{AnyKept}
 use Rattle.adlb_command.specs.declared.ends.RunFault.{RunFault}
 use Rattle.adlb_command.specs.declared.ends.RunFault.TheVariants.{Input, Memory, TooLarge}
 use Rattle.adlb_command.specs.declared.ends.LineWhy.TheVariants.{Entry}
@@ -34,7 +33,7 @@ either_is : (fault told : Option RunFault) (a b : Option RunFault) → fault ≡
 either_is fault told a b same (inl e) = inl (same ∙ e)
 either_is fault told a b same (inr e) = inr (same ∙ e)
 
-module _ (before after : Scene) (fault : Option RunFault) (kept : Option (Kept Outcome)) (bytes : List ℕ)
+module _ (before after : Scene) (fault : Option RunFault) (kept : Option AnyKept) (bytes : List ℕ)
     (ends : EndsAsChecked before after fault kept) (told : before.left ≡ Some bytes) (no_read : Rises before.reads after.reads → ⊥) where
   -- a text of a ledger is told
   pub text_checked : RefusesNone → ((c d : Config) (l m : List of.Entry) → IsText c l bytes → IsText d m bytes → (c ≡ d) × (l ≡ m)) →

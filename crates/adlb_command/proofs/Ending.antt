@@ -1,5 +1,6 @@
 -- How the top call ends, by what the words say.
 use Rattle.std.proofs.Common.{◌≡◌, ◌⊎◌, ℕ, Option, Some, None, Result, Ok, Err, refl, sym, subst, inl, inr}
+use Rattle.adlb_unit.specs.declared.configs.Config.{Config}
 use Rattle.command_words.specs.declared.commands.Command.{Command}
 use Rattle.command_words.specs.declared.commands.Command.TheVariants.{Solve, Check, Make, Drill}
 use Rattle.command_words.specs.declared.commands.RunOptions.{RunOptions}
@@ -14,15 +15,21 @@ use Rattle.ledger_command.specs.declared.verdicts.Verdict.{Verdict}
 use Rattle.made_jobs.specs.Made.{made_text}
 use Rattle.made_jobs.specs.declared.faults.MadeFault.{MadeFault}
 use Rattle.made_jobs.specs.declared.faults.MadeFault.TheVariants as makes
+use Rattle.puzzle_app.specs.declared.outcomes.Settings.{Settings}
+use Rattle.run_command.proofs.Running.{ran_as}
 use Rattle.run_command.specs.Ends.{ReadsNothing, Scene, StartsNone}
 use Rattle.run_command.specs.declared.faults.Fault.{Fault}
 use Rattle.run_command.specs.declared.faults.Fault.TheVariants as runs
 use Rattle.run_command.specs.Kept.{Kept}
-use Rattle.solve_command.specs.Ends.{Drills, Solves}
 use Rattle.solve_command.proofs.Starting.{drilled_early, solved_early}
+use Rattle.solve_command.specs.Ends.{Drills, Solves}
+use Rattle.solve_command.specs.Told.{behind}
+use Rattle.solve_command.specs.declared.extras.Extras.{Extras}
 use Rattle.adlb_command.proofs.Made.{none_taken}
-use Rattle.adlb_command.specs.Ends.{fault_ended, fault_made, fault_said, fault_told}
-use Rattle.adlb_command.specs.Top.{EndsAs, EndsAsChecked, EndsAsMade, EndsAsRun, EndsUnsaid}
+use Rattle.adlb_command.specs.Ends.{fault_ended, fault_made, fault_said, fault_told, kept_ended}
+use Rattle.adlb_command.specs.Top.{DrillsAs, EndsAs, EndsAsChecked, EndsAsMade, EndsAsRun, EndsUnsaid, SolvesAs}
+use Rattle.adlb_command.specs.Words.{IsConfigOf, extras_of, settings_of}
+use Rattle.adlb_command.specs.declared.ends.AnyKept.{AnyKept}
 use Rattle.adlb_command.specs.declared.ends.RunFault.{RunFault}
 use Rattle.adlb_command.specs.declared.ends.RunFault.TheVariants.{Usage, Memory}
 
@@ -44,7 +51,13 @@ module _ (here : Scene) where
   -- an allocation failed before anything was done, whatever the words say
   out_of_memory : (said : Option Command) → EndsAs said here here (Some Memory) None
   out_of_memory None = unsaid (Some Memory) (inr refl)
-  out_of_memory (Some (Solve w)) = record { met = Some runs.Memory; fault_is = refl; ended = solved_early w here here refl starts_none }
+  out_of_memory (Some (Solve w)) = record {
+    met = Some runs.Memory;
+    own = None;
+    fault_is = refl;
+    kept_is = refl;
+    ended = solved_early (settings_of w.options) (IsConfigOf w.options.sizes w.options.inline) w.options.inline here here refl starts_none (behind (extras_of w));
+  }
   out_of_memory (Some Check) = record {
     checked = Err checks.Memory;
     fault_is = refl;
@@ -60,42 +73,67 @@ module _ (here : Scene) where
     none_kept = refl;
     none_started = starts_none;
   }
-  out_of_memory (Some (Drill count seed options)) =
-      record { met = Some runs.Memory; fault_is = refl; ended = drilled_early count seed options here here refl starts_none reads_nothing }
+  out_of_memory (Some (Drill count seed options)) = record {
+    met = Some runs.Memory;
+    own = None;
+    fault_is = refl;
+    kept_is = refl;
+    ended = drilled_early (settings_of options) (IsConfigOf options.sizes options.inline) options.inline here here refl starts_none count seed reads_nothing;
+  }
 
   -- the words were not read
   unread_as : (said : Option Command) (met : WordsFault) → (met ≡ words.Usage → said ≡ None) → EndsAs said here here (Some (fault_said met)) None
   unread_as said words.Usage none = subst (λ s. EndsAs s here here (Some Usage) None) (sym (none refl)) (unsaid (Some Usage) (inl refl))
   unread_as said words.Memory none = out_of_memory said
 
-  pub ends_unread : (said : Option Command) (met : WordsFault) (fault : Option RunFault) (kept : Option (Kept Outcome)) →
+  pub ends_unread : (said : Option Command) (met : WordsFault) (fault : Option RunFault) (kept : Option AnyKept) →
       (met ≡ words.Usage → said ≡ None) → fault ≡ Some (fault_said met) → kept ≡ None → EndsAs said here here fault kept
   ends_unread said met fault kept none is nothing =
       subst (λ f. EndsAs said here here f kept) (sym is)
       (subst (λ k. EndsAs said here here (Some (fault_said met)) k) (sym nothing) (unread_as said met none))
 
+-- The words say a run over puzzles and batches, and this is how it ended.
+
+module _ (before after : Scene) (met : Option (Fault of_jobs.LineWhy)) (own : Option (Kept Outcome)) (settings : Settings) (config : Config)
+  where
+    pub solved_said : (w : SolveWords) (extras : Extras) → settings ≡ settings_of w.options → extras ≡ extras_of w → IsConfigOf w.options.sizes w.options.inline config →
+        Solves settings (behind extras) (λ x. x ≡ config) w.options.inline before after met own → SolvesAs w before after met own
+    solved_said w extras set extra is solved =
+        let IsOf : Config → Type 0 = λ x. x ≡ config in
+        let here : Solves (settings_of w.options) (behind (extras_of w)) IsOf w.options.inline before after met own =
+        subst (λ (s : Settings). Solves s (behind (extras_of w)) IsOf w.options.inline before after met own) set
+        (subst (λ (e : Extras). Solves settings (behind e) IsOf w.options.inline before after met own) extra solved) in
+        record { ends = here.ends; run = ran_as config before after (IsConfigOf w.options.sizes w.options.inline) is w.options.inline own here.run }
+
+    pub drilled_said : (count seed : ℕ) (options : RunOptions) → settings ≡ settings_of options → IsConfigOf options.sizes options.inline config →
+        Drills count seed settings (λ x. x ≡ config) options.inline before after met own → DrillsAs count seed options before after met own
+    drilled_said count seed options set is drilled =
+        let IsOf : Config → Type 0 = λ x. x ≡ config in
+        let here : Drills count seed (settings_of options) IsOf options.inline before after met own =
+        subst (λ (s : Settings). Drills count seed s IsOf options.inline before after met own) set drilled in
+        record {
+          rest = here.rest;
+          ends = here.ends;
+          run = ran_as config before after (IsConfigOf options.sizes options.inline) is options.inline own here.run;
+          unread = here.unread;
+        }
+
 -- The words say a command, and this is how it ended.
 
-module _ (said : Option Command) (before after : Scene) (fault : Option RunFault) (kept : Option (Kept Outcome)) where
+module _ (said : Option Command) (before after : Scene) (fault : Option RunFault) (kept : Option AnyKept) where
   pub ends_solved : (w : SolveWords) → said ≡ Some (Solve w) → (met : Option (Fault of_jobs.LineWhy)) (own : Option (Kept Outcome)) →
-      fault ≡ fault_ended met → kept ≡ own → Solves w before after met own → EndsAs said before after fault kept
+      fault ≡ fault_ended met → kept ≡ kept_ended own → SolvesAs w before after met own → EndsAs said before after fault kept
   ends_solved w is met own fault_is same ended =
-      let run : EndsAsRun (λ m. Solves w before after m kept) fault = record {
-        met = met;
-        fault_is = fault_is;
-        ended = subst (λ k. Solves w before after met k) (sym same) ended;
-      } in
+      let run : EndsAsRun (SolvesAs w before after) fault kept =
+      record { met = met; own = own; fault_is = fault_is; kept_is = same; ended = ended } in
       subst (λ s. EndsAs s before after fault kept) (sym is) run
 
   pub ends_drilled : (count seed : ℕ) (options : RunOptions) → said ≡ Some (Drill count seed options) →
-      (met : Option (Fault of_jobs.LineWhy)) (own : Option (Kept Outcome)) → fault ≡ fault_ended met → kept ≡ own →
-      Drills count seed options before after met own → EndsAs said before after fault kept
+      (met : Option (Fault of_jobs.LineWhy)) (own : Option (Kept Outcome)) → fault ≡ fault_ended met → kept ≡ kept_ended own →
+      DrillsAs count seed options before after met own → EndsAs said before after fault kept
   ends_drilled count seed options is met own fault_is same ended =
-      let run : EndsAsRun (λ m. Drills count seed options before after m kept) fault = record {
-        met = met;
-        fault_is = fault_is;
-        ended = subst (λ k. Drills count seed options before after met k) (sym same) ended;
-      } in
+      let run : EndsAsRun (DrillsAs count seed options before after) fault kept =
+      record { met = met; own = own; fault_is = fault_is; kept_is = same; ended = ended } in
       subst (λ s. EndsAs s before after fault kept) (sym is) run
 
   pub ends_checked : said ≡ Some Check → EndsAsChecked before after fault kept → EndsAs said before after fault kept
@@ -130,7 +168,7 @@ no_usage_made (Ok done) e = absurd (cc)
 no_usage_made (Err makes.Write) e = absurd (cc)
 no_usage_made (Err makes.Memory) e = absurd (cc)
 
-pub usage_unsaid : (said : Option Command) (before after : Scene) (kept : Option (Kept Outcome)) →
+pub usage_unsaid : (said : Option Command) (before after : Scene) (kept : Option AnyKept) →
     EndsAs said before after (Some Usage) kept → said ≡ None
 usage_unsaid None before after kept ends = refl
 usage_unsaid (Some (Solve w)) before after kept ends = absurd (no_usage_ran ends.met ends.fault_is)

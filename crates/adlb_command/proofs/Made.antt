@@ -1,16 +1,15 @@
 -- How `make` ends.
 use Rattle.std.proofs.Common.{◌≡◌, ◌⊎◌, ℕ, List, Option, Some, None, Result, Ok, Err, refl, sym, ap, ◌∙◌, inl, inr, arith, append-nil}
 use Rattle.run_command.specs.Ends.{Scene}
-use Rattle.run_command.specs.Kept.{Kept}
 use Rattle.adlb_io.specs.Outside.{Rises}
 use Rattle.adlb_io.specs.Whole.{TakesPrefix}
-use Rattle.job_report.specs.declared.outcomes.Outcome.{Outcome}
 use Rattle.made_jobs.specs.Ends.{MakesTo, SinkSeen, sink_seen}
 use Rattle.made_jobs.specs.Made.{made_text}
 use Rattle.made_jobs.specs.declared.faults.MadeFault.{MadeFault}
 use Rattle.made_jobs.specs.declared.faults.MadeFault.TheVariants as makes
 use Rattle.adlb_command.specs.Ends.{fault_made}
 use Rattle.adlb_command.specs.Top.{EndsAsMade}
+use Rattle.adlb_command.specs.declared.ends.AnyKept.{AnyKept}
 use Rattle.adlb_command.specs.declared.ends.RunFault.{RunFault}
 use Rattle.adlb_command.specs.declared.ends.RunFault.TheVariants.{Memory}
 
@@ -30,7 +29,7 @@ either_is : (fault told : Option RunFault) → fault ≡ told → (told ≡ None
 either_is fault told same (inl e) = inl (same ∙ e)
 either_is fault told same (inr e) = inr (same ∙ e)
 
-pub made_whole : (count seed : ℕ) (before after : Scene) (fault : Option RunFault) (kept : Option (Kept Outcome)) →
+pub made_whole : (count seed : ℕ) (before after : Scene) (fault : Option RunFault) (kept : Option AnyKept) →
     EndsAsMade count seed before after fault kept → (Rises before.writes after.writes → ⊥) → (fault ≡ None) ⊎ (fault ≡ Some Memory)
 made_whole count seed before after fault kept ends no_write =
     either_is fault (fault_made ends.made) ends.fault_is (fine_or (made_text count seed) (sink_seen before.taken before.writes before.flushed)

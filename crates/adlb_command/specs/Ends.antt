@@ -1,7 +1,10 @@
 -- The faults of a command, and its exit status.
-use Rattle.std.specs.Prelude.{ℕ, Option, Some, None, Result, Ok, Err}
+use Rattle.std.specs.Prelude.{ℕ, List, Option, Some, None, Result, Ok, Err}
+use Rattle.adlb_unit.specs.declared.configs.Config.{Config}
+use Rattle.bag_ledger.specs.declared.entries.Entry.{Entry as LedgerEntry}
 use Rattle.command_words.specs.declared.commands.WordsFault.{WordsFault}
 use Rattle.command_words.specs.declared.commands.WordsFault.TheVariants as words
+use Rattle.job_report.specs.declared.outcomes.Outcome.{Outcome}
 use Rattle.job_text.specs.declared.faults.LineWhy as of_jobs
 use Rattle.job_text.specs.declared.faults.LineWhy.TheVariants as jobs
 use Rattle.ledger_command.specs.declared.faults.CheckFault.{CheckFault}
@@ -9,8 +12,11 @@ use Rattle.ledger_command.specs.declared.faults.CheckFault.TheVariants as checks
 use Rattle.ledger_command.specs.declared.verdicts.Verdict.{Verdict}
 use Rattle.made_jobs.specs.declared.faults.MadeFault.{MadeFault}
 use Rattle.made_jobs.specs.declared.faults.MadeFault.TheVariants as makes
+use Rattle.run_command.specs.Kept.{Kept}
 use Rattle.run_command.specs.declared.faults.Fault as of_runs
 use Rattle.run_command.specs.declared.faults.Fault.TheVariants as runs
+use Rattle.adlb_command.specs.declared.ends.AnyKept.{AnyKept}
+use Rattle.adlb_command.specs.declared.ends.AnyKept.TheVariants.{Puzzles}
 use Rattle.adlb_command.specs.declared.ends.LineWhy.{LineWhy}
 use Rattle.adlb_command.specs.declared.ends.LineWhy.TheVariants.{Long, Length, Character, Item, Number, Word, Entry}
 use Rattle.adlb_command.specs.declared.ends.RunFault.{RunFault}
@@ -81,3 +87,15 @@ fault_told (Err fault) = Some (fault_at_check fault)
 abbrev pub fault_made : Result (Unit {0}) MadeFault → Option RunFault
 fault_made (Ok done) = None
 fault_made (Err fault) = Some (fault_at_making fault)
+
+-- What is kept of a run over puzzles and batches, if anything is; and of what is kept its configuration and its ledger.
+
+abbrev pub kept_ended : Option (Kept Outcome) → Option AnyKept
+kept_ended None = None
+kept_ended (Some kept) = Some (Puzzles kept)
+
+abbrev pub config_kept : AnyKept → Config
+config_kept (Puzzles kept) = kept.report.config
+
+abbrev pub ledger_kept : AnyKept → List LedgerEntry
+ledger_kept (Puzzles kept) = kept.report.ledger

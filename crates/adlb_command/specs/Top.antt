@@ -3,6 +3,8 @@ use Rattle.std.specs.Prelude.{◌≡◌, ◌⊎◌, ℕ, Option, Some, None, Res
 use Rattle.adlb_io.specs.Inputs.{Seen, seen}
 use Rattle.command_words.specs.declared.commands.Command.{Command}
 use Rattle.command_words.specs.declared.commands.Command.TheVariants.{Solve, Check, Make, Drill}
+use Rattle.command_words.specs.declared.commands.RunOptions.{RunOptions}
+use Rattle.command_words.specs.declared.commands.SolveWords.{SolveWords}
 use Rattle.job_report.specs.declared.outcomes.Outcome.{Outcome}
 use Rattle.job_text.specs.declared.faults.LineWhy as of_jobs
 use Rattle.ledger_command.specs.Ends.{ChecksTo}
@@ -15,7 +17,10 @@ use Rattle.run_command.specs.Ends.{IsSilent, ReadsNothing, Scene, StartsNone}
 use Rattle.run_command.specs.declared.faults.Fault.{Fault}
 use Rattle.run_command.specs.Kept.{Kept}
 use Rattle.solve_command.specs.Ends.{Drills, Solves}
-use Rattle.adlb_command.specs.Ends.{fault_ended, fault_made, fault_told}
+use Rattle.solve_command.specs.Told.{behind}
+use Rattle.adlb_command.specs.Ends.{fault_ended, fault_made, fault_told, kept_ended}
+use Rattle.adlb_command.specs.Words.{IsConfigOf, extras_of, settings_of}
+use Rattle.adlb_command.specs.declared.ends.AnyKept.{AnyKept}
 use Rattle.adlb_command.specs.declared.ends.RunFault.{RunFault}
 use Rattle.adlb_command.specs.declared.ends.RunFault.TheVariants.{Usage, Memory}
 
@@ -24,20 +29,33 @@ abbrev pub seen_in : Scene → Seen
 seen_in s = seen s.left s.reads s.taken s.writes s.flushed
 
 -- the words say nothing: nothing was read or written, nothing is kept, and no thread was started
-pub record EndsUnsaid (before after : Scene) (fault : Option RunFault) (kept : Option (Kept Outcome)) : Type 0 where
+pub record EndsUnsaid (before after : Scene) (fault : Option RunFault) (kept : Option AnyKept) : Type 0 where
   pub cause : (fault ≡ Some Usage) ⊎ (fault ≡ Some Memory)
   pub unread : ReadsNothing before after
   pub silent : IsSilent before after kept
   pub none_started : StartsNone before after
 
--- a run over puzzles and batches ended so, with this fault of its own
-pub record EndsAsRun (ends : Option (Fault of_jobs.LineWhy) → Type 0) (fault : Option RunFault) : Type 0 where
+-- the ends of `solve` and of `drill` with these words
+abbrev pub SolvesAs : SolveWords → Scene → Scene → Option (Fault of_jobs.LineWhy) → Option (Kept Outcome) → Type 0
+SolvesAs words before after met kept =
+    let o = words.options in
+    Solves (settings_of o) (behind (extras_of words)) (IsConfigOf o.sizes o.inline) o.inline before after met kept
+
+abbrev pub DrillsAs : ℕ → ℕ → RunOptions → Scene → Scene → Option (Fault of_jobs.LineWhy) → Option (Kept Outcome) → Type 0
+DrillsAs count seed options before after met kept =
+    Drills count seed (settings_of options) (IsConfigOf options.sizes options.inline) options.inline before after met kept
+
+-- a run over puzzles and batches ended so, with this fault of its own and this kept
+pub record EndsAsRun (ends : Option (Fault of_jobs.LineWhy) → Option (Kept Outcome) → Type 0) (fault : Option RunFault)
+    (kept : Option AnyKept) : Type 0 where
   pub met : Option (Fault of_jobs.LineWhy)
+  pub own : Option (Kept Outcome)
   pub fault_is : fault ≡ fault_ended met
-  pub ended : ends met
+  pub kept_is : kept ≡ kept_ended own
+  pub ended : ends met own
 
 -- the ends of `check`: it ends as the check of the ledger did, keeps nothing, and starts no thread
-pub record EndsAsChecked (before after : Scene) (fault : Option RunFault) (kept : Option (Kept Outcome)) : Type 0 where
+pub record EndsAsChecked (before after : Scene) (fault : Option RunFault) (kept : Option AnyKept) : Type 0 where
   pub checked : Result Verdict CheckFault
   pub fault_is : fault ≡ fault_told checked
   pub ends : ChecksTo (seen_in before) (seen_in after) checked
@@ -45,7 +63,7 @@ pub record EndsAsChecked (before after : Scene) (fault : Option RunFault) (kept 
   pub none_started : StartsNone before after
 
 -- the ends of `make`: the made text was written, or a part of it; nothing was read, nothing is kept, and no thread was started
-pub record EndsAsMade (count seed : ℕ) (before after : Scene) (fault : Option RunFault) (kept : Option (Kept Outcome)) : Type 0 where
+pub record EndsAsMade (count seed : ℕ) (before after : Scene) (fault : Option RunFault) (kept : Option AnyKept) : Type 0 where
   pub made : Result (Unit {0}) MadeFault
   pub fault_is : fault ≡ fault_made made
   pub ends : MakesTo (made_text count seed) (sink_seen before.taken before.writes before.flushed)
@@ -55,10 +73,9 @@ pub record EndsAsMade (count seed : ℕ) (before after : Scene) (fault : Option 
   pub none_started : StartsNone before after
 
 -- the ends of the command that the words say, if they say one
-abbrev pub EndsAs : Option Command → Scene → Scene → Option RunFault → Option (Kept Outcome) → Type 0
+abbrev pub EndsAs : Option Command → Scene → Scene → Option RunFault → Option AnyKept → Type 0
 EndsAs None before after fault kept = EndsUnsaid before after fault kept
-EndsAs (Some (Solve words)) before after fault kept = EndsAsRun (λ met. Solves words before after met kept) fault
+EndsAs (Some (Solve words)) before after fault kept = EndsAsRun (SolvesAs words before after) fault kept
 EndsAs (Some Check) before after fault kept = EndsAsChecked before after fault kept
 EndsAs (Some (Make count seed)) before after fault kept = EndsAsMade count seed before after fault kept
-EndsAs (Some (Drill count seed options)) before after fault kept =
-    EndsAsRun (λ met. Drills count seed options before after met kept) fault
+EndsAs (Some (Drill count seed options)) before after fault kept = EndsAsRun (DrillsAs count seed options before after) fault kept

@@ -2,10 +2,12 @@
 
 ghost use Rattle.std.specs.Prelude.{◌≡◌, Some};
 
+use adlb_unit::Config;
 use command_words::WordsFault;
 use job_report::Outcome;
 use ledger_command::CheckFault;
 use made_jobs::MadeFault;
+use packed_ledger::Ledger;
 use run_command::{Ended, Fault, Kept};
 use thiserror::Error;
 
@@ -167,18 +169,47 @@ impl From<MadeFault> for RunFault {
     }
 }
 
+/// What is kept of a run, by what its ranks ran.
+#[derive(Drop)]
+pub enum AnyKept {
+    /// Puzzles and batches of items.
+    Puzzles(Kept<Outcome>),
+}
+
+impl AnyKept {
+    ghost use Rattle.adlb_command.specs.Ends.{config_kept, ledger_kept};
+
+    /// The configuration of the run.
+    pub fn config(&self) -> Config
+        ensures { result ≡ config_kept self.now }
+    {
+        match self {
+            AnyKept::Puzzles(kept) => kept.report().config,
+        }
+    }
+
+    /// The ledger of the run.
+    pub fn ledger(&self) -> &Ledger
+        ensures { result.now ≡ ledger_kept self.now }
+    {
+        match self {
+            AnyKept::Puzzles(kept) => &kept.report().ledger,
+        }
+    }
+}
+
 /// How a command ended: its exit status, why it did not write its whole output, if so, and what it kept of a run: something if some of
 /// the output was written, or if a write failed.
 #[derive(Drop)]
 pub struct RunEnd {
     pub status: u8,
     pub fault: Option<RunFault>,
-    pub kept: Option<Kept<Outcome>>,
+    pub kept: Option<AnyKept>,
 }
 
 impl RunEnd {
     ghost use Rattle.std.specs.Prelude.{None};
-    ghost use Rattle.adlb_command.specs.Ends.{fault_ended, status_of};
+    ghost use Rattle.adlb_command.specs.Ends.{fault_ended, kept_ended, status_of};
 
     /// The end of a command with this fault, if there is one, which keeps nothing.
     pub fn new(fault: Option<RunFault>) -> RunEnd
@@ -197,14 +228,24 @@ impl RunEnd {
     pub fn of(ended: Ended<job_text::LineWhy, Outcome>) -> RunEnd
         ensures status { result.status ≡ status_of result.fault }
         ensures fault { result.fault ≡ fault_ended ended.fault }
-        ensures kept { result.kept ≡ ended.kept }
+        ensures kept { result.kept ≡ kept_ended ended.kept }
     {
         let Ended { fault, kept } = ended;
         let fault = RunEnd::fault_of(fault);
         RunEnd {
             status: RunEnd::status_of(fault),
             fault,
-            kept,
+            kept: RunEnd::kept_of(kept),
+        }
+    }
+
+    // What is kept of a run over puzzles and batches, if anything is.
+    fn kept_of(kept: Option<Kept<Outcome>>) -> Option<AnyKept>
+        ensures { result ≡ kept_ended kept }
+    {
+        match kept {
+            None => None,
+            Some(kept) => Some(AnyKept::Puzzles(kept)),
         }
     }
 

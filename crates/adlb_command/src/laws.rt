@@ -7,13 +7,12 @@ ghost use Rattle.bag_ledger.specs.declared.entries.Entry.{Entry};
 ghost use Rattle.command_words.specs.declared.commands.Command.{Command};
 ghost use Rattle.command_words.specs.declared.commands.RunOptions.{RunOptions};
 ghost use Rattle.command_words.specs.declared.commands.SolveWords.{SolveWords};
-ghost use Rattle.job_report.specs.declared.outcomes.Outcome.{Outcome};
 ghost use Rattle.job_text.specs.declared.faults.LineWhy as of_jobs;
 ghost use Rattle.job_text.specs.Jobs.{input_refused};
 ghost use Rattle.ledger_command.specs.Input.{input_limit as ledger_limit};
 ghost use Rattle.ledger_file.specs.Lines.{IsFirstBad, IsText};
 ghost use Rattle.run_command.specs.Ends.{Scene, input_limit};
-ghost use Rattle.run_command.specs.Kept.{Kept};
+ghost use Rattle.adlb_command.specs.declared.ends.AnyKept.{AnyKept};
 ghost use Rattle.adlb_command.specs.declared.ends.LineWhy.{LineWhy};
 ghost use Rattle.adlb_command.specs.declared.ends.RunFault.{RunFault};
 ghost use Rattle.adlb_command.specs.Ends.{IsFine, why_of};
@@ -34,36 +33,36 @@ use made_law::made_is_accepted;
 /// fails (`made`). `drill`: if no write failed and no start was refused, the summary was written, but for the ends that `complete` leaves
 /// (`drilled`).
 pub fn end_laws()
-    ensures usage { (said : Option Command) (before after : Scene) (kept : Option (Kept Outcome)) →
+    ensures usage { (said : Option Command) (before after : Scene) (kept : Option AnyKept) →
         EndsAs said before after (Some RunFault.Usage) kept → said ≡ None }
-    ensures unsaid { (before after : Scene) (fault : Option RunFault) (kept : Option (Kept Outcome)) →
+    ensures unsaid { (before after : Scene) (fault : Option RunFault) (kept : Option AnyKept) →
         EndsAs None before after fault kept → (fault ≡ Some RunFault.Usage) ⊎ (fault ≡ Some RunFault.Memory) }
-    ensures complete { (words : SolveWords) (before after : Scene) (fault : Option RunFault) (kept : Option (Kept Outcome)) (bytes : List ℕ) →
+    ensures complete { (words : SolveWords) (before after : Scene) (fault : Option RunFault) (kept : Option AnyKept) (bytes : List ℕ) →
         EndsAs (Some (Command.Solve words)) before after fault kept → before.left ≡ Some bytes → (Rises before.reads after.reads → ⊥) →
         length bytes ≤ input_limit → input_refused bytes ≡ None →
         (Rises before.writes after.writes → ⊥) → (Rises before.refused after.refused → ⊥) → IsFine fault }
-    ensures refused { (words : SolveWords) (before after : Scene) (fault : Option RunFault) (kept : Option (Kept Outcome)) (bytes : List ℕ) →
+    ensures refused { (words : SolveWords) (before after : Scene) (fault : Option RunFault) (kept : Option AnyKept) (bytes : List ℕ) →
         EndsAs (Some (Command.Solve words)) before after fault kept → before.left ≡ Some bytes → (Rises before.reads after.reads → ⊥) →
         (line : ℕ) (why : of_jobs.LineWhy) → length bytes ≤ input_limit → input_refused bytes ≡ Some (line, why) →
         (fault ≡ Some (RunFault.Input line (why_of why))) ⊎ (fault ≡ Some RunFault.Memory) }
-    ensures overlong { (words : SolveWords) (before after : Scene) (fault : Option RunFault) (kept : Option (Kept Outcome)) (bytes : List ℕ) →
+    ensures overlong { (words : SolveWords) (before after : Scene) (fault : Option RunFault) (kept : Option AnyKept) (bytes : List ℕ) →
         EndsAs (Some (Command.Solve words)) before after fault kept → before.left ≡ Some bytes → (Rises before.reads after.reads → ⊥) →
         input_limit < length bytes → (fault ≡ Some (RunFault.TooLarge (input_limit + 1))) ⊎ (fault ≡ Some RunFault.Memory) }
-    ensures checked { (before after : Scene) (fault : Option RunFault) (kept : Option (Kept Outcome)) (bytes : List ℕ) →
+    ensures checked { (before after : Scene) (fault : Option RunFault) (kept : Option AnyKept) (bytes : List ℕ) →
         EndsAs (Some Command.Check) before after fault kept → before.left ≡ Some bytes → (Rises before.reads after.reads → ⊥) →
         (config : Config) (ledger : List Entry) → length bytes ≤ ledger_limit → IsText config ledger bytes →
         (Rises before.writes after.writes → ⊥) → (fault ≡ None) ⊎ (fault ≡ Some RunFault.Memory) }
-    ensures bad { (before after : Scene) (fault : Option RunFault) (kept : Option (Kept Outcome)) (bytes : List ℕ) →
+    ensures bad { (before after : Scene) (fault : Option RunFault) (kept : Option AnyKept) (bytes : List ℕ) →
         EndsAs (Some Command.Check) before after fault kept → before.left ≡ Some bytes → (Rises before.reads after.reads → ⊥) →
         (line : ℕ) → length bytes ≤ ledger_limit → IsFirstBad bytes line →
         (fault ≡ Some (RunFault.Input line LineWhy.Entry)) ⊎ (fault ≡ Some RunFault.Memory) }
-    ensures long { (before after : Scene) (fault : Option RunFault) (kept : Option (Kept Outcome)) (bytes : List ℕ) →
+    ensures long { (before after : Scene) (fault : Option RunFault) (kept : Option AnyKept) (bytes : List ℕ) →
         EndsAs (Some Command.Check) before after fault kept → before.left ≡ Some bytes → (Rises before.reads after.reads → ⊥) →
         ledger_limit < length bytes → (fault ≡ Some (RunFault.TooLarge (ledger_limit + 1))) ⊎ (fault ≡ Some RunFault.Memory) }
-    ensures drilled { (count seed : ℕ) (options : RunOptions) (before after : Scene) (fault : Option RunFault) (kept : Option (Kept Outcome)) →
+    ensures drilled { (count seed : ℕ) (options : RunOptions) (before after : Scene) (fault : Option RunFault) (kept : Option AnyKept) →
         EndsAs (Some (Command.Drill count seed options)) before after fault kept → count ≤ 100000 →
         (Rises before.writes after.writes → ⊥) → (Rises before.refused after.refused → ⊥) → IsFine fault }
-    ensures made { (count seed : ℕ) (before after : Scene) (fault : Option RunFault) (kept : Option (Kept Outcome)) →
+    ensures made { (count seed : ℕ) (before after : Scene) (fault : Option RunFault) (kept : Option AnyKept) →
         EndsAs (Some (Command.Make count seed)) before after fault kept → (Rises before.writes after.writes → ⊥) →
         (fault ≡ None) ⊎ (fault ≡ Some RunFault.Memory) }
 {

@@ -9,7 +9,8 @@
 mod ends;
 mod laws;
 mod top;
+mod words;
 
-pub use ends::{LineWhy, RunEnd, RunFault};
+pub use ends::{AnyKept, LineWhy, RunEnd, RunFault};
 pub use laws::end_laws;
 pub use top::run_adlb;

@@ -8,6 +8,7 @@ ghost use Rattle.adlb_command.specs.Ends.{status_of};
 ghost use Rattle.adlb_command.specs.Top.{EndsAs, EndsAsChecked, EndsAsMade};
 
 use crate::ends::{RunEnd, RunFault};
+use crate::words::{config, extras, settings};
 use adlb_io::{Gate, Sink, Source, Spawner};
 use command_words::{Command, read_words};
 use ledger_command::check_ledger;
@@ -44,7 +45,17 @@ pub fn run_adlb<S: Source, K: Sink, T: Spawner, G: Gate + Send + Drop + 'static>
     ensures threads { T.faults threads.old ≤ T.faults threads.new }
 {
     match read_words(alloc, words) {
-        Ok(Command::Solve(words)) => RunEnd::of(solve(alloc, &words, input, output, threads, gate)),
+        Ok(Command::Solve(words)) => RunEnd::of(solve(
+            alloc,
+            settings(&words.options),
+            extras(&words),
+            config(&words.options.sizes, words.options.inline),
+            words.options.inline,
+            input,
+            output,
+            threads,
+            gate,
+        )),
         Ok(Command::Check) => check(alloc, input, output),
         Ok(Command::Make { count, seed }) => make(alloc, count, seed, output),
         Ok(
@@ -53,7 +64,17 @@ pub fn run_adlb<S: Source, K: Sink, T: Spawner, G: Gate + Send + Drop + 'static>
                 seed,
                 options,
             },
-        ) => RunEnd::of(drill(alloc, count, seed, &options, output, threads, gate)),
+        ) => RunEnd::of(drill(
+            alloc,
+            count,
+            seed,
+            settings(&options),
+            config(&options.sizes, options.inline),
+            options.inline,
+            output,
+            threads,
+            gate,
+        )),
         Err(met) => RunEnd::new(Some(RunFault::from(met))),
     }
 }

@@ -1,6 +1,6 @@
 //! Runs of the top call, and what is seen of them.
 
-use adlb_command::{RunEnd, run_adlb};
+use adlb_command::{AnyKept, RunEnd, run_adlb};
 use adlb_io::{FreeGate, Gate, Spawner, SteadySink, SteadySource};
 use bag_ledger::Entry;
 use std::alloc::Global;
@@ -49,7 +49,7 @@ pub fn seen(alloc: Global, end: &RunEnd, written: &[u8]) -> Result<Ran, Fail> {
 // The kept ledger, and how many units are left.
 fn kept(alloc: Global, end: &RunEnd) -> Result<(String, usize), Fail> {
     match &end.kept {
-        Some(kept) => {
+        Some(AnyKept::Puzzles(kept)) => {
             let report = kept.report();
             Ok((
                 names(alloc, &report.ledger.list(alloc)?)?,

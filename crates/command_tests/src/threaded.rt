@@ -284,8 +284,8 @@ fn is_legal<T: Spawner>(
     let Some(kept) = &end.kept else {
         return Ok(false);
     };
-    let report_kept = kept.report();
-    let illegal = first_illegal(alloc, &report_kept.ledger, &report_kept.config)?;
+    let config = kept.config();
+    let illegal = first_illegal(alloc, kept.ledger(), &config)?;
     Ok(end.status == 0 && illegal.is_none() && output.taken() == report.as_bytes())
 }
 

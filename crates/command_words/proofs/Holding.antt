@@ -25,7 +25,7 @@ use Rattle.clap.specs.declared.builder.value_parser.Reading.{Reading}
 use Rattle.clap.specs.declared.builder.value_parser.Reading.TheVariants.{AsWritten}
 use Rattle.clap.specs.declared.parser.matches.ArgMatches.{ArgMatches}
 use Rattle.clap.specs.declared.parser.matches.MatchedArg.{MatchedArg}
-use Rattle.command_words.specs.Inside.{HoldsActors, HoldsIn, HoldsMade, HoldsRun}
+use Rattle.command_words.specs.Inside.{HoldsIn, HoldsMade, HoldsRun, HoldsSizes}
 use Rattle.command_words.specs.Ranges.{budgets, counts, grains, limits, rank_counts, seeds, server_counts}
 
 abbrev pub is_parser : ℕ → ℕ → Option ValueParser → Bool
@@ -200,11 +200,13 @@ module _ (app : App) (old : Command) (m : ArgMatches) (p : IsParsedFrom old m) (
     seed = number_holds app old m p same_app (codes "seed") seeds.low seeds.high (named app _ _ _ seed);
   }
 
-  actors_hold : names app (codes "ranks") rank_counts.low rank_counts.high ≡ true
-      → names app (codes "servers") server_counts.low server_counts.high ≡ true → HoldsActors (rows_of (found_of m))
-  actors_hold ranks servers = record {
+  sizes_hold : names app (codes "ranks") rank_counts.low rank_counts.high ≡ true
+      → names app (codes "servers") server_counts.low server_counts.high ≡ true
+      → names app (codes "limit") limits.low limits.high ≡ true → HoldsSizes (rows_of (found_of m))
+  sizes_hold ranks servers limit = record {
     ranks = number_holds app old m p same_app (codes "ranks") rank_counts.low rank_counts.high (named app _ _ _ ranks);
     servers = number_holds app old m p same_app (codes "servers") server_counts.low server_counts.high (named app _ _ _ servers);
+    limit = number_holds app old m p same_app (codes "limit") limits.low limits.high (named app _ _ _ limit);
   }
 
   pub run_holds : names app (codes "ranks") rank_counts.low rank_counts.high ≡ true
@@ -212,8 +214,7 @@ module _ (app : App) (old : Command) (m : ArgMatches) (p : IsParsedFrom old m) (
       → names app (codes "limit") limits.low limits.high ≡ true → names app (codes "budget") budgets.low budgets.high ≡ true
       → names app (codes "grain") grains.low grains.high ≡ true → HoldsRun (rows_of (found_of m))
   run_holds ranks servers limit budget grain = record {
-    actors = actors_hold ranks servers;
-    limit = number_holds app old m p same_app (codes "limit") limits.low limits.high (named app _ _ _ limit);
+    sizes = sizes_hold ranks servers limit;
     budget = number_holds app old m p same_app (codes "budget") budgets.low budgets.high (named app _ _ _ budget);
     grain = number_holds app old m p same_app (codes "grain") grains.low grains.high (named app _ _ _ grain);
   }

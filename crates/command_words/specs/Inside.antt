@@ -17,14 +17,14 @@ pub record HoldsMade (rows : List Row) : Type 0 where
   pub count : HoldsIn (codes "count") counts.low counts.high rows
   pub seed : HoldsIn (codes "seed") seeds.low seeds.high rows
 
--- and how many ranks and servers there are
-pub record HoldsActors (rows : List Row) : Type 0 where
+-- and the sizes of a run
+pub record HoldsSizes (rows : List Row) : Type 0 where
   pub ranks : HoldsIn (codes "ranks") rank_counts.low rank_counts.high rows
   pub servers : HoldsIn (codes "servers") server_counts.low server_counts.high rows
+  pub limit : HoldsIn (codes "limit") limits.low limits.high rows
 
 -- and the options of a run
 pub record HoldsRun (rows : List Row) : Type 0 where
-  pub actors : HoldsActors rows
-  pub limit : HoldsIn (codes "limit") limits.low limits.high rows
+  pub sizes : HoldsSizes rows
   pub budget : HoldsIn (codes "budget") budgets.low budgets.high rows
   pub grain : HoldsIn (codes "grain") grains.low grains.high rows

@@ -37,23 +37,23 @@ with_made a = with_rule
     (with_rule a (number_rule (codes "count") counts.low counts.high))
     (number_rule (codes "seed") seeds.low seeds.high)
 
--- a command that takes the numbers of ranks and of servers as well
-abbrev pub with_actors : App → App
-with_actors a = with_rule
-    (with_rule a (option_rule (codes "ranks") rank_counts.low rank_counts.high))
-    (option_rule (codes "servers") server_counts.low server_counts.high)
-
--- a command that takes the limit, the budget and the grain as well
-abbrev pub with_numbers : App → App
-with_numbers a = with_rule
+-- a command that takes the sizes of a run as well
+abbrev pub with_sizes : App → App
+with_sizes a = with_rule
     (with_rule
-    (with_rule a (option_rule (codes "limit") limits.low limits.high))
-    (option_rule (codes "budget") budgets.low budgets.high))
+    (with_rule a (option_rule (codes "ranks") rank_counts.low rank_counts.high))
+    (option_rule (codes "servers") server_counts.low server_counts.high))
+    (option_rule (codes "limit") limits.low limits.high)
+
+-- a command that takes the budget and the grain as well
+abbrev pub with_work : App → App
+with_work a = with_rule
+    (with_rule a (option_rule (codes "budget") budgets.low budgets.high))
     (option_rule (codes "grain") grains.low grains.high)
 
 -- a command that takes the options of a run as well
 abbrev pub with_run : App → App
-with_run a = with_rule (with_numbers (with_actors a)) (flag_rule (codes "inline"))
+with_run a = with_rule (with_work (with_sizes a)) (flag_rule (codes "inline"))
 
 abbrev pub solve_app : App
 solve_app = with_rule

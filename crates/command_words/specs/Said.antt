@@ -10,6 +10,7 @@ use Rattle.command_words.specs.Ranges.{IsIn, budgets, counts, grains, limits, ra
 use Rattle.command_words.specs.declared.commands.Command.{Command}
 use Rattle.command_words.specs.declared.commands.Command.TheVariants.{Solve, Check, Make, Drill}
 use Rattle.command_words.specs.declared.commands.RunOptions.{RunOptions}
+use Rattle.command_words.specs.declared.commands.Sizes.{Sizes}
 
 -- the number that is given under this name, in decimal digits; `default` where none is
 abbrev pub number_of : Text → ℕ → List Row → ℕ
@@ -19,12 +20,18 @@ number_of name default rows = option_map_or (λ t. digits_value 10 (without_lead
 abbrev pub flag_of : Text → List Row → Bool
 flag_of name rows = option_map_or (λ t. bytes_eq t (codes "true")) (one_of name rows) false
 
--- the options of a run
-abbrev pub run_of : List Row → RunOptions
-run_of rows = record {
+-- the sizes of a run
+abbrev pub sizes_of : List Row → Sizes
+sizes_of rows = record {
   ranks = number_of (codes "ranks") rank_counts.default rows;
   servers = number_of (codes "servers") server_counts.default rows;
   limit = number_of (codes "limit") limits.default rows;
+}
+
+-- the options of a run over puzzles
+abbrev pub run_of : List Row → RunOptions
+run_of rows = record {
+  sizes = sizes_of rows;
   budget = number_of (codes "budget") budgets.default rows;
   grain = number_of (codes "grain") grains.default rows;
   inline = flag_of (codes "inline") rows;
@@ -74,10 +81,13 @@ command_of (word ∷ words) =
     else None)))
 
 -- the numbers of a run are within their limits
+pub record AreWithin (sizes : Sizes) : Type 0 where
+  pub ranks : IsIn rank_counts sizes.ranks
+  pub servers : IsIn server_counts sizes.servers
+  pub limit : InLimit sizes.limit
+
 pub record IsRunWithin (run : RunOptions) : Type 0 where
-  pub ranks : IsIn rank_counts run.ranks
-  pub servers : IsIn server_counts run.servers
-  pub limit : InLimit run.limit
+  pub sizes : AreWithin run.sizes
   pub budget : IsIn budgets run.budget
   pub grain : IsIn grains run.grain
 

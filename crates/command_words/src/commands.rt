@@ -5,20 +5,26 @@ ghost use Rattle.std.specs.Prelude.{◌≡◌};
 use std::alloc::AllocError;
 use thiserror::Error;
 
-/// How a run is done.
+/// The sizes of a run, whatever it works.
 #[derive(Clone, Copy)]
-pub struct RunOptions {
+pub struct Sizes {
     /// How many ranks there are: 1 to 32.
     pub ranks: u32,
     /// How many servers there are: 1 to 8.
     pub servers: u32,
     /// The bytes that a server takes at most: 64 to 2^30.
     pub limit: u64,
+}
+
+/// How a run over puzzles is done.
+#[derive(Clone, Copy)]
+pub struct RunOptions {
+    pub sizes: Sizes,
     /// The budget of a puzzle: 1 to 2^32.
     pub budget: u64,
     /// The grain of a puzzle: 1 to 2^32.
     pub grain: u64,
-    /// The run has one rank and one server, whatever `ranks` and `servers` say, and no thread.
+    /// The run has one rank and one server, whatever its sizes say, and no thread.
     pub inline: bool,
 }
 

@@ -9,5 +9,5 @@ mod commands;
 mod options;
 mod reading;
 
-pub use commands::{Command, RunOptions, SolveWords, WordsFault};
+pub use commands::{Command, RunOptions, Sizes, SolveWords, WordsFault};
 pub use reading::read_words;

@@ -3,7 +3,7 @@
 ghost use Rattle.std.specs.Prelude.{◌≡◌, IfOk, false};
 ghost use Rattle.clap.specs.Words.{app_of, rule_of, with_rule};
 ghost use Rattle.command_words.specs.Options.{bare, check_app, drill_app, flag_rule, make_app, number_rule};
-ghost use Rattle.command_words.specs.Options.{option_rule, solve_app, with_actors, with_made, with_numbers, with_run};
+ghost use Rattle.command_words.specs.Options.{option_rule, solve_app, with_made, with_run, with_sizes, with_work};
 
 use clap::builder::ValueParser;
 use clap::{Arg, ArgAction, Command};
@@ -94,17 +94,17 @@ fn with_made<'a>(alloc: Global, command: Command<'a>) -> Result<Command<'a>, All
     with_number(alloc, command, "seed", 0, u64::MAX)
 }
 
-fn with_actors<'a>(alloc: Global, command: Command<'a>) -> Result<Command<'a>, AllocError>
-    ensures { IfOk result (λ c. app_of c ≡ with_actors (app_of command.entry)) }
+fn with_sizes<'a>(alloc: Global, command: Command<'a>) -> Result<Command<'a>, AllocError>
+    ensures { IfOk result (λ c. app_of c ≡ with_sizes (app_of command.entry)) }
 {
     let command = with_option(alloc, command, "ranks", 1, 32)?;
-    with_option(alloc, command, "servers", 1, 8)
+    let command = with_option(alloc, command, "servers", 1, 8)?;
+    with_option(alloc, command, "limit", 64, 1 << 30)
 }
 
-fn with_numbers<'a>(alloc: Global, command: Command<'a>) -> Result<Command<'a>, AllocError>
-    ensures { IfOk result (λ c. app_of c ≡ with_numbers (app_of command.entry)) }
+fn with_work<'a>(alloc: Global, command: Command<'a>) -> Result<Command<'a>, AllocError>
+    ensures { IfOk result (λ c. app_of c ≡ with_work (app_of command.entry)) }
 {
-    let command = with_option(alloc, command, "limit", 64, 1 << 30)?;
     let command = with_option(alloc, command, "budget", 1, 1 << 32)?;
     with_option(alloc, command, "grain", 1, 1 << 32)
 }
@@ -112,7 +112,7 @@ fn with_numbers<'a>(alloc: Global, command: Command<'a>) -> Result<Command<'a>, 
 fn with_run<'a>(alloc: Global, command: Command<'a>) -> Result<Command<'a>, AllocError>
     ensures { IfOk result (λ c. app_of c ≡ with_run (app_of command.entry)) }
 {
-    let command = with_numbers(alloc, with_actors(alloc, command)?)?;
+    let command = with_work(alloc, with_sizes(alloc, command)?)?;
     with_flag(alloc, command, "inline")
 }
 

@@ -3,14 +3,14 @@
 ghost use Rattle.std.specs.Prelude.{◌≡◌, ◌≢◌, IfErr, IfOk, None, Some, [], ℕ, codes, map, true};
 ghost use Rattle.std.specs.String.{string_bytes};
 ghost use Rattle.clap.specs.Words.{IsParsedFrom, app_of, fault_of, found_of, is_simple_and_free, rows_of};
-ghost use Rattle.command_words.specs.Inside.{HoldsActors, HoldsIn, HoldsMade, HoldsRun, IsFound};
+ghost use Rattle.command_words.specs.Inside.{HoldsIn, HoldsMade, HoldsRun, HoldsSizes, IsFound};
 ghost use Rattle.command_words.specs.Options.{check_app, drill_app, make_app, solve_app};
-ghost use Rattle.command_words.specs.Ranges.{IsIn, counts, rank_counts, seeds, server_counts};
-ghost use Rattle.command_words.specs.Said.{IsRunWithin, IsWithin, check_of, command_of, drill_of, flag_of};
-ghost use Rattle.command_words.specs.Said.{make_of, number_of, read_by, run_of, solve_of};
+ghost use Rattle.command_words.specs.Ranges.{IsIn, counts, seeds};
+ghost use Rattle.command_words.specs.Said.{AreWithin, IsRunWithin, IsWithin, check_of, command_of, drill_of, flag_of};
+ghost use Rattle.command_words.specs.Said.{make_of, number_of, read_by, run_of, sizes_of, solve_of};
 ghost use Rattle.command_words.specs.declared.commands.WordsFault.TheVariants.{Usage};
 
-use crate::commands::{Command, RunOptions, SolveWords, WordsFault};
+use crate::commands::{Command, RunOptions, Sizes, SolveWords, WordsFault};
 use crate::options::{check_command, drill_command, make_command, solve_command};
 use clap::ArgMatches;
 use clap::error::ErrorKind;
@@ -50,17 +50,17 @@ fn flag_of(matches: &ArgMatches<'_>, name: &str) -> bool
     matches.get_one::<bool>(name).unwrap_or(false)
 }
 
-// How many ranks and servers there are.
-fn actors_of(matches: &ArgMatches<'_>) -> (u32, u32)
-    requires holds { HoldsActors (rows_of (found_of matches.now)) }
-    ensures ranks { result.0 ≡ number_of (codes "ranks") rank_counts.default (rows_of (found_of matches.now)) }
-    ensures servers { result.1 ≡ number_of (codes "servers") server_counts.default (rows_of (found_of matches.now)) }
-    ensures within { IsIn rank_counts result.0 × IsIn server_counts result.1 }
+// The sizes of a run.
+fn sizes_of(matches: &ArgMatches<'_>) -> Sizes
+    requires holds { HoldsSizes (rows_of (found_of matches.now)) }
+    ensures said { result ≡ sizes_of (rows_of (found_of matches.now)) }
+    ensures within { AreWithin result }
 {
-    (
-        number_of(matches, "ranks", 4) as u32,
-        number_of(matches, "servers", 2) as u32,
-    )
+    Sizes {
+        ranks: number_of(matches, "ranks", 4) as u32,
+        servers: number_of(matches, "servers", 2) as u32,
+        limit: number_of(matches, "limit", 1 << 26),
+    }
 }
 
 fn run_of(matches: &ArgMatches<'_>) -> RunOptions
@@ -68,11 +68,8 @@ fn run_of(matches: &ArgMatches<'_>) -> RunOptions
     ensures said { result ≡ run_of (rows_of (found_of matches.now)) }
     ensures within { IsRunWithin result }
 {
-    let (ranks, servers) = actors_of(matches);
     RunOptions {
-        ranks,
-        servers,
-        limit: number_of(matches, "limit", 1 << 26),
+        sizes: sizes_of(matches),
         budget: number_of(matches, "budget", 1 << 24),
         grain: number_of(matches, "grain", 1 << 16),
         inline: flag_of(matches, "inline"),

@@ -100,6 +100,7 @@ unfound me exhausted = by_test (me == 0) refl
     by_test true is = rw is (omega arith)
     by_test false is = rw is (omega arith)
 
+-- what an act takes pays for what it says and changes
 pub acts_pay : (a : Act) (s : ServerModel) → SitsIn a s → Sure a s → IsDue a s → s.me.0 < s.config.servers → ActPays a s
 acts_pay (Parks wish) s sits sure due here = let w = waits waits_credit (Parks wish) s sits in let few = few_others s in omega arith
 acts_pay (Is_hinted at e from) s sits sure due here =

@@ -98,6 +98,7 @@ module _ (P : World → ℕ → World → Type 0) (w : World) (law : IsEventLaw 
       (λ is. let parts = and_parts (is_within w.config from) (is_within w.config to) is in
       handled from to (link w.links (place_of w.config from) (place_of w.config to)) parts.0 parts.1 refl)
 
+  -- what the three kinds of step do holds of an event
   pub by_event : (e : Event) (next : World) → happens w e ≡ Some next → P w (is_call e) next
   by_event e next is = on_some (P w (is_call e)) (happens w e) next (on_event e) is
 
@@ -158,6 +159,7 @@ start_credit config =
     let top = config.servers_within.1 in
     omega arith
 
+-- a run has few events for the calls that it begins
 pub few_events : (config : Config) (events : List Event) (w : World) → Runs (start config) events w
     → length events ≤ 1592 + begun events * 5109
 few_events config events w run =
@@ -193,6 +195,7 @@ run_count w last (e ∷ events) well run =
     let more = run_count run.0 last events (well_kept w run.0 well (happens_does w run.0 e run.1)) run.2 in
     omega arith
 
+-- the numbers of the next calls tell how many calls a run has begun
 pub begun_count : (config : Config) (events : List Event) (w : World) → Runs (start config) events w → calls_begun w ≡ begun events
 begun_count config events w run =
     let all = run_count (start config) w events (begins_well config) run in

@@ -31,9 +31,11 @@ abbrev pub AreDue : List Act → ServerModel → Type 0
 AreDue [] s = Unit {0}
 AreDue (a ∷ more) s = IsDue a s × AreDue more (done a s)
 
+-- what acts cost together
 abbrev pub costs : List Act → ℕ
 costs list = weigh cost list
 
+-- of acts and those behind them
 pub due_joined : (xs ys : List Act) (s : ServerModel) → AreDue xs s → AreDue ys (all_done xs s) → AreDue (xs ++ ys) s
 due_joined [] ys s first then = then
 due_joined (a ∷ xs) ys s first then = (first.0, due_joined xs ys (done a s) first.1 then)
@@ -43,9 +45,11 @@ pub record Costs (most : ℕ) (list : List Act) (s : ServerModel) : Type 0 where
   pub due : AreDue list s
   pub few : costs list ≤ most
 
+-- no act costs nothing
 pub none_costs : (s : ServerModel) → Costs 0 [] s
 none_costs s = record { due = tt; few = omega arith }
 
+-- of acts and those behind them
 pub cost_joined : (m n : ℕ) (xs ys : List Act) (s : ServerModel) → Costs m xs s → Costs n ys (all_done xs s) → Costs (m + n) (xs ++ ys) s
 cost_joined m n xs ys s a b = record {
   due = due_joined xs ys s a.due b.due;
@@ -57,14 +61,17 @@ cost_joined m n xs ys s a b = record {
 abbrev pub IsFree : Decider → Type 0
 IsFree d = (s : ServerModel) → Costs 0 (d s) s
 
+-- each decider is free
 abbrev pub AllFree : List Decider → Type 0
 AllFree [] = Unit {0}
 AllFree (d ∷ ds) = IsFree d × AllFree ds
 
+-- what free deciders decide costs nothing
 pub free_cost : (ds : List Decider) (s : ServerModel) → AllFree ds → Costs 0 (decided ds s) s
 free_cost [] s free = none_costs s
 free_cost (d ∷ ds) s free = cost_joined 0 0 (d s) (decided ds (all_done (d s) s)) s (free.0 s) (free_cost ds (all_done (d s) s) free.1)
 
+-- of deciders and those behind them
 pub all_free : (ds es : List Decider) → AllFree ds → AllFree es → AllFree (ds ++ es)
 all_free [] es a b = b
 all_free (d ∷ ds) es a b = (a.0, all_free ds es a.1 b)
@@ -87,9 +94,11 @@ told_free end before (e ∷ behind) s =
     by_asked None told passed = let later = told _ in record { due = (tt, later.due); few = let f = later.few in omega arith }
     by_asked (Some t) told passed = passed
 
+-- to tell an end costs nothing
 pub tells_idle_free : (end : End) → IsFree (tells_idle end)
 tells_idle_free end s = told_free end [] s.kept.parked.waiting s
 
+-- an acknowledgement costs nothing
 pub acks_free : IsFree acks
 acks_free s = by_debt s.kept.owed
   where
@@ -97,6 +106,7 @@ acks_free s = by_debt s.kept.owed
     by_debt None = none_costs s
     by_debt (Some d) = single _ s refl tt
 
+-- to ask the next server costs nothing
 pub asks_on_free : (rank : Rank) → IsFree (asks_on rank)
 asks_on_free rank s = by_place (place_in (is_of rank) s.kept.parked.waiting)
   where
@@ -109,6 +119,7 @@ asks_on_free rank s = by_place (place_in (is_of rank) s.kept.parked.waiting)
     by_place None = none_costs s
     by_place (Some p) = by_asked p.at p.here.wish p.here.asked p.here.to_ask
 
+-- to look again costs nothing
 pub looks_again_free : (rank : Rank) → IsFree (looks_again rank)
 looks_again_free rank s = by_place (place_in (λ e. is_of rank e && is_idle e) s.kept.parked.waiting)
   where
@@ -159,5 +170,6 @@ checks_free s = by_test (may_start (ring_at s) (is_quiet s))
     by_test true = by_servers (s.config.servers == 1)
     by_test false = none_costs s
 
+-- what follows each event costs nothing
 pub ends_free : AllFree ends_event
 ends_free = (notices_free, (checks_free, tt))

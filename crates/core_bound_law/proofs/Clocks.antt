@@ -194,12 +194,14 @@ where_true : {X : Type 0} (b : Bool) (o : Option X) (x : X) → cond b o None �
 where_true true o x is = is
 where_true false o x is = absurd (cc)
 
+-- a call that a rank begins leaves its trouble, and its clock is the stamp of the event
 pub begin_leaves : (s : ClientModel) (call : Call) (x : rank_step.Made) → rank_step.begin s call ≡ Some x
     → (x.state.trouble ≡ s.trouble) × (x.state.clock ≡ rank_step.call_stamp s)
 begin_leaves s call x is =
     let t : ClientModel = rank_step.ticked s (rank_step.call_stamp s) in
     made_leaves t (rank_rules.open_call t call) x (call_leaves t call) (where_true (rank_rules.is_free s) _ x is)
 
+-- an answer that a rank hears leaves its trouble, and its clock is the stamp of the event
 pub hear_leaves : (s : ClientModel) (from : Server) (letter : Letter) (x : rank_step.Made) → rank_step.hear s from letter ≡ Some x
     → (x.state.trouble ≡ s.trouble) × (x.state.clock ≡ rank_step.letter_stamp s letter)
 hear_leaves s from letter x is =
@@ -229,6 +231,7 @@ by_acts (Some list) s x is =
     let same : carried list s ≡ x = cc in
     subst (λ (m : Served). ServerStays s m.state) same (carried_leaves list s)
 
+-- an event of a server leaves its trouble, and its clock is the stamp of the event
 pub serve_stays : (s : ServerModel) (from : Actor) (letter : Letter) (x : Served) → serve s from letter ≡ Some x
     → (x.state.trouble ≡ s.trouble) × (x.state.clock ≡ next_stamp s letter)
 serve_stays s from letter x is =

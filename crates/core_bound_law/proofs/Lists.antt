@@ -21,6 +21,7 @@ pub same_each : {X : Type 0} (n : ℕ) (xs : List X) → weigh (λ (x : X). n) x
 same_each n [] = omega arith
 same_each n (x ∷ xs) = let later = same_each n xs in omega arith
 
+-- how many other servers there are
 pub others_length : (config : Config) (me : Server) → length (others config me) ≡ config.servers - 1
 others_length config me = length-map-range_with_len (behind config me) 1 (config.servers - 1)
 
@@ -30,6 +31,7 @@ told_each : (me : Server) (m : Message) (ts : List Server)
 told_each me m [] = omega arith
 told_each me m (t ∷ ts) = let later = told_each me m ts in omega arith
 
+-- what a message to each other server weighs
 pub others_told : (s : ServerModel) (m : Message) → said_weight letters_credit.letter s.me (to_others s m) ≡
     (s.config.servers - 1) * letter_credit (by.Server s.me) m
 others_told s m = told_each s.me m (others s.config s.me) ∙ ap (λ n. n * letter_credit (by.Server s.me) m) (others_length s.config s.me)

@@ -122,6 +122,7 @@ run_up_to config before (e ∷ events) w last first early run =
     let rest = run_up_to config (before ++ e ∷ []) events run.0 last more (λ actor. let was = one actor in omega arith) run.2 in
     λ actor. let all = rest actor in omega arith
 
+-- the stamp of an actor's last event is at most the number of events
 pub stamps_up_to : (config : Config) (events : List Event) (w : World) (actor : Actor) → Runs (start config) events w
     → clock_of w actor ≤ length events
 stamps_up_to config events w actor run =

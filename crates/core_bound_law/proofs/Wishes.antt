@@ -34,6 +34,7 @@ use Rattle.core_law.proofs.Well.{inside_servers}
 unfoldable pub wishes_of : ℕ → List Wish → ℕ
 wishes_of rank wishes = weigh (λ (w : Wish). one (w.rank.0 == rank)) wishes
 
+-- one wish of each rank at most
 abbrev pub AreSingle : List Wish → Type 0
 AreSingle wishes = (rank : ℕ) → wishes_of rank wishes ≤ 1
 
@@ -48,6 +49,7 @@ fewer f test (w ∷ wishes) = by_test (fewer f test wishes) (test w) refl
     by_test later true is = rw is (omega arith)
     by_test later false is = rw is (omega arith)
 
+-- the wish of the rank goes
 pub off : (rank : Rank) (wishes : List Wish) → wishes_of rank.0 (unwished rank wishes) ≡ 0
 unfolding wishes_of
 off rank [] = refl
@@ -58,6 +60,7 @@ off rank (w ∷ wishes) = by_test (off rank wishes) (w.rank.0 == rank.0) refl
     by_test later true is = rw is later
     by_test later false is = rw is (rw is (omega arith))
 
+-- an act keeps one wish of each rank at most
 pub wishes_single : (a : Act) (wishes : List Wish) → AreSingle wishes → AreSingle (wishes_after a wishes)
 unfolding wishes_of
 wishes_single (Answers from wish unit) wishes once rank =
@@ -93,6 +96,7 @@ wishes_single _ wishes once rank = once rank
 abbrev pub IsSingle : ServerModel → Type 0
 IsSingle s = AreSingle s.kept.parked.wishes
 
+-- an act of a server keeps one wish of each rank at most
 pub act_single : (a : Act) (s : ServerModel) → IsSingle s → IsSingle (done a s)
 act_single a s once =
     subst (λ (k : Kept). AreSingle k.parked.wishes) (sym (done_kept a s)) (wishes_single a s.kept.parked.wishes once)
@@ -119,12 +123,14 @@ event_single w next from me letter rest x well once does =
     let now : IsSingle x.state = step_single (pool_of w me) from letter x (once me does.here) does.does in
     every_pool (λ t s. IsSingle s) w me x.state (inside_servers w me well does.here) now (λ other there differs. once other there)
 
+-- an event keeps it in a world
 pub single_kept : (w next : World) → IsWell w → KeepSingle w → Does w next → KeepSingle next
 single_kept w next well once (A_call does) = subst KeepSingle (sym does.is) once
 single_kept w next well once (An_answer does) = subst KeepSingle (sym does.is) once
 single_kept w next well once (A_request {from = from} {me = me} {letter = letter} {rest = rest} {x = x} does) =
     subst KeepSingle (sym does.is) (event_single w next from me letter rest x well once does)
 
+-- at the start no wish is kept
 pub begins_single : (config : Config) → KeepSingle (start config)
 unfolding wishes_of
 begins_single config server within = subst IsSingle (sym (pool_at config server within)) (λ rank. omega arith)
@@ -179,6 +185,7 @@ all_below n [] each = refl
 all_below n (w ∷ wishes) each =
     let it : one (nat_lt w.rank.0 n) ≡ 1 = rw (lt-ltb w.rank.0 n each.0) refl in let later = all_below n wishes each.1 in omega arith
 
+-- so there are as many wishes as ranks at most
 pub few_wishes : (config : Config) (me : Server) (wishes : List Wish) → Each (IsWish config me) wishes → AreSingle wishes
     → length wishes ≤ config.ranks
 few_wishes config me wishes are once =

@@ -85,6 +85,7 @@ pub record IsReady (t : ServerModel) : Type 0 where
   pub idle : t.kept.ring.runs ≡ false
   pub waits : (e : Waiting) → Has t.kept.parked.waiting e → e.asked ≡ None
 
+-- none of the acts says such a letter
 abbrev pub NoneBring : List Act → Type 0
 NoneBring list = Each (λ (a : Act). brings a ≡ false) list
 
@@ -144,6 +145,7 @@ module _ (t : ServerModel) (ready : IsReady t) where
   by_step (Fail token why) is quiet none list = inr (kept_unfound (ap is_verdict is) list)
   by_step Ended is quiet none list = inr (kept_unfound (ap is_verdict is) list)
 
+  -- after the event it is shut, or has a reason against that
   pub alone_end : is_quiet (all_done (decided ends_event t) t) ≡ true → NoneBring (decided ends_event t)
       → ((all_done (decided ends_event t) t).kept.shut ≡ true) ⊎ IsUnfound (all_done (decided ends_event t) t).kept
   alone_end quiet none = by_quiet (is_quiet t) refl

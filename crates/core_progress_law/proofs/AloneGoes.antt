@@ -54,6 +54,7 @@ use Rattle.work_queue.specs.Best.{offered}
 use Rattle.adlb_unit.specs.declared.actors.Actor.TheVariants as by
 use Rattle.adlb_unit.specs.declared.messages.Message.TheVariants as tells
 
+-- there is news, or the end was found
 abbrev pub GoesAlone : World → Type 0
 GoesAlone w = (0 < measure news w) ⊎ ((pool_of w zeroth).kept.shut ≡ true)
 

@@ -248,6 +248,7 @@ module _ (config : Config) (several : 1 < config.servers)
       going_on next last (before ++ e ∷ []) events (snoc (start config) w next before e run more.1) more.2
       (event_going w next before e run more.1 was)
 
+  -- every run of several servers goes on
   pub every_run_goes : (events : List Event) (w : World) → Runs (start config) events w → Goes w
   every_run_goes events w run = going_on (start config) w [] events refl run (inl (inl (begins_live config)))
 
@@ -287,5 +288,6 @@ module _ (config : Config) (alone : config.servers ≡ 1) where
       going_alone more.0 last (before ++ e ∷ []) events (snoc (start config) w more.0 before e run more.1) more.2
       (event_going_alone w more.0 before e run more.1)
 
+  -- every run of one server goes on
   pub every_run_goes_alone : (events : List Event) (w : World) → Runs (start config) events w → GoesAlone w
   every_run_goes_alone events w run = going_alone (start config) w [] events refl run (inl (begins_live config))

@@ -19,6 +19,7 @@ use Rattle.std.proofs.lemmas.Bool.{cases_eq}
 use Rattle.bag_ledger.specs.declared.entries.Call.TheVariants as calls_to
 use Rattle.core_run.specs.declared.events.Event.TheVariants as occurs
 
+-- every run of several servers goes on
 pub always_goes : (config : Config) (events : List Event) (w : World) → 1 < config.servers → Runs (start config) events w → Goes w
 always_goes config events w several run = every_run_goes config several (λ es v go. always_foreseen config es v several go) events w run
 

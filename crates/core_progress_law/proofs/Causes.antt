@@ -29,11 +29,13 @@ pub record IsLate (s : ServerModel) (t : Token) : Type 0 where
   pub others : List Asker
   pub asked : t.asked ≡ first ∷ others
 
+-- a test fails
 pub record IsFailed (s : ServerModel) (t : Token) : Type 0 where
   pub why : Why
   pub fails : first_failing (is_quiet s) s.kept.ring.mark s.activity (fit_among s.kept t.asked) ≡ Some why
   pub at : (t.wave ≡ 2) ⊎ (s.me.0 ≡ 0)
 
+-- the server is not quiet, or a test fails, or the verdict is late
 abbrev pub Cause : ServerModel → Token → Type 0
 Cause s t = (is_quiet s ≡ false) ⊎ IsFailed s t ⊎ IsLate s t
 

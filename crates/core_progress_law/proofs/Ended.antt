@@ -79,6 +79,7 @@ run_started w last (e ∷ events) well several run was =
     let same = ap (λ (c : Config). c.servers) (same_config w run.0 does) in
     run_started run.0 last events (well_kept w run.0 well does) (omega arith) run.2 (started_next w run.0 well several does was)
 
+-- in every run of several servers a check that is wanted has begun, where server 0 is quiet
 pub every_run_started : (config : Config) (events : List Event) (w : World) → 1 < config.servers → Runs (start config) events w
     → IsStarted (pool_of w zeroth)
 every_run_started config events w several run =
@@ -285,8 +286,10 @@ module _ (config : Config) (events : List Event) (w : World) (run : Runs (start 
       by_flag true e = shut_ended e
       by_flag false e = absurd (not_open e)
 
+  -- with several servers a run that is still has ended
   pub still_ends : 1 < config.servers → Goes w → IsEnded w
   still_ends several goes = by_shut (λ e. not_going e several goes)
 
+  -- and so it has with one
   pub still_ends_alone : GoesAlone w → IsEnded w
   still_ends_alone goes = by_shut (λ e. not_going_alone e goes)

@@ -23,6 +23,7 @@ carried_state : (list : List Act) (s : ServerModel) → (carried list s).state �
 carried_state [] s = refl
 carried_state (a ∷ list) s = carried_state list (done a s)
 
+-- what deciders decide, and those behind them
 pub decided_split : (ds es : List Decider) (s : ServerModel)
     → decided (ds ++ es) s ≡ decided ds s ++ decided es (all_done (decided ds s) s)
 decided_split [] es s = refl
@@ -37,6 +38,7 @@ all_config : (list : List Act) (s : ServerModel) → (all_done list s).config �
 all_config [] s = refl
 all_config (a ∷ list) s = all_config list (done a s) ∙ (done_named a s).0
 
+-- an act that leaves the push, who waits and who has finished leaves the server quiet or not
 pub quiet_after : (a : Act) (s : ServerModel) → (does a s).kept.pushing.push ≡ s.kept.pushing.push
     → (does a s).kept.parked.waiting ≡ s.kept.parked.waiting → (does a s).kept.finished ≡ s.kept.finished
     → is_quiet (done a s) ≡ is_quiet s
@@ -48,6 +50,7 @@ quiet_after a s p q r =
     let finished = ap (λ (x : Kept). x.finished) k ∙ r in
     rw (n.0, n.1, push, waiting, finished) refl
 
+-- what is so of a server after each of its events
 pub record IsAtEnd (x : ServerModel) : Type 0 where
   pub noted : is_quiet x ≡ true → is_noted x.kept.noted x.activity ≡ true
   pub started : x.me.0 ≡ 0 → is_quiet x ≡ true → x.kept.ring.wanted ≡ true → (x.kept.ring.runs ≡ true) ⊎ (x.kept.shut ≡ true)
@@ -117,6 +120,7 @@ checked_now u several noted = by_test (may_start (ring_at u) (is_quiet u)) refl
     by_test true is = by_number (u.config.servers == 1) refl
     by_test false is = record { noted = noted; started = λ z q w. by_flags u.kept.ring.runs u.kept.shut refl refl is z q w }
 
+-- it is so after what follows each event
 pub end_is : (s : ServerModel) → s.config.servers ≢ 1 → IsAtEnd (all_done (decided ends_event s) s)
 end_is s several =
     let u = all_done (notices s) s in
@@ -125,6 +129,7 @@ end_is s several =
     let more : u.config.servers ≢ 1 = λ e. several (ap (λ (c : Config). c.servers) (sym (all_config (notices s) s)) ∙ e) in
     subst IsAtEnd (sym same) (checked_now u more (noted_now s))
 
+-- it is so after a plan
 pub plan_ends : (s : ServerModel) (p : Plan) → s.config.servers ≢ 1 → IsAtEnd (all_done (in_order ends_event s p) s)
 plan_ends s p several =
     let t = done p.first s in

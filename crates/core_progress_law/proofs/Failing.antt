@@ -223,6 +223,7 @@ module _ (w : World) (me : Server) (well : IsWell w) (ring : IsRinged w) (known 
       by_fit None e = let no : None ≡ Some failed.why = ap fitting (sym e) ∙ fitting_is in absurd (cc)
       by_fit (Some id) e = not_fits t way failed.at named id e
 
+  -- where there is no news and a check goes round, none of the causes is
   pub no_cause : (t : Token) → IsOnWay w me t → s.me ≡ me → Cause s t → ⊥
   no_cause t way named (inl busy) =
       let quiet = still_quiet w me well known.paid here none in let no : false ≡ true = sym busy ∙ quiet in absurd (cc)
@@ -253,6 +254,7 @@ token_of (Gives_up k t) from message fails is = (k, t, ap from_of (sym is), ap m
     message_of (h ∷ more) = h.message
 token_of _ from message fails is = absurd (cc)
 
+-- so a test that fails shows that the run goes on
 pub fails_live : (w : World) (me : Server) → IsWell w → IsRinged w → IsKnown w → FailsLive w me
 fails_live w me well ring known a more from message is takes_it acts_are fails turning = by_news (cases_eq (measure news w) 0)
   where

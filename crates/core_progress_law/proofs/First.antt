@@ -23,10 +23,12 @@ use Rattle.std.specs.List.{range_with_len}
 use Rattle.adlb_unit.specs.declared.actors.Actor.TheVariants as by
 use Rattle.adlb_unit.specs.declared.messages.Message.TheVariants as tells
 
+-- what the act takes raises the activity
 abbrev pub raises_taken : List Heard → Bool
 raises_taken [] = true
 raises_taken (h ∷ more) = raises h.message
 
+-- the act ends a check without a verdict
 abbrev pub may_fail : Act → Bool
 may_fail (Fails from t why) = true
 may_fail (Gives_up from t) = true
@@ -113,6 +115,7 @@ module _ (w : World) (me : Server) (well : IsWell w) (ring : IsRinged w) (severa
       by_test true is = rw is refl
       by_test false is = rw is refl
 
+  -- an event that does not raise the activity goes on
   pub first_goes : (a : Act) → IsAct w me a → raises_taken (takes a) ≡ false → (may_fail a ≡ true → IsTurning w → IsLive w)
       → Goes w → Goes (acted w me a)
   first_goes (Wants from) is low live was =

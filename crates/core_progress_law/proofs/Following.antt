@@ -45,9 +45,11 @@ brings (Hints wish) = true
 brings (Queries to id length) = true
 brings _ = false
 
+-- each of the acts does
 abbrev pub AllBring : List Act → Type 0
 AllBring list = Each (λ (a : Act). brings a ≡ true) list
 
+-- it says one such letter
 pub brings_says : (a : Act) (s : ServerModel) (me : Server) → brings a ≡ true → said_weight news.letter me (says a s) ≡ 1
 brings_says (Gives at wish rest unit) s me is = refl
 brings_says (Tells at wish rest end) s me is = refl
@@ -61,10 +63,12 @@ brings_says _ s me is = absurd (cc)
 abbrev pub Brings : Decider → Type 0
 Brings d = (s : ServerModel) → AllBring (d s)
 
+-- each decider decides such acts alone
 abbrev pub EachBrings : List Decider → Type 0
 EachBrings [] = Unit {0}
 EachBrings (d ∷ ds) = Brings d × EachBrings ds
 
+-- so what they decide brings the run on
 pub decided_brings : (ds : List Decider) (s : ServerModel) → EachBrings ds → AllBring (decided ds s)
 decided_brings [] s each = tt
 decided_brings (d ∷ ds) s each =
@@ -137,6 +141,7 @@ if_bring : (test : Bool) (p : Plan) → EachBrings p.follow → FollowsBring (co
 if_bring true p each = each
 if_bring false p each = tt
 
+-- of each rule of a rank's letters
 pub rank_follows : (s : ServerModel) (from : Rank) (m : Message) → FollowsBring (rule s (by.Rank from) m)
 rank_follows s from (tells.Put unit) =
     if_bring (expects_put s from unit) _ (settles_bring unit.id, (presses_bring (is_taken s.kept unit), tt))

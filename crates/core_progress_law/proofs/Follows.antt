@@ -36,6 +36,7 @@ news_next w me a well is =
     let after = no_sum (acted w me a).servers in
     omega arith
 
+-- failed tests that are under way after an act
 pub failures_next : (w : World) (me : Server) (a : Act) → IsWell w → IsAct w me a
     → links_weight w.config failures (acted w me a).links + heard_weight failures.letter me (takes a)
     ≡ links_weight w.config failures w.links + said_weight failures.letter me (says a (pool_of w me))
@@ -46,6 +47,7 @@ failures_next w me a well is = links_next failures w me a well.shape is (own_of 
 pub zero_is : (w : World) (me : Server) (a : Act) → IsWell w → IsAct w me a → (pool_of w me).me.0 ≡ 0 → me ≡ zeroth
 zero_is w me a well is e = ap server_named (ap (λ (k : Server). k.0) (sym (own_of w me a well is).named) ∙ e)
 
+-- server 0 is there
 pub zero_there : (w : World) → 0 < w.config.servers
 zero_there w = let few = w.config.servers_within.0 in omega arith
 
@@ -114,6 +116,7 @@ module _ (w : World) (me : Server) (well : IsWell w) (ring : IsRinged w) (severa
       failed_less (by.Server from) (by.Server to) (tells.Failed t why) = omega arith
       failed_less (by.Server from) (by.Server to) _ = omega arith
 
+  -- an act that takes no letter leaves the run going on
   pub follow_goes : (a : Act) → IsAct w me a → takes a ≡ [] → Goes (acted w me a)
   follow_goes (Gives at wish rest unit) is none = said_live _ is none refl
   follow_goes (Tells at wish rest end) is none = said_live _ is none refl

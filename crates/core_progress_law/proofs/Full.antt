@@ -55,6 +55,7 @@ use Rattle.adlb_unit.specs.declared.notes.End.TheVariants as ends_by
 abbrev pub idles : List Waiting → ℕ
 idles es = weigh (λ (e : Waiting). if_idle e.asked 1) es
 
+-- once all work was found used up, nobody is idle
 abbrev pub IsFull : ServerModel → Type 0
 IsFull s = s.kept.exhausted ≡ true → idles s.kept.parked.waiting ≡ 0
 
@@ -81,9 +82,11 @@ low_finds (Hears_exhaust from) low = absurd (cc)
 low_finds Finds_alone low = absurd (cc)
 low_finds _ low = refl
 
+-- who waits after an act
 pub waiting_is : (a : Act) (s : ServerModel) → (done a s).kept.parked.waiting ≡ waiting_after a s
 waiting_is a s = ap (λ (x : Kept). x.parked.waiting) (counted_kept (does a s) (says a s))
 
+-- whether all work was found used up after an act
 pub done_is : (a : Act) (s : ServerModel) → (done a s).kept.exhausted ≡ exhausted_after a s.kept.exhausted
 done_is a s = ap (λ (x : Kept). x.exhausted) (counted_kept (does a s) (says a s))
 
@@ -98,6 +101,7 @@ few_come (Parks wish) s low = absurd (cc)
 few_come (Wakes at wish from rest) s low = absurd (cc)
 few_come _ s low = omega arith
 
+-- an act that makes nobody idle and finds nothing keeps it
 pub act_told : (a : Act) (s : ServerModel) → SitsIn a s → rises a ≡ false → IsFull s → IsFull (done a s)
 act_told a s sits low told is_done =
     let was = told (sym (done_is a s ∙ same_done a s.kept.exhausted (low_finds a low)) ∙ is_done) in
@@ -236,6 +240,7 @@ Settles s p =
     (rises p.first ≡ false) ⊎ ((done p.first s).kept.exhausted ≡ false)
     ⊎ ((d : Decider) × (ds : List Decider) × (p.follow ≡ d ∷ ds) × IsFull (all_done (d (done p.first s)) (done p.first s)))
 
+-- a letter by which a rank may become idle, or all work be found used up
 abbrev pub may_rise : Message → Bool
 may_rise (tells.Reserve request types) = true
 may_rise (tells.AskNone rank request) = true
@@ -243,10 +248,12 @@ may_rise (tells.Token t) = true
 may_rise tells.Exhaust = true
 may_rise _ = false
 
+-- of what an act takes
 abbrev pub may_rise_all : List Heard → Bool
 may_rise_all [] = true
 may_rise_all (h ∷ more) = may_rise h.message
 
+-- an act that takes no such letter makes nobody idle and finds nothing
 pub rises_taken : (a : Act) → may_rise_all (takes a) ≡ false → rises a ≡ false
 rises_taken (Parks wish) e = absurd (cc)
 rises_taken (Wakes at wish from rest) e = absurd (cc)

@@ -151,6 +151,7 @@ only_ranks s from m alone zeroth within =
     let itself : (from.0 == s.me.0) ≡ true = eq-eqb from.0 s.me.0 (omega arith) in
     ap (λ (b : Bool). cond b None (server_rule s from m)) itself
 
+-- each event of a server that is alone keeps it
 pub serve_alone : (s : ServerModel) (from : Actor) (letter : Letter) (x : Served) → s.config.servers ≡ 1 → s.me.0 ≡ 0
     → serve s from letter ≡ Some x → IsFull s → IsFull x.state
 serve_alone s from letter x alone zeroth is told = by_from from is

@@ -123,6 +123,7 @@ ticked_zero w me stamp up well here (inr turning) low = inr (record {
             ∙ ap (λ (x : ServerModel). x.activity) found ∙ raised_none ∙ ap (λ (k : Server). (pool_of w k).activity) (sym same)
         by_place (inr differs) = ap (λ (x : ServerModel). x.activity) (pool_beside w me t (ticked (pool_of w me) stamp up) differs)
 
+-- an event of a server leaves the run going on
 pub event_goes : (w next : World) (from : Actor) (me : Server) (letter : Letter) (rest : List Letter) (x : Served) → IsWell w → IsRinged w
     → 1 < w.config.servers → IsWell next → NoneOwes next
     → FailsLive (ticks w me (next_stamp (pool_of w me) letter) (raises letter.message)) me

@@ -23,19 +23,23 @@ pub record Split : Type 0 where
   pub early : ℕ
   pub late : ℕ
 
+-- before the first letter
 abbrev pub none_yet : Split
 none_yet = record { early = 0; late = 0 }
 
+-- an answer comes, if it is about the rank
 abbrev pub answered : Bool → Split → Split
 answered true x = record { early = x.early + x.late; late = 0 }
 answered false x = x
 
+-- a letter more
 abbrev pub next_split : ℕ → Split → Message → Split
 next_split r x (tells.Hint rank request) = record { early = x.early; late = x.late + one (rank.0 == r) }
 next_split r x (tells.AskGrant rank request note) = answered (rank.0 == r) x
 next_split r x (tells.AskNone rank request) = answered (rank.0 == r) x
 next_split r x _ = x
 
+-- letters one behind the other
 abbrev pub split : ℕ → Split → List Letter → Split
 split r x [] = x
 split r x (l ∷ ls) = split r (next_split r x l.message) ls
@@ -59,6 +63,7 @@ plain_next r x (tells.AskGrant rank request note) is = absurd (cc)
 plain_next r x (tells.AskNone rank request) is = absurd (cc)
 plain_next r x _ is = refl
 
+-- plain letters change nothing
 pub plain_split : (r : ℕ) (x : Split) (ls : List Letter) → Each (λ (l : Letter). is_plain l.message ≡ true) ls → split r x ls ≡ x
 plain_split r x [] plain = refl
 plain_split r x (l ∷ ls) plain =
@@ -118,6 +123,7 @@ next_early r x (tells.AskNone rank request) none zero_early = by_test (rank.0 ==
     by_test false weighs = zero_early
 next_early r x _ none zero_early = zero_early
 
+-- where no answer about the rank is on a link, no hint is before one
 pub none_early : (r : Rank) (x : Split) (ls : List Letter) → Each (λ (l : Letter). remote_letter r l.message ≡ 0) ls → x.early ≡ 0
     → (split r.0 x ls).early ≡ 0
 none_early r x [] none zero_early = zero_early
@@ -140,6 +146,7 @@ next_sum r x (tells.AskGrant rank request note) = let sum = answered_sum (rank.0
 next_sum r x (tells.AskNone rank request) = let sum = answered_sum (rank.0 == r) x in omega arith
 next_sum r x _ = omega arith
 
+-- how many hints there are
 pub split_sum : (r : ℕ) (x : Split) (ls : List Letter)
     → (split r x ls).early + (split r x ls).late ≡ x.early + x.late + weigh (λ (l : Letter). hint_weight r l.message) ls
 split_sum r x [] = omega arith
@@ -162,6 +169,7 @@ other_wishes rank r (w ∷ wishes) differs = by_test (other_wishes rank r wishes
         by_rank true same = absurd (differs (sym (eqb-true w.rank.0 rank.0 is) ∙ eqb-true w.rank.0 r same))
         by_rank false same = let none : one (w.rank.0 == r) ≡ 0 = ap one same in omega arith
 
+-- one wish more
 pub own_wish : (r : ℕ) (wish : Wish) (wishes : List Wish) → wishes_of r (wishes ++ wish ∷ []) ≡ wishes_of r wishes + one (wish.rank.0 == r)
 unfolding wishes_of
 own_wish r wish wishes = let sum = weigh-append (λ (w : Wish). one (w.rank.0 == r)) wishes (wish ∷ []) in omega arith

@@ -64,12 +64,14 @@ pub record IsFew (ls : List Letter) (r : Rank) (kept : ℕ) : Type 0 where
   pub early : (split r.0 none_yet ls).early ≤ 1
   pub late : (split r.0 none_yet ls).late + kept ≤ 1
 
+-- on one link
 abbrev pub Few : World → Actor → Actor → List Letter → Type 0
 Few w (by.Rank from) to ls = Prim.Unit {0}
 Few w (by.Server from) (by.Rank to) ls = Prim.Unit {0}
 Few w (by.Server from) (by.Server to) ls =
     (r : Rank) → home_of w.config.servers r ≡ to.0 → IsFew ls r (wishes_of r.0 (pool_of w from).kept.parked.wishes)
 
+-- on all links
 abbrev pub AreFew : World → Type 0
 AreFew w = AllLinks (Few w) w.config w.links
 
@@ -551,6 +553,7 @@ unfoldable pub hints_on : World → Server → Server → Rank → ℕ
 hints_on w from to r =
     weigh (λ (l : Letter). hint_weight r.0 l.message) (link w.links (place_of w.config (by.Server from)) (place_of w.config (by.Server to)))
 
+-- so there are two at most
 pub two_hints : (config : Config) (events : List Event) (w : World) (from to : Server) (r : Rank) → from.0 < config.servers
     → to.0 < config.servers → Runs (start config) events w → home_of config.servers r ≡ to.0 → hints_on w from to r ≤ 2
 unfolding hints_on

@@ -37,6 +37,7 @@ abbrev pub hint_of : ℕ → Act → ℕ
 hint_of r (Hints wish) = one (wish.rank.0 == r)
 hint_of r _ = 0
 
+-- how many of these acts hint of the rank
 abbrev pub hints_of : ℕ → List Act → ℕ
 hints_of r list = weigh (hint_of r) list
 
@@ -184,6 +185,7 @@ module _ (s : ServerModel) (first : Act) (more : List Act) (r : ℕ) where
   loud (by.Rank from) (tells.PushUnit unit) brings are = absurd (cc)
   loud from m brings are = absurd (cc)
 
+  -- the acts of an event hint of a rank at most as often as its wishes are kept
   pub few_hints : (from : Actor) (m : Message) → length s.kept.parked.wishes ≤ 32 → acts s from m ≡ Some (first ∷ more) → Few
   unfolding first_brings
   few_hints from m few are = by_class (brings_unit m) refl

@@ -38,6 +38,7 @@ use Rattle.std.specs.Prelude.{is_some, nat_lt}
 use Rattle.adlb_unit.specs.declared.actors.Actor.TheVariants as by
 use Rattle.adlb_unit.specs.declared.messages.Message.TheVariants as tells
 
+-- a truth value weighs 1 at most
 pub at_most_one : (t : Bool) → one t ≤ 1
 at_most_one true = omega arith
 at_most_one false = omega arith
@@ -50,6 +51,7 @@ rank_less r (by.Server from) (by.Server to) m = omega arith
 rank_less r (by.Rank from) (by.Rank to) m = omega arith
 rank_less r (by.Rank from) (by.Server to) m = omega arith
 
+-- to a rank one letter at most
 pub few_to_rank : (config : Config) (events : List Event) (w : World) (r : Rank) → r.0 < config.ranks → Runs (start config) events w
     → to_rank w r ≤ 1
 unfolding measure
@@ -136,6 +138,7 @@ module _ (config : Config) (t : Server) where
       omega arith
   of_rank r s m low false false asks leaves fits = absurd (cc)
 
+  -- each letter to the server that fits is counted
   pub each_counts : (from to : Actor) (m : Message) → is_within config from ≡ true → is_within config to ≡ true
       → misfit config from to m ≡ 0
       → server_letter t from to m ≤ of_all from to m

@@ -16,6 +16,7 @@ use Rattle.core_run.specs.World.{Links, actors, link, row}
 use Rattle.std.proofs.Common.{List, [], ap, arith, inl, inr, refl, suc, sym, true, zero, ℕ, ◌+◌, ◌-◌, ◌<◌, ◌∙◌, ◌∷◌, ◌≡◌, ◌≢◌, ◌≤◌, ◌⊎◌}
 use Rattle.std.proofs.lemmas.Bool.{cases_eq, cases_lt, le-ltb, lt-ltb}
 
+-- the weight of a letter by sender, receiver and message
 abbrev pub Weighing : Type 0
 Weighing = Actor → Actor → Message → ℕ
 
@@ -36,6 +37,7 @@ weigh_at_both f g h sum (x ∷ xs) =
     let later = weigh_at_both (λ i. f (suc i)) (λ i. g (suc i)) (λ i. h (suc i)) (λ i. sum (suc i)) xs in
     omega arith
 
+-- two weights together
 pub links_both : (config : Config) (f g : Weighing) (links : Links)
     → links_weight config (letters_of (both_weigh f g)) links ≡ links_weight config (letters_of f) links + links_weight config
     (letters_of g) links
@@ -52,6 +54,7 @@ abbrev pub total : ℕ → (ℕ → Weighing) → Weighing
 total zero f from to m = 0
 total (suc n) f from to m = f n from to m + total n f from to m
 
+-- one of them weighs at most as all
 pub part_of_total : (n i : ℕ) (f : ℕ → Weighing) (from to : Actor) (m : Message) → i < n → f i from to m ≤ total n f from to m
 part_of_total zero i f from to m low = absurd (omega arith)
 part_of_total (suc n) i f from to m low = by_place (cases_eq i n) (λ l. part_of_total n i f from to m l)
@@ -64,6 +67,7 @@ weigh_none : (f : Letter → ℕ) (ls : List Letter) → ((l : Letter) → f l �
 weigh_none f [] none = refl
 weigh_none f (l ∷ ls) none = let here = none l in let later = weigh_none f ls none in omega arith
 
+-- where no letter weighs, nothing does
 pub links_none : (config : Config) (f : Weighing) (links : Links) → ((from to : Actor) (m : Message) → f from to m ≡ 0)
     → links_weight config (letters_of f) links ≡ 0
 links_none config f links none =
@@ -83,6 +87,7 @@ links_total config (suc n) f most links few =
     let later = links_total config n f most links (λ i low. few i (omega arith)) in
     omega arith
 
+-- as many ones
 pub ones : (n : ℕ) → sum_to n (λ i. 1) ≡ n
 ones zero = refl
 ones (suc n) = let later = ones n in omega arith
@@ -99,6 +104,7 @@ actor_place config i = by_order (cases_lt i config.ranks)
         let back : config.ranks + (i - config.ranks) ≡ i = omega arith in
         rw is back
 
+-- its weight is that of all
 pub link_alone : (config : Config) (f : Weighing) (a b : Actor) (links : Links) → IsSquare (actors config) links → is_within config a ≡ true
     → is_within config b ≡ true → ((from to : Actor) (m : Message) → (from ≢ a) ⊎ (to ≢ b) → f from to m ≡ 0)
     → links_weight config (letters_of f) links
@@ -125,6 +131,7 @@ link_alone config f a b links sq within_a within_b none =
 abbrev Excess : Weighing → Weighing → Weighing
 Excess f g from to m = f from to m - g from to m
 
+-- so they weigh less together
 pub links_below : (config : Config) (f g : Weighing) (links : Links) → IsSquare (actors config) links
     → OnLinks (λ from to (l : Letter). f from to l.message ≤ g from to l.message) config links
     → links_weight config (letters_of f) links ≤ links_weight config (letters_of g) links

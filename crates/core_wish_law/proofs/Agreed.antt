@@ -362,6 +362,7 @@ module _ (s : ClientModel) (from : Server) where
   call_hears (waits_for.Count request kind) m = count_hears request kind m
   call_hears (waits_for.SetDone request tried) m = done_hears request tried m
 
+-- what a rank awaits after an answer
 pub hear_hears : (s : ClientModel) (from : Server) (letter : Letter) (x : Made) → hear s from letter ≡ Some x
     → HearsSo (ticked s (letter_stamp s letter)) s.pending from letter.message x.state.pending
 hear_hears s from letter x is =
@@ -757,10 +758,12 @@ begins_telling config = record {
       absurd (cc);
 }
 
+-- every run knows who heard that the problem is done
 pub every_run_telling : (config : Config) (events : List Event) (w : World) → Runs (start config) events w → AreTelling w
 every_run_telling config events w run =
     run_telling (start config) w events (begins_well config) (every_run_lawful config [] (start config) refl) (begins_telling config) run
 
+-- where there is no news, all servers know it or none does
 pub every_run_agreed : (config : Config) (events : List Event) (w : World) → Runs (start config) events w → IsAgreed w
 every_run_agreed config events w run h t low there none knows = by_over ((every_run_telling config events w run).over t there knows)
   where

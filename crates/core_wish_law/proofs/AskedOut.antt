@@ -37,9 +37,11 @@ use Rattle.work_queue.specs.declared.placing.Placed.{Placed}
 use Rattle.adlb_unit.specs.declared.actors.Actor.TheVariants as by
 use Rattle.adlb_unit.specs.declared.messages.Message.TheVariants as tells
 
+-- if the rank is idle, no server is still to be asked for it
 abbrev pub Out : Waiting → Type 0
 Out e = e.asked ≡ None → e.to_ask ≡ []
 
+-- of each rank that waits
 abbrev pub IsOut : ServerModel → Type 0
 IsOut s = Each Out s.kept.parked.waiting
 
@@ -287,6 +289,7 @@ event_out s from message list once out are = by_plan (rule s from message) refl 
     by_plan (Some p) by_rule mended is =
         subst (λ l. IsOut (all_done l s)) (some_is is) (mended (plan_handles s from message p by_rule))
 
+-- each event of a server keeps it
 pub serve_out : (s : ServerModel) (from : Actor) (letter : Letter) (x : Served) → serve s from letter ≡ Some x → WaitOnce s → IsOut s
     → IsOut x.state
 serve_out s from letter x is once out =

@@ -106,6 +106,7 @@ some_at f (x ∷ xs) d some = by_weight (cases_eq (f zero x) 0) (some_at (λ i. 
     by_weight (inl none) later = let i = later (omega arith) in (suc i.0, omega (arith, i.1), i.2)
     by_weight (inr some_here) later = (0, omega arith, omega arith)
 
+-- what weighs is so
 pub one_true : (t : Bool) → 0 < one t → t ≡ true
 one_true true some = refl
 one_true false some = absurd (omega arith)
@@ -160,6 +161,7 @@ module _ (w : World) (t : Server) (well : IsWell w) (paid : NoneOwes w) (there :
       (both (λ from to (l : Letter). misfit w.config from to l.message ≡ 0)
       (λ from to (l : Letter). is_news l.message ≡ 0) w.config w.links fit zero_each))
 
+  -- where there is no news, a rank with a pending call is idle at its home
   pub pending_idle : (r : Rank) → r.0 < w.config.ranks → home_of w.config.servers r ≡ t.0 → is_idle (client_of w r).pending ≡ false
       → WaitsIdle s r
   unfolding measure
@@ -216,5 +218,6 @@ module _ (w : World) (t : Server) (well : IsWell w) (paid : NoneOwes w) (there :
           let no : false ≡ true = sym not_so ∙ so in
           absurd (cc)
 
+  -- where there is no news, each server is quiet
   pub still_quiet : is_quiet s ≡ true
   still_quiet = (quiet_is_tested s).1 (record { unpushed = unpushed; rest = rests_here })

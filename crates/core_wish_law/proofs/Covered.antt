@@ -37,21 +37,26 @@ cover_about h t r q from to (tells.AskGrant of number note) = about h t r q to f
 cover_about h t r q from to (tells.Hint of number) = about h t r q to from of number
 cover_about h t r q from to _ = 0
 
+-- a letter after which the server keeps the wish, or is to be asked: an ask, the answer that a unit is granted, or a hint
 abbrev pub cover_letter : Server → Server → Rank → ℕ → Actor → Actor → Message → ℕ
 cover_letter h t r q (by.Server from) (by.Server to) m = cover_about h t r q from.0 to.0 m
 cover_letter h t r q (by.Server from) (by.Rank to) m = 0
 cover_letter h t r q (by.Rank from) to m = 0
 
+-- such letters between a home and a server, about one call of a rank
 abbrev pub covers : Server → Server → Rank → ℕ → Weights
 covers h t r q =
     record { letter = cover_letter h t r q; server = no_server; rank = no_rank; server_due = no_server; rank_due = no_rank }
 
+-- how many there are
 abbrev pub cover_weight : World → Server → Server → Waiting → ℕ
 cover_weight w h t e = links_weight w.config (covers h t e.wish.rank e.wish.request) w.links
 
+-- the server keeps the wish of the rank, or is still to be asked, or such a letter is under way
 abbrev pub Covers : World → Server → Server → Waiting → Type 0
 Covers w h t e = Has (pool_of w t).kept.parked.wishes e.wish ⊎ Has e.to_ask t ⊎ (0 < cover_weight w h t e)
 
+-- of each rank that waits, and each other server
 unfoldable pub AllCovered : World → Type 0
 AllCovered w =
     (h t : Server) → h.0 < w.config.servers → t.0 < w.config.servers → t.0 ≢ h.0 → (e : Waiting) → Has (pool_of w h).kept.parked.waiting e
@@ -68,11 +73,13 @@ has_parts (y ∷ xs) ys x (inr more) = by_part (has_parts xs ys x more)
     by_part (inl a) = inl (inr a)
     by_part (inr b) = inr b
 
+-- what is in the first of two lists
 pub has_left : {X : Type 0} (xs ys : List X) (x : X) → Has xs x → Has (xs ++ ys) x
 has_left [] ys x has = absurd has
 has_left (y ∷ xs) ys x (inl same) = inl same
 has_left (y ∷ xs) ys x (inr more) = inr (has_left xs ys x more)
 
+-- what is in the second of two lists
 pub has_right : {X : Type 0} (xs ys : List X) (x : X) → Has ys x → Has (xs ++ ys) x
 has_right [] ys x has = has
 has_right (y ∷ xs) ys x has = inr (has_right xs ys x has)
@@ -286,6 +293,7 @@ module _ (w : World) (me : Server) (well : IsWell w) (covered : AllCovered w) (s
           (λ keeps. kept_or was keeps (cases_eq t.0 me.0) (is_by wish.rank e.wish) refl) refl
       by_waits (inr (mine, new)) = absurd new
 
+  -- acts that follow keep it
   pub follow_covered : (a : Act) → IsAct w me a → takes a ≡ [] → HintsKept a (pool_of w me) → AllCovered (acted w me a)
   follow_covered (Asks_on at wish to rest) is none only = follow_asks at wish to rest is
   follow_covered (Hints wish) is none only = follow_hints wish is only

@@ -464,6 +464,7 @@ module _ (config : Config) (several : 1 < config.servers) where
   begins_covered h t low there differs e has =
       let none = ap (λ (s : ServerModel). s.kept.parked.waiting) (pool_at config h low) in absurd (subst (λ l. Has l e) none has)
 
+  -- it holds in every run
   pub every_run_covered : (events : List Event) (w : World) → Runs (start config) events w → AllCovered w
   every_run_covered events w run = going_covered (start config) w [] events refl run begins_covered (begins_single config)
 
@@ -482,6 +483,7 @@ cover_is_news h t r q (by.Server from) (by.Server to) m = by_message m
     by_message (tells.Hint of request) = most _
     by_message _ = omega arith
 
+-- where there is no news, no such letter is under way
 pub covered_is : (w : World) → AllCovered w → IsCovered w
 unfolding AllCovered measure
 covered_is w covered h t e low there differs waits idle none = by_cover (covered h t low there differs e waits)

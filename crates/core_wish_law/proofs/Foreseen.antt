@@ -34,6 +34,7 @@ out_kept = record {
   serves = λ s from letter x is both. (events_keep_once s from letter x both.0 is, serve_out s from letter x is both.0 both.1);
 }
 
+-- so a unit that fits a rank elsewhere is foreseen
 pub foreseen : (config : Config) (events : List Event) (w : World) → Runs (start config) events w → IsCovered w → IsAgreed w → AreForeseen w
 foreseen config events w run covered agreed h t e p low there differs waits idle at offers = by_news (cases_eq (measure news w) 0)
   where
@@ -64,9 +65,11 @@ foreseen config events w run covered agreed h t e p low there differs waits idle
     by_news (inr some) = omega (arith, some)
     by_news (inl none) = absurd (by_done none (pool_of w t).kept.done refl)
 
+-- in every run of several servers a wish is kept, or its server is still to be asked
 pub always_covered : (config : Config) (events : List Event) (w : World) → 1 < config.servers → Runs (start config) events w → IsCovered w
 always_covered config events w several run = covered_is w (every_run_covered config several events w run)
 
+-- in every run of several servers what fits is foreseen
 pub always_foreseen : (config : Config) (events : List Event) (w : World) → 1 < config.servers → Runs (start config) events w
     → AreForeseen w
 always_foreseen config events w several run =

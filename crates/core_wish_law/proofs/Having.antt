@@ -9,6 +9,7 @@ use Rattle.std.proofs.Common.{Any, Bool, List, Some, [], ap, arith, cond, false,
 use Rattle.std.proofs.lemmas.Bool.{eq-eqb}
 use Rattle.std.specs.List.{list_any}
 
+-- what is found is in the list and passes
 pub find_has : {X : Type 0} (test : X → Bool) (xs : List X) (x : X) → find test xs ≡ Some x → Has xs x × (test x ≡ true)
 find_has test [] x is = absurd (cc)
 find_has test (y ∷ ys) x is = by_test (find_has test ys x) (test y) refl is
@@ -18,6 +19,7 @@ find_has test (y ∷ ys) x is = by_test (find_has test ys x) (test y) refl is
     by_test later true e found = let same : y ≡ x = some_is found in (inl same, ap test (sym same) ∙ e)
     by_test later false e found = let r = later found in (inr r.0, r.1)
 
+-- where any passes, one in the list does
 pub any_has : {X : Type 0} (test : X → Bool) (xs : List X) → list_any test xs ≡ true → (x : X) × Has xs x × (test x ≡ true)
 any_has test [] is = absurd (cc)
 any_has test (y ∷ ys) is = by_test (any_has test ys) (test y) refl is
@@ -27,6 +29,7 @@ any_has test (y ∷ ys) is = by_test (any_has test ys) (test y) refl is
     by_test later true e found = (y, inl refl, e)
     by_test later false e found = let r = later found in (r.0, inr r.1, r.2)
 
+-- what passes stays
 pub filter_has : {X : Type 0} (test : X → Bool) (xs : List X) (x : X) → Has xs x → test x ≡ true → Has (filter test xs) x
 filter_has test [] x has is = absurd has
 filter_has test (y ∷ ys) x has is = by_test (test y) refl has (filter_has test ys x)
@@ -38,16 +41,19 @@ filter_has test (y ∷ ys) x has is = by_test (test y) refl has (filter_has test
     by_test false e (inl same) later = let no : false ≡ true = sym e ∙ ap test same ∙ is in absurd (cc)
     by_test false e (inr more) later = later more is
 
+-- what is in a mapped list comes of one in the list
 pub map_has : {X Y : Type 0} (f : X → Y) (xs : List X) (y : Y) → Has (map f xs) y → (x : X) × Has xs x × (f x ≡ y)
 map_has f [] y has = absurd has
 map_has f (x ∷ xs) y (inl same) = (x, inl refl, same)
 map_has f (x ∷ xs) y (inr later) = let r = map_has f xs y later in (r.0, inr r.1, r.2)
 
+-- one in the list shows that any is
 pub any_at : {X : Type 0} (P : X → Type 0) (xs : List X) (x : X) → Has xs x → P x → Any P xs
 any_at P [] x has p = absurd has
 any_at P (y ∷ ys) x (inl same) p = (0, y, omega arith, refl, subst P (sym same) p)
 any_at P (y ∷ ys) x (inr more) p = let r = any_at P ys x more p in (suc r.0, r.1, omega (arith, r.2), r.3, r.4)
 
+-- one in the list weighs at most as all
 pub weigh_has : {X : Type 0} (f : X → ℕ) (xs : List X) (x : X) → Has xs x → f x ≤ weigh f xs
 weigh_has f [] x has = absurd has
 weigh_has f (y ∷ ys) x (inl same) = let e = ap f same in omega arith

@@ -42,6 +42,7 @@ module _ (P : ServerModel → Type 0) (kept : IsKept P) where
       let does = happens_does w run.0 e run.1 in
       run_pools run.0 last events (well_kept w run.0 well does) (pools_next w run.0 well all does) run.2
 
+  -- each server has it in every run
   pub every_pool_keeps : (config : Config) (events : List Event) (w : World) → Runs (start config) events w → (t : Server)
       → t.0 < w.config.servers → P (pool_of w t)
   unfolding AllPools

@@ -402,6 +402,7 @@ module _ (w : World) (me : Server) (well : IsWell w) (covered : AllCovered w) (o
       by_waits (inl was) = by_home was (cases_eq h.0 me.0)
       by_waits (inr (mine, none)) = absurd none
 
+  -- the act that takes a letter keeps it
   pub first_covered : (a : Act) (x : Heard) → IsAct w me a → takes a ≡ x ∷ [] → IsRight w me a → AllCovered (acted w me a)
   first_covered (Asks_on at wish to rest) x is one_taken right = absurd (cc)
   first_covered (Hints wish) x is one_taken right = absurd (cc)

@@ -48,6 +48,7 @@ use Rattle.work_queue.specs.declared.placing.Placed.{Placed}
 use Rattle.adlb_unit.specs.declared.actors.Actor.TheVariants as by
 use Rattle.adlb_unit.specs.declared.messages.Message.TheVariants as tells
 
+-- if the problem is not done, no free unit is permitted to a wish that is kept
 abbrev pub IsClean : Kept → Type 0
 IsClean k = k.done ≡ false → Each (HasNoneFor k.queue) k.parked.wishes
 
@@ -370,6 +371,7 @@ event_clean s from message list clean are = by_plan (rule s from message) refl (
     by_plan (Some p) by_rule mended is =
         subst (λ l. IsClean (all_done l s).kept) (some_is is) (mended (plan_handles s from message p by_rule))
 
+-- each event of a server keeps it
 pub serve_clean : (s : ServerModel) (from : Actor) (letter : Letter) (x : Served) → serve s from letter ≡ Some x → IsClean s.kept
     → IsClean x.state.kept
 serve_clean s from letter x is clean =

@@ -74,6 +74,7 @@ module _ (config : Config) (finals : Finals) (journals : List OfActor) (events :
       both_so : (a b : Bool) → a ≡ true → b ≡ true → (a && b) ≡ true
       both_so a b p q = rw (p, q) refl
 
+  -- its receiver has a step for it
   pub expected : GoesOn finals to → letter.stamp < stamp_limit → Expects config finals from to letter
   expected on stamp =
       let next = none_is_ever_stuck config (map (λ (x : Actor × Event). occurrence x.0 x.1.cause) events)
@@ -108,6 +109,7 @@ module _ (config : Config) (finals : Finals) (journals : List OfActor) (events :
           served (by.Server s) is = unless (by.Server s) (has_ended (pool_of (run.last) b))
               (serve (pool_of (run.last) b) (by.Server s) letter) is
 
+  -- its stamp is at most the number of events
   pub stamp_low : letter.stamp ≤ length events
   stamp_low =
       let low = front_up_to config (map (λ (x : Actor × Event). occurrence x.0 x.1.cause) events)
@@ -115,6 +117,7 @@ module _ (config : Config) (finals : Finals) (journals : List OfActor) (events :
       let long = length-map events (λ (x : Actor × Event). occurrence x.0 x.1.cause) in
       omega arith
 
+-- the run has few events for its calls
 pub few_happen : (config : Config) (finals : Finals) (journals : List OfActor) (events : List (Actor × Event))
     → IsCoreRun config finals journals events
     → length events ≤ 8192 * (begun (map (λ (x : Actor × Event). occurrence x.0 x.1.cause) events) + 1)

@@ -167,6 +167,7 @@ pool_plain config from s last (e ∷ events) walks =
     each_both (λ (l : Letter). is_told l.message ≡ false) (letter_from config from e.cause) (got config from events)
     (pool_gets config from s e.cause walks.0 walks.1) (pool_plain config from (walks.0).state last events walks.5)
 
+-- an own run gets no such letter
 pub walks_plain : (config : Config) (finals : Finals) (me : Actor) (from : ℕ) (events : List Event) → Walks config finals me events
     → Plain (got config from events)
 walks_plain config finals (by.Rank rank) from events walks = client_plain config from (new_client config rank)
@@ -191,6 +192,7 @@ front_of (x ∷ xs) (y ∷ ys) zs plain told begins =
 longer : (xs ys zs : List Letter) → IsPrefix xs ys → IsPrefix ys zs → IsPrefix xs zs
 longer xs ys zs a b = (a.0 ++ b.0, sym (append_assoc xs a.0 b.0) ∙ ap (λ l. l ++ b.0) a.1 ∙ b.1)
 
+-- on each link what was got is a prefix of what was sent
 pub link_of : (config : Config) (finals : Finals) (me : Actor) (from to : ℕ) (d e : DeskModel) → d.config ≡ config → e.config ≡ config
     → from < actors config → to < actors config → Begins d → Begins e → Walks config finals me e.events
     → IsPrefix (letters_of from e.got) (sent_at d to) → IsPrefix (got config from e.events) (sent config to d.events)

@@ -24,6 +24,7 @@ use Rattle.puzzle_app.specs.Follows.{IsSoFar, start_of}
 use Rattle.puzzle_app.specs.Tasks.{Task, Put, Begin, End, as_units, put_all}
 use Rattle.puzzle_app.specs.Transcripts.{is_own, is_within}
 use Rattle.puzzle_app.specs.declared.program.PuzzleProgram.{PuzzleProgram}
+use Rattle.puzzle_app.proofs.Fetching.{fetched_is}
 
 moved : (P : Books → Said → Books → Type 0) {b b' : Books} {s s' : Said} {n n' : Books} → b ≡ b' → s ≡ s' → n ≡ n' → P b' s' n' → P b s n
 moved P {b} {b'} {s} {s'} {n} {n'} e f g h =
@@ -69,7 +70,9 @@ of_move grain P each b s next (closed common rest came e f g) = moved P e f g (e
 of_move grain P each b s next (closed_behind common rest came e f g) = moved P e f g (each.at_closed_behind common rest came)
 of_move grain P each b s next (granted came note e f g) = moved P e f g (each.at_granted came note)
 of_move grain P each b s next (told came end e f g) = moved P e f g (each.at_told came end)
-of_move grain P each b s next (fetched came note bytes e f g) = moved P e f g (each.at_fetched came note bytes)
+of_move grain P each b s next (fetched came note bytes unit is e f g) =
+    moved P e f (g ∙ ap (λ u. brought grain (common_bytes note.length bytes) u came) (fetched_is note bytes unit is))
+    (each.at_fetched came note bytes)
 
 -- How the calls go on.
 

@@ -15,7 +15,7 @@ use Rattle.puzzle_app.specs.Desk.{answers_to}
 use Rattle.puzzle_app.specs.Tasks.{Task, Put, as_units, jobs_from, put_all, tasks_from}
 use Rattle.puzzle_app.specs.Working.{IsGoing, behind, board_count, task_at}
 use Rattle.puzzle_app.specs.declared.desk.Desk.{Desk}
-use Rattle.puzzle_app.specs.declared.program.Place.{Place}
+use Rattle.puzzle_app.specs.declared.places.Place.{Place}
 use Rattle.puzzle_app.specs.declared.program.PuzzleProgram.{PuzzleProgram}
 
 -- Jobs.

@@ -1,4 +1,5 @@
 pub mod Counting
+pub mod Fetching
 pub mod Calling
 pub mod Adding
 pub mod Tallies

@@ -18,7 +18,7 @@ use Rattle.job_units.specs.Forms.{IsUnit}
 use Rattle.job_units.specs.Puts.{is_kind, put_of}
 use Rattle.job_units.specs.Reading.{common_bytes, fetched as unit_fetched}
 use Rattle.puzzle_app.specs.Arrivals.{Arrival, arrival, bytes_on, makes}
-use Rattle.puzzle_app.specs.Books.{Books, Goes, Moves, accepted, rejected, stopped, begun, refused, stopped_before, closed, closed_behind, granted, told, fetched, going, holding, shut, received, brought, without_batch, over_bytes, said_of}
+use Rattle.puzzle_app.specs.Books.{Books, Goes, Moves, accepted, rejected, stopped, begun, refused, stopped_before, closed, closed_behind, granted, told, going, holding, shut, received, brought, without_batch, over_bytes, said_of}
 use Rattle.puzzle_app.specs.Calls.{answer_of, grant}
 use Rattle.puzzle_app.specs.declared.calls.Reply.{Reply}
 use Rattle.puzzle_app.specs.Desk.{Answers, Brings, HasRoom, Receives, answers_to}
@@ -27,6 +27,7 @@ use Rattle.puzzle_app.specs.Tasks.{Task, Put, Begin, End, all_units, as_units, j
 use Rattle.puzzle_app.specs.Working.{HasPut, IsGoing, IsStopped, IsTally, Passes}
 use Rattle.puzzle_app.specs.declared.desk.Desk.{Desk}
 use Rattle.puzzle_app.specs.declared.program.PuzzleProgram.{PuzzleProgram}
+use Rattle.puzzle_app.proofs.Fetching.{fetch_moves}
 use Rattle.puzzle_app.proofs.Tallies.{Counted, Fresh, Same, as_it_was, counted_tasks, made_over, tally_fresh, tally_one, tally_over, tally_same}
 
 -- a call behind others
@@ -63,6 +64,12 @@ desk_same rest on came e = ap (λ w. on_desk w rest on came) e
 pub record Popped (x : Made) (d e : Desk) : Type 0 where
   pub first : d.waiting.items ≡ x ∷ e.waiting.items
   pub same : Same d e
+
+pub popped_off : (x : Made) (d e : Desk) → d.waiting.items ≡ x ∷ e.waiting.items → Popped x d (record d { waiting = e.waiting })
+popped_off x d e first = record {
+  first = first;
+  same = record { kept = refl; answers = refl; overs = refl; boards = refl; found = refl; jobs = refl; answered = refl };
+}
 
 pub accepted_is : (p : PuzzleProgram) (said new : List Said) (d e : Desk) (x : Made) (rest : List Task) (on : Option (List ℕ)) →
     IsGoing p said d rest on →
@@ -144,7 +151,8 @@ goes_brought : (p : PuzzleProgram) (said new : List Said) (d : Desk) (note : Uni
     Goes p.settings.grain (start_of p) new next
 goes_brought p said new d note bytes next put one is =
     one_more p (said ++ grant note ∷ []) new (holding note put.going.came) next (said_of (Fetch note.id) (Body bytes))
-    (goes_granted p said (said ++ grant note ∷ []) d note put refl) one (fetched put.going.came note bytes refl refl is)
+    (goes_granted p said (said ++ grant note ∷ []) d note put refl) one (fetch_moves p.settings.grain put.going.came note
+    bytes next is)
 
 pub brought_is : (p : PuzzleProgram) (said new : List Said) (d f : Desk) (note : UnitNote) (bytes : List ℕ) → HasPut p said d [] None →
     new ≡ (said ++ grant note ∷ []) ++ said_of (Fetch note.id) (Body bytes) ∷ [] →
@@ -307,17 +315,6 @@ brought_so p said new d note bytes put one = record {
   last = brought p.settings.grain (common_bytes note.length bytes) (unit_fetched note bytes) put.going.came;
   goes = goes_brought p said new d note bytes
       (brought p.settings.grain (common_bytes note.length bytes) (unit_fetched note bytes) put.going.came) put one refl;
-}
-
--- a unit that waits now was the next task
-pub pushed_is : (p : PuzzleProgram) (said : List Said) (d e : Desk) (x : Made) (rest : List Task) (on : Option (List ℕ)) →
-    IsGoing p said d (Put x ∷ rest) on →
-    d.waiting.items ≡ [] → e.waiting.items ≡ d.waiting.items ++ x ∷ [] → Same d e → IsGoing p said e rest on
-pushed_is p said d e x rest on is none waits same = record {
-  came = is.came;
-  goes = subst (λ b. Goes p.settings.grain (start_of p) said b)
-      (desk_same (Put x ∷ rest) on is.came none ∙ sym (desk_same rest on is.came (waits ∙ ap (λ w. w ++ x ∷ []) none))) is.goes;
-  tally = tally_same p is.came (length said) (length said) d e is.tally same (omega arith);
 }
 
 -- Counts stay small.

@@ -1,18 +1,20 @@
 -- The books of a rank that works: which call it makes next, and what the answer leaves.
-use Rattle.std.specs.Prelude.{◌≡◌, ℕ, Bool, true, false, List, [], ◌∷◌, ◌++◌, map, Option, Some, None}
+use Rattle.std.specs.Prelude.{◌≡◌, ◌↔◌, ℕ, ℤ, Bool, true, false, List, [], ◌∷◌, ◌++◌, map, Option, Some, None}
 use Rattle.std.specs.List.{flat_map}
+use Rattle.adlb_unit.specs.declared.names.Target.{Target}
 use Rattle.adlb_unit.specs.declared.notes.End as told_end
 use Rattle.adlb_unit.specs.declared.notes.UnitNote.{UnitNote}
 use Rattle.bag_ledger.specs.declared.entries.Answer.{Answer}
 use Rattle.bag_ledger.specs.declared.entries.Answer.TheVariants.{Fine, Rejected, Ended, Granted, Body}
 use Rattle.bag_ledger.specs.declared.entries.Call.{Call}
+use Rattle.bag_ledger.specs.declared.entries.Call.TheVariants as calls_to
 use Rattle.bag_ledger.specs.declared.entries.Call.TheVariants.{Reserve, Fetch, BeginBatch, EndBatch}
 use Rattle.bag_ledger.specs.declared.entries.Said.{Said}
 use Rattle.job_units.specs.declared.jobs.Job.{Job}
 use Rattle.job_units.specs.declared.units.Made.{Made}
 use Rattle.job_units.specs.Forms.{IsUnit}
 use Rattle.job_units.specs.Puts.{put_of}
-use Rattle.job_units.specs.Reading.{common_bytes, fetched as unit_fetched}
+use Rattle.job_units.specs.Reading.{common_bytes, own_bytes}
 use Rattle.puzzle_app.specs.Arrivals.{Arrival, arrival, bytes_on, makes}
 use Rattle.puzzle_app.specs.Tasks.{Task, Put, Begin, End, as_units, put_all}
 
@@ -38,7 +40,15 @@ shut tasks on came = record { tasks = tasks; on = on; held = None; came = came; 
 abbrev pub received : ℕ → Arrival → List Task → Option (List ℕ) → List Arrival → Books
 received grain a tasks on came = going (put_all (makes grain a) ++ tasks) on (came ++ a ∷ [])
 
--- what a fetch brings, if it has the form of a unit
+-- these are the bytes of a fetch of this unit: the note has the work type and the answer rank of a put of it, whose body is what the
+-- fetch gave behind the common bytes
+pub record IsFetchOf (note : UnitNote) (bytes : List ℕ) (unit : Made) : Type 0 where
+  pub form : IsUnit unit
+  pub prio : ℤ
+  pub target : Target
+  pub put_is : put_of unit ≡ calls_to.Put note.kind prio target note.answer (own_bytes note.length bytes)
+
+-- what a fetch brings, if it is of a unit
 abbrev pub brought : ℕ → List ℕ → Option Made → List Arrival → Books
 brought grain common None came = going [] None came
 brought grain common (Some unit) came = received grain (arrival common unit) [] None came
@@ -93,10 +103,10 @@ pub data Moves (grain : ℕ) (b : Books) (s : Said) (next : Books) : Type 0 wher
   -- or an end is told
   told : (came : List Arrival) (end : told_end.End) →
       b ≡ going [] None came → s ≡ said_of (Reserve None) (Ended end) → next ≡ shut [] None came → Moves grain b s next
-  -- it fetches the unit that was granted
-  fetched : (came : List Arrival) (note : UnitNote) (bytes : List ℕ) →
-      b ≡ holding note came → s ≡ said_of (Fetch note.id) (Body bytes) →
-      next ≡ brought grain (common_bytes note.length bytes) (unit_fetched note bytes) came → Moves grain b s next
+  -- it fetches the unit that was granted: this one, or none if the bytes are of none
+  fetched : (came : List Arrival) (note : UnitNote) (bytes : List ℕ) (unit : Option Made) →
+      ((x : Made) → (unit ≡ Some x) ↔ IsFetchOf note bytes x) → b ≡ holding note came → s ≡ said_of (Fetch note.id) (Body bytes) →
+      next ≡ brought grain (common_bytes note.length bytes) unit came → Moves grain b s next
 
 -- the calls lead from these books to those
 abbrev pub Goes : ℕ → Books → List Said → Books → Type 0

@@ -1,5 +1,7 @@
 -- A rank while it works: its calls so far and its desk agree.
-use Rattle.std.specs.Prelude.{◌≡◌, ℕ, ◌+◌, ◌*◌, ◌^◌, ◌≤◌, Bool, List, [], ◌∷◌, ◌++◌, length, count_by, Option, None, MatchBool}
+use Rattle.std.specs.Prelude.{◌≡◌, ℕ, ◌+◌, ◌*◌, ◌^◌, ◌≤◌, ◌<◌, Bool, List, [], ◌∷◌, ◌++◌, length, count_by, Option, Some, None, Result, Err, MatchBool, IfOk, OnOk}
+use Rattle.adlb_unit.specs.declared.notes.Trouble.{Trouble}
+use Rattle.adlb_unit.specs.declared.notes.Trouble.TheVariants.{TooLong}
 use Rattle.bag_ledger.specs.declared.entries.Said.{Said}
 use Rattle.job_text.specs.declared.items.Item.{Item}
 use Rattle.job_text.specs.declared.jobs.Job.{Job}
@@ -8,11 +10,13 @@ use Rattle.job_units.specs.Puts.{is_kind}
 use Rattle.job_units.specs.Works.{child_of}
 use Rattle.puzzle_app.specs.Arrivals.{Arrival, answers_in, bytes_on, solutions_in}
 use Rattle.puzzle_app.specs.Books.{Goes, going, shut}
-use Rattle.puzzle_app.specs.Follows.{AreOvers, all_made, start_of}
+use Rattle.puzzle_app.specs.Follows.{AreOvers, IsUnderWay, all_made, start_of}
 use Rattle.puzzle_app.specs.Tasks.{Task, Put, Begin, as_units, jobs_from, put_all}
 use Rattle.puzzle_app.specs.declared.desk.Desk.{Desk}
+use Rattle.puzzle_app.specs.declared.places.Place.{Place}
 use Rattle.puzzle_app.specs.declared.program.PuzzleProgram.{PuzzleProgram}
-use Rattle.puzzle_app.specs.declared.program.Place.{Place}
+use Rattle.rank_client.specs.Calls.{unanswered}
+use Rattle.rank_client.specs.Link.{LinkModel}
 
 -- the items of a batch as jobs that are put
 abbrev pub job_tasks : ℕ → List Item → List Task
@@ -76,3 +80,27 @@ CanDo p said d common first =
 -- this task is the next, and no batch goes on
 abbrev pub CanDoNext : PuzzleProgram → List Said → Desk → Task → Type 0
 CanDoNext p said d task = (rest : List Task) × IsGoing p said d (task ∷ rest) None
+
+-- What work makes of a link and a desk.
+
+-- a rank can work over this link: it has not failed, and there is a rank to which answers go
+pub record IsReady (m : LinkModel) : Type 0 where
+  pub whole : m.failed ≡ None
+  pub ranks : 0 < m.seat.ranks
+
+-- the calls are those of the program, with what is begun behind them
+abbrev pub IsOnWay : PuzzleProgram → LinkModel → Type 0
+IsOnWay p m = IsUnderWay p m.said (unanswered m.failed m.begun)
+
+-- whom the link serves stays; at `Ok` it has not failed, and a batch goes on or not, as `on` says; and it failed with the stamp that is told
+pub record Keeps {X : Type 0} (old new : LinkModel) (on : Bool) (r : Result X Trouble) : Type 0 where
+  pub seat : new.seat ≡ old.seat
+  pub whole : OnOk r (new.failed ≡ None)
+  pub batch : OnOk r (new.batch ≡ on)
+  pub too_long : (stamp : ℕ) → r ≡ Err (TooLong stamp) → new.failed ≡ Some (TooLong stamp)
+
+-- where these tasks, and then the rest, were to be done, the rest is left, or an end was told
+abbrev pub Does : PuzzleProgram → (List Task → List Task) → LinkModel → Desk → Option (List ℕ) → LinkModel → Desk → Option (List ℕ) →
+    Result Bool Trouble → Type 0
+Does p tasks old before on new after on' r =
+    (rest : List Task) → IsGoing p old.said before (tasks rest) on → IfOk r (λ all. Passes p new.said after rest on' all)

@@ -8,6 +8,7 @@ ghost use Rattle.rank_client.specs.Calls.{Pends, has_finished, unanswered};
 ghost use Rattle.rank_client.specs.Link.{put_came};
 ghost use Rattle.puzzle_app.specs.Books.{said_of};
 ghost use Rattle.puzzle_app.specs.Calls.{Fails, IsWhole, Takes, answer_of, is_accepted};
+ghost use Rattle.puzzle_app.specs.Working.{IsReady, Keeps};
 
 use adlb_unit::{End, Payload, Trouble, Types, UnitNote};
 use bag_ledger::Body;
@@ -33,18 +34,13 @@ pub enum Taken {
 /// Puts a unit that was made (`put_of`).
 pub fn put<A: Adlb>(alloc: Global, link: &mut A, made: &Made) -> Result<Reply, Trouble>
     requires running { has_finished (A.link link.old).said ≡ false }
-    requires whole { (A.link link.old).failed ≡ None }
-    requires ranks { 0 < (A.link link.old).seat.ranks }
+    requires ready { IsReady (A.link link.old) }
     ensures says { IfOk result (λ reply. (A.link link.new).said ≡
         (A.link link.old).said ++ said_of (put_of made.now) (answer_of reply) ∷ []) }
     ensures form { OnOk result (IsUnit made.now) }
     ensures same { OnErr result ((A.link link.new).said ≡ (A.link link.old).said) }
     ensures begun { Pends (unanswered (A.link link.new).failed (A.link link.new).begun) (put_of made.now) }
-    ensures fine { OnOk result ((A.link link.new).failed ≡ None) }
-    ensures seat { (A.link link.new).seat ≡ (A.link link.old).seat }
-    ensures batch { OnOk result ((A.link link.new).batch ≡ (A.link link.old).batch) }
-    ensures too_long { (stamp : ℕ) → result ≡ Err (Trouble.TooLong stamp) →
-        (A.link link.new).failed ≡ Some (Trouble.TooLong stamp) }
+    ensures kept { Keeps (A.link link.old) (A.link link.new) (A.link link.old).batch result }
 {
     let Ok(putting) = made.putting(alloc) else {
         return Err(Trouble::Memory);
@@ -104,11 +100,7 @@ pub fn take<A: Adlb>(link: &mut A) -> Result<Taken, Trouble>
     ensures whole { IfOk result IsWhole }
     ensures part { OnErr result (Fails (A.link link.old).said (A.link link.new).said
         (unanswered (A.link link.new).failed (A.link link.new).begun)) }
-    ensures fine { OnOk result ((A.link link.new).failed ≡ None) }
-    ensures seat { (A.link link.new).seat ≡ (A.link link.old).seat }
-    ensures batch { OnOk result ((A.link link.new).batch ≡ (A.link link.old).batch) }
-    ensures too_long { (stamp : ℕ) → result ≡ Err (Trouble.TooLong stamp) →
-        (A.link link.new).failed ≡ Some (Trouble.TooLong stamp) }
+    ensures kept { Keeps (A.link link.old) (A.link link.new) (A.link link.old).batch result }
 {
     let types = Types::any();
     match link.reserve(&types) {

@@ -11,7 +11,10 @@ mod calls;
 mod desk;
 mod laws;
 mod outcomes;
+mod places;
 mod program;
+mod puts;
+mod totals;
 
 pub use laws::{calls_add_up, calls_in_order};
 pub use outcomes::Settings;

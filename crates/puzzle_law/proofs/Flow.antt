@@ -28,7 +28,8 @@ use Rattle.job_units.proofs.FetchedUnits.{common_before, put_back}
 use Rattle.puzzle_app.specs.Arrivals.{Arrival, arrival, bytes_on, makes}
 use Rattle.puzzle_app.specs.Books.{Books, Goes, brought, going, holding, in_batch, over_bytes, received, said_of, shut, without_batch}
 use Rattle.puzzle_app.specs.Tasks.{Task, Put, Begin, End, as_units, put_all}
-use Rattle.puzzle_law.proofs.Calls.{OfEach, brought_on, by_kind, of_put, put_begins_none}
+use Rattle.puzzle_app.proofs.Calling.{OfEach, of_move}
+use Rattle.puzzle_law.proofs.Calls.{brought_on, of_put, put_begins_none}
 use Rattle.puzzle_law.proofs.Pieces.{Test, all-append, all_by, batch_waits, end_waits, none_waits, pieces, put_waits, received_same, waits, waits-put_all}
 use Rattle.puzzle_law.proofs.Sums.{count_one, one_if}
 
@@ -280,7 +281,7 @@ flows_all grain b [] last shuts well is = record {
 }
 flows_all grain b (s ∷ said) last shuts well goes =
     let P : Said → Type 0 = λ x. IsEndedWell x.call x.answer in
-    let here : Flows grain b s goes.0 = by_kind grain (IsFlow grain) (each_flow grain) b s goes.0 goes.1 shuts (All-head P s said well) in
+    let here : Flows grain b s goes.0 = of_move grain (IsFlow grain) (each_flow grain) b s goes.0 goes.1 shuts (All-head P s said well) in
     let later : FlowsAll grain goes.0 said last = flows_all grain goes.0 said last here.shuts (All-tail P s said well) goes.2 in
     record {
       same = λ q.

@@ -20,7 +20,8 @@ use Rattle.puzzle_app.specs.Books.{Books, Goes, shut}
 use Rattle.puzzle_app.specs.Follows.{start_of}
 use Rattle.puzzle_app.specs.declared.outcomes.Settings.{Settings}
 use Rattle.puzzle_law.specs.Joined.{IsPuzzleRun, IsRankRun}
-use Rattle.puzzle_law.proofs.Calls.{OfEach, brought_on, by_kind, put_begins_none}
+use Rattle.puzzle_app.proofs.Calling.{OfEach, of_move}
+use Rattle.puzzle_law.proofs.Calls.{brought_on, put_begins_none}
 
 abbrev is_end : Answer → Bool
 is_end (answers.Ended end) = true
@@ -121,7 +122,7 @@ behind_end : (grain : ℕ) (b : Books) (said : List Said) (last : Books) → b.e
 behind_end grain b [] last over none same =
     let on : b.on ≡ None = ap (λ (x : Books). x.on) same ∙ none in ap last_calls (sym on)
 behind_end grain b (s ∷ said) last over none goes =
-    let is = by_kind grain IsLast (each_last grain) b s goes.0 goes.1 over in
+    let is = of_move grain IsLast (each_last grain) b s goes.0 goes.1 over in
     let later : said ++ finish ∷ [] ≡ last_calls None = behind_end grain goes.0 said last is.4 none goes.2 ∙ ap last_calls is.3 in
     ap (λ x. x ∷ (said ++ finish ∷ [])) is.2 ∙ ap (λ l. end_batch ∷ l) later ∙ ap last_calls (sym is.1)
 
@@ -144,7 +145,7 @@ unfolding IsOrderly
 goes_orderly grain ranks b [] last some live over none same =
     absurd (let e : true ≡ false = sym over ∙ ap (λ (x : Books). x.ended) (sym same) ∙ live in cc)
 goes_orderly grain ranks b (s ∷ said) last some live over none goes =
-    let here : IsOrdered ranks b s goes.0 = by_kind grain (IsOrdered ranks) (each_ordered grain ranks some) b s goes.0 goes.1 in
+    let here : IsOrdered ranks b s goes.0 = of_move grain (IsOrdered ranks) (each_ordered grain ranks some) b s goes.0 goes.1 in
     let rest : List Said = said ++ finish ∷ [] in
     let on : Type 0 = IsOrderly ranks (granted_note s.answer) (batch_after b.on s.call s.answer) rest in (
       here.comes,

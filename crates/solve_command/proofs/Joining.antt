@@ -49,8 +49,8 @@ module _ (settings : Settings) (jobs : List Job) (r : Reported Outcome) (run : H
         program = e.program;
         said = e.said;
         outcome = e.outcome;
-        settings_are = is.settings_are;
-        jobs_are = is.jobs_are;
+        settings_are = is.0;
+        jobs_are = is.1;
         calls_are = e.calls_are;
         follows = e.followed;
         there = e.outcome_is;

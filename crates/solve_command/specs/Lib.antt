@@ -1,4 +1,3 @@
 pub mod Ends
 pub mod Puzzles
 pub mod Told
-pub mod Words

@@ -12,23 +12,31 @@ use Rattle.solve_command.specs.declared.extras.Extras.{Extras}
 use Rattle.solve_command.specs.declared.wanted.Wanted.{Wanted}
 use Rattle.solve_command.specs.declared.wanted.Wanted.TheVariants.{Report, Summary}
 
--- the counts of the kept ledger, and its text, if they are asked for
+-- the report of the jobs, and behind it this tail of what is kept
+abbrev pub IsReported : Settings → (Reported Outcome → List ℕ) → List Job → Reported Outcome → List ℕ → Type 0
+IsReported settings tail jobs r told =
+    (report : List ℕ) × IsReport settings.budget settings.grain jobs report × (told ≡ report ++ tail r)
+
+-- the first line of a summary: what was drilled
+abbrev pub drill_line : ℕ → ℕ → List ℕ
+drill_line count seed = codes "drill " ++ decimal count ++ codes " " ++ decimal seed ++ codes "\n"
+
+-- the summary of a drill
+abbrev pub IsSummed : Settings → ℕ → ℕ → List Job → Reported Outcome → List ℕ → Type 0
+IsSummed settings count seed jobs r told = told ≡ drill_line count seed ++ summary settings.budget settings.grain jobs
+
+-- what is wanted: one of the two
+abbrev pub IsTold : {E : Type 0} → (E → Reported Outcome → List ℕ) → Settings → Wanted E → List Job → Reported Outcome → List ℕ → Type 0
+IsTold tail settings (Report extra) jobs r told = IsReported settings (tail extra) jobs r told
+IsTold tail settings (Summary count seed) jobs r told = IsSummed settings count seed jobs r told
+
+-- A tail: the counts of the kept ledger, and its text, if they are asked for.
+
 abbrev pub stats_behind : Bool → Reported Outcome → List ℕ
 stats_behind asked r = if asked then stats_text r.ledger (length r.left) else []
 
 abbrev pub ledger_behind : Bool → Reported Outcome → List ℕ
 ledger_behind asked r = if asked then text r.config r.ledger else []
 
--- what follows the report
 abbrev pub behind : Extras → Reported Outcome → List ℕ
 behind extras r = stats_behind extras.stats r ++ ledger_behind extras.ledger r
-
--- the first line of a summary: what was drilled
-abbrev pub drill_line : ℕ → ℕ → List ℕ
-drill_line count seed = codes "drill " ++ decimal count ++ codes " " ++ decimal seed ++ codes "\n"
-
--- the text is what is wanted of the jobs: their report, and behind it what the words ask for; or the summary of a drill
-abbrev pub IsTold : Settings → Wanted → List Job → Reported Outcome → List ℕ → Type 0
-IsTold settings (Report extras) jobs r told =
-    (report : List ℕ) × IsReport settings.budget settings.grain jobs report × (told ≡ report ++ behind extras r)
-IsTold settings (Summary count seed) jobs r told = told ≡ drill_line count seed ++ summary settings.budget settings.grain jobs

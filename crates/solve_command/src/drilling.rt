@@ -1,34 +1,36 @@
 //! The command `drill`.
 
-ghost use Rattle.std.specs.Prelude.{◌≤◌, ℕ, List, Option};
-ghost use Rattle.command_words.specs.Said.{IsRunWithin};
+ghost use Rattle.std.specs.Prelude.{◌≡◌, ◌≤◌, ℕ, List, Option, true};
 ghost use Rattle.run_command.specs.Ends.{scene};
 ghost use Rattle.solve_command.specs.Ends.{Drills};
 
+use crate::extras::Extras;
 use crate::puzzles::Puzzles;
 use crate::wanted::Wanted;
-use crate::words::{config, settings};
 use adlb_io::{Gate, Sink, Spawner, SteadySource};
-use command_words::RunOptions;
+use adlb_unit::Config;
 use job_report::Outcome;
 use job_text::LineWhy;
 use made_jobs::made;
+use puzzle_app::Settings;
 use run_command::{Ended, Fault, run};
 use std::alloc::Global;
 
 /// Works the made text of `count` puzzles from `seed` as `solve` works an input, and writes the summary in place of the report. `Drills`
-/// says how it ends, and what it keeps and starts. It waits for its threads, if the options do not say `--inline`.
+/// says how it ends, and what it keeps and starts. It waits for its threads, unless it runs in line.
 pub fn drill<K: Sink, T: Spawner, G: Gate + Send + Drop + 'static>(
     alloc: Global,
     count: u32,
     seed: u64,
-    options: &RunOptions,
+    settings: Settings,
+    config: Config,
+    inline: bool,
     output: &mut K,
     threads: &mut T,
     gate: G,
 ) -> Ended<LineWhy, Outcome>
-    requires { IsRunWithin options.now }
-    ensures drills { (left : Option (List ℕ)) (reads : ℕ) → Drills count seed options.now
+    requires single { inline ≡ true → (config.ranks ≡ 1) × (config.servers ≡ 1) }
+    ensures drills { (left : Option (List ℕ)) (reads : ℕ) → Drills count seed settings (λ c. c ≡ config) inline
         (scene left reads (K.taken output.old) (K.faults output.old) (K.all_flushed output.old) (T.faults threads.old) (T.starts threads.old))
         (scene left reads (K.taken output.new) (K.faults output.new) (K.all_flushed output.new) (T.faults threads.new) (T.starts threads.new))
         result.fault result.kept }
@@ -42,15 +44,15 @@ pub fn drill<K: Sink, T: Spawner, G: Gate + Send + Drop + 'static>(
         };
     };
     let mut source = SteadySource::new(text);
-    let puzzles = Puzzles {
-        settings: settings(options),
+    let puzzles: Puzzles<Extras> = Puzzles {
+        settings,
         wanted: Wanted::Summary { count, seed },
     };
     run(
         alloc,
         &puzzles,
-        config(options),
-        options.inline,
+        config,
+        inline,
         &mut source,
         output,
         threads,

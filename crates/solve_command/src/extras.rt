@@ -1,6 +1,8 @@
-//! What follows the report, if it is asked for.
+//! What follows the report.
 
-ghost use Rattle.std.specs.Prelude.{◌≡◌, ◌++◌, OnOk};
+ghost use Rattle.std.specs.Prelude.{◌≡◌, ◌++◌, ℕ, List, OnOk};
+ghost use Rattle.adlb_threads.specs.Reports.{Reported};
+ghost use Rattle.job_report.specs.declared.outcomes.Outcome.{Outcome};
 ghost use Rattle.solve_command.specs.Told.{behind, ledger_behind, stats_behind};
 
 use adlb_threads::Report;
@@ -10,26 +12,42 @@ use ledger_file::write_ledger;
 use ledger_stats::append_stats;
 use std::alloc::Global;
 
-/// What is written behind the report.
+/// What is written behind the report of a run: bytes that tell of what is kept of it.
+pub trait Tail {
+    // These bytes, where this is kept.
+    ghost tail: { Self → Reported Outcome → List ℕ };
+
+    /// Appends them. Its only error is `NoMemory`.
+    fn append(
+        &self,
+        alloc: Global,
+        text: &mut Vec<u8>,
+        report: &Report<Outcome>,
+    ) -> Result<(), NoMemory>
+        ensures { OnOk result (text.new.items ≡ text.old.items ++ tail self.now report.now) };
+}
+
+/// What of the kept ledger is written behind the report.
 #[derive(Clone, Copy)]
 pub struct Extras {
-    /// Counts of the kept ledger.
+    /// Its counts.
     pub stats: bool,
-    /// The text of the kept ledger, behind them.
+    /// Its text, behind them.
     pub ledger: bool,
 }
 
-/// Appends what is asked for (`behind`). Its only error is `NoMemory`.
-pub fn append_extras(
-    alloc: Global,
-    text: &mut Vec<u8>,
-    extras: Extras,
-    report: &Report<Outcome>,
-) -> Result<(), NoMemory>
-    ensures { OnOk result (text.new.items ≡ text.old.items ++ behind extras report.now) }
-{
-    append_counts(alloc, text, extras.stats, report)?;
-    append_ledger(alloc, text, extras.ledger, report)
+impl Tail for Extras {
+    ghost tail = { λ extras r. behind extras r };
+
+    fn append(
+        &self,
+        alloc: Global,
+        text: &mut Vec<u8>,
+        report: &Report<Outcome>,
+    ) -> Result<(), NoMemory> {
+        append_counts(alloc, text, self.stats, report)?;
+        append_ledger(alloc, text, self.ledger, report)
+    }
 }
 
 // Appends the counts of the ledger, if they are asked for.

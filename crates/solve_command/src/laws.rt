@@ -2,6 +2,7 @@
 
 ghost use Rattle.std.specs.Prelude.{◌≡◌, ◌⊎◌, ◌≤◌, ◌<◌, ◌+◌, ℕ, List, Option, Some, None, length};
 ghost use Rattle.adlb_io.specs.Outside.{Rises};
+ghost use Rattle.adlb_threads.specs.Reports.{Reported};
 ghost use Rattle.job_report.specs.declared.outcomes.Outcome.{Outcome};
 ghost use Rattle.job_text.specs.declared.faults.LineWhy.{LineWhy};
 ghost use Rattle.job_text.specs.Jobs.{input_refused};
@@ -10,24 +11,25 @@ ghost use Rattle.run_command.specs.Ends.{IsFine, Scene, input_limit};
 ghost use Rattle.run_command.specs.declared.faults.Fault.{Fault};
 ghost use Rattle.run_command.specs.Kept.{Kept};
 ghost use Rattle.solve_command.specs.Ends.{EndsWith};
+ghost use Rattle.solve_command.specs.Told.{IsTold};
 ghost use Rattle.solve_command.specs.declared.wanted.Wanted.{Wanted};
 
-/// What follows of a source that tells its bytes, if no read failed, for any settings. An accepted input is answered, if no write failed
+/// What follows of a source that tells its bytes, if no read failed, for any settings, whatever is wanted of it. An accepted input is answered, if no write failed
 /// and no start was refused either (`complete`), a refused one is refused at its first such line (`refused`), and one that is too long is
 /// told as such (`overlong`), unless memory fails; besides, only the stamps can end.
 pub fn puzzle_laws()
-    ensures complete { (settings : Settings) (wanted : Wanted) (before after : Scene) (fault : Option (Fault LineWhy))
+    ensures complete { (settings : Settings) (wanted : Wanted (Reported Outcome → List ℕ)) (before after : Scene) (fault : Option (Fault LineWhy))
         (kept : Option (Kept Outcome)) (bytes : List ℕ) →
-        EndsWith settings wanted before after fault kept → before.left ≡ Some bytes → (Rises before.reads after.reads → ⊥) →
+        EndsWith settings (IsTold (λ tail. tail) settings wanted) before after fault kept → before.left ≡ Some bytes → (Rises before.reads after.reads → ⊥) →
         length bytes ≤ input_limit → input_refused bytes ≡ None →
         (Rises before.writes after.writes → ⊥) → (Rises before.refused after.refused → ⊥) → IsFine fault }
-    ensures refused { (settings : Settings) (wanted : Wanted) (before after : Scene) (fault : Option (Fault LineWhy))
+    ensures refused { (settings : Settings) (wanted : Wanted (Reported Outcome → List ℕ)) (before after : Scene) (fault : Option (Fault LineWhy))
         (kept : Option (Kept Outcome)) (bytes : List ℕ) →
-        EndsWith settings wanted before after fault kept → before.left ≡ Some bytes → (Rises before.reads after.reads → ⊥) →
+        EndsWith settings (IsTold (λ tail. tail) settings wanted) before after fault kept → before.left ≡ Some bytes → (Rises before.reads after.reads → ⊥) →
         (line : ℕ) (why : LineWhy) → length bytes ≤ input_limit → input_refused bytes ≡ Some (line, why) →
         (fault ≡ Some (Fault.Input line why)) ⊎ (fault ≡ Some Fault.Memory) }
-    ensures overlong { (settings : Settings) (wanted : Wanted) (before after : Scene) (fault : Option (Fault LineWhy))
+    ensures overlong { (settings : Settings) (wanted : Wanted (Reported Outcome → List ℕ)) (before after : Scene) (fault : Option (Fault LineWhy))
         (kept : Option (Kept Outcome)) (bytes : List ℕ) →
-        EndsWith settings wanted before after fault kept → before.left ≡ Some bytes → (Rises before.reads after.reads → ⊥) →
+        EndsWith settings (IsTold (λ tail. tail) settings wanted) before after fault kept → before.left ≡ Some bytes → (Rises before.reads after.reads → ⊥) →
         input_limit < length bytes → (fault ≡ Some (Fault.TooLarge (input_limit + 1))) ⊎ (fault ≡ Some Fault.Memory) }
 {}

@@ -2,7 +2,7 @@
 //!
 //! `Puzzles` is a command of `run_command`: it asks for the jobs of an input (`job_text`), which the programs of `puzzle_app` work, and
 //! tells their report or a summary (`job_report`). `solve` runs it over an input, and `drill` over a made text. `specs/Ends.antt` says how
-//! the two end, `specs/Puzzles.antt` what is asked and run, `specs/Told.antt` what is told, and `specs/Words.antt` what the words say of it.
+//! the two end, `specs/Puzzles.antt` what is asked and run, and `specs/Told.antt` what is told; `Tail` is what a caller wants behind a report.
 #![tactic(auto)]
 
 mod drilling;
@@ -12,10 +12,9 @@ mod puzzles;
 mod solving;
 mod telling;
 mod wanted;
-mod words;
 
 pub use drilling::drill;
-pub use extras::Extras;
+pub use extras::{Extras, Tail};
 pub use laws::puzzle_laws;
 pub use puzzles::{PuzzleJobs, Puzzles};
 pub use solving::solve;

@@ -5,6 +5,7 @@ ghost use Rattle.run_command.specs.Reading.{RefusesBy};
 ghost use Rattle.solve_command.specs.Puzzles.{AreJobs, ArePrograms, RefusesLine};
 ghost use Rattle.solve_command.specs.Told.{IsTold};
 
+use crate::extras::Tail;
 use crate::telling::tell_run;
 use crate::wanted::Wanted;
 use adlb_unit::{NoMemory, or_no_memory};
@@ -48,12 +49,12 @@ impl PuzzleJobs {
 
 /// A run over the puzzles and batches of an input: its settings, and what is wanted of it.
 #[derive(Clone, Copy)]
-pub struct Puzzles {
+pub struct Puzzles<E> {
     pub settings: Settings,
-    pub wanted: Wanted,
+    pub wanted: Wanted<E>,
 }
 
-impl Command for Puzzles {
+impl<E: Tail + Copy> Command for Puzzles<E> {
     type Asked = PuzzleJobs;
 
     type Why = LineWhy;
@@ -66,7 +67,7 @@ impl Command for Puzzles {
 
     ghost are_programs = { λ puzzles ranks jobs programs. ArePrograms puzzles.settings jobs programs };
 
-    ghost tells = { λ puzzles jobs kept told. IsTold puzzles.settings puzzles.wanted jobs kept.report told };
+    ghost tells = { λ puzzles jobs kept told. IsTold E.tail puzzles.settings puzzles.wanted jobs kept.report told };
 
     fn read(&self, alloc: Global, bytes: &[u8]) -> Result<PuzzleJobs, ReadFault<LineWhy>> {
         read_puzzles(alloc, bytes)

@@ -5,6 +5,7 @@ ghost use Rattle.run_command.specs.Kept.{HasRun, IsWorkedUp};
 ghost use Rattle.solve_command.specs.Puzzles.{ArePrograms, FollowsPuzzles};
 ghost use Rattle.solve_command.specs.Told.{IsTold};
 
+use crate::extras::Tail;
 use crate::puzzles::PuzzleJobs;
 use crate::wanted::{Wanted, text_of};
 use adlb_unit::NoMemory;
@@ -15,15 +16,15 @@ use std::alloc::Global;
 
 /// The text that is wanted of a run with these settings over these jobs, of which this is kept. All work of the run is done. Its only
 /// error is `NoMemory`.
-pub(crate) fn tell_run(
+pub(crate) fn tell_run<E: Tail + Copy>(
     alloc: Global,
     settings: Settings,
-    wanted: Wanted,
+    wanted: Wanted<E>,
     asked: &PuzzleJobs,
     kept: &Kept<Outcome>,
 ) -> Result<Vec<u8>, NoMemory>
     requires { HasRun (λ ranks. ArePrograms settings) FollowsPuzzles asked.now kept.now.report }
-    ensures told { IfOk result (λ text. IsTold settings wanted asked.now kept.now.report text.items) }
+    ensures told { IfOk result (λ text. IsTold E.tail settings wanted asked.now kept.now.report text.items) }
     ensures worked_up { IfOk result (λ text. IsWorkedUp kept.now.report) }
 {
     text_of(alloc, wanted, asked.jobs(), kept.report())

@@ -2,9 +2,9 @@
 
 ghost use Rattle.std.specs.Prelude.{◌≡◌, ◌++◌, ◌<◌, ◌^◌, ℕ, IfOk, OnOk};
 ghost use Rattle.job_report.specs.Whole.{AreWhole, made_in};
-ghost use Rattle.solve_command.specs.Told.{IsTold, drill_line};
+ghost use Rattle.solve_command.specs.Told.{IsReported, IsSummed, IsTold, drill_line};
 
-use crate::extras::{Extras, append_extras};
+use crate::extras::Tail;
 use adlb_threads::Report;
 use adlb_unit::{NoMemory, or_no_memory};
 use itoa::Buffer;
@@ -15,43 +15,43 @@ use std::alloc::Global;
 
 /// What is written of a run.
 #[derive(Clone, Copy)]
-pub enum Wanted {
-    /// The report of its jobs, and these behind it.
-    Report(Extras),
+pub enum Wanted<E> {
+    /// The report of its jobs, and this behind it.
+    Report(E),
     /// The summary of a drill of `count` puzzles from `seed`.
     Summary { count: u32, seed: u64 },
 }
 
 /// The text that is wanted of a run over these jobs (`IsTold`). Its only error is `NoMemory`.
-pub fn text_of(
+pub fn text_of<E: Tail + Copy>(
     alloc: Global,
-    wanted: Wanted,
+    wanted: Wanted<E>,
     jobs: &Jobs,
     report: &Report<Outcome>,
 ) -> Result<Vec<u8>, NoMemory>
     requires room { (k : ℕ) → made_in k report.now.outcomes < 2 ^ 128 }
     ensures { (settings : Settings) → AreWhole settings.budget settings.grain jobs.now report.now.outcomes →
-        IfOk result (λ text. IsTold settings wanted jobs.now report.now text.items) }
+        IfOk result (λ text. IsTold E.tail settings wanted jobs.now report.now text.items) }
 {
     match wanted {
-        Wanted::Report(extras) => report_of(alloc, extras, jobs, report),
+        Wanted::Report(tail) => report_of(alloc, tail, jobs, report),
         Wanted::Summary { count, seed } => summary_of(alloc, count, seed, jobs, report),
     }
 }
 
-// The report, and behind it what is asked for. Its only error is `NoMemory`.
-fn report_of(
+// The report, and this behind it. Its only error is `NoMemory`.
+fn report_of<E: Tail + Copy>(
     alloc: Global,
-    extras: Extras,
+    tail: E,
     jobs: &Jobs,
     report: &Report<Outcome>,
 ) -> Result<Vec<u8>, NoMemory>
     requires room { (k : ℕ) → made_in k report.now.outcomes < 2 ^ 128 }
     ensures { (settings : Settings) → AreWhole settings.budget settings.grain jobs.now report.now.outcomes →
-        IfOk result (λ text. IsTold settings (Wanted.Report extras) jobs.now report.now text.items) }
+        IfOk result (λ text. IsReported settings (E.tail tail) jobs.now report.now text.items) }
 {
     let mut text = render(alloc, jobs, &report.outcomes)?;
-    append_extras(alloc, &mut text, extras, report)?;
+    tail.append(alloc, &mut text, report)?;
     Ok(text)
 }
 
@@ -65,7 +65,7 @@ fn summary_of(
 ) -> Result<Vec<u8>, NoMemory>
     requires room { (k : ℕ) → made_in k report.now.outcomes < 2 ^ 128 }
     ensures { (settings : Settings) → AreWhole settings.budget settings.grain jobs.now report.now.outcomes →
-        IfOk result (λ text. IsTold settings (Wanted.Summary count seed) jobs.now report.now text.items) }
+        IfOk result (λ text. IsSummed settings count seed jobs.now report.now text.items) }
 {
     let summary = summarize(alloc, jobs, &report.outcomes)?;
     let mut text = line_of_drill(alloc, count, seed)?;

@@ -376,7 +376,7 @@ fn is_left<M: Mailing>(end: &LinkEnd<M>, answered: usize, leaves: Leaves) -> boo
 
 // The link, which has answered so many calls, leaves this at its end; if a batch is going on, it has none.
 fn is_end<R: Wait + Copy, M: Mailing>(link: Link<R, M>, answered: usize, leaves: Leaves) -> bool
-    requires { has_finished link.run.core.transcript ≡ false }
+    requires { has_finished link.core.transcript ≡ false }
 {
     if link.batch_open() {
         return matches!(leaves, Leaves::Open);

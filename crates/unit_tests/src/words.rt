@@ -1,6 +1,6 @@
 //! What lists of words say, and which are refused.
 
-use command_words::{Command, RunOptions, WordsFault, read_words};
+use command_words::{Command, RunOptions, Sizes, WordsFault, read_words};
 use std::alloc::Global;
 use std::test::Fail;
 
@@ -121,13 +121,16 @@ const ROWS: &[(&str, &str)] = &[
 
 fn run_shown(alloc: Global, run: RunOptions) -> Result<String, Fail> {
     let RunOptions {
-        ranks,
-        servers,
-        limit,
+        sizes,
         budget,
         grain,
         inline,
     } = run;
+    let Sizes {
+        ranks,
+        servers,
+        limit,
+    } = sizes;
     Ok(format!(in alloc; "{ranks} {servers} {limit} {budget} {grain} {inline}")?)
 }
 

@@ -3,8 +3,8 @@ use Rattle.run_command.specs.Ends.{input_limit}
 use Rattle.run_command.specs.declared.faults.Fault.TheVariants as runs
 use Rattle.solve_command.proofs.Drilled.{drilled_fine}
 use Rattle.solve_command.proofs.Ended.{accepted_fine, overlong_told, refused_at_line}
-use Rattle.solve_command.specs.Words.{extras_of, settings_of}
-use Rattle.solve_command.specs.declared.wanted.Wanted.TheVariants.{Report}
+use Rattle.solve_command.specs.Told.{IsReported, behind}
+use Rattle.adlb_command.specs.Words.{IsConfigOf, extras_of, settings_of}
 use Rattle.adlb_command.proofs.Checked.{bad_checked, long_checked, text_checked}
 use Rattle.adlb_command.proofs.Ending.{usage_unsaid}
 use Rattle.adlb_command.proofs.Made.{made_whole}
@@ -20,19 +20,22 @@ returns-clause-unsaid c = λ before after fault kept ends. ends.cause
 pub returns-clause-complete : goal.returns-clause-complete
 returns-clause-complete c = λ words before after fault kept bytes ends told no_read short fine no_write no_refusal.
     fine_told fault ends.met ends.fault_is
-    (accepted_fine (settings_of words.options) (Report (extras_of words)) before after ends.met kept bytes ends.ended.ends told no_read
+    (accepted_fine (settings_of words.options)
+    (IsReported (settings_of words.options) (behind (extras_of words))) before after ends.met ends.own bytes ends.ended.ends told no_read
     short fine no_write no_refusal)
 
 pub returns-clause-refused : goal.returns-clause-refused
 returns-clause-refused c = λ words before after fault kept bytes ends told no_read line why short is.
     either_told fault ends.met ends.fault_is (Some (runs.Input line why)) (Some runs.Memory)
-    (refused_at_line (settings_of words.options) (Report (extras_of words)) before after ends.met kept bytes ends.ended.ends told no_read
+    (refused_at_line (settings_of words.options)
+    (IsReported (settings_of words.options) (behind (extras_of words))) before after ends.met ends.own bytes ends.ended.ends told no_read
     line why short is)
 
 pub returns-clause-overlong : goal.returns-clause-overlong
 returns-clause-overlong c = λ words before after fault kept bytes ends told no_read long.
     either_told fault ends.met ends.fault_is (Some (runs.TooLarge (input_limit + 1))) (Some runs.Memory)
-    (overlong_told (settings_of words.options) (Report (extras_of words)) before after ends.met kept bytes ends.ended.ends told no_read long)
+    (overlong_told (settings_of words.options)
+    (IsReported (settings_of words.options) (behind (extras_of words))) before after ends.met ends.own bytes ends.ended.ends told no_read long)
 
 pub returns-clause-checked : goal.returns-clause-checked
 returns-clause-checked c = λ before after fault kept bytes ends told no_read config ledger short text no_write.
@@ -54,5 +57,5 @@ returns-clause-made c = λ count seed before after fault kept ends no_write. mad
 pub returns-clause-drilled : goal.returns-clause-drilled
 returns-clause-drilled c = λ count seed options before after fault kept ends few no_write no_refusal.
     fine_told fault ends.met ends.fault_is
-    (drilled_fine count seed options before after ends.met kept ends.ended (c.made_laws.ensures.short count seed few)
+    (drilled_fine count seed (settings_of options) (IsConfigOf options.sizes options.inline) options.inline before after ends.met ends.own ends.ended (c.made_laws.ensures.short count seed few)
     (c.made_is_accepted.ensures.accepted count seed) no_write no_refusal)

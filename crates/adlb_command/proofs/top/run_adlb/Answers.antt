@@ -2,7 +2,7 @@ use Rattle.std.proofs.Common.{◌≡◌, ◌∙◌, Some, ap, map, subst}
 use Rattle.std.specs.String.{string_bytes}
 use Rattle.command_words.specs.Said.{command_of}
 use Rattle.run_command.specs.Ends.{scene}
-use Rattle.adlb_command.proofs.Ending.{ends_checked, ends_drilled, ends_made, ends_solved, ends_unread}
+use Rattle.adlb_command.proofs.Ending.{drilled_said, ends_checked, ends_drilled, ends_made, ends_solved, ends_unread, solved_said}
 use Rattle.adlb_command.proofs.top.run_adlb.Goals as goal
 
 pub returns-in-Ok-Solve-clause-ends : goal.returns-in-Ok-Solve-clause-ends
@@ -17,7 +17,9 @@ returns-in-Ok-Solve-clause-ends g c =
     (g.T.Spawner.starts c.solve.new.threads))
     c.of.result.fault c.of.result.kept c.in-Ok-Solve.words
     (subst (λ x. said ≡ Some x) c.in-Ok-Solve.field-0-is c.in-Ok-Solve.ensures.said)
-    c.solve.result.fault c.solve.result.kept c.of.ensures.fault c.of.ensures.kept c.solve.ensures.solves
+    c.solve.result.fault c.solve.result.kept c.of.ensures.fault c.of.ensures.kept
+    (solved_said _ _ c.solve.result.fault c.solve.result.kept c.settings.result c.config.result c.in-Ok-Solve.words c.extras.result
+    c.settings.ensures c.extras.ensures c.config.ensures.numbers c.solve.ensures.solves)
 
 pub returns-in-Ok-Check-clause-ends : goal.returns-in-Ok-Check-clause-ends
 returns-in-Ok-Check-clause-ends g c =
@@ -60,7 +62,9 @@ returns-in-Ok-Drill-clause-ends g c =
     c.of-in-Ok-Drill.result.fault c.of-in-Ok-Drill.result.kept c.in-Ok-Drill.count c.in-Ok-Drill.seed c.in-Ok-Drill.options
     (subst (λ x. said ≡ Some x) c.in-Ok-Drill.field-0-is c.in-Ok-Drill.ensures.said)
     c.drill.result.fault c.drill.result.kept c.of-in-Ok-Drill.ensures.fault c.of-in-Ok-Drill.ensures.kept
-    (c.drill.ensures.drills left reads)
+    (drilled_said _ _ c.drill.result.fault c.drill.result.kept c.settings-in-Ok-Drill.result c.config-in-Ok-Drill.result
+    c.in-Ok-Drill.count c.in-Ok-Drill.seed c.in-Ok-Drill.options c.settings-in-Ok-Drill.ensures c.config-in-Ok-Drill.ensures.numbers
+    (c.drill.ensures.drills left reads))
 
 pub returns-in-Err-clause-ends : goal.returns-in-Err-clause-ends
 returns-in-Err-clause-ends g c =

@@ -7,7 +7,7 @@ put-requires g c = record {
     running = c.requires.running;
     suits = (
       omega (arith, c.in-Ok.ensures.few),
-      c.in-Ok.ensures.target (g.A.Adlb.link c.args.link.now).seat.ranks c.requires.ranks,
+      c.in-Ok.ensures.target (g.A.Adlb.link c.args.link.now).seat.ranks c.requires.ready.ranks,
     );
   };
 }

@@ -1,16 +1,15 @@
-use Rattle.std.proofs.Common.{List, ℕ, Some, ◌∙◌, refl, subst}
+use Rattle.std.proofs.Common.{List, ℕ, Some, ◌≡◌, ◌∙◌, refl, subst}
 use Rattle.adlb_io.specs.Memory.{steady_left}
-use Rattle.puzzle_app.specs.declared.outcomes.Settings.{Settings}
+use Rattle.adlb_unit.specs.declared.configs.Config.{Config}
 use Rattle.run_command.specs.Ends.{Scene, scene}
-use Rattle.run_command.proofs.Running.{ran_apart, ran_as}
+use Rattle.run_command.proofs.Running.{ran_apart}
 use Rattle.solve_command.specs.Ends.{EndsWith}
-use Rattle.solve_command.specs.Words.{IsConfigOf, settings_of}
-use Rattle.solve_command.specs.declared.wanted.Wanted.TheVariants.{Summary}
+use Rattle.solve_command.specs.Told.{IsSummed}
 use Rattle.solve_command.proofs.drilling.drill.Goals as goal
 
 pub returns-clause-drills : goal.returns-clause-drills
 returns-clause-drills g c = λ left reads.
-    let options = c.args.options.now in
+    let settings = c.args.settings in
     let count = c.args.count in
     let seed = c.args.seed in
     let rest : List ℕ = steady_left c.run.new.input in
@@ -28,11 +27,10 @@ returns-clause-drills g c = λ left reads.
     let before : Scene = made (steady_left c.new-source.result) in
     record {
       rest = rest;
-      ends = subst (λ (l : List ℕ). EndsWith (settings_of options) (Summary count seed) (made l) after c.run.result.fault c.run.result.kept)
-          (c.new-source.ensures ∙ c.in-Ok.ensures)
-          (subst (λ (s : Settings). EndsWith s (Summary count seed) before after c.run.result.fault c.run.result.kept) c.settings.ensures
-          c.run.ensures.ends);
-      run = ran_apart (IsConfigOf options) options.inline before after here there c.run.result.kept refl refl refl refl
-          (ran_as c.config.result before after (IsConfigOf options) c.config.ensures.numbers options.inline c.run.result.kept c.run.ensures.ran);
+      ends = subst
+          (λ (l : List ℕ). EndsWith settings (IsSummed settings count seed) (made l) after c.run.result.fault c.run.result.kept)
+          (c.new-source.ensures ∙ c.in-Ok.ensures) c.run.ensures.ends;
+      run = ran_apart (λ (x : Config). x ≡ c.args.config) c.args.inline before after here there c.run.result.kept refl refl refl refl
+          c.run.ensures.ran;
       unread = record { left = refl; reads = refl };
     }

@@ -68,7 +68,7 @@ returns-in-Ok-clause-told g c = λ rest start.
     let answers : Answers c.args.batch c.args.common.now c.args.items.now c.args.desk.now c.answer_all.new.self =
     subst (λ bytes. Answers c.args.batch bytes c.args.items.now c.args.desk.now c.answer_all.new.self) c.bytes-in-Rejected.ensures
     c.in-Ok.ensures in
-    c.put_all.ensures.told rest None (sym c.as_slice.ensures)
+    c.put_all.ensures.told None (sym c.as_slice.ensures) rest
     (refused_is c.args.self.now _ _ c.args.desk.now c.answer_all.new.self c.args.common.now c.args.batch c.args.items.now rest start
     c.requires.none
     (replied _ _ (BeginBatch c.args.common.now) _ replies.Rejected c.in_ok-begin.ensures.says c.in-Rejected.is) answers c.requires.few)

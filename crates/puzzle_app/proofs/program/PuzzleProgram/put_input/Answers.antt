@@ -1,7 +1,7 @@
 use Rattle.std.proofs.Common.{◌∙◌, ◌+◌, ap, sym, subst, arith, drop, List, None}
 use Rattle.puzzle_app.specs.Tasks.{Task, tasks_from}
 use Rattle.puzzle_app.specs.Working.{IsGoing, behind}
-use Rattle.puzzle_app.specs.declared.program.Place.{Place}
+use Rattle.puzzle_app.specs.declared.places.Place.{Place}
 use Rattle.puzzle_app.proofs.Inputs.{behind_sum, no_task_is_next, task_is_next}
 use Rattle.puzzle_app.proofs.Steps.{all_is, not_all_is}
 use Rattle.puzzle_app.proofs.program.PuzzleProgram.put_input.Goals as goal
@@ -43,9 +43,9 @@ loop-job-preserved g c =
       none = put.none;
       going = subst (λ at. IsGoing c.args.self.now (g.A.Adlb.link c.put_job.new.link).said c.put_job.new.desk (tasks_at at) None)
           (sym c.behind-at.ensures) put.going;
-      whole = c.in_ok-put_job.ensures.whole;
-      seat = c.in_ok-put_job.ensures.seat ∙ c.loop-job.invariant.seat;
-      batch = c.in_ok-put_job.ensures.batch;
+      whole = c.in_ok-put_job.ensures.kept.whole;
+      seat = c.in_ok-put_job.ensures.kept.seat ∙ c.loop-job.invariant.seat;
+      batch = c.in_ok-put_job.ensures.kept.batch;
     }
 
 pub returns-clause-told : goal.returns-clause-told

@@ -18,10 +18,10 @@ put_next-requires-clause-going g c =
     )
 
 pub returns-then-not-branch-clause-told : goal.returns-then-not-branch-clause-told
-returns-then-not-branch-clause-told g c = λ rest on bytes start.
+returns-then-not-branch-clause-told g c = λ on bytes rest start.
     let later : List Task = put_all (as_units
     (jobs_from c.args.batch (c.loop-item.number + 1) (drop (c.loop-item.item-index + 1) c.args.items.now))) ++ rest in
-    not_all_is _ _ _ c.if-not-branch.true (c.in_ok-put_next.ensures.told later on bytes
+    not_all_is _ _ _ c.if-not-branch.true (c.in_ok-put_next.ensures.told on bytes later
     (job_is_next c.args.self.now _ c.loop-item.desk c.args.batch c.loop-item.number c.args.items.now c.loop-item.item-index _ rest on
     c.loop-item-test.true (c.loop-item.invariant.going rest on bytes start)))
 
@@ -31,22 +31,22 @@ loop-item-preserved g c =
     let later : List Task → List Task =
     λ rest. put_all (as_units (jobs_from c.args.batch (c.loop-item.number + 1) (drop (c.loop-item.item-index + 1) c.args.items.now))) ++
     rest in
-    let first = all_is _ _ _ c.if-not-branch.false (c.in_ok-put_next.ensures.told (later at.0) at.1 at.2
+    let first = all_is _ _ _ c.if-not-branch.false (c.in_ok-put_next.ensures.told at.1 at.2 (later at.0)
     (job_is_next c.args.self.now _ c.loop-item.desk c.args.batch c.loop-item.number c.args.items.now c.loop-item.item-index _ at.0 at.1
     c.loop-item-test.true (c.loop-item.invariant.going at.0 at.1 at.2 at.3))) in
     record {
       numbered = omega (arith, c.loop-item.invariant.numbered);
       none = first.none;
-      going = λ rest on bytes start. (all_is _ _ _ c.if-not-branch.false (c.in_ok-put_next.ensures.told (later rest) on bytes
+      going = λ rest on bytes start. (all_is _ _ _ c.if-not-branch.false (c.in_ok-put_next.ensures.told on bytes (later rest)
           (job_is_next c.args.self.now _ c.loop-item.desk c.args.batch c.loop-item.number c.args.items.now c.loop-item.item-index _ rest on
           c.loop-item-test.true (c.loop-item.invariant.going rest on bytes start)))).going;
-      whole = c.in_ok-put_next.ensures.whole;
-      seat = c.in_ok-put_next.ensures.seat ∙ c.loop-item.invariant.seat;
-      batch = c.in_ok-put_next.ensures.batch ∙ c.loop-item.invariant.batch;
+      whole = c.in_ok-put_next.ensures.kept.whole;
+      seat = c.in_ok-put_next.ensures.kept.seat ∙ c.loop-item.invariant.seat;
+      batch = c.in_ok-put_next.ensures.kept.batch ∙ c.loop-item.invariant.batch;
     }
 
 pub returns-clause-told : goal.returns-clause-told
-returns-clause-told g c = λ rest on bytes start. record {
+returns-clause-told g c = λ on bytes rest start. record {
   going = no_job_is_next c.args.self.now _ c.loop-item.desk c.args.batch c.loop-item.number c.args.items.now c.loop-item.item-index rest on
       c.loop-item-test.false
       (c.loop-item.invariant.going rest on bytes start);

@@ -20,7 +20,7 @@ bring-requires-clause-room g c =
 
 pub returns-in_default-clause-so_far : goal.returns-in_default-clause-so_far
 returns-in_default-clause-so_far g c =
-    whole_way c.args.self.now _ _ _ c.in_ok-note.ensures.fine
+    whole_way c.args.self.now _ _ _ c.in_ok-note.ensures.kept.whole
     (brought_so c.args.self.now _ _ c.rounds.desk c.in-Unit.note c.in-Unit.body c.rounds.invariant.going
     (subst (λ t. Takes (g.A.Adlb.link c.rounds.link).said
     (g.A.Adlb.link c.take.new.link).said t) c.in-Unit.is c.in_ok-note.ensures.takes))
@@ -37,31 +37,31 @@ put_all-requires-clause-going g c = (
 
 pub returns-then-not-branch-clause-stopped : goal.returns-then-not-branch-clause-stopped
 returns-then-not-branch-clause-stopped g c =
-    not_all_is _ _ _ c.if-not-branch.true (c.in_ok-put_all-in-Unit.ensures.told [] None (sym c.as_slice.ensures)
+    not_all_is _ _ _ c.if-not-branch.true (c.in_ok-put_all-in-Unit.ensures.told None (sym c.as_slice.ensures) []
     (brought_is c.args.self.now _ _ c.rounds.desk c.bring.new.self c.in-Unit.note c.in-Unit.body c.rounds.invariant.going
     (subst (λ t. Takes (g.A.Adlb.link c.rounds.link).said
     (g.A.Adlb.link c.take.new.link).said t) c.in-Unit.is c.in_ok-note.ensures.takes) c.in-Ok.ensures))
 
 pub rounds-preserved-else-not-branch : goal.rounds-preserved-else-not-branch
 rounds-preserved-else-not-branch g c = record {
-  going = all_is _ _ _ c.if-not-branch.false (c.in_ok-put_all-in-Unit.ensures.told [] None (sym c.as_slice.ensures)
+  going = all_is _ _ _ c.if-not-branch.false (c.in_ok-put_all-in-Unit.ensures.told None (sym c.as_slice.ensures) []
       (brought_is c.args.self.now _ _ c.rounds.desk c.bring.new.self c.in-Unit.note c.in-Unit.body c.rounds.invariant.going
       (subst (λ t. Takes (g.A.Adlb.link c.rounds.link).said
       (g.A.Adlb.link c.take.new.link).said t) c.in-Unit.is c.in_ok-note.ensures.takes) c.in-Ok.ensures));
-  whole = c.in_ok-put_all-in-Unit.ensures.whole;
-  seat = c.in_ok-put_all-in-Unit.ensures.seat ∙ c.in_ok-note.ensures.seat ∙ c.rounds.invariant.seat;
-  batch = c.in_ok-put_all-in-Unit.ensures.batch ∙ c.in_ok-note.ensures.batch ∙ c.rounds.invariant.batch;
+  whole = c.in_ok-put_all-in-Unit.ensures.kept.whole;
+  seat = c.in_ok-put_all-in-Unit.ensures.kept.seat ∙ c.in_ok-note.ensures.kept.seat ∙ c.rounds.invariant.seat;
+  batch = c.in_ok-put_all-in-Unit.ensures.kept.batch ∙ c.in_ok-note.ensures.kept.batch ∙ c.rounds.invariant.batch;
 }
 
 pub rounds-preserved : goal.rounds-preserved
 rounds-preserved g c = record {
-  going = all_is _ _ _ c.if-not-branch.false (c.in_ok-put_all-in-Unit.ensures.told [] None (sym c.as_slice.ensures)
+  going = all_is _ _ _ c.if-not-branch.false (c.in_ok-put_all-in-Unit.ensures.told None (sym c.as_slice.ensures) []
       (brought_is c.args.self.now _ _ c.rounds.desk c.bring.new.self c.in-Unit.note c.in-Unit.body c.rounds.invariant.going
       (subst (λ t. Takes (g.A.Adlb.link c.rounds.link).said
       (g.A.Adlb.link c.take.new.link).said t) c.in-Unit.is c.in_ok-note.ensures.takes) c.in-Ok.ensures));
-  whole = c.in_ok-put_all-in-Unit.ensures.whole;
-  seat = c.in_ok-put_all-in-Unit.ensures.seat ∙ c.in_ok-note.ensures.seat ∙ c.rounds.invariant.seat;
-  batch = c.in_ok-put_all-in-Unit.ensures.batch ∙ c.in_ok-note.ensures.batch ∙ c.rounds.invariant.batch;
+  whole = c.in_ok-put_all-in-Unit.ensures.kept.whole;
+  seat = c.in_ok-put_all-in-Unit.ensures.kept.seat ∙ c.in_ok-note.ensures.kept.seat ∙ c.rounds.invariant.seat;
+  batch = c.in_ok-put_all-in-Unit.ensures.kept.batch ∙ c.in_ok-note.ensures.kept.batch ∙ c.rounds.invariant.batch;
 }
 
 pub returns-in-Ended-clause-stopped : goal.returns-in-Ended-clause-stopped
@@ -72,7 +72,7 @@ returns-in-Ended-clause-stopped g c =
 
 pub returns-in-Ended-clause-so_far : goal.returns-in-Ended-clause-so_far
 returns-in-Ended-clause-so_far g c =
-    whole_way c.args.self.now _ _ _ c.in_ok-note.ensures.fine (stopped_so c.args.self.now _ c.rounds.desk None
+    whole_way c.args.self.now _ _ _ c.in_ok-note.ensures.kept.whole (stopped_so c.args.self.now _ c.rounds.desk None
     (told_is c.args.self.now _ _ c.rounds.desk c.in-Ended.field-0 c.rounds.invariant.going
     (subst (λ t. Takes (g.A.Adlb.link c.rounds.link).said
     (g.A.Adlb.link c.take.new.link).said t) c.in-Ended.is c.in_ok-note.ensures.takes)))

@@ -1,19 +1,17 @@
-use Rattle.std.proofs.Common.{◌∙◌, subst, sym}
-use Rattle.adlb_unit.specs.declared.names.Rank.{Rank}
-use Rattle.rank_client.specs.Link.{Can}
-use Rattle.thread_client.specs.Run.{link_of}
-use Rattle.thread_client.proofs.Called.{at_seat}
+use Rattle.std.proofs.Common.{◌∙◌, ap}
+use Rattle.rank_client.specs.Calls.{has_finished}
+use Rattle.thread_client.specs.Run.{RankLink}
+use Rattle.thread_client.proofs.Called.{come_kind, come_made, link_can}
 use Rattle.thread_client.proofs.links.ThreadedLinkCarrier.exchange.Goals as goal
 
--- the link is asked by the name that its client has for its rank
 pub call-came-requires-clause-can : goal.call-came-requires-clause-can
-call-came-requires-clause-can g c =
-    let l = c.args.self.now in
-    subst (λ (r : Rank). Can (link_of l.run.config r l.run.core) c.args.call) (sym l.me_is) c.requires.can
+call-came-requires-clause-can g c = link_can _ _ c.self.view_is c.args.call c.requires.can c.requires.granted
 
 pub returns-clause-made : goal.returns-clause-made
 returns-clause-made g c =
-    let l = c.args.self.now in
     let e = c.call-came.ensures in
-    let now = c.call-came.new.self in
-    at_seat l.run.config now.config l.run.core now.core l.me c.args.call _ l.me_is (e.me ∙ l.me_is) e.made
+    come_made _ _ c.self.view_is _ c.call-came.new.self.core c.args.call c.call-came.result e.config (ap (λ (l : RankLink). has_finished l.core.transcript) c.self.view_is ∙ c.requires.can.running)
+    e.came
+
+pub returns-clause-kind : goal.returns-clause-kind
+returns-clause-kind g c = come_kind c.self.inside.wire.core c.call-came.new.self.core c.args.call c.call-came.result c.call-came.ensures.came

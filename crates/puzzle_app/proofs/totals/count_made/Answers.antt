@@ -1,6 +1,6 @@
 use Rattle.std.proofs.Common.{arith}
 use Rattle.puzzle_app.proofs.Inputs.{items_next, puzzles_end, puzzles_next}
-use Rattle.puzzle_app.proofs.program.count_made.Goals as goal
+use Rattle.puzzle_app.proofs.totals.count_made.Goals as goal
 
 pub loop-job-preserved : goal.loop-job-preserved
 loop-job-preserved c = record {

@@ -1,6 +1,6 @@
 use Rattle.std.proofs.Common.{◌≡◌, ◌+◌, ◌*◌, ◌≤◌, ◌^◌, length, drop}
 use Rattle.job_report.specs.Jobs.{all_items, puzzles}
-use Rattle.puzzle_app.proofs.program.count_made.Given as goal
+use Rattle.puzzle_app.proofs.totals.count_made.Given as goal
 
 abbrev pub invariant-loop-job : goal.invariant-loop-job
 invariant-loop-job l = record {

@@ -1,7 +1,8 @@
 -- What the words say of a run over puzzles and batches.
-use Rattle.std.specs.Prelude.{◌≡◌, if◌then◌else◌}
+use Rattle.std.specs.Prelude.{◌≡◌, Bool, if◌then◌else◌}
 use Rattle.adlb_unit.specs.declared.configs.Config.{Config}
 use Rattle.command_words.specs.declared.commands.RunOptions.{RunOptions}
+use Rattle.command_words.specs.declared.commands.Sizes.{Sizes}
 use Rattle.command_words.specs.declared.commands.SolveWords.{SolveWords}
 use Rattle.puzzle_app.specs.declared.outcomes.Settings.{Settings}
 use Rattle.solve_command.specs.declared.extras.Extras.{Extras}
@@ -13,8 +14,8 @@ settings_of options = record { budget = options.budget; grain = options.grain }
 abbrev pub extras_of : SolveWords → Extras
 extras_of words = record { stats = words.stats; ledger = words.ledger }
 
--- the numbers of the run: ranks, servers and their limit as the options say, but one rank and one server in line
-pub record IsConfigOf (options : RunOptions) (config : Config) : Type 0 where
-  pub ranks : config.ranks ≡ (if options.inline then 1 else options.ranks)
-  pub servers : config.servers ≡ (if options.inline then 1 else options.servers)
-  pub limit : config.limit ≡ options.limit
+-- the numbers of a run: ranks, servers and their limit as the sizes say, but one rank and one server in line
+pub record IsConfigOf (sizes : Sizes) (inline : Bool) (config : Config) : Type 0 where
+  pub ranks : config.ranks ≡ (if inline then 1 else sizes.ranks)
+  pub servers : config.servers ≡ (if inline then 1 else sizes.servers)
+  pub limit : config.limit ≡ sizes.limit

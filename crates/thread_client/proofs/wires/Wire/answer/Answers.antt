@@ -1,0 +1,18 @@
+use Rattle.std.proofs.Common.{◌∙◌, sym}
+use Rattle.thread_client.proofs.Finishing.{come_before, come_now}
+use Rattle.thread_client.proofs.Walks.{not_cut}
+use Rattle.thread_client.proofs.wires.Wire.answer.Goals as goal
+
+pub returns-in-Some-clause-came : goal.returns-in-Some-clause-came
+returns-in-Some-clause-came g c = come_before c.args.self.now.core _ _ (sym c.failed.ensures ∙ c.in-Some.is) c.requires.rests
+
+pub exchange-requires-clause-can : goal.exchange-requires-clause-can
+exchange-requires-clause-can g c = c.requires.can (sym c.failed.ensures ∙ c.in-None.is)
+
+pub exchange-requires-clause-expected : goal.exchange-requires-clause-expected
+exchange-requires-clause-expected g c =
+    let w = c.args.self.now in not_cut w.desk w.core _ c.requires.cut (sym c.failed.ensures ∙ c.in-None.is)
+
+pub returns-in-None-clause-came : goal.returns-in-None-clause-came
+returns-in-None-clause-came g c =
+    let e = c.exchange.ensures in come_now c.args.self.now.core c.exchange.new.self.core c.args.call c.exchange.result (sym c.failed.ensures ∙ c.in-None.is) e.answered e.failed e.rests
