@@ -74,7 +74,11 @@ fn total(outcomes: &[u128]) -> u128
 }
 
 // A worker for each rank.
-fn workers<W: Work + Copy + Drop>(alloc: Global, ranks: u32, work: W) -> Result<Vec<Worker<W>>, NoMemory>
+fn workers<W: Work + Copy + Drop>(
+    alloc: Global,
+    ranks: u32,
+    work: W,
+) -> Result<Vec<Worker<W>>, NoMemory>
     ensures len { IfOk result (λ programs. vec_len programs ≡ ranks) }
     ensures each { IfOk result (λ programs. All (λ p. p.work ≡ work) programs.items) }
 {

@@ -21,7 +21,7 @@ use Rattle.core_run.specs.declared.events.Event.{Event}
 use Rattle.core_run.specs.declared.events.Event.TheVariants as occurs
 use Rattle.core_run.specs.Runs.{Runs}
 use Rattle.core_run.specs.World.{World, actors, after_rank, after_server, client_of, handle, happens, has_ended, link, pool_of, rank_named, server_named, start, taken}
-use Rattle.core_law.specs.Measures.{link_weight, row_weight, weigh_at}
+use Rattle.core_law.specs.Measures.{link_weight, links_weight, row_weight, weigh_at}
 use Rattle.core_law.specs.Well.{IsWell}
 use Rattle.core_law.proofs.EveryRun.{answer_heard, begins_well, call_began, inside_ranks, well_kept}
 use Rattle.core_law.proofs.Some.{OnSome, if_some, on_some}
@@ -159,13 +159,19 @@ start_credit config =
     let top = config.servers_within.1 in
     omega arith
 
--- a run has few events for the calls that it begins
-pub few_events : (config : Config) (events : List Event) (w : World) → Runs (start config) events w
-    → length events ≤ 1592 + begun events * 5109
-few_events config events w run =
+-- what is left of the credit of the calls is under way, or is an actor's
+pub credit_left : (config : Config) (events : List Event) (w : World) → Runs (start config) events w
+    → links_weight w.config letters_credit w.links + length events ≤ 1592 + begun events * 5109
+unfolding credit
+credit_left config events w run =
     let all = run_credit (start config) w events (begins_well config) (begins_single config) run in
     let first = start_credit config in
     omega arith
+
+-- so a run has few events for the calls that it begins
+pub few_events : (config : Config) (events : List Event) (w : World) → Runs (start config) events w
+    → length events ≤ 1592 + begun events * 5109
+few_events config events w run = let left = credit_left config events w run in omega arith
 
 -- Calls that were begun.
 

@@ -26,7 +26,7 @@ use Rattle.core_run.specs.declared.events.Event.TheVariants as occurs
 use Rattle.core_run.specs.World.{World, after_rank, client_of, happens, pool_of}
 use Rattle.core_world.specs.Applied.{event_answer, event_stamp}
 use Rattle.core_world.specs.Seen.{Seen}
-use Rattle.core_world.proofs.Troubles.{serve_stays}
+use Rattle.core_bound_law.proofs.Clocks.{serve_stays}
 use Rattle.core_inline.specs.Inline.{zeroth}
 use Rattle.core_inline.specs.inside.Pairs.{IsAnswered, IsFinished, IsIdle, IsLone, IsReady, IsTrue, first_server, rank_in, server_in}
 use Rattle.core_inline.specs.inside.Pairs.{with_call, is_ended}

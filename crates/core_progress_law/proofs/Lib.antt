@@ -18,5 +18,6 @@ pub mod HintLines
 pub mod HintRoom
 pub mod HintsFew
 pub mod HintsOnce
+pub mod Piles
 pub mod Room
 pub mod Totals

@@ -1,9 +1,10 @@
 //! How many letters are under way to one actor.
 
-ghost use Rattle.std.specs.Prelude.{◌≡◌, ◌≢◌, ◌<◌, ◌≤◌, ◌+◌, List};
+ghost use Rattle.std.specs.Prelude.{◌≡◌, ◌≢◌, ◌<◌, ◌≤◌, ◌+◌, ◌*◌, ℕ, List};
 ghost use Rattle.adlb_unit.specs.declared.configs.Config.{Config};
 ghost use Rattle.adlb_unit.specs.declared.names.Rank.{Rank};
 ghost use Rattle.adlb_unit.specs.declared.names.Server.{Server};
+ghost use Rattle.core_bound_law.specs.Bounds.{begun};
 ghost use Rattle.core_progress_law.specs.Room.{hints_to, most_hints, most_letters, notices_to, to_rank, to_server};
 ghost use Rattle.core_run.specs.declared.events.Event.{Event};
 ghost use Rattle.core_run.specs.Runs.{Runs};
@@ -12,7 +13,7 @@ ghost use Rattle.core_run.specs.World.{World, start};
 /// In every run, of every number of ranks and servers and whatever the order of calls and letters: at most one letter is under
 /// way to a rank (`rank`). To a server, besides notices, at most one is of each rank, one of each push, one of a check that goes
 /// round and two of the ends that server 0 found, and of hints two from each other server of each rank with its home there
-/// (`server`, `hints`). Notices go to server 0 alone (`notices`).
+/// (`server`, `hints`). Notices go to server 0 alone (`notices`), and of them there are few for the calls that were begun (`pile`).
 pub fn room_laws()
     ensures rank { (config : Config) (events : List Event) (w : World) (rank : Rank) → rank.0 < config.ranks →
         Runs (start config) events w → to_rank w rank ≤ 1 }
@@ -20,6 +21,8 @@ pub fn room_laws()
         Runs (start config) events w → to_server w server ≤ most_letters config server + notices_to w server }
     ensures hints { (config : Config) (events : List Event) (w : World) (server : Server) → server.0 < config.servers →
         Runs (start config) events w → hints_to w server ≤ most_hints config server }
+    ensures pile { (config : Config) (n : ℕ) (events : List Event) (w : World) (server : Server) → Runs (start config) events w →
+        begun events ≤ n → notices_to w server ≤ 256 * (n + 1) }
     ensures notices { (config : Config) (events : List Event) (w : World) (server : Server) → server.0 < config.servers →
         server.0 ≢ 0 → Runs (start config) events w → notices_to w server ≡ 0 }
 {}

@@ -1,10 +1,11 @@
 pub mod Ended
+pub mod Many
 pub mod Posting
 pub mod Reached
 pub mod Refused
+pub mod Rested
 pub mod Running
 pub mod Stamps
 pub mod Starting
 pub mod Stopping
-pub mod Troubles
 pub mod Wholes

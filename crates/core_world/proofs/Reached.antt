@@ -29,7 +29,7 @@ use Rattle.core_world.specs.Applied.{IsEnabled, event_stamp, front_stamp}
 use Rattle.core_world.specs.Stage.{IsReached}
 use Rattle.core_world.proofs.Running.{runs_more}
 use Rattle.core_world.proofs.Stopping.{happens_config, some_same}
-use Rattle.core_world.proofs.Troubles.{begin_leaves, hear_leaves, serve_stays}
+use Rattle.core_bound_law.proofs.Clocks.{begin_leaves, hear_leaves, serve_stays}
 
 -- The last stamp of each actor is one that is given.
 

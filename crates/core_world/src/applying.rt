@@ -1,8 +1,9 @@
 //! Events, applied one by one.
 
-ghost use Rattle.std.specs.Prelude.{◌≡◌, ◌<◌, ◌≤◌, ◌↔◌, ℕ, None, Some, Err, IfErr, IfOk, OnOk, length};
+ghost use Rattle.std.specs.Prelude.{◌≡◌, ◌<◌, ◌≤◌, ◌^◌, ◌↔◌, ℕ, None, Some, Err, IfErr, IfOk, OnOk, length};
 ghost use Rattle.adlb_unit.specs.Limits.{stamp_limit};
 ghost use Rattle.adlb_unit.specs.declared.notes.Trouble.{Trouble};
+ghost use Rattle.core_bound_law.specs.Bounds.{calls_begun};
 ghost use Rattle.core_run.specs.declared.events.Event.{Event};
 ghost use Rattle.core_run.specs.Runs.{run};
 ghost use Rattle.core_run.specs.World.{happens};
@@ -20,8 +21,9 @@ impl World {
     /// is no such event now, it answers `NotEnabled` with the event, and nothing has changed; this is tested first. It is so
     /// exactly if the rank or an actor is not in the run, the rank is not ready, no letter is under way, or the receiver has
     /// ended (`HasNone`): every other front letter is expected, since a run leads to the world. It answers
-    /// `TooLong` exactly when the event is enabled and its stamp would reach `2^48`; the only other error is `Memory`.
-    /// After one of these two the world has failed, and answers the same to every event; what stands then is said by `Stops`.
+    /// `TooLong` exactly when the event is enabled and its stamp would reach `2^48`, which is so only after `2^34` calls; the only
+    /// other error is `Memory`. After one of these two the world has failed, and answers the same to every event; what stands
+    /// then is said by `Stops`.
     pub fn apply(&mut self, event: Event) -> Result<Option<Answer>, ApplyFault>
         ensures told { IfOk result (λ answer. answer ≡ event_answer self.old.world event) }
         ensures applied { OnOk result (Applies self.old event self.new) }
@@ -34,6 +36,8 @@ impl World {
             ((self.old.trouble ≡ None) × HasNone self.old.world event × (given ≡ event)) }
         ensures too_long { self.old.trouble ≡ None → (stamp : ℕ) → (result ≡ Err (ApplyFault.TooLong stamp)) ↔
             (IsEnabled self.old.world event × (stamp_limit ≤ stamp) × (stamp ≡ event_stamp self.old.world event)) }
+        ensures many { self.old.trouble ≡ None → (stamp : ℕ) → result ≡ Err (ApplyFault.TooLong stamp) →
+            2 ^ 34 ≤ calls_begun self.old.world }
         ensures failed { (trouble : Trouble) → self.old.trouble ≡ Some trouble → result ≡ Err (fault_of trouble) }
 
         ensures config { self.new.world.config ≡ self.old.world.config }

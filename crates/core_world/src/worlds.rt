@@ -1,8 +1,10 @@
 //! A run that is stepped by hand.
 
-ghost use Rattle.std.specs.Prelude.{◌≡◌, ◌<◌, ◌↔◌, All, IfOk, IsTrue, is_some, length};
+ghost use Rattle.std.specs.Prelude.{◌≡◌, ◌<◌, ◌^◌, ◌↔◌, All, IfOk, IsTrue, None, is_some, length};
+ghost use Rattle.core_bound_law.specs.Bounds.{calls_begun};
+ghost use Rattle.core_run.specs.declared.events.Event.{Event};
 ghost use Rattle.core_run.specs.Runs.{transcript};
-ghost use Rattle.core_run.specs.World.{client_of, pool_of};
+ghost use Rattle.core_run.specs.World.{client_of, happens, pool_of};
 ghost use Rattle.core_world.specs.Seen.{new_world, under_way};
 ghost use Rattle.server_core.specs.Left.{left_of};
 
@@ -84,11 +86,14 @@ impl World {
         self.stage.server_at(server).left()
     }
 
-    /// A server of the run has ended: it is shut, and has handled each rank's Finish letter. It handles no letter more.
+    /// A server of the run has ended: it is shut, and has handled each rank's Finish letter. It handles no letter more. In a world
+    /// that has not failed, and in which fewer than 2^34 calls were begun, each has where no event can happen any more (`rests`).
     pub fn has_ended(&self, server: Server) -> bool
         requires { server.0 < self.now.world.config.servers }
-        ensures { IsTrue result ↔ (IsTrue (pool_of self.now.world server).kept.shut ×
+        ensures says { IsTrue result ↔ (IsTrue (pool_of self.now.world server).kept.shut ×
             All IsTrue (pool_of self.now.world server).kept.finished) }
+        ensures rests { self.now.trouble ≡ None → calls_begun self.now.world < 2 ^ 34 →
+            ((event : Event) → happens self.now.world event ≡ None) → IsTrue result }
     {
         self.stage.server_at(server).ended()
     }

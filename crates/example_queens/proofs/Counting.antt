@@ -34,7 +34,7 @@ whole_row side board less =
 pub split : (side : ℕ) (board : List ℕ) → length board < side → placements side board ≡ so_far side board side
 split side board less =
     let entire : take side (range_with_len 0 side) ≡ range_with_len 0 side =
-        take_all side (range_with_len 0 side) (omega (arith, length-range_with_len 0 side)) in
+    take_all side (range_with_len 0 side) (omega (arith, length-range_with_len 0 side)) in
     whole_row side board less ∙ sym (ap (λ l. sum_by (by_column side board) l) entire)
 
 next : (side : ℕ) (board : List ℕ) (column : ℕ) → column < side →
@@ -64,7 +64,7 @@ pub next_unsafe : (side : ℕ) (board : List ℕ) (column : ℕ) → column < si
     so_far side board (column + 1) ≡ so_far side board column
 next_unsafe side board column less unsafe =
     let none : by_column side board column ≡ 0 =
-        ap (λ t. cond {A = ℕ} t (extensions (side - length board - 1) side (board ++ column ∷ [])) 0) unsafe in
+    ap (λ t. cond {A = ℕ} t (extensions (side - length board - 1) side (board ++ column ∷ [])) 0) unsafe in
     omega (arith, next side board column less, none)
 
 -- There are at most 16 ways to go on in each row, so the count of a board of side 15 fits a u64.

@@ -5,8 +5,7 @@ mod boards;
 mod queens;
 
 use queens::ways;
-use std::env;
-use std::io;
+use std::{env, io};
 
 fn main(rt: HostRuntime) -> io::Result<()> {
     let mut words = env::args(&rt)?;

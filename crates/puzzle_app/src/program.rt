@@ -5,9 +5,9 @@ ghost use Rattle.puzzle_app.specs.Follows.{Follows, IsUnderWay, tasks_of};
 ghost use Rattle.puzzle_app.specs.Working.{HasPut, IsGoing, IsOnWay, IsReady, IsStopped, Keeps, Passes};
 
 use crate::calls::{Taken, take};
-use crate::totals::count_made;
 use crate::desk::Desk;
 use crate::outcomes::Settings;
+use crate::totals::count_made;
 use adlb_unit::{Rank, Trouble};
 use job_report::Outcome;
 use job_text::Jobs;

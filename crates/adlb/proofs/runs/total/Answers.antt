@@ -6,8 +6,8 @@ use Rattle.adlb.proofs.runs.total.Goals as goal
 pub loop-counted-preserved : goal.loop-counted-preserved
 loop-counted-preserved c =
     let few : get_or c.args.outcomes.now c.loop-counted.counted-index 0 ≤ 2 ^ 112 =
-        c.requires.few c.loop-counted.counted-index _
-        (slice_get-get_or c.args.outcomes.now c.loop-counted.counted-index 0 (omega arith)) in
+    c.requires.few c.loop-counted.counted-index _
+    (slice_get-get_or c.args.outcomes.now c.loop-counted.counted-index 0 (omega arith)) in
     let sum = sum_by_more (λ (n : ℕ). n) c.args.outcomes.now c.loop-counted.counted-index 0 (omega arith) in
     record {
       sum = omega (arith, sum, c.loop-counted.invariant.sum);
