@@ -1,5 +1,5 @@
 -- What the desks kept is what is kept of their journals.
-use Rattle.std.proofs.Common.{◌≡◌, ◌≤◌, ◌+◌, ℕ, zero, suc, List, [], ◌∷◌, length, map, take, refl, ap, sym, ◌∙◌, arith}
+use Rattle.std.proofs.Common.{◌≡◌, ◌≤◌, ℕ, zero, suc, List, [], ◌∷◌, length, map, take, refl, ap, sym, ◌∙◌, arith}
 use Rattle.std.specs.List.{zip}
 use Rattle.adlb_unit.specs.declared.actors.Actor.{Actor}
 use Rattle.adlb_unit.specs.declared.configs.Config.{Config}

@@ -1,19 +1,8 @@
 -- The call that a ledger has begun beyond those of a transcript is the one that is told of it.
-use Rattle.std.proofs.Common.{◌≡◌, List, [], ◌∷◌, ◌++◌, drop, length, Option, refl, sym, ap, ◌∙◌, subst}
-use Rattle.std.specs.Prelude.{option_and_then}
-use Rattle.adlb_unit.specs.declared.configs.Config.{Config}
-use Rattle.bag_ledger.specs.declared.entries.Call.{Call}
-use Rattle.bag_ledger.specs.declared.entries.Entry.{Entry}
-use Rattle.bag_ledger.specs.declared.entries.Said.{Said}
-use Rattle.bag_ledger.specs.declared.states.RankState.{RankState}
-use Rattle.bag_ledger.specs.Bag.{Bag, start}
-use Rattle.bag_ledger.specs.Runs.{IsRun, call_of, calls}
-use Rattle.core_inline.specs.inside.Begun.{after_all, begun_in, first_open, pending_in}
-use Rattle.core_inline.specs.Inline.{IsOpen, IsTold, zeroth}
-
-drop_seam : {X : Type 0} (xs ys : List X) → drop (length xs) (xs ++ ys) ≡ ys
-drop_seam [] ys = refl
-drop_seam (x ∷ xs) ys = drop_seam xs ys
+use Rattle.core_inline.proofs.Prelude.{Bag, Call, Config, Entry, IsOpen, IsRun, IsTold, List, Option, RankState, Said, [], after_all, ap}
+use Rattle.core_inline.proofs.Prelude.{begun_in, call_of, calls, drop, first_open, length, option_and_then, pending_in, start, subst}
+use Rattle.core_inline.proofs.Prelude.{sym, zeroth, ◌++◌, ◌∙◌, ◌∷◌, ◌≡◌}
+use Rattle.std.proofs.Math.Seq.{drop-append_seam}
 
 pub after_all_is : (b last : Bag) (ledger : List Entry) → IsRun b ledger last → after_all b ledger ≡ last
 after_all_is b last [] run = run
@@ -35,7 +24,7 @@ begun_is config ledger said begun t =
     let last : pending_in (after_all (start config) ledger) ≡ call_of t.rank.status =
     ap pending_in (after_all_is (start config) t.last ledger t.legal)
     ∙ ap (option_and_then (λ (r : RankState). call_of r.status)) t.there in
-    let more : drop (length said) (calls config ledger zeroth) ≡ t.more = ap (drop (length said)) t.calls_are ∙ drop_seam said t.more in
+    let more : drop (length said) (calls config ledger zeroth) ≡ t.more = ap (drop (length said)) t.calls_are ∙ drop-append_seam said t.more in
     ap (λ l. first_open (pending_in (after_all (start config) ledger)) l) more ∙ ap (λ o. first_open o t.more) last
     ∙ first_is (call_of t.rank.status) t.more begun t.open_call
 

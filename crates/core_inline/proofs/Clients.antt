@@ -1,32 +1,17 @@
 -- What a call makes of the client of a rank, with one server.
-use Rattle.std.proofs.Common.{◌≡◌, ◌⊎◌, inl, inr, ℕ, ◌+◌, ◌&&◌, ◌||◌, not, Bool, true, false, List, Option, None, Some, refl, sym, ap, ◌∙◌, subst}
-use Rattle.std.proofs.Common.{arith, nat_lt}
-use Rattle.std.specs.Prelude.{IsSome}
-use Rattle.std.proofs.lemmas.Bool.{false_from_ne_true, ltb-true}
-use Rattle.adlb_unit.specs.declared.letters.Letter.{Letter}
-use Rattle.adlb_unit.specs.declared.messages.Message.{Message}
+use Rattle.core_inline.proofs.Prelude.{Answer, Bool, Call, CanCall, ClientModel, ClientResponse, CommonRef, IsAnswerTo, IsSome, Letter}
+use Rattle.core_inline.proofs.Prelude.{List, Made, Message, None, Option, Pending, Remembers, Said, Server, Some, answer_call, ap, arith}
+use Rattle.core_inline.proofs.Prelude.{begin, call_stamp, false, false_from_ne_true, finished_more, first_server, has_finished, hear, inl}
+use Rattle.core_inline.proofs.Prelude.{inr, is_finish, letter_stamp, looked, ltb-true, made, nat_lt, not, own_came, part_refused}
+use Rattle.core_inline.proofs.Prelude.{pending_call, refl, refused, stamp_limit, steps_tell, subst, sym, told_done, true, with_call, ℕ}
+use Rattle.core_inline.proofs.Prelude.{◌&&◌, ◌+◌, ◌||◌, ◌∙◌, ◌≡◌, ◌⊎◌}
 use Rattle.adlb_unit.specs.declared.messages.Message.TheVariants as tells
-use Rattle.adlb_unit.specs.declared.names.CommonRef.{CommonRef}
-use Rattle.adlb_unit.specs.declared.names.Server.{Server}
 use Rattle.adlb_unit.specs.declared.notes.UnitNote.{UnitNote}
-use Rattle.adlb_unit.specs.Limits.{stamp_limit}
-use Rattle.bag_ledger.specs.declared.entries.Answer.{Answer}
-use Rattle.bag_ledger.specs.declared.entries.Call.{Call}
-use Rattle.bag_ledger.specs.declared.entries.Said.{Said}
-use Rattle.rank_client.specs.declared.pendings.Pending.{Pending}
 use Rattle.rank_client.specs.declared.pendings.Pending.TheVariants as waits_for
-use Rattle.rank_client.specs.Answers.{CanCall, IsAnswerTo}
-use Rattle.rank_client.specs.Calls.{has_finished, is_finish}
-use Rattle.rank_client.specs.Remembered.{Remembers, pending_call}
-use Rattle.rank_client.specs.Rules.{ClientResponse, answer_call, looked, own_came, part_refused, refused, told_done}
 use Rattle.rank_client.specs.Says.{Tells}
-use Rattle.rank_client.specs.State.{ClientModel}
-use Rattle.rank_client.specs.Step.{Made, begin, call_stamp, hear, letter_stamp, made, ticked}
+use Rattle.rank_client.specs.Step.{ticked}
 use Rattle.rank_client.proofs.Granted.{if_is}
-use Rattle.rank_client.proofs.StepsTell.{steps_tell}
-use Rattle.rank_client.proofs.Transcripts.{finished_more}
 use Rattle.core_world.proofs.Reached.{mapped_if}
-use Rattle.core_inline.specs.inside.Pairs.{first_server, with_call}
 
 -- the common bytes of a unit are awaited
 abbrev pub is_common : Pending → Bool

@@ -1,45 +1,23 @@
 -- The events of a call, in a world of one rank and one server.
-use Rattle.std.proofs.Common.{◌≡◌, ◌⊎◌, inl, inr, ℕ, ◌+◌, ◌*◌, ◌<◌, ◌≤◌, Bool, true, false, not, List, [], ◌∷◌, length, Option, None, Some, refl, sym}
-use Rattle.std.proofs.Common.{ap, ◌∙◌, subst, arith}
-use Rattle.std.specs.Prelude.{is_some, option_and_then}
-use Rattle.std.proofs.lemmas.List.{length_push}
-use Rattle.adlb_unit.specs.Limits.{stamp_limit}
-use Rattle.adlb_unit.specs.declared.configs.Config.{Config}
-use Rattle.adlb_unit.specs.declared.letters.Letter.{Letter}
-use Rattle.bag_ledger.specs.declared.entries.Answer.{Answer}
+use Rattle.core_inline.proofs.Prelude.{Answer, Bool, Call, CanCall, ClientModel, Config, IsAnswerTo, IsAnswered, IsIdle, IsLone, IsReady}
+use Rattle.core_inline.proofs.Prelude.{IsTrue, Letter, List, Made, None, Option, Pending, Said, Seen, ServerModel, Some, World, []}
+use Rattle.core_inline.proofs.Prelude.{after_rank, answers_call, ap, arith, call_stamp, client_of, event_answer, event_stamp, false}
+use Rattle.core_inline.proofs.Prelude.{first_server, happens, inl, inr, is_ended, is_finish, is_finished, is_idle, is_open, is_some, length}
+use Rattle.core_inline.proofs.Prelude.{length_push, letter_stamp, not, one, option_and_then, pending_call, pool_of, rank_in, refl}
+use Rattle.core_inline.proofs.Prelude.{server_in, some_is, stamp_limit, subst, suc, sym, true, with_call, zero, zeroth, ℕ, ◌&&◌, ◌*◌, ◌+◌}
+use Rattle.core_inline.proofs.Prelude.{◌<◌, ◌==◌, ◌∙◌, ◌∷◌, ◌≡◌, ◌≤◌, ◌⊎◌}
 use Rattle.bag_ledger.specs.declared.entries.Answer.TheVariants as answers
-use Rattle.bag_ledger.specs.declared.entries.Call.{Call}
 use Rattle.bag_ledger.specs.declared.entries.Call.TheVariants as calls_to
-use Rattle.bag_ledger.specs.declared.entries.Said.{Said}
-use Rattle.bag_ledger.proofs.Tests.{some_is}
 use Rattle.rank_client.specs.declared.pendings.Pending.TheVariants as waits_for
-use Rattle.rank_client.specs.Answers.{CanCall, answers_call}
-use Rattle.rank_client.specs.Calls.{is_finish, is_open}
-use Rattle.rank_client.specs.Remembered.{pending_call}
-use Rattle.rank_client.specs.Rules.{is_idle}
-use Rattle.rank_client.specs.State.{ClientModel}
-use Rattle.rank_client.specs.Step.{Made, call_stamp, letter_stamp}
-use Rattle.rank_client.specs.declared.pendings.Pending.{Pending}
-use Rattle.server_law.specs.State.{ServerModel, is_finished}
-use Rattle.core_law.specs.Letters.{one}
 use Rattle.core_run.specs.declared.events.Event.TheVariants as occurs
-use Rattle.core_run.specs.World.{World, after_rank, client_of, happens, pool_of}
-use Rattle.core_world.specs.Applied.{event_answer, event_stamp}
-use Rattle.core_world.specs.Seen.{Seen}
 use Rattle.core_bound_law.proofs.Clocks.{serve_stays}
-use Rattle.core_inline.specs.Inline.{zeroth}
-use Rattle.core_inline.specs.inside.Pairs.{IsAnswered, IsFinished, IsIdle, IsLone, IsReady, IsTrue, first_server, rank_in, server_in}
-use Rattle.core_inline.specs.inside.Pairs.{with_call, is_ended}
 use Rattle.core_inline.proofs.Clients.{GoesBy, IsBegun, IsEnded, IsPending, call_begins, call_ends, call_goes, is_common}
 use Rattle.core_inline.proofs.Failing.{IsStage}
-use Rattle.core_inline.proofs.Hosts.{IsAlone, finish_ends, goes_on, nobody_waits, own_alone}
-use Rattle.core_inline.proofs.Reached.{IsCalled, IsHeard, IsServed, asked, facts, lone_next, one_false, one_of, rank_own, server_own}
+use Rattle.core_inline.proofs.Reached.{IsCalled, IsHeard, IsServed, asked, ended_parts, facts, goes_on, lone_next, none_of, one_false, one_of}
+use Rattle.core_inline.proofs.Reached.{rank_own, settles, under_way}
+use Rattle.rank_client.specs.Rules.{is_free}
 use Rattle.core_inline.proofs.Reached.{by_rank, to_rank, to_server, told}
 use Rattle.core_inline.proofs.Told.{Behind, Before, IsAt, Within, true_idle}
-
-none_of : {X : Type 0} (xs : List X) → length xs ≡ 0 → xs ≡ []
-none_of [] none = refl
-none_of (x ∷ xs) none = absurd (omega (arith, none))
 
 busy : (said : List Said) (call : Call) (c : ClientModel) → IsPending said call c → one (not (is_idle c.pending)) ≡ 1
 busy said call c p = by_pending c.pending p.pending
@@ -70,6 +48,14 @@ owed : (said : List Said) (call : Call) (c : ClientModel) → GoesOn said call c
 owed said call c (inl p) = omega (arith, busy said call c p, ap one p.going)
 owed said call c (inr o) = omega (arith, ap one o.finished, ap (λ p. one (not (is_idle p))) o.idle)
 
+unfree : (said : List Said) (call : Call) (c : ClientModel) → GoesOn said call c → is_free c ≡ false
+unfree said call c (inl p) = ap (λ t. t && not c.finished) (one_no (is_idle c.pending) (busy said call c p))
+  where
+    one_no : (t : Bool) → one (not t) ≡ 1 → t ≡ false
+    one_no true is = absurd (omega (arith, is))
+    one_no false is = refl
+unfree said call c (inr o) = rw (o.idle, o.finished) refl
+
 at_of : (said : List Said) (call : Call) (c : ClientModel) → GoesOn said call c → IsAt said call c
 at_of said call c (inl p) = Within p
 at_of said call c (inr o) = Behind o.answer o.idle o.grown
@@ -86,13 +72,11 @@ pending_other (waits_for.Close request batch) call is = ap is_finish (sym (some_
 pending_other (waits_for.Count request kind) call is = ap is_finish (sym (some_is is))
 pending_other (waits_for.SetDone request tried) call is = ap is_finish (sym (some_is is))
 
-finish_is : (call : Call) → is_finish call ≡ true → call ≡ calls_to.Finish
-finish_is calls_to.Finish is = refl
-finish_is _ is = absurd (cc)
-
-fine_is : (a : Answer) → answers_call calls_to.Finish a ≡ true → a ≡ answers.Fine
-fine_is answers.Fine is = refl
-fine_is _ is = absurd (cc)
+-- Finish is answered by Fine alone
+fine_is : (call : Call) (a : Answer) → is_finish call ≡ true → answers_call call a ≡ true → a ≡ answers.Fine
+fine_is calls_to.Finish answers.Fine last is = refl
+fine_is calls_to.Finish _ last is = absurd (cc)
+fine_is _ a last is = absurd (cc)
 
 -- how many events of the call came before its letter went off: that by which it began, and, if the common bytes of a unit are asked
 -- for, the two by which its own have come
@@ -105,7 +89,6 @@ past false = 2
 pub record IsAsked (first : Bool) (said : List Said) (call : Call) (w : World) : Type 0 where
   pub lone : IsLone w
   pub goes : GoesOn said call (client_of w zeroth)
-  pub nobody : (pool_of w first_server).kept.parked.waiting ≡ []
   pub single : length (asked w) ≡ 1
   pub early : (client_of w zeroth).clock < stamp_limit
   pub counted : length said < (client_of w zeroth).clock
@@ -117,7 +100,6 @@ pub record IsAsked (first : Bool) (said : List Said) (call : Call) (w : World) :
 pub record IsBack (first : Bool) (said : List Said) (call : Call) (w : World) : Type 0 where
   pub lone : IsLone w
   pub waits : IsPending said call (client_of w zeroth)
-  pub nobody : (pool_of w first_server).kept.parked.waiting ≡ []
   pub single : length (told w) ≡ 1
   pub early : (pool_of w first_server).clock < stamp_limit
   pub counted : length said < (client_of w zeroth).clock
@@ -129,28 +111,39 @@ past_few : (first : Bool) → past first ≤ 2
 past_few true = omega arith
 past_few false = omega arith
 
+-- a server that has handled no Finish has not ended
+not_ended : (s : ServerModel) → is_finished s.kept zeroth ≡ false → is_ended s ≡ false
+not_ended s unhandled = by_test s.kept.shut
+  where
+    by_test : (t : Bool) → (t && is_finished s.kept zeroth) ≡ false
+    by_test true = unhandled
+    by_test false = refl
+
 -- the step by which the call is answered led to this world
 answered_now : (now : Seen) (said : List Said) (call : Call) (stamp : ℕ) (x : Made) → IsLone now.world → now.trouble ≡ None
-    → is_finish call ≡ false → rank_in now ≡ x.state → (server_in now).kept.parked.waiting ≡ [] → (over : IsEnded said stamp call x)
+    → is_finish call ≡ false → rank_in now ≡ x.state → (over : IsEnded said stamp call x)
     → length said < stamp → stamp ≤ 5 * length said + 5 → (server_in now).clock ≤ 5 * length said + 5 → stamp < stamp_limit
     → IsAnswered said call over.answer now
-answered_now now said call stamp x lone whole other rank nobody over counted few behind early =
+answered_now now said call stamp x lone whole other rank over counted few behind early =
     let long = ap length over.grown ∙ length_push said (record { call = call; answer = over.answer }) in
     let idle : IsIdle x.state (server_in now) = record {
       idle = over.idle;
       going = over.finished ∙ other;
       rank = over.rank;
-      nobody = nobody;
       few = omega (arith, long, over.clock, few);
       behind = omega (arith, long, behind);
     } in
     let short : length (rank_in now).transcript < stamp_limit =
     omega (arith, ap (λ (k : ClientModel). length k.transcript) rank, long, counted, early) in
+    let rests = subst (λ k. IsIdle k (server_in now)) (sym rank) idle in
     record {
-      ready = record { whole = whole; lone = lone; rests = subst (λ k. IsIdle k (server_in now)) (sym rank) idle };
-      true_now = true_after now lone (ap (λ (k : ClientModel). k.pending) rank ∙ over.idle) short;
+      whole = whole;
+      true_now = true_after now lone rests.idle short;
       grown = ap (λ (k : ClientModel). k.transcript) rank ∙ over.grown;
       fits = over.fits;
+      opened = rests.rank.opened;
+      ended = not_ended (server_in now) ((facts now.world lone).unhandled rests.going) ∙ sym other;
+      ready = λ next. record { whole = whole; lone = lone; rests = rests };
     }
 
 -- The rank begins a call.
@@ -193,9 +186,6 @@ module _ (w : Seen) (i : IsReady w) (call : Call) (can : CanCall 1 1 (rank_in w)
     server_now : server_in now ≡ server_in w
     server_now = ap (λ v. pool_of v first_server) is ∙ called.pool
 
-    nobody_now : (server_in now).kept.parked.waiting ≡ []
-    nobody_now = ap (λ (s : ServerModel). s.kept.parked.waiting) server_now ∙ i.rests.nobody
-
     lone_now : IsLone now.world
     lone_now = lone_next w.world now.world (occurs.Call zeroth call) i.lone happened
 
@@ -204,22 +194,19 @@ module _ (w : Seen) (i : IsReady w) (call : Call) (can : CanCall 1 1 (rank_in w)
         let clock = ap (λ (k : ClientModel). k.clock) rank_now ∙ b.clock in
         let f = facts w.world i.lone in
         let none : length (told w.world) ≡ 0 =
-        omega (arith, f.letters i.rests.nobody, ap one i.rests.going, ap (λ p. one (not (is_idle p))) i.rests.idle) in
+        omega (arith, f.letters, ap one i.rests.going, ap (λ p. one (not (is_idle p))) i.rests.idle) in
         let goes_now = subst (GoesOn said call) (sym rank_now) goes in
         record {
           lone = lone_now;
           goes = goes_now;
-          nobody = nobody_now;
           single =
               omega (
                 arith,
-                (facts now.world lone_now).letters nobody_now,
-                owed said call (rank_in now) goes_now,
+                under_way now.world lone_now (unfree said call (rank_in now) goes_now) (owed said call (rank_in now) goes_now)
+                    (ap (λ (s : ServerModel). is_finished s.kept zeroth) server_now ∙ f.unhandled i.rests.going),
                 none,
                 ap (λ v. length (told v)) is,
                 ap length called.told,
-                ap (λ (s : ServerModel). one (is_finished s.kept zeroth)) server_now,
-                ap one (f.unhandled i.rests.going),
               );
           early = omega (arith, clock, early);
           counted = omega (arith, clock, i.rests.rank.counted);
@@ -252,9 +239,15 @@ module _ (w : Seen) (i : IsReady w) (call : Call) (can : CanCall 1 1 (rank_in w)
       begun_over a other given = elim b.goes [
         | inl over ↦
             subst (λ k. IsAnswered said call k now) (some_is (sym over.answers_it ∙ sym answer_is ∙ given))
-            (answered_now now said call (call_stamp (rank_in w)) b.x lone_now whole other rank_now nobody_now over
+            (answered_now now said call (call_stamp (rank_in w)) b.x lone_now whole other rank_now over
             (omega (arith, i.rests.rank.counted)) (omega (arith, i.rests.few))
             (omega (arith, ap (λ (s : ServerModel). s.clock) server_now, i.rests.behind)) early)
+        | inr sent ↦ let none : None ≡ Some a = sym sent.1 ∙ sym answer_is ∙ given in absurd (cc)
+      ]
+
+      pub begun_fits : (a : Answer) → answer ≡ Some a → IsAnswerTo (rank_in w).transcript call a
+      begun_fits a given = elim b.goes [
+        | inl over ↦ subst (IsAnswerTo said call) (some_is (sym over.answers_it ∙ sym answer_is ∙ given)) over.fits
         | inr sent ↦ let none : None ≡ Some a = sym sent.1 ∙ sym answer_is ∙ given in absurd (cc)
       ]
 
@@ -263,6 +256,12 @@ module _ (w : Seen) (i : IsReady w) (call : Call) (can : CanCall 1 1 (rank_in w)
       begun_sent given = elim b.goes [
         | inl over ↦ let none : None ≡ Some over.answer = sym given ∙ answer_is ∙ over.answers_it in absurd (cc)
         | inr sent ↦ asked_now (inl sent.0)
+      ]
+
+      pub begun_other : answer ≡ None → is_finish call ≡ false
+      begun_other given = elim b.goes [
+        | inl over ↦ let none : None ≡ Some over.answer = sym given ∙ answer_is ∙ over.answers_it in absurd (cc)
+        | inr sent ↦ pending_other b.x.state.pending call sent.0.pending
       ]
 
 -- The server handles the letter.
@@ -275,13 +274,10 @@ module _ (first : Bool) (said : List Said) (call : Call) (w : World) (i : IsAske
   asked_stamp = (facts w i.lone).asked_before asked_letter.0 [] asked_letter.1
 
   -- the letter is the only one, so no Finish was handled yet
-  alone : IsAlone (pool_of w first_server)
-  alone = own_alone w.config (pool_of w first_server) (server_own w i.lone) i.lone.one_rank i.lone.one_server i.nobody
-      (one_false (is_finished (pool_of w first_server).kept zeroth)
-      (omega (arith, (facts w i.lone).letters i.nobody, owed said call (client_of w zeroth) i.goes, i.single)))
-
   serves : (next : World) × (happens w to_server ≡ Some next)
-  serves = (facts w i.lone).asked_goes asked_letter.0 [] asked_letter.1 (goes_on (pool_of w first_server) alone)
+  serves = (facts w i.lone).asked_goes asked_letter.0 [] asked_letter.1
+      (goes_on w i.lone (one_false (is_finished (pool_of w first_server).kept zeroth)
+      (omega (arith, (facts w i.lone).letters, owed said call (client_of w zeroth) i.goes, i.single))))
       (omega (arith, asked_stamp, i.early))
 
   it_served : (next : World) → happens w to_server ≡ Some next → IsServed w asked_letter.0 next
@@ -308,21 +304,16 @@ module _ (first : Bool) (said : List Said) (call : Call) (w : World) (i : IsAske
       let clock = ap (λ (v : ServerModel). v.clock) s.pool ∙ (serve_stays server by_rank asked_letter.0 s.x s.does).1 in
       let rank = ap (λ (k : ClientModel). k.clock) s.rank in
       let lone = lone_next w now to_server i.lone happened in
-      let nobody = ap (λ (v : ServerModel). v.kept.parked.waiting) s.pool
-      ∙ nobody_waits server asked_letter.0 s.x alone s.does in
       let waits = subst (IsPending said call) (sym s.rank) still in
       record {
         lone = lone;
         waits = waits;
-        nobody = nobody;
         single =
             omega (
               arith,
-              (facts now lone).letters nobody,
+              under_way now lone (unfree said call (client_of now zeroth) (inl waits)) (owed said call (client_of now zeroth) (inl waits))
+                  ((facts now lone).unhandled waits.going),
               ap length s.unasked,
-              busy said call (client_of now zeroth) waits,
-              ap one waits.going,
-              ap one ((facts now lone).unhandled waits.going),
             );
         early = omega (arith, clock, s.stamp, early);
         counted = omega (arith, rank, i.counted);
@@ -335,18 +326,23 @@ module _ (first : Bool) (said : List Said) (call : Call) (w : World) (i : IsAske
       still = elim i.goes [ inl p ↦ p | inr o ↦ let last = o.last in absurd (cc) ]
 
   -- after the rank's Finish
-  pub shut_finished : is_finish call ≡ true → (last : Seen) → happens w to_server ≡ Some last.world → last.trouble ≡ None
-      → IsFinished said last
-  shut_finished last_call last happened whole = elim i.goes [
+  pub shut_answered : is_finish call ≡ true → (last : Seen) → happens w to_server ≡ Some last.world → last.trouble ≡ None
+      → (answer : Answer) → IsAnswerTo said call answer → IsAnswered said call answer last
+  shut_answered last_call last happened whole answer fits = elim i.goes [
     | inl p ↦ let other = pending_other (client_of w zeroth).pending call p.pending in absurd (cc (last_call, other))
     | inr o ↦
         let s = it_served last.world happened in
-        let own = server_own w i.lone in
+        let lone = lone_next w last.world to_server i.lone happened in
+        let idle = ap (λ (k : ClientModel). k.pending) s.rank ∙ o.idle in
+        let finished = ap (λ (k : ClientModel). k.finished) s.rank ∙ o.finished in
+        let handled = (facts last.world lone).handled finished s.unasked in
+        let untold = none_of (told last.world)
+        (omega (arith, (facts last.world lone).letters, ap one handled, ap one finished, ap (λ p. one (not (is_idle p))) idle)) in
+        let free : is_free (rank_in last) ≡ false = rw (idle, finished) refl in
+        let ended = (settles last.world lone free s.unasked untold).servers first_server (omega (arith, lone.one_server)) in
+        let shut = ended_parts last.world lone ended in
+        let done : is_ended (server_in last) ≡ true = rw shut.0 shut.1 in
         let transcript = ap (λ (k : ClientModel). k.transcript) s.rank in
-        let call_is : call ≡ calls_to.Finish = finish_is call o.last in
-        let grown : with_call said call o.answer ≡ with_call said calls_to.Finish answers.Fine =
-        ap (λ k. with_call said k o.answer) call_is
-        ∙ ap (with_call said calls_to.Finish) (fine_is o.answer (ap (λ k. answers_call k o.answer) (sym call_is) ∙ o.kind)) in
         let short : length (rank_in last).transcript < stamp_limit =
         omega (
           arith,
@@ -358,12 +354,13 @@ module _ (first : Bool) (said : List Said) (call : Call) (w : World) (i : IsAske
         ) in
         record {
           whole = whole;
-          true_now = true_after last (lone_next w last.world to_server i.lone happened)
-              (ap (λ (k : ClientModel). k.pending) s.rank ∙ o.idle) short;
-          grown = transcript ∙ o.grown ∙ grown;
-          heard = ap is_ended s.pool ∙ finish_ends (pool_of w first_server) asked_letter.0 s.x alone (own.finished ∙ i.lone.one_rank)
-              ((facts w i.lone).farewell asked_letter.0 [] o.idle asked_letter.1) s.does;
+          true_now = true_after last lone idle short;
+          grown = transcript ∙ o.grown
+              ∙ ap (with_call said call) (fine_is call o.answer last_call o.kind ∙ sym (fine_is call answer last_call fits.kind));
+          fits = fits;
           opened = ap (λ (k : ClientModel). is_some k.batch) s.rank ∙ o.opened ∙ sym (ap is_open transcript);
+          ended = done ∙ sym last_call;
+          ready = λ other. absurd (cc (last_call, other));
         }
   ]
 
@@ -422,9 +419,6 @@ module _ (first : Bool) (said : List Said) (call : Call) (w : World) (i : IsBack
     server_heard : server_in now ≡ pool_of w first_server
     server_heard = ap (λ v. pool_of v first_server) now_is ∙ h.pool
 
-    nobody_heard : (server_in now).kept.parked.waiting ≡ []
-    nobody_heard = ap (λ (s : ServerModel). s.kept.parked.waiting) server_heard ∙ i.nobody
-
     lone_heard : IsLone now.world
     lone_heard = lone_next w now.world to_rank i.lone happened
 
@@ -436,7 +430,7 @@ module _ (first : Bool) (said : List Said) (call : Call) (w : World) (i : IsBack
           let reply = h.answer ∙ over.answers_it in
           subst (λ k. IsAnswered said call k now) (some_is (sym reply ∙ sym gave))
           (answered_now now said call (letter_stamp (client_of w zeroth) told_letter.0) h.x lone_heard whole other rank_heard
-          nobody_heard over (omega (arith, i.counted)) (omega (arith, h.stamp, few_now))
+          over (omega (arith, i.counted)) (omega (arith, h.stamp, few_now))
           (omega (arith, ap (λ (s : ServerModel). s.clock) server_heard, i.behind, past_few first)) (omega (arith, h.stamp, early)))
       | inr on ↦ let none : None ≡ Some answer = sym on.unanswered ∙ sym h.answer ∙ sym gave in absurd (cc)
     ]
@@ -452,14 +446,11 @@ module _ (first : Bool) (said : List Said) (call : Call) (w : World) (i : IsBack
           record {
             lone = lone_heard;
             goes = inl waits;
-            nobody = nobody_heard;
             single =
                 omega (
                   arith,
-                  (facts now.world lone_heard).letters nobody_heard,
-                  busy said call (rank_in now) waits,
-                  ap one waits.going,
-                  ap one ((facts now.world lone_heard).unhandled waits.going),
+                  under_way now.world lone_heard (unfree said call (rank_in now) (inl waits)) (owed said call (rank_in now) (inl waits))
+                      ((facts now.world lone_heard).unhandled waits.going),
                   ap (λ v. length (told v)) now_is,
                   ap length h.untold,
                 );
@@ -470,3 +461,20 @@ module _ (first : Bool) (said : List Said) (call : Call) (w : World) (i : IsBack
             common = λ is. ap (λ (k : ClientModel). is_common k.pending) rank_heard ∙ on.common;
           }
     ]
+
+-- The letters of a call: the server is asked twice at most.
+
+pub record IsAsking (n : ℕ) (said : List Said) (call : Call) (w : World) : Type 0 where
+  pub few : n < 2
+  pub asked : IsAsked (n == 0) said call w
+
+pub asks_first : (said : List Said) (call : Call) (w : World) → IsAsked true said call w → IsAsking 0 said call w
+asks_first said call w i = record { few = omega arith; asked = i }
+
+pub asks_on : (n : ℕ) (said : List Said) (call : Call) (w : World) (i : IsBack (n == 0) said call w) → n < 2 → (now : Seen)
+    → happens w to_rank ≡ Some now.world → now.trouble ≡ None → event_stamp w to_rank < stamp_limit → event_answer w to_rank ≡ None
+    → IsAsking (n + 1) said call now.world
+asks_on zero said call w i few now happened whole early none =
+    record { few = omega arith; asked = heard_on true said call w i now happened whole early refl none }
+asks_on (suc zero) said call w i few now happened whole early none = absurd (not_unanswered false said call w i refl none)
+asks_on (suc (suc n)) said call w i few now happened whole early none = absurd (omega (arith, few))

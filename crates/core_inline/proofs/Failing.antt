@@ -1,19 +1,9 @@
 -- What stands after an event of a call that failed.
-use Rattle.std.proofs.Common.{◌≡◌, inl, inr, ℕ, ◌+◌, ◌*◌, ◌≤◌, List, ◌++◌, length, take, Some, refl, sym, ap, ◌∙◌, subst, arith, length-append}
+use Rattle.core_inline.proofs.Prelude.{Call, Entry, Event, IsEnabled, IsFailed, IsLone, IsTold, List, Memory, Said, Seen, Some, Stops}
+use Rattle.core_inline.proofs.Prelude.{TooLong, Trouble, World, ap, arith, client_of, event_stamp, happens, inl, inr, length, length-append}
+use Rattle.core_inline.proofs.Prelude.{refl, stamp_limit, subst, sym, take, zeroth, ℕ, ◌*◌, ◌++◌, ◌+◌, ◌∙◌, ◌≡◌, ◌≤◌}
 use Rattle.std.proofs.Math.Seq.{take-append_seam}
-use Rattle.adlb_unit.specs.Limits.{stamp_limit}
-use Rattle.adlb_unit.specs.declared.notes.Trouble.{Trouble}
-use Rattle.adlb_unit.specs.declared.notes.Trouble.TheVariants.{Memory, TooLong}
-use Rattle.bag_ledger.specs.declared.entries.Call.{Call}
-use Rattle.bag_ledger.specs.declared.entries.Entry.{Entry}
-use Rattle.bag_ledger.specs.declared.entries.Said.{Said}
-use Rattle.core_run.specs.declared.events.Event.{Event}
 use Rattle.core_run.specs.Runs.{transcript}
-use Rattle.core_run.specs.World.{World, client_of, happens}
-use Rattle.core_world.specs.Applied.{IsEnabled, Stops, event_stamp}
-use Rattle.core_world.specs.Seen.{Seen}
-use Rattle.core_inline.specs.Inline.{IsTold, zeroth}
-use Rattle.core_inline.specs.inside.Pairs.{IsFailed, IsLone}
 use Rattle.core_inline.proofs.Opened.{IsToldOf, told_front}
 use Rattle.core_inline.proofs.Reached.{config_next, lone_next}
 use Rattle.core_inline.proofs.Told.{IsAt, more_at, told_at}

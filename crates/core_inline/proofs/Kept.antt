@@ -1,39 +1,16 @@
 -- The fields of a run in line, call by call.
-use Rattle.std.proofs.Common.{◌≡◌, ℕ, zero, suc, ◌+◌, ◌<◌, ◌≤◌, ◌*◌, ◌||◌, ◌&&◌, Bool, true, false, List, [], ◌∷◌, length, take}
-use Rattle.std.proofs.Common.{Option, None, Some, Result, Ok, Err, IfOk, is_some, refl, sym, ap, ◌∙◌, arith, subst}
-use Rattle.std.specs.Prelude.{OnOk}
-use Rattle.std.proofs.lemmas.List.{length_push}
-use Rattle.adlb_unit.specs.Limits.{stamp_limit}
-use Rattle.adlb_unit.specs.declared.configs.Config.{Config}
-use Rattle.adlb_unit.specs.declared.notes.Trouble.{Trouble}
-use Rattle.adlb_unit.specs.declared.notes.Trouble.TheVariants.{TooLong}
-use Rattle.bag_ledger.specs.declared.entries.Answer.{Answer}
+use Rattle.core_inline.proofs.Prelude.{Answer, Bag, Bool, Call, Can, CanCall, Config, Err, HasGrant, IfOk, IsAnswerTo, IsAnswered, IsFailed}
+use Rattle.core_inline.proofs.Prelude.{IsInside, IsLeft, IsReady, IsTold, List, None, Ok, Option, Pends, Result, Run, Said, Seen, Some}
+use Rattle.core_inline.proofs.Prelude.{TooLong, Trouble, answered, answers_done, ap, arith, false, finish_answer, finished_more}
+use Rattle.core_inline.proofs.Prelude.{has_finished, is_ended, is_finish, is_open, is_some, left_of, length, length_push, link_of, plus}
+use Rattle.core_inline.proofs.Prelude.{rank_in, refl, run_of, seat_by, server_in, stamp_limit, subst, sym, take, take_all, troubled, true}
+use Rattle.core_inline.proofs.Prelude.{with_call, ℕ, ◌*◌, ◌+◌, ◌<◌, ◌||◌, ◌∙◌, ◌≡◌, ◌≤◌}
 use Rattle.bag_ledger.specs.declared.entries.Answer.TheVariants as answers
-use Rattle.bag_ledger.specs.declared.entries.Call.{Call}
 use Rattle.bag_ledger.specs.declared.entries.Call.TheVariants as calls_to
-use Rattle.bag_ledger.specs.declared.entries.Said.{Said}
-use Rattle.bag_ledger.specs.Bag.{Bag}
-use Rattle.rank_client.specs.Answers.{CanCall, IsAnswerTo, answered, answers_done, troubled}
-use Rattle.rank_client.specs.Calls.{Pends, has_finished, is_open, plus}
-use Rattle.rank_client.specs.Link.{Can, HasGrant, Made}
+use Rattle.rank_client.specs.Link.{Made}
 use Rattle.rank_client.proofs.LinkLaws.{batch_fell, batch_moved, can_call, made_again, made_answered, made_failed}
-use Rattle.rank_client.proofs.Transcripts.{finished_more}
-use Rattle.server_law.specs.State.{ServerModel, is_finished}
-use Rattle.server_core.specs.Left.{left_of}
-use Rattle.core_world.specs.Seen.{Seen}
 use Rattle.core_inline.specs.declared.runs.InlineRun.TheInside.{Inside}
-use Rattle.core_inline.specs.Inline.{IsTold, Run, finish_answer, link_of, seat_by, zeroth}
-use Rattle.core_inline.specs.Left.{IsLeft}
-use Rattle.core_inline.specs.inside.Fields.{IsInside, run_of}
-use Rattle.core_inline.specs.inside.Pairs.{IsAnswered, IsFailed, IsFinished, IsReady, IsTrue, is_ended, rank_in, server_in, with_call}
 use Rattle.core_inline.proofs.Begun.{begun_is, retold}
-use Rattle.core_inline.proofs.Reached.{facts}
-
-pub take_all : {X : Type 0} (n : ℕ) (xs : List X) → n ≡ length xs → take n xs ≡ xs
-take_all zero [] is = refl
-take_all zero (x ∷ xs) is = absurd (omega (arith, is))
-take_all (suc n) [] is = absurd (omega (arith, is))
-take_all (suc n) (x ∷ xs) is = ap (λ l. x ∷ l) (take_all n xs (omega (arith, is)))
 
 -- the calls that were answered
 abbrev pub said_in : Inside → List Said
@@ -78,7 +55,7 @@ module _ (i : Inside) (begun : Option Call) (t : IsTold i.world.world.config i.w
 pub begins_call : (i : Inside) (call : Call) → IsInside i → i.world.trouble ≡ None → Can (link_of (run_of i)) call
     → HasGrant (said_in i) call → CanCall 1 1 (rank_in i.world).transcript call
 begins_call i call inside whole can grant =
-    subst (λ (l : List Said). CanCall 1 1 l call) (take_all i.answered (rank_in i.world).transcript (inside.all whole))
+    subst (λ (l : List Said). CanCall 1 1 l call) (take_all i.answered (rank_in i.world).transcript (omega (arith, inside.all whole)))
     (subst (λ (n : ℕ). CanCall 1 n (said_in i) call) inside.inline.one_server
     (subst (λ (n : ℕ). CanCall n i.world.world.config.servers (said_in i) call) inside.inline.one_rank
     (can_call (link_of (run_of i)) call refl whole can grant)))
@@ -90,110 +67,123 @@ again_made i call trouble running failed =
     let m = link_of (run_of i) in made_again m m call trouble running failed refl refl (batch_fell m trouble refl failed) failed refl
 
 -- and as contracts see it
-module _ (m : Run) (i : Inside) (is : run_of i ≡ m) (call : Call) (trouble : Trouble) (running : has_finished m.transcript ≡ false)
-    (failed : i.world.trouble ≡ Some trouble) where
-  again_inside : Made (link_of (run_of i)) (link_of (run_of i)) call (Err trouble)
-  again_inside = again_made i call trouble (ap (λ (r : Run). has_finished r.transcript) is ∙ running) failed
+pub again_seen : (m : Run) (i : Inside) → run_of i ≡ m → (call : Call) (trouble : Trouble) → has_finished m.transcript ≡ false
+    → i.world.trouble ≡ Some trouble → Made (link_of m) (link_of (run_of i)) call (Err trouble)
+again_seen m i is call trouble running failed =
+    subst (λ (r : Run). Made (link_of r) (link_of (run_of i)) call (Err trouble)) is
+    (again_made i call trouble (ap (λ (r : Run). has_finished r.transcript) is ∙ running) failed)
 
-  pub again_seen : Made (link_of m) (link_of m) call (Err trouble)
-  again_seen = subst (λ (r : Run). Made (link_of r) (link_of r) call (Err trouble)) is again_inside
+-- A call leads to another world. Whether Finish was called is as before, or told by this call.
+module _ (m : Run) (i : Inside) (is : run_of i ≡ m) (before : IsInside i) (whole : i.world.trouble ≡ None)
+    (going : has_finished m.transcript ≡ false) (now : Seen) (same : now.world.config ≡ i.world.world.config) (call : Call) (finished : Bool)
+    (last : finished ≡ (i.finished || is_finish call)) where
+  running : has_finished (said_in i) ≡ false
+  running = ap (λ (r : Run). has_finished r.transcript) is ∙ going
 
-  pub again_left : Made (link_of m) (link_of (run_of i)) call (Err trouble)
-  again_left = subst (λ (r : Run). Made (link_of r) (link_of (run_of i)) call (Err trouble)) is again_inside
+  -- the link serves the only rank
+  same_seat : seat_by now.world.config ≡ seat_by i.world.world.config
+  same_seat = ap (λ (g : Config). seat_by g) same
 
--- the link serves the only rank
-same_seat : (c d : Config) → d ≡ c → seat_by d ≡ seat_by c
-same_seat c d same = ap (λ (g : Config). seat_by g) same
+  one_rank : now.world.config.ranks ≡ 1
+  one_rank = ap (λ (g : Config). g.ranks) same ∙ before.inline.one_rank
 
--- A call that did not fail adds its answer, and nothing is open.
-module _ (i : Inside) (now : Seen) (finished : Bool) (call : Call) (answer : Answer) (before : IsInside i) (whole : i.world.trouble ≡ None)
-    (goes_on : now.trouble ≡ None) (true_now : IsTrue now)
-    (grown : (rank_in now).transcript ≡ with_call (rank_in i.world).transcript call answer) where
-  abbrev j : Inside
-  j = record i { world = now; answered = i.answered + 1; finished = finished }
+  one_server : now.world.config.servers ≡ 1
+  one_server = ap (λ (g : Config). g.servers) same ∙ before.inline.one_server
 
-  long : i.answered + 1 ≡ length (rank_in now).transcript
-  long =
-      omega (arith, before.all whole, ap length grown, length_push (rank_in i.world).transcript (record { call = call; answer = answer }))
+  all_before : said_in i ≡ (rank_in i.world).transcript
+  all_before = take_all i.answered (rank_in i.world).transcript (omega (arith, before.all whole))
 
-  all_said : (rank_in now).transcript ≡ said_in j
-  all_said = sym (take_all (i.answered + 1) (rank_in now).transcript long)
+  -- It was answered: the answer is added, and nothing is open.
+  module _ (answer : Answer) (done : IsAnswered (rank_in i.world).transcript call answer now) where
+    abbrev j : Inside
+    j = record i { world = now; answered = i.answered + 1; finished = finished }
 
-  pub grown_transcript : said_in j ≡ plus (run_of i).transcript call (Some answer)
-  grown_transcript =
-      sym all_said ∙ grown ∙ ap (λ l. with_call l call answer) (sym (take_all i.answered (rank_in i.world).transcript (before.all whole)))
+    abbrev more : Said
+    more = record { call = call; answer = answer }
 
-  abbrev told : IsTold now.world.config now.world.ledger (said_in j) None
-  told = retold now.world.config now.world.ledger (rank_in now).transcript (said_in j) None None true_now.told all_said refl
+    long : i.answered + 1 ≡ length (rank_in now).transcript
+    long = omega (arith, before.all whole, ap length done.grown, length_push (rank_in i.world).transcript more)
 
-  pub grown_made : has_finished (said_in i) ≡ false → now.world.config ≡ i.world.world.config
-      → IsAnswerTo (rank_in i.world).transcript call answer → Made (link_of (run_of i)) (link_of (run_of j)) call (Ok answer)
-  grown_made running same fits =
-      let old = link_of (run_of i) in
-      let new = link_of (run_of j) in
-      made_answered old new call running whole (same_seat i.world.world.config now.world.config same) answer answer_fits grown_transcript
-      (batch_moved old new call answer refl refl whole goes_on grown_transcript) goes_on (begun_now j None told)
-    where
-      answer_fits : IsAnswerTo (said_in i) call answer
-      answer_fits =
-          subst (λ (l : List Said). IsAnswerTo l call answer)
-          (sym (take_all i.answered (rank_in i.world).transcript (before.all whole))) fits
+    all_said : (rank_in now).transcript ≡ said_in j
+    all_said = sym (take_all (i.answered + 1) (rank_in now).transcript (omega (arith, long)))
 
-  pub grown_seen : (m : Run) → run_of i ≡ m → has_finished m.transcript ≡ false → now.world.config ≡ i.world.world.config
-      → IsAnswerTo (rank_in i.world).transcript call answer → Made (link_of m) (link_of (run_of j)) call (Ok answer)
-  grown_seen m is running same fits =
-      subst (λ (r : Run). Made (link_of r) (link_of (run_of j)) call (Ok answer)) is
-      (grown_made (ap (λ (r : Run). has_finished r.transcript) is ∙ running) same fits)
+    grown : said_in j ≡ plus (said_in i) call (Some answer)
+    grown = sym all_said ∙ done.grown ∙ ap (λ l. with_call l call answer) (sym all_before)
 
-  pub grown_inside : now.world.config ≡ i.world.world.config → finished ≡ has_finished (rank_in now).transcript
-      → is_ended (server_in now) ≡ finished → is_some (rank_in now).batch ≡ is_open (rank_in now).transcript
-      → (has_finished (rank_in now).transcript ≡ false → IsReady now) → IsInside j
-  grown_inside same called ended opened ready =
-      inside_of j None told (ap (λ (g : Config). g.ranks) same ∙ before.inline.one_rank)
-      (ap (λ (g : Config). g.servers) same ∙ before.inline.one_server) (λ stamp is. absurd (cc (is, goes_on)))
-      (omega (arith, ap length all_said, true_now.short)) (omega (arith, long)) (omega (arith, long, true_now.short))
-      (λ none. (
-        refl,
-        record {
-          left = true_now.left;
-          finished = called ∙ ap has_finished all_said;
-          ended = ended;
-          opened = opened;
-          all = long;
-          ready = λ going. ready (ap has_finished all_said ∙ going);
-        },
-      ))
+    abbrev told : IsTold now.world.config now.world.ledger (said_in j) None
+    told = retold now.world.config now.world.ledger (rank_in now).transcript (said_in j) None None done.true_now.told all_said refl
 
--- a server that has handled no Finish has not ended
-not_ended : (s : ServerModel) → is_finished s.kept zeroth ≡ false → is_ended s ≡ false
-not_ended s unhandled = by_test s.kept.shut
-  where
-    by_test : (t : Bool) → (t && is_finished s.kept zeroth) ≡ false
-    by_test true = unhandled
-    by_test false = refl
+    pub answered_made : Made (link_of m) (link_of (run_of j)) call (Ok answer)
+    answered_made =
+        let old = link_of (run_of i) in
+        let new = link_of (run_of j) in
+        subst (λ (r : Run). Made (link_of r) new call (Ok answer)) is
+        (made_answered old new call running whole same_seat answer
+        (subst (λ (l : List Said). IsAnswerTo l call answer) (sym all_before) done.fits) grown
+        (batch_moved old new call answer refl refl whole done.whole grown) done.whole (begun_now j None told))
 
--- A call was answered.
-pub answered_inside : (i : Inside) (now : Seen) (call : Call) (answer : Answer) → IsInside i → i.world.trouble ≡ None
-    → has_finished (run_of i).transcript ≡ false → IsAnswered (rank_in i.world).transcript call answer now
-    → now.world.config ≡ i.world.world.config
-    → IsInside (record i { world = now; answered = i.answered + 1 })
-answered_inside i now call answer before whole running done same =
-    let going : i.finished ≡ false = (before.inline.whole whole).finished ∙ running in
-    let rests = done.ready.rests in
-    grown_inside i now i.finished call answer before whole done.ready.whole done.true_now done.grown same
-    (going ∙ sym (rests.rank.finishes ∙ rests.going))
-    (not_ended (server_in now) ((facts now.world done.ready.lone).unhandled rests.going) ∙ sym going) rests.rank.opened
-    (λ none. done.ready)
+    -- Finish is called now, or was not called
+    first : i.finished ≡ false
+    first = (before.inline.whole whole).finished ∙ running
 
--- Finish is answered by Fine alone
-pub finish_fits : (said : List Said) → IsAnswerTo said calls_to.Finish answers.Fine
-finish_fits said = record { kind = refl; known = tt; again = λ heeds. absurd (cc heeds) }
+    finished_is : finished ≡ is_finish call
+    finished_is = last ∙ ap (λ t. t || is_finish call) first
+
+    said_finish : has_finished (said_in j) ≡ is_finish call
+    said_finish = ap has_finished grown ∙ finished_more (said_in i) more ∙ ap (λ t. t || is_finish call) running
+
+    pub answered_inside : IsInside j
+    answered_inside =
+        inside_of j None told one_rank one_server (λ stamp late. absurd (cc (late, done.whole)))
+        (omega (arith, ap length all_said, done.true_now.short)) (omega (arith, long)) (omega (arith, long, done.true_now.short))
+        (λ none. (
+          refl,
+          record {
+            left = done.true_now.left;
+            finished = finished_is ∙ sym said_finish;
+            ended = done.ended ∙ sym finished_is;
+            opened = done.opened;
+            all = long;
+            ready = λ unfinished. done.ready (sym said_finish ∙ unfinished);
+          },
+        ))
+
+  -- It failed.
+  module _ (trouble : Trouble) (failed : IsFailed (rank_in i.world).transcript call trouble now) (met : now.trouble ≡ Some trouble) where
+    abbrev k : Inside
+    k = record i { world = now; finished = finished }
+
+    was_said : (rank_in i.world).transcript ≡ said_in k
+    was_said = sym (ap (λ n. take n (rank_in now).transcript) (before.all whole) ∙ failed.kept)
+
+    abbrev told_failed : IsTold now.world.config now.world.ledger (said_in k) failed.begun
+    told_failed =
+        retold now.world.config now.world.ledger (rank_in i.world).transcript (said_in k) failed.begun failed.begun failed.told was_said refl
+
+    pub failed_made : Made (link_of m) (link_of (run_of k)) call (Err trouble)
+    failed_made =
+        let new = link_of (run_of k) in
+        subst (λ (r : Run). Made (link_of r) new call (Err trouble)) is
+        (made_failed (link_of (run_of i)) new call running whole same_seat trouble (sym was_said ∙ sym all_before)
+        (batch_fell new trouble refl met) met
+        (subst (λ (o : Option Call). Pends o call) (sym (begun_now k failed.begun told_failed)) failed.began))
+
+    pub failed_inside : IsInside k
+    failed_inside =
+        inside_of k failed.begun told_failed one_rank one_server
+        (λ stamp late. let h = failed.late stamp (inner stamp (sym met ∙ late)) in (h.0, omega (arith, h.1, ap length was_said)))
+        (omega (arith, ap length was_said, ap length all_before, before.inline.short)) (omega (arith, failed.within, before.all whole)) before.short
+        (λ none. absurd (cc (met, none)))
+      where
+        inner : (stamp : ℕ) → Some trouble ≡ Some (TooLong stamp) → trouble ≡ TooLong stamp
+        inner stamp e = cc
+
+-- What Finish leaves, by what failed.
 
 fine_of : (a : Answer) → answers_done a ≡ true → a ≡ answers.Fine
 fine_of answers.Fine kind = refl
 fine_of _ kind = absurd (cc)
 
--- what it leaves, by what failed
 pub finish_says : (said now : List Said) (failed : Option Trouble) (r : Result Answer Trouble) → now ≡ plus said calls_to.Finish (answered r)
     → failed ≡ troubled r → IfOk r (λ a. answers_done a ≡ true) → now ≡ plus said calls_to.Finish (finish_answer failed)
 finish_says said now failed (Ok a) says fine kind =
@@ -202,62 +192,7 @@ finish_says said now failed (Ok a) says fine kind =
 finish_says said now failed (Err e) says fails kind =
     says ∙ sym (ap (λ (t : Option Trouble). plus said calls_to.Finish (finish_answer t)) fails)
 
-pub finish_heard : (failed : Option Trouble) (r : Result Answer Trouble) (P : Type 0) → failed ≡ troubled r → OnOk r P → failed ≡ None → P
-finish_heard failed (Ok a) P fine heard none = heard
-finish_heard failed (Err e) P fails heard none = absurd (cc (fails, none))
-
--- The rank has finished.
-pub left_inside : (i : Inside) (now : Seen) → IsInside i → i.world.trouble ≡ None → IsFinished (rank_in i.world).transcript now
-    → now.world.config ≡ i.world.world.config → IsInside (record i { world = now; answered = i.answered + 1; finished = true })
-left_inside i now before whole done same =
-    let all : has_finished (rank_in now).transcript ≡ true =
-    ap has_finished done.grown ∙ finished_more (rank_in i.world).transcript (record { call = calls_to.Finish; answer = answers.Fine })
-    ∙ or_true (has_finished (rank_in i.world).transcript) in
-    grown_inside i now true calls_to.Finish answers.Fine before whole done.whole done.true_now done.grown same (sym all) done.heard
-    done.opened (λ none. absurd (cc (all, none)))
-  where
-    or_true : (t : Bool) → (t || true) ≡ true
-    or_true true = refl
-    or_true false = refl
-
--- A call failed.
-module _ (i : Inside) (now : Seen) (finished : Bool) (call : Call) (trouble : Trouble) (before : IsInside i)
-    (whole : i.world.trouble ≡ None) (failed : IsFailed (rank_in i.world).transcript call trouble now)
-    (is : now.trouble ≡ Some trouble) where
-  abbrev k : Inside
-  k = record i { world = now; finished = finished }
-
-  was_said : (rank_in i.world).transcript ≡ said_in k
-  was_said = sym (ap (λ n. take n (rank_in now).transcript) (before.all whole) ∙ failed.kept)
-
-  pub failed_transcript : said_in k ≡ (run_of i).transcript
-  failed_transcript = sym was_said ∙ sym (take_all i.answered (rank_in i.world).transcript (before.all whole))
-
-  abbrev told_failed : IsTold now.world.config now.world.ledger (said_in k) failed.begun
-  told_failed =
-      retold now.world.config now.world.ledger (rank_in i.world).transcript (said_in k) failed.begun failed.begun failed.told was_said refl
-
-  pub failed_made : has_finished (said_in i) ≡ false → now.world.config ≡ i.world.world.config
-      → Made (link_of (run_of i)) (link_of (run_of k)) call (Err trouble)
-  failed_made running same =
-      let new = link_of (run_of k) in
-      made_failed (link_of (run_of i)) new call running whole (same_seat i.world.world.config now.world.config same) trouble
-      failed_transcript (batch_fell new trouble refl is) is
-      (subst (λ (o : Option Call). Pends o call) (sym (begun_now k failed.begun told_failed)) failed.began)
-
-  pub failed_seen : (m : Run) → run_of i ≡ m → has_finished m.transcript ≡ false → now.world.config ≡ i.world.world.config
-      → Made (link_of m) (link_of (run_of k)) call (Err trouble)
-  failed_seen m same_run running same =
-      subst (λ (r : Run). Made (link_of r) (link_of (run_of k)) call (Err trouble)) same_run
-      (failed_made (ap (λ (r : Run). has_finished r.transcript) same_run ∙ running) same)
-
-  inner : (stamp : ℕ) → Some trouble ≡ Some (TooLong stamp) → trouble ≡ TooLong stamp
-  inner stamp e = cc
-
-  pub failed_inside : now.world.config ≡ i.world.world.config → IsInside k
-  failed_inside same =
-      inside_of k failed.begun told_failed (ap (λ (g : Config). g.ranks) same ∙ before.inline.one_rank)
-      (ap (λ (g : Config). g.servers) same ∙ before.inline.one_server)
-      (λ stamp late. let h = failed.late stamp (inner stamp (sym is ∙ late)) in (h.0, omega (arith, h.1, ap length was_said)))
-      (omega (arith, ap length failed_transcript, before.inline.short)) (omega (arith, failed.within, before.all whole)) before.short
-      (λ none. absurd (cc (is, none)))
+-- Finish was called
+pub now_called : (before now : Bool) → now ≡ (before || true) → now ≡ true
+now_called true now is = is
+now_called false now is = is

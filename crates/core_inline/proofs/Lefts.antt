@@ -1,30 +1,22 @@
 -- The units that are left.
-use Rattle.std.proofs.Common.{◌≡◌, ◌≢◌, Bool, true, false, List, [], ◌∷◌, map, find, Option, None, Some, All, refl, sym, ap, ◌∙◌, arith}
-use Rattle.std.specs.Prelude.{option_and_then}
+use Rattle.core_inline.proofs.Prelude.{All, Bag, Bool, HasDistinctIds, IsLeft, LeftUnit, List, None, Option, Placed, Server, ServerModel}
+use Rattle.core_inline.proofs.Prelude.{Some, [], ap, arith, false, find, get_or-map, id_of, left_at, left_unit, left_with, length-map, map}
+use Rattle.core_inline.proofs.Prelude.{option_and_then, option_map, refl, same_number, sym, true, unit_of, ◌∙◌, ◌∷◌, ◌≡◌, ◌≢◌}
 use Rattle.std.specs.List.{AllPairs}
-use Rattle.std.specs.Option.{option_map}
-use Rattle.std.proofs.lemmas.List.{get_or-map, length-map}
 use Rattle.std.proofs.lemmas.List.Elements.{All-contains}
 use Rattle.adlb_unit.specs.Ids.{same_unit}
-use Rattle.adlb_unit.specs.declared.names.Server.{Server}
 use Rattle.adlb_unit.specs.declared.names.UnitId.{UnitId}
 use Rattle.adlb_unit.specs.declared.units.Unit.{Unit as Work}
 use Rattle.adlb_unit.proofs.Same.{same_unit_from}
 use Rattle.bag_ledger.specs.declared.states.Placed.{Placed as Lodged}
 use Rattle.bag_ledger.specs.declared.states.UnitPlace.{UnitPlace}
 use Rattle.bag_ledger.specs.declared.states.UnitPlace.TheVariants.{Free, Travelling, Pinned, Spent}
-use Rattle.bag_ledger.specs.Bag.{Bag, unit_of}
-use Rattle.bag_ledger.proofs.Tests.{same_number}
-use Rattle.work_queue.specs.Queue.{HasDistinctIds, id_of}
-use Rattle.work_queue.specs.declared.placing.Placed.{Placed}
 use Rattle.work_queue.proofs.Named.{find_listed}
 use Rattle.server_law.specs.Agreement.{ServerAgrees, of_id, slot_of}
 use Rattle.reserve_path.specs.Grants.{unit_with}
 use Rattle.server_law.specs.Rest.{HasAll, IsHereOrSpent, IsKeptAt}
-use Rattle.server_law.specs.State.{ServerModel}
-use Rattle.server_core.specs.Left.{left_of as left_list, left_unit}
-use Rattle.server_core.specs.declared.states.LeftUnit.{LeftUnit}
-use Rattle.core_inline.specs.Left.{IsLeft, left_at, left_of, left_with}
+use Rattle.server_core.specs.Left.{left_of as left_list}
+use Rattle.core_inline.specs.Left.{left_of}
 
 -- what is so of each unit is so of one that is found
 found_kept : (P : Lodged → Type 0) (b : Bag) (id : UnitId) (u : Lodged) → All P b.units → unit_of b id ≡ Some u → P u

@@ -1,13 +1,12 @@
-pub mod AloneChecks
 pub mod Batches
 pub mod Begun
 pub mod Clients
 pub mod Exchanging
 pub mod Failing
-pub mod Hosts
 pub mod Kept
 pub mod Lefts
 pub mod Opened
 pub mod Reached
 pub mod Starts
 pub mod Told
+pub mod Prelude

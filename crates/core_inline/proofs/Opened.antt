@@ -1,24 +1,15 @@
 -- What a front of a ledger tells of a call that the whole ledger tells of.
-use Rattle.std.proofs.Common.{◌≡◌, ◌⊎◌, inl, inr, List, [], ◌∷◌, ◌++◌, Option, None, Some, refl, sym, ap, ◌∙◌, subst, append_assoc}
-use Rattle.std.proofs.lemmas.List.{append_cancel_left}
-use Rattle.adlb_unit.specs.declared.configs.Config.{Config}
-use Rattle.adlb_unit.specs.declared.names.Rank.{Rank}
-use Rattle.bag_ledger.specs.declared.entries.Call.{Call}
-use Rattle.bag_ledger.specs.declared.entries.Entry.{Entry}
-use Rattle.bag_ledger.specs.declared.entries.Said.{Said}
-use Rattle.bag_ledger.specs.declared.states.RankState.{RankState}
+use Rattle.core_inline.proofs.Prelude.{Bag, Call, Config, Entry, IsOpen, IsRun, IsTold, List, None, Option, Rank, RankState, Said, Some, []}
+use Rattle.core_inline.proofs.Prelude.{ap, append_assoc, append_cancel_left, call_of, calls, calls_from, first_open, inl, inr, rank_at}
+use Rattle.core_inline.proofs.Prelude.{refl, settled, some_is, start, subst, sym, zeroth, ◌++◌, ◌∙◌, ◌∷◌, ◌≡◌, ◌⊎◌}
 use Rattle.bag_ledger.specs.declared.states.Status.TheVariants as does
-use Rattle.bag_ledger.specs.Bag.{Bag, rank_at, settled, start}
-use Rattle.bag_ledger.specs.Runs.{IsRun, call_of, calls, calls_from, says}
+use Rattle.bag_ledger.specs.Runs.{says}
 use Rattle.bag_ledger.specs.Steps.{Is, after}
 use Rattle.bag_ledger.proofs.Calls.{calls_split}
 use Rattle.bag_ledger.proofs.Legal.{run_split}
-use Rattle.bag_ledger.proofs.Tests.{some_is}
 use Rattle.balance_law.proofs.Deeds.{Deed, awaits, begins, calls_done, finishes, hears, waits}
 use Rattle.balance_law.proofs.Paths.{IsPath, along, calls_along, of_rank, path_of}
 use Rattle.balance_law.proofs.Seen.{IsAway, IsTurn, of_mine, of_none, seen}
-use Rattle.core_inline.specs.Inline.{IsOpen, IsTold, zeroth}
-use Rattle.core_inline.specs.inside.Begun.{first_open}
 use Rattle.core_inline.proofs.Begun.{first_is, same_end}
 
 -- A call that is pending is the first that is told later, or is pending still.

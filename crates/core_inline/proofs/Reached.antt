@@ -1,33 +1,28 @@
 -- What holds of each world of one rank and one server to which a run leads: which letters are under way, and what an event leaves.
-use Rattle.std.proofs.Common.{◌≡◌, ℕ, ◌+◌, ◌==◌, ◌<◌, ◌≤◌, Bool, true, false, ◌&&◌, ◌||◌, not, List, [], ◌∷◌, ◌++◌, length, Some, refl, sym, ap, ◌∙◌, subst, arith}
-use Rattle.std.specs.Prelude.{option_and_then}
-use Rattle.std.specs.Option.{option_map}
-use Rattle.adlb_unit.specs.Limits.{stamp_limit, InRanks, InServers, InLimit}
+use Rattle.core_inline.proofs.Prelude.{Actor, Bool, Call, ClientModel, Config, Entry, Event, InLimit, InRanks, InServers, IsClient, IsLone}
+use Rattle.core_inline.proofs.Prelude.{IsPool, Letter, Links, List, Made, Message, Served, ServerModel, Some, World, [], after_rank}
+use Rattle.core_inline.proofs.Prelude.{after_server, ap, arith, begin, call_waits, client_of, event_answer, event_stamp, false}
+use Rattle.core_inline.proofs.Prelude.{first_server, front_answer, front_stamp, handle, happens, has_ended, hear, is_finished, is_idle}
+use Rattle.core_inline.proofs.Prelude.{is_request, length, letter_stamp, link, misfit, next_stamp, not, one, option_and_then}
+use Rattle.core_inline.proofs.Prelude.{option_map, pool_of, refl, remote_letter, row, serve, stamp_limit, subst, sym, taken, true, weigh}
+use Rattle.core_inline.proofs.Prelude.{zeroth, ℕ, ◌&&◌, ◌++◌, ◌+◌, ◌<◌, ◌==◌, ◌||◌, ◌∙◌, ◌∷◌, ◌≡◌, ◌≤◌}
 use Rattle.adlb_unit.specs.Kinds.{is_to_rank}
 use Rattle.adlb_unit.specs.Links.{place_of}
-use Rattle.adlb_unit.specs.declared.actors.Actor.{Actor}
 use Rattle.adlb_unit.specs.declared.actors.Actor.TheVariants as by
-use Rattle.adlb_unit.specs.declared.configs.Config.{Config}
-use Rattle.adlb_unit.specs.declared.letters.Letter.{Letter}
-use Rattle.adlb_unit.specs.declared.messages.Message.{Message}
 use Rattle.adlb_unit.specs.declared.messages.Message.TheVariants as tells
-use Rattle.bag_ledger.specs.declared.entries.Call.{Call}
-use Rattle.bag_ledger.specs.declared.entries.Entry.{Entry}
-use Rattle.rank_client.specs.Rules.{is_idle}
-use Rattle.rank_client.specs.Step.{Made, begin, hear, letter_stamp}
-use Rattle.server_law.specs.Carried.{Served}
-use Rattle.rank_client.specs.State.{ClientModel}
-use Rattle.rank_client.specs.declared.pendings.Pending.TheVariants as waits_for
-use Rattle.server_law.specs.State.{is_finished, ServerModel}
-use Rattle.server_law.specs.Step.{next_stamp, serve}
-use Rattle.core_run.specs.declared.events.Event.{Event}
 use Rattle.core_run.specs.declared.events.Event.TheVariants as occurs
 use Rattle.core_run.specs.Runs.{Runs, is_of_check}
-use Rattle.core_run.specs.World.{Links, World, after_rank, after_server, client_of, handle, happens, has_ended, link, pool_of, start, taken}
-use Rattle.core_run.specs.World.{row}
-use Rattle.core_law.specs.Letters.{is_finish, is_request, misfit, one, call_waits, remote_letter}
-use Rattle.core_law.specs.Measures.{measure, weigh}
-use Rattle.core_law.specs.Own.{IsClient, IsPool}
+use Rattle.core_run.specs.World.{start}
+use Rattle.core_law.specs.Measures.{measure}
+use Rattle.core_progress_law.specs.Ended.{IsEnded}
+use Rattle.core_progress_law.proofs.Always.{always_ends}
+use Rattle.rank_client.specs.Rules.{is_free}
+use Rattle.std.proofs.Common.{zero, suc, inl}
+use Rattle.std.specs.List.{list_all}
+use Rattle.std.specs.Prelude.{slice_index_or}
+use Rattle.std.proofs.lemmas.Bool.{and_parts, false_from_ne_true, ltb-true}
+use Rattle.adlb_unit.specs.Links.{is_within}
+use Rattle.core_law.specs.Letters.{is_finish}
 use Rattle.core_law.specs.Well.{IsSquare}
 use Rattle.core_law.proofs.EveryRun.{every_run_well}
 use Rattle.core_law.proofs.Expected.{none_is_stuck}
@@ -35,11 +30,8 @@ use Rattle.core_law.proofs.Fifo.{post_other}
 use Rattle.core_law.proofs.InLine.{every_run_in_line}
 use Rattle.core_law.proofs.Owed.{finishes_are, letters_are, no_kinds}
 use Rattle.core_law.proofs.Steps.{happens_does, same_config}
-use Rattle.core_world.specs.Applied.{event_answer, event_stamp, front_answer, front_stamp}
 use Rattle.core_world.proofs.Reached.{mapped, mapped_unless, sent_before}
 use Rattle.core_world.proofs.Running.{runs_more}
-use Rattle.core_inline.specs.Inline.{zeroth}
-use Rattle.core_inline.specs.inside.Pairs.{IsLone, first_server}
 
 abbrev pub by_rank : Actor
 by_rank = by.Rank zeroth
@@ -154,7 +146,7 @@ few_remote : (letters : List Letter) → weigh (λ l. remote_letter zeroth l.mes
 few_remote [] = omega arith
 few_remote (l ∷ letters) = omega (arith, one_remote l.message, few_remote letters)
 
-one_true : (t : Bool) → one (t && true) ≡ 1 → t ≡ true
+one_true : (t : Bool) → one t ≡ 1 → t ≡ true
 one_true true is = refl
 one_true false is = absurd (omega (arith, is))
 
@@ -172,6 +164,19 @@ told_no_check : (m : Message) → one (not (is_to_rank m)) ≡ 0 → is_of_check
 told_no_check (tells.Token t) fits = absurd (omega (arith, fits))
 told_no_check (tells.Failed t why) fits = absurd (omega (arith, fits))
 told_no_check _ fits = refl
+
+pub none_of : {X : Type 0} (xs : List X) → length xs ≡ 0 → xs ≡ []
+none_of [] none = refl
+none_of (x ∷ xs) none = absurd (omega (arith, none))
+
+on_links : (rr rs sr ss : List Letter) → rr ≡ [] → rs ≡ [] → sr ≡ [] → ss ≡ [] → (i j : ℕ) → i < 2 → j < 2
+    → link ((rr ∷ rs ∷ []) ∷ (sr ∷ ss ∷ []) ∷ []) i j ≡ []
+on_links rr rs sr ss a b c d zero zero i j = a
+on_links rr rs sr ss a b c d zero (suc zero) i j = b
+on_links rr rs sr ss a b c d (suc zero) zero i j = c
+on_links rr rs sr ss a b c d (suc zero) (suc zero) i j = d
+on_links rr rs sr ss a b c d (suc (suc n)) m i j = absurd (omega (arith, i))
+on_links rr rs sr ss a b c d n (suc (suc m)) i j = absurd (omega (arith, j))
 
 -- What an event does.
 
@@ -203,14 +208,15 @@ pub record IsCalled (w : World) (call : Call) (x : Made) (next : World) : Type 0
 
 -- What holds of a world of one rank and one server to which a run leads.
 pub record AreFacts (w : World) : Type 0 where
-  -- while nobody waits: one letter for a call that is pending, one of Finish until it is handled, and no others
-  pub letters : (pool_of w first_server).kept.parked.waiting ≡ []
-      → length (asked w) + length (told w) + one (is_finished (pool_of w first_server).kept zeroth)
+  -- one letter for a call that is pending, or the rank waits at the server; one of Finish until it is handled, and no others
+  pub letters : length (asked w) + length (told w) + weigh (call_waits zeroth 0) (pool_of w first_server).kept.parked.waiting
+      + one (is_finished (pool_of w first_server).kept zeroth)
       ≡ one (not (is_idle (client_of w zeroth).pending)) + one (client_of w zeroth).finished
-  -- no Finish was handled of a rank that has not finished; and a letter of a rank that waits for nothing is its Finish
+  -- no Finish was handled of a rank that has not finished, and it was of one that has, unless it is under way
   pub unhandled : (client_of w zeroth).finished ≡ false → is_finished (pool_of w first_server).kept zeroth ≡ false
-  pub farewell : (letter : Letter) (rest : List Letter) → (client_of w zeroth).pending ≡ waits_for.Nothing → asked w ≡ letter ∷ rest
-      → is_finish letter.message ≡ true
+  pub handled : (client_of w zeroth).finished ≡ true → asked w ≡ [] → is_finished (pool_of w first_server).kept zeroth ≡ true
+  -- no actor writes to itself
+  pub rests : asked w ≡ [] → told w ≡ [] → (i j : ℕ) → i < 2 → j < 2 → link w.links i j ≡ []
   -- a letter at the front was sent before, and is handled; by the server as long as that has not ended
   pub asked_before : (letter : Letter) (rest : List Letter) → asked w ≡ letter ∷ rest → letter.stamp ≤ (client_of w zeroth).clock
   pub told_before : (letter : Letter) (rest : List Letter) → told w ≡ letter ∷ rest → letter.stamp ≤ (pool_of w first_server).clock
@@ -236,8 +242,7 @@ facts w l = by_world (λ v. IsLone v → AreFacts v) (λ limit a b d c s rr rs s
     let finishes = finishes_are v zeroth first_server (omega arith) (well.finish zeroth first_server (omega arith)) in
     let kinds = no_kinds v well.kind in
     record {
-      letters = λ nobody.
-          let waits : weigh (call_waits zeroth 0) s.kept.parked.waiting ≡ 0 = rw nobody refl in
+      letters =
           omega (
             arith,
             requests,
@@ -247,21 +252,17 @@ facts w l = by_world (λ v. IsLone v → AreFacts v) (λ limit a b d c s rr rs s
             counted sr,
             counted ss,
             few_remote ss,
-            waits,
             nothing rr,
             nothing sr,
             nothing ss,
           );
       unhandled = λ going. one_false (is_finished s.kept zeroth)
           (omega (arith, finishes, nothing rr, nothing sr, nothing ss, ap one going));
-      farewell = λ letter rest idle front.
-          let busy : one (not (is_idle c.pending)) ≡ 0 = rw idle refl in
-          let weights : weigh (λ x. one (is_request x.message && true)) rs ≡ one (is_request letter.message && true)
-          + weigh (λ x. one (is_request x.message && true)) rest = ap (weigh (λ x. one (is_request x.message && true))) front in
-          let misfits : weigh (λ x. misfit g by_rank by_server x.message) rs ≡ misfit g by_rank by_server letter.message
-          + weigh (λ x. misfit g by_rank by_server x.message) rest = ap (weigh (λ x. misfit g by_rank by_server x.message)) front in
-          one_true (is_finish letter.message)
-          (omega (arith, requests, kinds, busy, weights, misfits, one_kind letter.message, nothing rr));
+      handled = λ over none.
+          let farewells : weigh (λ x. one (is_finish x.message && true)) rs ≡ 0 = ap (weigh (λ x. one (is_finish x.message && true))) none in
+          one_true (is_finished s.kept zeroth) (omega (arith, finishes, farewells, nothing rr, nothing sr, nothing ss, ap one over));
+      rests = λ none nothing.
+          on_links rr rs sr ss (none_of rr (omega (arith, kinds, counted rr))) none nothing (none_of ss (omega (arith, kinds, counted ss)));
       asked_before = λ letter rest. sent_before rs rest letter c.clock (line by_rank by_server refl refl).stamps;
       told_before = λ letter rest. sent_before sr rest letter s.clock (line by_server by_rank refl refl).stamps;
       asked_goes = λ letter rest front going.
@@ -327,3 +328,49 @@ rank_own w l = (every_run_well w.config l.events w l.run).own.ranks zeroth (omeg
 
 pub server_own : (w : World) (l : IsLone w) → IsPool w.config first_server (pool_of w first_server)
 server_own w l = (every_run_well w.config l.events w l.run).own.servers first_server (omega (arith, l.one_server))
+
+-- Where it can go no further.
+
+place_within : (w : World) → IsLone w → (a : Actor) → is_within w.config a ≡ true → place_of w.config a < 2
+place_within w l (by.Rank r) at = let low = ltb-true r.0 w.config.ranks at in omega (arith, low, l.one_rank)
+place_within w l (by.Server s) at = let low = ltb-true s.0 w.config.servers at in omega (arith, low, l.one_rank, l.one_server)
+
+-- a run gets stuck nowhere: where no letter is under way and the rank can call nothing, the rank has finished and the server has ended
+pub settles : (w : World) → IsLone w → is_free (client_of w zeroth) ≡ false → asked w ≡ [] → told w ≡ [] → IsEnded w
+settles w l busy none untold = always_ends w.config l.events w l.run (record {
+  letters = λ from to at there.
+      inl ((facts w l).rests none untold (place_of w.config from) (place_of w.config to) (place_within w l from at) (place_within w l to there));
+  ranks = λ r below free.
+      let here : r.0 ≡ 0 = omega (arith, below, l.one_rank) in
+      let same : is_free (client_of w (record { 0 = r.0 })) ≡ is_free (client_of w zeroth) = ap (λ n. is_free (client_of w (record { 0 = n }))) here in
+      absurd (let no : false ≡ true = sym busy ∙ sym same ∙ free in cc);
+})
+
+-- a server that has ended has handled the rank's Finish
+first_passes : (xs : List Bool) → length xs ≡ 1 → list_all (λ finished. finished) xs ≡ true → slice_index_or xs 0 false ≡ true
+first_passes [] long all = absurd (omega (arith, long))
+first_passes (x ∷ xs) long all = (and_parts x (list_all (λ finished. finished) xs) all).0
+
+pub ended_parts : (w : World) → IsLone w → has_ended (pool_of w first_server) ≡ true
+    → ((pool_of w first_server).kept.shut ≡ true) × (is_finished (pool_of w first_server).kept zeroth ≡ true)
+ended_parts w l ended =
+    let k = (pool_of w first_server).kept in
+    let both = and_parts k.shut (list_all (λ finished. finished) k.finished) ended in
+    (both.0, first_passes k.finished ((server_own w l).finished ∙ l.one_rank) both.1)
+
+pub goes_on : (w : World) → IsLone w → is_finished (pool_of w first_server).kept zeroth ≡ false → has_ended (pool_of w first_server) ≡ false
+goes_on w l unhandled = false_from_ne_true (has_ended (pool_of w first_server))
+    (λ ended. let both : true ≡ false = sym (ended_parts w l ended).1 ∙ unhandled in absurd (cc))
+
+-- while the rank's Finish is not handled, a letter of a call that goes on is under way
+pub under_way : (w : World) → IsLone w → is_free (client_of w zeroth) ≡ false
+    → one (not (is_idle (client_of w zeroth).pending)) + one (client_of w zeroth).finished ≡ 1
+    → is_finished (pool_of w first_server).kept zeroth ≡ false → length (asked w) + length (told w) ≡ 1
+under_way w l busy owed unhandled = by_letters (asked w) (told w) refl refl
+  where
+    by_letters : (a t : List Letter) → asked w ≡ a → told w ≡ t → length (asked w) + length (told w) ≡ 1
+    by_letters [] [] none nothing =
+        let ended = (settles w l busy none nothing).servers first_server (omega (arith, l.one_server)) in
+        absurd (let both : true ≡ false = sym (ended_parts w l ended).1 ∙ unhandled in cc)
+    by_letters (x ∷ a) t some any = omega (arith, (facts w l).letters, owed, ap length some)
+    by_letters a (x ∷ t) any some = omega (arith, (facts w l).letters, owed, ap length some)

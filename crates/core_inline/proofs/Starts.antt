@@ -1,27 +1,14 @@
 -- A run at the start, and at the end.
-use Rattle.std.proofs.Common.{◌≡◌, ℕ, ◌≤◌, ◌^◌, true, false, List, [], ◌∷◌, ◌++◌, length, Option, None, refl, sym, ap}
-use Rattle.std.proofs.Common.{◌∙◌, subst, arith, append-nil}
-use Rattle.adlb_unit.specs.declared.configs.Config.{Config}
+use Rattle.core_inline.proofs.Prelude.{Call, ClientModel, Config, Entry, IsEnd, IsIdle, IsInline, IsInside, IsLone, IsOpen, IsStart, IsTold}
+use Rattle.core_inline.proofs.Prelude.{IsTrue, LeftUnit, List, None, Option, Refuses, Run, Said, Seen, [], ap, append-nil, arith, call_of}
+use Rattle.core_inline.proofs.Prelude.{false, first_server, is_ended, left_of, length, new_world, none_finished, rank_in}
+use Rattle.core_inline.proofs.Prelude.{refl, run_of, server_in, steps_tell, subst, sym, zeroth, ℕ, ◌++◌, ◌^◌, ◌∙◌, ◌∷◌, ◌≡◌, ◌≤◌}
 use Rattle.adlb_unit.specs.declared.configs.ConfigFault.{ConfigFault}
 use Rattle.adlb_unit.specs.declared.configs.ConfigFault.TheVariants.{Ranks, Servers, Limit}
-use Rattle.adlb_unit.specs.Limits.{Refuses}
-use Rattle.bag_ledger.specs.declared.entries.Call.{Call}
-use Rattle.bag_ledger.specs.declared.entries.Entry.{Entry}
-use Rattle.bag_ledger.specs.declared.entries.Said.{Said}
-use Rattle.bag_ledger.specs.Runs.{call_of}
-use Rattle.rank_client.specs.Calls.{has_finished}
-use Rattle.rank_client.specs.State.{ClientModel, start as new_client}
-use Rattle.rank_client.proofs.StepsTell.{steps_tell}
-use Rattle.rank_client.proofs.Transcripts.{none_finished}
+use Rattle.rank_client.specs.State.{start as new_client}
 use Rattle.server_law.specs.State.{start as new_pool}
-use Rattle.server_core.specs.Left.{left_of}
-use Rattle.server_core.specs.declared.states.LeftUnit.{LeftUnit}
 use Rattle.core_run.specs.World.{start}
 use Rattle.core_law.proofs.EveryRun.{client_at, pool_at}
-use Rattle.core_world.specs.Seen.{Seen, new_world}
-use Rattle.core_inline.specs.Inline.{IsEnd, IsInline, IsOpen, IsStart, IsTold, Run, zeroth}
-use Rattle.core_inline.specs.inside.Fields.{IsInside, run_of}
-use Rattle.core_inline.specs.inside.Pairs.{IsIdle, IsLone, IsTrue, first_server, is_ended, rank_in, server_in}
 use Rattle.core_inline.proofs.Begun.{retold}
 use Rattle.core_inline.proofs.Exchanging.{true_after}
 use Rattle.core_inline.proofs.Kept.{begun_now, inside_of}
@@ -51,7 +38,6 @@ module _ (config : Config) (one_rank : config.ranks ≡ 1) (one_server : config.
         idle = refl;
         going = refl;
         rank = steps_tell.at_start config zeroth;
-        nobody = refl;
         few = omega arith;
         behind = omega arith;
       } in
@@ -130,6 +116,3 @@ pub end_of : (run : Run) (ledger : List Entry) (transcript : List Said) (left : 
     → ledger ≡ run.ledger → transcript ≡ run.transcript → left ≡ run.left → IsEnd run ledger transcript left
 end_of run ledger transcript left inline none same_ledger same_transcript same_left =
     rw (same_ledger, same_transcript, same_left) (end_is run inline none)
-
-pub end_finished : (run : Run) → IsInline run → run.failed ≡ None → run.finished ≡ true → has_finished run.transcript ≡ true
-end_finished run inline none called = sym (inline.whole none).finished ∙ called

@@ -1,30 +1,15 @@
 -- What the law of runs tells of a world of one rank and one server.
-use Rattle.std.proofs.Common.{◌≡◌, ◌⊎◌, inl, inr, Bool, true, false, cond, List, [], ◌∷◌, ◌++◌, Option, None, Some, refl, sym, ap, ◌∙◌, subst, arith, append-nil}
-use Rattle.std.proofs.lemmas.Bool.{eq-eqb}
-use Rattle.adlb_unit.specs.declared.messages.Message.{Message}
+use Rattle.core_inline.proofs.Prelude.{Answer, Bag, Bool, Call, ClientModel, CommonRef, IsLeft, IsLone, IsOpen, IsRun, IsRunWhere, IsTold}
+use Rattle.core_inline.proofs.Prelude.{List, Message, None, Option, Pending, RankState, Said, Server, Some, World, [], ap, append-nil}
+use Rattle.core_inline.proofs.Prelude.{arith, call_of, client_of, cond, eq-eqb, false, first_server, inl, inr, left_of, pending_call, plus}
+use Rattle.core_inline.proofs.Prelude.{pool_of, rank_at, refl, settled, start, subst, sym, true, with_call, zeroth, ◌++◌, ◌∙◌, ◌∷◌, ◌≡◌}
+use Rattle.core_inline.proofs.Prelude.{◌⊎◌}
 use Rattle.adlb_unit.specs.declared.messages.Message.TheVariants as tells
-use Rattle.adlb_unit.specs.declared.names.Server.{Server}
-use Rattle.adlb_unit.specs.declared.names.CommonRef.{CommonRef}
-use Rattle.bag_ledger.specs.declared.entries.Call.{Call}
 use Rattle.bag_ledger.specs.declared.entries.Call.TheVariants as calls_to
-use Rattle.bag_ledger.specs.declared.entries.Said.{Said}
-use Rattle.bag_ledger.specs.Bag.{Bag, rank_at, settled, start}
-use Rattle.bag_ledger.specs.Runs.{IsRun, IsRunWhere, call_of}
-use Rattle.bag_ledger.specs.declared.states.RankState.{RankState}
-use Rattle.rank_client.specs.declared.pendings.Pending.{Pending}
 use Rattle.rank_client.specs.declared.pendings.Pending.TheVariants as waits_for
 use Rattle.rank_client.specs.Agreement.{fetch_coming, in_call, own_fetched, rank_of, said as said_with}
-use Rattle.rank_client.specs.Calls.{plus}
-use Rattle.rank_client.specs.State.{ClientModel}
-use Rattle.server_core.specs.Left.{left_of}
 use Rattle.core_law.specs.Seats.{HasSeat, IsSeated}
-use Rattle.core_run.specs.World.{World, client_of, pool_of}
-use Rattle.core_inline.specs.Inline.{IsOpen, IsTold, zeroth}
-use Rattle.core_inline.specs.Left.{IsLeft}
-use Rattle.core_inline.specs.inside.Pairs.{IsLone, first_server, with_call}
-use Rattle.bag_ledger.specs.declared.entries.Answer.{Answer}
 use Rattle.core_inline.proofs.Clients.{IsPending}
-use Rattle.rank_client.specs.Remembered.{pending_call}
 use Rattle.core_inline.proofs.Lefts.{left_is}
 use Rattle.core_inline.proofs.Opened.{IsToldOf}
 use Rattle.core_inline.proofs.Reached.{rank_own, server_own}
@@ -60,92 +45,64 @@ record IsBeyond (c : ClientModel) (p : Pending) (coming : Option Message) (call 
   open_call : IsOpen (call_of (in_call c p coming).status) more begun
   of_it : (begun ≡ None) ⊎ (begun ≡ Some call)
 
-still : (c : ClientModel) (p : Pending) (coming : Option Message) (call : Call) → said_with c p coming ≡ c.transcript
-    → call_of (in_call c p coming).status ≡ Some call → IsBeyond c p coming call
-still c p coming call same is =
-    record { more = []; begun = Some call; says = same ∙ sym (append-nil c.transcript); open_call = sym is; of_it = inr refl }
+-- it is pending still, its answer is decided, or what comes is no answer
+module _ (c : ClientModel) (p : Pending) (coming : Option Message) (call : Call) where
+  still : said_with c p coming ≡ c.transcript → call_of (in_call c p coming).status ≡ Some call → IsBeyond c p coming call
+  still same is =
+      record { more = []; begun = Some call; says = same ∙ sym (append-nil c.transcript); open_call = sym is; of_it = inr refl }
+
+  came : (s : Said) → said_with c p coming ≡ c.transcript ++ s ∷ [] → call_of (in_call c p coming).status ≡ None → Some s.call ≡ Some call
+      → IsBeyond c p coming call
+  came s says none is = record { more = s ∷ []; begun = Some s.call; says = says; open_call = (none, refl); of_it = inr is }
+
+  stray : said_with c p coming ≡ c.transcript → call_of (in_call c p coming).status ≡ None → IsBeyond c p coming call
+  stray same none =
+      record { more = []; begun = None; says = same ∙ sym (append-nil c.transcript); open_call = sym none; of_it = inl refl }
 
 beyond : (c : ClientModel) (p : Pending) (coming : Option Message) (call : Call) → pending_call p ≡ Some call → IsBeyond c p coming call
 beyond c waits_for.Nothing coming call is = absurd (cc)
-beyond c (waits_for.Put unit first tried) None call is = still c (waits_for.Put unit first tried) None call refl is
-beyond c (waits_for.Put unit first tried) (Some (tells.Full to charge)) call is =
-    still c (waits_for.Put unit first tried) (Some (tells.Full to charge)) call refl is
-beyond c (waits_for.Put unit first tried) (Some (tells.Accepted to)) call is =
-    record { more = _ ∷ []; begun = _; says = refl; open_call = (refl, refl); of_it = inr is }
-beyond c (waits_for.Put unit first tried) (Some (tells.Ended to end)) call is =
-    record { more = _ ∷ []; begun = _; says = refl; open_call = (refl, refl); of_it = inr is }
-beyond c (waits_for.Put unit first tried) (Some _) call is =
-    record { more = []; begun = None; says = sym (append-nil c.transcript); open_call = refl; of_it = inl refl }
-beyond c (waits_for.Reserve request types) None call is = still c (waits_for.Reserve request types) None call refl is
-beyond c (waits_for.Reserve request types) (Some (tells.Grant to note)) call is =
-    record { more = _ ∷ []; begun = _; says = refl; open_call = (refl, refl); of_it = inr is }
-beyond c (waits_for.Reserve request types) (Some (tells.Ended to end)) call is =
-    record { more = _ ∷ []; begun = _; says = refl; open_call = (refl, refl); of_it = inr is }
-beyond c (waits_for.Reserve request types) (Some _) call is =
-    record { more = []; begun = None; says = sym (append-nil c.transcript); open_call = refl; of_it = inl refl }
-beyond c (waits_for.Try request types tried) None call is = still c (waits_for.Try request types tried) None call refl is
-beyond c (waits_for.Try request types tried) (Some (tells.Nothing to)) call is =
-    still c (waits_for.Try request types tried) (Some (tells.Nothing to)) call refl is
-beyond c (waits_for.Try request types tried) (Some (tells.Grant to note)) call is =
-    record { more = _ ∷ []; begun = _; says = refl; open_call = (refl, refl); of_it = inr is }
-beyond c (waits_for.Try request types tried) (Some (tells.Ended to end)) call is =
-    record { more = _ ∷ []; begun = _; says = refl; open_call = (refl, refl); of_it = inr is }
-beyond c (waits_for.Try request types tried) (Some _) call is =
-    record { more = []; begun = None; says = sym (append-nil c.transcript); open_call = refl; of_it = inl refl }
-beyond c (waits_for.Fetch request note) None call is = still c (waits_for.Fetch request note) None call refl is
+beyond c (waits_for.Put unit first tried) None call is = still _ _ _ _ refl is
+beyond c (waits_for.Put unit first tried) (Some (tells.Full to charge)) call is = still _ _ _ _ refl is
+beyond c (waits_for.Put unit first tried) (Some (tells.Accepted to)) call is = came _ _ _ _ _ refl refl is
+beyond c (waits_for.Put unit first tried) (Some (tells.Ended to end)) call is = came _ _ _ _ _ refl refl is
+beyond c (waits_for.Put unit first tried) (Some _) call is = stray _ _ _ _ refl refl
+beyond c (waits_for.Reserve request types) None call is = still _ _ _ _ refl is
+beyond c (waits_for.Reserve request types) (Some (tells.Grant to note)) call is = came _ _ _ _ _ refl refl is
+beyond c (waits_for.Reserve request types) (Some (tells.Ended to end)) call is = came _ _ _ _ _ refl refl is
+beyond c (waits_for.Reserve request types) (Some _) call is = stray _ _ _ _ refl refl
+beyond c (waits_for.Try request types tried) None call is = still _ _ _ _ refl is
+beyond c (waits_for.Try request types tried) (Some (tells.Nothing to)) call is = still _ _ _ _ refl is
+beyond c (waits_for.Try request types tried) (Some (tells.Grant to note)) call is = came _ _ _ _ _ refl refl is
+beyond c (waits_for.Try request types tried) (Some (tells.Ended to end)) call is = came _ _ _ _ _ refl refl is
+beyond c (waits_for.Try request types tried) (Some _) call is = stray _ _ _ _ refl refl
+beyond c (waits_for.Fetch request note) None call is = still _ _ _ _ refl is
 beyond c (waits_for.Fetch request note) (Some m) call is = own_came note.common refl m
   where
+    said_by : Option CommonRef → Message → List Said
+    said_by o m = plus c.transcript (calls_to.Fetch note.id) (fetch_coming o m)
+
     own_came : (common : Option CommonRef) → note.common ≡ common → (m : Message)
         → IsBeyond c (waits_for.Fetch request note) (Some m) call
-    own_came None none (tells.Bytes to body) = record {
-      more = _ ∷ [];
-      begun = _;
-      says = ap (λ o. plus c.transcript (calls_to.Fetch note.id) (fetch_coming o (tells.Bytes to body))) none;
-      open_call = (ap (λ o. call_of (own_fetched c request note o).status) none, refl);
-      of_it = inr is;
-    }
-    own_came None none m = record {
-      more = [];
-      begun = None;
-      says = ap (λ o. plus c.transcript (calls_to.Fetch note.id) (fetch_coming o m)) none ∙ sym (append-nil c.transcript);
-      open_call = sym (ap (λ o. call_of (own_fetched c request note o).status) none);
-      of_it = inl refl;
-    }
-    own_came (Some common) some m = record {
-      more = [];
-      begun = Some call;
-      says = ap (λ o. plus c.transcript (calls_to.Fetch note.id) (fetch_coming o m)) some ∙ sym (append-nil c.transcript);
-      open_call = sym (ap (λ o. call_of (own_fetched c request note o).status) some ∙ is);
-      of_it = inr refl;
-    }
-beyond c (waits_for.Common request note common own) None call is =
-    still c (waits_for.Common request note common own) None call refl is
-beyond c (waits_for.Common request note common own) (Some (tells.Bytes to body)) call is =
-    record { more = _ ∷ []; begun = _; says = refl; open_call = (refl, refl); of_it = inr is }
-beyond c (waits_for.Common request note common own) (Some _) call is =
-    record { more = []; begun = None; says = sym (append-nil c.transcript); open_call = refl; of_it = inl refl }
-beyond c (waits_for.Keep request common first tried) None call is =
-    still c (waits_for.Keep request common first tried) None call refl is
-beyond c (waits_for.Keep request common first tried) (Some (tells.Full to charge)) call is =
-    still c (waits_for.Keep request common first tried) (Some (tells.Full to charge)) call refl is
-beyond c (waits_for.Keep request common first tried) (Some (tells.Accepted to)) call is =
-    record { more = _ ∷ []; begun = _; says = refl; open_call = (refl, refl); of_it = inr is }
-beyond c (waits_for.Keep request common first tried) (Some (tells.Ended to end)) call is =
-    record { more = _ ∷ []; begun = _; says = refl; open_call = (refl, refl); of_it = inr is }
-beyond c (waits_for.Keep request common first tried) (Some _) call is =
-    record { more = []; begun = None; says = sym (append-nil c.transcript); open_call = refl; of_it = inl refl }
-beyond c (waits_for.Close request batch) None call is = still c (waits_for.Close request batch) None call refl is
-beyond c (waits_for.Close request batch) (Some (tells.Closed to)) call is =
-    record { more = _ ∷ []; begun = _; says = refl; open_call = (refl, refl); of_it = inr is }
-beyond c (waits_for.Close request batch) (Some _) call is =
-    record { more = []; begun = None; says = sym (append-nil c.transcript); open_call = refl; of_it = inl refl }
-beyond c (waits_for.Count request kind) None call is = still c (waits_for.Count request kind) None call refl is
-beyond c (waits_for.Count request kind) (Some (tells.Counted to info)) call is =
-    record { more = _ ∷ []; begun = _; says = refl; open_call = (refl, refl); of_it = inr is }
-beyond c (waits_for.Count request kind) (Some _) call is =
-    record { more = []; begun = None; says = sym (append-nil c.transcript); open_call = refl; of_it = inl refl }
-beyond c (waits_for.SetDone request tried) coming call is =
-    record { more = _ ∷ []; begun = _; says = refl; open_call = (refl, refl); of_it = inr is }
+    own_came None none (tells.Bytes to body) =
+        came _ _ _ _ _ (ap (λ o. said_by o (tells.Bytes to body)) none) (ap (λ o. call_of (own_fetched c request note o).status) none) is
+    own_came None none m = stray _ _ _ _ (ap (λ o. said_by o m) none) (ap (λ o. call_of (own_fetched c request note o).status) none)
+    own_came (Some common) some m =
+        still _ _ _ _ (ap (λ o. said_by o m) some) (ap (λ o. call_of (own_fetched c request note o).status) some ∙ is)
+beyond c (waits_for.Common request note common own) None call is = still _ _ _ _ refl is
+beyond c (waits_for.Common request note common own) (Some (tells.Bytes to body)) call is = came _ _ _ _ _ refl refl is
+beyond c (waits_for.Common request note common own) (Some _) call is = stray _ _ _ _ refl refl
+beyond c (waits_for.Keep request common first tried) None call is = still _ _ _ _ refl is
+beyond c (waits_for.Keep request common first tried) (Some (tells.Full to charge)) call is = still _ _ _ _ refl is
+beyond c (waits_for.Keep request common first tried) (Some (tells.Accepted to)) call is = came _ _ _ _ _ refl refl is
+beyond c (waits_for.Keep request common first tried) (Some (tells.Ended to end)) call is = came _ _ _ _ _ refl refl is
+beyond c (waits_for.Keep request common first tried) (Some _) call is = stray _ _ _ _ refl refl
+beyond c (waits_for.Close request batch) None call is = still _ _ _ _ refl is
+beyond c (waits_for.Close request batch) (Some (tells.Closed to)) call is = came _ _ _ _ _ refl refl is
+beyond c (waits_for.Close request batch) (Some _) call is = stray _ _ _ _ refl refl
+beyond c (waits_for.Count request kind) None call is = still _ _ _ _ refl is
+beyond c (waits_for.Count request kind) (Some (tells.Counted to info)) call is = came _ _ _ _ _ refl refl is
+beyond c (waits_for.Count request kind) (Some _) call is = stray _ _ _ _ refl refl
+beyond c (waits_for.SetDone request tried) coming call is = came _ _ _ _ _ refl refl is
 
 module _ (w : World) (l : IsLone w) where
   abbrev c : ClientModel

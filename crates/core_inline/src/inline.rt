@@ -61,7 +61,7 @@ impl InlineWorld {
         ensures heard { self.new.run.failed ≡ None → self.new.run.ended ≡ true }
         ensures holds { IsInline self.new.run }
     {
-        let _ = self.run.finish();
+        let _ = self.run.call(Call::Finish);
     }
 
     /// What stands at the end: the ledger, the calls of the rank with their answers, of which nothing is held, and the units that
@@ -90,10 +90,7 @@ impl Carrier for InlineWorld {
     ghost carried = { λ world. link_of world.run };
 
     fn exchange(&mut self, call: Call) -> Result<Answer, Trouble> {
-        match call {
-            Call::Finish => self.run.finish(),
-            call => self.run.call(call),
-        }
+        self.run.call(call)
     }
 
     fn has_batch(&self) -> bool {

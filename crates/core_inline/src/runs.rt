@@ -1,14 +1,14 @@
 //! A run of one rank and one server, call by call.
 
-ghost use Rattle.std.specs.Prelude.{◌≡◌, ◌≤◌, ◌^◌, ◌↔◌, ℕ, None, Some, Err, true, false, IfOk, IfErr, OnOk};
+ghost use Rattle.std.specs.Prelude.{◌≡◌, ◌≤◌, ◌^◌, ◌↔◌, ◌||◌, ℕ, None, Some, Err, true, IfOk, OnOk};
 ghost use Rattle.adlb_unit.specs.declared.notes.Trouble.{Trouble};
 ghost use Rattle.bag_ledger.specs.declared.entries.Call.{Call};
-ghost use Rattle.rank_client.specs.Answers.{answers_call, answers_done};
+ghost use Rattle.rank_client.specs.Answers.{answers_call};
 ghost use Rattle.rank_client.specs.Calls.{has_finished, is_finish};
 ghost use Rattle.rank_client.specs.Link.{Can, HasGrant, Made};
 ghost use Rattle.core_inline.specs.Inline.{IsEnd, IsInline, IsStart, batch_of, link_of};
 
-use crate::pairs::{exchange, finish};
+use crate::pairs::{exchange, is_last};
 use adlb_unit::{Config, NoMemory, Rank, Server, Trouble};
 use bag_ledger::{Answer, Call, Said};
 use core_world::World;
@@ -56,41 +56,24 @@ impl InlineRun {
         })
     }
 
-    // One call of the rank other than Finish, from its beginning to its answer.
+    // One call of the rank, from its beginning to its answer. The server hears of Finish within it.
     pub(crate) fn call(&mut self, call: Call) -> Result<Answer, Trouble>
         requires can { Can (link_of self.old) call }
         requires granted { HasGrant self.old.transcript call }
-        requires going { is_finish call ≡ false }
         ensures made { Made (link_of self.old) (link_of self.new) call result }
         ensures kind { IfOk result (λ a. answers_call call a ≡ true) }
+        ensures finished { self.new.finished ≡ (self.old.finished || is_finish call) }
         ensures config { self.new.config ≡ self.old.config }
         ensures holds { IsInline self.new }
     {
+        let called = finishes(self.finished, &call);
+        self.finished = called;
         if let Some(met) = self.world.trouble() {
             return Err(met);
         }
         let answer = exchange(&mut self.world, call)?;
         self.answered += 1;
         Ok(answer)
-    }
-
-    // The rank finishes, and the server hears of it.
-    pub(crate) fn finish(&mut self) -> Result<Answer, Trouble>
-        requires can { Can (link_of self.old) Call.Finish }
-        ensures made { Made (link_of self.old) (link_of self.new) Call.Finish result }
-        ensures kind { IfOk result (λ a. answers_done a ≡ true) }
-        ensures finished { self.new.finished ≡ true }
-        ensures config { self.new.config ≡ self.old.config }
-        ensures heard { OnOk result (self.new.ended ≡ true) }
-        ensures holds { IsInline self.new }
-    {
-        self.finished = true;
-        if let Some(failed) = self.world.trouble() {
-            return Err(failed);
-        }
-        finish(&mut self.world)?;
-        self.answered += 1;
-        Ok(Answer::Fine)
     }
 
     // A batch is going on.
@@ -129,4 +112,11 @@ impl InlineRun {
     {
         self.world.ledger()
     }
+}
+
+// Finish was called before, or is this call.
+fn finishes(before: bool, call: &Call) -> bool
+    ensures { result ≡ (before || is_finish call.now) }
+{
+    before || is_last(call)
 }

@@ -1,18 +1,16 @@
 -- A world of one rank and one server between two calls, and what a call leaves of it.
-use Rattle.std.specs.Prelude.{ℕ, ◌+◌, ◌*◌, ◌≡◌, ◌⊎◌, ◌<◌, ◌≤◌, Bool, true, false, ◌&&◌, slice_index_or, List, [], ◌∷◌, ◌++◌, length}
+use Rattle.std.specs.Prelude.{ℕ, ◌+◌, ◌*◌, ◌≡◌, ◌⊎◌, ◌<◌, ◌≤◌, Bool, false, ◌&&◌, slice_index_or, List, [], ◌∷◌, ◌++◌, length}
 use Rattle.std.specs.Prelude.{take, Option, None, Some, is_some}
 use Rattle.adlb_unit.specs.Limits.{stamp_limit}
 use Rattle.adlb_unit.specs.declared.names.Server.{Server}
 use Rattle.adlb_unit.specs.declared.notes.Trouble.{Trouble}
 use Rattle.adlb_unit.specs.declared.notes.Trouble.TheVariants.{TooLong}
 use Rattle.bag_ledger.specs.declared.entries.Answer.{Answer}
-use Rattle.bag_ledger.specs.declared.entries.Answer.TheVariants as answers
 use Rattle.bag_ledger.specs.declared.entries.Call.{Call}
-use Rattle.bag_ledger.specs.declared.entries.Call.TheVariants as calls_to
 use Rattle.bag_ledger.specs.declared.entries.Said.{Said}
 use Rattle.rank_client.specs.declared.pendings.Pending.TheVariants as waits_for
 use Rattle.rank_client.specs.Answers.{IsAnswerTo}
-use Rattle.rank_client.specs.Calls.{is_open}
+use Rattle.rank_client.specs.Calls.{is_finish, is_open}
 use Rattle.rank_client.specs.Remembered.{Remembers}
 use Rattle.rank_client.specs.State.{ClientModel}
 use Rattle.server_core.specs.Left.{left_of}
@@ -49,12 +47,11 @@ pub record IsLone (w : World) : Type 0 where
   pub events : List Event
   pub run : Runs (start w.config) events w
 
--- the rank runs, no call is pending, and nobody waits at the server; each call took a stamp of its own, and five events at most
+-- the rank runs, and no call is pending; each call took a stamp of its own, and five events at most
 pub record IsIdle (c : ClientModel) (s : ServerModel) : Type 0 where
   pub idle : c.pending ≡ waits_for.Nothing
   pub going : c.finished ≡ false
   pub rank : Remembers c
-  pub nobody : s.kept.parked.waiting ≡ []
   pub few : c.clock ≤ 5 * length c.transcript
   pub behind : s.clock ≤ 5 * length c.transcript
 
@@ -70,20 +67,16 @@ pub record IsTrue (w : Seen) : Type 0 where
   pub left : IsLeft told.last (left_of (server_in w))
   pub short : length (rank_in w).transcript < stamp_limit
 
--- after the call has its answer: it comes to the transcript, and is what such a call can be answered
+-- after the call has its answer: it comes to the transcript, and is what such a call can be answered; the client knows whether a batch is
+-- going on; after Finish the server has ended, and after another call the rank can make the next one
 pub record IsAnswered (said : List Said) (call : Call) (answer : Answer) (w : Seen) : Type 0 where
-  pub ready : IsReady w
+  pub whole : w.trouble ≡ None
   pub true_now : IsTrue w
   pub grown : (rank_in w).transcript ≡ with_call said call answer
   pub fits : IsAnswerTo said call answer
-
--- the rank has finished and knows whether a batch is going on, and the server has ended
-pub record IsFinished (said : List Said) (w : Seen) : Type 0 where
-  pub whole : w.trouble ≡ None
-  pub true_now : IsTrue w
-  pub grown : (rank_in w).transcript ≡ with_call said calls_to.Finish answers.Fine
-  pub heard : is_ended (server_in w) ≡ true
   pub opened : is_some (rank_in w).batch ≡ is_open (rank_in w).transcript
+  pub ended : is_ended (server_in w) ≡ is_finish call
+  pub ready : is_finish call ≡ false → IsReady w
 
 -- The call failed: what the rank has heard is as before, the ledger tells of the call what was entered, and a stamp that was too long
 -- is past the last one.
