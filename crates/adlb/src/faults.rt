@@ -15,7 +15,7 @@ pub enum Fault {
     /// A thread could not be started.
     #[error("a thread could not be started")]
     NoThread,
-    /// Allocation failed, in the work or in the run.
+    /// Allocation failed, in the work or in the run, or an actor got a letter that it did not expect.
     #[error("out of memory")]
     Memory,
     /// An event of the run would have this stamp, which is past the last one that is given.
@@ -24,7 +24,7 @@ pub enum Fault {
 }
 
 impl Fault {
-    // The fault of a run of ranks.
+    /// The fault of a run of work whose run of ranks has this fault.
     pub fn of(fault: RanFault) -> Fault
         ensures no_thread { result ≡ Fault.NoThread → fault ≡ RanFault.NoThread }
         ensures too_long { (stamp : ℕ) → result ≡ Fault.TooLong stamp → fault ≡ RanFault.TooLong stamp }
