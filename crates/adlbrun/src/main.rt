@@ -1,12 +1,15 @@
 //! The program `adlbrun`: reads puzzles and batches of items, works them, and writes their solutions and answers.
 //!
 //! It hands the words of its command line, standard input and output, threads of the system and a gate that is always open to
-//! `run_adlb` of `adlb_command`, tells the fault on standard error, if there is one, and ends with the status. Nothing is proved of
-//! `main`; `unread` says which fault it is if the words cannot be read.
+//! `run_adlb` of `adlb_command`, tells the fault on standard error, if there is one, and behind it what would have been accepted, and
+//! ends with the status. Nothing is proved of `main`; `unread` says which fault it is if the words cannot be read.
 #![tactic(auto)]
+
+mod hints;
 
 ghost use Rattle.std.specs.Prelude.{◌≡◌};
 
+use crate::hints::hints;
 use adlb_command::{RunEnd, RunFault, run_adlb};
 use adlb_io::{FreeGate, RealThreads, StdinSource, StdoutSink};
 use std::env;
@@ -32,6 +35,9 @@ fn main(rt: HostRuntime) -> ExitCode {
     };
     if let Some(fault) = end.fault {
         let _ = eprintln!(&rt; "adlbrun: {fault}");
+        for line in hints(&fault) {
+            let _ = eprintln!(&rt; "{line}");
+        }
     }
     ExitCode::from(end.status)
 }
