@@ -1,6 +1,6 @@
 //! Lists of wanted types, and what is permitted.
 
-ghost use Rattle.std.specs.Prelude.{ℕ, ◌≡◌, ◌<◌, ◌≤◌, ◌↔◌, IsTrue, IfOk, MatchOption, length, Some, None, []};
+ghost use Rattle.std.specs.Prelude.{ℕ, ◌≡◌, ◌<◌, ◌≤◌, ◌↔◌, IsTrue, IfOk, MatchOption, length, Some, None, IfSome, []};
 ghost use Rattle.adlb_unit.specs.Limits.{type_limit};
 ghost use Rattle.adlb_unit.specs.Permit.{HasKind, Permits, class_for, has_kind, permitted};
 
@@ -87,9 +87,10 @@ impl Types {
         }
     }
 
-    /// The list, or `None` if any type is wanted.
+    /// The list, which has 1 to 16 types, or `None` if any type is wanted.
     pub fn kinds(&self) -> Option<&[WorkType]>
-        ensures { MatchOption result (self.now ≡ None) (λ k. self.now ≡ Some k.now) }
+        ensures listed { MatchOption result (self.now ≡ None) (λ k. self.now ≡ Some k.now) }
+        ensures few { IfSome result (λ k. (0 < length k.now) × (length k.now ≤ type_limit)) }
     {
         if self.any {
             return None;

@@ -65,15 +65,8 @@ answered b rank answer =
 
 -- what the rank that gets the unit learns of it
 abbrev pub note_of : Server → Unit → UnitNote
-note_of server u = record {
-  id = u.id;
-  kind = u.kind;
-  prio = u.prio;
-  answer = u.answer;
-  server = server;
-  common = u.common;
-  length = length u.body;
-}
+note_of server u =
+    record { id = u.id; kind = u.kind; prio = u.prio; answer = u.answer; server = server; common = u.common; length = length u.body }
 
 -- own bytes end a fetch where there is no common part
 abbrev pub own_answer : Option CommonRef → List ℕ → Option Answer

@@ -12,39 +12,30 @@ use Rattle.job_text.specs.Kinds.{Kind, skipped, puzzle, batch, item, bad, kind_o
 -- the items that lines add to a batch before them: those up to the next puzzle or batch
 unfoldable pub items_of : List Kind → List Item
 items_of [] = []
-items_of (skipped ∷ kinds) = items_of kinds
 items_of (puzzle grid ∷ kinds) = []
 items_of (batch bytes ∷ kinds) = []
-items_of (item None ∷ kinds) = items_of kinds
 items_of (item (Some i) ∷ kinds) = i ∷ items_of kinds
-items_of (bad reason ∷ kinds) = items_of kinds
+items_of (_ ∷ kinds) = items_of kinds
 
 -- the jobs of lines: each puzzle, and each batch with the items behind it
 unfoldable pub jobs_of : List Kind → List Job
 jobs_of [] = []
-jobs_of (skipped ∷ kinds) = jobs_of kinds
 jobs_of (puzzle grid ∷ kinds) = Puzzle grid ∷ jobs_of kinds
 jobs_of (batch bytes ∷ kinds) = Batch bytes (items_of kinds) ∷ jobs_of kinds
-jobs_of (item i ∷ kinds) = jobs_of kinds
-jobs_of (bad reason ∷ kinds) = jobs_of kinds
+jobs_of (_ ∷ kinds) = jobs_of kinds
 
 -- why a line is refused, if it is, where a batch is going on (on) or not
 abbrev pub fault_of : Bool → Kind → Option LineWhy
-fault_of on skipped = None
-fault_of on (puzzle grid) = None
-fault_of on (batch bytes) = None
+fault_of on (bad reason) = Some reason
 fault_of false (item i) = Some why.Item
 fault_of true (item None) = Some why.Number
-fault_of true (item (Some i)) = None
-fault_of on (bad reason) = Some reason
+fault_of on _ = None
 
 -- a batch is going on behind a line, where one was (on) or was not going on before it
 abbrev pub goes_on : Bool → Kind → Bool
-goes_on on skipped = on
 goes_on on (puzzle grid) = false
 goes_on on (batch bytes) = true
-goes_on on (item i) = on
-goes_on on (bad reason) = on
+goes_on on _ = on
 
 -- the bytes of a batch are at most those of a line
 abbrev pub HasFewBytes : Job → Type 0

@@ -47,8 +47,7 @@ begins_puzzle byte = (byte == 46) || (nat_le 48 byte && nat_le byte 57) || (nat_
 -- the counting of the bytes from one number to another
 abbrev pub counting : Option ℕ → Option ℕ → Option Item
 counting (Some lo) (Some hi) = Some (Count lo hi)
-counting (Some lo) None = None
-counting None hi = None
+counting _ _ = None
 
 -- the item of a line: `sum` or `max` alone, or `count` and two numbers, each after one space
 unfoldable pub item_of : List ℕ → Option Item

@@ -1,12 +1,13 @@
 -- What is written of a list, piece by piece.
 use Rattle.std.proofs.Common.{◌≡◌, ℕ, ◌-◌, ◌≤◌, List, [], ◌∷◌, ◌++◌, length, get_or, take, drop, map, refl, sym, ap, ◌∙◌, append_assoc, arith}
-use Rattle.std.specs.List.{flat_map, join_with_byte}
+use Rattle.std.specs.List.{AllByRecursion, flat_map, join_with_byte}
 use Rattle.std.proofs.lemmas.Grind.{flat_map-append}
 use Rattle.std.proofs.lemmas.List.{take-append-drop, take_all}
+use Rattle.std.proofs.lemmas.List.Elements.{All-append, All-from_recursion, All-same, recursion_from_All}
 use Rattle.bag_ledger.specs.declared.entries.Entry.{Entry}
 use Rattle.ledger_file.specs.declared.fields.Field.{Field}
-use Rattle.ledger_file.specs.Fields.{Field as Spelt, word}
-use Rattle.ledger_file.specs.Lines.{row, line}
+use Rattle.ledger_file.specs.Fields.{Field as Spelt, IsWithin, word}
+use Rattle.ledger_file.specs.Lines.{IsEntry, row, line}
 use Rattle.ledger_file.specs.Inside.Given.{field_of, fields_of, heads, spaced, what, who}
 use Rattle.ledger_file.proofs.Bytes.{joined_is}
 
@@ -51,3 +52,9 @@ entry_written old start mid behind out name e is begun first then ended =
     ∙ ap (λ (v : List ℕ). start ++ v) (sym (flat_map-append (λ f. 32 ∷ word f) (who e) (what e)))
     ∙ ap (λ (fs : List Spelt). start ++ spaced fs) (take-append-drop (heads e) (row e).1) in
     line_written old start behind out (row e).0 (row e).1 (begun ∙ ap (λ (v : List ℕ). old ++ v) is) fields ended
+
+-- an entry of whose fields both parts are in range
+pub entry_within : (e : Entry) → AllByRecursion IsWithin (who e) → AllByRecursion IsWithin (what e) → IsEntry e
+entry_within e first then =
+    recursion_from_All IsWithin (row e).1 (All-same IsWithin (row e).1 _ (sym (take-append-drop (heads e) (row e).1))
+    (All-append IsWithin (who e) (what e) (All-from_recursion IsWithin (who e) first) (All-from_recursion IsWithin (what e) then)))

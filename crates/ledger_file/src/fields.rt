@@ -1,8 +1,9 @@
 //! The fields of a line, as they are written.
 
-ghost use Rattle.std.specs.Prelude.{◌≡◌, ◌++◌, ◌<◌, OnOk, false};
+ghost use Rattle.std.specs.Prelude.{◌≡◌, ◌++◌, ◌<◌, ◌≤◌, OnOk, Some, false, length};
 ghost use Rattle.std.specs.Fmt.{digit_glyph};
-ghost use Rattle.ledger_file.specs.Fields.{word, aim, wanted, body as bytes_field, id};
+ghost use Rattle.adlb_unit.specs.Limits.{type_limit};
+ghost use Rattle.ledger_file.specs.Fields.{IsWithin, word, aim, wanted, body as bytes_field, id};
 ghost use Rattle.ledger_file.specs.Inside.Given.{field_of};
 
 use crate::texts::append;
@@ -25,9 +26,10 @@ pub enum Field<'a> {
 }
 
 impl Field<'_> {
-    /// Appends the word of the field. Its only error is `NoMemory`.
+    /// Appends the word of the field, whose numbers lie in the ranges of their types. Its only error is `NoMemory`.
     pub fn append_to(&self, bytes: &mut Vec<u8>) -> Result<(), NoMemory>
-        ensures { OnOk result (bytes.new.items ≡ bytes.old.items ++ word (field_of self.now)) }
+        ensures written { OnOk result (bytes.new.items ≡ bytes.old.items ++ word (field_of self.now)) }
+        ensures within { OnOk result (IsWithin (field_of self.now)) }
     {
         match self {
             Field::Short(n) => append_number(bytes, *n),
@@ -60,7 +62,8 @@ fn append_number<I: Integer>(bytes: &mut Vec<u8>, n: I) -> Result<(), NoMemory>
 
 // Appends an id. Its only error is `NoMemory`.
 fn append_id(bytes: &mut Vec<u8>, rank: Rank, number: u64) -> Result<(), NoMemory>
-    ensures { OnOk result (bytes.new.items ≡ bytes.old.items ++ word (id rank.0 number)) }
+    ensures written { OnOk result (bytes.new.items ≡ bytes.old.items ++ word (id rank.0 number)) }
+    ensures within { OnOk result (IsWithin (id rank.0 number)) }
 {
     append_number(bytes, rank.0)?;
     append(bytes, b".")?;
@@ -69,7 +72,8 @@ fn append_id(bytes: &mut Vec<u8>, rank: Rank, number: u64) -> Result<(), NoMemor
 
 // Appends a target. Its only error is `NoMemory`.
 fn append_target(bytes: &mut Vec<u8>, target: Target) -> Result<(), NoMemory>
-    ensures { OnOk result (bytes.new.items ≡ bytes.old.items ++ word (aim target)) }
+    ensures written { OnOk result (bytes.new.items ≡ bytes.old.items ++ word (aim target)) }
+    ensures within { OnOk result (IsWithin (aim target)) }
 {
     match target {
         Target::Any => append(bytes, b"any"),
@@ -84,9 +88,12 @@ fn append_target(bytes: &mut Vec<u8>, target: Target) -> Result<(), NoMemory>
     }
 }
 
-// Appends a list of types. Its only error is `NoMemory`.
+// Appends a list of 1 to 16 types. Its only error is `NoMemory`.
 fn append_kinds(bytes: &mut Vec<u8>, kinds: &[WorkType]) -> Result<(), NoMemory>
-    ensures { OnOk result (bytes.new.items ≡ bytes.old.items ++ word (wanted (Some kinds.now))) }
+    requires some { 0 < length kinds.now }
+    requires few { length kinds.now ≤ type_limit }
+    ensures written { OnOk result (bytes.new.items ≡ bytes.old.items ++ word (wanted (Some kinds.now))) }
+    ensures within { OnOk result (IsWithin (wanted (Some kinds.now))) }
 {
     let [first, rest @ ..] = kinds else {
         return Ok(());
@@ -101,7 +108,8 @@ fn append_kinds(bytes: &mut Vec<u8>, kinds: &[WorkType]) -> Result<(), NoMemory>
 
 // Appends the bytes of a body. Its only error is `NoMemory`.
 fn append_body(bytes: &mut Vec<u8>, body: &[u8]) -> Result<(), NoMemory>
-    ensures { OnOk result (bytes.new.items ≡ bytes.old.items ++ word (bytes_field body.now)) }
+    ensures written { OnOk result (bytes.new.items ≡ bytes.old.items ++ word (bytes_field body.now)) }
+    ensures within { OnOk result (IsWithin (bytes_field body.now)) }
 {
     if body.is_empty() {
         return append(bytes, b"-");

@@ -3,7 +3,7 @@
 ghost use Rattle.std.specs.Prelude.{◌≡◌, ℕ, List, MatchResult};
 ghost use Rattle.adlb_unit.specs.declared.configs.Config.{Config};
 ghost use Rattle.bag_ledger.specs.declared.entries.Entry.{Entry};
-ghost use Rattle.ledger_file.specs.Lines.{AreEntries, IsFirstBad, IsText};
+ghost use Rattle.ledger_file.specs.Lines.{IsFirstBad, IsText};
 
 use crate::faults::LedgerFault;
 use crate::reading::read_ledger;
@@ -22,15 +22,13 @@ pub fn text_laws()
     ensures one_line { (bytes : List ℕ) (a b : ℕ) → IsFirstBad bytes a → IsFirstBad bytes b → a ≡ b }
 {}
 
-/// What is read of the text that is written: the configuration and the ledger that were given, if the numbers of the
-/// entries lie in the ranges of their types (`AreEntries`), as they do in each ledger that code holds. Its only error
-/// is `Memory`.
+/// What is read of the text that is written: the configuration and the ledger that were given. Its only error is `Memory`.
 pub fn read_back(
     alloc: Global,
     config: &Config,
     ledger: &Ledger,
 ) -> Result<(Config, Ledger), LedgerFault>
-    ensures { AreEntries ledger.now → MatchResult result (λ x. (x.0 ≡ config.now) × (x.1 ≡ ledger.now)) (λ fault. fault ≡ LedgerFault.Memory) }
+    ensures { MatchResult result (λ x. (x.0 ≡ config.now) × (x.1 ≡ ledger.now)) (λ fault. fault ≡ LedgerFault.Memory) }
 {
     match write_ledger(alloc, config, ledger) {
         Ok(text) => read_ledger(alloc, &text),

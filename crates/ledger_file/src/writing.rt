@@ -1,7 +1,9 @@
 //! Writing the text of a configuration and its ledger.
 
 ghost use Rattle.std.specs.Prelude.{◌≡◌, ◌++◌, IfOk, OnOk, length};
-ghost use Rattle.ledger_file.specs.Lines.{first_row, last_row, line, open_text, row, text};
+ghost use Rattle.std.specs.List.{AllByRecursion};
+ghost use Rattle.ledger_file.specs.Fields.{IsWithin};
+ghost use Rattle.ledger_file.specs.Lines.{AreEntries, IsEntry, first_row, last_row, line, open_text, row, text};
 ghost use Rattle.ledger_file.specs.Inside.Given.{fields_of, spaced, what, who};
 
 use crate::fields::Field::{self, Aim, Answer, Bytes, End, Id, Number, Prio, Short, Top, Types};
@@ -12,9 +14,11 @@ use bag_ledger::Entry;
 use packed_ledger::Ledger;
 use std::alloc::Global;
 
-/// The text of the configuration and the ledger (`text`). Its only error is `NoMemory`.
+/// The text of the configuration and the ledger (`text`), the numbers of whose entries lie in the ranges of their types. Its only
+/// error is `NoMemory`.
 pub fn write_ledger(alloc: Global, config: &Config, ledger: &Ledger) -> Result<Vec<u8>, NoMemory>
-    ensures { IfOk result (λ bytes. bytes.items ≡ text config.now ledger.now) }
+    ensures written { IfOk result (λ bytes. bytes.items ≡ text config.now ledger.now) }
+    ensures within { OnOk result (AreEntries ledger.now) }
 {
     let mut bytes = Vec::new(alloc);
     let (ranks, servers) = (Short(config.ranks), Short(config.servers));
@@ -33,7 +37,8 @@ pub fn write_ledger(alloc: Global, config: &Config, ledger: &Ledger) -> Result<V
 
 // Appends the line of the entry. Its only error is `NoMemory`.
 fn append_entry(bytes: &mut Vec<u8>, entry: &Entry) -> Result<(), NoMemory>
-    ensures { OnOk result (bytes.new.items ≡ bytes.old.items ++ line (row entry.now)) }
+    ensures written { OnOk result (bytes.new.items ≡ bytes.old.items ++ line (row entry.now)) }
+    ensures within { OnOk result (IsEntry entry.now) }
 {
     append(bytes, Name::of_entry(entry).word())?;
     append_who(bytes, entry)?;
@@ -43,7 +48,8 @@ fn append_entry(bytes: &mut Vec<u8>, entry: &Entry) -> Result<(), NoMemory>
 
 // Appends the server, the rank and the call of the entry, as far as its line has them. Its only error is `NoMemory`.
 fn append_who(bytes: &mut Vec<u8>, entry: &Entry) -> Result<(), NoMemory>
-    ensures { OnOk result (bytes.new.items ≡ bytes.old.items ++ spaced (who entry.now)) }
+    ensures written { OnOk result (bytes.new.items ≡ bytes.old.items ++ spaced (who entry.now)) }
+    ensures within { OnOk result (AllByRecursion IsWithin (who entry.now)) }
 {
     match entry {
         Entry::Putting { rank, call, .. }
@@ -89,7 +95,8 @@ fn append_who(bytes: &mut Vec<u8>, entry: &Entry) -> Result<(), NoMemory>
 
 // Appends the fields behind those. Its only error is `NoMemory`.
 fn append_what(bytes: &mut Vec<u8>, entry: &Entry) -> Result<(), NoMemory>
-    ensures { OnOk result (bytes.new.items ≡ bytes.old.items ++ spaced (what entry.now)) }
+    ensures written { OnOk result (bytes.new.items ≡ bytes.old.items ++ spaced (what entry.now)) }
+    ensures within { OnOk result (AllByRecursion IsWithin (what entry.now)) }
 {
     match entry {
         Entry::Putting {
@@ -149,7 +156,8 @@ fn append_line(bytes: &mut Vec<u8>, name: &[u8], fields: &[Field<'_>]) -> Result
 
 // Appends fields, each behind a blank. Its only error is `NoMemory`.
 fn append_fields(bytes: &mut Vec<u8>, fields: &[Field<'_>]) -> Result<(), NoMemory>
-    ensures { OnOk result (bytes.new.items ≡ bytes.old.items ++ spaced (fields_of fields.now)) }
+    ensures written { OnOk result (bytes.new.items ≡ bytes.old.items ++ spaced (fields_of fields.now)) }
+    ensures within { OnOk result (AllByRecursion IsWithin (fields_of fields.now)) }
 {
     for field in fields {
         append(bytes, b" ")?;

@@ -24,9 +24,8 @@ bytes_on (Some common) = common
 -- what the work on a unit makes: on a board its boards and solutions, on a job its answer; the others stay with the rank
 abbrev pub makes_of : ℕ → List ℕ → Made → List Made
 makes_of grain common (made.Board b) = made_by grain b
-makes_of grain common (made.Solution s) = []
 makes_of grain common (made.Job j) = made.Answer (answer_of common j) ∷ []
-makes_of grain common (made.Answer a) = []
+makes_of grain common _ = []
 
 abbrev pub makes : ℕ → Arrival → List Made
 makes grain a = makes_of grain a.common a.unit

@@ -23,15 +23,8 @@ pub record Scene : Type 0 where
   pub started : ℕ
 
 abbrev pub scene : Option (List ℕ) → ℕ → Option (List ℕ) → ℕ → Bool → ℕ → ℕ → Scene
-scene left reads taken writes flushed refused started = record {
-  left = left;
-  reads = reads;
-  taken = taken;
-  writes = writes;
-  flushed = flushed;
-  refused = refused;
-  started = started;
-}
+scene left reads taken writes flushed refused started =
+    record { left = left; reads = reads; taken = taken; writes = writes; flushed = flushed; refused = refused; started = started }
 
 -- the source is left as it was; no thread was started, and no start was refused
 pub record ReadsNothing (before after : Scene) : Type 0 where

@@ -43,17 +43,15 @@ tree m budget g = grown m (suc budget) budget g
 
 -- the solution nodes, in the order of the tree
 abbrev pub solutions : Tree → List Cells
-solutions end = []
 solutions (solution g) = g ∷ []
-solutions over = []
 solutions (child budget k share g below others) = solutions below ++ solutions others
+solutions _ = []
 
 -- some node is over
 abbrev pub is_over : Tree → Bool
-is_over end = false
-is_over (solution g) = false
 is_over over = true
 is_over (child budget k share g below others) = is_over below || is_over others
+is_over _ = false
 
 -- a node with this budget and so many children hands them out as units of their own
 abbrev pub hands_out : ℕ → ℕ → ℕ → Bool
@@ -61,11 +59,9 @@ hands_out grain budget k = nat_lt grain budget && nat_lt 1 k
 
 -- how many nodes below the root are handed out
 abbrev pub handed : ℕ → Tree → ℕ
-handed grain end = 0
-handed grain (solution g) = 0
-handed grain over = 0
 handed grain (child budget k share g below others) =
     (if hands_out grain budget k then 1 else 0) + handed grain below + handed grain others
+handed grain _ = 0
 
 -- the boards made of a puzzle: the root, and each node whose parent has two or more candidates and a budget above the grain
 abbrev pub boards : ℕ → Tree → ℕ
