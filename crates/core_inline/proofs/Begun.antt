@@ -1,8 +1,7 @@
 -- The call that a ledger has begun beyond those of a transcript is the one that is told of it.
 use Rattle.core_inline.proofs.Prelude.{Bag, Call, Config, Entry, IsOpen, IsRun, IsTold, List, Option, RankState, Said, [], after_all, ap}
-use Rattle.core_inline.proofs.Prelude.{begun_in, call_of, calls, drop, first_open, length, option_and_then, pending_in, start, subst}
-use Rattle.core_inline.proofs.Prelude.{sym, zeroth, ◌++◌, ◌∙◌, ◌∷◌, ◌≡◌}
-use Rattle.std.proofs.Math.Seq.{drop-append_seam}
+use Rattle.core_inline.proofs.Prelude.{begun_in, call_of, drop, drop-append_seam, first_open, length, option_and_then, pending_in, start}
+use Rattle.core_inline.proofs.Prelude.{subst, sym, ◌++◌, ◌∙◌, ◌∷◌, ◌≡◌}
 
 pub after_all_is : (b last : Bag) (ledger : List Entry) → IsRun b ledger last → after_all b ledger ≡ last
 after_all_is b last [] run = run
@@ -24,7 +23,7 @@ begun_is config ledger said begun t =
     let last : pending_in (after_all (start config) ledger) ≡ call_of t.rank.status =
     ap pending_in (after_all_is (start config) t.last ledger t.legal)
     ∙ ap (option_and_then (λ (r : RankState). call_of r.status)) t.there in
-    let more : drop (length said) (calls config ledger zeroth) ≡ t.more = ap (drop (length said)) t.calls_are ∙ drop-append_seam said t.more in
+    let more = ap (drop (length said)) t.calls_are ∙ drop-append_seam said t.more in
     ap (λ l. first_open (pending_in (after_all (start config) ledger)) l) more ∙ ap (λ o. first_open o t.more) last
     ∙ first_is (call_of t.rank.status) t.more begun t.open_call
 
