@@ -96,8 +96,8 @@ module _ (said : List Said) (call : Call) (running : has_finished said ≡ false
         let rank = subst Remembers (sym s.rank) i.rank in
         let less : IsLone s.next → to_come s.next < to_come w =
         λ lone.
-            let now = single s.next lone answer says rank in
-            omega (arith, some, now, ap length s.unasked, ap (λ (k : ClientModel). more k.pending) s.rank) in
+        let now = single s.next lone answer says rank in
+        omega (arith, some, now, ap length s.unasked, ap (λ (k : ClientModel). more k.pending) s.rank) in
         record {
           answer = answer;
           move =
@@ -136,9 +136,9 @@ module _ (said : List Said) (call : Call) (running : has_finished said ≡ false
         (passes_letter c one_server front.0 h.x h.does) in
         let less : IsLone h.next → to_come h.next < to_come w =
         λ lone.
-            let now = (facts h.next lone).letters in
-            let over = ap one (unfinished h.x.answer (client_of h.next zeroth) says rank other) in
-            omega (arith, some, passed, now, over, ap length h.untold) in
+        let now = (facts h.next lone).letters in
+        let over = ap one (unfinished h.x.answer (client_of h.next zeroth) says rank other) in
+        omega (arith, some, passed, now, over, ap length h.untold) in
         record {
           answer = h.x.answer;
           move =
@@ -213,15 +213,15 @@ module _ (said : List Said) (call : Call) (running : has_finished said ≡ false
 
 -- The rank begins a call.
 
-module _ (w : Seen) (i : IsReady w) (call : Call) (can : CanCall 1 1 (rank_in w).transcript call) where
-  pub running : has_finished (rank_in w).transcript ≡ false
-  running = i.rests.rank.finishes ∙ i.rests.going
+pub running : (w : Seen) → IsReady w → has_finished (rank_in w).transcript ≡ false
+running w i = i.rests.rank.finishes ∙ i.rests.going
 
+module _ (w : Seen) (i : IsReady w) (call : Call) (can : CanCall 1 1 (rank_in w).transcript call) where
   begun : (x : Made) × (begin (rank_in w) call ≡ Some x)
   begun =
       let me = rank_in w in
       let own = (rank_own w.world i.lone).config in
-      some_there (begin me call) (steps_tell.ready me call i.rests.rank i.rests.idle running
+      some_there (begin me call) (steps_tell.ready me call i.rests.rank i.rests.idle (running w i)
       (subst (λ n. CanCall n me.config.servers me.transcript call) (sym (ap (λ (g : Config). g.ranks) own ∙ i.lone.one_rank))
       (subst (λ n. CanCall 1 n me.transcript call) (sym (ap (λ (g : Config). g.servers) own ∙ i.lone.one_server)) can)))
 
@@ -235,10 +235,10 @@ module _ (w : Seen) (i : IsReady w) (call : Call) (can : CanCall 1 1 (rank_in w)
       let rank = subst Remembers (sym b.rank) t.remembers in
       let some = more_few (client_of b.next zeroth).pending in
       let answer = ap (option_and_then (λ (x : Made). x.answer)) begun.1 in
-      rw answer (move_of me.transcript call running w.world i.lone (occurs.Call zeroth call) (Before i.rests.idle refl)
+      rw answer (move_of me.transcript call (running w i) w.world i.lone (occurs.Call zeroth call) (Before i.rests.idle refl)
       (omega (arith, i.rests.few)) b.next b.happened x.answer says rank
       (λ lone.
-      let letters = single me.transcript call running b.next lone x.answer says rank in (
+      let letters = single me.transcript call (running w i) b.next lone x.answer says rank in (
         omega (arith, ap (λ (k : ClientModel). k.clock) b.rank, t.clock, i.rests.few, letters, some),
         omega (arith, ap (λ (s : ServerModel). s.clock) b.pool, i.rests.behind, letters, some),
       )))

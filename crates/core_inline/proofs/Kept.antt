@@ -9,9 +9,8 @@ use Rattle.core_inline.proofs.Prelude.{run_of, seat_by, server_in, some_is, stam
 use Rattle.core_inline.proofs.Prelude.{take_all, troubled, true, with_call, zeroth, ℕ, ◌*◌, ◌++◌, ◌+◌, ◌<◌, ◌^◌, ◌||◌, ◌∙◌, ◌∷◌, ◌≡◌, ◌≤◌}
 use Rattle.adlb_unit.specs.declared.configs.ConfigFault.{ConfigFault}
 use Rattle.adlb_unit.specs.declared.configs.ConfigFault.TheVariants.{Limit, Ranks, Servers}
-use Rattle.core_inline.proofs.Begun.{begun_is, retold}
 use Rattle.core_inline.proofs.Exchanging.{is_true}
-use Rattle.core_inline.proofs.Lefts.{left_is}
+use Rattle.core_inline.proofs.Opened.{begun_is, retold}
 use Rattle.core_inline.specs.declared.runs.InlineRun.TheInside.{Inside}
 use Rattle.core_run.specs.World.{start}
 use Rattle.rank_client.proofs.LinkLaws.{batch_fell, batch_moved, can_call, made_again, made_answered, made_failed}

@@ -1,5 +1,4 @@
 pub mod Batches
-pub mod Begun
 pub mod Clients
 pub mod Exchanging
 pub mod Kept

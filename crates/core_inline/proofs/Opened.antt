@@ -1,7 +1,8 @@
--- What a front of a ledger tells of a call that the whole ledger tells of.
+-- The call that a ledger has begun beyond those of a transcript, also of a front of that ledger.
 use Rattle.core_inline.proofs.Prelude.{Bag, Call, Config, Entry, IsOpen, IsRun, IsTold, List, None, Option, RankState, Said, Some, [], ap}
-use Rattle.core_inline.proofs.Prelude.{append_assoc, append_cancel_left, call_of, calls, calls_from, first_open, inl, inr, rank_at, refl}
-use Rattle.core_inline.proofs.Prelude.{says, settled, some_is, start, subst, sym, zeroth, ◌++◌, ◌∙◌, ◌∷◌, ◌≡◌, ◌⊎◌}
+use Rattle.core_inline.proofs.Prelude.{append_assoc, append_cancel_left, call_of, calls, calls_from, drop, drop-append_seam, inl, inr}
+use Rattle.core_inline.proofs.Prelude.{length, option_and_then, rank_at, refl, says, settled, some_is, start, subst, sym, zeroth, ◌++◌, ◌∙◌}
+use Rattle.core_inline.proofs.Prelude.{◌∷◌, ◌≡◌, ◌⊎◌}
 use Rattle.adlb_unit.specs.declared.names.Rank.{Rank}
 use Rattle.bag_ledger.proofs.Calls.{calls_split}
 use Rattle.bag_ledger.proofs.Legal.{run_split}
@@ -9,7 +10,44 @@ use Rattle.bag_ledger.specs.Steps.{Is, after}
 use Rattle.balance_law.proofs.Deeds.{Deed, awaits, begins, calls_done, finishes, hears, waits}
 use Rattle.balance_law.proofs.Paths.{IsPath, along, calls_along, path_of}
 use Rattle.balance_law.proofs.Seen.{IsAway, IsTurn, of_mine, of_none, seen}
-use Rattle.core_inline.proofs.Begun.{first_is, same_end}
+use Rattle.core_inline.specs.inside.Begun.{after_all, begun_in, first_open, pending_in}
+
+pub after_all_is : (b last : Bag) (ledger : List Entry) → IsRun b ledger last → after_all b ledger ≡ last
+after_all_is b last [] run = run
+after_all_is b last (e ∷ es) run = ap (λ v. after_all v es) (sym run.1.2) ∙ after_all_is run.0 last es run.2
+
+-- the ends of two runs of a ledger
+pub same_end : (b last other : Bag) (ledger : List Entry) → IsRun b ledger last → IsRun b ledger other → last ≡ other
+same_end b last other ledger run again = sym (after_all_is b last ledger run) ∙ after_all_is b other ledger again
+
+pub first_is : (pending : Option Call) (more : List Said) (begun : Option Call) → IsOpen pending more begun
+    → first_open pending more ≡ begun
+first_is pending [] begun is = sym is
+first_is pending (s ∷ []) begun is = sym is.1
+first_is pending (s ∷ t ∷ more) begun is = absurd is
+
+pub begun_is : (config : Config) (ledger : List Entry) (said : List Said) (begun : Option Call) → IsTold config ledger said begun
+    → begun_in config ledger said ≡ begun
+begun_is config ledger said begun t =
+    let last : pending_in (after_all (start config) ledger) ≡ call_of t.rank.status =
+    ap pending_in (after_all_is (start config) t.last ledger t.legal)
+    ∙ ap (option_and_then (λ (r : RankState). call_of r.status)) t.there in
+    let more = ap (drop (length said)) t.calls_are ∙ drop-append_seam said t.more in
+    ap (λ l. first_open (pending_in (after_all (start config) ledger)) l) more ∙ ap (λ o. first_open o t.more) last
+    ∙ first_is (call_of t.rank.status) t.more begun t.open_call
+
+-- what is told, in other words
+abbrev pub retold : (config : Config) (ledger : List Entry) (said said' : List Said) (begun begun' : Option Call)
+    → IsTold config ledger said begun → said ≡ said' → begun' ≡ begun → IsTold config ledger said' begun'
+retold config ledger said said' begun begun' t said_is begun_is = record {
+  last = t.last;
+  legal = t.legal;
+  more = t.more;
+  calls_are = t.calls_are ∙ ap (λ (l : List Said). l ++ t.more) said_is;
+  rank = t.rank;
+  there = t.there;
+  open_call = subst (λ (o : Option Call). IsOpen (call_of t.rank.status) t.more o) (sym begun_is) t.open_call;
+}
 
 -- A call that is pending is the first that is told later, or is pending still.
 

@@ -19,7 +19,6 @@ pub use Rattle.bag_ledger.specs.declared.states.RankState.{RankState}
 pub use Rattle.core_check_law.proofs.Tokens.{at_most}
 pub use Rattle.core_inline.specs.Inline.{IsEnd, IsInline, IsOpen, IsStart, IsTold, Run, batch_of, finish_answer, link_of, seat_by, zeroth}
 pub use Rattle.core_inline.specs.Left.{IsLeft, left_at, left_with}
-pub use Rattle.core_inline.specs.inside.Begun.{after_all, begun_in, first_open, pending_in}
 pub use Rattle.core_inline.specs.inside.Fields.{IsInside, run_of}
 pub use Rattle.core_inline.specs.inside.Pairs.{IsAnswered, IsFailed, IsIdle, IsLone, IsReady, IsTrue, IsUnderWay, asked, by_rank, by_server}
 pub use Rattle.core_inline.specs.inside.Pairs.{first_server, is_ended, rank_in, server_in, told, with_call}

@@ -1,5 +1,4 @@
 use Rattle.core_inline.proofs.Prelude.{Can, HasGrant, Run, ap, err_from_is_err_and, has_finished, link_of, subst, sym, ◌∙◌}
-use Rattle.core_inline.proofs.Exchanging.{running}
 use Rattle.core_inline.proofs.Kept.{again_made, answered_inside, answered_made, begins_call, failed_inside, failed_made}
 use Rattle.core_inline.proofs.runs.InlineRun.call.Goals as goal
 

@@ -10,9 +10,7 @@ pub invariant_of-result : goal.invariant_of-result
 invariant_of-result c =
     (starts c.in-Ok.config c.args.limit c.in-Ok.ensures.ranks c.in-Ok.ensures.servers c.in-Ok.ensures.limit _ c.in_ok-new.ensures).0
 
-pub returns-clause-start : goal.returns-clause-start
-returns-clause-start c =
-    (starts c.in-Ok.config c.args.limit c.in-Ok.ensures.ranks c.in-Ok.ensures.servers c.in-Ok.ensures.limit _ c.in_ok-new.ensures).1
-
-pub returns-clause-holds : goal.returns-clause-holds
-returns-clause-holds c = (invariant_of-result c).inline
+pub returns : goal.returns
+returns c =
+    let s = starts c.in-Ok.config c.args.limit c.in-Ok.ensures.ranks c.in-Ok.ensures.servers c.in-Ok.ensures.limit _ c.in_ok-new.ensures in
+    record { start = s.1; holds = s.0.inline }
