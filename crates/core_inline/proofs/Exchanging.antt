@@ -1,480 +1,244 @@
 -- The events of a call, in a world of one rank and one server.
-use Rattle.core_inline.proofs.Prelude.{Answer, Bool, Call, CanCall, ClientModel, Config, IsAnswerTo, IsAnswered, IsIdle, IsLone, IsReady}
-use Rattle.core_inline.proofs.Prelude.{IsTrue, Letter, List, Made, None, Option, Pending, Said, Seen, ServerModel, Some, World, []}
-use Rattle.core_inline.proofs.Prelude.{after_rank, answers_call, ap, arith, call_stamp, client_of, event_answer, event_stamp, false}
-use Rattle.core_inline.proofs.Prelude.{first_server, happens, inl, inr, is_ended, is_finish, is_finished, is_idle, is_open, is_some, length}
-use Rattle.core_inline.proofs.Prelude.{length_push, letter_stamp, not, one, option_and_then, pending_call, pool_of, rank_in, refl}
-use Rattle.core_inline.proofs.Prelude.{server_in, some_is, stamp_limit, subst, suc, sym, true, with_call, zero, zeroth, ℕ, ◌&&◌, ◌*◌, ◌+◌}
-use Rattle.core_inline.proofs.Prelude.{◌<◌, ◌==◌, ◌∙◌, ◌∷◌, ◌≡◌, ◌≤◌, ◌⊎◌}
-use Rattle.bag_ledger.specs.declared.entries.Answer.TheVariants as answers
-use Rattle.bag_ledger.specs.declared.entries.Call.TheVariants as calls_to
-use Rattle.rank_client.specs.declared.pendings.Pending.TheVariants as waits_for
+use Rattle.core_inline.proofs.Prelude.{Actor, Answer, Bool, Call, CanCall, ClientModel, Config, Event, IsAnswered, IsLone, IsReady, IsSome}
+use Rattle.core_inline.proofs.Prelude.{IsTrue, IsUnderWay, List, Made, None, Option, Pending, Remembers, Said, Says, Seen, ServerModel}
+use Rattle.core_inline.proofs.Prelude.{Some, Waits, World, [], ap, arith, asked, at_most, begin, by_rank, client_of, event_answer}
+use Rattle.core_inline.proofs.Prelude.{event_stamp, false, finished_more, first_server, happens, has_finished, inl, inr, is_ended}
+use Rattle.core_inline.proofs.Prelude.{is_finish, is_finished, is_free, is_idle, is_some, length, length_push, not, one, option_and_then}
+use Rattle.core_inline.proofs.Prelude.{pending_call, pool_of, rank_in, refl, server_in, some_is, some_there, stamp_limit, steps_tell, subst}
+use Rattle.core_inline.proofs.Prelude.{sym, told, true, zeroth, ℕ, ◌&&◌, ◌*◌, ◌+◌, ◌<◌, ◌||◌, ◌∙◌, ◌≡◌, ◌≤◌}
+use Rattle.core_inline.proofs.Clients.{more, more_few, passes_letter, pending_other}
+use Rattle.core_inline.proofs.Reached.{ended_is, facts, goes_on, lone_next, not_ended, one_of, rank_own, settles, to_rank, to_server}
+use Rattle.core_inline.proofs.Told.{Before, Behind, IsAt, IsStage, Within, true_idle}
 use Rattle.core_run.specs.declared.events.Event.TheVariants as occurs
-use Rattle.core_bound_law.proofs.Clocks.{serve_stays}
-use Rattle.core_inline.proofs.Clients.{GoesBy, IsBegun, IsEnded, IsPending, call_begins, call_ends, call_goes, is_common}
-use Rattle.core_inline.proofs.Failing.{IsStage}
-use Rattle.core_inline.proofs.Reached.{IsCalled, IsHeard, IsServed, asked, ended_parts, facts, goes_on, lone_next, none_of, one_false, one_of}
-use Rattle.core_inline.proofs.Reached.{rank_own, settles, under_way}
-use Rattle.rank_client.specs.Rules.{is_free}
-use Rattle.core_inline.proofs.Reached.{by_rank, to_rank, to_server, told}
-use Rattle.core_inline.proofs.Told.{Behind, Before, IsAt, Within, true_idle}
+use Rattle.rank_client.specs.declared.pendings.Pending.TheVariants as waits_for
 
-busy : (said : List Said) (call : Call) (c : ClientModel) → IsPending said call c → one (not (is_idle c.pending)) ≡ 1
-busy said call c p = by_pending c.pending p.pending
-  where
-    by_pending : (q : Pending) → pending_call q ≡ Some call → one (not (is_idle q)) ≡ 1
-    by_pending waits_for.Nothing is = absurd (cc)
-    by_pending _ is = refl
+-- so many events of the call are to come at most
+abbrev pub to_come : World → ℕ
+to_come w = 2 * length (asked w) + length (told w) + more (client_of w zeroth).pending
 
--- What the ledger tells after a call.
-pub true_after : (w : Seen) → IsLone w.world → (rank_in w).pending ≡ waits_for.Nothing → length (rank_in w).transcript < stamp_limit → IsTrue w
-true_after w l idle short = let t = true_idle w.world l idle in record { told = t.0; left = t.1; short = short }
-
--- Finish is over.
-pub record IsOver (said : List Said) (call : Call) (c : ClientModel) : Type 0 where
-  pub answer : Answer
-  pub idle : c.pending ≡ waits_for.Nothing
-  pub finished : c.finished ≡ true
-  pub grown : c.transcript ≡ with_call said call answer
-  pub kind : answers_call call answer ≡ true
-  pub last : is_finish call ≡ true
-  pub opened : is_some c.batch ≡ is_open c.transcript
-
-abbrev pub GoesOn : List Said → Call → ClientModel → Type 0
-GoesOn said call c = IsPending said call c ⊎ IsOver said call c
-
--- so there is one letter
-owed : (said : List Said) (call : Call) (c : ClientModel) → GoesOn said call c → one (not (is_idle c.pending)) + one c.finished ≡ 1
-owed said call c (inl p) = omega (arith, busy said call c p, ap one p.going)
-owed said call c (inr o) = omega (arith, ap one o.finished, ap (λ p. one (not (is_idle p))) o.idle)
-
-unfree : (said : List Said) (call : Call) (c : ClientModel) → GoesOn said call c → is_free c ≡ false
-unfree said call c (inl p) = ap (λ t. t && not c.finished) (one_no (is_idle c.pending) (busy said call c p))
-  where
-    one_no : (t : Bool) → one (not t) ≡ 1 → t ≡ false
-    one_no true is = absurd (omega (arith, is))
-    one_no false is = refl
-unfree said call c (inr o) = rw (o.idle, o.finished) refl
-
-at_of : (said : List Said) (call : Call) (c : ClientModel) → GoesOn said call c → IsAt said call c
-at_of said call c (inl p) = Within p
-at_of said call c (inr o) = Behind o.answer o.idle o.grown
-
-pending_other : (p : Pending) (call : Call) → pending_call p ≡ Some call → is_finish call ≡ false
-pending_other waits_for.Nothing call is = absurd (cc)
-pending_other (waits_for.Put unit first tried) call is = ap is_finish (sym (some_is is))
-pending_other (waits_for.Reserve request types) call is = ap is_finish (sym (some_is is))
-pending_other (waits_for.Try request types tried) call is = ap is_finish (sym (some_is is))
-pending_other (waits_for.Fetch request note) call is = ap is_finish (sym (some_is is))
-pending_other (waits_for.Common request note common own) call is = ap is_finish (sym (some_is is))
-pending_other (waits_for.Keep request common first tried) call is = ap is_finish (sym (some_is is))
-pending_other (waits_for.Close request batch) call is = ap is_finish (sym (some_is is))
-pending_other (waits_for.Count request kind) call is = ap is_finish (sym (some_is is))
-pending_other (waits_for.SetDone request tried) call is = ap is_finish (sym (some_is is))
-
--- Finish is answered by Fine alone
-fine_is : (call : Call) (a : Answer) → is_finish call ≡ true → answers_call call a ≡ true → a ≡ answers.Fine
-fine_is calls_to.Finish answers.Fine last is = refl
-fine_is calls_to.Finish _ last is = absurd (cc)
-fine_is _ a last is = absurd (cc)
-
--- how many events of the call came before its letter went off: that by which it began, and, if the common bytes of a unit are asked
--- for, the two by which its own have come
-abbrev pub past : Bool → ℕ
-past true = 0
-past false = 2
-
--- The letter of the call is the only one, and is under way to the server: the call is pending, or it is Finish and is over. It is the
--- first letter of the call, or asks for the common bytes of a unit.
-pub record IsAsked (first : Bool) (said : List Said) (call : Call) (w : World) : Type 0 where
+-- The call waits, or has this answer; and it takes five events at most.
+pub record HasCome (said : List Said) (call : Call) (answer : Option Answer) (w : World) : Type 0 where
   pub lone : IsLone w
-  pub goes : GoesOn said call (client_of w zeroth)
-  pub single : length (asked w) ≡ 1
-  pub early : (client_of w zeroth).clock < stamp_limit
-  pub counted : length said < (client_of w zeroth).clock
-  pub few : (client_of w zeroth).clock ≤ 5 * length said + past first + 1
-  pub behind : (pool_of w first_server).clock ≤ 5 * length said + past first
-  pub common : first ≡ false → is_common (client_of w zeroth).pending ≡ true
+  pub says : Says said call answer (client_of w zeroth)
+  pub rank : Remembers (client_of w zeroth)
+  pub few : (client_of w zeroth).clock + to_come w ≤ 5 * length said + 5
+  pub behind : (pool_of w first_server).clock + to_come w ≤ 5 * length said + 5
 
--- The answer is under way to the rank.
-pub record IsBack (first : Bool) (said : List Said) (call : Call) (w : World) : Type 0 where
-  pub lone : IsLone w
-  pub waits : IsPending said call (client_of w zeroth)
-  pub single : length (told w) ≡ 1
-  pub early : (pool_of w first_server).clock < stamp_limit
-  pub counted : length said < (client_of w zeroth).clock
-  pub few : (client_of w zeroth).clock ≤ 5 * length said + past first + 1
-  pub behind : (pool_of w first_server).clock ≤ 5 * length said + past first + 2
-  pub common : first ≡ false → is_common (client_of w zeroth).pending ≡ true
+-- The event can happen now; if its stamp is given, it leads to a world in which the call has come so far.
+pub record IsMove (said : List Said) (call : Call) (answer : Option Answer) (w : World) (event : Event) : Type 0 where
+  pub stage : IsStage said call w event
+  pub goes : (now : World) → happens w event ≡ Some now → event_stamp w event < stamp_limit → HasCome said call answer now
 
-past_few : (first : Bool) → past first ≤ 2
-past_few true = omega arith
-past_few false = omega arith
+-- A letter is handled: one event less is to come, and the call goes on, or has its answer, and is not Finish.
+pub record IsDelivered (said : List Said) (call : Call) (before : Option Answer) (w : World) (event : Event) : Type 0 where
+  pub answer : Option Answer
+  pub move : IsMove said call answer w event
+  pub less : (now : World) → happens w event ≡ Some now → IsLone now → to_come now < to_come w
+  pub on : event_answer w event ≡ None → answer ≡ before
+  pub over : (a : Answer) → event_answer w event ≡ Some a → (answer ≡ Some a) × (is_finish call ≡ false)
 
--- a server that has handled no Finish has not ended
-not_ended : (s : ServerModel) → is_finished s.kept zeroth ≡ false → is_ended s ≡ false
-not_ended s unhandled = by_test s.kept.shut
-  where
-    by_test : (t : Bool) → (t && is_finished s.kept zeroth) ≡ false
-    by_test true = unhandled
-    by_test false = refl
+-- what the ledger tells while no call is pending
+pub is_true : (w : Seen) → IsLone w.world → (rank_in w).pending ≡ waits_for.Nothing → length (rank_in w).transcript < stamp_limit → IsTrue w
+is_true w l idle short = let t = true_idle w.world l idle in record { told = t.0; left = t.1; short = short }
 
--- the step by which the call is answered led to this world
-answered_now : (now : Seen) (said : List Said) (call : Call) (stamp : ℕ) (x : Made) → IsLone now.world → now.trouble ≡ None
-    → is_finish call ≡ false → rank_in now ≡ x.state → (over : IsEnded said stamp call x)
-    → length said < stamp → stamp ≤ 5 * length said + 5 → (server_in now).clock ≤ 5 * length said + 5 → stamp < stamp_limit
-    → IsAnswered said call over.answer now
-answered_now now said call stamp x lone whole other rank over counted few behind early =
-    let long = ap length over.grown ∙ length_push said (record { call = call; answer = over.answer }) in
-    let idle : IsIdle x.state (server_in now) = record {
-      idle = over.idle;
-      going = over.finished ∙ other;
-      rank = over.rank;
-      few = omega (arith, long, over.clock, few);
-      behind = omega (arith, long, behind);
-    } in
-    let short : length (rank_in now).transcript < stamp_limit =
-    omega (arith, ap (λ (k : ClientModel). length k.transcript) rank, long, counted, early) in
-    let rests = subst (λ k. IsIdle k (server_in now)) (sym rank) idle in
-    record {
+module _ (said : List Said) (call : Call) (running : has_finished said ≡ false) where
+  -- the rank has finished if the call is Finish and has its answer
+  finished_is : (answer : Option Answer) (c : ClientModel) → Says said call answer c → Remembers c
+      → c.finished ≡ (is_some answer && is_finish call)
+  finished_is None c says rank = sym rank.finishes ∙ ap has_finished says.same ∙ running
+  finished_is (Some a) c says rank =
+      sym rank.finishes ∙ ap has_finished says.grown ∙ finished_more said (record { call = call; answer = a })
+      ∙ ap (λ b. b || is_finish call) running
+
+  unfinished : (answer : Option Answer) (c : ClientModel) → Says said call answer c → Remembers c → is_finish call ≡ false
+      → c.finished ≡ false
+  unfinished None c says rank other = finished_is None c says rank
+  unfinished (Some a) c says rank other = finished_is (Some a) c says rank ∙ other
+
+  at_of : (answer : Option Answer) (c : ClientModel) → Says said call answer c → Remembers c → IsAt said call c
+  at_of None c says rank = Within (finished_is None c says rank) says
+  at_of (Some a) c says rank = Behind a says
+
+  -- one letter is under way at most, and none where Finish was handled
+  single : (w : World) → IsLone w → (answer : Option Answer) → Says said call answer (client_of w zeroth) → Remembers (client_of w zeroth)
+      → length (asked w) + length (told w) + one (is_finished (pool_of w first_server).kept zeroth) ≤ 1
+  single w l None says rank =
+      let c = client_of w zeroth in
+      omega (arith, (facts w l).letters, ap one (finished_is None c says rank), at_most (not (is_idle c.pending)))
+  single w l (Some a) says rank =
+      let c = client_of w zeroth in omega (arith, (facts w l).letters, ap (λ p. one (not (is_idle p))) says.idle, at_most c.finished)
+
+  move_of : (w : World) → IsLone w → (event : Event) → IsAt said call (client_of w zeroth) → event_stamp w event ≤ 5 * length said + 5
+      → (next : World) → happens w event ≡ Some next → (answer : Option Answer) → Says said call answer (client_of next zeroth)
+      → Remembers (client_of next zeroth)
+      → (IsLone next → ((client_of next zeroth).clock + to_come next ≤ 5 * length said + 5)
+      × ((pool_of next first_server).clock + to_come next ≤ 5 * length said + 5)) → IsMove said call answer w event
+  move_of w l event before few next happened answer says rank clocks = record {
+    stage = record { lone = l; before = before; next = next; happened = happened; after = at_of answer _ says rank; few = few };
+    goes = λ now is early.
+        let lone = lone_next w next event l happened early in
+        let below = clocks lone in
+        subst (HasCome said call answer) (some_is (sym happened ∙ is))
+        (record { lone = lone; says = says; rank = rank; few = below.0; behind = below.1 });
+  }
+
+  module _ (w : World) (answer : Option Answer) (i : HasCome said call answer w) where
+    abbrev c : ClientModel
+    c = client_of w zeroth
+
+    -- the server handles a letter
+    serves : 0 < length (asked w) → IsDelivered said call answer w to_server
+    serves some =
+        let letters = single w i.lone answer i.says i.rank in
+        let front = one_of (asked w) (omega (arith, some, letters)) in
+        let s = (facts w i.lone).serves front.0 front.1 (goes_on w i.lone (omega (arith, some, letters))) in
+        let says = subst (Says said call answer) (sym s.rank) i.says in
+        let rank = subst Remembers (sym s.rank) i.rank in
+        let less : IsLone s.next → to_come s.next < to_come w =
+        λ lone.
+        let now = single s.next lone answer says rank in
+        omega (arith, some, now, ap length s.unasked, ap (λ (k : ClientModel). more k.pending) s.rank) in
+        record {
+          answer = answer;
+          move =
+              move_of w i.lone to_server (at_of answer c i.says i.rank) (omega (arith, some, s.stamp, s.sent, i.few, i.behind))
+              s.next s.happened answer says rank
+              (λ lone. (
+                omega (arith, ap (λ (k : ClientModel). k.clock) s.rank, i.few, less lone),
+                omega (arith, s.clock, s.sent, i.few, i.behind, less lone),
+              ));
+          less = λ now is. subst (λ v. IsLone v → to_come v < to_come w) (some_is (sym s.happened ∙ is)) less;
+          on = λ none. refl;
+          over = λ a is. absurd (cc);
+        }
+
+    -- a rank that hears a letter waits
+    awaits : (o : Option Answer) → Says said call o c → IsSome (pending_call c.pending) → (o ≡ None) × Waits said call c
+    awaits None says awaited = (refl, says)
+    awaits (Some a) says awaited =
+        let none : IsSome (pending_call waits_for.Nothing) = subst (λ p. IsSome (pending_call p)) says.idle awaited in absurd (cc)
+
+    -- it hears one
+    hears : 0 < length (told w) → IsDelivered said call answer w to_rank
+    hears some =
+        let letters = single w i.lone answer i.says i.rank in
+        let front = one_of (told w) (omega (arith, some, letters)) in
+        let h = (facts w i.lone).hears front.0 front.1 in
+        let waits = awaits answer i.says (steps_tell.awaited c first_server front.0 (rw h.does refl)) in
+        let other = pending_other c.pending call waits.1.pending in
+        let t = steps_tell.after_letter c first_server front.0 h.x call h.does i.rank waits.1.pending in
+        let says =
+        subst (Says said call h.x.answer) (sym h.rank) (subst (λ l. Says l call h.x.answer h.x.state) waits.1.same t.says) in
+        let rank = subst Remembers (sym h.rank) t.remembers in
+        let one_server = ap (λ (g : Config). g.servers) (rank_own w i.lone).config ∙ i.lone.one_server in
+        let passed =
+        subst (λ (k : ClientModel). more k.pending + 2 * one (not (is_idle k.pending)) ≤ more c.pending) (sym h.rank)
+        (passes_letter c one_server front.0 h.x h.does) in
+        let less : IsLone h.next → to_come h.next < to_come w =
+        λ lone.
+        let now = (facts h.next lone).letters in
+        let over = ap one (unfinished h.x.answer (client_of h.next zeroth) says rank other) in
+        omega (arith, some, passed, now, over, ap length h.untold) in
+        record {
+          answer = h.x.answer;
+          move =
+              move_of w i.lone to_rank (Within (finished_is None c waits.1 i.rank) waits.1)
+              (omega (arith, some, h.stamp, h.sent, i.few, i.behind)) h.next h.happened h.x.answer says rank
+              (λ lone. (
+                omega (arith, ap (λ (k : ClientModel). k.clock) h.rank, t.clock, h.sent, i.few, i.behind, less lone),
+                omega (arith, ap (λ (s : ServerModel). s.clock) h.pool, i.behind, less lone),
+              ));
+          less = λ now is. subst (λ v. IsLone v → to_come v < to_come w) (some_is (sym h.happened ∙ is)) less;
+          on = λ none. sym h.answer ∙ none ∙ sym waits.0;
+          over = λ a is. (sym h.answer ∙ is, other);
+        }
+
+    pub delivers : (from to : Actor) → IsUnderWay w from to → IsDelivered said call answer w (occurs.Deliver from to)
+    delivers from to (inl (f, t, some)) = rw (f, t) (serves some)
+    delivers from to (inr (f, t, some)) = rw (f, t) (hears some)
+
+  -- Where no letter is under way.
+
+  -- the call does not wait
+  pub not_stuck : (w : World) → HasCome said call None w → asked w ≡ [] → told w ≡ [] → ⊥
+  not_stuck w i none untold =
+      let c = client_of w zeroth in
+      let ended = settles w i.lone (busy c.pending i.says.pending) none untold in
+      let over : c.finished ≡ true = ended.ranks zeroth (omega (arith, i.lone.one_rank)) in
+      let still = finished_is None c i.says i.rank in
+      cc
+    where
+      busy : (p : Pending) → pending_call p ≡ Some call → (is_idle p && not (client_of w zeroth).finished) ≡ false
+      busy waits_for.Nothing is = absurd (cc)
+      busy _ is = refl
+
+  -- it has its answer, also where it is not Finish
+  pub is_answered : (now : Seen) → now.trouble ≡ None → (a : Answer) → HasCome said call (Some a) now.world
+      → (is_finish call ≡ true → (asked now.world ≡ []) × (told now.world ≡ [])) → IsAnswered said call a now
+  is_answered now whole a i quiet = record {
+    whole = whole;
+    true_now = is_true now i.lone i.says.idle (omega (arith, i.rank.counted, i.lone.reached.early by_rank));
+    grown = i.says.grown;
+    fits = i.says.fits;
+    opened = i.rank.opened;
+    ended = by_last (is_finish call) refl;
+    ready = λ other. record {
       whole = whole;
-      true_now = true_after now lone rests.idle short;
-      grown = ap (λ (k : ClientModel). k.transcript) rank ∙ over.grown;
-      fits = over.fits;
-      opened = rests.rank.opened;
-      ended = not_ended (server_in now) ((facts now.world lone).unhandled rests.going) ∙ sym other;
-      ready = λ next. record { whole = whole; lone = lone; rests = rests };
-    }
+      lone = i.lone;
+      rests = record {
+        idle = i.says.idle;
+        going = over ∙ other;
+        rank = i.rank;
+        few = omega (arith, long, i.few);
+        behind = omega (arith, long, i.behind);
+      };
+    };
+  }
+    where
+      over : (rank_in now).finished ≡ is_finish call
+      over = finished_is (Some a) (rank_in now) i.says i.rank
+
+      long : length (rank_in now).transcript ≡ length said + 1
+      long = ap length i.says.grown ∙ length_push said (record { call = call; answer = a })
+
+      by_last : (t : Bool) → is_finish call ≡ t → is_ended (server_in now) ≡ is_finish call
+      by_last true last =
+          let free : is_free (rank_in now) ≡ false = rw (i.says.idle, over, last) refl in
+          let none = quiet last in
+          ended_is now.world i.lone ((settles now.world i.lone free none.0 none.1).servers first_server (omega (arith, i.lone.one_server)))
+          ∙ sym last
+      by_last false other =
+          let idle = ap (λ p. one (not (is_idle p))) i.says.idle in
+          not_ended (server_in now) (omega (arith, (facts now.world i.lone).letters, ap one (over ∙ other), idle)) ∙ sym other
 
 -- The rank begins a call.
 
+pub running : (w : Seen) → IsReady w → has_finished (rank_in w).transcript ≡ false
+running w i = i.rests.rank.finishes ∙ i.rests.going
+
 module _ (w : Seen) (i : IsReady w) (call : Call) (can : CanCall 1 1 (rank_in w).transcript call) where
-  abbrev said : List Said
-  said = (rank_in w).transcript
+  begun : (x : Made) × (begin (rank_in w) call ≡ Some x)
+  begun =
+      let me = rank_in w in
+      let own = (rank_own w.world i.lone).config in
+      some_there (begin me call) (steps_tell.ready me call i.rests.rank i.rests.idle (running w i)
+      (subst (λ n. CanCall n me.config.servers me.transcript call) (sym (ap (λ (g : Config). g.ranks) own ∙ i.lone.one_rank))
+      (subst (λ n. CanCall 1 n me.transcript call) (sym (ap (λ (g : Config). g.servers) own ∙ i.lone.one_server)) can)))
 
-  b : IsBegun (rank_in w) call
-  b =
-      let own = rank_own w.world i.lone in
-      call_begins (rank_in w) i.rests.rank i.rests.idle i.rests.going (ap (λ (g : Config). g.ranks) own.config ∙ i.lone.one_rank)
-      (ap (λ (g : Config). g.servers) own.config ∙ i.lone.one_server) call can
-
-  abbrev next : World
-  next = after_rank w.world zeroth w.world.links b.x
-
-  called : IsCalled w.world call b.x next
-  called = (facts w.world i.lone).begins call b.x b.begins
-
-  pub begin_stage : IsStage (rank_in w).transcript call w.world (occurs.Call zeroth call)
-  begin_stage = record {
-    lone = i.lone;
-    before = Before i.rests.idle refl;
-    next = next;
-    happened = called.happened;
-    after = subst (IsAt said call) (sym called.rank)
-        (elim b.goes [ inl over ↦ Behind over.answer over.idle over.grown | inr sent ↦ Within sent.0 ]);
-    few = omega (arith, i.rests.few);
-  }
-
-  module _ (now : Seen) (happened : happens w.world (occurs.Call zeroth call) ≡ Some now.world) (whole : now.trouble ≡ None)
-      (early : event_stamp w.world (occurs.Call zeroth call) < stamp_limit) where
-    is : now.world ≡ next
-    is = some_is (sym happened ∙ called.happened)
-
-    rank_now : rank_in now ≡ b.x.state
-    rank_now = ap (λ v. client_of v zeroth) is ∙ called.rank
-
-    server_now : server_in now ≡ server_in w
-    server_now = ap (λ v. pool_of v first_server) is ∙ called.pool
-
-    lone_now : IsLone now.world
-    lone_now = lone_next w.world now.world (occurs.Call zeroth call) i.lone happened
-
-    asked_now : GoesOn said call b.x.state → IsAsked true said call now.world
-    asked_now goes =
-        let clock = ap (λ (k : ClientModel). k.clock) rank_now ∙ b.clock in
-        let f = facts w.world i.lone in
-        let none : length (told w.world) ≡ 0 =
-        omega (arith, f.letters, ap one i.rests.going, ap (λ p. one (not (is_idle p))) i.rests.idle) in
-        let goes_now = subst (GoesOn said call) (sym rank_now) goes in
-        record {
-          lone = lone_now;
-          goes = goes_now;
-          single =
-              omega (
-                arith,
-                under_way now.world lone_now (unfree said call (rank_in now) goes_now) (owed said call (rank_in now) goes_now)
-                    (ap (λ (s : ServerModel). is_finished s.kept zeroth) server_now ∙ f.unhandled i.rests.going),
-                none,
-                ap (λ v. length (told v)) is,
-                ap length called.told,
-              );
-          early = omega (arith, clock, early);
-          counted = omega (arith, clock, i.rests.rank.counted);
-          few = omega (arith, clock, i.rests.few);
-          behind = omega (arith, ap (λ (s : ServerModel). s.clock) server_now, i.rests.behind);
-          common = λ is. absurd (cc);
-        }
-
-    -- Finish goes to the server
-    pub begun_finish : is_finish call ≡ true → IsAsked true (rank_in w).transcript call now.world
-    begun_finish last = elim b.goes [
-      | inl over ↦ asked_now (inr (record {
-        answer = over.answer;
-        idle = over.idle;
-        finished = over.finished ∙ last;
-        grown = over.grown;
-        kind = over.fits.kind;
-        last = last;
-        opened = over.rank.opened;
-      }))
-      | inr sent ↦ let other = pending_other b.x.state.pending call sent.0.pending in absurd (cc (last, other))
-    ]
-
-    module _ (answer : Option Answer) (gave : answer ≡ event_answer w.world (occurs.Call zeroth call)) where
-      answer_is : answer ≡ b.x.answer
-      answer_is = gave ∙ ap (option_and_then (λ (x : Made). x.answer)) b.begins
-
-      -- the call is answered at once
-      pub begun_over : (a : Answer) → is_finish call ≡ false → answer ≡ Some a → IsAnswered (rank_in w).transcript call a now
-      begun_over a other given = elim b.goes [
-        | inl over ↦
-            subst (λ k. IsAnswered said call k now) (some_is (sym over.answers_it ∙ sym answer_is ∙ given))
-            (answered_now now said call (call_stamp (rank_in w)) b.x lone_now whole other rank_now over
-            (omega (arith, i.rests.rank.counted)) (omega (arith, i.rests.few))
-            (omega (arith, ap (λ (s : ServerModel). s.clock) server_now, i.rests.behind)) early)
-        | inr sent ↦ let none : None ≡ Some a = sym sent.1 ∙ sym answer_is ∙ given in absurd (cc)
-      ]
-
-      pub begun_fits : (a : Answer) → answer ≡ Some a → IsAnswerTo (rank_in w).transcript call a
-      begun_fits a given = elim b.goes [
-        | inl over ↦ subst (IsAnswerTo said call) (some_is (sym over.answers_it ∙ sym answer_is ∙ given)) over.fits
-        | inr sent ↦ let none : None ≡ Some a = sym sent.1 ∙ sym answer_is ∙ given in absurd (cc)
-      ]
-
-      -- it goes to the server
-      pub begun_sent : answer ≡ None → IsAsked true (rank_in w).transcript call now.world
-      begun_sent given = elim b.goes [
-        | inl over ↦ let none : None ≡ Some over.answer = sym given ∙ answer_is ∙ over.answers_it in absurd (cc)
-        | inr sent ↦ asked_now (inl sent.0)
-      ]
-
-      pub begun_other : answer ≡ None → is_finish call ≡ false
-      begun_other given = elim b.goes [
-        | inl over ↦ let none : None ≡ Some over.answer = sym given ∙ answer_is ∙ over.answers_it in absurd (cc)
-        | inr sent ↦ pending_other b.x.state.pending call sent.0.pending
-      ]
-
--- The server handles the letter.
-
-module _ (first : Bool) (said : List Said) (call : Call) (w : World) (i : IsAsked first said call w) where
-  asked_letter : (letter : Letter) × (asked w ≡ letter ∷ [])
-  asked_letter = one_of (asked w) i.single
-
-  asked_stamp : asked_letter.0.stamp ≤ (client_of w zeroth).clock
-  asked_stamp = (facts w i.lone).asked_before asked_letter.0 [] asked_letter.1
-
-  -- the letter is the only one, so no Finish was handled yet
-  serves : (next : World) × (happens w to_server ≡ Some next)
-  serves = (facts w i.lone).asked_goes asked_letter.0 [] asked_letter.1
-      (goes_on w i.lone (one_false (is_finished (pool_of w first_server).kept zeroth)
-      (omega (arith, (facts w i.lone).letters, owed said call (client_of w zeroth) i.goes, i.single))))
-      (omega (arith, asked_stamp, i.early))
-
-  it_served : (next : World) → happens w to_server ≡ Some next → IsServed w asked_letter.0 next
-  it_served next happened = (facts w i.lone).serves asked_letter.0 next asked_letter.1 happened
-
-  pub serve_stage : IsStage said call w to_server
-  serve_stage =
-      let s = it_served serves.0 serves.1 in
-      let at = at_of said call (client_of w zeroth) i.goes in
-      record {
-        lone = i.lone;
-        before = at;
-        next = serves.0;
-        happened = serves.1;
-        after = subst (IsAt said call) (sym s.rank) at;
-        few = omega (arith, s.stamp, i.few, asked_stamp, i.behind, past_few first);
-      }
-
-  pub replied : is_finish call ≡ false → (now : World) → happens w to_server ≡ Some now → event_stamp w to_server < stamp_limit
-      → IsBack first said call now
-  replied other now happened early =
-      let s = it_served now happened in
-      let server = pool_of w first_server in
-      let clock = ap (λ (v : ServerModel). v.clock) s.pool ∙ (serve_stays server by_rank asked_letter.0 s.x s.does).1 in
-      let rank = ap (λ (k : ClientModel). k.clock) s.rank in
-      let lone = lone_next w now to_server i.lone happened in
-      let waits = subst (IsPending said call) (sym s.rank) still in
-      record {
-        lone = lone;
-        waits = waits;
-        single =
-            omega (
-              arith,
-              under_way now lone (unfree said call (client_of now zeroth) (inl waits)) (owed said call (client_of now zeroth) (inl waits))
-                  ((facts now lone).unhandled waits.going),
-              ap length s.unasked,
-            );
-        early = omega (arith, clock, s.stamp, early);
-        counted = omega (arith, rank, i.counted);
-        few = omega (arith, rank, i.few);
-        behind = omega (arith, clock, i.few, asked_stamp, i.behind);
-        common = λ is. ap (λ (k : ClientModel). is_common k.pending) s.rank ∙ i.common is;
-      }
-    where
-      still : IsPending said call (client_of w zeroth)
-      still = elim i.goes [ inl p ↦ p | inr o ↦ let last = o.last in absurd (cc) ]
-
-  -- after the rank's Finish
-  pub shut_answered : is_finish call ≡ true → (last : Seen) → happens w to_server ≡ Some last.world → last.trouble ≡ None
-      → (answer : Answer) → IsAnswerTo said call answer → IsAnswered said call answer last
-  shut_answered last_call last happened whole answer fits = elim i.goes [
-    | inl p ↦ let other = pending_other (client_of w zeroth).pending call p.pending in absurd (cc (last_call, other))
-    | inr o ↦
-        let s = it_served last.world happened in
-        let lone = lone_next w last.world to_server i.lone happened in
-        let idle = ap (λ (k : ClientModel). k.pending) s.rank ∙ o.idle in
-        let finished = ap (λ (k : ClientModel). k.finished) s.rank ∙ o.finished in
-        let handled = (facts last.world lone).handled finished s.unasked in
-        let untold = none_of (told last.world)
-        (omega (arith, (facts last.world lone).letters, ap one handled, ap one finished, ap (λ p. one (not (is_idle p))) idle)) in
-        let free : is_free (rank_in last) ≡ false = rw (idle, finished) refl in
-        let ended = (settles last.world lone free s.unasked untold).servers first_server (omega (arith, lone.one_server)) in
-        let shut = ended_parts last.world lone ended in
-        let done : is_ended (server_in last) ≡ true = rw shut.0 shut.1 in
-        let transcript = ap (λ (k : ClientModel). k.transcript) s.rank in
-        let short : length (rank_in last).transcript < stamp_limit =
-        omega (
-          arith,
-          ap length transcript,
-          ap length o.grown,
-          i.counted,
-          i.early,
-          length_push said (record { call = call; answer = o.answer }),
-        ) in
-        record {
-          whole = whole;
-          true_now = true_after last lone idle short;
-          grown = transcript ∙ o.grown
-              ∙ ap (with_call said call) (fine_is call o.answer last_call o.kind ∙ sym (fine_is call answer last_call fits.kind));
-          fits = fits;
-          opened = ap (λ (k : ClientModel). is_some k.batch) s.rank ∙ o.opened ∙ sym (ap is_open transcript);
-          ended = done ∙ sym last_call;
-          ready = λ other. absurd (cc (last_call, other));
-        }
-  ]
-
--- The rank hears the answer.
-
-module _ (first : Bool) (said : List Said) (call : Call) (w : World) (i : IsBack first said call w) where
-  told_letter : (letter : Letter) × (told w ≡ letter ∷ [])
-  told_letter = one_of (told w) i.single
-
-  told_stamp : told_letter.0.stamp ≤ (pool_of w first_server).clock
-  told_stamp = (facts w i.lone).told_before told_letter.0 [] told_letter.1
-
-  hears : (next : World) × (happens w to_rank ≡ Some next)
-  hears = (facts w i.lone).told_goes told_letter.0 [] told_letter.1 (omega (arith, told_stamp, i.early))
-
-  h : IsHeard w told_letter.0 hears.0
-  h = (facts w i.lone).hears told_letter.0 hears.0 told_letter.1 hears.1
-
-  one_only : (client_of w zeroth).config.servers ≡ 1
-  one_only = ap (λ (g : Config). g.servers) (rank_own w i.lone).config ∙ i.lone.one_server
-
-  goes : GoesBy said (letter_stamp (client_of w zeroth) told_letter.0) call h.x
-  goes = call_goes (client_of w zeroth) told_letter.0 one_only h.x said call h.does i.waits
-
-  few_then : event_stamp w to_rank ≤ 5 * length said + past first + 3
-  few_then = omega (arith, h.stamp, i.few, told_stamp, i.behind)
-
-  few_now : event_stamp w to_rank ≤ 5 * length said + 5
-  few_now = omega (arith, few_then, past_few first)
-
-  pub hear_stage : IsStage said call w to_rank
-  hear_stage = record {
-    lone = i.lone;
-    before = Within i.waits;
-    next = hears.0;
-    happened = hears.1;
-    after = subst (IsAt said call) (sym h.rank)
-        (elim goes [ inl over ↦ Behind over.answer over.idle over.grown | inr on ↦ Within on.waits ]);
-    few = few_now;
-  }
-
-  -- the common bytes were awaited, so the call is answered
-  pub not_unanswered : first ≡ false → event_answer w to_rank ≡ None → ⊥
-  not_unanswered last none =
-      let over = call_ends (client_of w zeroth) told_letter.0 one_only h.x said call h.does i.waits (i.common last) in
-      let some : None ≡ Some over.answer = sym none ∙ h.answer ∙ over.answers_it in cc
-
-  module _ (now : Seen) (happened : happens w to_rank ≡ Some now.world) (whole : now.trouble ≡ None)
-      (early : event_stamp w to_rank < stamp_limit) where
-    now_is : now.world ≡ hears.0
-    now_is = some_is (sym happened ∙ hears.1)
-
-    rank_heard : rank_in now ≡ h.x.state
-    rank_heard = ap (λ v. client_of v zeroth) now_is ∙ h.rank
-
-    server_heard : server_in now ≡ pool_of w first_server
-    server_heard = ap (λ v. pool_of v first_server) now_is ∙ h.pool
-
-    lone_heard : IsLone now.world
-    lone_heard = lone_next w now.world to_rank i.lone happened
-
-    -- it is answered
-    pub heard_answered : is_finish call ≡ false → (answer : Answer) → Some answer ≡ event_answer w to_rank
-        → IsAnswered said call answer now
-    heard_answered other answer gave = elim goes [
-      | inl over ↦
-          let reply = h.answer ∙ over.answers_it in
-          subst (λ k. IsAnswered said call k now) (some_is (sym reply ∙ sym gave))
-          (answered_now now said call (letter_stamp (client_of w zeroth) told_letter.0) h.x lone_heard whole other rank_heard
-          over (omega (arith, i.counted)) (omega (arith, h.stamp, few_now))
-          (omega (arith, ap (λ (s : ServerModel). s.clock) server_heard, i.behind, past_few first)) (omega (arith, h.stamp, early)))
-      | inr on ↦ let none : None ≡ Some answer = sym on.unanswered ∙ sym h.answer ∙ sym gave in absurd (cc)
-    ]
-
-    -- the common bytes are asked for
-    pub heard_on : first ≡ true → event_answer w to_rank ≡ None → IsAsked false said call now.world
-    heard_on once none = elim goes [
-      | inl over ↦ let some : None ≡ Some over.answer = sym none ∙ h.answer ∙ over.answers_it in absurd (cc)
-      | inr on ↦
-          let clock = ap (λ (k : ClientModel). k.clock) rank_heard ∙ on.clock in
-          let waits = subst (IsPending said call) (sym rank_heard) on.waits in
-          let zero : past first ≡ 0 = ap past once in
-          record {
-            lone = lone_heard;
-            goes = inl waits;
-            single =
-                omega (
-                  arith,
-                  under_way now.world lone_heard (unfree said call (rank_in now) (inl waits)) (owed said call (rank_in now) (inl waits))
-                      ((facts now.world lone_heard).unhandled waits.going),
-                  ap (λ v. length (told v)) now_is,
-                  ap length h.untold,
-                );
-            early = omega (arith, clock, h.stamp, early);
-            counted = omega (arith, clock, i.counted);
-            few = omega (arith, clock, h.stamp, few_then, zero);
-            behind = omega (arith, ap (λ (s : ServerModel). s.clock) server_heard, i.behind, zero);
-            common = λ is. ap (λ (k : ClientModel). is_common k.pending) rank_heard ∙ on.common;
-          }
-    ]
-
--- The letters of a call: the server is asked twice at most.
-
-pub record IsAsking (n : ℕ) (said : List Said) (call : Call) (w : World) : Type 0 where
-  pub few : n < 2
-  pub asked : IsAsked (n == 0) said call w
-
-pub asks_first : (said : List Said) (call : Call) (w : World) → IsAsked true said call w → IsAsking 0 said call w
-asks_first said call w i = record { few = omega arith; asked = i }
-
-pub asks_on : (n : ℕ) (said : List Said) (call : Call) (w : World) (i : IsBack (n == 0) said call w) → n < 2 → (now : Seen)
-    → happens w to_rank ≡ Some now.world → now.trouble ≡ None → event_stamp w to_rank < stamp_limit → event_answer w to_rank ≡ None
-    → IsAsking (n + 1) said call now.world
-asks_on zero said call w i few now happened whole early none =
-    record { few = omega arith; asked = heard_on true said call w i now happened whole early refl none }
-asks_on (suc zero) said call w i few now happened whole early none = absurd (not_unanswered false said call w i refl none)
-asks_on (suc (suc n)) said call w i few now happened whole early none = absurd (omega (arith, few))
+  pub begins_move : IsMove (rank_in w).transcript call (event_answer w.world (occurs.Call zeroth call)) w.world (occurs.Call zeroth call)
+  begins_move =
+      let me = rank_in w in
+      let x = begun.0 in
+      let t = steps_tell.after_call me call x begun.1 i.rests.rank in
+      let b = (facts w.world i.lone).begins call x begun.1 in
+      let says = subst (Says me.transcript call x.answer) (sym b.rank) t.says in
+      let rank = subst Remembers (sym b.rank) t.remembers in
+      let some = more_few (client_of b.next zeroth).pending in
+      let answer = ap (option_and_then (λ (x : Made). x.answer)) begun.1 in
+      rw answer (move_of me.transcript call (running w i) w.world i.lone (occurs.Call zeroth call) (Before i.rests.idle refl)
+      (omega (arith, i.rests.few)) b.next b.happened x.answer says rank
+      (λ lone.
+      let letters = single me.transcript call (running w i) b.next lone x.answer says rank in (
+        omega (arith, ap (λ (k : ClientModel). k.clock) b.rank, t.clock, i.rests.few, letters, some),
+        omega (arith, ap (λ (s : ServerModel). s.clock) b.pool, i.rests.behind, letters, some),
+      )))

@@ -1,22 +1,23 @@
 -- The units that are left.
-use Rattle.core_inline.proofs.Prelude.{All, Bag, Bool, HasDistinctIds, IsLeft, LeftUnit, List, None, Option, Placed, Server, ServerModel}
-use Rattle.core_inline.proofs.Prelude.{Some, [], ap, arith, false, find, get_or-map, id_of, left_at, left_unit, left_with, length-map, map}
-use Rattle.core_inline.proofs.Prelude.{option_and_then, option_map, refl, same_number, sym, true, unit_of, ◌∙◌, ◌∷◌, ◌≡◌, ◌≢◌}
-use Rattle.std.specs.List.{AllPairs}
-use Rattle.std.proofs.lemmas.List.Elements.{All-contains}
+use Rattle.core_inline.proofs.Prelude.{All, AllPairs, Bag, Bool, IsLeft, LeftUnit, List, None, Option, Server, ServerModel, Some, [], ap}
+use Rattle.core_inline.proofs.Prelude.{arith, false, find, get_or-map, left_at, left_unit, left_with, length-map, map, option_and_then}
+use Rattle.core_inline.proofs.Prelude.{option_map, refl, same_number, sym, true, unit_of, ◌∙◌, ◌∷◌, ◌≡◌, ◌≢◌}
+use Rattle.adlb_unit.proofs.Same.{same_unit_from}
 use Rattle.adlb_unit.specs.Ids.{same_unit}
 use Rattle.adlb_unit.specs.declared.names.UnitId.{UnitId}
 use Rattle.adlb_unit.specs.declared.units.Unit.{Unit as Work}
-use Rattle.adlb_unit.proofs.Same.{same_unit_from}
 use Rattle.bag_ledger.specs.declared.states.Placed.{Placed as Lodged}
 use Rattle.bag_ledger.specs.declared.states.UnitPlace.{UnitPlace}
-use Rattle.bag_ledger.specs.declared.states.UnitPlace.TheVariants.{Free, Travelling, Pinned, Spent}
-use Rattle.work_queue.proofs.Named.{find_listed}
-use Rattle.server_law.specs.Agreement.{ServerAgrees, of_id, slot_of}
-use Rattle.reserve_path.specs.Grants.{unit_with}
-use Rattle.server_law.specs.Rest.{HasAll, IsHereOrSpent, IsKeptAt}
-use Rattle.server_core.specs.Left.{left_of as left_list}
+use Rattle.bag_ledger.specs.declared.states.UnitPlace.TheVariants.{Free, Pinned, Spent, Travelling}
 use Rattle.core_inline.specs.Left.{left_of}
+use Rattle.reserve_path.specs.Grants.{unit_with}
+use Rattle.server_core.specs.Left.{left_of as left_list}
+use Rattle.server_law.specs.Agreement.{ServerAgrees, of_id, slot_of}
+use Rattle.server_law.specs.Rest.{HasAll, IsHereOrSpent, IsKeptAt}
+use Rattle.std.proofs.lemmas.List.Elements.{All-contains}
+use Rattle.work_queue.proofs.Named.{find_listed}
+use Rattle.work_queue.specs.Queue.{HasDistinctIds, id_of}
+use Rattle.work_queue.specs.declared.placing.Placed.{Placed}
 
 -- what is so of each unit is so of one that is found
 found_kept : (P : Lodged → Type 0) (b : Bag) (id : UnitId) (u : Lodged) → All P b.units → unit_of b id ≡ Some u → P u
@@ -25,18 +26,14 @@ found_kept P b id u all found = All-contains P b.units u all (find_listed (λ (v
 -- where each unit is spent, nothing is left
 pub nothing_left : (last : Bag) (left : List LeftUnit) → All (λ u. u.place ≡ Spent) last.units → IsLeft last left → left ≡ []
 nothing_left last [] spent is = refl
-nothing_left last (l ∷ left) spent is = by_found (unit_of last l.id) refl
+nothing_left last (l ∷ left) spent is = absurd (let both = sym here ∙ is.each l.id ∙ gone (unit_of last l.id) refl in cc)
   where
     here : left_with l.id (l ∷ left) ≡ Some l
     here = rw (same_unit_from l.id l.id refl) refl
 
-    by_found : (o : Option Lodged) → unit_of last l.id ≡ o → l ∷ left ≡ []
-    by_found None found =
-        let both : Some l ≡ None = sym here ∙ is.each l.id ∙ ap (option_and_then left_of) found in absurd (cc)
-    by_found (Some u) found =
-        let gone = found_kept (λ v. v.place ≡ Spent) last l.id u spent found in
-        let both : Some l ≡ None = sym here ∙ is.each l.id ∙ ap (option_and_then left_of) found ∙ ap (left_at u.unit.id) gone in
-        absurd (cc)
+    gone : (o : Option Lodged) → unit_of last l.id ≡ o → option_and_then left_of o ≡ None
+    gone None found = refl
+    gone (Some u) found = ap (left_at u.unit.id) (found_kept (λ v. v.place ≡ Spent) last l.id u spent found)
 
 -- What the server has left is what the bag has left, where each unit is at the server or spent.
 

@@ -1,12 +1,9 @@
 pub mod Batches
-pub mod Begun
 pub mod Clients
 pub mod Exchanging
-pub mod Failing
 pub mod Kept
 pub mod Lefts
 pub mod Opened
 pub mod Reached
-pub mod Starts
 pub mod Told
 pub mod Prelude

@@ -1,56 +1,37 @@
--- What holds of each world of one rank and one server to which a run leads: which letters are under way, and what an event leaves.
-use Rattle.core_inline.proofs.Prelude.{Actor, Bool, Call, ClientModel, Config, Entry, Event, InLimit, InRanks, InServers, IsClient, IsLone}
-use Rattle.core_inline.proofs.Prelude.{IsPool, Letter, Links, List, Made, Message, Served, ServerModel, Some, World, [], after_rank}
-use Rattle.core_inline.proofs.Prelude.{after_server, ap, arith, begin, call_waits, client_of, event_answer, event_stamp, false}
-use Rattle.core_inline.proofs.Prelude.{first_server, front_answer, front_stamp, handle, happens, has_ended, hear, is_finished, is_idle}
-use Rattle.core_inline.proofs.Prelude.{is_request, length, letter_stamp, link, misfit, next_stamp, not, one, option_and_then}
-use Rattle.core_inline.proofs.Prelude.{option_map, pool_of, refl, remote_letter, row, serve, stamp_limit, subst, sym, taken, true, weigh}
-use Rattle.core_inline.proofs.Prelude.{zeroth, ℕ, ◌&&◌, ◌++◌, ◌+◌, ◌<◌, ◌==◌, ◌||◌, ◌∙◌, ◌∷◌, ◌≡◌, ◌≤◌}
-use Rattle.adlb_unit.specs.Kinds.{is_to_rank}
-use Rattle.adlb_unit.specs.Links.{place_of}
-use Rattle.adlb_unit.specs.declared.actors.Actor.TheVariants as by
-use Rattle.adlb_unit.specs.declared.messages.Message.TheVariants as tells
-use Rattle.core_run.specs.declared.events.Event.TheVariants as occurs
-use Rattle.core_run.specs.Runs.{Runs, is_of_check}
-use Rattle.core_run.specs.World.{start}
-use Rattle.core_law.specs.Measures.{measure}
-use Rattle.core_progress_law.specs.Ended.{IsEnded}
-use Rattle.core_progress_law.proofs.Always.{always_ends}
-use Rattle.rank_client.specs.Rules.{is_free}
-use Rattle.std.proofs.Common.{zero, suc, inl}
-use Rattle.std.specs.List.{list_all}
-use Rattle.std.specs.Prelude.{slice_index_or}
-use Rattle.std.proofs.lemmas.Bool.{and_parts, false_from_ne_true, ltb-true}
-use Rattle.adlb_unit.specs.Links.{is_within}
-use Rattle.core_law.specs.Letters.{is_finish}
-use Rattle.core_law.specs.Well.{IsSquare}
-use Rattle.core_law.proofs.EveryRun.{every_run_well}
-use Rattle.core_law.proofs.Expected.{none_is_stuck}
+-- What holds of each world of one rank and one server to which a run leads: which letters are under way, and what an event does.
+use Rattle.core_inline.proofs.Prelude.{Actor, Bool, Call, ClientModel, Config, Entry, Event, InLimit, InRanks, InServers, IsLone, Letter}
+use Rattle.core_inline.proofs.Prelude.{Links, List, Made, Message, ServerModel, Some, World, [], after_rank, after_server, and_parts, ap}
+use Rattle.core_inline.proofs.Prelude.{arith, asked, at_most, begin, by_rank, by_server, call_waits, client_of, event_answer, event_stamp}
+use Rattle.core_inline.proofs.Prelude.{every_run_well, false, false_from_ne_true, first_server, front_answer, front_goes, front_stamp}
+use Rattle.core_inline.proofs.Prelude.{handle, happens, has_ended, hear, inl, is_ended, is_finished, is_free, is_idle, is_request, length}
+use Rattle.core_inline.proofs.Prelude.{letter_stamp, link, list_all, ltb-true, mapped, mapped_unless, misfit, next_reached, nil_from_length}
+use Rattle.core_inline.proofs.Prelude.{not, one, option_and_then, option_map, pool_of, refl, remote_letter, row, sent_before}
+use Rattle.core_inline.proofs.Prelude.{slice_index_or, some_there, stamp_limit, subst, suc, sym, taken, told, true, zero, zeroth, ℕ, ◌&&◌}
+use Rattle.core_inline.proofs.Prelude.{◌+◌, ◌<◌, ◌==◌, ◌||◌, ◌∙◌, ◌∷◌, ◌≡◌, ◌≤◌}
+use Rattle.adlb_unit.specs.Links.{is_within, place_of}
+use Rattle.core_bound_law.proofs.Clocks.{serve_stays}
+use Rattle.core_bound_law.proofs.Lists.{same_each}
 use Rattle.core_law.proofs.Fifo.{post_other}
 use Rattle.core_law.proofs.InLine.{every_run_in_line}
+use Rattle.core_law.proofs.Onward.{one_not}
 use Rattle.core_law.proofs.Owed.{finishes_are, letters_are, no_kinds}
 use Rattle.core_law.proofs.Steps.{happens_does, same_config}
-use Rattle.core_world.proofs.Reached.{mapped, mapped_unless, sent_before}
-use Rattle.core_world.proofs.Running.{runs_more}
-
-abbrev pub by_rank : Actor
-by_rank = by.Rank zeroth
-
-abbrev pub by_server : Actor
-by_server = by.Server first_server
+use Rattle.core_law.specs.Letters.{is_finish}
+use Rattle.core_law.specs.Measures.{measure, weigh}
+use Rattle.core_law.specs.Own.{IsClient, IsPool}
+use Rattle.core_law.specs.Well.{IsSquare}
+use Rattle.core_progress_law.proofs.Always.{always_ends}
+use Rattle.core_progress_law.specs.Ended.{IsEnded}
+use Rattle.server_law.specs.Step.{next_stamp, serve}
+use Rattle.adlb_unit.specs.declared.actors.Actor.TheVariants as by
+use Rattle.core_run.specs.declared.events.Event.TheVariants as occurs
+use Rattle.adlb_unit.specs.declared.messages.Message.TheVariants as tells
 
 abbrev pub to_server : Event
 to_server = occurs.Deliver by_rank by_server
 
 abbrev pub to_rank : Event
 to_rank = occurs.Deliver by_server by_rank
-
--- the letters under way to the server, and those to the rank
-abbrev pub asked : World → List Letter
-asked w = link w.links (place_of w.config by_rank) (place_of w.config by_server)
-
-abbrev pub told : World → List Letter
-told w = link w.links (place_of w.config by_server) (place_of w.config by_rank)
 
 -- A world of one rank and one server.
 
@@ -93,7 +74,7 @@ by_world : (P : World → Type 0)
     (ledger : List Entry) → P (lone (lone_config limit a b d) c s rr rs sr ss ledger))
     → (w : World) → IsLone w → P w
 by_world P each w l =
-    let shape = (every_run_well w.config l.events w l.run).shape in
+    let shape = (every_run_well w.config l.reached.events w l.reached.run).shape in
     let square : IsSquare 2 w.links =
     subst (λ n. IsSquare n w.links) (omega (arith, l.one_rank, l.one_server)) shape.square in
     let ranks = one_of w.ranks (shape.ranks ∙ l.one_rank) in
@@ -112,14 +93,6 @@ by_world P each w l =
 
 -- What its letters weigh.
 
-nothing : {X : Type 0} (xs : List X) → weigh (λ x. 0) xs ≡ 0
-nothing [] = refl
-nothing (x ∷ xs) = omega (arith, nothing xs)
-
-counted : {X : Type 0} (xs : List X) → weigh (λ x. 1) xs ≡ length xs
-counted [] = refl
-counted (x ∷ xs) = omega (arith, counted xs)
-
 -- each letter of a rank is a request, a Finish, or misplaced
 one_kind : (m : Message) → one (is_request m && true) + one (is_finish m && true) + one (not (is_request m || is_finish m)) ≡ 1
 one_kind tells.Finish = refl
@@ -132,42 +105,15 @@ each_kind config [] = refl
 each_kind config (l ∷ letters) = omega (arith, one_kind l.message, each_kind config letters)
 
 -- a letter of the server to itself is misplaced, and is of a rank's call at most once
-at_most_one : (t : Bool) → one t ≤ 1
-at_most_one true = omega arith
-at_most_one false = omega arith
-
 one_remote : (m : Message) → remote_letter zeroth m ≤ 1
-one_remote (tells.Ask rank request types) = at_most_one (rank.0 == 0)
-one_remote (tells.AskGrant rank request note) = at_most_one (rank.0 == 0)
-one_remote (tells.AskNone rank request) = at_most_one (rank.0 == 0)
+one_remote (tells.Ask rank request types) = at_most (rank.0 == 0)
+one_remote (tells.AskGrant rank request note) = at_most (rank.0 == 0)
+one_remote (tells.AskNone rank request) = at_most (rank.0 == 0)
 one_remote _ = omega arith
 
 few_remote : (letters : List Letter) → weigh (λ l. remote_letter zeroth l.message) letters ≤ length letters
 few_remote [] = omega arith
 few_remote (l ∷ letters) = omega (arith, one_remote l.message, few_remote letters)
-
-one_true : (t : Bool) → one t ≡ 1 → t ≡ true
-one_true true is = refl
-one_true false is = absurd (omega (arith, is))
-
-pub one_false : (t : Bool) → one t ≡ 0 → t ≡ false
-one_false true is = absurd (omega (arith, is))
-one_false false is = refl
-
--- no letter between the rank and the server is a token or one that has failed
-asked_no_check : (m : Message) → one (not (is_request m || is_finish m)) ≡ 0 → is_of_check m ≡ false
-asked_no_check (tells.Token t) fits = absurd (omega (arith, fits))
-asked_no_check (tells.Failed t why) fits = absurd (omega (arith, fits))
-asked_no_check _ fits = refl
-
-told_no_check : (m : Message) → one (not (is_to_rank m)) ≡ 0 → is_of_check m ≡ false
-told_no_check (tells.Token t) fits = absurd (omega (arith, fits))
-told_no_check (tells.Failed t why) fits = absurd (omega (arith, fits))
-told_no_check _ fits = refl
-
-pub none_of : {X : Type 0} (xs : List X) → length xs ≡ 0 → xs ≡ []
-none_of [] none = refl
-none_of (x ∷ xs) none = absurd (omega (arith, none))
 
 on_links : (rr rs sr ss : List Letter) → rr ≡ [] → rs ≡ [] → sr ≡ [] → ss ≡ [] → (i j : ℕ) → i < 2 → j < 2
     → link ((rr ∷ rs ∷ []) ∷ (sr ∷ ss ∷ []) ∷ []) i j ≡ []
@@ -181,30 +127,34 @@ on_links rr rs sr ss a b c d n (suc (suc m)) i j = absurd (omega (arith, j))
 -- What an event does.
 
 -- the server has handled this letter, and none is under way to it any more
-pub record IsServed (w : World) (letter : Letter) (next : World) : Type 0 where
-  pub x : Served
-  pub does : serve (pool_of w first_server) by_rank letter ≡ Some x
+pub record IsServed (w : World) (letter : Letter) : Type 0 where
+  pub next : World
+  pub happened : happens w to_server ≡ Some next
   pub rank : client_of next zeroth ≡ client_of w zeroth
-  pub pool : pool_of next first_server ≡ x.state
+  pub clock : (pool_of next first_server).clock ≡ next_stamp (pool_of w first_server) letter
   pub unasked : asked next ≡ []
+  pub sent : letter.stamp ≤ (client_of w zeroth).clock
   pub stamp : event_stamp w to_server ≡ next_stamp (pool_of w first_server) letter
 
 -- the rank has heard this letter, and none is under way to it any more
-pub record IsHeard (w : World) (letter : Letter) (next : World) : Type 0 where
+pub record IsHeard (w : World) (letter : Letter) : Type 0 where
+  pub next : World
+  pub happened : happens w to_rank ≡ Some next
   pub x : Made
   pub does : hear (client_of w zeroth) first_server letter ≡ Some x
   pub rank : client_of next zeroth ≡ x.state
   pub pool : pool_of next first_server ≡ pool_of w first_server
   pub untold : told next ≡ []
+  pub sent : letter.stamp ≤ (pool_of w first_server).clock
   pub stamp : event_stamp w to_rank ≡ letter_stamp (client_of w zeroth) letter
   pub answer : event_answer w to_rank ≡ x.answer
 
 -- the rank has begun a call
-pub record IsCalled (w : World) (call : Call) (x : Made) (next : World) : Type 0 where
+pub record IsCalled (w : World) (call : Call) (x : Made) : Type 0 where
+  pub next : World
   pub happened : happens w (occurs.Call zeroth call) ≡ Some next
   pub rank : client_of next zeroth ≡ x.state
   pub pool : pool_of next first_server ≡ pool_of w first_server
-  pub told : told next ≡ told w
 
 -- What holds of a world of one rank and one server to which a run leads.
 pub record AreFacts (w : World) : Type 0 where
@@ -212,95 +162,63 @@ pub record AreFacts (w : World) : Type 0 where
   pub letters : length (asked w) + length (told w) + weigh (call_waits zeroth 0) (pool_of w first_server).kept.parked.waiting
       + one (is_finished (pool_of w first_server).kept zeroth)
       ≡ one (not (is_idle (client_of w zeroth).pending)) + one (client_of w zeroth).finished
-  -- no Finish was handled of a rank that has not finished, and it was of one that has, unless it is under way
-  pub unhandled : (client_of w zeroth).finished ≡ false → is_finished (pool_of w first_server).kept zeroth ≡ false
-  pub handled : (client_of w zeroth).finished ≡ true → asked w ≡ [] → is_finished (pool_of w first_server).kept zeroth ≡ true
   -- no actor writes to itself
   pub rests : asked w ≡ [] → told w ≡ [] → (i j : ℕ) → i < 2 → j < 2 → link w.links i j ≡ []
-  -- a letter at the front was sent before, and is handled; by the server as long as that has not ended
-  pub asked_before : (letter : Letter) (rest : List Letter) → asked w ≡ letter ∷ rest → letter.stamp ≤ (client_of w zeroth).clock
-  pub told_before : (letter : Letter) (rest : List Letter) → told w ≡ letter ∷ rest → letter.stamp ≤ (pool_of w first_server).clock
-  pub asked_goes : (letter : Letter) (rest : List Letter) → asked w ≡ letter ∷ rest → has_ended (pool_of w first_server) ≡ false
-      → letter.stamp < stamp_limit → (next : World) × (happens w to_server ≡ Some next)
-  pub told_goes : (letter : Letter) (rest : List Letter) → told w ≡ letter ∷ rest → letter.stamp < stamp_limit
-      → (next : World) × (happens w to_rank ≡ Some next)
   -- what each event does
-  pub begins : (call : Call) (x : Made) → begin (client_of w zeroth) call ≡ Some x
-      → IsCalled w call x (after_rank w zeroth w.links x)
-  pub serves : (letter : Letter) (next : World) → asked w ≡ letter ∷ [] → happens w to_server ≡ Some next → IsServed w letter next
-  pub hears : (letter : Letter) (next : World) → told w ≡ letter ∷ [] → happens w to_rank ≡ Some next → IsHeard w letter next
+  pub begins : (call : Call) (x : Made) → begin (client_of w zeroth) call ≡ Some x → IsCalled w call x
+  pub serves : (letter : Letter) → asked w ≡ letter ∷ [] → has_ended (pool_of w first_server) ≡ false → IsServed w letter
+  pub hears : (letter : Letter) → told w ≡ letter ∷ [] → IsHeard w letter
 
 pub facts : (w : World) → IsLone w → AreFacts w
 unfolding measure
 facts w l = by_world (λ v. IsLone v → AreFacts v) (λ limit a b d c s rr rs sr ss ledger at.
     let g = lone_config limit a b d in
     let v = lone g c s rr rs sr ss ledger in
-    let well = every_run_well g at.events v at.run in
-    let line = every_run_in_line g at.events v at.run in
-    let stuck = none_is_stuck g at.events v at.run in
+    let well = every_run_well g at.reached.events v at.reached.run in
+    let line = every_run_in_line g at.reached.events v at.reached.run in
     let requests = letters_are v zeroth (omega arith) (well.one zeroth) in
     let finishes = finishes_are v zeroth first_server (omega arith) (well.finish zeroth first_server (omega arith)) in
     let kinds = no_kinds v well.kind in
     record {
       letters =
-          omega (
-            arith,
-            requests,
-            finishes,
-            kinds,
-            each_kind g rs,
-            counted sr,
-            counted ss,
-            few_remote ss,
-            nothing rr,
-            nothing sr,
-            nothing ss,
-          );
-      unhandled = λ going. one_false (is_finished s.kept zeroth)
-          (omega (arith, finishes, nothing rr, nothing sr, nothing ss, ap one going));
-      handled = λ over none.
-          let farewells : weigh (λ x. one (is_finish x.message && true)) rs ≡ 0 = ap (weigh (λ x. one (is_finish x.message && true))) none in
-          one_true (is_finished s.kept zeroth) (omega (arith, finishes, farewells, nothing rr, nothing sr, nothing ss, ap one over));
+          omega (arith, each_kind g rs, few_remote ss, same_each 1 sr, same_each 1 ss, same_each 0 rr, same_each 0 sr, same_each 0 ss);
       rests = λ none nothing.
-          on_links rr rs sr ss (none_of rr (omega (arith, kinds, counted rr))) none nothing (none_of ss (omega (arith, kinds, counted ss)));
-      asked_before = λ letter rest. sent_before rs rest letter c.clock (line by_rank by_server refl refl).stamps;
-      told_before = λ letter rest. sent_before sr rest letter s.clock (line by_server by_rank refl refl).stamps;
-      asked_goes = λ letter rest front going.
-          let misfits : weigh (λ x. misfit g by_rank by_server x.message) rs ≡ misfit g by_rank by_server letter.message
-          + weigh (λ x. misfit g by_rank by_server x.message) rest = ap (weigh (λ x. misfit g by_rank by_server x.message)) front in
-          stuck by_rank by_server letter rest refl refl front going (asked_no_check letter.message (omega (arith, kinds, misfits)));
-      told_goes = λ letter rest front.
-          let misfits : weigh (λ x. misfit g by_server by_rank x.message) sr ≡ misfit g by_server by_rank letter.message
-          + weigh (λ x. misfit g by_server by_rank x.message) rest = ap (weigh (λ x. misfit g by_server by_rank x.message)) front in
-          stuck by_server by_rank letter rest refl refl front refl (told_no_check letter.message (omega (arith, kinds, misfits)));
+          on_links rr rs sr ss (nil_from_length rr (omega (arith, kinds, same_each 1 rr))) none nothing
+          (nil_from_length ss (omega (arith, kinds, same_each 1 ss)));
       begins = λ call x gave. record {
+        next = after_rank v zeroth v.links x;
         happened = ap (option_map (after_rank v zeroth v.links)) gave;
         rank = refl;
         pool = refl;
-        told = post_other g v.links 0 1 0 x.sends (λ e. absurd (omega (arith, e)));
       };
-      serves = λ letter next front happened.
+      serves = λ letter front going.
+          let next = some_there (happens v to_server) (front_goes v by_rank by_server letter [] at.reached refl refl going front) in
           let went = mapped_unless (has_ended s) (after_server v first_server (taken v by_rank by_server []))
-          (serve s by_rank letter) next (sym (ap (handle v by_rank by_server) front) ∙ happened) in
+          (serve s by_rank letter) next.0 (sym (ap (handle v by_rank by_server) front) ∙ next.1) in
           record {
-            x = went.0;
-            does = went.1;
+            next = next.0;
+            happened = next.1;
             rank = ap (λ u. client_of u zeroth) went.2;
-            pool = ap (λ u. pool_of u first_server) went.2;
+            clock = ap (λ u. (pool_of u first_server).clock) went.2 ∙ (serve_stays s by_rank letter went.0 went.1).1;
             unasked = ap asked went.2
                 ∙ post_other g (taken v by_rank by_server []) 1 0 1 went.0.sends (λ e. absurd (omega (arith, e)));
+            sent = sent_before rs [] letter c.clock (line by_rank by_server refl refl).stamps front;
             stamp = ap (front_stamp v by_server) front;
           };
-      hears = λ letter next front happened.
-          let went = mapped (after_rank v zeroth (taken v by_server by_rank [])) (hear c first_server letter) next
-          (sym (ap (handle v by_server by_rank) front) ∙ happened) in
+      hears = λ letter front.
+          let next = some_there (happens v to_rank) (front_goes v by_server by_rank letter [] at.reached refl refl refl front) in
+          let went = mapped (after_rank v zeroth (taken v by_server by_rank [])) (hear c first_server letter) next.0
+          (sym (ap (handle v by_server by_rank) front) ∙ next.1) in
           record {
+            next = next.0;
+            happened = next.1;
             x = went.0;
             does = went.1;
             rank = ap (λ u. client_of u zeroth) went.2;
             pool = ap (λ u. pool_of u first_server) went.2;
             untold = ap told went.2
                 ∙ post_other g (taken v by_server by_rank []) 0 1 0 went.0.sends (λ e. absurd (omega (arith, e)));
+            sent = sent_before sr [] letter s.clock (line by_server by_rank refl refl).stamps front;
             stamp = ap (front_stamp v by_rank) front;
             answer = ap (front_answer v by_server by_rank) front ∙ ap (option_and_then (λ (x : Made). x.answer)) went.1;
           };
@@ -311,23 +229,21 @@ facts w l = by_world (λ v. IsLone v → AreFacts v) (λ limit a b d c s rr rs s
 pub config_next : (w next : World) (e : Event) → happens w e ≡ Some next → next.config ≡ w.config
 config_next w next e happened = same_config w next (happens_does w next e happened)
 
-pub lone_next : (w next : World) (e : Event) → IsLone w → happens w e ≡ Some next → IsLone next
-lone_next w next e l happened =
+pub lone_next : (w next : World) (e : Event) → IsLone w → happens w e ≡ Some next → event_stamp w e < stamp_limit → IsLone next
+lone_next w next e l happened early =
     let same = config_next w next e happened in
     record {
       one_rank = ap (λ (g : Config). g.ranks) same ∙ l.one_rank;
       one_server = ap (λ (g : Config). g.servers) same ∙ l.one_server;
-      events = l.events ++ e ∷ [];
-      run = subst (λ (g : Config). Runs (start g) (l.events ++ e ∷ []) next) (sym same)
-          (runs_more (start w.config) w next l.events e l.run happened);
+      reached = next_reached w next e l.reached happened early;
     }
 
 -- the numbers of each actor are those of the run
 pub rank_own : (w : World) (l : IsLone w) → IsClient w.config zeroth (client_of w zeroth)
-rank_own w l = (every_run_well w.config l.events w l.run).own.ranks zeroth (omega (arith, l.one_rank))
+rank_own w l = (every_run_well w.config l.reached.events w l.reached.run).own.ranks zeroth (omega (arith, l.one_rank))
 
 pub server_own : (w : World) (l : IsLone w) → IsPool w.config first_server (pool_of w first_server)
-server_own w l = (every_run_well w.config l.events w l.run).own.servers first_server (omega (arith, l.one_server))
+server_own w l = (every_run_well w.config l.reached.events w l.reached.run).own.servers first_server (omega (arith, l.one_server))
 
 -- Where it can go no further.
 
@@ -337,40 +253,36 @@ place_within w l (by.Server s) at = let low = ltb-true s.0 w.config.servers at i
 
 -- a run gets stuck nowhere: where no letter is under way and the rank can call nothing, the rank has finished and the server has ended
 pub settles : (w : World) → IsLone w → is_free (client_of w zeroth) ≡ false → asked w ≡ [] → told w ≡ [] → IsEnded w
-settles w l busy none untold = always_ends w.config l.events w l.run (record {
+settles w l busy none untold = always_ends w.config l.reached.events w l.reached.run (record {
   letters = λ from to at there.
-      inl ((facts w l).rests none untold (place_of w.config from) (place_of w.config to) (place_within w l from at) (place_within w l to there));
+      let places = (facts w l).rests none untold (place_of w.config from) (place_of w.config to) in
+      inl (places (place_within w l from at) (place_within w l to there));
   ranks = λ r below free.
       let here : r.0 ≡ 0 = omega (arith, below, l.one_rank) in
-      let same : is_free (client_of w (record { 0 = r.0 })) ≡ is_free (client_of w zeroth) = ap (λ n. is_free (client_of w (record { 0 = n }))) here in
+      let same = ap (λ n. is_free (client_of w (record { 0 = n }))) here in
       absurd (let no : false ≡ true = sym busy ∙ sym same ∙ free in cc);
 })
 
--- a server that has ended has handled the rank's Finish
-first_passes : (xs : List Bool) → length xs ≡ 1 → list_all (λ finished. finished) xs ≡ true → slice_index_or xs 0 false ≡ true
-first_passes [] long all = absurd (omega (arith, long))
-first_passes (x ∷ xs) long all = (and_parts x (list_all (λ finished. finished) xs) all).0
+-- a server that has ended is shut, and has handled the rank's Finish
+first_passes : (shut : Bool) (xs : List Bool) → length xs ≡ 1 → (shut && list_all (λ finished. finished) xs) ≡ true
+    → (shut && slice_index_or xs 0 false) ≡ true
+first_passes shut [] long all = absurd (omega (arith, long))
+first_passes shut (x ∷ xs) long all =
+    let both = and_parts shut (list_all (λ finished. finished) (x ∷ xs)) all in
+    rw both.0 (and_parts x (list_all (λ finished. finished) xs) both.1).0
 
-pub ended_parts : (w : World) → IsLone w → has_ended (pool_of w first_server) ≡ true
-    → ((pool_of w first_server).kept.shut ≡ true) × (is_finished (pool_of w first_server).kept zeroth ≡ true)
-ended_parts w l ended =
-    let k = (pool_of w first_server).kept in
-    let both = and_parts k.shut (list_all (λ finished. finished) k.finished) ended in
-    (both.0, first_passes k.finished ((server_own w l).finished ∙ l.one_rank) both.1)
+pub ended_is : (w : World) → IsLone w → has_ended (pool_of w first_server) ≡ true → is_ended (pool_of w first_server) ≡ true
+ended_is w l = first_passes (pool_of w first_server).kept.shut (pool_of w first_server).kept.finished
+    ((server_own w l).finished ∙ l.one_rank)
 
-pub goes_on : (w : World) → IsLone w → is_finished (pool_of w first_server).kept zeroth ≡ false → has_ended (pool_of w first_server) ≡ false
-goes_on w l unhandled = false_from_ne_true (has_ended (pool_of w first_server))
-    (λ ended. let both : true ≡ false = sym (ended_parts w l ended).1 ∙ unhandled in absurd (cc))
-
--- while the rank's Finish is not handled, a letter of a call that goes on is under way
-pub under_way : (w : World) → IsLone w → is_free (client_of w zeroth) ≡ false
-    → one (not (is_idle (client_of w zeroth).pending)) + one (client_of w zeroth).finished ≡ 1
-    → is_finished (pool_of w first_server).kept zeroth ≡ false → length (asked w) + length (told w) ≡ 1
-under_way w l busy owed unhandled = by_letters (asked w) (told w) refl refl
+pub not_ended : (s : ServerModel) → one (is_finished s.kept zeroth) ≡ 0 → is_ended s ≡ false
+not_ended s none = by_test s.kept.shut
   where
-    by_letters : (a t : List Letter) → asked w ≡ a → told w ≡ t → length (asked w) + length (told w) ≡ 1
-    by_letters [] [] none nothing =
-        let ended = (settles w l busy none nothing).servers first_server (omega (arith, l.one_server)) in
-        absurd (let both : true ≡ false = sym (ended_parts w l ended).1 ∙ unhandled in cc)
-    by_letters (x ∷ a) t some any = omega (arith, (facts w l).letters, owed, ap length some)
-    by_letters a (x ∷ t) any some = omega (arith, (facts w l).letters, owed, ap length some)
+    by_test : (t : Bool) → (t && is_finished s.kept zeroth) ≡ false
+    by_test true = one_not (is_finished s.kept zeroth) none
+    by_test false = refl
+
+pub goes_on : (w : World) → IsLone w → one (is_finished (pool_of w first_server).kept zeroth) ≡ 0
+    → has_ended (pool_of w first_server) ≡ false
+goes_on w l none = false_from_ne_true (has_ended (pool_of w first_server))
+    (λ ended. let both : true ≡ false = sym (ended_is w l ended) ∙ not_ended (pool_of w first_server) none in absurd (cc))

@@ -1,18 +1,17 @@
 //! One call in a world of one rank and one server, from its beginning to its answer.
 
-ghost use Rattle.std.specs.Prelude.{◌≡◌, IfOk, IfErr, Some};
+ghost use Rattle.std.specs.Prelude.{◌≡◌, [], IfNone, IfOk, IfErr, IfSome, Some};
 ghost use Rattle.bag_ledger.specs.declared.entries.Call.{Call};
-ghost use Rattle.core_inline.specs.inside.Pairs.{IsAnswered, IsFailed, IsReady, rank_in};
+ghost use Rattle.core_inline.specs.inside.Pairs.{IsAnswered, IsFailed, IsReady, IsUnderWay, asked, rank_in, told};
 ghost use Rattle.rank_client.specs.Answers.{CanCall};
-ghost use Rattle.rank_client.specs.Calls.{is_finish};
 
 use adlb_unit::{Actor, Rank, Server, Trouble};
 use bag_ledger::{Answer, Call};
 use core_run::Event;
 use core_world::World;
 
-// One call: the rank begins it, and each letter is handled until it is answered. Finish is answered at once, and the server handles
-// its letter; a unit's own bytes may be followed by those of its common part.
+// One call: the rank begins it, and each letter is handled until it is answered and none is under way. Finish is answered at once,
+// and the server handles its letter; a unit's own bytes may be followed by those of its common part.
 pub(crate) fn exchange(world: &mut World, call: Call) -> Result<Answer, Trouble>
     requires ready { IsReady world.old }
     requires can { CanCall 1 1 (rank_in world.old).transcript call }
@@ -21,30 +20,31 @@ pub(crate) fn exchange(world: &mut World, call: Call) -> Result<Answer, Trouble>
     ensures trouble { IfErr result (λ t. world.new.trouble ≡ Some t) }
     ensures config { world.new.world.config ≡ world.old.world.config }
 {
-    let last = is_last(&call);
-    if let Some(answer) = world.carry_out(Event::Call(Rank(0), call))? {
-        if !last {
-            return Ok(answer);
-        }
-        world.carry_out(Event::Deliver(Actor::Rank(Rank(0)), Actor::Server(Server(0))))?;
-        return Ok(answer);
-    }
-    for _asked in 0..2_u32 {
-        world.carry_out(Event::Deliver(Actor::Rank(Rank(0)), Actor::Server(Server(0))))?;
-        let heard = world.carry_out(Event::Deliver(
-            Actor::Server(Server(0)),
-            Actor::Rank(Rank(0)),
-        ))?;
-        if let Some(answer) = heard {
+    let begun = world.carry_out(Event::Call(Rank(0), call))?;
+    while let Some((from, to)) = next_letter(world) {
+        if let Some(answer) = world.carry_out(Event::Deliver(from, to))? {
             return Ok(answer);
         }
     }
-    unreachable!()
+    match begun {
+        Some(answer) => Ok(answer),
+        None => unreachable!(),
+    }
 }
 
-// The call is the rank's last.
-pub(crate) fn is_last(call: &Call) -> bool
-    ensures { result ≡ is_finish call.now }
+// From which actor to which a letter is under way, if one is.
+fn next_letter(world: &World) -> Option<(Actor, Actor)>
+    ensures under_way { IfSome result (λ way. IsUnderWay world.now.world way.0 way.1) }
+    ensures none_asked { IfNone result (asked world.now.world ≡ []) }
+    ensures none_told { IfNone result (told world.now.world ≡ []) }
 {
-    matches!(call, Call::Finish)
+    let rank = Actor::Rank(Rank(0));
+    let server = Actor::Server(Server(0));
+    if world.waiting(rank, server) > 0 {
+        return Some((rank, server));
+    }
+    if world.waiting(server, rank) > 0 {
+        return Some((server, rank));
+    }
+    None
 }

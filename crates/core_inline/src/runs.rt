@@ -8,7 +8,7 @@ ghost use Rattle.rank_client.specs.Calls.{has_finished, is_finish};
 ghost use Rattle.rank_client.specs.Link.{Can, HasGrant, Made};
 ghost use Rattle.core_inline.specs.Inline.{IsEnd, IsInline, IsStart, batch_of, link_of};
 
-use crate::pairs::{exchange, is_last};
+use crate::pairs::exchange;
 use adlb_unit::{Config, NoMemory, Rank, Server, Trouble};
 use bag_ledger::{Answer, Call, Said};
 use core_world::World;
@@ -119,4 +119,11 @@ fn finishes(before: bool, call: &Call) -> bool
     ensures { result ≡ (before || is_finish call.now) }
 {
     before || is_last(call)
+}
+
+// The call is the rank's last.
+fn is_last(call: &Call) -> bool
+    ensures { result ≡ is_finish call.now }
+{
+    matches!(call, Call::Finish)
 }

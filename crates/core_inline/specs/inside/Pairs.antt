@@ -2,6 +2,9 @@
 use Rattle.std.specs.Prelude.{ℕ, ◌+◌, ◌*◌, ◌≡◌, ◌⊎◌, ◌<◌, ◌≤◌, Bool, false, ◌&&◌, slice_index_or, List, [], ◌∷◌, ◌++◌, length}
 use Rattle.std.specs.Prelude.{take, Option, None, Some, is_some}
 use Rattle.adlb_unit.specs.Limits.{stamp_limit}
+use Rattle.adlb_unit.specs.declared.actors.Actor.{Actor}
+use Rattle.adlb_unit.specs.declared.actors.Actor.TheVariants as by
+use Rattle.adlb_unit.specs.declared.letters.Letter.{Letter}
 use Rattle.adlb_unit.specs.declared.names.Server.{Server}
 use Rattle.adlb_unit.specs.declared.notes.Trouble.{Trouble}
 use Rattle.adlb_unit.specs.declared.notes.Trouble.TheVariants.{TooLong}
@@ -15,10 +18,9 @@ use Rattle.rank_client.specs.Remembered.{Remembers}
 use Rattle.rank_client.specs.State.{ClientModel}
 use Rattle.server_core.specs.Left.{left_of}
 use Rattle.server_law.specs.State.{ServerModel}
-use Rattle.core_run.specs.declared.events.Event.{Event}
-use Rattle.core_run.specs.Runs.{Runs}
-use Rattle.core_run.specs.World.{World, client_of, pool_of, start}
-use Rattle.core_world.specs.Seen.{Seen}
+use Rattle.core_run.specs.World.{World, client_of, pool_of}
+use Rattle.core_world.specs.Seen.{Seen, under_way}
+use Rattle.core_world.specs.Stage.{IsReached}
 use Rattle.core_inline.specs.Inline.{IsTold, zeroth}
 use Rattle.core_inline.specs.Left.{IsLeft}
 
@@ -40,12 +42,29 @@ is_ended s = s.kept.shut && slice_index_or s.kept.finished 0 false
 abbrev pub with_call : List Said → Call → Answer → List Said
 with_call said call answer = said ++ record { call = call; answer = answer } ∷ []
 
+abbrev pub by_rank : Actor
+by_rank = by.Rank zeroth
+
+abbrev pub by_server : Actor
+by_server = by.Server first_server
+
+-- the letters under way to the server, and those to the rank
+abbrev pub asked : World → List Letter
+asked w = under_way w by_rank by_server
+
+abbrev pub told : World → List Letter
+told w = under_way w by_server by_rank
+
+-- a letter is under way from the one actor to the other
+abbrev pub IsUnderWay : World → Actor → Actor → Type 0
+IsUnderWay w from to =
+    ((from ≡ by_rank) × (to ≡ by_server) × (0 < length (asked w))) ⊎ ((from ≡ by_server) × (to ≡ by_rank) × (0 < length (told w)))
+
 -- a run from the start leads to this world of one rank and one server
 pub record IsLone (w : World) : Type 0 where
   pub one_rank : w.config.ranks ≡ 1
   pub one_server : w.config.servers ≡ 1
-  pub events : List Event
-  pub run : Runs (start w.config) events w
+  pub reached : IsReached w
 
 -- the rank runs, and no call is pending; each call took a stamp of its own, and five events at most
 pub record IsIdle (c : ClientModel) (s : ServerModel) : Type 0 where

@@ -1,10 +1,10 @@
 use Rattle.core_inline.proofs.Prelude.{Can, HasGrant, Run, ap, err_from_is_err_and, has_finished, link_of, subst, sym, ◌∙◌}
-use Rattle.core_inline.proofs.Kept.{again_seen, answered_inside, answered_made, begins_call, failed_inside, failed_made}
+use Rattle.core_inline.proofs.Kept.{again_made, answered_inside, answered_made, begins_call, failed_inside, failed_made}
 use Rattle.core_inline.proofs.runs.InlineRun.call.Goals as goal
 
 pub returns-in-Some-clause-made : goal.returns-in-Some-clause-made
 returns-in-Some-clause-made c =
-    again_seen c.args.self.now c.self.inside c.self.view_is c.args.call c.in-Some.met c.requires.can.running
+    again_made c.args.self.now c.self.inside c.self.view_is c.args.call c.in-Some.met c.requires.can.running
     (sym c.trouble.ensures ∙ c.in-Some.is)
 
 pub exchange-requires : goal.exchange-requires
@@ -24,7 +24,8 @@ pub invariant_of-self-in_err-answer : goal.invariant_of-self-in_err-answer
 invariant_of-self-in_err-answer c =
     let whole = sym c.trouble.ensures ∙ c.in_default.is in
     let e = c.in_err-answer.ensures in
-    failed_inside _ _ c.self.view_is c.self.invariant whole c.requires.can.running _ c.exchange.ensures.config _ _ c.finishes-called.ensures _ e.failed e.trouble
+    failed_inside _ _ c.self.view_is c.self.invariant whole c.requires.can.running _ c.exchange.ensures.config _ _
+    c.finishes-called.ensures _ e.failed e.trouble
 
 pub returns-in_err-answer-clause-made : goal.returns-in_err-answer-clause-made
 returns-in_err-answer-clause-made c =
@@ -32,7 +33,8 @@ returns-in_err-answer-clause-made c =
     let e = c.in_err-answer.ensures in
     let p = err_from_is_err_and c.from_residual.result c.from_residual.ensures.1 in
     rw (p.1, p.2)
-    (failed_made _ _ c.self.view_is c.self.invariant whole c.requires.can.running _ c.exchange.ensures.config _ _ c.finishes-called.ensures _ e.failed e.trouble)
+    (failed_made _ _ c.self.view_is c.self.invariant whole c.requires.can.running _ c.exchange.ensures.config _ _
+    c.finishes-called.ensures _ e.failed e.trouble)
 
 pub returns-in_err-answer-clause-holds : goal.returns-in_err-answer-clause-holds
 returns-in_err-answer-clause-holds c = (invariant_of-self-in_err-answer c).inline
@@ -41,14 +43,14 @@ returns-in_err-answer-clause-holds c = (invariant_of-self-in_err-answer c).inlin
 pub invariant_of-self-2 : goal.invariant_of-self-2
 invariant_of-self-2 c =
     let whole = sym c.trouble.ensures ∙ c.in_default.is in
-    answered_inside _ _ c.self.view_is c.self.invariant whole c.requires.can.running _ c.exchange.ensures.config _ _ c.finishes-called.ensures _
-    c.in_ok-answer.ensures.answered
+    answered_inside _ _ c.self.view_is c.self.invariant whole c.requires.can.running _ c.exchange.ensures.config _ _
+    c.finishes-called.ensures _ c.in_ok-answer.ensures.answered
 
 pub returns-clause-made : goal.returns-clause-made
 returns-clause-made c =
     let whole = sym c.trouble.ensures ∙ c.in_default.is in
-    answered_made _ _ c.self.view_is c.self.invariant whole c.requires.can.running _ c.exchange.ensures.config _ _ c.finishes-called.ensures _
-    c.in_ok-answer.ensures.answered
+    answered_made _ _ c.self.view_is c.self.invariant whole c.requires.can.running _ c.exchange.ensures.config _ _
+    c.finishes-called.ensures _ c.in_ok-answer.ensures.answered
 
 pub returns-clause-holds : goal.returns-clause-holds
 returns-clause-holds c = (invariant_of-self-2 c).inline

@@ -1,6 +1,6 @@
 use Rattle.core_inline.proofs.Prelude.{IsEnd, None, Run, arith, rank_in, run_of, subst, sym, take_all, ◌∙◌, ◌≡◌}
+use Rattle.core_inline.proofs.Kept.{end_of}
 use Rattle.rank_client.proofs.Awaited.{none_left}
-use Rattle.core_inline.proofs.Starts.{end_of}
 use Rattle.core_inline.proofs.runs.InlineRun.end.Goals as goal
 
 pub returns-clause-ended : goal.returns-clause-ended

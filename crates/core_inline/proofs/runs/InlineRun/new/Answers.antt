@@ -1,4 +1,4 @@
-use Rattle.core_inline.proofs.Starts.{accepts, starts}
+use Rattle.core_inline.proofs.Kept.{accepts, starts}
 use Rattle.core_inline.proofs.runs.InlineRun.new.Goals as goal
 
 pub unreachable-requires : goal.unreachable-requires
@@ -8,15 +8,9 @@ unreachable-requires c =
 
 pub invariant_of-result : goal.invariant_of-result
 invariant_of-result c =
-    (starts c.in-Ok.config c.args.limit c.in_ok-new.field-0 c.in-Ok.ensures.ranks c.in-Ok.ensures.servers c.in-Ok.ensures.limit
-    c.in_ok-new.ensures).0
+    (starts c.in-Ok.config c.args.limit c.in-Ok.ensures.ranks c.in-Ok.ensures.servers c.in-Ok.ensures.limit _ c.in_ok-new.ensures).0
 
-pub returns-clause-start : goal.returns-clause-start
-returns-clause-start c =
-    (starts c.in-Ok.config c.args.limit c.in_ok-new.field-0 c.in-Ok.ensures.ranks c.in-Ok.ensures.servers c.in-Ok.ensures.limit
-    c.in_ok-new.ensures).1
-
-pub returns-clause-holds : goal.returns-clause-holds
-returns-clause-holds c =
-    (starts c.in-Ok.config c.args.limit c.in_ok-new.field-0 c.in-Ok.ensures.ranks c.in-Ok.ensures.servers c.in-Ok.ensures.limit
-    c.in_ok-new.ensures).0.inline
+pub returns : goal.returns
+returns c =
+    let s = starts c.in-Ok.config c.args.limit c.in-Ok.ensures.ranks c.in-Ok.ensures.servers c.in-Ok.ensures.limit _ c.in_ok-new.ensures in
+    record { start = s.1; holds = s.0.inline }

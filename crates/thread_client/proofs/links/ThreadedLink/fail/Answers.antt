@@ -1,6 +1,4 @@
-use Rattle.std.proofs.Common.{◌∙◌, ap, sym}
-use Rattle.rank_client.specs.State.{ClientModel}
-use Rattle.thread_client.specs.Run.{RankLink}
+use Rattle.thread_client.proofs.Prelude.{ClientModel, RankLink, ap, sym, ◌∙◌}
 use Rattle.thread_client.proofs.Steps.{fail_rests}
 use Rattle.thread_client.proofs.Walks.{again_cut}
 use Rattle.thread_client.proofs.links.ThreadedLink.fail.Goals as goal
@@ -11,7 +9,8 @@ invariant_of-self g c =
     let e = c.fail.ensures in
     let met = ap (λ (l : RankLink). l.core.trouble) c.self.view_is in (
       ap (λ (s : ClientModel). s.me) e.failed ∙ c.self.invariant.0,
-      fail_rests w.core c.fail.new.self c.fail.result c.args.trouble e.failed e.first (λ whole. c.requires.late (sym met ∙ whole)) c.self.invariant.1,
+      fail_rests w.core c.fail.new.self c.fail.result c.args.trouble e.failed e.first (λ whole. c.requires.late (sym met ∙ whole))
+          c.self.invariant.1,
       λ whole. absurd (let failed = ap (λ (s : ClientModel). s.trouble) e.failed in cc (failed, whole)),
       again_cut w.desk w.core c.fail.new.self w.unexpected c.fail.result c.args.trouble e.failed e.first c.self.invariant.3,
     )

@@ -1,5 +1,4 @@
-use Rattle.std.proofs.Common.{ap}
-use Rattle.rank_client.specs.State.{ClientModel}
+use Rattle.thread_client.proofs.Prelude.{ClientModel, ap}
 use Rattle.thread_client.proofs.Called.{start_rests}
 use Rattle.thread_client.proofs.Walks.{new_recorded}
 use Rattle.thread_client.proofs.links.ThreadedLink.new.Goals as goal

@@ -1,10 +1,11 @@
-use Rattle.std.proofs.Common.{◌∙◌, sym}
-use Rattle.thread_client.proofs.Finishing.{come_before, come_now}
+use Rattle.thread_client.proofs.Prelude.{sym, ◌∙◌}
+use Rattle.thread_client.proofs.Called.{come_before, come_now}
 use Rattle.thread_client.proofs.Walks.{not_cut}
 use Rattle.thread_client.proofs.wires.Wire.answer.Goals as goal
 
 pub returns-in-Some-clause-came : goal.returns-in-Some-clause-came
-returns-in-Some-clause-came g c = come_before c.args.self.now.core _ _ (sym c.failed.ensures ∙ c.in-Some.is) c.requires.rests
+returns-in-Some-clause-came g c =
+    come_before c.args.self.now.core c.args.call c.requires.running _ (sym c.failed.ensures ∙ c.in-Some.is) c.requires.rests
 
 pub exchange-requires-clause-can : goal.exchange-requires-clause-can
 exchange-requires-clause-can g c = c.requires.can (sym c.failed.ensures ∙ c.in-None.is)
@@ -15,4 +16,8 @@ exchange-requires-clause-expected g c =
 
 pub returns-in-None-clause-came : goal.returns-in-None-clause-came
 returns-in-None-clause-came g c =
-    let e = c.exchange.ensures in come_now c.args.self.now.core c.exchange.new.self.core c.args.call c.exchange.result (sym c.failed.ensures ∙ c.in-None.is) e.answered e.failed e.rests
+    let w = c.args.self.now in
+    let t = c.exchange.new.self in
+    let e = c.exchange.ensures in
+    come_now w.core c.args.call c.requires.running t.core c.exchange.result (sym c.failed.ensures ∙ c.in-None.is)
+    (t.run_is ∙ e.config ∙ sym w.run_is) e.me e.answered e.failed e.rests
