@@ -1,4 +1,4 @@
--- A rank that was told an end brings and wants nothing more; and no step of a rank enters a gain.
+-- A rank that was told an end brings and wants nothing more; and no step of a rank enters work.
 use Rattle.std.proofs.Common.{◌≡◌, Bool, true, false, ◌&&◌, not, List, [], ◌∷◌, ◌++◌, Option, None, Some, refl, sym, ◌∙◌}
 use Rattle.std.specs.Option.{option_map}
 use Rattle.std.specs.Prelude.{is_none, nat_le, nat_lt, length, ◌==◌, ◌+◌, ℕ}
@@ -36,7 +36,7 @@ is_open _ = false
 abbrev pub IsModest : ClientModel → Type 0
 IsModest s = (end : End) → s.end ≡ Some end → is_open s.pending ≡ false
 
--- the step leaves the rank so, and enters no gain
+-- the step leaves the rank so, and enters no work
 abbrev pub IsGood : ClientResponse → Type 0
 IsGood x = IsModest x.state × AreIdle x.entries
 
