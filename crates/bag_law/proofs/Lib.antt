@@ -10,6 +10,7 @@ pub mod Ids
 pub mod Once
 pub mod Plain
 pub mod Promises
+pub mod Refusals
 pub mod Shares
 pub mod Sound
 pub mod There

@@ -4,14 +4,12 @@ use Rattle.std.specs.Prelude.{option_and_then}
 use Rattle.adlb_unit.specs.Ids.{same_batch}
 use Rattle.adlb_unit.specs.declared.names.BatchId.{BatchId}
 use Rattle.adlb_unit.specs.declared.names.CommonRef.{CommonRef}
-use Rattle.adlb_unit.specs.declared.names.Server.{Server}
-use Rattle.adlb_unit.specs.declared.units.Unit.{Unit}
 use Rattle.bag_ledger.specs.declared.entries.Entry.{Entry}
-use Rattle.bag_ledger.specs.declared.entries.Entry.TheVariants.{Accepted, Kept, Closed, Freed, CommonFetched, Fetched}
+use Rattle.bag_ledger.specs.declared.entries.Entry.TheVariants.{Accepted, Kept, Closed, Freed, CommonFetched}
 use Rattle.bag_ledger.specs.declared.states.Part.{Part}
 use Rattle.bag_ledger.specs.declared.states.UnitPlace.TheVariants.{Free}
 use Rattle.bag_ledger.specs.Bag.{Bag, putting, rank_at}
-use Rattle.bag_ledger.specs.Steps.{LegalWhere, after, change_first, ended, kept, new_part, shared, taken, with_rank}
+use Rattle.bag_ledger.specs.Steps.{LegalWhere, after, change_first, ended, new_part, shared, taken, with_rank}
 use Rattle.bag_ledger.proofs.Charge.{unit_put}
 use Rattle.bag_ledger.proofs.Lookups.{find_appended}
 use Rattle.bag_law.specs.Sound.{PartsAreThere}

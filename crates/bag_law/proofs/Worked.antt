@@ -1,13 +1,13 @@
 -- A batch of two units and two ranks, computed moment by moment, and what lies next to the law and is not so.
 use Rattle.std.proofs.Common.{◌≡◌, ℕ, ◌+◌, pos, true, List, ◌∷◌, [], Option, Some, None, refl, take, fold, arith}
-use Rattle.std.specs.Prelude.{option_map, sum_by}
+use Rattle.std.specs.Prelude.{count_by, option_map, sum_by}
 use Rattle.adlb_unit.specs.declared.names.Rank.{Rank}
 use Rattle.adlb_unit.specs.declared.names.Server.{Server}
 use Rattle.adlb_unit.specs.declared.names.UnitId.{UnitId}
 use Rattle.adlb_unit.specs.declared.names.BatchId.{BatchId}
 use Rattle.adlb_unit.specs.declared.names.Target.TheVariants.{Any}
 use Rattle.bag_ledger.specs.declared.entries.Entry.{Entry}
-use Rattle.bag_ledger.specs.declared.entries.Entry.TheVariants.{Putting, Accepted, Keeping, Kept, Closing, Closed, Freed, Asked, Granted, Fetching, Fetched, CommonFetched, Promised}
+use Rattle.bag_ledger.specs.declared.entries.Entry.TheVariants.{Putting, Accepted, Keeping, Kept, Closing, Closed, Freed, Asked, Granted, Fetching, Fetched, CommonFetched, Promised, Refused, Tried, Looked}
 use Rattle.bag_ledger.specs.declared.states.Part.{Part}
 use Rattle.bag_ledger.specs.declared.states.Placed.{Placed}
 use Rattle.bag_ledger.specs.declared.states.Promise.{Promise}
@@ -16,6 +16,7 @@ use Rattle.bag_ledger.specs.declared.states.UnitPlace.TheVariants.{Pinned, Spent
 use Rattle.bag_ledger.specs.Bag.{Bag, empty, part_of, promise_of, unit_of}
 use Rattle.bag_ledger.specs.Runs.{first_illegal}
 use Rattle.bag_ledger.specs.Steps.{after}
+use Rattle.bag_ledger.specs.Words.{looks}
 use Rattle.bag_law.specs.Counts.{accepted_of, dues, fetched_of, owes, unspent}
 
 abbrev rank : ℕ → Rank
@@ -102,3 +103,20 @@ granted_while_promised_legal = refl
 pinned_and_promised : (place_of (fold after (empty 2 2 64) granted_while_promised) (unit 0) ≡ Some (Pinned (server 0) (rank 1)))
     × (option_map (λ (p : Promise). p.server) (promise_of (fold after (empty 2 2 64) granted_while_promised) (unit 0)) ≡ Some (server 1))
 pinned_and_promised = (refl, refl)
+
+-- each server may refuse a call, but none twice
+abbrev refused_by : Server → Entry
+refused_by by = Refused by (unit 0) 0
+
+refused_by_two : first_illegal (empty 2 2 0) 0 (put 0 7 ∷ refused_by (server 0) ∷ refused_by (server 1) ∷ []) ≡ None
+refused_by_two = refl
+
+refused_twice_by_one : first_illegal (empty 2 2 0) 0 (put 0 7 ∷ refused_by (server 0) ∷ refused_by (server 0) ∷ []) ≡ Some 2
+refused_twice_by_one = refl
+
+-- in one call a server may look twice
+abbrev looked_twice : List Entry
+looked_twice = Tried (rank 0) 0 None ∷ Looked (server 0) (rank 0) 0 ∷ Looked (server 0) (rank 0) 0 ∷ []
+
+looked_twice_legal : (first_illegal (empty 2 2 64) 0 looked_twice ≡ None) × (count_by (looks (server 0) (rank 0) 0) looked_twice ≡ 2)
+looked_twice_legal = (refl, refl)

@@ -17,7 +17,7 @@ ghost use Rattle.bag_ledger.specs.declared.states.UnitPlace.TheVariants as lies;
 ghost use Rattle.bag_ledger.specs.Bag.{Bag, has_due, part_of, start, unit_of};
 ghost use Rattle.bag_ledger.specs.Runs.{IsRunWhere, calls};
 ghost use Rattle.bag_ledger.specs.Steps.{Is, LegalWhere, after};
-ghost use Rattle.bag_ledger.specs.Words.{accepts, fetches, grants, puts};
+ghost use Rattle.bag_ledger.specs.Words.{accepts, fetches, grants, puts, refuses};
 ghost use Rattle.bag_law.specs.Calls.{AreTrueCalls};
 ghost use Rattle.bag_law.specs.Counts.{dues, frees, is_spent, may_make_due, owes, unspent};
 ghost use Rattle.bag_law.specs.Sound.{AreFound, AreUsed, IsKept, IsSoundBag};
@@ -44,6 +44,13 @@ pub fn no_unit_is_taken_twice()
         IsRunWhere found (start config) ledger last → count_by (grants id) ledger ≤ 1 }
     ensures fetched_once { (found : Bag → Bool) (config : Config) (ledger : List Entry) (last : Bag) (id : UnitId) →
         IsRunWhere found (start config) ledger last → count_by (fetches id) ledger ≤ 1 }
+{}
+
+/// Whatever is asked where exhaustion is found (`found`): in no legal run does a server refuse twice what a rank brings in a call, be
+/// it a unit or a batch that begins.
+pub fn no_call_is_refused_twice()
+    ensures { (found : Bag → Bool) (config : Config) (ledger : List Entry) (last : Bag) (server : Server) (rank : Rank) (call : ℕ) →
+        IsRunWhere found (start config) ledger last → count_by (refuses server rank call) ledger ≤ 1 }
 {}
 
 /// What is read off a sound bag. A unit that a rank puts is not there yet, is the rank's, and shares the rank's batch

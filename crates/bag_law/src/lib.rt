@@ -7,4 +7,6 @@
 
 mod laws;
 
-pub use laws::{every_run_is_sound, no_unit_is_taken_twice, sound_bag_laws};
+pub use laws::{
+    every_run_is_sound, no_call_is_refused_twice, no_unit_is_taken_twice, sound_bag_laws,
+};

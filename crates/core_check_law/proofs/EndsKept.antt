@@ -150,6 +150,14 @@ no_shutdown w k a well act first from is =
     let fits = and_parts (not (from.0 == k.0)) (from.0 == 0) (fit_of w k b well act_is).0.1 in
     elsewhere w k b well act_is from tells.Shutdown refl fits.1 fits.0 first
 
+pub no_exhaust : (w : World) (k : Server) (a : Act) (well : IsWell w) (act : IsAct w k a) → (pool_of w k).me.0 ≡ 0 → (from : Server)
+    → a ≡ Hears_exhaust from → ⊥
+no_exhaust w k a well act first from is =
+    let b = Hears_exhaust from in
+    let act_is = subst (λ (x : Act). IsAct w k x) is act in
+    let fits = and_parts (not (from.0 == k.0)) (from.0 == 0) (fit_of w k b well act_is).0.1 in
+    elsewhere w k b well act_is from tells.Exhaust refl fits.1 fits.0 first
+
 act_going : (w : World) (k : Server) (a : Act) (well : IsWell w) (act : IsAct w k a) → IsGoing k (pool_of w k)
     → IsGoing k (done a (pool_of w k))
 act_going w k a well act was first =

@@ -77,8 +77,13 @@ raised_past false s stamp low e = absurd (cc)
 
 -- Where exhaustion is found.
 
-pub finds_settled : (w : World) (b : Bag) (k from : Server) (t : Token) → Holds w b → Settles w b → IsAct w k (Finds from t) → settled b ≡ true
-finds_settled w b k from t h on is = by_list t.asked refl
+pub finds_settling : (w : World) (b : Bag) (k from : Server) (t : Token) → Holds w b → Settles w b → IsAct w k (Finds from t)
+    → IsSettling w b w.config.servers t.asked
+finds_settling w b k from t h on is =
+    let r = reach_zeroth w.config k at in
+    subst (λ (n : ℕ). IsSettling w b n t.asked) r
+    (token_front (IsSettledBehind w b) w k from t (Finds from t) is refl on is.sure.0.wave
+    (λ c high there. let e = r in absurd (omega arith)) (inr fresh))
   where
     sure_zeroth : (pool_of w k).me.0 ≡ 0
     sure_zeroth = is.sure.0.running.zeroth
@@ -96,16 +101,13 @@ finds_settled w b k from t h on is = by_list t.asked refl
             let no : true ≡ false = sym knows ∙ is.sure.2 in
             absurd (cc)
 
-    settling : IsSettling w b w.config.servers t.asked
-    settling =
-        let r = reach_zeroth w.config k at in
-        subst (λ (n : ℕ). IsSettling w b n t.asked) r
-        (token_front (IsSettledBehind w b) w k from t (Finds from t) is refl on is.sure.0.wave
-        (λ c high there. let e = r in absurd (omega arith)) (inr fresh))
-
+pub finds_settled : (w : World) (b : Bag) (k from : Server) (t : Token) → Holds w b → Settles w b → IsAct w k (Finds from t) → settled b ≡ true
+finds_settled w b k from t h on is = by_list t.asked refl
+  where
     by_list : (xs : List Asker) → t.asked ≡ xs → settled b ≡ true
     by_list [] e = absurd (is.sure.1 e)
-    by_list (first ∷ more) e = bag_is_settled w b h.well h.lawful h.legal t.asked settling first more e
+    by_list (first ∷ more) e =
+        bag_is_settled w b h.well h.lawful h.legal t.asked (finds_settling w b k from t h on is) first more e
 
 pub settled_for : (w : World) (b : Bag) (k : Server) (a : Act) → Holds w b → Settles w b → IsAct w k a → is_alone a ≡ false → SettledFor a b
 settled_for w b k (Finds from t) h on is alone = finds_settled w b k from t h on is
@@ -114,7 +116,7 @@ settled_for w b k _ h on is alone = tt
 
 -- The first act.
 
-takes_some : (a : Act) (heard : Heard) → takes a ≡ heard ∷ [] → (is_alone a ≡ false) × (is_query a ≡ false)
+pub takes_some : (a : Act) (heard : Heard) → takes a ≡ heard ∷ [] → (is_alone a ≡ false) × (is_query a ≡ false)
 takes_some Finds_alone heard e = absurd (cc)
 takes_some Shuts_alone heard e = absurd (cc)
 takes_some Checks_alone heard e = absurd (cc)

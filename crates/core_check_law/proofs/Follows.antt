@@ -126,7 +126,7 @@ abbrev pub Behind : (World → Bag → Type 0) → World → Type 0
 Behind P w = (n : Bag) × Holds w n × P w n
 
 module _ (k : Server) where
-  alone_not : (w : World) (a : Act) → IsWell w → 1 < w.config.servers → IsAct w k a → is_alone a ≡ false
+  pub alone_not : (w : World) (a : Act) → IsWell w → 1 < w.config.servers → IsAct w k a → is_alone a ≡ false
   alone_not w a well several is =
       let own = well.own.servers k is.here in
       not_alone a (pool_of w k) is.sure (λ e. let c = ap (λ (x : Config). x.servers) own.config in absurd (omega arith))

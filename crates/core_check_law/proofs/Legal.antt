@@ -28,7 +28,7 @@ use Rattle.core_check_law.proofs.RankSteps.{answer_settles, call_settles}
 use Rattle.core_check_law.proofs.Rings.{begins_ringed, does_ringed}
 use Rattle.core_check_law.proofs.Told.{IsTold, serve_told, told_is}
 
-abbrev AllTold : World → Type 0
+abbrev pub AllTold : World → Type 0
 AllTold w = (t : Server) → t.0 < w.config.servers → IsTold (pool_of w t)
 
 -- at each moment of a run of several servers
@@ -120,10 +120,13 @@ run_told w last (e ∷ events) well told run =
     let does = happens_does w run.0 e run.1 in
     run_told run.0 last events (well_kept w run.0 well does) (event_told w run.0 well told does) run.2
 
+pub all_told : (config : Config) (events : List Event) (w : World) → Runs (start config) events w → AllTold w
+all_told config events w run =
+    run_told (start config) w events (begins_well config) (λ t here. subst IsTold (sym (pool_at config t here)) (λ is. refl)) run
+
 pub every_run_told : (config : Config) (events : List Event) (w : World) (server : Server) (e : Waiting) → server.0 < config.servers
     → Runs (start config) events w → Has (pool_of w server).kept.parked.waiting e → e.asked ≡ None → (pool_of w server).kept.done ≡ false
 every_run_told config events w server e there run has idle =
-    let told = run_told (start config) w events (begins_well config)
-    (λ t here. subst IsTold (sym (pool_at config t here)) (λ is. refl)) run in
+    let told = all_told config events w run in
     let here = subst (λ (k : Config). server.0 < k.servers) (sym (run_config (start config) w events run)) there in
     told_is (pool_of w server) e (told server here) has idle

@@ -7,10 +7,11 @@ pub mod EndsAlong
 pub mod EndsKept
 pub mod Events
 pub mod EveryTurn
+mod Examples
 pub mod Expected
 pub mod Follows
-pub mod Gains
 pub mod Homes
+pub mod Idle
 pub mod Inside
 pub mod Legal
 pub mod Letters
@@ -20,6 +21,7 @@ pub mod Named
 pub mod Never
 pub mod OnTurn
 pub mod Over
+pub mod Pressing
 pub mod Quiet
 pub mod RankSteps
 pub mod Ranks
@@ -36,6 +38,7 @@ pub mod Ticks
 pub mod Tokens
 pub mod Told
 pub mod Turns
+pub mod Unpushed
 pub mod Verdict
 pub mod Void
 pub mod Walk

@@ -1,4 +1,4 @@
--- A rank that was told an end brings and wants nothing more; and no step of a rank enters a gain.
+-- A rank that was told an end brings and wants nothing more; and no step of a rank enters work.
 use Rattle.std.proofs.Common.{◌≡◌, Bool, true, false, ◌&&◌, not, List, [], ◌∷◌, ◌++◌, Option, None, Some, refl, sym, ◌∙◌}
 use Rattle.std.specs.Option.{option_map}
 use Rattle.std.specs.Prelude.{is_none, nat_le, nat_lt, length, ◌==◌, ◌+◌, ℕ}
@@ -15,6 +15,8 @@ use Rattle.adlb_unit.specs.declared.notes.End.{End}
 use Rattle.adlb_unit.specs.declared.notes.UnitNote.{UnitNote}
 use Rattle.adlb_unit.specs.declared.units.Unit.{Unit}
 use Rattle.bag_ledger.specs.declared.entries.Call.{Call}
+use Rattle.bag_ledger.specs.declared.entries.Entry.{Entry}
+use Rattle.bag_ledger.specs.declared.entries.Entry.TheVariants as enters
 use Rattle.bag_ledger.specs.declared.entries.Call.TheVariants as calls_to
 use Rattle.rank_client.specs.Rules.{ClientResponse, ClientSaying, answer_call, asked, close, expects_note, fetch, finish, hear_close, hear_common, hear_count, hear_done, hear_fetch, hear_keep, hear_look, hear_put, hear_reserve, held, is_for, is_free, keep, look, looked, looks_at, open_call, own_came, part_refused, put, refused, reserve, told_done, unit_put}
 use Rattle.rank_client.specs.State.{ClientModel}
@@ -22,7 +24,8 @@ use Rattle.rank_client.specs.Step.{Made, begin, call_stamp, counted, hear, lette
 use Rattle.rank_client.specs.declared.pendings.Pending.{Pending}
 use Rattle.rank_client.specs.declared.pendings.Pending.TheVariants as waits_for
 use Rattle.core_law.proofs.Some.{OnSome, if_some, mapped_some, on_some}
-use Rattle.core_check_law.specs.After.{AreIdle}
+use Rattle.core_law.specs.OnLinks.{Each}
+use Rattle.core_check_law.specs.After.{AreIdle, is_work}
 
 -- the call brings or wants something
 abbrev pub is_open : Pending → Bool
@@ -36,7 +39,7 @@ is_open _ = false
 abbrev pub IsModest : ClientModel → Type 0
 IsModest s = (end : End) → s.end ≡ Some end → is_open s.pending ≡ false
 
--- the step leaves the rank so, and enters no gain
+-- the step leaves the rank so, and enters no work
 abbrev pub IsGood : ClientResponse → Type 0
 IsGood x = IsModest x.state × AreIdle x.entries
 
@@ -83,6 +86,18 @@ open_good s calls_to.Finish = if_some IsGood (is_none s.batch) (Some (finish s))
 
 -- A letter.
 
+-- what a letter makes a rank enter: that each server has declined its call, if anything
+abbrev pub ends_alone : Entry → Bool
+ends_alone (enters.Rejected rank call) = true
+ends_alone (enters.NoCurrent rank call) = true
+ends_alone _ = false
+
+abbrev pub EndAlone : List Entry → Type 0
+EndAlone es = Each (λ (e : Entry). ends_alone e ≡ true) es
+
+abbrev IsAnswered : ClientResponse → Type 0
+IsAnswered x = IsModest x.state × EndAlone x.entries
+
 -- where such a call is pending no end was told
 abbrev NoEnd : ClientModel → Pending → Type 0
 NoEnd s p = is_open p ≡ true → s.end ≡ None
@@ -91,104 +106,104 @@ none_told : (s : ClientModel) (e : End) → s.end ≡ None → s.end ≡ Some e 
 none_told s e none told = let both : None ≡ Some e = sym none ∙ told in absurd (cc)
 
 refused_good : (s : ClientModel) (unit : Unit) (first : Server) (tried : ℕ) (t : Bool) → s.end ≡ None
-    → IsGood (refused s unit first tried t)
+    → IsAnswered (refused s unit first tried t)
 refused_good s unit first tried true none = (λ e told. absurd (none_told s e none told), tt)
 refused_good s unit first tried false none = (λ e told. refl, (refl, tt))
 
 looked_good : (s : ClientModel) (request : ℕ) (types : Option (List WorkType)) (tried : ℕ) (t : Bool) → s.end ≡ None
-    → IsGood (looked s request types tried t)
+    → IsAnswered (looked s request types tried t)
 looked_good s request types tried true none = (λ e told. absurd (none_told s e none told), tt)
 looked_good s request types tried false none = (λ e told. refl, (refl, tt))
 
 part_refused_good : (s : ClientModel) (request : ℕ) (common : List ℕ) (first : Server) (tried : ℕ) (t : Bool) → s.end ≡ None
-    → IsGood (part_refused s request common first tried t)
+    → IsAnswered (part_refused s request common first tried t)
 part_refused_good s request common first tried true none = (λ e told. absurd (none_told s e none told), tt)
 part_refused_good s request common first tried false none = (λ e told. refl, (refl, tt))
 
-told_done_good : (s : ClientModel) (request tried : ℕ) (t : Bool) → IsGood (told_done s request tried t)
+told_done_good : (s : ClientModel) (request tried : ℕ) (t : Bool) → IsAnswered (told_done s request tried t)
 told_done_good s request tried true = (λ e told. refl, tt)
 told_done_good s request tried false = (λ e told. refl, tt)
 
 own_came_good : (s : ClientModel) (request : ℕ) (note : UnitNote) (own : List ℕ) (o : Option CommonRef)
-    → IsGood (own_came s request note own o)
+    → IsAnswered (own_came s request note own o)
 own_came_good s request note own None = (λ e told. refl, tt)
 own_came_good s request note own (Some common) = (λ e told. refl, tt)
 
 put_heard : (s : ClientModel) (unit : Unit) (first : Server) (tried : ℕ) (from : Server) (m : Message) → s.end ≡ None
-    → OnSome (hear_put s unit first tried from m) IsGood
+    → OnSome (hear_put s unit first tried from m) IsAnswered
 put_heard s unit first tried from (tells.Accepted to) none =
-    if_some IsGood (is_for unit.id.number (asked s first tried) from to) _ (λ t. (λ e told. refl, tt))
+    if_some IsAnswered (is_for unit.id.number (asked s first tried) from to) _ (λ t. (λ e told. refl, tt))
 put_heard s unit first tried from (tells.Full to charge) none =
-    if_some IsGood (is_for unit.id.number (asked s first tried) from to)
+    if_some IsAnswered (is_for unit.id.number (asked s first tried) from to)
     (Some (refused s unit first tried (nat_lt (tried + 1) s.config.servers)))
     (λ t. refused_good s unit first tried (nat_lt (tried + 1) s.config.servers) none)
 put_heard s unit first tried from (tells.Ended to end) none =
-    if_some IsGood (is_for unit.id.number (asked s first tried) from to) _ (λ t. (λ e told. refl, tt))
+    if_some IsAnswered (is_for unit.id.number (asked s first tried) from to) _ (λ t. (λ e told. refl, tt))
 put_heard s unit first tried from _ none = tt
 
 reserve_heard : (s : ClientModel) (request : ℕ) (types : Option (List WorkType)) (from : Server) (m : Message)
-    → OnSome (hear_reserve s request types from m) IsGood
+    → OnSome (hear_reserve s request types from m) IsAnswered
 reserve_heard s request types from (tells.Grant to note) =
-    if_some IsGood (is_for request (home s.config s.me) from to && expects_note s note) _ (λ t. (λ e told. refl, tt))
+    if_some IsAnswered (is_for request (home s.config s.me) from to && expects_note s note) _ (λ t. (λ e told. refl, tt))
 reserve_heard s request types from (tells.Ended to end) =
-    if_some IsGood (is_for request (home s.config s.me) from to) _ (λ t. (λ e told. refl, tt))
+    if_some IsAnswered (is_for request (home s.config s.me) from to) _ (λ t. (λ e told. refl, tt))
 reserve_heard s request types from _ = tt
 
 look_heard : (s : ClientModel) (request : ℕ) (types : Option (List WorkType)) (tried : ℕ) (from : Server) (m : Message) → s.end ≡ None
-    → OnSome (hear_look s request types tried from m) IsGood
+    → OnSome (hear_look s request types tried from m) IsAnswered
 look_heard s request types tried from (tells.Grant to note) none =
-    if_some IsGood (is_for request (looks_at s tried) from to && expects_note s note) _ (λ t. (λ e told. refl, tt))
+    if_some IsAnswered (is_for request (looks_at s tried) from to && expects_note s note) _ (λ t. (λ e told. refl, tt))
 look_heard s request types tried from (tells.Nothing to) none =
-    if_some IsGood (is_for request (looks_at s tried) from to) (Some (looked s request types tried (nat_lt (tried + 1) s.config.servers)))
+    if_some IsAnswered (is_for request (looks_at s tried) from to) (Some (looked s request types tried (nat_lt (tried + 1) s.config.servers)))
     (λ t. looked_good s request types tried (nat_lt (tried + 1) s.config.servers) none)
 look_heard s request types tried from (tells.Ended to end) none =
-    if_some IsGood (is_for request (looks_at s tried) from to) _ (λ t. (λ e told. refl, tt))
+    if_some IsAnswered (is_for request (looks_at s tried) from to) _ (λ t. (λ e told. refl, tt))
 look_heard s request types tried from _ none = tt
 
 fetch_heard : (s : ClientModel) (request : ℕ) (note : UnitNote) (from : Server) (m : Message)
-    → OnSome (hear_fetch s request note from m) IsGood
+    → OnSome (hear_fetch s request note from m) IsAnswered
 fetch_heard s request note from (tells.Bytes to body) =
-    if_some IsGood (is_for request note.server from to && (length body == note.length)) (Some (own_came s request note body note.common))
+    if_some IsAnswered (is_for request note.server from to && (length body == note.length)) (Some (own_came s request note body note.common))
     (λ t. own_came_good s request note body note.common)
 fetch_heard s request note from _ = tt
 
 common_heard : (s : ClientModel) (request : ℕ) (note : UnitNote) (common : CommonRef) (own : List ℕ) (from : Server) (m : Message)
-    → OnSome (hear_common s request note common own from m) IsGood
+    → OnSome (hear_common s request note common own from m) IsAnswered
 common_heard s request note common own from (tells.Bytes to body) =
-    if_some IsGood (is_for request common.server from to && (length body == common.length)) _ (λ t. (λ e told. refl, tt))
+    if_some IsAnswered (is_for request common.server from to && (length body == common.length)) _ (λ t. (λ e told. refl, tt))
 common_heard s request note common own from _ = tt
 
 keep_heard : (s : ClientModel) (request : ℕ) (common : List ℕ) (first : Server) (tried : ℕ) (from : Server) (m : Message) → s.end ≡ None
-    → OnSome (hear_keep s request common first tried from m) IsGood
+    → OnSome (hear_keep s request common first tried from m) IsAnswered
 keep_heard s request common first tried from (tells.Accepted to) none =
-    if_some IsGood (is_for request (asked s first tried) from to) _ (λ t. (λ e told. refl, tt))
+    if_some IsAnswered (is_for request (asked s first tried) from to) _ (λ t. (λ e told. refl, tt))
 keep_heard s request common first tried from (tells.Full to charge) none =
-    if_some IsGood (is_for request (asked s first tried) from to)
+    if_some IsAnswered (is_for request (asked s first tried) from to)
     (Some (part_refused s request common first tried (nat_lt (tried + 1) s.config.servers)))
     (λ t. part_refused_good s request common first tried (nat_lt (tried + 1) s.config.servers) none)
 keep_heard s request common first tried from (tells.Ended to end) none =
-    if_some IsGood (is_for request (asked s first tried) from to) _ (λ t. (λ e told. refl, tt))
+    if_some IsAnswered (is_for request (asked s first tried) from to) _ (λ t. (λ e told. refl, tt))
 keep_heard s request common first tried from _ none = tt
 
 close_heard : (s : ClientModel) (request : ℕ) (batch : CommonRef) (from : Server) (m : Message)
-    → OnSome (hear_close s request batch from m) IsGood
+    → OnSome (hear_close s request batch from m) IsAnswered
 close_heard s request batch from (tells.Closed to) =
-    if_some IsGood (is_for request batch.server from to) _ (λ t. (λ e told. refl, tt))
+    if_some IsAnswered (is_for request batch.server from to) _ (λ t. (λ e told. refl, tt))
 close_heard s request batch from _ = tt
 
 count_heard : (s : ClientModel) (request : ℕ) (kind : WorkType) (from : Server) (m : Message)
-    → OnSome (hear_count s request kind from m) IsGood
+    → OnSome (hear_count s request kind from m) IsAnswered
 count_heard s request kind from (tells.Counted to info) =
-    if_some IsGood (is_for request (home s.config s.me) from to) _ (λ t. (λ e told. refl, tt))
+    if_some IsAnswered (is_for request (home s.config s.me) from to) _ (λ t. (λ e told. refl, tt))
 count_heard s request kind from _ = tt
 
-done_heard : (s : ClientModel) (request tried : ℕ) (from : Server) (m : Message) → OnSome (hear_done s request tried from m) IsGood
+done_heard : (s : ClientModel) (request tried : ℕ) (from : Server) (m : Message) → OnSome (hear_done s request tried from m) IsAnswered
 done_heard s request tried from (tells.DoneHeard to) =
-    if_some IsGood (is_for request (looks_at s tried) from to) (Some (told_done s request tried (nat_lt (tried + 1) s.config.servers)))
+    if_some IsAnswered (is_for request (looks_at s tried) from to) (Some (told_done s request tried (nat_lt (tried + 1) s.config.servers)))
     (λ t. told_done_good s request tried (nat_lt (tried + 1) s.config.servers))
 done_heard s request tried from _ = tt
 
-answer_good : (s : ClientModel) (p : Pending) (from : Server) (m : Message) → NoEnd s p → OnSome (answer_call s p from m) IsGood
+answer_good : (s : ClientModel) (p : Pending) (from : Server) (m : Message) → NoEnd s p → OnSome (answer_call s p from m) IsAnswered
 answer_good s waits_for.Nothing from m none = tt
 answer_good s (waits_for.Put unit first tried) from m none = put_heard s unit first tried from m (none refl)
 answer_good s (waits_for.Reserve request types) from m none = reserve_heard s request types from m
@@ -230,10 +245,37 @@ no_end s modest open_call = by_end s.end refl
     by_end None is = is
     by_end (Some e) is = let closed = modest e is in let both : true ≡ false = sym open_call ∙ closed in absurd (cc)
 
-pub hear_good : (s : ClientModel) (from : Server) (letter : Letter) (x : Made) → IsModest s → hear s from letter ≡ Some x → IsGoodStep x
-hear_good s from letter x modest is =
+ends_idle : (es : List Entry) → EndAlone es → AreIdle es
+ends_idle [] ends = tt
+ends_idle (e ∷ es) ends = (by_entry e ends.0, ends_idle es ends.1)
+  where
+    by_entry : (e : Entry) → ends_alone e ≡ true → is_work e ≡ false
+    by_entry (enters.Rejected rank call) is = refl
+    by_entry (enters.NoCurrent rank call) is = refl
+    by_entry _ is = absurd (cc)
+
+abbrev IsAnsweredStep : Made → Type 0
+IsAnsweredStep x = IsModest x.state × EndAlone x.entries
+
+posted_answered : (x : Made) (says : List ClientSaying) → IsAnsweredStep x → IsAnsweredStep (post x says)
+posted_answered x [] good = good
+posted_answered x (y ∷ says) good =
+    posted_answered (record x { state = counted x.state y.to; sends = x.sends ++ posted x.state y ∷ [] }) says good
+
+all_answered : (o : Option ClientResponse) → OnSome o IsAnswered → OnSome o (λ x. IsAnsweredStep (made x))
+all_answered None good = tt
+all_answered (Some x) good =
+    posted_answered (record { state = x.state; sends = []; entries = x.entries; answer = x.answer }) x.says good
+
+pub hear_answers : (s : ClientModel) (from : Server) (letter : Letter) (x : Made) → IsModest s → hear s from letter ≡ Some x
+    → IsModest x.state × EndAlone x.entries
+hear_answers s from letter x modest is =
     let o = answer_call (ticked s (letter_stamp s letter)) s.pending from letter.message in
     let good = answer_good (ticked s (letter_stamp s letter)) s.pending from letter.message (no_end s modest) in
-    on_some IsGoodStep (hear s from letter) x
-    (if_some IsGoodStep (not s.finished && nat_lt letter.stamp stamp_limit) (option_map made o)
-    (λ t. mapped_some IsGoodStep made o (all_made o good))) is
+    on_some IsAnsweredStep (hear s from letter) x
+    (if_some IsAnsweredStep (not s.finished && nat_lt letter.stamp stamp_limit) (option_map made o)
+    (λ t. mapped_some IsAnsweredStep made o (all_answered o good))) is
+
+pub hear_good : (s : ClientModel) (from : Server) (letter : Letter) (x : Made) → IsModest s → hear s from letter ≡ Some x → IsGoodStep x
+hear_good s from letter x modest is =
+    let a = hear_answers s from letter x modest is in (a.0, ends_idle x.entries a.1)

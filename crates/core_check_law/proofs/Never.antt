@@ -106,6 +106,27 @@ push_free w of well there free =
     let none = no_sum w.ranks in
     omega arith
 
+-- no server has a push
+abbrev pub AreUnpushed : World → Type 0
+AreUnpushed w = (t : Server) → t.0 < w.config.servers → (pool_of w t).kept.pushing.push ≡ None
+
+-- where none has, no act takes a letter of one
+pub pushes_none : (w : World) (k : Server) → IsWell w → AreUnpushed w → (a : Act) (from : Server) (m : Message) → IsAct w k a
+    → takes a ≡ of_server from m ∷ [] → push_letter from (by.Server from) (by.Server k) m ≡ 1 → ⊥
+pushes_none w k well free a from m is it weighs =
+    let f = subst (λ (heard : List Heard). AreFront w.config k w.links heard) it is.front in
+    let there = ltb-true from.0 w.config.servers f.2 in
+    let held = front_held (push_weights (pushing from)) w (by.Server from) (by.Server k) f.0 f.1 well.shape f.2
+    (lt-ltb k.0 w.config.servers is.here) f.3 in
+    let here : push_letter from (by.Server from) (by.Server k) (f.0).message ≡ 1 =
+    subst (λ (x : Message). push_letter from (by.Server from) (by.Server k) x ≡ 1) (sym f.4) weighs in
+    let none = push_free w from well there (free from there) in
+    let even = (well.push from).same in
+    absurd (omega arith)
+
+pub itself : (n : ℕ) → one (n == n) ≡ 1
+itself n = ap one (eq-eqb n n refl)
+
 module _ (w : World) (b : Bag) (k : Server) (p : ℕ) (asked : List Asker) (well : IsWell w) (l : IsLawful w b) (un : AreUnchanged w p)
     (open_still : IsOpen b asked) (settles : IsSettling w b p asked) where
   abbrev s : ServerModel
@@ -221,25 +242,13 @@ module _ (w : World) (b : Bag) (k : Server) (p : ℕ) (asked : List Asker) (well
           fits_never wish unit is.here more (subst (λ (z : Asker). Has asked z) same on) (inr (is.sure).1)
 
   -- nor is a letter of a push under way
-  pushes_none : (a : Act) (from : Server) (m : Message) → IsAct w k a → takes a ≡ of_server from m ∷ []
+  no_letter : (a : Act) (from : Server) (m : Message) → IsAct w k a → takes a ≡ of_server from m ∷ []
       → push_letter from (by.Server from) (by.Server k) m ≡ 1 → ⊥
-  pushes_none a from m is it weighs =
-      let f = subst (λ (heard : List Heard). AreFront w.config k w.links heard) it is.front in
-      let there = ltb-true from.0 w.config.servers f.2 in
-      let held = front_held (push_weights (pushing from)) w (by.Server from) (by.Server k) f.0 f.1 well.shape f.2
-      (lt-ltb k.0 w.config.servers is.here) f.3 in
-      let here : push_letter from (by.Server from) (by.Server k) (f.0).message ≡ 1 =
-      subst (λ (x : Message). push_letter from (by.Server from) (by.Server k) x ≡ 1) (sym f.4) weighs in
-      let free = push_free w from well there ((settles.rest).pushes from there) in
-      let even = (well.push from).same in
-      absurd (omega arith)
+  no_letter a from m is it weighs = pushes_none w k well (settles.rest).pushes a from m is it weighs
 
   -- nor does a push stand
   stands_none : (push : StandingPush) → k.0 < w.config.servers → s.kept.pushing.push ≡ Some push → ⊥
   stands_none push here stands = let free = (settles.rest).pushes k here in absurd (cc)
-
-  itself : (n : ℕ) → one (n == n) ≡ 1
-  itself n = ap one (eq-eqb n n refl)
 
   -- no other act can be
   pub never : (a : Act) → IsAct w k a → is_still a ≡ false → is_turn a ≡ false → is_alone a ≡ false → is_query a ≡ false
@@ -279,13 +288,13 @@ module _ (w : World) (b : Bag) (k : Server) (p : ℕ) (asked : List Asker) (well
   never (Passes_on at wish from rest note) is still turn alone query more = passes_never at wish from rest note is
   never (Answers from wish unit) is still turn alone query more = answers_never from wish unit is more
   never (Promises from id length) is still turn alone query more =
-      pushes_none (Promises from id length) from (tells.PushQuery id length) is refl (itself from.0)
+      no_letter (Promises from id length) from (tells.PushQuery id length) is refl (itself from.0)
   never (Refuses_push from id length) is still turn alone query more =
-      pushes_none (Refuses_push from id length) from (tells.PushQuery id length) is refl (itself from.0)
+      no_letter (Refuses_push from id length) from (tells.PushQuery id length) is refl (itself from.0)
   never (Arrives from unit) is still turn alone query more =
-      pushes_none (Arrives from unit) from (tells.PushUnit unit) is refl (itself from.0)
+      no_letter (Arrives from unit) from (tells.PushUnit unit) is refl (itself from.0)
   never (Withdraws from id) is still turn alone query more =
-      pushes_none (Withdraws from id) from (tells.PushCancel id) is refl (itself from.0)
+      no_letter (Withdraws from id) from (tells.PushCancel id) is refl (itself from.0)
   never (Sends_unit to length unit) is still turn alone query more = stands_none (asks_room to unit.id length) is.here (is.sure).0
   never (Cancels to id length) is still turn alone query more = stands_none (asks_room to id length) is.here is.sure
   never (Stops_push to id length) is still turn alone query more = stands_none (asks_room to id length) is.here is.sure

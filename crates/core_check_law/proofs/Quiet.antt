@@ -1,8 +1,8 @@
 -- Where all servers are quiet all rests: nothing is promised and nothing travels, and each rank asks for what it wishes at its home or
 -- has finished.
-use Rattle.std.proofs.Common.{◌≡◌, ◌<◌, ◌⊎◌, inl, inr, ℕ, zero, suc, ◌+◌, ◌==◌, ◌&&◌, Bool, true, false, List, [], ◌∷◌, get_or, length, Option, None, refl, sym, ap, ◌∙◌, arith}
+use Rattle.std.proofs.Common.{◌≡◌, ◌<◌, ◌⊎◌, inl, inr, ℕ, zero, suc, ◌+◌, ◌&&◌, Bool, true, false, List, [], ◌∷◌, get_or, length, Option, None, refl, sym, ap, ◌∙◌, arith}
 use Rattle.std.specs.List.{list_any}
-use Rattle.std.proofs.lemmas.Bool.{eq-eqb, eqb-true}
+use Rattle.std.proofs.lemmas.Bool.{eqb-true}
 use Rattle.std.proofs.lemmas.List.Sums.{sum_by-cons}
 use Rattle.adlb_unit.specs.Ids.{same_unit}
 use Rattle.adlb_unit.specs.Links.{place_of}
@@ -44,6 +44,7 @@ use Rattle.core_law.proofs.Resting.{client_finished}
 use Rattle.core_law.proofs.UnderWay.{each_weaker, zero_on}
 use Rattle.core_check_law.specs.Settling.{Has, IsRest, IsResting, wish_of, wished}
 use Rattle.core_check_law.proofs.Homes.{each_of_all}
+use Rattle.core_check_law.proofs.Never.{AreUnpushed, itself}
 use Rattle.core_check_law.proofs.Lists.{each_all, each_has, has_at, has_map, home_below, wished_entry}
 
 -- no rank is idle at a server that knows that the problem is done
@@ -64,9 +65,6 @@ none_weighs f (x ∷ xs) d none =
     let here = none zero (omega arith) in
     let later = none_weighs (λ i. f (suc i)) xs (λ i. d (suc i)) (λ i inside. none (suc i) (omega arith)) in
     omega arith
-
-itself : (n : ℕ) → one (n == n) ≡ 1
-itself n = ap one (eq-eqb n n refl)
 
 -- a letter of no push promises no room, and brings no unit
 not_promised : (id : UnitId) (from to : Actor) (m : Message) → ((a : Server) → push_letter a from to m ≡ 0)
@@ -112,17 +110,15 @@ none_travels (u ∷ us) none = by_place (λ rest. none_travels us rest) (is_trav
         absurd (omega arith)
     by_place later false e = rw e (later rest)
 
-module _ (w : World) (b : Bag) (well : IsWell w) (l : IsLawful w b) (quiet : AreQuiet w) where
-  is_quiet_at : (t : Server) → t.0 < w.config.servers → IsQuiet (pool_of w t)
-  is_quiet_at t there = (quiet_is_tested (pool_of w t)).0 (quiet t there)
-
+-- Where no server has a push.
+module _ (w : World) (b : Bag) (well : IsWell w) (l : IsLawful w b) (free : AreUnpushed w) where
   -- no push stands, so that none of its letters is under way
   no_push : (a : Server) → links_weight w.config (letters_of (push_letter a)) w.links ≡ 0
   unfolding measure due
   no_push a =
       let stands = none_weighs (server_weight (λ place k. weight ((pushing a).due place) k.pushing.push)) w.servers
       (λ i. new_pool w.config (server_named i))
-      (λ i inside. ap (weight ((pushing a).due i)) (is_quiet_at (server_named i) (let e = (well.shape).servers in omega arith)).unpushed) in
+      (λ i inside. ap (weight ((pushing a).due i)) (free (server_named i) (let e = (well.shape).servers in omega arith))) in
       let none = no_sum w.ranks in
       let same = (well.push a).same in
       omega arith
@@ -144,7 +140,22 @@ module _ (w : World) (b : Bag) (well : IsWell w) (l : IsLawful w b) (quiet : Are
             (λ l e. none from to l.message e) (link w.links (place_of w.config from) (place_of w.config to)) (none_pushed.each from to g t);
       })
 
-  -- Ranks.
+  -- nothing is promised, and no unit is between servers
+  pub unpushed_rests : (b.promises ≡ []) × (list_any (λ (u : Lodged). is_travelling u.place) b.units ≡ false)
+  unpushed_rests = (
+    none_named b.promises (λ id.
+        let none = weighs_none (promised_letter id) (not_promised id) in let same = l.pushed.rooms id in omega arith),
+    none_travels b.units (λ id.
+        let none = weighs_none (travels_letter id) (not_brought id) in let same = l.pushed.travels id in omega arith),
+  )
+
+-- Where all servers are quiet.
+module _ (w : World) (b : Bag) (well : IsWell w) (l : IsLawful w b) (quiet : AreQuiet w) where
+  is_quiet_at : (t : Server) → t.0 < w.config.servers → IsQuiet (pool_of w t)
+  is_quiet_at t there = (quiet_is_tested (pool_of w t)).0 (quiet t there)
+
+  unmoved : (b.promises ≡ []) × (list_any (λ (u : Lodged). is_travelling u.place) b.units ≡ false)
+  unmoved = unpushed_rests w b well l (λ t there. (is_quiet_at t there).unpushed)
 
   rests_as : (r : Rank) → r.0 < w.config.ranks → (coming : Option Message) → IsSeat w b r coming
       → WaitsIdle (pool_of w (home w.config r)) r ⊎ (is_finished (pool_of w (home w.config r)).kept r ≡ true) → IsResting w b r
@@ -175,10 +186,8 @@ module _ (w : World) (b : Bag) (well : IsWell w) (l : IsLawful w b) (quiet : Are
 
   pub quiet_rests : IsRest w b
   quiet_rests = record {
-    promises = none_named b.promises (λ id.
-        let none = weighs_none (promised_letter id) (not_promised id) in let same = l.pushed.rooms id in omega arith);
-    travels = none_travels b.units (λ id.
-        let none = weighs_none (travels_letter id) (not_brought id) in let same = l.pushed.travels id in omega arith);
+    promises = unmoved.0;
+    travels = unmoved.1;
     pushes = λ t there. (is_quiet_at t there).unpushed;
     ranks = λ r within.
         let h = home w.config r in

@@ -53,21 +53,24 @@ AllFinished w = (r : Rank) → r.0 < w.config.ranks → (client_of w r).finished
 abbrev pub IsShutRight : World → Type 0
 IsShutRight w = (pool_of w zeroth).kept.shut ≡ true → AllFinished w
 
+-- what the token of an empty list says
+pub shuts_settling : (w : World) (b : Bag) (k from : Server) (t : Token) → Holds w b → Settles w b → IsAct w k (Shuts from t)
+    → IsSettling w b w.config.servers []
+shuts_settling w b k from t h on is =
+    let at = ap (λ (x : Server). x.0) (zeroth_here w k h.well is.here is.sure.0.running.zeroth) in
+    let far = reach_zeroth w.config k at in
+    let was = token_front (IsSettledBehind w b) w k from t (Shuts from t) is refl on is.sure.0.wave
+    (λ c high there. absurd (omega arith)) (inl is.sure.1) in
+    subst (λ (asked : List Asker). IsSettling w b w.config.servers asked) is.sure.1
+    (subst (λ (n : ℕ). IsSettling w b n t.asked) far was)
+
 -- Where the list of the token is empty nobody waits, so that each rank has finished.
 pub shuts_finished : (w : World) (b : Bag) (k from : Server) (t : Token) → Holds w b → Settles w b → IsAct w k (Shuts from t)
     → AllFinished w
 shuts_finished w b k from t h on is r inside = by_rests ((settling.rest).ranks r inside)
   where
-    at : k.0 ≡ 0
-    at = ap (λ (x : Server). x.0) (zeroth_here w k h.well is.here is.sure.0.running.zeroth)
-
     settling : IsSettling w b w.config.servers []
-    settling =
-        let far = reach_zeroth w.config k at in
-        let was = token_front (IsSettledBehind w b) w k from t (Shuts from t) is refl on is.sure.0.wave
-        (λ c high there. absurd (omega arith)) (inl is.sure.1) in
-        subst (λ (asked : List Asker). IsSettling w b w.config.servers asked) is.sure.1
-        (subst (λ (n : ℕ). IsSettling w b n t.asked) far was)
+    settling = shuts_settling w b k from t h on is
 
     nobody : (wish : Wish) → Has (wished (pool_of w (home w.config r)).kept) wish → ⊥
     nobody wish has =
@@ -132,7 +135,7 @@ follow_shut k (a ∷ more) w none are well several was =
     follow_shut k more (acted w k a) none.1 are.1 (act_well w k a well are.0) several
     (act_shut w k a well several are.0 (none_shuts a none.0) was)
 
-tick_shut : (w : World) (me : Server) (stamp : ℕ) (up : Bool) → IsWell w → me.0 < w.config.servers → IsShutRight w
+pub tick_shut : (w : World) (me : Server) (stamp : ℕ) (up : Bool) → IsWell w → me.0 < w.config.servers → IsShutRight w
     → IsShutRight (ticks w me stamp up)
 tick_shut w me stamp up well here was shut =
     let e = (after w me stamp up well here zeroth).kept in
@@ -182,7 +185,7 @@ answer_shut w next from me letter rest x well does was shut =
     let ended = was shut me does.here in
     absurd (cc)
 
-shut_kept : (w next : World) → IsChecked w → Does w next → IsShutRight w → IsShutRight next
+pub shut_kept : (w next : World) → IsChecked w → Does w next → IsShutRight w → IsShutRight next
 shut_kept w next c (A_call {me = me} {call = call} {x = x} does) was =
     subst IsShutRight (sym does.is) (call_shut w next me call x (c.holds).well does was)
 shut_kept w next c (An_answer {from = from} {me = me} {letter = letter} {rest = rest} {x = x} does) was =
@@ -198,7 +201,7 @@ run_shut w last (e ∷ events) c run was =
     let does = happens_does w run.0 e run.1 in
     run_shut run.0 last events (checked_kept w run.0 c does) run.2 (shut_kept w run.0 c does was)
 
-begins_open : (config : Config) → IsShutRight (start config)
+pub begins_open : (config : Config) → IsShutRight (start config)
 begins_open config shut =
     let open_still = ap (λ (s : ServerModel). s.kept.shut) (pool_at config zeroth config.servers_within.0) in
     let both : false ≡ true = sym open_still ∙ shut in
@@ -224,27 +227,30 @@ every_run_shut config events w run = by_number (cases_eq config.servers 1)
         let some = config.servers_within.0 in
         run_shut (start config) w events (begins_checked config (omega arith)) run (begins_open config)
 
+-- a server is told by server 0
+pub shut_first : (config : Config) (events : List Event) (w : World) (server : Server) → server.0 < config.servers → Runs (start config) events w
+    → (pool_of w server).kept.shut ≡ true → (pool_of w zeroth).kept.shut ≡ true
+shut_first config events w server there run shut = by_place (cases_eq server.0 0)
+  where
+    is_one : (t : Bool) → 1 ≤ one t → t ≡ true
+    is_one true some = refl
+    is_one false some = absurd (omega arith)
+
+    by_place : (server.0 ≡ 0) ⊎ (server.0 ≢ 0) → (pool_of w zeroth).kept.shut ≡ true
+    by_place (inl first) = subst (λ (s : Server). (pool_of w s).kept.shut ≡ true) (ap server_named first) shut
+    by_place (inr other) =
+        let told = shutdown_told config events w server other there run in
+        let mine : one (pool_of w server).kept.shut ≡ 1 = ap one shut in
+        is_one (pool_of w zeroth).kept.shut (omega arith)
+
 -- as each server knows
 pub shut_is_right : (config : Config) (events : List Event) (w : World) (server : Server) (rank : Rank) → server.0 < config.servers
     → rank.0 < config.ranks → Runs (start config) events w → (pool_of w server).kept.shut ≡ true → (client_of w rank).finished ≡ true
-shut_is_right config events w server rank there inside run shut = every_run_shut config events w run at_zeroth rank within
+shut_is_right config events w server rank there inside run shut =
+    every_run_shut config events w run (shut_first config events w server there run shut) rank within
   where
     same : w.config ≡ config
     same = run_config (start config) w events run
 
     within : rank.0 < w.config.ranks
     within = let e = ap (λ (k : Config). k.ranks) same in omega arith
-
-    is_one : (t : Bool) → 1 ≤ one t → t ≡ true
-    is_one true some = refl
-    is_one false some = absurd (omega arith)
-
-    at_zeroth : (pool_of w zeroth).kept.shut ≡ true
-    at_zeroth = by_place (cases_eq server.0 0)
-      where
-        by_place : (server.0 ≡ 0) ⊎ (server.0 ≢ 0) → (pool_of w zeroth).kept.shut ≡ true
-        by_place (inl first) = subst (λ (s : Server). (pool_of w s).kept.shut ≡ true) (ap server_named first) shut
-        by_place (inr other) =
-            let told = shutdown_told config events w server other there run in
-            let mine : one (pool_of w server).kept.shut ≡ 1 = ap one shut in
-            is_one (pool_of w zeroth).kept.shut (omega arith)

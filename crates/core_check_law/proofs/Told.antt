@@ -51,7 +51,7 @@ IsTold s = s.kept.done ≡ true → idles s.kept.parked.waiting ≡ 0
 -- One act.
 
 -- a rank may become idle, or the server hears that the problem is done
-abbrev rises : Act → Bool
+abbrev pub rises : Act → Bool
 rises (Parks wish) = true
 rises (Wakes at wish from rest) = true
 rises (Hears_done rank request) = true
@@ -72,7 +72,7 @@ few_come (Parks wish) s low = absurd (cc)
 few_come (Wakes at wish from rest) s low = absurd (cc)
 few_come _ s low = omega arith
 
-act_told : (a : Act) (s : ServerModel) → SitsIn a s → rises a ≡ false → IsTold s → IsTold (done a s)
+pub act_told : (a : Act) (s : ServerModel) → SitsIn a s → rises a ≡ false → IsTold s → IsTold (done a s)
 act_told a s sits low told is_done =
     let was = told (sym (done_is a s ∙ same_done a s.kept.done low) ∙ is_done) in
     let all = waits (λ (e : Waiting). if_idle e.asked 1) a s sits in
@@ -88,12 +88,12 @@ follows_low (Wakes at wish from rest) none = absurd (cc)
 follows_low (Hears_done rank request) none = absurd (cc)
 follows_low _ none = refl
 
-more_told : (list : List Act) (s : ServerModel) → AreSure list s → TakeNone list → IsTold s → IsTold (all_done list s)
+pub more_told : (list : List Act) (s : ServerModel) → AreSure list s → TakeNone list → IsTold s → IsTold (all_done list s)
 more_told [] s sure none told = told
 more_told (a ∷ list) s sure none told =
     more_told list (done a s) sure.2 none.1 (act_told a s sure.0 (follows_low a none.0) told)
 
-more_done : (list : List Act) (s : ServerModel) → TakeNone list → (all_done list s).kept.done ≡ s.kept.done
+pub more_done : (list : List Act) (s : ServerModel) → TakeNone list → (all_done list s).kept.done ≡ s.kept.done
 more_done [] s none = refl
 more_done (a ∷ list) s none =
     more_done list (done a s) none.1 ∙ done_is a s ∙ same_done a s.kept.done (follows_low a none.0)
@@ -208,7 +208,7 @@ told_all end (e ∷ behind) before s stands none = by_asked e.asked refl (λ ahe
 -- Plans: the first act raises nothing; or the server does not know that the problem is done; or the first decider tells those that are
 -- idle.
 
-abbrev Settles : ServerModel → Plan → Type 0
+abbrev pub Settles : ServerModel → Plan → Type 0
 Settles s p =
     (rises p.first ≡ false) ⊎ ((done p.first s).kept.done ≡ false)
     ⊎ ((d : Decider) × (ds : List Decider) × (p.follow ≡ d ∷ ds) × IsTold (all_done (d (done p.first s)) (done p.first s)))
@@ -267,7 +267,7 @@ module _ (s : ServerModel) (told : IsTold s) where
   by_none true = tt
   by_none false = tt
 
-  settles_by : (from : Actor) (m : Message) → IfSome (rule s from m) (IsPlan s from m) → IfSome (rule s from m) (Settles s)
+  pub settles_by : (from : Actor) (m : Message) → IfSome (rule s from m) (IsPlan s from m) → IfSome (rule s from m) (Settles s)
   settles_by (by.Rank from) (tells.Reserve request types) plan =
       when (runs_at_home s from) _
       (parks_settles (record { rank = from; request = request; types = types }) s.kept.done s.kept.exhausted

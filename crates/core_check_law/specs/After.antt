@@ -1,5 +1,6 @@
--- What is so once all work was found used up: each rank has finished, or asks in vain, or was told an end.
-use Rattle.std.specs.Prelude.{◌≡◌, ◌⊎◌, ℕ, Bool, true, false, ◌||◌, List, Option, Some}
+-- What is so once all work was found used up: each rank has finished, or asks in vain, or was told an end; and where a server is shut.
+use Rattle.std.specs.Prelude.{◌≡◌, ◌⊎◌, ℕ, Bool, true, false, ◌||◌, List, [], Option, Some}
+use Rattle.std.specs.List.{list_any}
 use Rattle.adlb_unit.specs.Permit.{permitted}
 use Rattle.adlb_unit.specs.declared.names.Rank.{Rank}
 use Rattle.adlb_unit.specs.declared.names.WorkType.{WorkType}
@@ -39,12 +40,27 @@ AllOver b = (rank : Rank) (x : RankState) → rank_at b rank ≡ Some x → IsOv
 
 -- Of the ledger.
 
--- a rank gets a unit, or puts one with success, or begins a batch
-abbrev pub gains : Entry → Bool
-gains (enters.Accepted server id) = true
-gains (enters.Kept server batch) = true
-gains (enters.Granted server rank call id) = true
-gains _ = false
+-- a server takes, refuses or grants what a rank brings or wants, or looks for it in vain; or room for a unit is promised or no longer
+-- is, or the unit moves to another server
+abbrev pub is_work : Entry → Bool
+is_work (enters.Refused server id used) = true
+is_work (enters.Accepted server id) = true
+is_work (enters.Kept server batch) = true
+is_work (enters.Granted server rank call id) = true
+is_work (enters.Looked server rank call) = true
+is_work (enters.Promised server id length) = true
+is_work (enters.Left server to id) = true
+is_work (enters.Arrived server id) = true
+is_work (enters.Withdrawn server id) = true
+is_work _ = false
 
 abbrev pub AreIdle : List Entry → Type 0
-AreIdle es = Each (λ e. gains e ≡ false) es
+AreIdle es = Each (λ e. is_work e ≡ false) es
+
+-- Where no rank waits or runs any more.
+
+-- each rank has finished, nothing is promised, and no unit is between servers
+pub record IsShutDown (b : Bag) : Type 0 where
+  pub finished : (rank : Rank) (r : RankState) → rank_at b rank ≡ Some r → r.status ≡ is_at.Finished
+  pub promises : b.promises ≡ []
+  pub travels : list_any (λ u. is_travelling u.place) b.units ≡ false

@@ -11,15 +11,16 @@ ghost use Rattle.bag_ledger.specs.declared.entries.Entry.TheVariants.{Exhausted}
 ghost use Rattle.core_run.specs.declared.events.Event.{Event};
 ghost use Rattle.core_run.specs.Runs.{Runs};
 ghost use Rattle.core_run.specs.World.{World, client_of, pool_of, start};
-ghost use Rattle.core_check_law.specs.After.{AllOver, AreIdle};
+ghost use Rattle.core_check_law.specs.After.{AllOver, AreIdle, IsShutDown};
 ghost use Rattle.core_check_law.specs.Ends.{IsToldOnce, is_exhaust, is_exhausted, is_shut, is_shutdown};
 
 /// In every run, of every number of ranks and servers and whatever the order of calls and letters: once server 0 has found
 /// that all work is used up, each other server knows it, or one letter that tells it so is under way, and before that none is
-/// (`exhaust_told`); likewise that no rank waits or runs any more (`shutdown_told`). In the ledger no unit is accepted or
-/// granted, and no batch begins, after all work was found used up (`idle`): each rank has finished, or asks for what no unit
-/// that is free or between servers is permitted to it for, or was told an end (`over`). A server is shut only where each rank
-/// has finished (`finished`).
+/// (`exhaust_told`); likewise that no rank waits or runs any more (`shutdown_told`). After all work was found used up no server
+/// accepts, refuses, keeps or grants anything in the ledger, or looks in vain, and nothing is promised, sent, received or taken
+/// back (`idle`): each rank has finished, or asks for what no unit that is free or between servers is permitted to it for, or was
+/// told an end (`over`). A server is shut only where each rank has finished (`finished`); then nothing is promised and no unit is
+/// between servers (`shut`).
 pub fn end_laws()
     ensures exhaust_told { (config : Config) (events : List Event) (w : World) (server : Server) → server.0 ≢ 0 →
         server.0 < config.servers → Runs (start config) events w → IsToldOnce is_exhaust is_exhausted w server }
@@ -32,4 +33,6 @@ pub fn end_laws()
     ensures finished { (config : Config) (events : List Event) (w : World) (server : Server) (rank : Rank) →
         server.0 < config.servers → rank.0 < config.ranks → Runs (start config) events w → (pool_of w server).kept.shut ≡ true →
         (client_of w rank).finished ≡ true }
+    ensures shut { (config : Config) (events : List Event) (w : World) (server : Server) (b : Bag) → server.0 < config.servers →
+        Runs (start config) events w → IsRun (empty_bag config) w.ledger b → (pool_of w server).kept.shut ≡ true → IsShutDown b }
 {}

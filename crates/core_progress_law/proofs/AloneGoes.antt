@@ -96,7 +96,7 @@ both_none (a ∷ more) all none = let bad : true ≡ false = sym all.0 ∙ none.
 
 -- With one server.
 
-all_idle : (config : Config) (me : Server) (s : ServerModel) → IsPool config me s → config.servers ≡ 1 → me.0 < config.servers
+pub all_idle : (config : Config) (me : Server) (s : ServerModel) → IsPool config me s → config.servers ≡ 1 → me.0 < config.servers
     → (e : Waiting) → Has s.kept.parked.waiting e → e.asked ≡ None
 all_idle config me s pool alone there e has =
     let entry = each_has (IsEntry config me) s.kept.parked.waiting e

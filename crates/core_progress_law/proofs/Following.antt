@@ -75,7 +75,7 @@ decided_brings (d ∷ ds) s each =
     let then = all_done (d s) s in
     each_append (λ (a : Act). brings a ≡ true) (d s) (decided ds then) (each.0 s) (decided_brings ds then each.1)
 
-told_bring : (end : End) (before behind : List Waiting) → AllBring (tells_all end before behind)
+pub told_bring : (end : End) (before behind : List Waiting) → AllBring (tells_all end before behind)
 told_bring end before [] = tt
 told_bring end before (e ∷ behind) = by_asked e.asked (told_bring end before behind) (told_bring end (before ++ e ∷ []) behind)
   where

@@ -6,6 +6,7 @@ pub mod Causes
 pub mod Enabled
 pub mod Ended
 pub mod Ends
+mod Examples
 pub mod Failing
 pub mod First
 pub mod Fitting
@@ -18,6 +19,8 @@ pub mod HintLines
 pub mod HintRoom
 pub mod HintsFew
 pub mod HintsOnce
+pub mod Ordered
+pub mod OrderedAlone
 pub mod Piles
 pub mod Room
 pub mod Totals

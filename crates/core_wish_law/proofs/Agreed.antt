@@ -69,7 +69,7 @@ use Rattle.adlb_unit.specs.declared.messages.Message.TheVariants as tells
 use Rattle.bag_ledger.specs.declared.entries.Call.TheVariants as calls_to
 use Rattle.rank_client.specs.declared.pendings.Pending.TheVariants as waits_for
 
-abbrev done_at : World → Server → Bool
+abbrev pub done_at : World → Server → Bool
 done_at w t = (pool_of w t).kept.done
 
 -- Letters that say that a server has heard it.
@@ -399,7 +399,7 @@ pub record AreTelling (w : World) : Type 0 where
   heard : AreHeard w
   told : (r : Rank) → r.0 < w.config.ranks → (q tried : ℕ) → (client_of w r).pending ≡ waits_for.SetDone q tried → (j : ℕ) → j < tried
       → done_at w (tells_at w r j) ≡ true
-  over : (t : Server) → t.0 < w.config.servers → done_at w t ≡ true
+  pub over : (t : Server) → t.0 < w.config.servers → done_at w t ≡ true
       → ((r : Rank) × (r.0 < w.config.ranks) × (q : ℕ) × (tried : ℕ) × ((client_of w r).pending ≡ waits_for.SetDone q tried))
       ⊎ ((h : Server) → h.0 < w.config.servers → done_at w h ≡ true)
 
@@ -510,7 +510,7 @@ module _ (w next : World) (from : Actor) (me : Server) (letter : Letter) (rest :
 
 -- An event of a rank.
 
-abbrev SomePending : World → Type 0
+abbrev pub SomePending : World → Type 0
 SomePending v = (r : Rank) × (r.0 < v.config.ranks) × (q : ℕ) × (tried : ℕ) × ((client_of v r).pending ≡ waits_for.SetDone q tried)
 
 abbrev tries : Pending → ℕ
@@ -527,7 +527,7 @@ module _ (w : World) (me : Rank) (links : Links) (x : Made) (inside : me.0 < len
   abbrev after_it : World
   after_it = after_rank w me links x
 
-  rank_or : (r : Rank) → ((r ≡ me) × (client_of after_it r ≡ x.state)) ⊎ ((r.0 ≢ me.0) × (client_of after_it r ≡ client_of w r))
+  pub rank_or : (r : Rank) → ((r ≡ me) × (client_of after_it r ≡ x.state)) ⊎ ((r.0 ≢ me.0) × (client_of after_it r ≡ client_of w r))
   rank_or r = by_place (cases_eq r.0 me.0)
     where
       by_place : (r.0 ≡ me.0) ⊎ (r.0 ≢ me.0)
@@ -619,6 +619,14 @@ module _ (w next : World) (from : Server) (me : Rank) (letter : Letter) (rest : 
       let a = ap (λ (c : Config). (behind c (home c (client_of w me).me) tried).0) own.config in
       let b = ap (λ (k : Rank). (behind w.config (home w.config k) tried).0) own.me in
       ap server_named (sym (at ∙ a ∙ b))
+
+  -- so a rank that is told of it is told by a server that knows
+  pub heard_of : (q tried : ℕ) → (client_of w me).pending ≡ waits_for.SetDone q tried → done_at w from ≡ true
+  heard_of q tried is =
+      let goes : GoesOn (ticked (client_of w me) (letter_stamp (client_of w me) letter)) q tried from letter.message x.state.pending =
+      subst (λ (p : Pending). HearsSo
+      (ticked (client_of w me) (letter_stamp (client_of w me) letter)) p from letter.message x.state.pending) is went_on in
+      sender_knows q goes.0
 
   still_heard : AreHeard u
   unfolding AreHeard

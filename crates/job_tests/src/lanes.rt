@@ -2,7 +2,7 @@
 
 ghost use Rattle.std.specs.Prelude.{◌≤◌, length};
 
-use lane_bytes::{count_range, max_byte, sum_bytes, used_masks};
+use lane_bytes::{count_range, max_byte, sum_bytes};
 use std::process::Abort;
 
 // The greatest length of the table.
@@ -69,38 +69,9 @@ fn answers_are_plain(rt: &impl Abort, bytes: &[u8])
     );
 }
 
-// Masks of these bytes, of bits of their own, and of one bit of each, joined at the first `length` places.
-fn masks_are_plain(rt: &impl Abort, bytes: &[u8; MOST], length: usize)
-    requires { length ≤ 130 }
-{
-    let mut rows = [0; MOST];
-    let mut cols = [0; MOST];
-    for k in 0..MOST {
-        rows[k] = u16::from(bytes[k]);
-        cols[k] = 0x5a3c ^ u16::from(bytes[k]);
-    }
-    let boxes = [0x8001; MOST];
-    let mut out = [7; MOST];
-    used_masks(
-        &rows[..length],
-        &cols[..length],
-        &boxes[..length],
-        &mut out[..length],
-    );
-    for k in 0..MOST {
-        let want = if k < length {
-            rows[k] | cols[k] | boxes[k]
-        } else {
-            7
-        };
-        assert_eq!(rt; out[k], want, "mask {k} of {length}");
-    }
-}
-
 fn all_are_plain(rt: &impl Abort, bytes: &[u8; MOST]) {
     for length in 0..=MOST {
         answers_are_plain(rt, &bytes[..length]);
-        masks_are_plain(rt, bytes, length);
     }
 }
 

@@ -1,5 +1,4 @@
 mod Lanes
 mod Maxima
 mod Parts
-mod Used
 mod Worked

@@ -1,5 +1,4 @@
-//! Kernels over the lanes of `std::simd`: how many bytes lie in a range, their sum and the greatest of them, and the
-//! masks of three lists joined place by place.
+//! Kernels over the lanes of `std::simd`: how many bytes lie in a range, their sum and the greatest of them.
 //!
 //! It stands on nothing else of the workspace. `specs/Answers.antt` says what the kernels answer. Each reads whole lanes
 //! while there are enough elements, and the rest one by one.
@@ -7,12 +6,10 @@
 
 mod counting;
 mod greatest;
-mod joining;
 mod summing;
 
 pub use counting::count_range;
 pub use greatest::max_byte;
-pub use joining::used_masks;
 pub use summing::sum_bytes;
 
 /// The number of bytes that are read at a time.

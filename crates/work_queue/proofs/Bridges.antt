@@ -1,7 +1,7 @@
 -- The entry that leads the index is that of the unit that comes first in the queue.
 use Rattle.std.proofs.Common.{◌≡◌, ◌≢◌, ◌<◌, ◌≤◌, ◌<ℤ◌, ◌⊎◌, ◌||◌, ◌&&◌, ℕ, ℤ, Bool, true, false, not, int_lt, nat_lt, List, get_or, length, Option, Some, None, Contains, Any, refl, sym, ap, ◌∙◌, arith, inl, inr, subst}
 use Rattle.std.specs.List.{slice_get}
-use Rattle.std.proofs.lemmas.Bool.{both_ways, cases_lt}
+use Rattle.std.proofs.lemmas.Bool.{both_ways, cases_lt, lt-ltb}
 use Rattle.std.proofs.lemmas.Bool.Decides.{nat_tests}
 use Rattle.std.proofs.lemmas.Int.{ints}
 use Rattle.std.proofs.lemmas.List.{get_or_default}
@@ -15,7 +15,10 @@ use Rattle.work_queue.proofs.Offers.{is_permitted, permitted_is}
 use Rattle.work_queue.proofs.Orders.{lower_isnt}
 use Rattle.work_queue.proofs.Pushes.{any_is}
 use Rattle.work_queue.specs.Best.{IsBest, IsOffered, Precedes}
-use Rattle.work_queue.specs.Inside.Index.{IsIndexed, IsLeading, by_turn, entries_of, entry_of, may_have, may_move, moves_first, suits_better}
+use Rattle.work_queue.specs.Inside.Index.{IsIndexed, IsLeading, by_turn, came_first, entries_of, entry_of, may_have, may_move, may_serve, moves_first, suits_better}
+use Rattle.work_queue.specs.Fits.{asked_for, first_fit}
+use Rattle.work_queue.proofs.Searched.{is_found, none_found}
+use Rattle.std.specs.Option.{option_map}
 use Rattle.work_queue.specs.Push.{GoesBefore, IsFirstToPush, IsMovable, told}
 use Rattle.work_queue.specs.Queue.{id_of}
 use Rattle.work_queue.specs.declared.entries.Entry.{Entry}
@@ -138,3 +141,37 @@ module _ (units : List Placed) (n : ℕ) (index : Index) (indexed : IsIndexed un
       let x = entry_of q (stamp_at some.0) in
       let moves : may_move x ≡ true = rw some.4.1 refl in
       both_ways (may_move x) (none_passes may_move moves_first x leads (entry_of_unit some.0 q there some.4.0)) moves
+
+  -- the entry that came first of those that are permitted to a request is that of the first unit that fits
+  module _ (asked : List (Rank × Option (List WorkType))) where
+    unfit : (q : Placed) (stamp : ℕ) → (q.pin ≡ None → may_serve asked (entry_of q stamp) ≡ false) → asked_for asked q ≡ false
+    unfit q stamp fails = by_pin q.pin refl
+      where
+        by_pin : (o : Option Rank) → q.pin ≡ o → asked_for asked q ≡ false
+        by_pin None free = rw (free, fails free) refl
+        by_pin (Some rank) pinned = rw pinned refl
+
+    pub fit_leads : (b : Entry) → IsLeading (may_serve asked) came_first index.entries.items (length index.entries.items) (Some b)
+        → (at : IsEntryAt units index.stamps.items b) → Some (id_of at.unit) ≡ first_fit asked units
+    fit_leads b leads at =
+        let p = at.unit in
+        let passes : may_serve asked (entry_of p (stamp_at at.place)) ≡ true = rw at.is at leads.1 in
+        let fits : asked_for asked p ≡ true = rw (at.free, passes) refl in
+        sym (ap (option_map id_of) (is_found (asked_for asked) units at.place p at.here fits (λ k q before there.
+        unfit q (stamp_at k) (λ free. by_test k q before (entry_of_unit k q there free) (may_serve asked (entry_of q (stamp_at k))) refl))))
+      where
+        by_test : (k : ℕ) (q : Placed) → k < at.place → Contains index.entries.items (entry_of q (stamp_at k)) → (t : Bool)
+            → may_serve asked (entry_of q (stamp_at k)) ≡ t → may_serve asked (entry_of q (stamp_at k)) ≡ false
+        by_test k q before there false is = is
+        by_test k q before there true is =
+            let over = leads_over (may_serve asked) came_first b (entry_of q (stamp_at k)) leads there is in
+            let same = ap (λ (x : Entry). x.stamp) at.is in
+            let up = indexed.rising k at.place 0 before at.within in
+            let low : nat_lt (stamp_at k) b.stamp ≡ true = lt-ltb (stamp_at k) b.stamp (omega (arith, up, same)) in
+            absurd (both_ways (nat_lt (stamp_at k) b.stamp) over low)
+
+    pub none_fits : IsLeading (may_serve asked) came_first index.entries.items (length index.entries.items) None
+        → None ≡ first_fit asked units
+    none_fits leads =
+        sym (ap (option_map id_of) (none_found (asked_for asked) units (λ k q there.
+        unfit q (stamp_at k) (λ free. none_passes (may_serve asked) came_first (entry_of q (stamp_at k)) leads (entry_of_unit k q there free)))))

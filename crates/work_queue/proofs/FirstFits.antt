@@ -1,22 +1,18 @@
 -- The first unit that is permitted to some request.
-use Rattle.std.proofs.Common.{◌≡◌, ◌<◌, ◌≤◌, ◌+◌, ℕ, Bool, true, List, get_or, length, take, Option, Some, None, Any, refl, sym, ap, ◌∙◌, find, is_none}
+use Rattle.std.proofs.Common.{◌≡◌, Bool, true, List, Option, Some, None, Any, refl, sym, ap, ◌∙◌, find, is_none}
 use Rattle.std.specs.List.{list_any}
-use Rattle.std.specs.Option.{option_map, option_to_list}
+use Rattle.std.specs.Option.{option_map}
 use Rattle.std.proofs.lemmas.Bool.{and_parts, and_from, both_ways}
 use Rattle.std.proofs.lemmas.List.Folds.{Any-from_list_any, list_any-from_Any}
-use Rattle.std.proofs.lemmas.List.{get_or_default}
 use Rattle.std.proofs.lemmas.Option.{get_or_from_slice_get, none-some, same_Some}
 use Rattle.adlb_unit.specs.declared.names.Rank.{Rank}
 use Rattle.adlb_unit.specs.declared.names.UnitId.{UnitId}
 use Rattle.adlb_unit.specs.declared.names.WorkType.{WorkType}
 use Rattle.adlb_unit.specs.Permit.{permitted}
-use Rattle.slab.specs.Slab.{Slab, get}
-use Rattle.work_queue.proofs.Finding.{found_here, not_yet, nowhere}
 use Rattle.work_queue.proofs.Offers.{free_is, is_permitted, permitted_is}
 use Rattle.work_queue.proofs.Searched.{find_first, find_none}
 use Rattle.work_queue.specs.Fits.{IsAsked, IsFirstFit, asked_for, first_fit}
 use Rattle.work_queue.specs.Queue.{HasFree, id_of}
-use Rattle.work_queue.specs.Inside.Units.{units_at}
 use Rattle.work_queue.specs.declared.placing.Placed.{Placed}
 
 module _ (asked : List (Rank × Option (List WorkType))) where
@@ -44,25 +40,6 @@ module _ (asked : List (Rank × Option (List WorkType))) where
   pub fit_missing : (o : Option Placed) → None ≡ option_map id_of o → o ≡ None
   fit_missing None same = refl
   fit_missing (Some p) same = absurd (none-some (id_of p) same)
-
-  module _ (slots : Slab Placed) (order : List ℕ) (i : ℕ) where
-    -- the unit under the key at this place of the list is the first fit, where no unit before fits
-    pub fit_under : (key : ℕ) (id : UnitId) → key ≡ get_or order i key → i < length order → find (asked_for asked) (units_at slots (take i order)) ≡ None → Some id ≡ option_map id_of (find (asked_for asked) (option_to_list (get slots key))) → Some id ≡ first_fit asked (units_at slots order)
-    fit_under key id read within before here =
-        let is : key ≡ get_or order i 0 = read ∙ get_or_default order i key 0 within in
-        let here' : Some id ≡ option_map id_of (find (asked_for asked) (option_to_list (get slots (get_or order i 0)))) = rw is at here in
-        let found = fit_found (find (asked_for asked) (option_to_list (get slots (get_or order i 0)))) id here' in
-        sym (ap (λ o. option_map id_of o) (found_here (asked_for asked) slots order i found.0 within before found.1) ∙ ap (λ a. Some a) found.2)
-
-    -- and where it does not fit either, no unit up to it does
-    pub no_fit_under : (key : ℕ) → key ≡ get_or order i key → i < length order → find (asked_for asked) (units_at slots (take i order)) ≡ None → None ≡ option_map id_of (find (asked_for asked) (option_to_list (get slots key))) → find (asked_for asked) (units_at slots (take (i + 1) order)) ≡ None
-    no_fit_under key read within before here =
-        let is : key ≡ get_or order i 0 = read ∙ get_or_default order i key 0 within in
-        let here' : None ≡ option_map id_of (find (asked_for asked) (option_to_list (get slots (get_or order i 0)))) = rw is at here in
-        not_yet (asked_for asked) slots order i within before (fit_missing (find (asked_for asked) (option_to_list (get slots (get_or order i 0)))) here')
-
-    pub no_fit : length order ≤ i → find (asked_for asked) (units_at slots (take i order)) ≡ None → None ≡ first_fit asked (units_at slots order)
-    no_fit past none = sym (ap (λ o. option_map id_of o) (nowhere (asked_for asked) slots order i past none))
 
   module _ (units : List Placed) (id : UnitId) (same : Some id ≡ first_fit asked units) where
     pub fit_is : IsFirstFit asked units id

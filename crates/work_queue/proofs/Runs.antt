@@ -1,12 +1,12 @@
 -- The runs of the index, and the entry that leads.
-use Rattle.std.proofs.Common.{◌≡◌, ◌<◌, ◌≤◌, ◌-◌, ◌⊎◌, ◌||◌, ◌&&◌, ℕ, ℤ, Bool, true, false, cond, not, int_lt, nat_lt, List, get_or, length, Option, Some, None, Contains, refl, sym, ap, ◌∙◌, arith, inl, inr}
+use Rattle.std.proofs.Common.{◌≡◌, ◌<◌, ◌≤◌, ◌+◌, ◌-◌, ◌⊎◌, ◌||◌, ◌&&◌, ℕ, ℤ, Bool, true, false, cond, not, int_lt, nat_lt, List, get_or, length, Option, Some, None, Contains, refl, sym, ap, ◌∙◌, arith, inl, inr}
 use Rattle.std.specs.List.Sorted.{IsPartitionPoint}
 use Rattle.std.proofs.lemmas.Bool.{both_ways, cases_eq, cases_lt}
 use Rattle.std.proofs.lemmas.Bool.Decides.{nat_tests}
 use Rattle.std.proofs.lemmas.Int.{ints}
 use Rattle.std.proofs.lemmas.List.{get_or_default}
 use Rattle.work_queue.proofs.Orders.{IsNext, lower_is, lower_isnt, lower_self, run_of, turn_self}
-use Rattle.work_queue.specs.Inside.Index.{IsInOrder, IsLeading, IsRun, by_turn, leading, lower_first, may_have, may_move, moves_first, named_by, runs_before, sort_of, suits_better}
+use Rattle.work_queue.specs.Inside.Index.{IsInOrder, IsLeading, IsRun, by_turn, came_first, leading, lower_first, may_have, may_move, may_serve, moves_first, named_by, runs_before, sort_of, suits_better}
 use Rattle.work_queue.specs.declared.indexing.Run.{Run}
 use Rattle.adlb_unit.specs.Permit.{class_for}
 use Rattle.adlb_unit.specs.declared.names.Rank.{Rank}
@@ -192,3 +192,52 @@ module _ (entries : List Entry) (place end : ℕ) (z : Entry) (order : IsInOrder
   read_run whole =
       let on = read_goes_on in
       is_run entries place end (get_or entries place z) order within read point (get_or entries (end - 1) z) (get_or_default entries (end - 1) z (get_or entries (end - 1) z) (omega arith)) whole
+
+came_not_both : (k l : ℕ) → nat_lt k l ≡ true → nat_lt l k ≡ false
+came_not_both k l test = grind (arith, nat_tests)
+
+came_passes_on : (k l m : ℕ) → nat_lt l k ≡ false → nat_lt m l ≡ false → nat_lt m k ≡ false
+came_passes_on k l m first second = grind (arith, nat_tests)
+
+pub came_ranks : IsRanking came_first
+came_ranks = record {
+  not_both = λ a b. came_not_both a.stamp b.stamp;
+  passes_on = λ a b c. came_passes_on a.stamp b.stamp c.stamp;
+}
+
+-- all of a run are permitted to a request, or none
+pub run_serves : (asked : List (Rank × Option (List WorkType))) (entries : List Entry) (place : ℕ) (run : Run) → IsRun entries place run
+    → (k : ℕ) (d : Entry) → place ≤ k → k < run.end → may_serve asked (get_or entries k d) ≡ may_serve asked run.first
+run_serves asked entries place run is k d from below = let of = is.alike k d from below in rw (of.kind, of.target) refl
+
+-- none of a run is: what leads stays
+pub run_passed : (may : Entry → Bool) (outranks : Entry → Entry → Bool) (entries : List Entry) (place end : ℕ) (found : Option Entry)
+    → ((k : ℕ) (d : Entry) → place ≤ k → k < end → may (get_or entries k d) ≡ false) → IsLeading may outranks entries place found
+    → IsLeading may outranks entries end found
+run_passed may outranks entries place end None fails leads = λ k d before. elim (cases_lt k place) [
+  | inl early ↦ leads k d early
+  | inr late ↦ fails k d late before
+]
+run_passed may outranks entries place end (Some found) fails leads = (
+  leads.0,
+  leads.1,
+  λ k d before passes. elim (cases_lt k place) [
+    | inl early ↦ leads.2 k d early passes
+    | inr late ↦ absurd (both_ways (may (get_or entries k d)) (fails k d late before) passes)
+  ],
+)
+
+-- one entry more is taken into account
+pub came_next : (asked : List (Rank × Option (List WorkType))) (entries : List Entry) (place : ℕ) (e : Entry) (found : Option Entry)
+    → place < length entries → e ≡ get_or entries place e → may_serve asked e ≡ true
+    → IsLeading (may_serve asked) came_first entries place found
+    → IsLeading (may_serve asked) came_first entries (place + 1) (Some (leading came_first found e))
+came_next asked entries place e found within read passes leads =
+    taken_up (may_serve asked) came_first came_ranks entries place (place + 1) e (omega arith) (place, within, sym read)
+    (λ k d from below.
+    let same : k ≡ place = omega arith in
+    let it : get_or entries k d ≡ e = ap (λ m. get_or entries m d) same ∙ get_or_default entries place d e within ∙ sym read in
+    rw it (refl, came_self e.stamp)) found passes leads
+  where
+    came_self : (n : ℕ) → nat_lt n n ≡ false
+    came_self n = grind (arith, nat_tests)

@@ -1,9 +1,9 @@
 -- The first element of a list that passes a test.
-use Rattle.std.proofs.Common.{◌≡◌, ◌<◌, ℕ, Bool, true, false, List, length, get_or, Some, None, sym, ap, ◌∙◌, All, arith, inl, inr, find}
+use Rattle.std.proofs.Common.{◌≡◌, ◌<◌, ℕ, zero, suc, Bool, true, false, List, [], ◌∷◌, length, get_or, Some, None, refl, sym, ap, ◌∙◌, All, arith, inl, inr, find}
 use Rattle.std.specs.List.{position_or_len, slice_get}
 use Rattle.std.proofs.lemmas.List.Folds.{find_at}
 use Rattle.std.proofs.lemmas.List.Sums.{fails_before_first, passes_at_first}
-use Rattle.std.proofs.lemmas.Option.{get_or_from_slice_get, none-some, slice_get_cases, slice_get_within}
+use Rattle.std.proofs.lemmas.Option.{get_or_from_slice_get, none-some, same_Some, slice_get_cases, slice_get_within}
 
 -- x stands at this place and passes, and what stands before does not
 pub record IsFirst {X : Type 0} (test : X → Bool) (xs : List X) (x : X) : Type 0 where
@@ -36,3 +36,20 @@ find_none test xs none k d within =
       | inl h ↦ absurd (none-some h.0 (sym at ∙ h.2))
       | inr h ↦ fails_before_first test xs k d (omega (arith, h.0))
     ]
+
+-- the other way
+pub is_found : {X : Type 0} (test : X → Bool) (xs : List X) (place : ℕ) (x : X) → slice_get xs place ≡ Some x → test x ≡ true
+    → ((k : ℕ) (y : X) → k < place → slice_get xs k ≡ Some y → test y ≡ false) → find test xs ≡ Some x
+is_found test [] place x at is fails = absurd (none-some x at)
+is_found test (y ∷ xs) zero x at is fails =
+    let same : y ≡ x = same_Some y x at in
+    let here : test y ≡ true = ap test same ∙ is in
+    rw here at
+is_found test (y ∷ xs) (suc place) x at is fails =
+    let here = fails zero y (omega arith) refl in
+    rw here (is_found test xs place x at is (λ k z before there. fails (suc k) z (omega arith) there))
+
+pub none_found : {X : Type 0} (test : X → Bool) (xs : List X) → ((k : ℕ) (y : X) → slice_get xs k ≡ Some y → test y ≡ false)
+    → find test xs ≡ None
+none_found test [] fails = refl
+none_found test (y ∷ xs) fails = rw (fails zero y refl) (none_found test xs (λ k z there. fails (suc k) z there))

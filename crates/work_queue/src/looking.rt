@@ -8,7 +8,7 @@ ghost use Rattle.work_queue.specs.Push.{IsFirstToPush, IsMovable, first_to_push_
 ghost use Rattle.work_queue.specs.Queue.{HasDistinctIds, HasFree, HasPinned, HasUnit, IsSmall, id_of, is_unit};
 
 use crate::counting::count_kind;
-use crate::fitting::fit_at;
+use crate::fitting::first_asked;
 use crate::placing::{Placed, UnitFacts};
 use crate::queues::WorkQueue;
 use crate::ranking::first_to_move;
@@ -84,12 +84,14 @@ impl WorkQueue {
         ensures free { IfSome result (λ id. HasFree id self.now.units) }
         ensures found { result ≡ first_fit asked.now self.now.units }
     {
-        for place in 0..self.order.len() {
-            if let Some(id) = fit_at(&self.slots, self.order[place], asked) {
-                return Some(id);
+        match first_asked(&self.index.entries, asked) {
+            None => None,
+            Some(entry) => {
+                let stamps = &self.index.stamps;
+                let placed = stamped(&self.slots, &self.order, stamps, entry.stamp);
+                Some(placed.unit.id)
             }
         }
-        None
     }
 
     /// Of the free units of this type: how many there are, their highest priority, and how many have it

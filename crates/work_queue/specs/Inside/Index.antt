@@ -1,6 +1,6 @@
 -- The index of the free units: by type, then by target, then the higher priority first, then by arrival.
 use Rattle.std.specs.Prelude.{◌≡◌, ◌<◌, ◌≤◌, ◌-◌, ℕ, ℤ, List, [], ◌∷◌, length, nat_lt, int_lt, ◌==◌, Bool, true, false, not, ◌&&◌, ◌||◌, if◌then◌else◌, is_none, All, Contains, Option, Some, None, slice_index_or, map, filter}
-use Rattle.std.specs.List.{AllPairs}
+use Rattle.std.specs.List.{AllPairs, list_any}
 use Rattle.std.specs.List.Sorted.{IsPermutation}
 use Rattle.adlb_unit.specs.Permit.{class_for, permitted}
 use Rattle.adlb_unit.specs.declared.names.Rank.{Rank}
@@ -101,6 +101,14 @@ may_move e = is_any e.target
 -- a is pushed before b: of the lower priority, otherwise the later one
 abbrev pub moves_first : Entry → Entry → Bool
 moves_first a b = by_turn b a
+
+-- a rank of one of the requests may have the unit
+abbrev pub may_serve : List (Rank × Option (List WorkType)) → Entry → Bool
+may_serve asked e = list_any (λ (a : Rank × Option (List WorkType)). permitted a.0 a.1 e.kind e.target) asked
+
+-- a came before b
+abbrev pub came_first : Entry → Entry → Bool
+came_first a b = nat_lt a.stamp b.stamp
 
 -- the one that was found before, unless this one outranks it
 abbrev pub leading : (Entry → Entry → Bool) → Option Entry → Entry → Entry

@@ -1,6 +1,8 @@
--- Once it is over no rank gains anything.
-use Rattle.std.proofs.Common.{◌≡◌, ◌<◌, ◌⊎◌, inl, inr, ℕ, Bool, true, false, ◌||◌, List, [], ◌∷◌, ◌++◌, length, Option, None, Some, refl, sym, ap, ◌∙◌, subst, arith}
+-- Once it is over no work is brought, wanted or moved.
+use Rattle.std.proofs.Common.{◌≡◌, ◌<◌, ◌⊎◌, inl, inr, ℕ, Bool, true, false, ◌||◌, List, [], ◌∷◌, ◌++◌, length, find, Option, None, Some, refl, sym, ap, ◌∙◌, subst, arith}
 use Rattle.std.specs.List.{list_any}
+use Rattle.std.specs.Prelude.{option_map}
+use Rattle.std.proofs.lemmas.Bool.{or_right}
 use Rattle.std.proofs.lemmas.List.{length-replicate}
 use Rattle.std.proofs.lemmas.Option.{slice_get_within}
 use Rattle.adlb_unit.specs.Ids.{same_unit}
@@ -9,18 +11,22 @@ use Rattle.adlb_unit.specs.declared.messages.Message.{Message}
 use Rattle.adlb_unit.specs.declared.messages.Message.TheVariants as tells
 use Rattle.adlb_unit.specs.declared.names.CommonRef.{CommonRef}
 use Rattle.adlb_unit.specs.declared.names.Rank.{Rank}
+use Rattle.adlb_unit.specs.declared.names.Server.{Server}
+use Rattle.adlb_unit.specs.declared.names.UnitId.{UnitId}
 use Rattle.adlb_unit.specs.declared.names.WorkType.{WorkType}
 use Rattle.adlb_unit.specs.declared.notes.End.{End}
 use Rattle.adlb_unit.specs.declared.notes.UnitNote.{UnitNote}
-use Rattle.bag_ledger.specs.Bag.{Bag, open_call, rank_at, settled, start as empty_bag, wish}
+use Rattle.bag_ledger.specs.Bag.{Bag, is_travelling, offer, open_call, promise_of, rank_at, settled, start as empty_bag, wish}
 use Rattle.bag_ledger.specs.Runs.{IsRun, IsRunWhere}
 use Rattle.bag_ledger.specs.Steps.{LegalWhere, after}
 use Rattle.bag_ledger.specs.declared.entries.Entry.{Entry}
 use Rattle.bag_ledger.specs.declared.entries.Entry.TheVariants as enters
 use Rattle.bag_ledger.specs.declared.states.Placed.{Placed}
+use Rattle.bag_ledger.specs.declared.states.Promise.{Promise}
 use Rattle.bag_ledger.specs.declared.states.RankState.{RankState}
 use Rattle.bag_ledger.specs.declared.states.Status.{Status}
 use Rattle.bag_ledger.specs.declared.states.Status.TheVariants as is_at
+use Rattle.bag_ledger.proofs.Tests.{some_is}
 use Rattle.bag_law.proofs.Plain.{accepted_is, kept_is}
 use Rattle.rank_client.specs.Agreement.{in_call, own_fetched, rank_of}
 use Rattle.rank_client.specs.State.{ClientModel}
@@ -29,7 +35,7 @@ use Rattle.rank_client.specs.declared.pendings.Pending.TheVariants as waits_for
 use Rattle.core_law.proofs.Onward.{still_exhausted}
 use Rattle.core_law.proofs.Resting.{ranks_stay}
 use Rattle.core_law.proofs.UnderWay.{each_append, each_parts}
-use Rattle.core_check_law.specs.After.{AllOver, AreIdle, IsOver, IsTold, gains}
+use Rattle.core_check_law.specs.After.{AllOver, AreIdle, IsOver, IsTold, is_work}
 use Rattle.core_check_law.proofs.Modest.{is_open}
 use Rattle.core_check_law.proofs.Runs.{is_finding}
 use Rattle.core_check_law.proofs.Over.{grant_stirs, is_coming, over_stays, settled_over}
@@ -97,12 +103,17 @@ rank_inside found config es b rank x run here =
     let all : length (empty_bag config).ranks ≡ config.ranks = length-replicate config.ranks _ in
     omega arith
 
--- No gain.
+-- No work.
 
 wish_open : (s : Status) (p : ℕ × Option (List WorkType)) → wish s ≡ Some p → open_call s ≡ None → ⊥
 wish_open (is_at.Asking call types) p wants closed = absurd (cc)
 wish_open (is_at.Trying call types) p wants closed = absurd (cc)
 wish_open _ p wants closed = absurd (cc)
+
+offer_open : (s : Status) (p : ℕ × ℕ) → offer s ≡ Some p → (open_call s ≡ Some p.0) × (wish s ≡ None)
+offer_open (is_at.Putting unit) p e = (ap (λ (o : Option (ℕ × ℕ)). option_map (λ q. q.0) o) e, refl)
+offer_open (is_at.Keeping call common) p e = (ap (λ (o : Option (ℕ × ℕ)). option_map (λ q. q.0) o) e, refl)
+offer_open _ p e = absurd (cc)
 
 -- it brings something: so it has neither finished nor asks, and was told no end
 brings_none : (b : Bag) (rank : Rank) (x : RankState) (call : ℕ) → IsOver b rank x → IsClosed x → open_call x.status ≡ Some call
@@ -114,13 +125,52 @@ brings_none b rank x call (inr (inl vain)) closed opens other =
 brings_none b rank x call (inr (inr told)) closed opens other =
     let none : Some call ≡ None = sym opens ∙ closed told in absurd (cc)
 
-pub no_gain : (found : Bag → Bool) (b : Bag) (e : Entry) → LegalWhere found b e → AllOver b → AllClosed b → gains e ≡ false
-no_gain found b (enters.Accepted server id) l over closed =
-    absurd (brings_none b id.rank l.0 (l.1).id.number (over id.rank l.0 l.2) (closed id.rank l.0 l.2) (ap open_call l.3) (ap wish l.3))
-no_gain found b (enters.Kept server batch) l over closed =
+-- it looks
+tries_none : (b : Bag) (rank : Rank) (x : RankState) (call : ℕ) (types : Option (List WorkType)) → IsOver b rank x → IsClosed x
+    → x.status ≡ is_at.Trying call types → ⊥
+tries_none b rank x call types (inl e) closed tries =
+    let bad : is_at.Finished ≡ is_at.Trying call types = sym e ∙ tries in absurd (cc)
+tries_none b rank x call types (inr (inl vain)) closed tries =
+    let bad : is_at.Asking vain.0 vain.1 ≡ is_at.Trying call types = sym vain.2 ∙ tries in absurd (cc)
+tries_none b rank x call types (inr (inr told)) closed tries =
+    let bad : Some call ≡ None = sym (ap open_call tries) ∙ closed told in absurd (cc)
+
+-- no put is accepted
+pub accepts_none : (found : Bag → Bool) (b : Bag) (server : Server) (id : UnitId) → LegalWhere found b (enters.Accepted server id)
+    → AllOver b → AllClosed b → ⊥
+accepts_none found b server id l over closed =
+    brings_none b id.rank l.0 (l.1).id.number (over id.rank l.0 l.2) (closed id.rank l.0 l.2) (ap open_call l.3) (ap wish l.3)
+
+-- nothing is promised, and nothing is between servers
+abbrev pub IsUnmoved : Bag → Type 0
+IsUnmoved b = (b.promises ≡ []) × (list_any (λ (u : Placed). is_travelling u.place) b.units ≡ false)
+
+unpromised : (b : Bag) (id : UnitId) (p : Promise) → b.promises ≡ [] → promise_of b id ≡ Some p → ⊥
+unpromised b id p none found =
+    let bad : None ≡ Some p = ap (find (λ (q : Promise). same_unit q.id id)) (sym none) ∙ found in absurd (cc)
+
+found_any : {X : Type 0} (test pick : X → Bool) (xs : List X) (x : X) → find pick xs ≡ Some x → test x ≡ true → list_any test xs ≡ true
+found_any test pick [] x found is = absurd (cc)
+found_any test pick (y ∷ xs) x found is = by_pick (pick y) refl (λ later. found_any test pick xs x later is)
+  where
+    by_pick : (t : Bool) → pick y ≡ t → (find pick xs ≡ Some x → list_any test xs ≡ true) → list_any test (y ∷ xs) ≡ true
+    by_pick true at later = let it : y ≡ x = some_is (rw at at found) in rw (it, is) refl
+    by_pick false at later = or_right (test y) (list_any test xs) (later (rw at at found))
+
+abbrev pub is_promise : Entry → Bool
+is_promise (enters.Promised server id length) = true
+is_promise _ = false
+
+pub no_work : (found : Bag → Bool) (b : Bag) (e : Entry) → LegalWhere found b e → AllOver b → AllClosed b → IsUnmoved b
+    → is_promise e ≡ false → is_work e ≡ false
+no_work found b (enters.Refused server id used) l over closed still other =
+    let o = offer_open (l.0).status (id.number, l.1) l.3 in
+    absurd (brings_none b id.rank l.0 id.number (over id.rank l.0 l.2) (closed id.rank l.0 l.2) o.0 o.1)
+no_work found b (enters.Accepted server id) l over closed still other = absurd (accepts_none found b server id l over closed)
+no_work found b (enters.Kept server batch) l over closed still other =
     absurd (brings_none b batch.rank l.0 batch.number (over batch.rank l.0 l.2) (closed batch.rank l.0 l.2) (ap open_call l.3)
     (ap wish l.3))
-no_gain found b (enters.Granted server rank call id) l over closed = absurd (by_over (over rank l.0 l.3))
+no_work found b (enters.Granted server rank call id) l over closed still other = absurd (by_over (over rank l.0 l.3))
   where
     by_over : IsOver b rank l.0 → ⊥
     by_over (inl e) =
@@ -128,11 +178,21 @@ no_gain found b (enters.Granted server rank call id) l over closed = absurd (by_
     by_over (inr (inl vain)) =
         grant_stirs b rank l.0 call l.1 l.2 server l.4 (λ (u : Placed). same_unit u.unit.id id) l.6.0 l.6.1 l.7 (inr vain)
     by_over (inr (inr told)) = wish_open (l.0).status (call, l.1) l.4 (closed rank l.0 l.3 told)
-no_gain found b _ l over closed = refl
+no_work found b (enters.Looked server rank call) l over closed still other =
+    absurd (tries_none b rank l.0 call l.1 (over rank l.0 l.2) (closed rank l.0 l.2) l.3)
+no_work found b (enters.Promised server id length) l over closed still other = absurd (cc)
+no_work found b (enters.Left server to id) l over closed still other = absurd (unpromised b id l.1 still.0 l.5)
+no_work found b (enters.Arrived server id) l over closed still other =
+    let away : is_travelling (l.0).place ≡ true = ap is_travelling l.1.1 in
+    let some = found_any (λ (u : Placed). is_travelling u.place) (λ (u : Placed). same_unit u.unit.id id) b.units l.0 l.1.0 away in
+    let bad : true ≡ false = sym some ∙ still.1 in
+    absurd (cc)
+no_work found b (enters.Withdrawn server id) l over closed still other = absurd (unpromised b id l.1 still.0 l.5)
+no_work found b _ l over closed still other = refl
 
 -- Along a run.
 
-pub idle_stays : (e : Entry) → gains e ≡ false → is_coming e ≡ false
+pub idle_stays : (e : Entry) → is_work e ≡ false → is_coming e ≡ false
 idle_stays (enters.Accepted server id) idle = absurd (cc)
 idle_stays _ idle = refl
 
@@ -169,7 +229,7 @@ x_run (e ∷ es) b n run idle x =
 
 -- Of the ledger.
 
--- no entry behind that one is of a gain
+-- no entry behind that one is of work
 abbrev pub IdleBehind : Entry → List Entry → Type 0 → Type 0
 IdleBehind enters.Exhausted es rest = AreIdle es
 IdleBehind _ es rest = rest
@@ -211,7 +271,7 @@ idle_grows (e ∷ ledger) es was idle new = by_entry e was idle (λ rest later. 
     by_entry : (e : Entry) → IdleBehind e ledger (IdleAfter ledger) → ((is_finding e || list_any is_finding ledger) ≡ true → AreIdle es)
         → (IdleAfter ledger → (list_any is_finding ledger ≡ true → AreIdle es) → IdleAfter (ledger ++ es))
         → IdleBehind e (ledger ++ es) (IdleAfter (ledger ++ es))
-    by_entry enters.Exhausted was idle rest = each_append (λ (x : Entry). gains x ≡ false) ledger es was (idle refl)
+    by_entry enters.Exhausted was idle rest = each_append (λ (x : Entry). is_work x ≡ false) ledger es was (idle refl)
     by_entry _ was idle rest = rest was idle
 
 -- what stands behind the entry
@@ -222,5 +282,5 @@ idle_behind (e ∷ before) behind all = by_entry e all (idle_behind before behin
     by_entry : (e : Entry) → IdleBehind e (before ++ enters.Exhausted ∷ behind) (IdleAfter (before ++ enters.Exhausted ∷ behind))
         → (IdleAfter (before ++ enters.Exhausted ∷ behind) → AreIdle behind) → AreIdle behind
     by_entry enters.Exhausted idle later =
-        (each_parts (λ (x : Entry). gains x ≡ false) before (enters.Exhausted ∷ behind) idle).1.1
+        (each_parts (λ (x : Entry). is_work x ≡ false) before (enters.Exhausted ∷ behind) idle).1.1
     by_entry _ idle later = later idle
