@@ -1,41 +1,25 @@
 //! The calls of a rank.
 
-ghost use Rattle.std.specs.Prelude.{◌≡◌, ◌≤◌, ℕ, Err, Ok, Some, None, IfOk, OnOk, false, length};
+ghost use Rattle.std.specs.Prelude.{◌≡◌, ◌<◌, ◌^◌, Result, Ok, IfOk, false, length};
+ghost use Rattle.std.specs.Borrow.{MutBor};
+ghost use Rattle.std.specs.Fn.{FnOnceReturnsAtMut};
+ghost use Rattle.adlb_unit.specs.declared.notes.Trouble.{Trouble};
 ghost use Rattle.bag_ledger.specs.declared.entries.Call.{Call};
 ghost use Rattle.rank_client.specs.Calls.{has_finished};
-ghost use Rattle.rank_client.specs.Link.{Can, Made, put_came};
-ghost use Rattle.adlb_rank.specs.Calls.{GoesOn, Takes, replied};
+ghost use Rattle.rank_client.specs.Link.{Can, LinkModel, Made, count_came, done_came};
+ghost use Rattle.adlb_rank.specs.Calls.{Begins, HasBatched, HasTaken, Stays, Takes, replied};
 
-use adlb_unit::{End, Payload, Rank as RankName, Target, Trouble, Types, UnitNote, WorkType};
-use bag_ledger::Body;
-use rank_client::{Adlb, EndFault, PutFault, TryFault};
+use crate::replies::{Batched, Reply, Taken};
+use adlb_unit::{Info, Payload, Rank as RankName, Target, Trouble, Types, WorkType};
 
-/// What a put or the beginning of a batch comes to.
-#[derive(Clone, Copy)]
-pub enum Reply {
-    /// A server took it.
-    Accepted,
-    /// Each server refused it in this call.
-    Rejected,
-    /// There is no more work.
-    Ended(End),
-}
+/// What a rank can do, over any link. A call that fails does so with a `Trouble`; then the link has failed, and each later call fails
+/// with the same. After an end was told, each put, each taking and each beginning of a batch gives that end again.
+pub trait Rank {
+    // What contracts see of it: whom it serves, its calls with their answers, whether a batch goes on, and what made it fail.
+    ghost link: { Self → LinkModel };
 
-/// What taking a unit comes to.
-#[derive(Drop)]
-pub enum Taken {
-    /// A unit, and its bytes behind those of its common part.
-    Unit(UnitNote, Body),
-    /// No server has a unit for this rank now. It comes of `try_take` alone.
-    NoneNow,
-    /// There is no more work.
-    Ended(End),
-}
-
-/// The calls of a rank over a link.
-pub trait Rank: Adlb {
     /// Puts a unit, whose body has at most `2^20` bytes and whose target is a rank.
-    final fn offer(
+    fn put(
         &mut self,
         kind: WorkType,
         prio: i32,
@@ -43,90 +27,67 @@ pub trait Rank: Adlb {
         answer: Option<RankName>,
         body: Payload,
     ) -> Result<Reply, Trouble>
-        requires can { Can (Self.link self.old) (Call.Put kind prio target answer body) }
-        ensures made { Made (Self.link self.old) (Self.link self.new) (Call.Put kind prio target answer body) (replied result) }
-    {
-        reply_of(self.put(kind, prio, target, answer, body))
-    }
+        requires can { Can (link self.old) (Call.Put kind prio target answer body) }
+        ensures made { Made (link self.old) (link self.new) (Call.Put kind prio target answer body) (replied result) }
+        ensures stays { Stays (link self.old) (link self.new) result };
 
-    /// Begins a batch with a common part of at most `2^20` bytes. Units that are offered until it ends share it.
-    final fn share(&mut self, common: Payload) -> Result<Reply, Trouble>
-        requires can { Can (Self.link self.old) (Call.BeginBatch common) }
-        ensures made { Made (Self.link self.old) (Self.link self.new) (Call.BeginBatch common) (replied result) }
-    {
-        reply_of(self.begin_batch(common))
-    }
-
-    /// Waits for a unit of these types and fetches it, or is told an end.
-    final fn take(&mut self, types: &Types) -> Result<Taken, Trouble>
-        requires running { has_finished (Self.link self.old).said ≡ false }
-        ensures takes { IfOk result (Takes (Call.Reserve types.now) (Self.link self.old).said (Self.link self.new).said) }
-        ensures goes_on { GoesOn (Self.link self.old) (Self.link self.new) }
-        ensures batch { OnOk result ((Self.link self.new).batch ≡ (Self.link self.old).batch) }
-        ensures fine { OnOk result ((Self.link self.new).failed ≡ None) }
-        ensures too_long { (stamp : ℕ) → result ≡ Err (Trouble.TooLong stamp) →
-            (Self.link self.new).failed ≡ Some (Trouble.TooLong stamp) }
-    {
-        match self.reserve(types) {
-            Ok(handle) => {
-                let note = *handle.note();
-                match self.get_reserved(handle) {
-                    Ok(body) => Ok(Taken::Unit(note, body)),
-                    Err((handle, trouble)) => {
-                        self.leave(handle);
-                        Err(trouble)
-                    }
-                }
-            }
-            Err(EndFault::NoMoreWork) => Ok(Taken::Ended(End::NoMoreWork)),
-            Err(EndFault::Exhausted) => Ok(Taken::Ended(End::Exhausted)),
-            Err(EndFault::Memory) => Err(Trouble::Memory),
-            Err(EndFault::TooLong { stamp }) => Err(Trouble::TooLong { stamp }),
-        }
-    }
+    /// Waits for a unit of these types and fetches it, or is told an end. It is never told that there is none now.
+    fn take(&mut self, types: &Types) -> Result<Taken, Trouble>
+        requires running { has_finished (link self.old).said ≡ false }
+        ensures made { HasTaken (Call.Reserve types.now) (link self.old) (link self.new) result }
+        ensures takes { IfOk result (Takes (Call.Reserve types.now) (link self.old).said (link self.new).said) }
+        ensures waits { result ≡ Ok Taken.NoneNow → ⊥ }
+        ensures stays { Stays (link self.old) (link self.new) result };
 
     /// Asks each server for a unit of these types, and fetches it if there is one. It waits for none.
-    final fn try_take(&mut self, types: &Types) -> Result<Taken, Trouble>
-        requires running { has_finished (Self.link self.old).said ≡ false }
-        ensures takes { IfOk result (Takes (Call.Try types.now) (Self.link self.old).said (Self.link self.new).said) }
-        ensures goes_on { GoesOn (Self.link self.old) (Self.link self.new) }
-        ensures batch { OnOk result ((Self.link self.new).batch ≡ (Self.link self.old).batch) }
-        ensures fine { OnOk result ((Self.link self.new).failed ≡ None) }
-        ensures too_long { (stamp : ℕ) → result ≡ Err (Trouble.TooLong stamp) →
-            (Self.link self.new).failed ≡ Some (Trouble.TooLong stamp) }
-    {
-        match self.ireserve(types) {
-            Ok(handle) => {
-                let note = *handle.note();
-                match self.get_reserved(handle) {
-                    Ok(body) => Ok(Taken::Unit(note, body)),
-                    Err((handle, trouble)) => {
-                        self.leave(handle);
-                        Err(trouble)
-                    }
-                }
-            }
-            Err(TryFault::NoCurrentWork) => Ok(Taken::NoneNow),
-            Err(TryFault::NoMoreWork) => Ok(Taken::Ended(End::NoMoreWork)),
-            Err(TryFault::Exhausted) => Ok(Taken::Ended(End::Exhausted)),
-            Err(TryFault::Memory) => Err(Trouble::Memory),
-            Err(TryFault::TooLong { stamp }) => Err(Trouble::TooLong { stamp }),
-        }
-    }
-}
+    fn try_take(&mut self, types: &Types) -> Result<Taken, Trouble>
+        requires running { has_finished (link self.old).said ≡ false }
+        ensures made { HasTaken (Call.Try types.now) (link self.old) (link self.new) result }
+        ensures takes { IfOk result (Takes (Call.Try types.now) (link self.old).said (link self.new).said) }
+        ensures stays { Stays (link self.old) (link self.new) result };
 
-impl<A: Adlb> Rank for A {}
+    /// Begins a batch with a common part of at most `2^20` bytes: units that are put until it ends share it.
+    fn begin_batch(&mut self, common: Payload) -> Result<Reply, Trouble>
+        requires can { Can (link self.old) (Call.BeginBatch common) }
+        ensures made { Made (link self.old) (link self.new) (Call.BeginBatch common) (replied result) };
 
-// What such a call comes to, or the trouble with which it fails.
-fn reply_of(told: Result<(), PutFault>) -> Result<Reply, Trouble>
-    ensures { put_came told ≡ replied result }
-{
-    match told {
-        Ok(()) => Ok(Reply::Accepted),
-        Err(PutFault::Rejected) => Ok(Reply::Rejected),
-        Err(PutFault::NoMoreWork) => Ok(Reply::Ended(End::NoMoreWork)),
-        Err(PutFault::Exhausted) => Ok(Reply::Ended(End::Exhausted)),
-        Err(PutFault::Memory) => Err(Trouble::Memory),
-        Err(PutFault::TooLong { stamp }) => Err(Trouble::TooLong { stamp }),
-    }
+    /// Ends the batch that is going on.
+    fn end_batch(&mut self) -> Result<(), Trouble>
+        requires can { Can (link self.old) Call.EndBatch }
+        ensures made { Made (link self.old) (link self.new) Call.EndBatch (done_came result) };
+
+    /// Begins a batch with a common part of at most `2^20` bytes, does in it what `inside` does, and ends it. What is put inside shares
+    /// the common part. If each server refuses it, or an end is told, `inside` is not called. If `inside` fails the batch is not ended.
+    fn batch<T: Drop, F: FnOnce(&mut Self) -> Result<T, Trouble>>(
+        &mut self,
+        common: Payload,
+        inside: F,
+    ) -> Result<Batched<T>, Trouble>
+        requires can { Can (link self.old) (Call.BeginBatch common) }
+        requires callable { (p : MutBor Self) → Begins common (link self.old) (link p.now) → F.pre inside p }
+        requires stays { (a b : Self) (r : Result T Trouble) → Begins common (link self.old) (link a) →
+            FnOnceReturnsAtMut F.FnOnce inside a r b → Stays (link a) (link b) r }
+        ensures made { HasBatched link (FnOnceReturnsAtMut F.FnOnce inside) common self.old self.new result }
+        ensures stays { Stays (link self.old) (link self.new) result };
+
+    /// Tells of the units of this type that are free at the rank's home: how many there are, their highest priority, and how many
+    /// have it.
+    fn count(&mut self, kind: WorkType) -> Result<Info, Trouble>
+        requires running { has_finished (link self.old).said ≡ false }
+        ensures made { Made (link self.old) (link self.new) (Call.Count kind) (count_came result) }
+        ensures stays { Stays (link self.old) (link self.new) result };
+
+    /// Says that the problem is done: each server has heard it, and from then on each put, each taking and each beginning of a batch, of
+    /// every rank, is told `NoMoreWork`.
+    fn done(&mut self) -> Result<(), Trouble>
+        requires running { has_finished (link self.old).said ≡ false }
+        ensures made { Made (link self.old) (link self.new) Call.SetDone (done_came result) }
+        ensures stays { Stays (link self.old) (link self.new) result };
+
+    /// How many ranks the run has.
+    fn ranks(&self) -> u32
+        ensures { result ≡ (link self.now).seat.ranks };
+
+    // Each call takes a stamp of its own.
+    ghost short: { (l : Self) → length (link l).said < 2 ^ 48 };
 }
