@@ -9,10 +9,5 @@ fn main(rt: HostRuntime) -> ExitCode {
     let mut input = StdinSource::new(rt);
     let mut output = StdoutSink::new(rt);
     let mut threads = RealThreads::new(rt);
-    ExitCode::from(run_program(
-        &rt,
-        &mut input,
-        &mut output,
-        &mut threads,
-    ))
+    ExitCode::from(run_program(&rt, &mut input, &mut output, &mut threads))
 }
