@@ -68,7 +68,7 @@ impl ServerState {
             made self.new out.new ≡ planned out.old p self.old }
         ensures room { HasRoom self.new out.new 1 }
     {
-        self.release(rank);
+        self.release_granted(rank);
         self.say(Actor::Rank(rank), Message::Grant { request, note }, out);
     }
 

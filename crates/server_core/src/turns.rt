@@ -46,7 +46,16 @@ impl ServerState {
         self.parked.reserve(&mut self.queue, rank, request, types)
     }
 
-    // The server that was asked for the rank has answered: the rank waits no longer.
+    // The server that was asked for the rank has granted it a unit: the rank waits no longer.
+    pub(crate) fn release_granted(&mut self, rank: Rank)
+        requires { is_pending (parked_of self.old) rank ≡ true }
+        ensures made { self.new ≡ released self.old rank }
+        ensures sound { IsParked (parked_of self.old) }
+    {
+        self.parked.remote_grant(rank);
+    }
+
+    // The server that was asked for the rank had none, and the work is done: the rank waits no longer.
     pub(crate) fn release(&mut self, rank: Rank)
         requires { is_pending (parked_of self.old) rank ≡ true }
         ensures made { self.new ≡ released self.old rank }
