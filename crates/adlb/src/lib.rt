@@ -1,16 +1,28 @@
 //! All that a program needs to share its work among ranks.
 //!
 //! A program says what its units are and what each is worth (`Work`), and `run` works them. What all ranks count together is then
-//! what the first units are worth, for every number of ranks and servers, in whatever order letters come. It stands on the worker of
-//! `adlb_work` and the threads of `adlb_threads`.
+//! what the first units are worth, for every number of ranks and servers, in whatever order letters come. If units give answers, it says
+//! how many that pass a test (`Answers`), and `gather` gives them all, each once. A program that makes the calls of a rank itself
+//! (`RankProgram`, over `Rank` or `Adlb`) is run by `run_each`. It stands on the worker of `adlb_work`, the calls of `adlb_rank` and the
+//! threads of `adlb_threads`.
 #![tactic(auto)]
 
 mod faults;
 mod runs;
 mod settings;
+mod works;
 
-pub use adlb_unit::{ConfigFault, NoMemory, or_no_memory};
-pub use adlb_work::{Units, Work};
+pub use adlb_rank::{Batched, Rank, Reply, Taken};
+pub use adlb_threads::Report;
+pub use adlb_unit as units;
+pub use adlb_unit::{
+    ConfigFault, End, Info, NoMemory, Payload, Target, Trouble, Types, UnitNote, WorkType,
+    or_no_memory,
+};
+pub use adlb_work::{Answers, Units, Work};
+pub use bag_ledger::Body;
 pub use faults::Fault;
-pub use runs::{run, run_on};
+pub use rank_client::{Adlb, RankProgram};
+pub use runs::{run_each, run_each_on};
 pub use settings::Settings;
+pub use works::{gather, gather_on, run, run_on};

@@ -77,3 +77,7 @@ pub record Stays {T : Type 0} (old new : LinkModel) (result : Result T Trouble) 
   pub longer : length old.said ≤ length new.said
   pub batch : OnOk result (new.batch ≡ old.batch)
   pub too_long : (stamp : ℕ) → result ≡ Err (troubles.TooLong stamp) → new.failed ≡ Some (troubles.TooLong stamp)
+
+-- So it is between two places in a function that calls a rank, as before a loop and at each of its rounds.
+abbrev pub GoesOn : LinkModel → LinkModel → Type 0
+GoesOn old new = Stays {T = Unit {0}} old new (Ok tt)

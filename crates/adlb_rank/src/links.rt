@@ -14,6 +14,7 @@ impl<A: Adlb> Rank for A {
 
     ghost short = { λ l. A.short l };
 
+    #[tactic(auto, using(crate::proofs::Lengths::one_more))]
     fn put(
         &mut self,
         kind: WorkType,
@@ -25,6 +26,7 @@ impl<A: Adlb> Rank for A {
         reply_of(Adlb::put(self, kind, prio, target, answer, body))
     }
 
+    #[tactic(auto, using(crate::proofs::Lengths::one_more, crate::proofs::Lengths::two_more))]
     fn take(&mut self, types: &Types) -> Result<Taken, Trouble> {
         match self.reserve(types) {
             Ok(handle) => {
@@ -44,6 +46,7 @@ impl<A: Adlb> Rank for A {
         }
     }
 
+    #[tactic(auto, using(crate::proofs::Lengths::one_more, crate::proofs::Lengths::two_more))]
     fn try_take(&mut self, types: &Types) -> Result<Taken, Trouble> {
         match self.ireserve(types) {
             Ok(handle) => {

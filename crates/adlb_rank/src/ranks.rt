@@ -1,6 +1,6 @@
 //! The calls of a rank.
 
-ghost use Rattle.std.specs.Prelude.{◌≡◌, ◌<◌, ◌^◌, Result, Ok, IfOk, false, length};
+ghost use Rattle.std.specs.Prelude.{◌≡◌, ◌<◌, ◌^◌, Result, Ok, IfOk, OnOk, false, length};
 ghost use Rattle.std.specs.Borrow.{MutBor};
 ghost use Rattle.std.specs.Fn.{FnOnceReturnsAtMut};
 ghost use Rattle.adlb_unit.specs.declared.notes.Trouble.{Trouble};
@@ -29,6 +29,7 @@ pub trait Rank {
     ) -> Result<Reply, Trouble>
         requires can { Can (link self.old) (Call.Put kind prio target answer body) }
         ensures made { Made (link self.old) (link self.new) (Call.Put kind prio target answer body) (replied result) }
+        ensures longer { OnOk result (length (link self.old).said < length (link self.new).said) }
         ensures stays { Stays (link self.old) (link self.new) result };
 
     /// Waits for a unit of these types and fetches it, or is told an end. It is never told that there is none now.
@@ -37,6 +38,7 @@ pub trait Rank {
         ensures made { HasTaken (Call.Reserve types.now) (link self.old) (link self.new) result }
         ensures takes { IfOk result (Takes (Call.Reserve types.now) (link self.old).said (link self.new).said) }
         ensures waits { result ≡ Ok Taken.NoneNow → ⊥ }
+        ensures longer { OnOk result (length (link self.old).said < length (link self.new).said) }
         ensures stays { Stays (link self.old) (link self.new) result };
 
     /// Asks each server for a unit of these types, and fetches it if there is one. It waits for none.
@@ -44,6 +46,7 @@ pub trait Rank {
         requires running { has_finished (link self.old).said ≡ false }
         ensures made { HasTaken (Call.Try types.now) (link self.old) (link self.new) result }
         ensures takes { IfOk result (Takes (Call.Try types.now) (link self.old).said (link self.new).said) }
+        ensures longer { OnOk result (length (link self.old).said < length (link self.new).said) }
         ensures stays { Stays (link self.old) (link self.new) result };
 
     /// Begins a batch with a common part of at most `2^20` bytes: units that are put until it ends share it.
@@ -88,6 +91,6 @@ pub trait Rank {
     fn ranks(&self) -> u32
         ensures { result ≡ (link self.now).seat.ranks };
 
-    // Each call takes a stamp of its own.
+    // Each call takes a stamp of its own, so a loop of calls ends: `2 ^ 48 - length (link l).said` is its measure.
     ghost short: { (l : Self) → length (link l).said < 2 ^ 48 };
 }

@@ -147,7 +147,7 @@ pub orderly : (w : List ℕ → ℕ) (whole : ℕ) (config : Config) (ledger : L
     AllHaveWorked w whole config ledger outcomes → AreOrderly config ledger
 orderly w whole config ledger outcomes all rank less =
     let is = all rank less in
-    subst (λ l. IsOrderly config.ranks None None l) (sym is.2.2) (is.2.1.orderly config.ranks)
+    subst (λ l. IsOrderly config.ranks None None l) (sym is.2.2) is.2.1.orderly
 
 kept : (w : List ℕ → ℕ) (whole : ℕ) (config : Config) (ledger : List Entry) (last : Bag) (outcomes : List ℕ) →
     AllHaveWorked w whole config ledger outcomes → IsBalanced config ledger last → (rank : Rank) → rank.0 < config.ranks →

@@ -12,7 +12,7 @@ use Rattle.balance_law.specs.Balanced.{IsEndedWell}
 use Rattle.balance_law.specs.Orderly.{IsOrderly, finish}
 use Rattle.balance_law.specs.Parcels.{Parcel, got, sent}
 use Rattle.adlb_work.specs.declared.workers.Progress.{Progress}
-use Rattle.adlb_work.specs.declared.workers.Progress.TheVariants as progresses
+use Rattle.adlb_work.specs.declared.workers.Progress.TheVariants.{Ended, More}
 
 -- What is worth what.
 
@@ -31,32 +31,32 @@ got_worth w said = sum_by (parcel_worth w) (got None said)
 abbrev pub begins : ℕ → Rank → ℕ
 begins whole rank = cond (rank.0 == 0) whole 0
 
--- the most that calls count
+-- the most that calls give
 abbrev pub most : List Said → ℕ
 most said = 2 ^ 64 * length said
 
--- A rank between its calls: it is orderly so far, and what it counted, has waiting and sent is worth what it began with and got.
-pub record IsGoing (w : List ℕ → ℕ) (begin : ℕ) (said : List Said) (total waiting : ℕ) : Type 0 where
-  pub orderly : (ranks : ℕ) (rest : List Said) → IsOrderly ranks None None rest → IsOrderly ranks None None (said ++ rest)
+-- A rank of so many between its calls: it is orderly so far, and what it gathered, has waiting and sent is worth what it began with and got.
+pub record IsGoing (w : List ℕ → ℕ) (begin ranks : ℕ) (said : List Said) (total waiting : ℕ) : Type 0 where
+  pub orderly : (rest : List Said) → IsOrderly ranks None None rest → IsOrderly ranks None None (said ++ rest)
   pub kept : (rest : List Said) → total + waiting + sent_worth w (said ++ rest) + got_worth w rest
       ≡ begin + got_worth w (said ++ rest) + sent_worth w rest
   pub few : total ≤ most said
 
--- A rank that was told an end: it is orderly, and if no put was told an end, what it counted and sent is worth what it began with and got.
-pub record HasWorked (w : List ℕ → ℕ) (begin : ℕ) (said : List Said) (total : ℕ) : Type 0 where
-  pub orderly : (ranks : ℕ) → IsOrderly ranks None None (said ++ finish ∷ [])
+-- A rank that was told an end: it is orderly, and if no put was told an end, what it gathered and sent is worth what it began with and got.
+pub record HasWorked (w : List ℕ → ℕ) (begin ranks : ℕ) (said : List Said) (total : ℕ) : Type 0 where
+  pub orderly : IsOrderly ranks None None (said ++ finish ∷ [])
   pub kept : All (λ s. IsEndedWell s.call s.answer) (said ++ finish ∷ []) →
       total + sent_worth w (said ++ finish ∷ []) ≡ begin + got_worth w (said ++ finish ∷ [])
   pub few : total ≤ 2 ^ 112
 
 -- what waits is worth so much, or an end was told
-abbrev pub Passes : (List ℕ → ℕ) → ℕ → List Said → ℕ → Progress → Type 0
-Passes w begin said waiting (progresses.More total) = IsGoing w begin said total waiting
-Passes w begin said waiting (progresses.Ended total) = HasWorked w begin said total
+abbrev pub Passes : (List ℕ → ℕ) → ℕ → ℕ → List Said → ℕ → ℕ → Progress → Type 0
+Passes w begin ranks said total waiting More = IsGoing w begin ranks said total waiting
+Passes w begin ranks said total waiting Ended = HasWorked w begin ranks said total
 
--- Each rank's calls are those of a worker that has worked, and then Finish, and this is what it counted.
+-- Each rank's calls are those of a worker that has worked, and then Finish, and this is what it gathered.
 abbrev pub AllHaveWorked : (List ℕ → ℕ) → ℕ → Config → List Entry → List ℕ → Type 0
 AllHaveWorked w whole config ledger outcomes = (rank : Rank) → rank.0 < config.ranks →
     (counted : ℕ) × (slice_get outcomes rank.0 ≡ Some counted)
-    × ((before : List Said) × HasWorked w (begins whole rank) before counted
+    × ((before : List Said) × HasWorked w (begins whole rank) config.ranks before counted
     × (calls config ledger rank ≡ plus before calls_to.Finish (Some answers.Fine)))

@@ -1,10 +1,11 @@
-//! What a user says of the work.
+//! What a user says of work whose result is a number.
 
-ghost use Rattle.std.specs.Prelude.{◌≡◌, ◌≤◌, ◌+◌, ℕ, List, IfOk, OnOk, length, sum_by};
+ghost use Rattle.std.specs.Prelude.{◌≡◌, ◌≤◌, ◌<◌, ◌+◌, ℕ, List, IfOk, OnOk, length, sum_by};
 ghost use Rattle.adlb_unit.specs.Limits.{body_limit};
+ghost use Rattle.adlb_unit.specs.Targets.{Aims};
 
 use crate::units::Units;
-use adlb_unit::NoMemory;
+use adlb_unit::{NoMemory, Target, WorkType};
 
 /// A kind of work. A unit is bytes, in the user's own form. Working a unit counts something at once, and may make further units.
 pub trait Work {
@@ -25,8 +26,21 @@ pub trait Work {
         ensures work { IfOk result (λ n. n + sum_by (worth self.now) out.new ≡
             worth self.now unit.now + sum_by (worth self.now) out.old) };
 
+    /// Of which type a unit is put.
+    fn kind(&self, unit: &[u8]) -> WorkType {
+        WorkType(0)
+    }
+
     /// How urgent a unit is: of the units that wait at a server, the one with the highest number is granted first.
     fn priority(&self, unit: &[u8]) -> i32 {
         0
+    }
+
+    /// For which of so many ranks a unit is.
+    fn target(&self, unit: &[u8], ranks: u32) -> Target
+        requires some { 0 < ranks }
+        ensures aims { Aims result ranks }
+    {
+        Target::Any
     }
 }

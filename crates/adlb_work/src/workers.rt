@@ -1,24 +1,26 @@
 //! The program of a rank that works whatever units there are.
 
-ghost use Rattle.std.specs.Prelude.{◌≡◌, ◌+◌, ◌<◌, ◌≤◌, ◌^◌, ℕ, [], Err, IfOk, IfSome, OnOk, Some, length, sum_by};
+ghost use Rattle.std.specs.Prelude.{◌≡◌, ◌+◌, ◌<◌, ◌≤◌, ◌^◌, ℕ, [], Err, IfOk, IfSome, OnOk, length, sum_by};
+ghost use Rattle.adlb_rank.specs.Calls.{Stays};
 ghost use Rattle.adlb_unit.specs.Limits.{body_limit};
 ghost use Rattle.balance_law.specs.Parcels.{own_of};
-ghost use Rattle.adlb_work.specs.Calls.{GoesOn, IsFree};
+ghost use Rattle.adlb_work.specs.Calls.{IsFree};
 ghost use Rattle.adlb_work.specs.Worked.{IsGoing, Passes, begins};
 
-use crate::calls::{Reply, Taken, put, take};
+use crate::duties::{Aim, Duty};
 use crate::units::Units;
-use crate::work::Work;
-use adlb_unit::{BODY_LIMIT, Payload, Rank, Trouble, UnitNote};
+use adlb_rank::{Rank, Reply, Taken};
+use adlb_unit::{BODY_LIMIT, Payload, Rank as RankName, Trouble, Types, UnitNote};
 use bag_ledger::Body;
 use rank_client::{Adlb, RankProgram};
 use std::alloc::Global;
 
-/// The program of a rank that works units until there are none. The first rank puts the first units.
-#[derive(Drop)]
-pub struct Worker<W: Drop> {
+/// The program of a rank of so many that works units until there are none. The first rank puts the first units.
+#[derive(Clone, Copy)]
+pub struct Worker<D> {
     pub alloc: Global,
-    pub work: W,
+    pub ranks: u32,
+    pub duty: D,
 }
 
 // The own bytes of a fetched unit, behind those of the common part. There are none if they are more than a unit can have.
@@ -36,27 +38,27 @@ fn own_part<'a>(note: &UnitNote, whole: &'a [u8]) -> Option<&'a [u8]>
     Some(own)
 }
 
-/// What a rank has counted so far.
+/// How far a rank has come.
 #[derive(Clone, Copy)]
 pub enum Progress {
     /// All that waited was put or worked.
-    More(u128),
+    More,
     /// An end was told.
-    Ended(u128),
+    Ended,
 }
 
-impl<W: Work + Drop> Worker<W> {
-    // Works a unit here, and adds what it counts.
-    fn count(&self, unit: &[u8], out: &mut Units, total: u128) -> Result<u128, Trouble>
+impl<D: Duty> Worker<D> {
+    // Works a unit here.
+    fn work(&self, unit: &[u8], out: &mut Units, got: &mut D::Got) -> Result<(), Trouble>
         requires few { length unit.now ≤ body_limit }
-        requires room { total ≤ 2 ^ 112 }
-        ensures counts { IfOk result (λ n. n + sum_by (W.worth self.now.work) out.new ≡
-            total + W.worth self.now.work unit.now + sum_by (W.worth self.now.work) out.old) }
-        ensures few { IfOk result (λ n. n ≤ total + 2 ^ 64) }
+        requires room { (eye : D.Eye) → D.sees got.old eye ≤ 2 ^ 112 }
+        ensures work { OnOk result ((eye : D.Eye) → D.sees got.new eye + sum_by (D.worth self.now.duty eye) out.new ≡
+            D.sees got.old eye + D.worth self.now.duty eye unit.now + sum_by (D.worth self.now.duty eye) out.old) }
+        ensures few { OnOk result ((eye : D.Eye) → D.sees got.new eye ≤ D.sees got.old eye + 2 ^ 64) }
         ensures memory { (stamp : ℕ) → result ≡ Err (Trouble.TooLong stamp) → ⊥ }
     {
-        match self.work.work(unit, out) {
-            Ok(count) => Ok(total + count as u128),
+        match self.duty.work(unit, out, got) {
+            Ok(()) => Ok(()),
             Err(_) => Err(Trouble::Memory),
         }
     }
@@ -67,12 +69,13 @@ impl<W: Work + Drop> Worker<W> {
         note: &UnitNote,
         body: &Body,
         out: &mut Units,
-        total: u128,
-    ) -> Result<u128, Trouble>
-        requires room { total ≤ 2 ^ 112 }
-        ensures counts { IfOk result (λ n. n + sum_by (W.worth self.now.work) out.new ≡
-            total + W.worth self.now.work (own_of note.now.common body.now) + sum_by (W.worth self.now.work) out.old) }
-        ensures few { IfOk result (λ n. n ≤ total + 2 ^ 64) }
+        got: &mut D::Got,
+    ) -> Result<(), Trouble>
+        requires room { (eye : D.Eye) → D.sees got.old eye ≤ 2 ^ 112 }
+        ensures work { OnOk result ((eye : D.Eye) → D.sees got.new eye + sum_by (D.worth self.now.duty eye) out.new ≡
+            D.sees got.old eye + D.worth self.now.duty eye (own_of note.now.common body.now)
+            + sum_by (D.worth self.now.duty eye) out.old) }
+        ensures few { OnOk result ((eye : D.Eye) → D.sees got.new eye ≤ D.sees got.old eye + 2 ^ 64) }
         ensures memory { (stamp : ℕ) → result ≡ Err (Trouble.TooLong stamp) → ⊥ }
     {
         let mut room = Vec::new(self.alloc);
@@ -80,108 +83,107 @@ impl<W: Work + Drop> Worker<W> {
             return Err(Trouble::Memory);
         };
         match own_part(note, whole) {
-            Some(own) => self.count(own, out, total),
+            Some(own) => self.work(own, out, got),
             None => Err(Trouble::Memory),
         }
     }
 
     // Puts a unit. What no server takes is worked here.
-    #[tactic(auto, using(crate::proofs::Steps::one_more))]
-    fn offer<A: Adlb>(
+    fn offer<R: Rank>(
         &self,
-        link: &mut A,
-        rank: Rank,
+        link: &mut R,
+        rank: RankName,
         unit: &Payload,
         out: &mut Units,
-        total: u128,
+        got: &mut D::Got,
     ) -> Result<Progress, Trouble>
         requires few { length unit.now ≤ body_limit }
-        requires free { IsFree (A.link link.old) }
-        requires going { IsGoing (W.worth self.now.work) (begins (W.whole self.now.work) rank)
-            (A.link link.old).said total (sum_by (W.worth self.now.work) out.old + W.worth self.now.work unit.now) }
-        ensures passes { IfOk result (λ done. Passes (W.worth self.now.work) (begins (W.whole self.now.work) rank)
-            (A.link link.new).said (sum_by (W.worth self.now.work) out.new) done) }
-        ensures longer { OnOk result (length (A.link link.old).said < length (A.link link.new).said) }
-        ensures goes_on { GoesOn (A.link link.old) (A.link link.new) }
-        ensures too_long { (stamp : ℕ) → result ≡ Err (Trouble.TooLong stamp) →
-            (A.link link.new).failed ≡ Some (Trouble.TooLong stamp) }
+        requires free { IsFree self.now.ranks (R.link link.old) }
+        requires going { (eye : D.Eye) → IsGoing (D.worth self.now.duty eye) (begins (D.whole self.now.duty eye) rank) self.now.ranks
+            (R.link link.old).said (D.sees got.old eye) (sum_by (D.worth self.now.duty eye) out.old + D.worth self.now.duty eye unit.now) }
+        ensures passes { IfOk result (λ done. (eye : D.Eye) → Passes (D.worth self.now.duty eye)
+            (begins (D.whole self.now.duty eye) rank) self.now.ranks (R.link link.new).said (D.sees got.new eye)
+            (sum_by (D.worth self.now.duty eye) out.new) done) }
+        ensures longer { OnOk result (length (R.link link.old).said < length (R.link link.new).said) }
+        ensures stays { Stays (R.link link.old) (R.link link.new) result }
     {
         let Ok(twin) = unit.twin(self.alloc) else {
             return Err(Trouble::Memory);
         };
-        match put(link, self.work.priority(unit.bytes()), twin)? {
-            Reply::Accepted => Ok(Progress::More(total)),
-            Reply::Rejected => Ok(Progress::More(self.count(unit.bytes(), out, total)?)),
-            Reply::Ended(_) => Ok(Progress::Ended(total)),
+        let aim = self.duty.aim(unit.bytes(), self.ranks);
+        match link.put(aim.kind, aim.prio, aim.target, None, twin)? {
+            Reply::Accepted => Ok(Progress::More),
+            Reply::Rejected => match self.work(unit.bytes(), out, got) {
+                Ok(()) => Ok(Progress::More),
+                Err(trouble) => Err(trouble),
+            },
+            Reply::Ended(_) => Ok(Progress::Ended),
         }
     }
 
     // Puts all that waits.
-    fn put_all<A: Adlb>(
+    fn put_all<R: Rank>(
         &self,
-        link: &mut A,
-        rank: Rank,
+        link: &mut R,
+        rank: RankName,
         out: &mut Units,
-        total: u128,
+        got: &mut D::Got,
     ) -> Result<Progress, Trouble>
-        requires free { IsFree (A.link link.old) }
-        requires going { IsGoing (W.worth self.now.work) (begins (W.whole self.now.work) rank)
-            (A.link link.old).said total (sum_by (W.worth self.now.work) out.old) }
-        ensures passes { IfOk result (λ done. Passes (W.worth self.now.work) (begins (W.whole self.now.work) rank)
-            (A.link link.new).said 0 done) }
-        ensures none { IfOk result (λ done. (n : ℕ) → done ≡ Progress.More n → out.new ≡ []) }
-        ensures goes_on { GoesOn (A.link link.old) (A.link link.new) }
-        ensures too_long { (stamp : ℕ) → result ≡ Err (Trouble.TooLong stamp) →
-            (A.link link.new).failed ≡ Some (Trouble.TooLong stamp) }
+        requires free { IsFree self.now.ranks (R.link link.old) }
+        requires going { (eye : D.Eye) → IsGoing (D.worth self.now.duty eye) (begins (D.whole self.now.duty eye) rank) self.now.ranks
+            (R.link link.old).said (D.sees got.old eye) (sum_by (D.worth self.now.duty eye) out.old) }
+        ensures passes { IfOk result (λ done. (eye : D.Eye) → Passes (D.worth self.now.duty eye)
+            (begins (D.whole self.now.duty eye) rank) self.now.ranks (R.link link.new).said (D.sees got.new eye) 0 done) }
+        ensures none { IfOk result (λ done. done ≡ Progress.More → out.new ≡ []) }
+        ensures stays { Stays (R.link link.old) (R.link link.new) result }
     {
-        let mut total = total;
         'units: while let Some(unit) = out.pop() {
-            total = match self.offer(link, rank, &unit, out, total)? {
-                Progress::More(total) => total,
-                Progress::Ended(total) => return Ok(Progress::Ended(total)),
-            };
+            match self.offer(link, rank, &unit, out, got) {
+                Ok(Progress::More) => {}
+                Ok(Progress::Ended) => return Ok(Progress::Ended),
+                Err(trouble) => return Err(trouble),
+            }
         }
-        Ok(Progress::More(total))
+        Ok(Progress::More)
     }
 
     // Takes a unit and works it, and puts all that comes of it.
-    #[tactic(auto, using(crate::proofs::Steps::two_more, crate::proofs::Steps::one_more))]
-    fn round<A: Adlb>(
+    fn round<R: Rank>(
         &self,
-        link: &mut A,
-        rank: Rank,
+        link: &mut R,
+        rank: RankName,
         out: &mut Units,
-        total: u128,
+        got: &mut D::Got,
     ) -> Result<Progress, Trouble>
         requires none { out.old ≡ [] }
-        requires free { IsFree (A.link link.old) }
-        requires going { IsGoing (W.worth self.now.work) (begins (W.whole self.now.work) rank)
-            (A.link link.old).said total 0 }
-        ensures passes { IfOk result (λ done. Passes (W.worth self.now.work) (begins (W.whole self.now.work) rank)
-            (A.link link.new).said 0 done) }
-        ensures none { IfOk result (λ done. (n : ℕ) → done ≡ Progress.More n → out.new ≡ []) }
-        ensures longer { OnOk result (length (A.link link.old).said < length (A.link link.new).said) }
-        ensures goes_on { GoesOn (A.link link.old) (A.link link.new) }
-        ensures too_long { (stamp : ℕ) → result ≡ Err (Trouble.TooLong stamp) →
-            (A.link link.new).failed ≡ Some (Trouble.TooLong stamp) }
+        requires free { IsFree self.now.ranks (R.link link.old) }
+        requires going { (eye : D.Eye) → IsGoing (D.worth self.now.duty eye) (begins (D.whole self.now.duty eye) rank) self.now.ranks
+            (R.link link.old).said (D.sees got.old eye) 0 }
+        ensures passes { IfOk result (λ done. (eye : D.Eye) → Passes (D.worth self.now.duty eye)
+            (begins (D.whole self.now.duty eye) rank) self.now.ranks (R.link link.new).said (D.sees got.new eye) 0 done) }
+        ensures none { IfOk result (λ done. done ≡ Progress.More → out.new ≡ []) }
+        ensures longer { OnOk result (length (R.link link.old).said < length (R.link link.new).said) }
+        ensures stays { Stays (R.link link.old) (R.link link.new) result }
     {
-        match take(link)? {
-            Taken::Unit(note, body) => {
-                let total = self.receive(&note, &body, out, total)?;
-                self.put_all(link, rank, out, total)
-            }
-            Taken::Ended(_) => Ok(Progress::Ended(total)),
+        match link.take(&Types::any())? {
+            Taken::Unit(note, body) => match self.receive(&note, &body, out, got) {
+                Ok(()) => self.put_all(link, rank, out, got),
+                Err(trouble) => Err(trouble),
+            },
+            Taken::NoneNow => unreachable!(),
+            Taken::Ended(_) => Ok(Progress::Ended),
         }
     }
 
     // The units that a rank has at first.
-    fn begin(&self, rank: Rank, out: &mut Units) -> Result<(), Trouble>
+    fn begin(&self, rank: RankName, out: &mut Units) -> Result<(), Trouble>
         requires none { out.old ≡ [] }
-        ensures begins { OnOk result (sum_by (W.worth self.now.work) out.new ≡ begins (W.whole self.now.work) rank) }
+        ensures begins { OnOk result ((eye : D.Eye) →
+            sum_by (D.worth self.now.duty eye) out.new ≡ begins (D.whole self.now.duty eye) rank) }
         ensures memory { (stamp : ℕ) → result ≡ Err (Trouble.TooLong stamp) → ⊥ }
     {
         if rank.0 == 0 {
-            let Ok(()) = self.work.first(out) else {
+            let Ok(()) = self.duty.first(out) else {
                 return Err(Trouble::Memory);
             };
         }
@@ -189,30 +191,32 @@ impl<W: Work + Drop> Worker<W> {
     }
 }
 
-impl<W: Work + Drop> RankProgram for Worker<W> {
-    type Outcome = u128;
+impl<D: Duty> RankProgram for Worker<D> {
+    type Outcome = D::Got;
 
-    ghost use Rattle.adlb_work.specs.Worked.{HasWorked};
+    ghost use Rattle.std.specs.Prelude.{◌≡◌};
+    ghost use Rattle.adlb_work.specs.Worked.{HasWorked, begins};
 
-    ghost fits = { λ p ranks. Unit {0} };
+    ghost fits = { λ p ranks. p.ranks ≡ ranks };
 
     ghost so_far = { λ p rank said begun. Unit {0} };
 
-    ghost follows = { λ p rank said total. HasWorked (W.worth p.work) (begins (W.whole p.work) rank) said total };
+    ghost follows = { λ p rank said got. (eye : D.Eye) →
+        HasWorked (D.worth p.duty eye) (begins (D.whole p.duty eye) rank) p.ranks said (D.sees got eye) };
 
-    #[tactic(auto, using(crate::proofs::Steps::at_start))]
-    fn run<A: Adlb>(&self, rank: Rank, link: &mut A) -> Result<u128, Trouble> {
+    fn run<A: Adlb>(&self, rank: RankName, link: &mut A) -> Result<D::Got, Trouble> {
+        let mut got = self.duty.none(self.alloc);
         let mut out = Units::new(self.alloc);
         self.begin(rank, &mut out)?;
-        let mut total = match self.put_all(link, rank, &mut out, 0)? {
-            Progress::More(total) => total,
-            Progress::Ended(total) => return Ok(total),
-        };
+        match self.put_all(link, rank, &mut out, &mut got)? {
+            Progress::More => {}
+            Progress::Ended => return Ok(got),
+        }
         'rounds: loop {
-            total = match self.round(link, rank, &mut out, total)? {
-                Progress::More(total) => total,
-                Progress::Ended(total) => return Ok(total),
-            };
+            match self.round(link, rank, &mut out, &mut got)? {
+                Progress::More => {}
+                Progress::Ended => return Ok(got),
+            }
         }
     }
 }

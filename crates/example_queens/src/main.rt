@@ -8,14 +8,10 @@ use queens::ways;
 use std::{env, io};
 
 fn main(rt: HostRuntime) -> io::Result<()> {
-    let mut words = env::args(&rt)?;
-    let _ = words.next();
-    let (Some(side), Some(ranks)) = (number(words.next()), number(words.next())) else {
-        return println!(rt; "usage: example_queens SIDE RANKS");
+    let mut words = env::args(&rt)?.skip(1);
+    let (Some(side @ 0..=15), Some(ranks)) = (number(words.next()), number(words.next())) else {
+        return println!(rt; "usage: example_queens SIDE RANKS, with a side of at most 15");
     };
-    if side > 15 {
-        return println!(rt; "the side is at most 15");
-    }
     match ways(rt.alloc(), rt, side as u8, ranks) {
         Ok(total) => println!(rt; "{total} ways to place {side} queens"),
         Err(fault) => println!(rt; "{fault}"),

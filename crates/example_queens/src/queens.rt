@@ -9,12 +9,11 @@ use std::alloc::Global;
 use std::sync::Wait;
 use std::thread::Threads;
 
-/// The ways to place queens on a board of this side. A board with at most `grain` rows to come is counted at once, and any other
-/// makes a unit of each board with one row more.
+/// The ways to place queens on a board of this side. A board that is half full is counted at once, and any other makes a unit of each
+/// board with one row more.
 #[derive(Clone, Copy)]
 struct Queens {
     side: u8,
-    grain: u8,
     ghost small: { side ≤ 15 },
 }
 
@@ -29,7 +28,7 @@ impl Work for Queens {
 
     #[tactic(auto, using(crate::proofs::Counting::split, crate::proofs::Counting::next_safe, crate::proofs::Counting::next_unsafe, std::proofs::lemmas::List::Sums::sum_by_push))]
     fn work(&self, board: &[u8], out: &mut Units) -> Result<u64, NoMemory> {
-        if board.len() + self.grain as usize >= self.side as usize {
+        if board.len() >= self.side as usize / 2 {
             return count(out.alloc(), self.side, board);
         }
         for column in 0..self.side {
@@ -51,9 +50,5 @@ pub fn ways<R: Threads + Wait + Send + Copy + 'static>(
     requires small { side ≤ 15 }
     ensures total { IfOk result (λ total. total ≡ placements side []) }
 {
-    let work = Queens {
-        side,
-        grain: side / 2,
-    };
-    run(alloc, rt, Settings::new(ranks, 2), work)
+    run(alloc, rt, Settings::new(ranks, 2), Queens { side })
 }

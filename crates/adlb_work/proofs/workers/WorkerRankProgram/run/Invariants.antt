@@ -1,14 +1,16 @@
-use Rattle.std.proofs.Common.{◌≡◌, ◌-◌, ◌^◌, [], length}
-use Rattle.adlb_work.specs.Calls.{GoesOn}
+use Rattle.std.proofs.Common.{◌≡◌, ◌≤◌, ◌-◌, ◌^◌, [], length}
+use Rattle.adlb_work.specs.Calls.{IsFree}
 use Rattle.adlb_work.specs.Worked.{IsGoing, begins}
 use Rattle.adlb_work.proofs.workers.WorkerRankProgram.run.Given as goal
 
 abbrev pub invariant-rounds : goal.invariant-rounds
 invariant-rounds g l = record {
-  going : IsGoing (g.W.Work.worth l.self.work) (begins (g.W.Work.whole l.self.work) l.fn.rank)
-      (g.A.Adlb.link l.link).said l.total 0;
+  going : (eye : _) → IsGoing (g.D.Duty.worth l.self.duty eye) (begins (g.D.Duty.whole l.self.duty eye) l.fn.rank) l.self.ranks
+      (g.A.Adlb.link l.link).said (g.D.Duty.sees l.got eye) 0;
   none : l.out ≡ [];
-  goes_on : GoesOn (g.A.Adlb.link l.fn.link) (g.A.Adlb.link l.link);
+  free : IsFree l.self.ranks (g.A.Adlb.link l.link);
+  seat : (g.A.Adlb.link l.link).seat ≡ (g.A.Adlb.link l.fn.link).seat;
+  longer : length (g.A.Adlb.link l.fn.link).said ≤ length (g.A.Adlb.link l.link).said;
 }
 
 abbrev pub decreases-rounds : goal.decreases-rounds

@@ -1,0 +1,27 @@
+use Rattle.std.proofs.Common.{rules}
+use Rattle.adlb_work.proofs.Steps.{goes, stops}
+use Rattle.adlb_work.proofs.workers.WorkerRankProgram.run.Goals as goal
+
+pub returns-in-Ended-clause-follows : goal.returns-in-Ended-clause-follows
+returns-in-Ended-clause-follows g c = λ eye. stops _ _ _ _ _ _ _ (c.in_ok-put_all.ensures.passes eye) c.in-Ended.is
+
+pub rounds-init : goal.rounds-init
+rounds-init g c = record {
+  going = λ eye. goes _ _ _ _ _ _ _ (c.in_ok-put_all.ensures.passes eye) c.in-More.is;
+  none = search rules;
+  free = search rules;
+  seat = search rules;
+  longer = search rules;
+}
+
+pub rounds-preserved : goal.rounds-preserved
+rounds-preserved g c = record {
+  going = λ eye. goes _ _ _ _ _ _ _ (c.in_ok-round.ensures.passes eye) c.in-More-2.is;
+  none = search rules;
+  free = search rules;
+  seat = search rules;
+  longer = search rules;
+}
+
+pub returns-in-Ended-2-clause-follows : goal.returns-in-Ended-2-clause-follows
+returns-in-Ended-2-clause-follows g c = λ eye. stops _ _ _ _ _ _ _ (c.in_ok-round.ensures.passes eye) c.in-Ended-2.is
