@@ -1,8 +1,8 @@
 //! The checker of ledgers: where a ledger is no legal run.
 //!
 //! A machine keeps the state of the bag that the entries before leave, and takes each entry that is a step of the bag from
-//! there. `first_illegal` gives the place of the first entry that is none; `Machine` is public for whoever also looks at the
-//! states between. It stands on `adlb_unit`, on `bag_ledger`, which says what a step is, and on `bag_tables`, which keeps what
+//! there. `first_illegal` gives the place of the first entry that is none; `first_stop` and `Machine` are public for whoever also
+//! looks at the states between. It stands on `adlb_unit`, on `bag_ledger`, which says what a step is, and on `bag_tables`, which keeps what
 //! the state has.
 #![tactic(auto)]
 
@@ -11,5 +11,5 @@ mod effects;
 mod legality;
 mod machines;
 
-pub use checking::first_illegal;
+pub use checking::{Stop, Unwatched, Watch, first_illegal, first_stop};
 pub use machines::Machine;

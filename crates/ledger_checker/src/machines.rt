@@ -58,25 +58,29 @@ impl Machine {
         })
     }
 
-    pub(crate) fn servers(&self) -> u32
+    /// How many servers there are.
+    pub fn servers(&self) -> u32
         ensures { result ≡ self.now.servers }
     {
         self.servers
     }
 
-    pub(crate) fn limit(&self) -> u64
+    /// The limit of each server in bytes.
+    pub fn limit(&self) -> u64
         ensures { result ≡ self.now.limit }
     {
         self.limit
     }
 
-    pub(crate) fn done(&self) -> bool
+    /// The problem was called done.
+    pub fn done(&self) -> bool
         ensures { result ≡ self.now.done }
     {
         self.done
     }
 
-    pub(crate) fn exhausted(&self) -> bool
+    /// Exhaustion was found.
+    pub fn exhausted(&self) -> bool
         ensures { result ≡ self.now.exhausted }
     {
         self.exhausted
@@ -103,20 +107,22 @@ impl Machine {
         self.parts.get(batch)
     }
 
-    pub(crate) fn promise(&self, id: UnitId) -> Option<Promise>
+    /// The promise for the unit of this id, if one stands (`promise_of`).
+    pub fn promise(&self, id: UnitId) -> Option<Promise>
         ensures { result ≡ promise_of self.now id }
     {
         self.promises.get(id)
     }
 
-    pub(crate) fn is_server(&self, server: Server) -> bool
+    /// The server is in the run (`is_server`).
+    pub fn is_server(&self, server: Server) -> bool
         ensures { result ≡ is_server self.now server }
     {
         server.0 < self.servers
     }
 
-    // What the server's charge leaves of the room.
-    fn left_of(&self, server: Server, room: u64) -> Option<u64>
+    /// What the server's charge leaves of the room; `None` if the charge is more.
+    pub fn left_of(&self, server: Server, room: u64) -> Option<u64>
         requires { IsServer self.now server }
         ensures { MatchOption result (room < charge self.now server) (λ left. left + charge self.now server ≡ room) }
     {
@@ -125,8 +131,8 @@ impl Machine {
         self.promises.left_of(server, left)
     }
 
-    // So many bytes fit at the server.
-    pub(crate) fn fits(&self, server: Server, n: u64) -> bool
+    /// `n` bytes fit at the server (`fits`).
+    pub fn fits(&self, server: Server, n: u64) -> bool
         requires { IsServer self.now server }
         ensures { result ≡ fits self.now server n }
     {
@@ -136,28 +142,30 @@ impl Machine {
         }
     }
 
-    // This is the server's charge.
-    pub(crate) fn is_charge(&self, server: Server, used: u64) -> bool
+    /// This is the server's charge.
+    pub fn is_charge(&self, server: Server, used: u64) -> bool
         requires { IsServer self.now server }
         ensures { result ≡ (used == charge self.now server) }
     {
         self.left_of(server, used) == Some(0)
     }
 
-    pub(crate) fn has_due(&self) -> bool
+    /// Some common part is due to be freed (`has_due`).
+    pub fn has_due(&self) -> bool
         ensures { result ≡ has_due self.now }
     {
         self.parts.has_due()
     }
 
-    pub(crate) fn has_fit_at(&self, server: Server, rank: Rank, types: &Types) -> bool
+    /// A unit free at the server is permitted to the rank with these types (`has_fit_at`).
+    pub fn has_fit_at(&self, server: Server, rank: Rank, types: &Types) -> bool
         ensures { result ≡ has_fit_at self.now server rank types.now }
     {
         self.units.has_fit_at(server, rank, types)
     }
 
-    // What a count of the type at the server tells.
-    pub(crate) fn info(&self, server: Server, kind: WorkType) -> Info
+    /// What a count of the type at the server tells (`info_of`).
+    pub fn info(&self, server: Server, kind: WorkType) -> Info
         ensures { result ≡ info_of self.now server kind }
     {
         self.units.info(server, kind)
@@ -197,7 +205,8 @@ impl Machine {
             && !self.units.has_travelling()
     }
 
-    pub(crate) fn is_settled(&self) -> bool
+    /// Each rank asks or has finished, and nothing that is there or under way is for one that asks (`settled`).
+    pub fn is_settled(&self) -> bool
         requires { length self.now.ranks ≤ 32 }
         ensures { result ≡ settled self.now }
     {
