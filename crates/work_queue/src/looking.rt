@@ -85,7 +85,7 @@ impl WorkQueue {
         ensures found { result ≡ first_fit asked.now self.now.units }
     {
         for place in 0..self.order.len() {
-            if let Some(id) = fit_at(&self.slots, self.order[place], asked) {
+            if let Some(id) = fit_at(&self.slots, self.order.at(place), asked) {
                 return Some(id);
             }
         }

@@ -5,11 +5,11 @@ use Rattle.work_queue.proofs.FirstFits.{fit_is, fit_is_free, fit_under, no_fit, 
 use Rattle.work_queue.proofs.queues.WorkQueue.fits.Goals as goal
 
 pub loop-place-preserved : goal.loop-place-preserved
-loop-place-preserved c = no_fit_under c.args.asked.now c.self.inside.slots c.self.inside.order.items c.loop-place.place c.index.result.now c.index.ensures (omega (arith, c.loop-place-test.true)) c.loop-place.invariant (sym c.in_default.is ∙ c.fit_at.ensures)
+loop-place-preserved c = no_fit_under c.args.asked.now c.self.inside.slots c.self.inside.order.items c.loop-place.place c.at.result c.at.ensures (omega (arith, c.loop-place-test.true)) c.loop-place.invariant (sym c.in_default.is ∙ c.fit_at.ensures)
 
 pub returns-in-Some-clause-found : goal.returns-in-Some-clause-found
 returns-in-Some-clause-found c =
-    fit_under c.args.asked.now c.self.inside.slots c.self.inside.order.items c.loop-place.place c.index.result.now c.in-Some.id c.index.ensures (omega (arith, c.loop-place-test.true)) c.loop-place.invariant (sym c.in-Some.is ∙ c.fit_at.ensures)
+    fit_under c.args.asked.now c.self.inside.slots c.self.inside.order.items c.loop-place.place c.at.result c.in-Some.id c.at.ensures (omega (arith, c.loop-place-test.true)) c.loop-place.invariant (sym c.in-Some.is ∙ c.fit_at.ensures)
     ∙ ap (λ q. first_fit c.args.asked.now q.units) c.self.view_is
 
 pub returns-in-Some-clause-first : goal.returns-in-Some-clause-first
