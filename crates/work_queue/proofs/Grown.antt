@@ -22,9 +22,9 @@ pub record IsGrown (w v : Inside) : Type 0 where
   pub names : v.names.kept.items ≡ w.names.kept.items
   pub arrivals : v.arrivals ≡ w.arrivals
   pub slots_room : HasRoomFor v.slots (length v.rooms)
-  pub order_room : deque_len v.order + length v.rooms ≤ deque_capacity v.order
+  pub order_room : length v.order.items + length v.rooms ≤ v.order.capacity
   pub entries_room : deque_len v.index.entries + length v.rooms ≤ deque_capacity v.index.entries
-  pub stamps_room : deque_len v.index.stamps + length v.rooms ≤ deque_capacity v.index.stamps
+  pub stamps_room : length v.index.stamps.items + length v.rooms ≤ v.index.stamps.capacity
   pub names_room : deque_len v.names.kept + length v.rooms ≤ deque_capacity v.names.kept
 
 module _ (w v : Inside) (sound : IsSound w) (grown : IsGrown w v) where

@@ -90,8 +90,8 @@ pub record ForgetsUnit (w : Inside) (place : ℕ) (p : Placed) (index : Index) :
   pub stamps : index.stamps.items ≡ remove w.index.stamps.items place
   pub fewer : deque_len index.entries ≤ deque_len w.index.entries
   pub same : deque_capacity index.entries ≡ deque_capacity w.index.entries
-  pub stamps_fewer : deque_len index.stamps + 1 ≡ deque_len w.index.stamps
-  pub stamps_same : deque_capacity index.stamps ≡ deque_capacity w.index.stamps
+  pub stamps_fewer : length index.stamps.items + 1 ≡ length w.index.stamps.items
+  pub stamps_same : index.stamps.capacity ≡ w.index.stamps.capacity
 
 -- the names no longer have that of the unit at the place, and have as much room
 pub record LosesName (w : Inside) (place : ℕ) (p : Placed) (names : Names) : Type 0 where

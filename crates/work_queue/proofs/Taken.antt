@@ -1,7 +1,6 @@
 -- A queue with one unit less.
-use Rattle.std.proofs.Common.{◌≡◌, ◌≢◌, ◌≤◌, ◌+◌, ◌-◌, ℕ, suc, List, ◌∷◌, ◌++◌, get_or, take, drop, None, refl, sym, ap, ◌∙◌, All, arith, IsSome, sum_by}
+use Rattle.std.proofs.Common.{◌≡◌, ◌≢◌, ◌≤◌, ◌+◌, ◌-◌, ℕ, suc, List, ◌∷◌, ◌++◌, get_or, take, drop, None, refl, sym, ap, ◌∙◌, All, arith, IsSome, sum_by, length}
 use Rattle.std.specs.List.{filter, remove}
-use Rattle.std.specs.VecDeque.{deque_capacity, deque_len}
 use Rattle.std.proofs.lemmas.List.Elements.{All-append, All-take, All-drop, All-filter, filter_map-append}
 use Rattle.std.proofs.lemmas.List.Kept.{AllPairs-filter}
 use Rattle.std.proofs.lemmas.List.Sums.{sum_by-append, sum_by-cons}
@@ -59,7 +58,7 @@ module _ (w : Inside) (new : Slab Placed) (place key : ℕ) (p : Placed) (id : U
   pub size_within : size_of p ≤ w.charge
   size_within = omega (arith, sizes, sound.charge)
 
-  pub sound_taken : (v : Inside) → v.slots ≡ new → v.order.items ≡ remove w.order.items place → v.charge ≡ w.charge - size_of p → v.limit ≡ w.limit → v.rooms ≡ w.rooms → v.common ≡ w.common → slab_len new + 1 ≡ slab_len w.slots → new.capacity ≡ w.slots.capacity → deque_len v.order + 1 ≡ deque_len w.order → deque_capacity v.order ≡ deque_capacity w.order → v.arrivals ≡ w.arrivals → ForgetsUnit w place p v.index → LosesName w place p v.names → IsSound v
+  pub sound_taken : (v : Inside) → v.slots ≡ new → v.order.items ≡ remove w.order.items place → v.charge ≡ w.charge - size_of p → v.limit ≡ w.limit → v.rooms ≡ w.rooms → v.common ≡ w.common → slab_len new + 1 ≡ slab_len w.slots → new.capacity ≡ w.slots.capacity → length v.order.items + 1 ≡ length w.order.items → v.order.capacity ≡ w.order.capacity → v.arrivals ≡ w.arrivals → ForgetsUnit w place p v.index → LosesName w place p v.names → IsSound v
   sound_taken v slots order charge limit rooms common slab_less slab_same order_less order_same arrivals forgets loses =
       let O : ℕ → Type 0 = λ k. IsSome (get w.slots k) in
       let P : ℕ → Type 0 = λ k. IsSome (get new k) in

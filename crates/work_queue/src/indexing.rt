@@ -8,6 +8,7 @@ ghost use Rattle.work_queue.specs.Inside.Index.{IsInOrder, IsRun, goes_before, r
 ghost use Rattle.work_queue.specs.declared.entries.Entry.{Entry};
 
 use crate::entries::{Entry, comes_before, is_of_earlier_run};
+use crate::parted::Parted;
 use std::alloc::{AllocError, Global};
 use std::collections::VecDeque;
 
@@ -16,7 +17,7 @@ use std::collections::VecDeque;
 #[derive(Drop)]
 pub struct Index {
     pub(crate) entries: VecDeque<Entry>,
-    pub(crate) stamps: VecDeque<u64>,
+    pub(crate) stamps: Parted<u64>,
 }
 
 // How many entries stand before this one.
@@ -65,11 +66,10 @@ impl Index {
         ensures entries { result.entries.items ≡ [] }
         ensures stamps { result.stamps.items ≡ [] }
         ensures entries_len { deque_len result.entries ≡ 0 }
-        ensures stamps_len { deque_len result.stamps ≡ 0 }
     {
         Index {
             entries: VecDeque::new(alloc),
-            stamps: VecDeque::new(alloc),
+            stamps: Parted::new(alloc),
         }
     }
 
@@ -78,11 +78,10 @@ impl Index {
         ensures entries { self.new.entries.items ≡ self.old.entries.items }
         ensures stamps { self.new.stamps.items ≡ self.old.stamps.items }
         ensures entries_len { deque_len self.new.entries ≡ deque_len self.old.entries }
-        ensures stamps_len { deque_len self.new.stamps ≡ deque_len self.old.stamps }
         ensures entries_grown { deque_capacity self.old.entries ≤ deque_capacity self.new.entries }
-        ensures stamps_grown { deque_capacity self.old.stamps ≤ deque_capacity self.new.stamps }
+        ensures stamps_grown { self.old.stamps.capacity ≤ self.new.stamps.capacity }
         ensures entries_room { OnOk result (deque_len self.new.entries + more ≤ deque_capacity self.new.entries) }
-        ensures stamps_room { OnOk result (deque_len self.new.stamps + more ≤ deque_capacity self.new.stamps) }
+        ensures stamps_room { OnOk result (length self.new.stamps.items + more ≤ self.new.stamps.capacity) }
     {
         self.entries.reserve(more)?;
         self.stamps.reserve(more)
@@ -93,17 +92,17 @@ impl Index {
         requires order { IsInOrder self.old.entries.items }
         requires last { All (λ x. x.stamp < entry.stamp) self.old.entries.items }
         requires entries_room { deque_len self.old.entries < deque_capacity self.old.entries }
-        requires stamps_room { deque_len self.old.stamps < deque_capacity self.old.stamps }
+        requires stamps_room { length self.old.stamps.items < self.old.stamps.capacity }
         ensures entries { IsPermutation (entry ∷ self.old.entries.items) self.new.entries.items }
         ensures order { IsInOrder self.new.entries.items }
         ensures stamps { self.new.stamps.items ≡ self.old.stamps.items ++ entry.stamp ∷ [] }
         ensures entries_len { deque_len self.new.entries ≡ deque_len self.old.entries + 1 }
-        ensures stamps_len { deque_len self.new.stamps ≡ deque_len self.old.stamps + 1 }
+        ensures stamps_len { length self.new.stamps.items ≡ length self.old.stamps.items + 1 }
         ensures entries_grown { deque_capacity self.old.entries ≤ deque_capacity self.new.entries }
-        ensures stamps_grown { deque_capacity self.old.stamps ≤ deque_capacity self.new.stamps }
+        ensures stamps_grown { self.old.stamps.capacity ≤ self.new.stamps.capacity }
     {
         let place = place_for(&self.entries, &entry);
-        self.stamps.push_back_reserved(entry.stamp);
+        self.stamps.push(entry.stamp);
         let added = self.entries.insert(place, entry);
         match added {
             Ok(()) => {}
@@ -142,8 +141,8 @@ impl Index {
         ensures stamps { self.new.stamps.items ≡ remove self.old.stamps.items place }
         ensures entries_len { deque_len self.new.entries ≤ deque_len self.old.entries }
         ensures entries_same { deque_capacity self.new.entries ≡ deque_capacity self.old.entries }
-        ensures stamps_len { deque_len self.new.stamps + 1 ≡ deque_len self.old.stamps }
-        ensures stamps_same { deque_capacity self.new.stamps ≡ deque_capacity self.old.stamps }
+        ensures stamps_len { length self.new.stamps.items + 1 ≡ length self.old.stamps.items }
+        ensures stamps_same { self.new.stamps.capacity ≡ self.old.stamps.capacity }
     {
         if let Some(entry) = entry {
             self.leave(&entry);

@@ -9,6 +9,7 @@ ghost use Rattle.work_queue.specs.Queue.{HasDistinctIds, is_unit};
 ghost use Rattle.work_queue.specs.declared.naming.Name.{Name};
 ghost use Rattle.work_queue.specs.declared.placing.Placed.{Placed};
 
+use crate::parted::Parted;
 use adlb_unit::UnitId;
 use std::alloc::{AllocError, Global};
 use std::collections::VecDeque;
@@ -40,14 +41,6 @@ fn place_for(names: &VecDeque<Name>, id: UnitId) -> usize
     ensures point { IsPartitionPoint (λ x. id_before x.id id ≡ true) (λ x. id_before x.id id ≡ false) names.now.items result }
 {
     names.partition_point(|x| id_comes_before(x.id, id))
-}
-
-// The place of this stamp among those of all units, which rise.
-pub(crate) fn place_of_stamp(stamps: &VecDeque<u64>, stamp: u64) -> usize
-    requires { AllPairs (λ a b. a < b) stamps.now.items }
-    ensures { (k d : ℕ) → k < length stamps.now.items → slice_index_or stamps.now.items k d ≡ stamp → result ≡ k }
-{
-    stamps.partition_point(|x| *x < stamp)
 }
 
 impl Names {
@@ -108,7 +101,7 @@ impl Names {
 
     // The place in the arrival order of the unit of this id, by two binary searches: for its id, and for its stamp.
     // Where no unit has the id, it is how many units there are.
-    pub(crate) fn place_of(&self, stamps: &VecDeque<u64>, id: UnitId) -> usize
+    pub(crate) fn place_of(&self, stamps: &Parted<u64>, id: UnitId) -> usize
         requires order { IsById self.now.kept.items }
         requires rising { AllPairs (λ a b. a < b) stamps.now.items }
         ensures { (units : List Placed) → HasDistinctIds units → IsNamed units stamps.now.items self.now.kept.items → length stamps.now.items ≡ length units → result ≡ position_or_len (is_unit id) units }
@@ -118,7 +111,7 @@ impl Names {
             return stamps.len();
         };
         if name.id == id {
-            place_of_stamp(stamps, name.stamp)
+            stamps.place_of(name.stamp)
         } else {
             stamps.len()
         }

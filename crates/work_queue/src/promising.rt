@@ -62,7 +62,7 @@ impl WorkQueue {
         let placed = Placed { unit, pin: None };
         self.index.add(entry_for(&placed, self.arrivals));
         let key = self.slots.insert_reserved(placed);
-        self.order.push_back_reserved(key);
+        self.order.push(key);
         self.arrivals += 1;
     }
 

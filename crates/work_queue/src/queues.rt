@@ -12,6 +12,7 @@ use crate::entries::{entry_for, entry_under, free_entry};
 use crate::growth::make_room;
 use crate::indexing::Index;
 use crate::naming::{Name, Names};
+use crate::parted::Parted;
 use crate::placing::{Placed, UnitFacts};
 use crate::ranking::best_entry;
 use crate::rooms::Rooms;
@@ -19,7 +20,6 @@ use crate::searching::{pin_at, seen_at, stamped, take_at};
 use adlb_unit::{Payload, Rank, Types, Unit, UnitId};
 use slab::Slab;
 use std::alloc::Global;
-use std::collections::VecDeque;
 use std::marker::Model;
 use thiserror::Error;
 
@@ -42,7 +42,7 @@ pub struct WorkQueue {
     // The units, each under a key that it keeps as long as it stays.
     pub(crate) slots: Slab<Placed>,
     // The keys in arrival order. All four have room for each unit that is promised room.
-    pub(crate) order: VecDeque<usize>,
+    pub(crate) order: Parted<usize>,
     // The free units in order.
     pub(crate) index: Index,
     // The units by their ids.
@@ -75,7 +75,7 @@ impl WorkQueue {
     {
         WorkQueue {
             slots: Slab::new(alloc),
-            order: VecDeque::new(alloc),
+            order: Parted::new(alloc),
             index: Index::new(alloc),
             names: Names::new(alloc),
             rooms: Rooms::new(alloc),
@@ -146,7 +146,7 @@ impl WorkQueue {
         let placed = Placed { unit, pin: None };
         self.index.add(entry_for(&placed, self.arrivals));
         let key = self.slots.insert_reserved(placed);
-        self.order.push_back_reserved(key);
+        self.order.push(key);
         self.charge += length;
         self.arrivals += 1;
         Ok(())
@@ -183,8 +183,8 @@ impl WorkQueue {
         ensures facts { All (λ p. id_of p ≡ id → result ≡ facts_of p) self.old.units }
     {
         let place = self.names.place_of(&self.index.stamps, id);
-        let key = self.order[place];
-        let entry = entry_under(&self.slots, key, self.index.stamps[place]);
+        let key = self.order.at(place);
+        let entry = entry_under(&self.slots, key, self.index.stamps.at(place));
         self.index.leave(&entry);
         pin_at(&mut self.slots, key, rank)
     }
@@ -219,7 +219,7 @@ impl WorkQueue {
         let Some(key) = self.order.remove(place) else {
             unreachable!()
         };
-        let stamp = self.index.stamps[place];
+        let stamp = self.index.stamps.at(place);
         let entry = free_entry(&self.slots, key, stamp);
         self.names.remove(Name { id, stamp });
         self.index.forget(place, entry);

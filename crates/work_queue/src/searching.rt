@@ -9,11 +9,10 @@ ghost use Rattle.work_queue.specs.Inside.Units.{units_at};
 ghost use Rattle.work_queue.specs.Queue.{IsSmall, seen};
 ghost use Rattle.work_queue.specs.declared.placing.Placed.{Placed};
 
-use crate::naming::place_of_stamp;
+use crate::parted::Parted;
 use crate::placing::{Placed, UnitFacts};
 use adlb_unit::{Rank, Unit, UnitId};
 use slab::Slab;
-use std::collections::VecDeque;
 
 // The unit under the key, with its pin.
 pub(crate) fn seen_at(slots: &Slab<Placed>, key: usize) -> Option<(UnitId, Option<Rank>)>
@@ -56,8 +55,8 @@ pub(crate) fn take_at(slots: &mut Slab<Placed>, key: usize) -> Unit
 // The unit of this stamp, which is found by binary search.
 pub(crate) fn stamped<'a>(
     slots: &'a Slab<Placed>,
-    order: &VecDeque<usize>,
-    stamps: &VecDeque<u64>,
+    order: &Parted<usize>,
+    stamps: &Parted<u64>,
     stamp: u64,
 ) -> &'a Placed
     requires there { All (λ key. IsSome (get slots.now key)) order.now.items }
@@ -66,8 +65,8 @@ pub(crate) fn stamped<'a>(
     requires known { Contains stamps.now.items stamp }
     ensures { (place : ℕ) (p : Placed) → slice_get (units_at slots.now order.now.items) place ≡ Some p → slice_index stamps.now.items place ≡ stamp → result.now ≡ p }
 {
-    let place = place_of_stamp(stamps, stamp);
-    let Some(placed) = slots.get(order[place]) else {
+    let place = stamps.place_of(stamp);
+    let Some(placed) = slots.get(order.at(place)) else {
         unreachable!()
     };
     placed

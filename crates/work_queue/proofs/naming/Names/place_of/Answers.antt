@@ -10,7 +10,7 @@ returns-then-eq c units distinct named long =
     let names = c.args.self.now.kept.items in
     let there : Contains names c.in-Some.name.now = (c.place_for-place.result, omega (arith, c.in-Some.ensures.variant.0 refl), sym c.in-Some.ensures.lookup) in
     let is : c.in-Some.name.now.id ≡ c.args.id = search rules in
-    name_leads units c.args.stamps.now.items names c.args.id distinct named long c.in-Some.name.now c.place_of_stamp.result there is c.place_of_stamp.ensures
+    name_leads units c.args.stamps.now.items names c.args.id distinct named long c.in-Some.name.now c.place_of.result there is c.place_of.ensures
 
 pub returns-else-eq : goal.returns-else-eq
 returns-else-eq c units distinct named long =

@@ -12,7 +12,7 @@ use Rattle.work_queue.proofs.Promises.{none_left, room_apart, room_told}
 use Rattle.work_queue.proofs.queues.WorkQueue.arrive.Goals as goal
 
 abbrev after : goal.After-self-1 → Inside
-after c = record { slots = c.insert_reserved-key.new.self; order = c.push_back_reserved.new.self; index = c.add-2.new.self; names = c.add.new.self; rooms = c.remove.new.self; common = c.self.inside.common; charge = c.self.inside.charge; arrivals = c.self.inside.arrivals + 1; limit = c.self.inside.limit }
+after c = record { slots = c.insert_reserved-key.new.self; order = c.push.new.self; index = c.add-2.new.self; names = c.add.new.self; rooms = c.remove.new.self; common = c.self.inside.common; charge = c.self.inside.charge; arrivals = c.self.inside.arrivals + 1; limit = c.self.inside.limit }
 
 comes : (c : goal.After-self-1) → Comes c.self.inside (after c) c.insert_reserved-key.result c.args.unit
 comes c =
@@ -25,7 +25,7 @@ comes c =
     record {
       vacant = c.insert_reserved-key.ensures.was_vacant;
       updates = c.insert_reserved-key.ensures.updates;
-      order = c.push_back_reserved.ensures.items;
+      order = c.push.ensures.items;
       fresh = room_apart units w.rooms id (length c.args.unit.body) c.self.invariant.apart room;
       small = omega arith;
       once = rw c.remove.ensures.removed (once_left w.rooms id c.self.invariant.once);

@@ -17,22 +17,22 @@ there w q id view has =
     let free : HasFree id (units_at w.slots w.order.items) = subst Free (sym view) has in
     (free.0, free.1, free.2, free.3, free.4.0)
 
-pub index-key-requires : goal.index-key-requires
-index-key-requires c =
+pub at-key-requires : goal.at-key-requires
+at-key-requires c =
     let inside = place_in_order c.self.inside c.args.id c.place_of-place.result c.self.invariant (there c.self.inside c.args.self.now c.args.id c.self.view_is c.requires) (placed c.self.inside c.args.id c.place_of-place.result c.self.invariant c.place_of-place.ensures) in
     omega (arith, inside)
 
 pub pin_at-requires-clause-small : goal.pin_at-requires-clause-small
 pin_at-requires-clause-small c =
-    let h = found_at c.self.inside c.args.id c.place_of-place.result c.index-key.result.now c.self.invariant (there c.self.inside c.args.self.now c.args.id c.self.view_is c.requires) (placed c.self.inside c.args.id c.place_of-place.result c.self.invariant c.place_of-place.ensures) c.index-key.ensures in
+    let h = found_at c.self.inside c.args.id c.place_of-place.result c.at-key.result c.self.invariant (there c.self.inside c.args.self.now c.args.id c.self.view_is c.requires) (placed c.self.inside c.args.id c.place_of-place.result c.self.invariant c.place_of-place.ensures) c.at-key.ensures in
     rw h.1.found (small_found c.self.inside _ _ h.0 c.args.id c.self.invariant h.1)
 
 pub invariant_of-self : goal.invariant_of-self
 invariant_of-self c =
-    let h = found_at c.self.inside c.args.id c.place_of-place.result c.index-key.result.now c.self.invariant (there c.self.inside c.args.self.now c.args.id c.self.view_is c.requires) (placed c.self.inside c.args.id c.place_of-place.result c.self.invariant c.place_of-place.ensures) c.index-key.ensures in
+    let h = found_at c.self.inside c.args.id c.place_of-place.result c.at-key.result c.self.invariant (there c.self.inside c.args.self.now c.args.id c.self.view_is c.requires) (placed c.self.inside c.args.id c.place_of-place.result c.self.invariant c.place_of-place.ensures) c.at-key.ensures in
     let Free : Queue → Type 0 = λ q. HasFree c.args.id q.units in
     let free = free_found c.self.inside _ _ h.0 c.args.id c.self.invariant h.1 (subst Free (sym c.self.view_is) c.requires) in
-    let is = entry_is c.self.inside _ _ h.0 c.args.id c.self.invariant h.1 _ _ (c.entry_under-entry.ensures h.0 h.1.found) c.index.ensures in
+    let is = entry_is c.self.inside _ _ h.0 c.args.id c.self.invariant h.1 _ _ (c.entry_under-entry.ensures h.0 h.1.found) c.at.ensures in
     let leaves : LeavesIndex c.self.inside c.place_of-place.result h.0 c.leave.new.self = record {
       left = rw is at c.leave.ensures.entries;
       gone = rw is at c.leave.ensures.gone;
@@ -45,12 +45,12 @@ invariant_of-self c =
 
 pub returns-clause-pinned : goal.returns-clause-pinned
 returns-clause-pinned c =
-    let h = found_at c.self.inside c.args.id c.place_of-place.result c.index-key.result.now c.self.invariant (there c.self.inside c.args.self.now c.args.id c.self.view_is c.requires) (placed c.self.inside c.args.id c.place_of-place.result c.self.invariant c.place_of-place.ensures) c.index-key.ensures in
+    let h = found_at c.self.inside c.args.id c.place_of-place.result c.at-key.result c.self.invariant (there c.self.inside c.args.self.now c.args.id c.self.view_is c.requires) (placed c.self.inside c.args.id c.place_of-place.result c.self.invariant c.place_of-place.ensures) c.at-key.ensures in
     rw (c.pin_at.ensures.pinned h.0 h.1.found) (view_pinned c.self.inside _ _ h.0 c.args.id c.args.rank c.leave.new.self c.self.invariant h.1 ∙ ap (λ q. with_pin q c.args.id c.args.rank) c.self.view_is)
 
 pub returns-clause-facts : goal.returns-clause-facts
 returns-clause-facts c =
-    let h = found_at c.self.inside c.args.id c.place_of-place.result c.index-key.result.now c.self.invariant (there c.self.inside c.args.self.now c.args.id c.self.view_is c.requires) (placed c.self.inside c.args.id c.place_of-place.result c.self.invariant c.place_of-place.ensures) c.index-key.ensures in
+    let h = found_at c.self.inside c.args.id c.place_of-place.result c.at-key.result c.self.invariant (there c.self.inside c.args.self.now c.args.id c.self.view_is c.requires) (placed c.self.inside c.args.id c.place_of-place.result c.self.invariant c.place_of-place.ensures) c.at-key.ensures in
     let Told : Queue → Type 0 = λ q. All (λ p. id_of p ≡ c.args.id → c.pin_at.result ≡ facts_of p) q.units in
     subst Told c.self.view_is (λ k d within same. rw (only_found c.self.inside _ _ h.0 c.args.id c.self.invariant h.1 k d within same) (c.pin_at.ensures.facts h.0 h.1.found))
 
@@ -59,26 +59,26 @@ returns-clause-held c =
     let Held : Queue → Type 0 = λ q. HasPinned c.args.id c.args.rank q.units in
     subst Held (sym (returns-clause-pinned c)) (pinned_from_free c.args.id c.args.rank c.args.self.now.units c.requires)
 
-pub index-requires : goal.index-requires
-index-requires c =
-    let h = found_at c.self.inside c.args.id c.place_of-place.result c.index-key.result.now c.self.invariant (there c.self.inside c.args.self.now c.args.id c.self.view_is c.requires) (placed c.self.inside c.args.id c.place_of-place.result c.self.invariant c.place_of-place.ensures) c.index-key.ensures in
+pub at-requires : goal.at-requires
+at-requires c =
+    let h = found_at c.self.inside c.args.id c.place_of-place.result c.at-key.result c.self.invariant (there c.self.inside c.args.self.now c.args.id c.self.view_is c.requires) (placed c.self.inside c.args.id c.place_of-place.result c.self.invariant c.place_of-place.ensures) c.at-key.ensures in
     let within = stamp_within c.self.inside _ _ h.0 c.args.id c.self.invariant h.1 in
     omega (arith, within)
 
 pub leave-requires-clause-there : goal.leave-requires-clause-there
 leave-requires-clause-there c =
-    let h = found_at c.self.inside c.args.id c.place_of-place.result c.index-key.result.now c.self.invariant (there c.self.inside c.args.self.now c.args.id c.self.view_is c.requires) (placed c.self.inside c.args.id c.place_of-place.result c.self.invariant c.place_of-place.ensures) c.index-key.ensures in
+    let h = found_at c.self.inside c.args.id c.place_of-place.result c.at-key.result c.self.invariant (there c.self.inside c.args.self.now c.args.id c.self.view_is c.requires) (placed c.self.inside c.args.id c.place_of-place.result c.self.invariant c.place_of-place.ensures) c.at-key.ensures in
     let Free : Queue → Type 0 = λ q. HasFree c.args.id q.units in
     let free = free_found c.self.inside _ _ h.0 c.args.id c.self.invariant h.1 (subst Free (sym c.self.view_is) c.requires) in
-    let is = entry_is c.self.inside _ _ h.0 c.args.id c.self.invariant h.1 _ _ (c.entry_under-entry.ensures h.0 h.1.found) c.index.ensures in
+    let is = entry_is c.self.inside _ _ h.0 c.args.id c.self.invariant h.1 _ _ (c.entry_under-entry.ensures h.0 h.1.found) c.at.ensures in
     entry_listed c.self.inside _ _ h.0 c.args.id c.self.invariant h.1 _ is free
 
 pub pin_at-requires-clause-there : goal.pin_at-requires-clause-there
 pin_at-requires-clause-there c =
-    let h = found_at c.self.inside c.args.id c.place_of-place.result c.index-key.result.now c.self.invariant (there c.self.inside c.args.self.now c.args.id c.self.view_is c.requires) (placed c.self.inside c.args.id c.place_of-place.result c.self.invariant c.place_of-place.ensures) c.index-key.ensures in
+    let h = found_at c.self.inside c.args.id c.place_of-place.result c.at-key.result c.self.invariant (there c.self.inside c.args.self.now c.args.id c.self.view_is c.requires) (placed c.self.inside c.args.id c.place_of-place.result c.self.invariant c.place_of-place.ensures) c.at-key.ensures in
     rw h.1.found refl
 
 pub entry_under-entry-requires : goal.entry_under-entry-requires
 entry_under-entry-requires c =
-    let h = found_at c.self.inside c.args.id c.place_of-place.result c.index-key.result.now c.self.invariant (there c.self.inside c.args.self.now c.args.id c.self.view_is c.requires) (placed c.self.inside c.args.id c.place_of-place.result c.self.invariant c.place_of-place.ensures) c.index-key.ensures in
+    let h = found_at c.self.inside c.args.id c.place_of-place.result c.at-key.result c.self.invariant (there c.self.inside c.args.self.now c.args.id c.self.view_is c.requires) (placed c.self.inside c.args.id c.place_of-place.result c.self.invariant c.place_of-place.ensures) c.at-key.ensures in
     rw h.1.found refl

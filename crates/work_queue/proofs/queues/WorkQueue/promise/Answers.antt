@@ -17,9 +17,9 @@ invariant_of-self-2 c =
     let added : c.add.new.self ≡ w.rooms ++ room ∷ [] = search rules in
     let long : length c.add.new.self ≡ length w.rooms + 1 = ap (λ l. length l) added ∙ length-append w.rooms (room ∷ []) in
     let slots : HasRoomFor c.make_room-grown.new.slots (c.len-more.result + 1) = search rules in
-    let keys : deque_len c.make_room-grown.new.order + (c.len-more.result + 1) ≤ deque_capacity c.make_room-grown.new.order = search rules in
+    let keys : length c.make_room-grown.new.order.items + (c.len-more.result + 1) ≤ c.make_room-grown.new.order.capacity = search rules in
     let entries : deque_len c.make_room-grown.new.index.entries + (c.len-more.result + 1) ≤ deque_capacity c.make_room-grown.new.index.entries = search rules in
-    let stamps : deque_len c.make_room-grown.new.index.stamps + (c.len-more.result + 1) ≤ deque_capacity c.make_room-grown.new.index.stamps = search rules in
+    let stamps : length c.make_room-grown.new.index.stamps.items + (c.len-more.result + 1) ≤ c.make_room-grown.new.index.stamps.capacity = search rules in
     let names : deque_len c.make_room-grown.new.names.kept + (c.len-more.result + 1) ≤ deque_capacity c.make_room-grown.new.names.kept = search rules in
     sound_rooms w _ c.self.invariant
     (record { slots = c.make_room-grown.ensures.slots; items = c.make_room-grown.ensures.items; entries = c.make_room-grown.ensures.entries; stamps = c.make_room-grown.ensures.stamps; names = c.make_room-grown.ensures.names; arrivals = refl; slots_room = omega arith; order_room = omega arith; entries_room = omega arith; stamps_room = omega arith; names_room = omega arith })
@@ -37,9 +37,9 @@ invariant_of-self c = sound_grown c.self.inside _ c.self.invariant (record {
   names = c.make_room-grown.ensures.names;
   arrivals = refl;
   slots_room = let same = ap (λ s. slab_len s) c.make_room-grown.ensures.slots in omega (arith, same);
-  order_room = omega arith;
+  order_room = let same = ap (λ l. length l) c.make_room-grown.ensures.items in omega (arith, same);
   entries_room = omega arith;
-  stamps_room = omega arith;
+  stamps_room = let same = ap (λ l. length l) c.make_room-grown.ensures.stamps in omega (arith, same);
   names_room = omega arith;
 }) refl refl refl refl
 
@@ -56,8 +56,8 @@ invariant_of-self-then-is_err-2 c =
       names = c.make_room-grown.ensures.names;
       arrivals = refl;
       slots_room = omega (arith, same, long);
-      order_room = omega (arith, long);
+      order_room = let keys = ap (λ l. length l) c.make_room-grown.ensures.items in omega (arith, long, keys);
       entries_room = omega (arith, long);
-      stamps_room = omega (arith, long);
+      stamps_room = let stamps = ap (λ l. length l) c.make_room-grown.ensures.stamps in omega (arith, long, stamps);
       names_room = omega (arith, long);
     }) rooms refl refl refl

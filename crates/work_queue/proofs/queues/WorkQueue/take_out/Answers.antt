@@ -30,7 +30,7 @@ pub invariant_of-self : goal.invariant_of-self
 invariant_of-self c =
     let h = found_at c.self.inside c.args.id c.place_of-place.result c.in-Some.key c.self.invariant (there c.self.inside c.args.self.now c.args.id c.self.view_is c.requires) (placed c.self.inside c.args.id c.place_of-place.result c.self.invariant c.place_of-place.ensures) c.in-Some.ensures.value in
     let e = c.len.ensures ∙ ap (λ u. length u.body) (c.take_at-unit.ensures.unit h.0 h.1.found) in
-    let tells = tells_entry c.self.inside _ _ h.0 c.args.id c.self.invariant h.1 _ _ c.index-stamp.ensures (c.free_entry-entry.ensures.free h.0 h.1.found) (λ rank. c.free_entry-entry.ensures.pinned h.0 rank h.1.found) in
+    let tells = tells_entry c.self.inside _ _ h.0 c.args.id c.self.invariant h.1 _ _ c.at-stamp.ensures (c.free_entry-entry.ensures.free h.0 h.1.found) (λ rank. c.free_entry-entry.ensures.pinned h.0 rank h.1.found) in
     let forgets : ForgetsUnit c.self.inside c.place_of-place.result h.0 c.forget.new.self = record {
       kept = λ rank pinned. rw (tells.none rank pinned) at c.forget.ensures.kept;
       left = λ free. rw (tells.some free) at c.forget.ensures.left;
@@ -42,7 +42,7 @@ invariant_of-self c =
       stamps_fewer = c.forget.ensures.stamps_len;
       stamps_same = c.forget.ensures.stamps_same;
     } in
-    let name = name_is c.self.inside _ _ h.0 c.args.id c.self.invariant h.1 _ c.index-stamp.ensures in
+    let name = name_is c.self.inside _ _ h.0 c.args.id c.self.invariant h.1 _ c.at-stamp.ensures in
     let loses : LosesName c.self.inside c.place_of-place.result h.0 c.remove-2.new.self = record {
       left = rw name at c.remove-2.ensures.names;
       gone = rw name at c.remove-2.ensures.gone;
@@ -66,8 +66,8 @@ returns-clause-unit c =
     let Told : Queue → Type 0 = λ q. All (λ p. id_of p ≡ c.args.id → c.take_at-unit.result ≡ p.unit) q.units in
     subst Told c.self.view_is (λ k d within same. rw (only_found c.self.inside _ _ h.0 c.args.id c.self.invariant h.1 k d within same) (c.take_at-unit.ensures.unit h.0 h.1.found))
 
-pub index-stamp-requires : goal.index-stamp-requires
-index-stamp-requires c =
+pub at-stamp-requires : goal.at-stamp-requires
+at-stamp-requires c =
     let h = found_at c.self.inside c.args.id c.place_of-place.result c.in-Some.key c.self.invariant (there c.self.inside c.args.self.now c.args.id c.self.view_is c.requires) (placed c.self.inside c.args.id c.place_of-place.result c.self.invariant c.place_of-place.ensures) c.in-Some.ensures.value in
     let within = stamp_within c.self.inside _ _ h.0 c.args.id c.self.invariant h.1 in
     omega (arith, within)
@@ -80,13 +80,13 @@ forget-requires-clause-within c =
 pub forget-requires-clause-there : goal.forget-requires-clause-there
 forget-requires-clause-there c =
     let h = found_at c.self.inside c.args.id c.place_of-place.result c.in-Some.key c.self.invariant (there c.self.inside c.args.self.now c.args.id c.self.view_is c.requires) (placed c.self.inside c.args.id c.place_of-place.result c.self.invariant c.place_of-place.ensures) c.in-Some.ensures.value in
-    let tells = tells_entry c.self.inside _ _ h.0 c.args.id c.self.invariant h.1 _ _ c.index-stamp.ensures (c.free_entry-entry.ensures.free h.0 h.1.found) (λ rank. c.free_entry-entry.ensures.pinned h.0 rank h.1.found) in
+    let tells = tells_entry c.self.inside _ _ h.0 c.args.id c.self.invariant h.1 _ _ c.at-stamp.ensures (c.free_entry-entry.ensures.free h.0 h.1.found) (λ rank. c.free_entry-entry.ensures.pinned h.0 rank h.1.found) in
     entry_if_free c.self.inside _ _ h.0 c.args.id c.self.invariant h.1 _ tells
 
 pub remove-requires-2-clause-there : goal.remove-requires-2-clause-there
 remove-requires-2-clause-there c =
     let h = found_at c.self.inside c.args.id c.place_of-place.result c.in-Some.key c.self.invariant (there c.self.inside c.args.self.now c.args.id c.self.view_is c.requires) (placed c.self.inside c.args.id c.place_of-place.result c.self.invariant c.place_of-place.ensures) c.in-Some.ensures.value in
-    rw (name_is c.self.inside _ _ h.0 c.args.id c.self.invariant h.1 _ c.index-stamp.ensures) (name_found c.self.inside _ _ h.0 c.args.id c.self.invariant h.1)
+    rw (name_is c.self.inside _ _ h.0 c.args.id c.self.invariant h.1 _ c.at-stamp.ensures) (name_found c.self.inside _ _ h.0 c.args.id c.self.invariant h.1)
 
 pub take_at-unit-requires : goal.take_at-unit-requires
 take_at-unit-requires c =
