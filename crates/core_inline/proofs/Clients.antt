@@ -61,6 +61,7 @@ module _ (c : ClientModel) (one_server : c.config.servers ≡ 1) where
   passes _ from tells.Finish z is = absurd (cc)
   passes _ from _ z is = first_of (cc, grind (arith, if_is))
 
+-- so does each letter that the client hears
 pub passes_letter : (c : ClientModel) → c.config.servers ≡ 1 → (letter : Letter) (x : Made) → hear c first_server letter ≡ Some x
     → more x.state.pending + 2 * one (not (is_idle x.state.pending)) ≤ more c.pending
 passes_letter c one_server letter x hears =
