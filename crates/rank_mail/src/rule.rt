@@ -12,6 +12,7 @@ use crossbeam_channel::{Pass, RuledReceiver, RuledSender, bounded_with};
 use std::alloc::{AllocError, Global};
 use std::hint::spin_loop;
 use std::sync::Wait;
+use std::thread::yield_now;
 
 /// The rule itself.
 pub struct InOrder;
@@ -114,24 +115,23 @@ pub fn send<R: Wait>(rt: &R, end: &MailSender, pass: &mut MailPass, posted: Post
     unreachable!()
 }
 
-/// How often a receive looks for a letter before it waits. An answer comes mostly within that time, and a thread that waits
-/// is slow to wake.
-const TRIES: u32 = 256;
+/// How often a receive looks for a letter before it lets other threads run. An answer comes mostly within that time, if its
+/// sender runs.
+const LOOKS: u32 = 32;
 
-/// After so many tries the pauses between them are longer.
-const SHORT_TRIES: u32 = 16;
+/// How often it looks in all before it sleeps. A thread that sleeps is slow to wake, and waking it takes its sender's time.
+const TRIES: u32 = 96;
 
-const LONG_PAUSE: u32 = 4;
-
-// Lets the processor rest after a try.
+// Lets the processor rest after an early try, and other threads run after a later one.
 fn pause(tries: u32) {
-    let hints = if tries < SHORT_TRIES { 1 } else { LONG_PAUSE };
-    for _ in 0..hints {
+    if tries < LOOKS {
         spin_loop();
+    } else {
+        yield_now();
     }
 }
 
-/// Receives a letter. It looks for one several times, and then waits for one.
+/// Receives a letter. It looks for one several times, and then sleeps until one comes.
 pub fn receive<R: Wait>(rt: &R, end: &MailReceiver, pass: &mut MailPass) -> Posted
     requires seat { IsSeatAt (receives_on end.now) pass.old }
     requires gets { (view pass.old).gets ≡ true }
