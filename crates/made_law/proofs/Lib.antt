@@ -3,4 +3,5 @@ mod Signs
 mod MadeLines
 mod Accepted
 mod Counted
+mod Solvable
 mod Worked

@@ -1,9 +1,12 @@
--- Jobs that are made, by computation: those of a seed, and which puzzles have a batch behind them.
-use Rattle.std.proofs.Common.{◌≡◌, ℕ, List, [], ◌∷◌, codes, refl}
+-- Jobs that are made, by computation: those of a seed, and which puzzles have a batch behind them. And a grid that is none
+-- of theirs, for it has no solution.
+use Rattle.std.proofs.Common.{◌≡◌, ◌∙◌, ℕ, List, [], ◌∷◌, arith, codes, refl, replicate, sym}
 use Rattle.job_text.specs.declared.items.Item.TheVariants.{Count, Max, Sum}
 use Rattle.job_text.specs.declared.jobs.Job.TheVariants.{Batch, Puzzle}
 use Rattle.made_jobs.specs.Made.{blanks, draw, exchanges, full_grid, lines_of, made, puzzle, relabelled, seeded, shuffled}
 use Rattle.made_law.specs.Jobs.{made_jobs, puzzle_jobs}
+use Rattle.made_law.specs.Solved.{IsSolvable}
+use Rattle.sudoku_law.proofs.Pairwise.{pairwise_from_solution}
 
 first_grid : List ℕ
 first_grid =
@@ -26,3 +29,12 @@ seventh = refl
 
 eighth : puzzle_jobs 8 (codes "1.9") ≡ Puzzle (1 ∷ 0 ∷ 9 ∷ []) ∷ Batch (codes "1.9") (Count 49 53 ∷ Sum ∷ Max ∷ []) ∷ []
 eighth = refl
+
+twice_in_a_row : List ℕ
+twice_in_a_row = 5 ∷ 5 ∷ replicate 79 0
+
+twice_is_not_solvable : IsSolvable twice_in_a_row → ⊥
+unfolding twice_in_a_row
+twice_is_not_solvable solved =
+    (pairwise_from_solution 3 twice_in_a_row solved.0 solved.1).once 1 0 (omega arith) (omega (arith, solved.1.long)) refl
+    (solved.1.keeps 1 (omega arith) (λ none. omega (arith, none)) ∙ sym (solved.1.keeps 0 (omega arith) (λ none. omega (arith, none))))

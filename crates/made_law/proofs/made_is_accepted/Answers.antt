@@ -1,13 +1,17 @@
-use Rattle.std.proofs.Common.{◌≡◌, ◌∙◌, ℕ, ap, length}
+use Rattle.std.proofs.Common.{◌≡◌, ◌∙◌, ℕ, List, ap, length, subst, sym}
+use Rattle.std.specs.Prelude.{All}
 use Rattle.rand_pcg.specs.Lcg.{Lcg}
 use Rattle.job_report.specs.Jobs.{all_items, puzzles}
 use Rattle.job_text.specs.Jobs.{input_jobs}
+use Rattle.job_text.specs.declared.jobs.Job.{Job}
 use Rattle.made_jobs.specs.Made.{made_text, puzzle, seeded}
 use Rattle.made_jobs.specs.Signs.{IsPuzzle}
 use Rattle.made_law.specs.Jobs.{made_jobs}
+use Rattle.made_law.specs.Solved.{IsSolvable}
 use Rattle.made_law.proofs.Accepted.{made_is_front}
 use Rattle.made_law.proofs.Counted.{made_are_counted}
 use Rattle.made_law.proofs.Fronts.{all_jobs, none_refused}
+use Rattle.made_law.proofs.Solvable.{made_solved}
 use Rattle.made_law.proofs.made_is_accepted.Goals as goal
 
 module _ (are_puzzles : (generator : Lcg) → IsPuzzle (puzzle generator).0) where
@@ -32,3 +36,8 @@ returns-clause-all c = λ count seed.
 pub returns-clause-items : goal.returns-clause-items
 returns-clause-items c = λ count seed.
     ap all_items (jobs_are c.made_laws.ensures.puzzles count seed) ∙ (made_are_counted count (seeded seed)).items
+
+pub returns-clause-solved : goal.returns-clause-solved
+returns-clause-solved c = λ count seed.
+    subst (λ (jobs : List Job). All IsSolvable (puzzles jobs)) (sym (jobs_are c.made_laws.ensures.puzzles count seed))
+    (made_solved count (seeded seed))
