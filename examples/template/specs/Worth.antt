@@ -1,0 +1,6 @@
+-- What a unit is worth.
+use Rattle.std.specs.Prelude.{ℕ, ◌==◌, List, count_by}
+
+-- how often the letter e stands in it
+abbrev pub worth : List ℕ → ℕ
+worth unit = count_by (λ letter. letter == 101) unit
