@@ -8,6 +8,8 @@
 mod commands;
 mod options;
 mod reading;
+mod refusals;
 
 pub use commands::{Command, RunOptions, Sizes, SolveWords, WordsFault};
 pub use reading::read_words;
+pub use refusals::refusal;

@@ -1,0 +1,14 @@
+//! The program `adlbrun`, but for its `main`: the words of its command line, the command that they say, and what is said on standard
+//! error if it does not end well.
+//!
+//! It stands on `run_adlb` of `adlb_command`, over standard input and output, and on `refusal` of `command_words`. What is said of a
+//! fault is a `Complaint`: its first line tells the fault, and the lines behind it what would have been accepted.
+#![tactic(auto)]
+
+mod complaints;
+mod hints;
+mod running;
+mod words;
+
+pub use complaints::Complaint;
+pub use running::run_program;

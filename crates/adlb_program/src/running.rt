@@ -1,0 +1,54 @@
+//! From the words of the command line to the exit status.
+
+ghost use Rattle.std.specs.Prelude.{◌≡◌, Option};
+ghost use Rattle.adlb_command.specs.Ends.{status_of};
+ghost use Rattle.adlb_command.specs.declared.ends.RunFault.{RunFault};
+
+use crate::complaints::Complaint;
+use crate::words::words_of;
+use adlb_command::{RunEnd, RunFault, run_adlb};
+use adlb_io::{FreeGate, Sink, Source, Spawner};
+use std::alloc::Global;
+use std::env::Env;
+
+/// Carries out the command that the words of the command line say (`run_adlb`), complains on standard error of the fault, if there is
+/// one, and answers the exit status, which is that of a fault or of none.
+pub fn run_program<R, S, K, T>(rt: &R, input: &mut S, output: &mut K, threads: &mut T) -> u8
+where
+    R: Env + AllocGlobal + Eprint,
+    S: Source,
+    K: Sink,
+    T: Spawner,
+    ensures { (fault : Option RunFault) × (result ≡ status_of fault) }
+{
+    match words_of(rt) {
+        Ok(words) => {
+            let end = run_adlb(
+                rt.alloc(),
+                words.as_slice(),
+                input,
+                output,
+                threads,
+                FreeGate {},
+            );
+            answer(rt, words.as_slice(), &end)
+        }
+        Err(fault) => answer(rt, &[], &RunEnd::new(Some(fault))),
+    }
+}
+
+// The exit status of this end, after what is to be said of it.
+fn answer<R: AllocGlobal + Eprint>(rt: &R, words: &[String], end: &RunEnd) -> u8
+    ensures { result ≡ end.now.status }
+{
+    if let Some(fault) = end.fault {
+        complain(rt, rt.alloc(), words, fault);
+    }
+    end.status
+}
+
+// Complains on standard error, where nothing can be done if that fails.
+fn complain<R: Eprint>(rt: &R, alloc: Global, words: &[String], fault: RunFault) {
+    let complaint = Complaint::new(alloc, words, fault);
+    let _ = eprint!(rt; "{complaint}");
+}
