@@ -3,7 +3,7 @@
 ghost use Rattle.std.specs.Prelude.{◌<◌};
 
 use crate::runs::{Ran, run_words, seen, words};
-use crate::tables::{FORCED, FORCED_SOLVED, NOTHING};
+use crate::tables::{FORCED, FORCED_SOLVED, NOTHING, TWO, TWO_SOLVED};
 use adlb_command::run_adlb;
 use adlb_io::{FreeGate, MemorySink, MemorySource, RealThreads, Spawner};
 use std::alloc::Global;
@@ -20,15 +20,15 @@ struct Failing {
     ghost writes: { 0 < per_write },
 }
 
-// A run on the forced puzzle that reads and writes so many bytes at a time, of which the calls of these numbers fail.
+// A run on this puzzle that reads and writes so many bytes at a time, of which the calls of these numbers fail.
 fn run_failing<T: Spawner>(
     alloc: Global,
     threads: &mut T,
-    line: &str,
+    (line, puzzle): (&str, &str),
     failing: Failing,
 ) -> Result<Ran, Fail> {
     let words = words(alloc, line)?;
-    let bytes = FORCED.as_bytes().to_vec(alloc)?;
+    let bytes = puzzle.as_bytes().to_vec(alloc)?;
     let mut input = MemorySource::new(bytes, failing.per_read, [failing.read].to_vec(alloc)?);
     let mut output = MemorySink::new(alloc, failing.per_write, [failing.write].to_vec(alloc)?);
     let end = run_adlb(
@@ -46,6 +46,7 @@ fn run_failing<T: Spawner>(
 fn read_fails<T: Spawner>(
     alloc: Global,
     threads: &mut T,
+    run: (&str, &str),
     per_read: usize,
     read: u64,
 ) -> Result<bool, Fail>
@@ -57,31 +58,58 @@ fn read_fails<T: Spawner>(
         per_write: 1000,
         write: 1000,
     };
-    let ran = run_failing(alloc, threads, "solve", failing)?;
-    Ok(
-        ran.status == 3
-            && ran.fault.as_str() == "read failed"
-            && ran.written.is_empty()
-            && ran.ledger.is_empty(),
-    )
+    let ran = run_failing(alloc, threads, run, failing)?;
+    Ok(ran.is_refused(3, "read failed"))
 }
 
 #[test]
 fn a_read_that_fails_writes_nothing(rt: HostRuntime) -> Result<(), Fail> {
     let mut threads = RealThreads::new(rt);
     // The read of the whole fails, or the second of those of 40 bytes.
-    assert!(rt; read_fails(rt.alloc(), &mut threads, 100, 1)?);
-    assert!(rt; read_fails(rt.alloc(), &mut threads, 40, 2)?);
+    assert!(rt; read_fails(rt.alloc(), &mut threads, ("solve", FORCED), 100, 1)?);
+    assert!(rt; read_fails(rt.alloc(), &mut threads, ("solve", FORCED), 40, 2)?);
     Ok(())
 }
 
-// So many bytes of the report are written where the call of this number of the sink fails, and the report is kept.
+/// The puzzle with two solutions has 81 bytes: nine reads of 10 bytes at most, and one that finds the end.
+const READS: u64 = 10;
+
+// Each read in turn fails, and nothing is written; where the one after the last would fail, the report is.
+fn each_read_fails<T: Spawner>(alloc: Global, threads: &mut T, line: &str) -> Result<bool, Fail> {
+    for read in 1..READS + 1 {
+        if !read_fails(alloc, threads, (line, TWO), 10, read)? {
+            return Ok(false);
+        }
+    }
+    let unmet = Failing {
+        per_read: 10,
+        read: READS + 1,
+        per_write: 1000,
+        write: 1000,
+    };
+    let ran = run_failing(alloc, threads, (line, TWO), unmet)?;
+    Ok(ran.is_well() && ran.written.as_str() == TWO_SOLVED)
+}
+
+/// In line, and with threads.
+const BOTH_WAYS: &[&str] = &["solve --inline", "solve --ranks 2 --servers 2"];
+
+#[test]
+fn each_read_in_turn_fails(rt: HostRuntime) -> Result<(), Fail> {
+    let mut threads = RealThreads::new(rt);
+    for line in BOTH_WAYS {
+        assert!(rt; each_read_fails(rt.alloc(), &mut threads, line)?, "{line}");
+    }
+    Ok(())
+}
+
+// So many bytes of this report are written where the call of this number of the sink fails, and the report is kept.
 fn write_fails<T: Spawner>(
     alloc: Global,
     threads: &mut T,
-    line: &str,
-    write: u64,
-    taken: usize,
+    run: (&str, &str),
+    report: &str,
+    (write, taken): (u64, usize),
 ) -> Result<bool, Fail> {
     let failing = Failing {
         per_read: 100,
@@ -89,12 +117,12 @@ fn write_fails<T: Spawner>(
         per_write: 10,
         write,
     };
-    let ran = run_failing(alloc, threads, line, failing)?;
+    let ran = run_failing(alloc, threads, run, failing)?;
     Ok(
         ran.status == 4
             && ran.fault.as_str() == "write failed"
             && ran.written.len() == taken
-            && FORCED_SOLVED.starts_with(ran.written.as_str())
+            && report.starts_with(ran.written.as_str())
             && !ran.ledger.is_empty(),
     )
 }
@@ -114,8 +142,74 @@ fn a_write_that_fails_leaves_the_front_of_the_report(rt: HostRuntime) -> Result<
     let mut threads = RealThreads::new(rt);
     for (line, write, taken) in WRITES {
         assert!(rt;
-            write_fails(rt.alloc(), &mut threads, line, *write, *taken)?,
+            write_fails(
+                rt.alloc(),
+                &mut threads,
+                (line, FORCED),
+                FORCED_SOLVED,
+                (*write, *taken)
+            )?,
             "{line}, call {write}"
+        );
+    }
+    Ok(())
+}
+
+/// The report on the puzzle with two solutions has 226 bytes: 23 writes of 10 bytes at most, and then the flush. How many bytes are
+/// written where each of them fails.
+const TAKEN: &[usize] = &[
+    0, 10, 20, 30, 40, 50, 60, 70, 80, 90, 100, 110, 120, 130, 140, 150, 160, 170, 180, 190, 200,
+    210, 220, 226,
+];
+
+// A run on the puzzle with two solutions, of which no call fails, writes its report, so many bytes at a time.
+fn writes_by<T: Spawner>(
+    alloc: Global,
+    threads: &mut T,
+    line: &str,
+    per_write: usize,
+    write: u64,
+) -> Result<bool, Fail>
+    requires { 0 < per_write }
+{
+    let failing = Failing {
+        per_read: 100,
+        read: 1000,
+        per_write,
+        write,
+    };
+    let ran = run_failing(alloc, threads, (line, TWO), failing)?;
+    Ok(ran.is_well() && ran.written.as_str() == TWO_SOLVED)
+}
+
+// Each write in turn fails, and the flush; where the call after that would fail, the whole report is written.
+fn each_write_fails<T: Spawner>(alloc: Global, threads: &mut T, line: &str) -> Result<bool, Fail> {
+    let mut write = 0_u64;
+    for taken in TAKEN {
+        write = write.saturating_add(1);
+        if !write_fails(alloc, threads, (line, TWO), TWO_SOLVED, (write, *taken))? {
+            return Ok(false);
+        }
+    }
+    writes_by(alloc, threads, line, 10, write.saturating_add(1))
+}
+
+#[test]
+fn each_write_and_the_flush_in_turn_fail(rt: HostRuntime) -> Result<(), Fail> {
+    let mut threads = RealThreads::new(rt);
+    for line in BOTH_WAYS {
+        assert!(rt; each_write_fails(rt.alloc(), &mut threads, line)?, "{line}");
+    }
+    Ok(())
+}
+
+#[test]
+fn a_sink_that_takes_a_byte_a_write_gets_the_whole_report(rt: HostRuntime) -> Result<(), Fail> {
+    let mut threads = RealThreads::new(rt);
+    for line in BOTH_WAYS {
+        assert!(rt;
+            writes_by(rt.alloc(), &mut threads, line, 1, 1000)?,
+            "{line}"
         );
     }
     Ok(())

@@ -1,7 +1,7 @@
 //! The top call, from words and bytes to what is written.
 //!
 //! It holds tests alone, in a crate of their own so that `adlb_command` is not proved again with them: the worked rows in line and
-//! with threads, bad input, other commands, faults outside, and lists of solutions made by another solver.
+//! with threads, bad input, other commands, faults outside, lists of solutions made by another solver, and what is said of each fault.
 #![tactic(auto)]
 
 #[cfg(test)]
@@ -13,8 +13,12 @@ mod rows;
 #[cfg(test)]
 mod runs;
 #[cfg(test)]
+mod sides;
+#[cfg(test)]
 mod solved;
 #[cfg(test)]
 mod tables;
+#[cfg(test)]
+mod texts;
 #[cfg(test)]
 mod threaded;

@@ -44,7 +44,7 @@ pub const FORCED_SOLVED: &str = "puzzle 1 solutions 1\n\
     totals\nboard 1\nsolution 1\njob 0\nanswer 0\n";
 
 /// The report on the puzzle with two solutions.
-const TWO_SOLVED: &str = "puzzle 1 solutions 2\n\
+pub const TWO_SOLVED: &str = "puzzle 1 solutions 2\n\
     534678912672195348198342567859761423426853791713924856961537284287419635345286179\n\
     534678912672195348198342567859763421426851793713924856961537284287419635345286179\n\
     totals\nboard 3\nsolution 2\njob 0\nanswer 0\n";
@@ -81,7 +81,7 @@ fn writes_the_report_of_each_worked_row(rt: HostRuntime) -> Result<(), Fail> {
     show(rt, rt.alloc(), WORKED)
 }
 
-const SOLVE: &[&str] = &["solve"];
+const SOLVE: &[&str] = &["solve", "solve --inline"];
 
 const BAD: &[Row] = &[
     (SOLVE, &[SHORT], Shows::Refused(1, "line 1: length")),
@@ -93,6 +93,21 @@ const BAD: &[Row] = &[
         Shows::Refused(1, "line 2: length"),
     ),
     (SOLVE, &[FORCED, "1"], Shows::Refused(1, "line 1: length")),
+    (
+        SOLVE,
+        &[FORCED, "\n", SHORT],
+        Shows::Refused(1, "line 2: length"),
+    ),
+    (
+        SOLVE,
+        &[FORCED, "\n", FORCED, "1"],
+        Shows::Refused(1, "line 2: length"),
+    ),
+    (
+        SOLVE,
+        &["batch a\n", FORCED, "\nmax"],
+        Shows::Refused(1, "line 3: item"),
+    ),
     (
         SOLVE,
         &["batch a\n", "1234341221434321\nmax"],
@@ -150,6 +165,10 @@ const ITEMS_ANSWERED: &str =
     "batch 1 bytes 6 items 4\ncount 97 98 = 4\nsum = 588\nmax = 99\ncount 5 4 = 0\n\
     totals\nboard 0\nsolution 0\njob 4\nanswer 4\n";
 
+/// The report on an item that counts nothing.
+const NONE_COUNTED: &str =
+    "batch 1 bytes 1 items 1\ncount 5 4 = 0\ntotals\nboard 0\nsolution 0\njob 1\nanswer 1\n";
+
 const EMPTY_BATCH: &str = "batch 1 bytes 3 items 0\ntotals\nboard 0\nsolution 0\njob 0\nanswer 0\n";
 
 const READ: &[Row] = &[
@@ -158,6 +177,7 @@ const READ: &[Row] = &[
     (WAYS, &[PUZZLES], Shows::Is(PUZZLES_SOLVED)),
     (WAYS, &[MIXED], Shows::Is(MIXED_SOLVED)),
     (WAYS, &[ITEMS], Shows::Is(ITEMS_ANSWERED)),
+    (WAYS, &["batch a\n", "count 5 4"], Shows::Is(NONE_COUNTED)),
     (WAYS, &["batch xyz"], Shows::Is(EMPTY_BATCH)),
 ];
 

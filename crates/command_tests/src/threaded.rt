@@ -1,7 +1,7 @@
 //! Starts that are refused, two ranks that really interleave, and many runs, each with a legal ledger.
 
 use crate::runs::{run_gated, run_words, words};
-use crate::tables::{FORCED, FORCED_SOLVED};
+use crate::tables::{FORCED, FORCED_SOLVED, TWO, TWO_SOLVED};
 use adlb_command::run_adlb;
 use adlb_io::{
     FreeGate, Gate, GatePoint, ListedThreads, RealThreads, Spawner, SteadySink, SteadySource,
@@ -28,39 +28,44 @@ fn starts<R: Threads + Wait + Send + Copy + Drop + 'static>(
     alloc: Global,
     rt: R,
     line: &'static str,
+    (puzzle, report): (&str, &str),
     actors: u64,
 ) -> Result<bool, Fail> {
     for start in 1..actors.saturating_add(1) {
-        if !is_refused(alloc, rt, line, start)? {
+        if !is_refused(alloc, rt, line, puzzle, start)? {
             return Ok(false);
         }
     }
     let mut threads = refusing(alloc, rt, actors.saturating_add(1))?;
-    let ran = run_words(alloc, &mut threads, line, FORCED.as_bytes())?;
-    Ok(ran.status == 0 && ran.written.as_str() == FORCED_SOLVED)
+    let ran = run_words(alloc, &mut threads, line, puzzle.as_bytes())?;
+    Ok(ran.status == 0 && ran.written.as_str() == report)
 }
 
 fn is_refused<R: Threads + Wait + Send + Copy + Drop + 'static>(
     alloc: Global,
     rt: R,
     line: &str,
+    puzzle: &str,
     start: u64,
 ) -> Result<bool, Fail> {
     let mut threads = refusing(alloc, rt, start)?;
-    let ran = run_words(alloc, &mut threads, line, FORCED.as_bytes())?;
-    Ok(
-        ran.status == 5
-            && ran.fault.as_str() == "a thread could not be started"
-            && ran.written.is_empty()
-            && ran.ledger.is_empty(),
-    )
+    let ran = run_words(alloc, &mut threads, line, puzzle.as_bytes())?;
+    Ok(ran.is_refused(5, "a thread could not be started"))
 }
+
+/// Words, a puzzle with its report, and how many threads there are.
+const STARTS: &[(&str, (&str, &str), u64)] = &[
+    ("solve --ranks 2 --servers 1", (FORCED, FORCED_SOLVED), 3),
+    ("solve --ranks 2 --servers 2", (TWO, TWO_SOLVED), 4),
+    ("solve --ranks 32 --servers 8", (FORCED, FORCED_SOLVED), 40),
+    ("solve", (FORCED, FORCED_SOLVED), 6),
+];
 
 #[test]
 fn each_refused_start_writes_nothing(rt: HostRuntime) -> Result<(), Fail> {
-    assert!(rt; starts(rt.alloc(), rt, "solve --ranks 2 --servers 1", 3)?);
-    assert!(rt; starts(rt.alloc(), rt, "solve --ranks 32 --servers 8", 40)?);
-    assert!(rt; starts(rt.alloc(), rt, "solve", 6)?);
+    for (line, puzzle, actors) in STARTS {
+        assert!(rt; starts(rt.alloc(), rt, line, *puzzle, *actors)?, "{line}");
+    }
     Ok(())
 }
 
