@@ -19,8 +19,8 @@ pub fn refusal(alloc: Global, words: &[String]) -> Result<Option<String>, AllocE
     }
 }
 
-// Why `clap` refuses the words after the command: the first line of its text, without the word that stands before each of them. It has
-// numbers that are missing on further lines.
+// Why `clap` refuses the words after the command: the first line of its text, without `error: `. Which numbers are missing it would tell
+// on further lines.
 fn refused_by<'a>(
     alloc: Global,
     command: clap::Command<'a>,
