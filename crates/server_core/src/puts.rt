@@ -1,6 +1,6 @@
 //! The letter Put, and what comes of a free unit.
 
-ghost use Rattle.std.specs.Prelude.{◌≡◌, ◌<◌, ◌∷◌, [], IfOk, OnErr, OnOk, Some, find};
+ghost use Rattle.std.specs.Prelude.{◌≡◌, ◌<◌, ◌∷◌, [], IfOk, OnErr, OnOk, Some, false, find, length};
 ghost use Rattle.std.specs.Option.{option_map};
 ghost use Rattle.server_core.specs.Out.{HasRoom, Out, going_on, made, planned};
 ghost use Rattle.server_law.specs.Expected.{IsNew};
@@ -89,6 +89,9 @@ impl ServerState {
         ensures made { made self.new out.new ≡ going_on out.old (settles id self.old) self.old }
         ensures room { HasRoom self.new out.new 2 }
     {
+        if !self.is_looked_for() {
+            return;
+        }
         let Some((kind, target)) = self.free_unit(id) else {
             return;
         };
@@ -96,6 +99,14 @@ impl ServerState {
             Some((rank, request, note)) => self.grant(rank, request, note, out),
             None => self.hint_homes(kind, target, out),
         }
+    }
+
+    // A rank waits here, or a wish is kept.
+    fn is_looked_for(&self) -> bool
+        ensures { result ≡ false → (length self.now.kept.parked.waiting ≡ 0) × (length self.now.kept.parked.wishes ≡ 0) }
+    {
+        let (waiting, wishes) = self.parked.counts();
+        waiting > 0 || wishes > 0
     }
 
     // The type and the target of the free unit of this id, if there is one.
