@@ -1,8 +1,9 @@
 //! The program `adlbrun`: reads puzzles and batches of items, works them, and writes their solutions and answers.
 //!
 //! It hands the words of its command line, standard input and output, threads of the system and a gate that is always open to
-//! `run_adlb` of `adlb_command`, tells the fault on standard error, if there is one, and behind it what would have been accepted, and
-//! ends with the status. Nothing is proved of `main`; `unread` says which fault it is if the words cannot be read.
+//! `run_adlb` of `adlb_command`, tells the fault on standard error, if there is one, and behind it what would have been accepted, or what
+//! is wrong with a ledger that was checked, and ends with the status. Nothing is proved of `main`; `unread` says which fault it is if the
+//! words cannot be read.
 #![tactic(auto)]
 
 mod hints;
@@ -12,6 +13,7 @@ ghost use Rattle.std.specs.Prelude.{◌≡◌};
 use crate::hints::hints;
 use adlb_command::{RunEnd, RunFault, run_adlb};
 use adlb_io::{FreeGate, RealThreads, StdinSource, StdoutSink};
+use ledger_rules::Complaint;
 use std::env;
 use std::io::ErrorKind;
 use std::process::ExitCode;
@@ -33,6 +35,9 @@ fn main(rt: HostRuntime) -> ExitCode {
         }
         Err(fault) => RunEnd::new(Some(fault)),
     };
+    if let Some(complaint) = end.complaint {
+        complain(&rt, complaint);
+    }
     if let Some(fault) = end.fault {
         let _ = eprintln!(&rt; "adlbrun: {fault}");
         for line in hints(&fault) {
@@ -40,6 +45,15 @@ fn main(rt: HostRuntime) -> ExitCode {
         }
     }
     ExitCode::from(end.status)
+}
+
+// Says what is wrong with a ledger that was checked.
+fn complain(rt: &HostRuntime, complaint: Complaint) {
+    if let Ok(text) = complaint.text(rt.alloc()) {
+        if let Ok(line) = str::from_utf8(&text) {
+            let _ = eprintln!(rt; "{line}");
+        }
+    }
 }
 
 // The words of the command line, without the program's name. A word that is not UTF-8 is refused.
