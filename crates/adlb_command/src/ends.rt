@@ -6,6 +6,7 @@ use adlb_unit::Config;
 use command_words::WordsFault;
 use job_report::Outcome;
 use ledger_command::CheckFault;
+use ledger_rules::Complaint;
 use made_jobs::MadeFault;
 use packed_ledger::Ledger;
 use run_command::{Ended, Fault, Kept};
@@ -199,12 +200,13 @@ impl AnyKept {
 }
 
 /// How a command ended: its exit status, why it did not write its whole output, if so, and what it kept of a run: something if some of
-/// the output was written, or if a write failed.
+/// the output was written, or if a write failed. After a check it has what is wrong with the ledger, if anything is.
 #[derive(Drop)]
 pub struct RunEnd {
     pub status: u8,
     pub fault: Option<RunFault>,
     pub kept: Option<AnyKept>,
+    pub complaint: Option<Complaint>,
 }
 
 impl RunEnd {
@@ -221,6 +223,22 @@ impl RunEnd {
             status: RunEnd::status_of(fault),
             fault,
             kept: None,
+            complaint: None,
+        }
+    }
+
+    /// The end of a check with no fault, which found this wrong with the ledger, if anything.
+    pub fn complaining(complaint: Option<Complaint>) -> RunEnd
+        ensures status { result.status ≡ status_of None }
+        ensures fault { result.fault ≡ None }
+        ensures kept { result.kept ≡ None }
+        ensures complaint { result.complaint ≡ complaint }
+    {
+        RunEnd {
+            status: 0,
+            fault: None,
+            kept: None,
+            complaint,
         }
     }
 
@@ -236,6 +254,7 @@ impl RunEnd {
             status: RunEnd::status_of(fault),
             fault,
             kept: RunEnd::kept_of(kept),
+            complaint: None,
         }
     }
 

@@ -89,8 +89,9 @@ fn check<S: Source, K: Sink>(alloc: Global, input: &mut S, output: &mut K) -> Ru
     ensures source { S.faults input.old ≤ S.faults input.new }
     ensures sink { K.faults output.old ≤ K.faults output.new }
 {
-    match check_ledger(alloc, input, output) {
-        Ok(_) => RunEnd::new(None),
+    let mut complaint = None;
+    match check_ledger(alloc, input, output, &mut complaint) {
+        Ok(_) => RunEnd::complaining(complaint),
         Err(fault) => RunEnd::new(Some(RunFault::from(fault))),
     }
 }

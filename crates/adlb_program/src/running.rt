@@ -8,6 +8,7 @@ use crate::complaints::Complaint;
 use crate::words::words_of;
 use adlb_command::{RunEnd, RunFault, run_adlb};
 use adlb_io::{FreeGate, Sink, Source, Spawner};
+use ledger_rules::Complaint as Illegal;
 use std::alloc::Global;
 use std::env::Env;
 
@@ -44,7 +45,19 @@ fn answer<R: AllocGlobal + Eprint>(rt: &R, words: &[String], end: &RunEnd) -> u8
     if let Some(fault) = end.fault {
         complain(rt, rt.alloc(), words, fault);
     }
+    if let Some(illegal) = &end.complaint {
+        tell(rt, rt.alloc(), illegal);
+    }
     end.status
+}
+
+// Tells on standard error what is wrong with a ledger that was checked, where nothing can be done if that fails.
+fn tell<R: Eprint>(rt: &R, alloc: Global, illegal: &Illegal) {
+    if let Ok(text) = illegal.text(alloc) {
+        if let Ok(line) = str::from_utf8(&text) {
+            let _ = eprintln!(rt; "{line}");
+        }
+    }
 }
 
 // Complains on standard error, where nothing can be done if that fails.

@@ -9,24 +9,20 @@ use Rattle.ledger_file.specs.declared.faults.LedgerFault.{LedgerFault}
 use Rattle.ledger_file.specs.declared.faults.LedgerFault.TheVariants as refusals
 use Rattle.ledger_command.specs.declared.faults.CheckFault.{CheckFault}
 use Rattle.ledger_command.specs.declared.faults.CheckFault.TheVariants.{Entry, Memory, Read, TooLarge, Write}
-use Rattle.ledger_command.specs.declared.verdicts.Verdict.{Verdict}
+use Rattle.adlb_unit.specs.declared.configs.Config.{Config}
+use Rattle.bag_ledger.specs.declared.entries.Entry as of
 use Rattle.ledger_command.specs.Faults.{fault_in}
-use Rattle.ledger_command.specs.Input.{IsVerdictOn, input_limit}
-use Rattle.ledger_command.specs.Inside.{IsVerdictOf, Refuses, RefusesText}
+use Rattle.ledger_command.specs.Input.{IsTextOn, input_limit}
+use Rattle.ledger_command.specs.Inside.{Refuses, RefusesText}
 
 module _ (before after : Option (List ℕ)) (read : List ℕ) (reads : Reads before after (input_limit + 1) read) where
   whole : (all : List ℕ) → length read ≤ input_limit → before ≡ Some all → read ≡ all
   whole all short told = read_whole input_limit before after read reads all short told
 
-  -- what is told of the bytes is told of the input
-  pub read_told : length read ≤ input_limit → (verdict : Verdict) → IsVerdictOf read verdict → IsVerdictOn before verdict
-  read_told short verdict is = record {
-    config = is.config;
-    ledger = is.ledger;
-    text = λ all told. let same_bytes = whole all short told in
-        (omega (arith, short, ap length same_bytes), subst (λ l. IsText is.config is.ledger l) same_bytes is.text);
-    told = is.told;
-  }
+  -- a text that the bytes are is that of the input
+  pub read_told : length read ≤ input_limit → (config : Config) (ledger : List of.Entry) → IsText config ledger read → IsTextOn before config ledger
+  read_told short config ledger is = λ all told. let same_bytes = whole all short told in
+      (omega (arith, short, ap length same_bytes), subst (λ l. IsText config ledger l) same_bytes is)
 
   -- why nothing is told of the bytes is why nothing is of the input
   pub read_refuses : length read ≤ input_limit → (faults now : ℕ) → now ≡ faults → (fault : CheckFault) → RefusesText read fault

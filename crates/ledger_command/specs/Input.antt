@@ -11,11 +11,15 @@ use Rattle.ledger_command.specs.Verdicts.{IsVerdict}
 abbrev pub input_limit : ℕ
 input_limit = 2 ^ 26
 
+-- a source that tells what is left has the text of this configuration and ledger, which is not too long
+abbrev pub IsTextOn : Option (List ℕ) → Config → List Entry → Type 0
+IsTextOn left config ledger = (bytes : List ℕ) → left ≡ Some bytes → (length bytes ≤ input_limit) × IsText config ledger bytes
+
 -- of a configuration and a ledger this is told, and a source that tells what is left has their text, which is not too long
 pub record IsVerdictOn (left : Option (List ℕ)) (verdict : Verdict) : Type 0 where
   pub config : Config
   pub ledger : List Entry
-  pub text : (bytes : List ℕ) → left ≡ Some bytes → (length bytes ≤ input_limit) × IsText config ledger bytes
+  pub text : IsTextOn left config ledger
   pub told : IsVerdict config ledger verdict
 
 -- a source that tells what is left has an input of which this is the first line that is not what is due in the text of a ledger

@@ -3,21 +3,12 @@ use Rattle.std.specs.Prelude.{◌≡◌, ◌+◌, ℕ, Bool, true, List, Option,
 use Rattle.adlb_io.specs.Inputs.{IsAtEnd}
 use Rattle.adlb_io.specs.Outside.{Rises, Takes}
 use Rattle.adlb_io.specs.Whole.{Reads, TakesPrefix}
-use Rattle.adlb_unit.specs.declared.configs.Config.{Config}
-use Rattle.bag_ledger.specs.declared.entries.Entry.{Entry}
-use Rattle.ledger_file.specs.Lines.{IsFirstBad, IsText}
+use Rattle.ledger_file.specs.Lines.{IsFirstBad}
 use Rattle.ledger_command.specs.declared.faults.CheckFault.{CheckFault}
 use Rattle.ledger_command.specs.declared.faults.CheckFault.TheVariants as faults
 use Rattle.ledger_command.specs.declared.verdicts.Verdict.{Verdict}
 use Rattle.ledger_command.specs.Input.{IsRefusedAt, IsTooLong, input_limit}
-use Rattle.ledger_command.specs.Verdicts.{IsVerdict, line_of}
-
--- the bytes are the text of a configuration and a ledger of which this is told
-pub record IsVerdictOf (bytes : List ℕ) (verdict : Verdict) : Type 0 where
-  pub config : Config
-  pub ledger : List Entry
-  pub text : IsText config ledger bytes
-  pub told : IsVerdict config ledger verdict
+use Rattle.ledger_command.specs.Verdicts.{line_of}
 
 -- why nothing is told of these bytes
 abbrev pub RefusesText : List ℕ → CheckFault → Type 0

@@ -1,6 +1,6 @@
 //! The command `check`, over any source and sink.
 
-ghost use Rattle.std.specs.Prelude.{◌≡◌, ◌≤◌, ◌<◌, ◌+◌, ◌⊎◌, ℕ, List, Some, length, MatchResult};
+ghost use Rattle.std.specs.Prelude.{◌≡◌, ◌≤◌, ◌<◌, ◌+◌, ◌⊎◌, ℕ, List, IfOk, Some, length, MatchResult};
 ghost use Rattle.adlb_unit.specs.declared.configs.Config.{Config};
 ghost use Rattle.bag_ledger.specs.declared.entries.Entry.{Entry};
 ghost use Rattle.adlb_io.specs.Outside.{Rises};
@@ -8,7 +8,7 @@ ghost use Rattle.ledger_file.specs.Lines.{IsFirstBad, IsText};
 ghost use Rattle.ledger_command.specs.Ends.{ChecksTo};
 ghost use Rattle.adlb_io.specs.Inputs.{seen};
 ghost use Rattle.ledger_command.specs.Input.{input_limit};
-ghost use Rattle.ledger_command.specs.Verdicts.{IsVerdict};
+ghost use Rattle.ledger_command.specs.Verdicts.{IsVerdict, Suits};
 
 use crate::faults::CheckFault;
 use crate::reading::read_verdict;
@@ -16,6 +16,7 @@ use crate::verdicts::Verdict;
 use crate::writing::write_verdict;
 use adlb_io::{Sink, Source};
 use ledger_file::text_laws;
+use ledger_rules::Complaint;
 use std::alloc::Global;
 
 /// Reads the input, which is to be the text of a configuration and a ledger, and writes what is told of the ledger: a
@@ -29,11 +30,14 @@ use std::alloc::Global;
 /// (or stands at its last value). `Memory`: an allocation failed; contracts never say when. Nothing is written but at
 /// `Write` and `Memory`, where a part of the line's front was taken.
 ///
+/// In `complaint` stands what is wrong with the ledger then, if anything is (`suits`): the entry, and the rule that it breaks.
+///
 /// `complete`, `refused` and `overlong` say that each end that has its cause comes, or `Memory`.
 pub fn check_ledger<S: Source, K: Sink>(
     alloc: Global,
     input: &mut S,
     output: &mut K,
+    complaint: &mut Option<Complaint>,
 ) -> Result<Verdict, CheckFault>
     ensures ends { ChecksTo
         (seen (S.left input.old) (S.faults input.old) (K.taken output.old) (K.faults output.old)
@@ -41,6 +45,7 @@ pub fn check_ledger<S: Source, K: Sink>(
         (seen (S.left input.new) (S.faults input.new) (K.taken output.new) (K.faults output.new)
         (K.all_flushed output.new))
         result }
+    ensures suits { IfOk result (λ verdict. Suits verdict complaint.new) }
     ensures no_text { (line : ℕ) → result ≡ Err (CheckFault.Entry line) → (bytes : List ℕ) →
         S.left input.old ≡ Some bytes → (config : Config) (ledger : List Entry) → IsText config ledger bytes → ⊥ }
 
@@ -62,7 +67,7 @@ pub fn check_ledger<S: Source, K: Sink>(
     ensures sink { K.faults output.old ≤ K.faults output.new }
 {
     text_laws();
-    check(alloc, input, output)
+    check(alloc, input, output, complaint)
 }
 
 // Reads the input, and writes what is told of its ledger.
@@ -70,6 +75,7 @@ fn check<S: Source, K: Sink>(
     alloc: Global,
     input: &mut S,
     output: &mut K,
+    complaint: &mut Option<Complaint>,
 ) -> Result<Verdict, CheckFault>
     ensures ends { ChecksTo
         (seen (S.left input.old) (S.faults input.old) (K.taken output.old) (K.faults output.old)
@@ -77,10 +83,11 @@ fn check<S: Source, K: Sink>(
         (seen (S.left input.new) (S.faults input.new) (K.taken output.new) (K.faults output.new)
         (K.all_flushed output.new))
         result }
+    ensures suits { IfOk result (λ verdict. Suits verdict complaint.new) }
     ensures source { S.faults input.old ≤ S.faults input.new }
     ensures sink { K.faults output.old ≤ K.faults output.new }
 {
-    match read_verdict(alloc, input) {
+    match read_verdict(alloc, input, complaint) {
         Ok(verdict) => write_verdict(alloc, output, verdict),
         Err(fault) => Err(fault),
     }

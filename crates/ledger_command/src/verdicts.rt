@@ -1,14 +1,16 @@
 //! What is told of a ledger.
 
-ghost use Rattle.std.specs.Prelude.{◌≡◌, ◌++◌, List, IfOk, OnOk};
+ghost use Rattle.std.specs.Prelude.{◌≡◌, ◌++◌, ◌↔◌, List, IfOk, IfSome, None, OnOk};
 ghost use Rattle.adlb_unit.specs.declared.configs.Config.{Config};
 ghost use Rattle.bag_ledger.specs.declared.entries.Entry.{Entry};
-ghost use Rattle.ledger_command.specs.Verdicts.{IsVerdict, line_of, numbered};
+ghost use Rattle.bag_ledger.specs.Bag.{start};
+ghost use Rattle.bag_ledger.specs.Runs.{IsFirstIllegal, IsLegal};
+ghost use Rattle.ledger_command.specs.Verdicts.{IsVerdict, Suits, line_of, numbered};
 ghost use Rattle.ledger_command.specs.declared.verdicts.Verdict.{Verdict};
 
 use adlb_unit::{Config, NoMemory, or_no_memory};
 use itoa::Buffer;
-use ledger_checker::first_illegal;
+use ledger_rules::Complaint;
 use packed_ledger::Ledger;
 use std::alloc::Global;
 
@@ -22,15 +24,20 @@ pub enum Verdict {
 }
 
 impl Verdict {
-    /// What is told of this ledger (`IsVerdict`). Its only error is `NoMemory`.
-    pub(crate) fn of(alloc: Global, config: &Config, ledger: &Ledger) -> Result<Verdict, NoMemory>
-        ensures { IfOk result (IsVerdict config.now ledger.now) }
+    /// What is told of this ledger (`IsVerdict`), of which this is wrong.
+    pub(crate) fn of(config: &Config, ledger: &Ledger, complaint: &Option<Complaint>) -> Verdict
+        requires none { (complaint.now ≡ None) ↔ IsLegal config.now ledger.now }
+        requires least { IfSome complaint.now (λ c. IsFirstIllegal (start config.now) ledger.now c.place) }
+        ensures verdict { IsVerdict config.now ledger.now result }
+        ensures suits { Suits result complaint.now }
     {
-        match first_illegal(alloc, ledger, config)? {
-            Some(place) => Ok(Verdict::Illegal { place }),
-            None => Ok(Verdict::Legal {
+        match complaint {
+            Some(complaint) => Verdict::Illegal {
+                place: complaint.place,
+            },
+            None => Verdict::Legal {
                 entries: ledger.len(),
-            }),
+            },
         }
     }
 

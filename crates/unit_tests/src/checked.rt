@@ -27,7 +27,7 @@ const MISCOUNTED: &[u8] =
 fn tells(alloc: Global, bytes: Vec<u8>, wanted: Told, line: &str) -> Result<bool, Fail> {
     let mut input = SteadySource::new(bytes);
     let mut output = SteadySink::new(alloc);
-    let told = check_ledger(alloc, &mut input, &mut output);
+    let told = check_ledger(alloc, &mut input, &mut output, &mut None);
     Ok(told == wanted && output.taken() == line.as_bytes())
 }
 
@@ -42,7 +42,7 @@ fn tells_failing(
     let bytes = GRANTED_ONCE.to_vec(alloc)?;
     let mut input = MemorySource::new(bytes, 50, [read].to_vec(alloc)?);
     let mut output = MemorySink::new(alloc, 4, [write].to_vec(alloc)?);
-    let told = check_ledger(alloc, &mut input, &mut output);
+    let told = check_ledger(alloc, &mut input, &mut output, &mut None);
     Ok(told == wanted && output.taken() == line.as_bytes())
 }
 

@@ -1,6 +1,6 @@
 use Rattle.std.proofs.lemmas.Result.{err_from_is_err_and}
 use Rattle.ledger_command.proofs.Forms.{text_refused}
-use Rattle.ledger_command.proofs.reading.verdict_of.Goals as goal
+use Rattle.ledger_command.proofs.reading.text_of.Goals as goal
 
 pub returns-in_err-config-clause-refused : goal.returns-in_err-config-clause-refused
 returns-in_err-config-clause-refused c =

@@ -4,7 +4,7 @@ use Rattle.adlb_io.proofs.Inputs.{read_end, read_too_long}
 use Rattle.adlb_io.specs.Whole.{Reads}
 use Rattle.ledger_command.specs.Input.{input_limit}
 use Rattle.ledger_command.proofs.Forms.{fault_weaker, read_refuses, read_told}
-use Rattle.ledger_command.proofs.reading.read_verdict.Goals as goal
+use Rattle.ledger_command.proofs.reading.read_text.Goals as goal
 
 pub returns-then-len-gt-INPUT_LIMIT-clause-refused : goal.returns-then-len-gt-INPUT_LIMIT-clause-refused
 returns-then-len-gt-INPUT_LIMIT-clause-refused g c =
@@ -25,14 +25,14 @@ returns-clause-told g c =
     (sym c.deref.ensures.value) c.in_ok-bytes.ensures.read in
     let short : length c.deref.result.now ≤ input_limit =
     omega (arith, ap length c.deref.ensures.value, c.len.ensures, c.if-len-gt-INPUT_LIMIT.false) in
-    IfOk-weaker c.verdict_of.result _ _ (λ verdict is. read_told _ _ c.deref.result.now reads short verdict is) c.verdict_of.ensures.told
+    IfOk-weaker c.text_of.result _ _ (λ x is. read_told _ _ c.deref.result.now reads short x.0 x.1 is) c.text_of.ensures.told
 
 pub returns-clause-end : goal.returns-clause-end
 returns-clause-end g c =
-    IfOk-weaker c.verdict_of.result _ _
-    (λ verdict is. read_end input_limit _ _ c.in_ok-bytes.bytes.items c.in_ok-bytes.ensures.read
+    IfOk-weaker c.text_of.result _ _
+    (λ x is. read_end input_limit _ _ c.in_ok-bytes.bytes.items c.in_ok-bytes.ensures.read
     (omega (arith, c.len.ensures, c.if-len-gt-INPUT_LIMIT.false)))
-    c.verdict_of.ensures.told
+    c.text_of.ensures.told
 
 pub returns-clause-refused : goal.returns-clause-refused
 returns-clause-refused g c =
@@ -40,4 +40,4 @@ returns-clause-refused g c =
     (sym c.deref.ensures.value) c.in_ok-bytes.ensures.read in
     let short : length c.deref.result.now ≤ input_limit =
     omega (arith, ap length c.deref.ensures.value, c.len.ensures, c.if-len-gt-INPUT_LIMIT.false) in
-    fault_weaker _ _ _ (read_refuses _ _ c.deref.result.now reads short _ _ c.in_ok-bytes.ensures.counted) c.verdict_of.ensures.refused
+    fault_weaker _ _ _ (read_refuses _ _ c.deref.result.now reads short _ _ c.in_ok-bytes.ensures.counted) c.text_of.ensures.refused
