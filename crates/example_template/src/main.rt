@@ -1,7 +1,7 @@
 //! Counts a letter in a text. Change what a unit is, what working one makes, and what one is worth.
 #![tactic(auto)]
 
-ghost use Rattle.template.specs.Worth.{worth};
+ghost use Rattle.example_template.specs.Worth.{worth};
 
 use adlb::{NoMemory, Settings, Units, Work, run};
 use std::io;
