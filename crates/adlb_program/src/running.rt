@@ -32,27 +32,28 @@ where
                 threads,
                 FreeGate {},
             );
-            answer(rt, words.as_slice(), &end)
+            answer(rt, words.as_slice(), end)
         }
-        Err(fault) => answer(rt, &[], &RunEnd::new(Some(fault))),
+        Err(fault) => answer(rt, &[], RunEnd::new(Some(fault))),
     }
 }
 
 // The exit status of this end, after what is to be said of it.
-fn answer<R: AllocGlobal + Eprint>(rt: &R, words: &[String], end: &RunEnd) -> u8
-    ensures { result ≡ end.now.status }
+fn answer<R: AllocGlobal + Eprint>(rt: &R, words: &[String], end: RunEnd) -> u8
+    ensures { result ≡ end.status }
 {
+    tell(rt, rt.alloc(), end.complaint);
     if let Some(fault) = end.fault {
         complain(rt, rt.alloc(), words, fault);
-    }
-    if let Some(illegal) = &end.complaint {
-        tell(rt, rt.alloc(), illegal);
     }
     end.status
 }
 
-// Tells on standard error what is wrong with a ledger that was checked, where nothing can be done if that fails.
-fn tell<R: Eprint>(rt: &R, alloc: Global, illegal: &Illegal) {
+// Tells on standard error what is wrong with a ledger that was checked, if anything is; nothing can be done if that fails.
+fn tell<R: Eprint>(rt: &R, alloc: Global, illegal: Option<Illegal>) {
+    let Some(illegal) = illegal else {
+        return;
+    };
     if let Ok(text) = illegal.text(alloc) {
         if let Ok(line) = str::from_utf8(&text) {
             let _ = eprintln!(rt; "{line}");
