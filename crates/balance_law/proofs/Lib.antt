@@ -1,4 +1,6 @@
+pub mod Aims
 pub mod Calling
+pub mod Causes
 pub mod Commons
 pub mod Deeds
 pub mod Freed

@@ -214,10 +214,10 @@ below_start config rank r there =
     omega (arith, long, below)
 
 -- nothing in hand
-abbrev empty : Hand
+abbrev pub empty : Hand
 empty = record { held = None; batch = None; owed = [] }
 
-start_going : (config : Config) (last : Bag) (ledger : List Entry) → IsRun (start config) ledger last → AreOrderly config ledger
+pub start_going : (config : Config) (last : Bag) (ledger : List Entry) → IsRun (start config) ledger last → AreOrderly config ledger
     → IsGoing config.ranks (start config) last ledger (λ rank. empty)
 start_going config last ledger run orderly = record {
   calling = λ rank r there. inl (rw (fresh_at config.ranks rank.0 r there) (record {
@@ -236,7 +236,7 @@ start_going config last ledger run orderly = record {
 }
 
 -- a sum over what is mapped
-sum_mapped : {X Y : Type 0} (f : Y → ℕ) (g : X → Y) (xs : List X) → sum_by f (map g xs) ≡ sum_by (λ x. f (g x)) xs
+pub sum_mapped : {X Y : Type 0} (f : Y → ℕ) (g : X → Y) (xs : List X) → sum_by f (map g xs) ≡ sum_by (λ x. f (g x)) xs
 sum_mapped f g [] = refl
 sum_mapped f g (x ∷ xs) =
     let rest = sum_mapped f g xs in

@@ -1,3 +1,4 @@
 pub mod Balanced
 pub mod Orderly
 pub mod Parcels
+pub mod Ways
