@@ -111,8 +111,6 @@ impl PuzzleProgram {
 impl RankProgram for PuzzleProgram {
     type Outcome = Outcome;
 
-    ghost fits = { λ p ranks. Unit {0} };
-
     ghost so_far = { λ p rank said begun. IsUnderWay p said begun };
 
     ghost follows = { λ p rank said outcome. Follows p said outcome };

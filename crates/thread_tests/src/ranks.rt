@@ -25,10 +25,6 @@ struct Idle {
 impl RankProgram for Idle {
     type Outcome = u32;
 
-    ghost fits = { λ program ranks. Unit {0} };
-
-    ghost so_far = { λ program rank said call. Unit {0} };
-
     ghost follows = { λ program rank said outcome. (said ≡ []) × (outcome ≡ 5) };
 
     fn run<A: Adlb>(&self, _rank: Rank, _link: &mut A) -> Result<u32, Trouble> {

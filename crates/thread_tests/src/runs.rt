@@ -25,12 +25,6 @@ struct Worker {
 impl RankProgram for Worker {
     type Outcome = u32;
 
-    ghost fits = { λ p ranks. Unit {0} };
-
-    ghost so_far = { λ p rank said begun. Unit {0} };
-
-    ghost follows = { λ p rank said taken. Unit {0} };
-
     fn run<A: Adlb>(&self, _rank: Rank, link: &mut A) -> Result<u32, Trouble> {
         if self.fails {
             return Err(Trouble::Memory);
