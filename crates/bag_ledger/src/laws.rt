@@ -14,7 +14,7 @@ ghost use Rattle.bag_ledger.specs.Runs.{IsLegal, IsRunWhere, IsFirstIllegal, fir
 ghost use Rattle.bag_ledger.specs.Words.{refuses, looks, causes, IsSettled};
 
 /// The definitions of the bag fit together. A step as a relation is the one that the function `step` makes
-/// (`same_step`), and the test `settled` says what it is read to say (`settled_means`). A ledger is legal exactly where
+/// (`same_step`), and the test `settled` says what it is read to say (`settled_means`). A ledger is legal exactly if
 /// `first_illegal` finds nothing (`legal_run`), and what it finds is the place of the first entry that is no step
 /// (`first_place`). The beginning of a legal run is one (`beginnings`).
 pub fn bag_laws()

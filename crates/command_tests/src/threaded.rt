@@ -22,7 +22,7 @@ fn refusing<R: Threads + Drop>(alloc: Global, rt: R, start: u64) -> Result<Liste
     Ok(ListedThreads::new(rt, [start].to_vec(alloc)?))
 }
 
-// The start of each number up to this one is refused with nothing written; there is no start of a later number, one for each rank
+// The start of each number up to this one is refused with nothing written. There is no start of a later number, one for each rank
 // and one for each server.
 fn starts<R: Threads + Wait + Send + Copy + Drop + 'static>(
     alloc: Global,

@@ -112,7 +112,7 @@ every_run_settles config events w several run =
     let same = run_config (start config) w events run in
     (c.bag, subst (λ (k : Config). IsRun (empty_bag k) w.ledger c.bag) same (c.holds).legal, c.settles)
 
--- What is told of the end of the problem, with any number of servers.
+-- What is said of the end of the problem, with any number of servers.
 
 run_told : (w last : World) (events : List Event) → IsWell w → AllTold w → Runs w events last → AllTold last
 run_told w last [] well told run = subst AllTold run told

@@ -331,7 +331,7 @@ serve_told s from letter x is told = by_test (is_within s.config from && nat_lt 
         by_plan (rule t from letter.message) plan (settles_by t told from letter.message plan) e
     by_test false e = absurd (cc)
 
--- none of them is idle
+-- no rank of the list is idle
 pub told_is : (s : ServerModel) (e : Waiting) → IsTold s → Has s.kept.parked.waiting e → e.asked ≡ None → s.kept.done ≡ false
 told_is s e told has asked = by_flag s.kept.done refl
   where

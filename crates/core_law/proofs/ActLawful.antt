@@ -57,7 +57,7 @@ module _ (w : World) (k : Server) (b : Bag) (well : IsWell w) (l : IsLawful w b)
         });
   }
 
-  -- an act that tells of no rank
+  -- an act that is about no rank
   tells_nobody : (a : Act) → Needs (found_in w.config) a b (pool_of w k).me → about a ≡ None → Succeeds w k a b
   tells_nobody a needs none = record {
     needs = needs;

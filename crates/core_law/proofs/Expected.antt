@@ -362,8 +362,8 @@ to_rank w b from me letter rest well l there here small front =
 pub apart_is : (a b : ℕ) → not (a == b) ≡ true → a ≢ b
 apart_is a b apart same = let e = eq-eqb a b same in absurd (cc)
 
--- the home asks; an answer comes where the rank waits with the sender unanswered; a hint comes to the home; a letter of a push comes
--- where that push stands, or as the bag has its unit; a notice comes to server 0, and a verdict from it
+-- the home asks. An answer comes where the rank waits with the sender unanswered. A hint comes to the home. A letter of a push comes
+-- where that push stands, or as the bag has its unit. A notice comes to server 0, and a verdict from it
 between_awaited : (w : World) (b : Bag) (from me : Server) (letter : Letter) (rest : List Letter) (m : Message) → IsWell w → IsLawful w b
     → NoneOwes w → from.0 < w.config.servers → me.0 < w.config.servers → from ≢ (pool_of w me).me
     → link w.links (place_of w.config (by.Server from)) (place_of w.config (by.Server me)) ≡ letter ∷ rest → letter.message ≡ m

@@ -37,7 +37,7 @@ use Rattle.core_law.proofs.Well.{act_well, inside_servers, own_of, tick_well}
 
 -- Lines.
 
--- so many letters were sent so far, the last with this stamp at most
+-- this number of letters was sent so far, the last with this stamp at most
 record Line (letters : List Letter) (sent clock : ℕ) : Type 0 where
   first : ℕ
   places : AreConsecutive first letters sent

@@ -336,7 +336,7 @@ back_to me from apart =
     let parts = and_parts (not (from.0 == me.0)) true apart in
     and_from (not (me.0 == from.0)) true (told_apart me.0 from.0 (other_way from.0 me.0 parts.0)) refl
 
--- the token goes on to the server behind this one, which is another where this one is not alone
+-- the token goes on to the next server, which is another where this one is not alone
 onward_fits : (config : Config) (me : Server) (s : ServerModel) (t : Token) → me.0 < config.servers → IsPool config me s
     → config.servers ≢ 1 → FitsSaid config me (to_server (onward s) (tells.Token t))
 onward_fits config me s t here own several =

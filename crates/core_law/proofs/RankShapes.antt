@@ -79,7 +79,7 @@ ChangesBag me e b =
     (f : RankState → RankState) × (is_done : Bool) × (after b e ≡ with_rank me f (record b { done = is_done }))
     × (b.done ≡ true → is_done ≡ true)
 
--- the entry tells of this rank, and changes no more than that
+-- the entry is about this rank, and changes nothing else
 abbrev pub ChangesRank : Rank → Entry → Type 0
 ChangesRank me e = (teller e ≡ Some me) × ((b : Bag) → ChangesBag me e b)
 

@@ -1,4 +1,4 @@
-//! In which order the ledger of a run tells of ends.
+//! In which order the ledger of a run has ends.
 
 ghost use Rattle.std.specs.Prelude.{◌≡◌, ◌++◌, ◌∷◌, false, List};
 ghost use Rattle.std.specs.List.{list_any};

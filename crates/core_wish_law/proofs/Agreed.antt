@@ -620,7 +620,7 @@ module _ (w next : World) (from : Server) (me : Rank) (letter : Letter) (rest : 
       let b = ap (λ (k : Rank). (behind w.config (home w.config k) tried).0) own.me in
       ap server_named (sym (at ∙ a ∙ b))
 
-  -- so a rank that is told of it is told by a server that knows
+  -- so a rank that hears it hears it from a server that knows
   pub heard_of : (q tried : ℕ) → (client_of w me).pending ≡ waits_for.SetDone q tried → done_at w from ≡ true
   heard_of q tried is =
       let goes : GoesOn (ticked (client_of w me) (letter_stamp (client_of w me) letter)) q tried from letter.message x.state.pending =

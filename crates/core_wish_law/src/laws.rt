@@ -13,7 +13,7 @@ ghost use Rattle.core_wish_law.specs.News.{AreForeseen, IsAgreed, IsCovered, new
 /// In every run, of every number of ranks and servers and whatever the order of calls and letters: where no letter under way
 /// brings anything on and no rank can begin a call, each server is quiet (`quiet`), and all servers know that the problem is
 /// done or none does (`agreed`). With several servers each other server then keeps the wish of a rank that is idle, or is still
-/// to be asked for it (`covered`); so while a free unit is permitted to a rank that is idle elsewhere, something brings the run
+/// to be asked for it (`covered`). So while a free unit is permitted to a rank that is idle elsewhere, something brings the run
 /// on (`foreseen`).
 pub fn wish_laws()
     ensures quiet { (config : Config) (events : List Event) (w : World) (server : Server) → server.0 < w.config.servers →

@@ -14,9 +14,9 @@ use bag_ledger::Entry;
 use packed_ledger::Ledger;
 use std::alloc::Global;
 
-/// The place of the first entry of the ledger that is no step of the bag from the state which the entries before it
-/// leave, counted from 0; nothing exactly where the ledger is a legal run. So it is the least such place. It fails for want of
-/// memory alone.
+/// The place of the first entry of the ledger that is no step of the bag from the state which the entries before it leave,
+/// counted from 0; nothing exactly if the ledger is a legal run. So it is the least such place. It fails for want of memory
+/// alone.
 ///
 /// A ledger of n entries takes time within n log n and room within n. Each entry looks a few things up by their ids, and
 /// `Looked` and `Counted` look counts up: two for each type that the rank wants, of which there are 16 at most, or two in all.
@@ -69,7 +69,7 @@ fn place_of(stop: Option<Stop>) -> Option<u64>
 }
 
 /// Follows the ledger from the machine's state on, up to the first entry that is no step (`first_stop`), which is given back; the machine
-/// is then as the entries before leave it. `watch` is told of each entry that was a step. Its only error is `NoMemory`, and then the
+/// is then as the entries before leave it. `watch` is told each entry that was a step. Its only error is `NoMemory`, and then the
 /// machine is of no use.
 pub fn first_stop<W: Watch>(
     alloc: Global,

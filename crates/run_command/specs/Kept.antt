@@ -29,8 +29,8 @@ pub record IsRunBy {P O : Type 0} (follows : P → Rank → List Said → O → 
   pub calls_are : calls r.config r.ledger rank ≡ said ++ finish ∷ []
   pub followed : follows program rank said outcome
 
--- what is asked was run by its programs: the ledger is a legal run with the configuration of the report; each rank's transcript is its
--- calls in the ledger, in order; each rank ran its program; and where each accepted unit was fetched none is left
+-- what is asked was run by its programs: the ledger is a legal run with the configuration of the report. Each rank's transcript is its
+-- calls in the ledger, in order. Each rank ran its program. Where each accepted unit was fetched none is left
 pub record HasRun {A P O : Type 0} (are_programs : ℕ → A → List P → Type 0) (follows : P → Rank → List Said → O → Type 0)
     (asked : A) (r : Reported O) : Type 0 where
   pub programs : List P

@@ -107,7 +107,7 @@ where_apart : {X : Type 0} (same : Bool) (o : Option X) {A B : Type 0} → (same
 where_apart true o apart there = (λ some. absurd (cc), λ both. let no = apart.1 both.0 in absurd (cc))
 where_apart false o apart there = (λ some. (apart.0 refl, there.0 some), λ both. there.1 both.1)
 
--- a rank is found for which the sender was asked, or there is none
+-- a rank is found for which the sender was asked, or there is no such rank
 module _ (s : ServerModel) (from : Server) (rank : Rank) (request : ℕ) where
   abbrev test : Waiting → Bool
   test = has_asked from rank request

@@ -31,7 +31,7 @@ use Rattle.reserve_path.specs.Grants.{unit_with}
 abbrev to_place : UnitPlace → Lodged → Lodged
 to_place place u = record u { place = place }
 
--- a unit that is elsewhere is none of the server's, and weighs nothing there
+-- a unit that is elsewhere is not one of the server's, and weighs nothing there
 pub no_slot : (me : Server) (u : Lodged) → pin_at me u.place ≡ None → slot_of me u ≡ None
 no_slot me u away = ap (λ o. option_map (λ (pin : Option Rank). record { unit = u.unit; pin = pin }) o) away
 

@@ -293,7 +293,7 @@ expects_put_says s from unit =
 
 -- Checks.
 
--- server 0 is told of the check that runs
+-- server 0 hears of the check that runs
 pub running_says : (m : RingModel) (t : Token) → Says (is_running m t) (IsRunning m t)
 running_says m t =
     let same = both_say m.ring.runs (t.check == m.ring.check) (λ is. is, λ is. is) (same_says t.check m.ring.check) in

@@ -19,9 +19,9 @@ pub fn server_laws()
 
 /// At the start and after each event no rank waits twice (`WaitOnce`), and no free unit is permitted to a rank that waits and
 /// is idle (`IsCalm`). A rank for which another server was asked waits on until that server answers (`AskedWaitOn`), and
-/// until then, but by letters of its own, no unit of its home is granted to it and its call is not over (`AskedAreLeft`).
-/// An event in which a unit comes from another server says its acknowledgement, so that none is owed between events
-/// (`EventsPay`).
+/// until then, but by letters of its own, no unit of its home is granted to it and its call is not over (`AskedAreLeft`). An
+/// event in which a unit comes from another server says its acknowledgement, so that no acknowledgement is owed between
+/// events (`EventsPay`).
 pub fn calm_laws()
     ensures start_is_calm { StartIsCalm }
     ensures events_keep_once { EventsKeepOnce }

@@ -2,7 +2,8 @@
 //!
 //! `Puzzles` is a command of `run_command`: it asks for the jobs of an input (`job_text`), which the programs of `puzzle_app` work, and
 //! tells their report or a summary (`job_report`). `solve` runs it over an input, and `drill` over a made text. `specs/Ends.antt` says how
-//! the two end, `specs/Puzzles.antt` what is asked and run, and `specs/Told.antt` what is told; `Tail` is what a caller wants behind a report.
+//! the two end, `specs/Puzzles.antt` what is asked and run, and `specs/Told.antt` what is told; `Tail` is what a caller wants after a
+//! report.
 #![tactic(auto)]
 
 mod drilling;

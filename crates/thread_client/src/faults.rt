@@ -19,7 +19,7 @@ pub enum ActorFault {
 }
 
 impl ActorFault {
-    /// The fault of an actor that met this trouble, or was told of it, exactly if it can be one that an actor met (`IsLate`): a stamp
+    /// The fault of an actor that met this trouble, or was told it, exactly if it can be one that an actor met (`IsLate`): a stamp
     /// that is too long is past the last one that is given. Otherwise it is `Memory`.
     pub fn of(trouble: Trouble) -> ActorFault
         ensures late { IsLate (told result) }
