@@ -27,6 +27,7 @@ abbrev pub along : {X : Type 0} → (Bag → Entry → Option (Rank × X)) → B
 along g b [] rank = []
 along g b (e ∷ es) rank = of_rank rank (g b e) ++ along g (after b e) es rank
 
+-- a run is the path of its bags
 pub path_of : (b last : Bag) (es : List Entry) → IsRun b es last → IsPath b es last
 path_of b last [] run = run
 path_of b last (e ∷ es) run =

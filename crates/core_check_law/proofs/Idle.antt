@@ -95,6 +95,7 @@ pub client_closed : (c : ClientModel) (finished : Bool) (coming : Option Message
 client_closed c true coming modest told = refl
 client_closed c false coming modest told = call_closed c c.pending coming modest told
 
+-- a rank of the bag is in the run
 pub rank_inside : (found : Bag → Bool) (config : Config) (es : List Entry) (b : Bag) (rank : Rank) (x : RankState)
     → IsRunWhere found (empty_bag config) es b → rank_at b rank ≡ Some x → rank.0 < config.ranks
 rank_inside found config es b rank x run here =

@@ -229,6 +229,7 @@ front_is w k a me coming h is takes_it b seat =
     let of = at_front (OfCall c coming) w.config w.links h.from (by.Server k) front.0 front.1 seat.letters front.2 there front.3 in
     subst (λ (m : Message). IsOfCall c coming h.from (by.Server k) m) front.4 of
 
+-- who waits here waits as its client says
 pub gone_is : (w : World) (k : Server) (at : Around) (e : Waiting) (b : Bag) (me : Rank) (coming : Option Message) → k.0 < w.config.servers
     → (pool_of w k).kept.parked.waiting ≡ at.before ++ (e ∷ at.behind) → IsSeat w b me coming → IsWaiting (client_of w me) coming e
 gone_is w k at e b me coming here sits seat =

@@ -196,6 +196,7 @@ travel_later rule b e to unit l apart there =
     is.found ∙ ap (λ (w : Work). Some (record { unit = w; place = is.unit.place })) is.same
     ∙ ap (λ (p : UnitPlace). Some (record { unit = unit; place = p })) place
 
+-- a test that counts 0 does not pass
 pub one_not : (t : Bool) → one t ≡ 0 → t ≡ false
 one_not true e = absurd (omega arith)
 one_not false e = refl

@@ -61,6 +61,7 @@ pub record Leaving (s : ClientModel) (x : Made) : Type 0 where
       (map farewell (range_with_len 0 s.config.servers))
   pub each : Each (IsFarewell s.config) x.sends
 
+-- what a step of a rank has sent: one letter that asks a server, the letters of Finish, or nothing
 pub data Then (s : ClientModel) (x : Made) : Type 0 where
   It_rests : (h : Resting s x) → Then s x
   It_asks : (h : Asking s x) → Then s x

@@ -44,6 +44,7 @@ pub record IsFit (wish : Wish) (units : List Placed) (p : Placed) : Type 0 where
   pub free : p.pin ≡ None
   pub permits : permitted wish.rank wish.types p.unit.kind p.unit.target ≡ true
 
+-- the best unit for a wish is free and permitted
 pub best_is_fit : (k : Kept) (wish : Wish) (p : Placed) → HasDistinctIds k.queue.units → best_for k wish ≡ Some p
     → IsFit wish k.queue.units p
 best_is_fit k wish p distinct is = by_id (best_of wish.rank wish.types k.queue.units) refl is
