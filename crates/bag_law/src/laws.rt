@@ -46,7 +46,7 @@ pub fn no_unit_is_taken_twice()
         IsRunWhere found (start config) ledger last → count_by (fetches id) ledger ≤ 1 }
 {}
 
-/// Whatever is asked where exhaustion is found (`found`): in no legal run does a server refuse twice what a rank brings in a call, be
+/// Whatever is asked where exhaustion is found (`found`). In no legal run does a server refuse twice what a rank brings in a call, be
 /// it a unit or a batch that begins.
 pub fn no_call_is_refused_twice()
     ensures { (found : Bag → Bool) (config : Config) (ledger : List Entry) (last : Bag) (server : Server) (rank : Rank) (call : ℕ) →
@@ -59,7 +59,7 @@ pub fn no_call_is_refused_twice()
 /// ranks are owed them (`part_counts`). So the part of a unit that is not spent is kept (`unspent_is_kept`), and so is that of
 /// a unit whose common bytes a rank is owed (`owed_is_kept`). A unit whose own bytes are fetched is pinned to the rank
 /// (`fetch_is_pinned`). A rank's batch is an open part (`batch_is_open`). Only the end of a batch and common bytes that come
-/// may make a part due, one at most (`made_due`), and no part is due where they count to 0 (`none_due`, `not_due`).
+/// may make a part due, one at most (`made_due`). No part is due where they count to 0 (`none_due`, `not_due`).
 pub fn sound_bag_laws()
     ensures put_is_new { (b : Bag) → IsSoundBag b → (rank : Rank) (r : RankState) (u : Unit) → Is b rank r → r.status ≡ does.Putting u →
         (u.id.rank.0 ≡ rank.0) × (unit_of b u.id ≡ None) × (u.common ≡ r.batch) }

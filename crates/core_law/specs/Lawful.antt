@@ -42,7 +42,7 @@ IsAsked s (waits_for.Count request kind) to m = (m ≡ tells.Count request kind)
 IsAsked s (waits_for.SetDone request tried) to m = (m ≡ tells.Done request) × (to ≡ looks_at s tried)
 
 -- Between servers, the home's request for the rank is of its pending call, where nothing is decided. An answer that there is a unit
--- is what was decided, and the home's word of it is awaited. One that there is none decides nothing.
+-- is what was decided, and the home's word of it is awaited. An answer that there is no unit decides nothing.
 abbrev pub IsOfRemote : ClientModel → Option Message → Message → Type 0
 IsOfRemote s coming (tells.Ask rank request types) = rank ≡ s.me → (coming ≡ None) × (s.pending ≡ waits_for.Reserve request types)
 IsOfRemote s coming (tells.AskGrant rank request note) =

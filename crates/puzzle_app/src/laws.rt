@@ -15,9 +15,9 @@ ghost use Rattle.puzzle_app.specs.Transcripts.{all_come, all_refused, batches_in
 ghost use Rattle.puzzle_app.specs.declared.program.PuzzleProgram.{PuzzleProgram};
 
 /// What a rank's calls add up to. What was put, what is still to be put, and the jobs of the batches that no server
-/// took are, as a permutation, what the program makes of its jobs and by the work on each unit that came to it
-/// (`puts`). The units that came to it are in order those that no server took, those that it fetched, and the jobs of
-/// the batches that no server took (`came`).
+/// took are, as a permutation, what the program makes. It makes units of its jobs, and by the work on each unit that
+/// came to it (`puts`). The units that came to it are in order those that no server took, those that it fetched, and
+/// the jobs of the batches that no server took (`came`).
 pub fn calls_add_up()
     ensures puts { (p : PuzzleProgram) (said : List Said) (last : Books) →
         Goes p.settings.grain (start_of p) said last →

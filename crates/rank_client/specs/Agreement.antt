@@ -218,7 +218,7 @@ pub record ClientAgrees (s : ClientModel) (coming : Option Message) (b : Bag) : 
   pub owed : IsOwedIn b s.pending coming
   pub accepted : HasAccepted b (rank_of s s.finished coming).batch (accepted_by s s.pending coming)
 
--- the entries of the step are steps of the bag, the client stands for its rank afterwards, and its transcript, with its pending call
+-- the entries of the step are steps of the bag, and the client stands for its rank afterwards. Its transcript, with its pending call
 -- where that has its answer in the ledger, is what the ledger says of the rank. Whatever is asked where exhaustion is found
 abbrev pub Follows : (Bag → Bool) → ClientModel → Option Message → Bag → Made → Type 0
 Follows found s coming b x =

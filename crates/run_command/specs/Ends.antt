@@ -1,5 +1,5 @@
 -- How a command that runs a rank program over an input ends. What its input asks (`asks`), which line of it is refused and why
--- (`refuses`), what is kept of a run over what is asked (`keeps`), and what is said of it (`tells`) are the command's own.
+-- (`refuses`), what is kept of a run over what is asked (`keeps`), and what is written of it (`tells`) are the command's own.
 use Rattle.std.specs.Prelude.{◌≡◌, ◌↔◌, ◌<◌, ◌≤◌, ◌+◌, ◌^◌, ℕ, Bool, true, List, length, Option, Some, None, IsSome}
 use Rattle.adlb_io.specs.Inputs.{HasMore, IsAtEnd}
 use Rattle.adlb_io.specs.Outside.{Rises, Takes}

@@ -300,8 +300,8 @@ a_unit_goes_to_the_first_rank_of_its_target :
     ∷ []
 a_unit_goes_to_the_first_rank_of_its_target = refl
 
--- where nobody waits that is idle, the homes of ranks whose wishes it takes off are told: first the rank that its target names before
--- others, then each in its order. A wish of other types stays
+-- where nobody waits that is idle, the homes of ranks whose wishes it takes off are told. First comes the rank that its target names
+-- before others, then each in its order. A wish of other types stays
 abbrev wished : List Said
 wished = asks 1 (wants 1 7) ∷ asks 2 (wants_threes 2 3) ∷ asks 1 (wants 4 5) ∷ asks 2 (wants 5 6) ∷ reserves 0 4 ∷ []
 

@@ -1,4 +1,4 @@
--- What a server keeps from event to event: no free unit lies for a rank that is idle, and a rank for which another server is
+-- What a server keeps from event to event. No free unit lies for a rank that is idle, and a rank for which another server is
 -- asked is left alone until that server answers.
 use Rattle.std.specs.Prelude.{◌≡◌, ◌≢◌, ◌≤◌, ℕ, All, Any, None, Some, count_by}
 use Rattle.adlb_unit.specs.declared.actors.Actor.{Actor}
