@@ -34,7 +34,7 @@ enum Makes {
 #[derive(Clone, Copy)]
 enum Says {
     Accepted(u64),
-    // So many bytes are charged.
+    // This number of bytes is charged.
     Full(u64, u64),
     // Rank 1's unit of this number is at this server.
     Grant(u64, u64, u32),
@@ -44,7 +44,7 @@ enum Says {
     Ended(u64, End),
     Nothing(u64),
     Closed(u64),
-    // So many units are free, and one of them has the highest priority, 7.
+    // This number of units is free, and one of them has the highest priority, 7.
     Counted(u64, u64),
     DoneHeard(u64),
     Finish,
@@ -164,7 +164,7 @@ fn note(number: u64, server: u32, common: Option<CommonRef>) -> UnitNote {
     }
 }
 
-// So many units are free, and one of them has the highest priority, 7.
+// This number of units is free, and one of them has the highest priority, 7.
 fn info(free: u64) -> Info {
     Info {
         free,

@@ -24,7 +24,7 @@ const SERVER_2: Actor = Actor::Server(Server(2));
 // What a letter says.
 #[derive(Clone, Copy)]
 enum Says {
-    // A put of this rank's unit of this number, with so many bytes, each 7, for this target.
+    // A put of this rank's unit of this number, with a body of this length, each byte 7, for this target.
     Put(u32, u64, usize, Target),
     // A reserve of this request, of any type.
     Reserve(u64),
@@ -32,9 +32,9 @@ enum Says {
     Try(u64, u32),
     // A fetch of this request, of rank 0's first unit.
     Fetch(u64),
-    // The batch that begins in this request has a common part of so many bytes, each 7.
+    // The batch that begins in this request has a common part of this length, each byte 7.
     Keep(u64, usize),
-    // In this request ends rank 0's batch of this number, of which so many units were accepted.
+    // This request ends rank 0's batch of this number, of which this number of units was accepted.
     Close(u64, u64, u64),
     // A fetch, in this request, of the common part of rank 0's batch of this number.
     Share(u64, u64),
@@ -49,11 +49,11 @@ enum Says {
     AskNone(u32, u64),
     // A unit has come for this rank, which asked in vain in this request.
     Hint(u32, u64),
-    // Room of so many bytes is asked for this rank's unit of this number; there is room, or none.
+    // Room for this rank's unit of this number and length is asked; there is room, or there is not.
     PushQuery(u32, u64, u32),
     PushYes(u32, u64),
     PushNo(u32, u64),
-    // This rank's unit of this number, with so many bytes, for any rank; or no unit comes; and its acknowledgement.
+    // This rank's unit of this number and length, for any rank; or no unit comes; and its acknowledgement.
     PushUnit(u32, u64, usize),
     PushCancel(u32, u64),
     PushAck(u32, u64),
@@ -194,7 +194,7 @@ fn message(alloc: Global, says: Says) -> Result<Message, Fail> {
     })
 }
 
-// What is told of rank 2's first unit, which is at server 2.
+// The note of rank 2's first unit, which is at server 2.
 fn note() -> UnitNote {
     UnitNote {
         id: unit_id(2, 0),
@@ -219,7 +219,7 @@ fn unit(alloc: Global, rank: u32, number: u64, size: usize, target: Target) -> R
     })
 }
 
-// So many bytes, each 7.
+// A body of this length, each byte 7.
 fn bytes(alloc: Global, size: usize) -> Result<Payload, Fail> {
     Ok(Payload::from_vec(vec![in alloc; 7_u8; size]?))
 }
@@ -838,7 +838,7 @@ fn keeps_a_wish_and_hints(rt: HostRuntime) -> Result<(), Fail> {
             Line::Answers(SERVER_2, Says::Ask(2, 4)),
             "2, Server(Server(2)) 0 none 2 4 []",
         ),
-        // The rank that the target names before others is told of first.
+        // The wish of the rank that the target names before others goes first.
         (
             Line::Answers(RANK, Says::Put(0, 0, 2, Target::Soft(Rank(2)))),
             "3, Rank(Rank(0)) 0 accepted 0, Server(Server(2)) 1 hint 2 4, Server(Server(1)) 1 hint 1 0 \

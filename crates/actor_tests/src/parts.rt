@@ -16,7 +16,7 @@ use work_queue::{AddFault, WorkQueue};
 enum Act {
     // A part of `size` bytes, each this one, is kept.
     Keep(u8, u8),
-    // The batch is closed, after so many units of it were accepted.
+    // The batch is closed, after this number of its units was accepted.
     Close(u64),
     // Its part is fetched.
     Fetch,

@@ -153,7 +153,7 @@ fn remove(queue: &mut WorkQueue, id: UnitId) -> Option<usize> {
     Some(queue.remove_free(id).body.len())
 }
 
-// What is told of the unit.
+// What is said of the unit.
 fn tell(alloc: Global, queue: &WorkQueue, id: UnitId) -> Result<String, Fail> {
     if !queue.has_unit(id) {
         return Ok(format!(in alloc; "none")?);
@@ -227,7 +227,7 @@ fn taken(alloc: Global, body: Option<Payload>) -> Result<String, Fail> {
     })
 }
 
-// Holds `n` bytes, and gives so many of them back.
+// Holds `n` bytes, and gives some of them back.
 fn hold(alloc: Global, queue: &mut WorkQueue, n: u32, given: u32) -> Result<String, Fail> {
     Ok(match queue.hold(n) {
         Ok(()) if given <= n => {

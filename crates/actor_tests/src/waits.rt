@@ -189,7 +189,7 @@ fn offer(
     })
 }
 
-// What is told of those that wait.
+// What is said of those that wait.
 fn told(alloc: Global, parked: &Parked) -> Result<String, Fail> {
     let mut room = std::array::from_fn(|_| (Rank(9), Types::any()));
     let count = parked.asked(&mut room);

@@ -1,4 +1,4 @@
--- What is told of free units by their priorities.
+-- What is said of free units by their priorities.
 use Rattle.std.specs.Prelude.{ℤ, List, [], ◌∷◌, Some, None, length, fold, count_by, int_le}
 use Rattle.std.specs.Int.{int_max}
 use Rattle.adlb_unit.specs.declared.notes.Info.{Info}

@@ -1,10 +1,15 @@
 //! Units of work, who puts them and which of them a rank may get, and the letters in which ranks and servers speak of
 //! them.
 //!
+//!     let config = Config::new(4, 2, 1 << 26)?; // ranks, servers, bytes of each server
+//!     let types = Types::list(&[WorkType(0), WorkType(2)])?;
+//!     let mine = permits(Rank(1), &types, WorkType(2), Target::Soft(Rank(3))); // true
+//!     let (home, next) = (config.home(Rank(1)), config.next(Server(1)));
+//!
 //! It stands on nothing else of the workspace. `specs/Permit.antt` says which units are permitted to a rank and which
 //! suit it better, `specs/Targets.antt` which targets a run has and where its ranks are at home, `specs/Ids.antt` when
 //! ids are equal, `specs/Limits.antt` how great a run's numbers may be, `specs/Links.antt` how letters are stamped and
-//! placed, `specs/Kinds.antt` who sends which message, `specs/Infos.antt` what is told of free units, `specs/Held.antt`
+//! placed, `specs/Kinds.antt` who sends which message, `specs/Infos.antt` what is said of free units, `specs/Held.antt`
 //! what a payload's bytes are, and `specs/Totals.antt` how many bytes a fetch gives.
 #![tactic(auto)]
 

@@ -106,7 +106,7 @@ pub enum Message {
     Closed {
         request: u64,
     },
-    /// What is told of the free units.
+    /// What is said of the free units.
     Counted {
         request: u64,
         info: Info,
@@ -150,7 +150,7 @@ pub enum Message {
     PushYes {
         id: UnitId,
     },
-    /// There is none.
+    /// There is no such unit.
     PushNo {
         id: UnitId,
     },

@@ -6,8 +6,8 @@ use crate::names::{CommonRef, NoMemory, Rank, Target, UnitId, WorkType};
 use crate::payloads::Payload;
 use std::alloc::Global;
 
-/// A unit of work, as it was put: higher priorities are given out first, `answer` is the rank that wants the answer,
-/// and `common` tells the common part of its batch.
+/// A unit of work, as it was put: higher priorities are given out first; `answer` is the rank that wants the answer.
+/// `common` names the common part of its batch.
 #[derive(Debug, Drop)]
 pub struct Unit {
     pub id: UnitId,

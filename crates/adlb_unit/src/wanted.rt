@@ -121,8 +121,8 @@ pub fn class_for(rank: Rank, target: Target) -> u8
     }
 }
 
-/// A unit of this type and target is permitted to a rank that wants these types: the type is wanted, and the target is not
-/// another rank alone (`Permits`, and as a test `permitted`).
+/// A unit of this type and target is permitted to a rank that wants these types (`Permits`, and as a test `permitted`).
+/// The type is wanted, and the target is not another rank alone.
 pub fn permits(rank: Rank, types: &Types, kind: WorkType, target: Target) -> bool
     ensures permits { IsTrue result ↔ Permits rank types.now kind target }
     ensures test { result ≡ permitted rank types.now kind target }

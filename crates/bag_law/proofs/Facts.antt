@@ -238,7 +238,7 @@ batch_is_open b is rank r c there has =
     by_test p at opened false e = refl
     by_test p at opened true e = let closed = (is.batches.freed c.batch p at e).0 in absurd (cc)
 
--- Where a test counts one at most and the first passes it, none of the others does.
+-- Where a test counts one at most and the first passes it, no other does.
 pub rest_has_none : {X K : Type 0} (test : K → X → Bool) (k : K) (x : X) (xs : List X) → test k x ≡ true
     → sum_by (λ y. one (test k y)) (x ∷ xs) ≤ 1 → find (test k) xs ≡ None
 rest_has_none test k x xs passes single =

@@ -143,6 +143,7 @@ part_was g keeps batch x ps p now = by_test (same_batch batch x) refl
         differs : x ≡ batch → ⊥
         differs same = let both : same_batch batch x ≡ true = same_batch_from batch x (sym same) in absurd (cc)
 
+-- the part of an id after a change of one part's fields
 pub part_is : (g : Part → Part) → ((p : Part) → (g p).batch ≡ p.batch) → (batch x : BatchId) (ps : List Part) (p : Part)
     → part_in ps x ≡ Some p
     → PartIs g batch x ps p

@@ -47,7 +47,7 @@ ledger =
 ledger_legal : first_illegal (empty 2 2 64) 0 ledger ≡ None
 ledger_legal = refl
 
--- the bag after so many entries
+-- the bag after the first entries, of this number
 abbrev bag_at : ℕ → Bag
 bag_at n = fold after (empty 2 2 64) (take n ledger)
 

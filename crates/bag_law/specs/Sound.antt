@@ -48,7 +48,7 @@ abbrev pub IsRanksBatch : List RankState → BatchId → Type 0
 IsRanksBatch ranks batch =
     (r : RankState) × (c : CommonRef) × (slice_get ranks batch.rank.0 ≡ Some r) × (r.batch ≡ Some c) × (c.batch ≡ batch)
 
--- each rank's batch is an open part, and each open part is its rank's batch; a freed part is closed, and was fetched as often as
+-- each rank's batch is an open part, and each open part is its rank's batch. A freed part is closed, and was fetched as often as
 -- units of its batch were accepted
 pub record BatchesAreOpen (ranks : List RankState) (parts : List Part) : Type 0 where
   pub brought : (n : ℕ) (r : RankState) → slice_get ranks n ≡ Some r → IsBroughtBy n r r.status

@@ -23,8 +23,8 @@ ghost use Rattle.bag_law.specs.Counts.{dues, frees, is_spent, may_make_due, owes
 ghost use Rattle.bag_law.specs.Sound.{AreFound, AreUsed, IsKept, IsSoundBag};
 
 /// Whatever is asked where exhaustion is found (`found`): each legal entry keeps a sound bag sound (`step`), so the bag is
-/// sound after every legal run (`sound`). In the calls of a rank no unit was granted twice; each note tells its unit, which is
-/// pinned to the rank at the note's server, or spent; and what was fetched is spent (`calls`).
+/// sound after every legal run (`sound`). In the calls of a rank no unit was granted twice. Each note tells its unit, which is
+/// pinned to the rank at the note's server, or spent. What was fetched is spent (`calls`).
 pub fn every_run_is_sound()
     ensures step { (found : Bag → Bool) (b : Bag) (e : Entry) → LegalWhere found b e → IsSoundBag b → IsSoundBag (after b e) }
     ensures sound { (found : Bag → Bool) (config : Config) (ledger : List Entry) (last : Bag) →
@@ -46,7 +46,7 @@ pub fn no_unit_is_taken_twice()
         IsRunWhere found (start config) ledger last → count_by (fetches id) ledger ≤ 1 }
 {}
 
-/// Whatever is asked where exhaustion is found (`found`): in no legal run does a server refuse twice what a rank brings in a call, be
+/// Whatever is asked where exhaustion is found (`found`). In no legal run does a server refuse twice what a rank brings in a call, be
 /// it a unit or a batch that begins.
 pub fn no_call_is_refused_twice()
     ensures { (found : Bag → Bool) (config : Config) (ledger : List Entry) (last : Bag) (server : Server) (rank : Rank) (call : ℕ) →
@@ -56,10 +56,10 @@ pub fn no_call_is_refused_twice()
 /// What is read off a sound bag. A unit that a rank puts is not there yet, is the rank's, and shares the rank's batch
 /// (`put_is_new`). Each unit, part and promise is the one that its id finds (`are_found`), and its number was used
 /// (`are_used`). Of a part that is there as many units were accepted as its bytes were fetched, its units are not spent, and
-/// ranks are owed them (`part_counts`); so the part of a unit that is not spent is kept (`unspent_is_kept`), and so is that of
+/// ranks are owed them (`part_counts`). So the part of a unit that is not spent is kept (`unspent_is_kept`), and so is that of
 /// a unit whose common bytes a rank is owed (`owed_is_kept`). A unit whose own bytes are fetched is pinned to the rank
 /// (`fetch_is_pinned`). A rank's batch is an open part (`batch_is_open`). Only the end of a batch and common bytes that come
-/// may make a part due, one at most (`made_due`), and none is due where they count to none (`none_due`, `not_due`).
+/// may make a part due, one at most (`made_due`). No part is due where they count to 0 (`none_due`, `not_due`).
 pub fn sound_bag_laws()
     ensures put_is_new { (b : Bag) → IsSoundBag b → (rank : Rank) (r : RankState) (u : Unit) → Is b rank r → r.status ≡ does.Putting u →
         (u.id.rank.0 ≡ rank.0) × (unit_of b u.id ≡ None) × (u.common ≡ r.batch) }

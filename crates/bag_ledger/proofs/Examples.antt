@@ -26,7 +26,7 @@ unit r call = record { rank = rank r; number = call }
 abbrev pub batch : ℕ → ℕ → BatchId
 batch r call = record { rank = rank r; number = call }
 
--- so many bytes
+-- a body of this length
 abbrev pub bytes : ℕ → List ℕ
 bytes n = replicate n 0
 

@@ -67,8 +67,8 @@ is_quiet does.Running = true
 is_quiet (does.Fetching call id own) = true
 is_quiet _ = false
 
--- one rank changes: its next number does not fall; a put that is pending then was pending before, or has that next number; and
--- a server that counts as having declined then did before, or declines by this entry
+-- one rank changes: its next number does not fall. A put that is pending then was pending before, or has that next number. A
+-- server that counts as having declined then did before, or declines by this entry
 pub record IsTurn (before : List RankState) (e : Entry) (now : List RankState) : Type 0 where
   pub place : ℕ
   pub was : RankState

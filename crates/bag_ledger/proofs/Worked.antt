@@ -52,7 +52,7 @@ exhausted_while_travelling = refl
 exhausted_while_promised : first_illegal (empty 2 2 64) 0 (insert (remove pushed 7) 5 Exhausted) ≡ Some 5
 exhausted_while_promised = refl
 
--- right behind the second Asked nothing is left to do; so the later one is not the first
+-- right after the second Asked nothing is left to do; so the later one is not the first
 exhausted_before_the_push : first_illegal (empty 2 2 64) 0 (insert pushed 4 Exhausted) ≡ Some 8
 exhausted_before_the_push = refl
 

@@ -22,7 +22,7 @@ use Rattle.bag_ledger.specs.declared.states.Status.{Status}
 use Rattle.bag_ledger.specs.declared.states.Status.TheVariants as does
 
 -- the ranks by number, the accepted units in order, the common parts, the promises, whether the problem was called done and
--- whether exhaustion was found; the number of servers and the limit of each in bytes stay
+-- whether exhaustion was found. The number of servers and the limit of each in bytes stay
 pub record Bag : Type 0 where
   pub ranks : List RankState
   pub units : List Placed
@@ -37,7 +37,7 @@ pub record Bag : Type 0 where
 abbrev pub fresh : RankState
 fresh = record { status = does.Running; declined = []; next = 0; batch = None; end = None }
 
--- the bag at the start, of so many ranks and servers with this limit
+-- the bag at the start, with this number of ranks and of servers, and this limit
 abbrev pub empty : ℕ → ℕ → ℕ → Bag
 empty ranks servers limit = record {
   ranks = replicate ranks fresh;
@@ -180,7 +180,7 @@ has_fit units rank (does.Asking call types) =
     list_any (λ u. is_free u.place && permitted rank types u.unit.kind u.unit.target) units
 has_fit units rank _ = false
 
--- none of these ranks, of which the first has this number, has a fit
+-- no rank of this list, whose first has this number, has a fit
 abbrev pub none_fits : List Placed → ℕ → List RankState → Bool
 none_fits units number [] = true
 none_fits units number (r ∷ rs) =

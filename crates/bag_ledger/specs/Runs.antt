@@ -32,7 +32,7 @@ IsRun = IsRunWhere settled
 abbrev pub IsLegal : Config → List Entry → Type 0
 IsLegal config ledger = (last : Bag) × IsRun (start config) ledger last
 
--- the entries before this place are steps from b, and the one at this place is none
+-- the entries before this place are steps from b, and the one at this place is not
 abbrev pub IsFirstIllegal : Bag → List Entry → ℕ → Type 0
 IsFirstIllegal b ledger place =
     (before : Bag) × (e : Entry) × IsRun b (take place ledger) before × (slice_get ledger place ≡ Some e)

@@ -42,7 +42,7 @@ IsServer b server = server.0 < b.servers
 abbrev pub IsHome : Bag → Server → Rank → Type 0
 IsHome b server rank = IsServer b server × (server.0 ≡ home_of b.servers rank)
 
--- the server takes so many bytes within its limit
+-- this number of bytes fits at the server within its limit
 abbrev pub Fits : Bag → Server → ℕ → Type 0
 Fits b server n = charge b server + n ≤ b.limit
 
@@ -131,7 +131,7 @@ LegalWhere found b (Withdrawn server id) =
     × (promise_of b id ≡ Some p) × (p.server ≡ server)
 -- the rank runs, and the call has its next number
 LegalWhere found b (Counting rank call kind) = (r : RankState) × Begins b rank call r
--- the rank counts in this call; the server is its home, and tells of the units free there
+-- the rank counts in this call; the server is its home, and says how many units are free there
 LegalWhere found b (Counted server rank call info) =
     (r : RankState) × (kind : WorkType) × Is b rank r × (r.status ≡ does.Counting call kind) × IsHome b server rank
     × (info ≡ info_of b server kind)

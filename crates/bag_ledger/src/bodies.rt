@@ -75,7 +75,7 @@ impl Body {
         Ok(room.as_slice())
     }
 
-    /// The first `at` bytes and those behind them. They are copied to `room` only if the two runs meet at another place;
+    /// The first `at` bytes and those after them. They are copied to `room` only if the two runs meet at another place;
     /// what is in `room` before is lost. Its only error is `NoMemory`.
     pub fn parted<'a>(
         &'a self,
@@ -109,7 +109,7 @@ impl Body {
     }
 }
 
-// The room has these two runs, one behind the other.
+// The room has these two runs, one after the other.
 fn fill(room: &mut Vec<u8>, first: &[u8], second: &[u8]) -> Result<(), NoMemory>
     ensures { IfOk result (λ done. room.new.items ≡ first.now ++ second.now) }
 {

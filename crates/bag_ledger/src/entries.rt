@@ -5,8 +5,8 @@ use adlb_unit::{
     BatchId, End, Info, Payload, Rank, Server, Target, Types, UnitId, UnitNote, WorkType,
 };
 
-/// One step of a run, as a rank or a server enters it in the ledger. `call` is the number of the rank's call, from 0;
-/// a unit and a batch are named by the rank and the number of the call that put or began them.
+/// One step of a run, as a rank or a server enters it in the ledger. `call` is the number of the rank's call, from 0. A
+/// unit and a batch are named by the rank and the number of the call that put or began them.
 #[derive(Debug, Drop)]
 pub enum Entry {
     /// The rank puts a unit.

@@ -14,7 +14,7 @@ ghost use Rattle.bag_ledger.specs.Runs.{IsLegal, IsRunWhere, IsFirstIllegal, fir
 ghost use Rattle.bag_ledger.specs.Words.{refuses, looks, causes, IsSettled};
 
 /// The definitions of the bag fit together. A step as a relation is the one that the function `step` makes
-/// (`same_step`), and the test `settled` says what it is read to say (`settled_means`). A ledger is legal exactly where
+/// (`same_step`), and the test `settled` says what it is read to say (`settled_means`). A ledger is legal exactly if
 /// `first_illegal` finds nothing (`legal_run`), and what it finds is the place of the first entry that is no step
 /// (`first_place`). The beginning of a legal run is one (`beginnings`).
 pub fn bag_laws()
@@ -29,8 +29,8 @@ pub fn bag_laws()
 {}
 
 /// Whatever is asked where exhaustion is found (`found`): after every legal run each server is charged within its limit
-/// (`within_limit`). Before a put or a batch beginning is rejected each server refused it (`rejected_by_all`), before a try is
-/// answered that nothing is there each server looked (`looked_by_all`), and before an end is told it was brought about
+/// (`within_limit`). Before a put or a batch beginning is rejected each server refused it (`rejected_by_all`). Before a try is
+/// answered that nothing is there each server looked (`looked_by_all`). Before an end is told it was brought about
 /// (`over_by_cause`). That no unit is put, accepted, granted or fetched twice is a law of `bag_law`.
 pub fn run_laws()
     ensures within_limit { (found : Bag → Bool) (config : Config) (ledger : List Entry) (last : Bag) →

@@ -7,7 +7,7 @@ use Rattle.bag_tables.specs.declared.charges.Charges.{Charges}
 abbrev pub charged_at : Charges → ℕ → ℕ
 charged_at charges k = slice_index charges.sums k
 
--- so many bytes at one server, if at any, are so many at the server of this number
+-- this number of bytes at one server, if at any, as the bytes at the server of this number
 abbrev pub bytes_at : Option Server → ℕ → ℕ → ℕ
 bytes_at None k n = 0
 bytes_at (Some server) k n = if server.0 == k then n else 0

@@ -74,7 +74,7 @@ pub record IsTop (free : FreeCounts) (server : Server) (kind : WorkType) (top : 
   pub some : 0 < top.1
   pub highest : (prio : ℤ) → 0 < prio_count free server kind prio → IsLeBy int_cmp prio top.0
 
--- what the counts tell of the units of the type at the server
+-- what the counts say of the units of the type at the server
 pub record IsTold (free : FreeCounts) (server : Server) (kind : WorkType) (info : Info) : Type 0 where
   pub units : info.free ≡ count_of by_kind free.kinds (server.0, kind.0)
   pub top : MatchOption info.top ((info.at_top ≡ 0) × HasNoTop free server kind) (λ prio. IsTop free server kind (prio, info.at_top))

@@ -6,7 +6,7 @@ use Rattle.std.specs.BTreeMap.{get, is_at}
 use Rattle.std.specs.BTreeMap.Range.{IsLeBy, IsLtBy}
 use Rattle.bag_tables.specs.declared.tallies.Tally.{Tally}
 
--- how many the tally tells of a key
+-- how many the tally has of a key
 abbrev pub count_of : {K : Type 0} → (K → K → Ordering) → Tally K → K → ℕ
 count_of cmp tally key = unwrap_or (get cmp tally.held key) 0
 
@@ -15,7 +15,7 @@ abbrev pub one_at : {K : Type 0} → (K → K → Ordering) → Option K → K �
 one_at cmp None q = 0
 one_at cmp (Some key) q = if is_at (cmp key) q then 1 else 0
 
--- a key of which there is none takes no room
+-- a key that counts 0 takes no room
 abbrev pub IsTight : {K : Type 0} → (K → K → Ordering) → Tally K → Type 0
 IsTight {K} cmp tally = (q : K) → IfSome (get cmp tally.held q) (λ n. 0 < n)
 
@@ -24,7 +24,7 @@ pub record IsShifted {K : Type 0} (cmp : K → K → Ordering) (old new : Tally 
   pub counts : (q : K) → count_of cmp new q + one_at cmp from q ≡ count_of cmp old q + one_at cmp to q
   pub tight : IsTight cmp new
 
--- after this key there is none of any
+-- every key after this one counts 0
 abbrev pub IsNoneAfter : {K : Type 0} → (K → K → Ordering) → Tally K → K → Type 0
 IsNoneAfter {K} cmp tally low = (q : K) → IsLtBy cmp low q → count_of cmp tally q ≡ 0
 

@@ -27,7 +27,7 @@ impl Charges {
         self.sums[server.0 as usize]
     }
 
-    /// So many bytes are charged to one server no longer and to another from now on; either may be none.
+    /// Moves a charge of `n` bytes from one server to another; `None` is no server.
     pub fn shift(&mut self, from: Option<Server>, to: Option<Server>, n: u64)
         requires held { (k : ℕ) → k < 8 → bytes_at from k n ≤ charged_at self.old k }
         requires room { (k : ℕ) → k < 8 → charged_at self.old k + n < 2 ^ 128 }

@@ -110,7 +110,7 @@ impl FreeCounts {
         self.prios.lower(prio_of(server, unit));
     }
 
-    // The unit is free at one server no longer and at another from now on; either may be none.
+    // Moves a free unit from one server to another; `None` is no server.
     pub(crate) fn shift(
         &mut self,
         from: Option<Server>,
@@ -179,7 +179,7 @@ impl FreeCounts {
         }
     }
 
-    // What the counts tell of the units of the type that are free at the server.
+    // What the counts say of the units of the type that are free at the server.
     pub(crate) fn info(&self, server: Server, kind: WorkType) -> Info
         requires { AreTight self.now }
         ensures { IsTold self.now server kind result }

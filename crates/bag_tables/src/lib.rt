@@ -1,7 +1,7 @@
 //! The tables of a bag: its ranks, units, common parts and promises, each seen as the bag's list.
 //!
 //! A unit, a part and a promise are found by a map from their ids. What a server is charged with, how many parts are due and
-//! which units are free are kept as sums and counts, so that no question but those that say so looks at all that was kept. It
+//! which units are free are kept as sums and counts. So no question but those that say so looks at all that was kept. It
 //! stands on `adlb_unit` and on `bag_ledger`, whose definitions the contracts cite.
 #![tactic(auto)]
 

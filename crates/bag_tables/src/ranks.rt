@@ -29,7 +29,7 @@ impl Model for Ranks {
 }
 
 impl Ranks {
-    /// So many ranks at the start of a run. Its only error is `NoMemory`.
+    /// The ranks at the start of a run, of this number. Its only error is `NoMemory`.
     pub fn new(alloc: Global, count: u32) -> Result<Ranks, NoMemory>
         ensures { IfOk result (λ ranks. ranks ≡ replicate count fresh) }
     {

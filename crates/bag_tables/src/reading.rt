@@ -222,7 +222,7 @@ pub fn same_info(a: Info, b: Info) -> bool
     a.free == b.free && same_top(a.top, b.top) && a.at_top == b.at_top
 }
 
-/// So many bytes and so many more are over the limit.
+/// Two lengths together are over the limit.
 pub fn is_over(limit: u64, used: u64, n: u64) -> bool
     ensures { result ≡ nat_lt limit (used + n) }
 {

@@ -8,7 +8,7 @@ use std::alloc::Global;
 use std::collections::BTreeMap;
 use std::ops::Bound;
 
-/// How many there are of each key. A key of which there is none takes no room.
+/// How many there are of each key. A key that counts 0 takes no room.
 #[derive(Drop)]
 pub struct Tally<K: Ord> {
     held: BTreeMap<K, u64>,

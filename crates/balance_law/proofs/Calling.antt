@@ -391,7 +391,7 @@ done_pends status call done pends = let none : None ≡ Some call = rw done at p
 done_runs : (status : Status) → status ≡ does.Finished → status ≡ does.Running → ⊥
 done_runs status done running = absurd (cc)
 
--- calling the problem done is none of the last calls
+-- calling the problem done is not among the last calls
 pub done_is_other : (batch : Option (List ℕ)) (said : List Said)
     → record { call = calls_to.SetDone; answer = answers.Fine } ∷ said ≡ last_calls batch → ⊥
 done_is_other None said is =

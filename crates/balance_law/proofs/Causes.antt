@@ -20,7 +20,7 @@ use Rattle.balance_law.proofs.Going.{IsGoing, going_next, hands_after}
 use Rattle.balance_law.proofs.Tallies.{Hand, hand_after}
 use Rattle.balance_law.proofs.Whole.{empty, gone, left_balance, start_going, start_long, sum_mapped}
 
--- What is held and what batch goes on behind calls.
+-- What is held, and what batch goes on, after calls.
 
 unfoldable pub held_after : Option UnitNote → List Said → Option UnitNote
 held_after held [] = held

@@ -54,7 +54,7 @@ fetched b _ = None
 abbrev pub IsOf : {X : Type 0} → Rank → Option (Rank × X) → Type 0
 IsOf {X} rank o = (o ≡ None) ⊎ ((x : X) × (o ≡ Some (rank, x)))
 
--- none of these
+-- it is not among these
 abbrev pub IsIdle : Bag → Entry → Type 0
 IsIdle b e = (accepted b e ≡ None) × (granted b e ≡ None) × (fetched b e ≡ None)
 

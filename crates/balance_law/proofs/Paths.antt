@@ -27,6 +27,7 @@ abbrev pub along : {X : Type 0} → (Bag → Entry → Option (Rank × X)) → B
 along g b [] rank = []
 along g b (e ∷ es) rank = of_rank rank (g b e) ++ along g (after b e) es rank
 
+-- a run is the path of its bags
 pub path_of : (b last : Bag) (es : List Entry) → IsRun b es last → IsPath b es last
 path_of b last [] run = run
 path_of b last (e ∷ es) run =
@@ -50,7 +51,7 @@ abbrev pub weight : {X : Type 0} → (X → ℕ) → Option (Rank × X) → ℕ
 weight f None = 0
 weight f (Some (by, x)) = f x
 
--- its rank is one of so many
+-- its rank is below this number
 abbrev pub IsWithin : {X : Type 0} → ℕ → Option (Rank × X) → Type 0
 IsWithin n None = Prim.Unit {0}
 IsWithin n (Some (by, x)) = by.0 < n
@@ -70,7 +71,7 @@ pub over_zero : (n : ℕ) → over_ranks n (λ rank. 0) ≡ 0
 over_zero zero = refl
 over_zero (suc n) = let h = over_zero n in omega (arith, h)
 
--- a rank that is none of so many
+-- a rank that is not below this number
 over_none : {X : Type 0} (f : X → ℕ) (n : ℕ) (by : Rank) (x : X) → n ≤ by.0
     → over_ranks n (λ rank. sum_by f (of_rank rank (Some (by, x)))) ≡ 0
 over_none f zero by x l = refl

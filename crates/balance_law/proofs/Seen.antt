@@ -89,9 +89,11 @@ pub record IsTurn (b : Bag) (e : Entry) (rank : Rank) : Type 0 where
   pub here : Is (after b e) rank now
   pub deed : Deed b e rank was now
 
+-- nothing is seen of nobody
 pub of_none : {X : Type 0} (rank : Rank) (o : Option (Rank × X)) → o ≡ None → of_rank rank o ≡ []
 of_none rank o is = rw is refl
 
+-- what is of this rank is seen
 pub of_mine : {X : Type 0} (rank : Rank) (o : Option (Rank × X)) (x : X) → o ≡ Some (rank, x) → of_rank rank o ≡ x ∷ []
 of_mine rank o x is = rw (is, same_number rank.0) refl
 
@@ -113,6 +115,7 @@ ranks_at : (b : Bag) (e : Entry) (ranks : List RankState) (rank : Rank) (o : Opt
     → slice_get ranks rank.0 ≡ o → rank_at (after b e) rank ≡ o
 ranks_at b e ranks rank o same is = ap (λ (rs : List RankState). slice_get rs rank.0) same ∙ is
 
+-- an entry passes a rank by, or the rank has its turn
 pub seen : (b : Bag) (e : Entry) → Legal b e → (rank : Rank) → IsAway b e rank ⊎ IsTurn b e rank
 seen b e l rank = by_case (acted b e l)
   where

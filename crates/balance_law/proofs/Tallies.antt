@@ -337,7 +337,7 @@ call_adds n last b e rank r h call answers.NoCurrent a holds next c well =
 call_adds n last b e rank r h call (answers.Info info) a holds next c well =
     idle_adds n last b e rank h call (answers.Info info) next holds c.1 c.0 tt tt refl well
 
--- the end of a batch behind an end
+-- the end of a batch after an end
 pub close_adds : (last b : Bag) (e : Entry) (rank : Rank) (status : Status) (h : Hand) → h.held ≡ None → h.owed ≡ []
     → call_of status ≡ Some calls_to.EndBatch → Comes b e rank status calls_to.EndBatch answers.Fine → IsAdded last b e rank h end_batch
 close_adds last b e rank status h held owed pends c =

@@ -242,6 +242,7 @@ sum_mapped f g (x ∷ xs) =
     let rest = sum_mapped f g xs in
     rw (sum_by-cons f (g x) (map g xs), sum_by-cons (λ x. f (g x)) x xs) (omega (arith, rest))
 
+-- in a legal run of orderly ranks what was sent is what was got, and nothing is left
 pub balanced : (config : Config) (ledger : List Entry) (last : Bag) → 0 < config.ranks → IsRun (start config) ledger last
     → AreOrderly config ledger → IsBalanced config ledger last
 balanced config ledger last some run orderly = record {

@@ -99,7 +99,7 @@ orderly_told : drop 2 (said_in orderly 1) ≡ record { call = calls_to.Reserve N
 unfolding orderly
 orderly_told = refl
 
--- rank 0 puts two units in a batch, of which each rank gets one, with its common bytes; rank 0 is told the end in its batch, ends it,
+-- rank 0 puts two units in a batch, of which each rank gets one, with its common bytes. Rank 0 is told the end in its batch, ends it,
 -- and finishes
 batched : List Entry
 batched =

@@ -29,8 +29,8 @@ IsEndedWell call answer = Unit {0}
 abbrev pub AreOrderly : Config → List Entry → Type 0
 AreOrderly config ledger = (rank : Rank) → rank.0 < config.ranks → IsOrderly config.ranks None None (calls config ledger rank)
 
--- each accepted unit was fetched, and each common part that was kept was closed and freed; what all ranks sent and what they got is
--- the same, for every test; and all were told that all work is used up, at a reserve
+-- each accepted unit was fetched, and each common part that was kept was closed and freed. What all ranks sent and what they got is
+-- the same, for every test. All were told that all work is used up, at a reserve
 pub record IsBalanced (config : Config) (ledger : List Entry) (last : Bag) : Type 0 where
   pub spent : All (λ u. u.place ≡ Spent) last.units
   pub freed : All (λ p. (p.closed ≡ true) × (p.freed ≡ true)) last.parts

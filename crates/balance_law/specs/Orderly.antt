@@ -11,13 +11,13 @@ use Rattle.bag_ledger.specs.declared.entries.Call.TheVariants as calls_to
 use Rattle.bag_ledger.specs.declared.entries.Said.{Said}
 use Rattle.balance_law.specs.Parcels.{batch_after, granted_note}
 
--- the target is any or one of so many ranks
+-- the target is any, or a rank below this number
 abbrev pub IsAimed : ℕ → Target → Type 0
 IsAimed ranks Any = Unit {0}
 IsAimed ranks (Only rank) = rank.0 < ranks
 IsAimed ranks (Soft rank) = rank.0 < ranks
 
--- if the unit of this note was granted, the next call fetches it; otherwise it puts or reserves, begins a batch if none is going on,
+-- if the unit of this note was granted, the next call fetches it. Otherwise it puts or reserves, begins a batch if none is going on,
 -- or ends the one that is going on, which has these common bytes
 abbrev pub IsNext : ℕ → Option UnitNote → Option (List ℕ) → Call → Type 0
 IsNext ranks None batch (calls_to.Put kind prio target answer body) = IsAimed ranks target
@@ -38,7 +38,7 @@ abbrev pub last_calls : Option (List ℕ) → List Said
 last_calls None = finish ∷ []
 last_calls (Some common) = end_batch ∷ finish ∷ []
 
--- behind an end stand the last calls alone
+-- after an end come the last calls alone
 abbrev pub Goes : Answer → Option (List ℕ) → List Said → Type 0 → Type 0
 Goes (answers.Ended end) batch said on = said ≡ last_calls batch
 Goes answer batch said on = on

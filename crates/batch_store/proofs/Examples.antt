@@ -17,7 +17,7 @@ both = with_fresh (with_fresh [] (batch 1 7) (97 ∷ [])) (batch 0 5) xyz
 abbrev fetched_once : Store
 fetched_once = changed fetched both (batch 0 5)
 
--- the queue, with so many common bytes
+-- the queue, with this number of common bytes
 abbrev queue : ℕ → Queue
 queue common = record { units = []; promises = []; common = common; arrivals = 0; limit = 64 }
 

@@ -108,7 +108,7 @@ CanClose accepted p = (p.accepted ≡ None) × (p.fetches ≤ accepted)
 abbrev pub CanFetch : Part → Type 0
 CanFetch p = (accepted : ℕ) → p.accepted ≡ Some accepted → p.fetches < accepted
 
--- What is told of a part, and of a store.
+-- What is said of a part, and of a store.
 
 -- its bytes
 abbrev pub bytes_of : Part → List ℕ

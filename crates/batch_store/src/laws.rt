@@ -6,10 +6,10 @@ ghost use Rattle.adlb_unit.specs.declared.names.BatchId.{BatchId};
 ghost use Rattle.batch_store.specs.Store.{HasNoneDue, Store, changed, fresh, is_due, kept, part_in, with_fresh};
 ghost use Rattle.batch_store.specs.declared.parts.Part.{Part};
 
-/// A part is due exactly when its batch is closed and it was fetched as often as units of the batch were
-/// accepted. A part that is kept, changed or freed is that of the batch named, and the part of each other batch
-/// stays as it was: so a store is a map from batches to parts. No part that is kept is ever due, so each is freed
-/// by the very call that makes it due.
+/// A part is due exactly when its batch is closed and it was fetched as often as units of the batch were accepted. A
+/// part that is kept, changed or freed is that of the batch named, and the part of each other batch stays as it was. So
+/// a store is a map from batches to parts. No part that is kept is ever due, so each is freed by the very call that
+/// makes it due.
 pub fn batch_laws()
     ensures due { (p : Part) → IsTrue (is_due p) ↔ (p.accepted ≡ Some p.fetches) }
     ensures kept { (store : Store) (batch b : BatchId) (bytes : List ℕ) →

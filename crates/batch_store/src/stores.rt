@@ -13,10 +13,10 @@ use std::alloc::Global;
 use std::marker::Model;
 use work_queue::{AddFault, WorkQueue};
 
-/// The common parts that one server keeps. Contracts see it as a `Store` of `specs/Store.antt`: its batches,
-/// each with its part. The bytes of its parts are charged to the server's queue as common bytes. A part is
-/// kept once, fetched, and closed when its batch is; the call by which it is closed and was fetched as often
-/// as units of the batch were accepted frees it.
+/// The common parts that one server keeps. Contracts see it as a `Store` of `specs/Store.antt`: its batches, each with
+/// its part. The bytes of its parts are charged to the server's queue as common bytes. A part is kept once, fetched,
+/// and closed when its batch is. The call by which it is closed and was fetched as often as units of the batch were
+/// accepted frees it.
 #[derive(Drop)]
 pub struct BatchStore {
     parts: Table,

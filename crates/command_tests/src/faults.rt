@@ -20,7 +20,7 @@ struct Failing {
     ghost writes: { 0 < per_write },
 }
 
-// A run on this puzzle that reads and writes so many bytes at a time, of which the calls of these numbers fail.
+// A run on this puzzle that reads and writes pieces of this length, whose calls of these numbers fail.
 fn run_failing<T: Spawner>(
     alloc: Global,
     threads: &mut T,
@@ -103,7 +103,7 @@ fn each_read_in_turn_fails(rt: HostRuntime) -> Result<(), Fail> {
     Ok(())
 }
 
-// So many bytes of this report are written where the call of this number of the sink fails, and the report is kept.
+// How much of this report is written where the sink's call of this number fails. The report is kept.
 fn write_fails<T: Spawner>(
     alloc: Global,
     threads: &mut T,
@@ -162,7 +162,7 @@ const TAKEN: &[usize] = &[
     210, 220, 226,
 ];
 
-// A run on the puzzle with two solutions, of which no call fails, writes its report, so many bytes at a time.
+// A run on the puzzle with two solutions, of which no call fails, writes its report in pieces of this length.
 fn writes_by<T: Spawner>(
     alloc: Global,
     threads: &mut T,
@@ -215,7 +215,7 @@ fn a_sink_that_takes_a_byte_a_write_gets_the_whole_report(rt: HostRuntime) -> Re
     Ok(())
 }
 
-// A run on so many of this byte has this status and fault, and writes this.
+// A run on `count` times this byte has this status and fault, and writes this.
 fn ends<T: Spawner>(
     alloc: Global,
     threads: &mut T,

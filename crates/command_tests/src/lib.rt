@@ -1,7 +1,8 @@
 //! The top call, from words and bytes to what is written.
 //!
-//! It holds tests alone, in a crate of their own so that `adlb_command` is not proved again with them: the worked rows in line and
-//! with threads, bad input, other commands, faults outside, lists of solutions made by another solver, and what is said of each fault.
+//! It holds tests alone, in a crate of their own so that `adlb_command` is not proved again with them. They are the worked rows in
+//! line and with threads, bad input, other commands, faults outside, lists of solutions made by another solver, and what is said of
+//! each fault.
 #![tactic(auto)]
 
 #[cfg(test)]

@@ -39,7 +39,7 @@ impl Shows {
 /// The command lines of some runs, the pieces of the input that each of them has, and what each shows.
 pub type Row = (&'static [&'static str], &'static [&'static str], Shows);
 
-// The pieces, one behind the other.
+// The pieces, one after the other.
 fn joined(alloc: Global, pieces: &[&str]) -> Result<String, Fail> {
     let mut all = String::new(alloc);
     for piece in pieces {

@@ -364,7 +364,7 @@ fn a_written_ledger_is_legal(rt: HostRuntime) -> Result<(), Fail> {
     Ok(())
 }
 
-// `make` writes so many lines, which `solve` answers with a report that ends so.
+// `make` writes this number of lines, which `solve` answers with a report that ends so.
 fn makes<T: Spawner>(
     alloc: Global,
     threads: &mut T,

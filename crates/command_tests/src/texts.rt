@@ -93,7 +93,7 @@ fn says_what_a_line_can_be(rt: HostRuntime) -> Result<(), Fail> {
     Ok(())
 }
 
-/// What is said of words that are refused: the first line, and those behind the one that tells which word it is.
+/// What is said of words that are refused: the first line, and those after the one that names the word.
 const FIRST: &str = "adlbrun: usage: adlbrun solve, make, drill or check with their options\n";
 
 const COMMANDS: &str = "\n\
@@ -138,7 +138,7 @@ const REFUSED: &[(&str, &str)] = &[
     ("check --stats", "  unexpected argument '--stats' found"),
 ];
 
-// What is said of these refused words has this line behind the first one.
+// What is said of these refused words has this line after the first one.
 fn says_word(alloc: Global, line: &str, told: &str) -> Result<bool, Fail> {
     let text = format!(in alloc; "{FIRST}{told}{COMMANDS}")?;
     says(alloc, line, RunFault::Usage, text.as_str())

@@ -22,7 +22,7 @@ fn refusing<R: Threads + Drop>(alloc: Global, rt: R, start: u64) -> Result<Liste
     Ok(ListedThreads::new(rt, [start].to_vec(alloc)?))
 }
 
-// The start of each number up to this one is refused with nothing written; there is no start of a later number, one for each rank
+// The start of each number up to this one is refused with nothing written. There is no start of a later number, one for each rank
 // and one for each server.
 fn starts<R: Threads + Wait + Send + Copy + Drop + 'static>(
     alloc: Global,
@@ -127,8 +127,8 @@ struct Marks {
     met: AtomicU64,
 }
 
-/// A gate at which rank 0, when it is first granted a unit, waits until rank 1 has fetched one, and rank 1, when it is first
-/// granted one, until rank 0 has been. So the two meet only if they run at the same time.
+/// A gate at which rank 0, when it is first granted a unit, waits until rank 1 has fetched one. Rank 1, when it is first
+/// granted one, waits until rank 0 has been. So the two meet only if they run at the same time.
 #[derive(Drop)]
 struct Crossing {
     marks: Arc<Marks, Global>,

@@ -31,7 +31,7 @@ some_token wave from = by_wave (wave == 1)
     by_wave true = omega arith
     by_wave false = omega arith
 
--- the server behind, where it is not server 0
+-- the next server, where it is not server 0
 onward : (s : ServerModel) (from : Server) → IsBefore (ring_at s) from → s.me.0 ≢ 0 → s.me.0 ≡ from.0 + 1
 onward s from before other = by_end (cases_lt (from.0 + 1) s.config.servers)
   where

@@ -35,7 +35,7 @@ AreDue (a ∷ more) s = IsDue a s × AreDue more (done a s)
 abbrev pub costs : List Act → ℕ
 costs list = weigh cost list
 
--- of acts and those behind them
+-- of acts and those after them
 pub due_joined : (xs ys : List Act) (s : ServerModel) → AreDue xs s → AreDue ys (all_done xs s) → AreDue (xs ++ ys) s
 due_joined [] ys s first then = then
 due_joined (a ∷ xs) ys s first then = (first.0, due_joined xs ys (done a s) first.1 then)
@@ -49,7 +49,7 @@ pub record Costs (most : ℕ) (list : List Act) (s : ServerModel) : Type 0 where
 pub none_costs : (s : ServerModel) → Costs 0 [] s
 none_costs s = record { due = tt; few = omega arith }
 
--- of acts and those behind them
+-- of acts and those after them
 pub cost_joined : (m n : ℕ) (xs ys : List Act) (s : ServerModel) → Costs m xs s → Costs n ys (all_done xs s) → Costs (m + n) (xs ++ ys) s
 cost_joined m n xs ys s a b = record {
   due = due_joined xs ys s a.due b.due;
@@ -71,7 +71,7 @@ pub free_cost : (ds : List Decider) (s : ServerModel) → AllFree ds → Costs 0
 free_cost [] s free = none_costs s
 free_cost (d ∷ ds) s free = cost_joined 0 0 (d s) (decided ds (all_done (d s) s)) s (free.0 s) (free_cost ds (all_done (d s) s) free.1)
 
--- of deciders and those behind them
+-- of deciders and those after them
 pub all_free : (ds es : List Decider) → AllFree ds → AllFree es → AllFree (ds ++ es)
 all_free [] es a b = b
 all_free (d ∷ ds) es a b = (a.0, all_free ds es a.1 b)

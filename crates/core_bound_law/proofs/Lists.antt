@@ -99,9 +99,9 @@ among ts (u ∷ us) once =
     let same : weigh (λ (t : Server). one (u.0 == t.0)) ts ≡ times u ts = turned ts u in
     omega arith
 
--- The servers behind one are each there once.
+-- The servers after one are each there once.
 
--- so many places behind, less than a whole turn
+-- a number of places on, less than a whole turn
 turn : (config : Config) (me : Server) (places : ℕ) → me.0 < config.servers → places < config.servers
     → ((behind config me places).0 ≡ me.0 + places) × ((me.0 + places) < config.servers)
     ⊎ ((behind config me places).0 + config.servers ≡ me.0 + places)

@@ -40,6 +40,7 @@ AreSingle wishes = (rank : ℕ) → wishes_of rank wishes ≤ 1
 
 -- One act.
 
+-- without some wishes the others weigh no more
 pub fewer : (f : Wish → ℕ) (test : Wish → Bool) (wishes : List Wish) → weigh f (filter test wishes) ≤ weigh f wishes
 fewer f test [] = omega arith
 fewer f test (w ∷ wishes) = by_test (fewer f test wishes) (test w) refl
@@ -114,6 +115,7 @@ step_single s from letter x once is =
 
 -- A run.
 
+-- each server keeps one wish at most of each rank
 abbrev pub KeepSingle : World → Type 0
 KeepSingle w = (server : Server) → server.0 < w.config.servers → IsSingle (pool_of w server)
 

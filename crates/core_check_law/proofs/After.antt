@@ -336,6 +336,7 @@ run_after w last (e ∷ events) c run right was =
     let does = happens_does w run.0 e run.1 in
     run_after run.0 last events (checked_kept w run.0 c does) run.2 (shut_kept w run.0 c does right) (after_kept w run.0 c does right was)
 
+-- at every moment of every run, what is so after an end
 pub every_run_after : (config : Config) (events : List Event) (w : World) → Runs (start config) events w → IsAfter w
 every_run_after config events w run = by_number (cases_eq config.servers 1)
   where

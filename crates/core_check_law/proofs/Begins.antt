@@ -101,7 +101,7 @@ module _ (w : World) (b : Bag) (k from : Server) (t : Token) (well : IsWell w) (
   none_here : (c : Server) → c.0 ≡ k.0 → Each (NoFit (pool_of w c).kept.queue.units) t.asked
   none_here c e = subst (λ (x : Server). Each (NoFit (pool_of w x).kept.queue.units) t.asked) (server_at c e) passed.2
 
-  -- with those behind, all from here on
+  -- with those after, all from here on
   unchanged_from : AreUnchanged w (k.0 + 1) → (c : Server) → k.0 ≤ c.0 → c.0 < w.config.servers → IsUnchanged (pool_of w c)
   unchanged_from un c high there = by_place (cases_eq c.0 k.0)
     where

@@ -151,6 +151,7 @@ said_none P k _ s silent = tt
 
 -- Servers after an act: the one that acts, and another.
 
+-- the server whose act it is, before and after
 pub record IsMine (w : World) (k : Server) (a : Act) (t : Server) : Type 0 where
   pub same : t ≡ k
   pub kept : (pool_of (acted w k a) t).kept ≡ (does a (pool_of w k)).kept
@@ -158,12 +159,14 @@ pub record IsMine (w : World) (k : Server) (a : Act) (t : Server) : Type 0 where
   pub config : (pool_of (acted w k a) t).config ≡ (pool_of w k).config
   pub me : (pool_of (acted w k a) t).me ≡ (pool_of w k).me
 
+-- another server, which the act leaves as it is
 pub record IsOthers (w : World) (k : Server) (a : Act) (t : Server) : Type 0 where
   pub differs : t.0 ≢ k.0
   pub pool : pool_of (acted w k a) t ≡ pool_of w t
   pub kept : (pool_of (acted w k a) t).kept ≡ (pool_of w t).kept
   pub activity : (pool_of (acted w k a) t).activity ≡ (pool_of w t).activity
 
+-- each server is the one whose act it is, or is left as it is
 pub now : (w : World) (k : Server) (a : Act) → IsShaped w → k.0 < w.config.servers → (t : Server) → t.0 < w.config.servers
     → IsMine w k a t ⊎ IsOthers w k a t
 now w k a shape here t there = by_place (cases_eq t.0 k.0)

@@ -102,6 +102,7 @@ told_once is flag w t well low even =
     let same = even.same in
     omega arith
 
+-- in every run each other server knows that all work is used up, or exactly one letter tells it
 pub exhaust_told : (config : Config) (events : List Event) (w : World) (t : Server) → t.0 ≢ 0 → t.0 < config.servers
     → Runs (start config) events w → IsToldOnce is_exhaust is_exhausted w t
 exhaust_told config events w t other low run =
@@ -109,6 +110,7 @@ exhaust_told config events w t other low run =
     told_once is_exhaust is_exhausted w t (every_run_well config events w run) there
     ((every_run_ends config events w run).exhausts t other there)
 
+-- in every run each other server is shut, or exactly one letter tells it
 pub shutdown_told : (config : Config) (events : List Event) (w : World) (t : Server) → t.0 ≢ 0 → t.0 < config.servers
     → Runs (start config) events w → IsToldOnce is_shutdown is_shut w t
 shutdown_told config events w t other low run =

@@ -54,7 +54,7 @@ zeroth_owed is flag t w inside =
     let none = no_sum w.ranks in
     omega arith
 
--- the letter at the front tells of an end that its receiver does not know
+-- the letter at the front says an end that its receiver does not know
 module _ (w : World) (k : Server) (a : Act) (well : IsWell w) (act : IsAct w k a) where
   abbrev s : ServerModel
   s = pool_of w k
@@ -89,7 +89,7 @@ module _ (w : World) (k : Server) (a : Act) (well : IsWell w) (act : IsAct w k a
       let same = even.same in
       one_none (flag s.kept) (omega arith)
 
--- Each letter that tells of an end is the first to do so.
+-- Each letter that says an end is the first to say it.
 
 new_exhaust : (w : World) (k : Server) (a : Act) (well : IsWell w) (act : IsAct w k a) (t : Server) → IsBalanced (exhausts t) w
     → IsNewExhaust t a (pool_of w k)

@@ -51,6 +51,7 @@ ticked_as_was w me stamp up well here t there =
       push = ap (λ (x : Kept). x.pushing.push) e;
     }
 
+-- the stamp of an event leaves what tokens say of the bag
 pub tick_settles : (w : World) (me : Server) (stamp : ℕ) (up : Bool) (b : Bag) → IsWell w → me.0 < w.config.servers → Settles w b
     → Settles (ticks w me stamp up) b
 tick_settles w me stamp up b well here on =
@@ -61,6 +62,7 @@ tick_settles w me stamp up b well here on =
     settling_stays w v.ranks v.servers v.links v.ledger b (reach w.config to) t.asked (ticked_as_was w me stamp up well here)
     (was second (λ c high there. ticked_back w me stamp up well here c there (un c high there)) still)) from to l.message q) on
 
+-- the stamp of an event leaves what holds of world and bag
 pub tick_holds : (w : World) (me : Server) (stamp : ℕ) (up : Bool) (b : Bag) → Holds w b → IsRinged w → me.0 < w.config.servers
     → Holds (ticks w me stamp up) b
 tick_holds w me stamp up b h ring here = record {
@@ -77,6 +79,7 @@ raised_past false s stamp low e = absurd (cc)
 
 -- Where exhaustion is found.
 
+-- what the token says of the bag where it is back at server 0
 pub finds_settling : (w : World) (b : Bag) (k from : Server) (t : Token) → Holds w b → Settles w b → IsAct w k (Finds from t)
     → IsSettling w b w.config.servers t.asked
 finds_settling w b k from t h on is =
@@ -101,6 +104,7 @@ finds_settling w b k from t h on is =
             let no : true ≡ false = sym knows ∙ is.sure.2 in
             absurd (cc)
 
+-- where server 0 finds that all work is used up, the bag is settled
 pub finds_settled : (w : World) (b : Bag) (k from : Server) (t : Token) → Holds w b → Settles w b → IsAct w k (Finds from t) → settled b ≡ true
 finds_settled w b k from t h on is = by_list t.asked refl
   where
@@ -116,6 +120,7 @@ settled_for w b k _ h on is alone = tt
 
 -- The first act.
 
+-- an act that takes a letter is neither one of a server alone nor the beginning of a push
 pub takes_some : (a : Act) (heard : Heard) → takes a ≡ heard ∷ [] → (is_alone a ≡ false) × (is_query a ≡ false)
 takes_some Finds_alone heard e = absurd (cc)
 takes_some Shuts_alone heard e = absurd (cc)

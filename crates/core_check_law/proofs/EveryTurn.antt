@@ -141,6 +141,7 @@ begins_turned config = record {
   failed = none_yet (λ from to l. OnFailed (λ t. t.check ≡ last_check (start config)) from to l.message) config;
 }
 
+-- at every moment of every run each token is on its way and on turn
 pub every_run_turned : (config : Config) (events : List Event) (w : World) → Runs (start config) events w → IsRinged w × AreOnTurn w
 every_run_turned config events w run =
     run_turns (start config) w events (begins_well config) run (begins_ringed config, begins_turned config)

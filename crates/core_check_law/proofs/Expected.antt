@@ -196,6 +196,7 @@ check_here w (by.Server from) (by.Rank to) letter rest well ring turn f t small 
     no_rank_hears (tells.Failed t why) of kind = absurd (cc)
     no_rank_hears _ of kind = absurd (cc)
 
+-- in every run the front letter of each list can be handled while stamps are given
 pub none_is_ever_stuck : (config : Config) (events : List Event) (w : World) → Runs (start config) events w → NoneIsEverStuck w
 none_is_ever_stuck config events w run from to letter rest f t front going small = by_kind (is_of_check letter.message) refl
   where

@@ -16,6 +16,7 @@ use Rattle.core_law.specs.OnLinks.{Each}
 use Rattle.core_law.specs.Own.{IsEntry}
 use Rattle.core_check_law.specs.OnWay.{reach}
 
+-- what holds of all elements holds of each
 pub each_of_all : {X : Type 0} (P : X → Type 0) (xs : List X) → All P xs → Each P xs
 each_of_all P [] all = tt
 each_of_all P (x ∷ xs) all = (all 0 x (omega arith), each_of_all P xs (λ i d inside. all (suc i) d (omega arith)))
@@ -63,5 +64,6 @@ pub reach_at : (config : Config) (k : Server) → k.0 ≢ 0 → reach config k �
 reach_at config k some =
     let no : eqb k.0 0 ≡ false = false_from_ne_true (eqb k.0 0) (λ i. some (eqb-true k.0 0 i)) in rw no refl
 
+-- server 0 is the last of a wave
 pub reach_zeroth : (config : Config) (k : Server) → k.0 ≡ 0 → reach config k ≡ config.servers
 reach_zeroth config k zeroth = rw zeroth refl

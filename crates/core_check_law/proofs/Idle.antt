@@ -95,6 +95,7 @@ pub client_closed : (c : ClientModel) (finished : Bool) (coming : Option Message
 client_closed c true coming modest told = refl
 client_closed c false coming modest told = call_closed c c.pending coming modest told
 
+-- a rank of the bag is in the run
 pub rank_inside : (found : Bag → Bool) (config : Config) (es : List Entry) (b : Bag) (rank : Rank) (x : RankState)
     → IsRunWhere found (empty_bag config) es b → rank_at b rank ≡ Some x → rank.0 < config.ranks
 rank_inside found config es b rank x run here =
@@ -229,7 +230,7 @@ x_run (e ∷ es) b n run idle x =
 
 -- Of the ledger.
 
--- no entry behind that one is of work
+-- no entry after that one is of work
 abbrev pub IdleBehind : Entry → List Entry → Type 0 → Type 0
 IdleBehind enters.Exhausted es rest = AreIdle es
 IdleBehind _ es rest = rest
@@ -274,7 +275,7 @@ idle_grows (e ∷ ledger) es was idle new = by_entry e was idle (λ rest later. 
     by_entry enters.Exhausted was idle rest = each_append (λ (x : Entry). is_work x ≡ false) ledger es was (idle refl)
     by_entry _ was idle rest = rest was idle
 
--- what stands behind the entry
+-- what follows the entry
 pub idle_behind : (before behind : List Entry) → IdleAfter (before ++ enters.Exhausted ∷ behind) → AreIdle behind
 idle_behind [] behind all = all
 idle_behind (e ∷ before) behind all = by_entry e all (idle_behind before behind)

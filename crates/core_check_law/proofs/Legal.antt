@@ -72,11 +72,13 @@ checked_kept w next c does =
       settles = b.2;
     }
 
+-- what is checked stays so along a run
 pub run_checked : (w last : World) (events : List Event) → IsChecked w → Runs w events last → IsChecked last
 run_checked w last [] c run = subst IsChecked run c
 run_checked w last (e ∷ events) c run =
     run_checked run.0 last events (checked_kept w run.0 c (happens_does w run.0 e run.1)) run.2
 
+-- the start of a run with several servers is checked
 pub begins_checked : (config : Config) → 1 < config.servers → IsChecked (start config)
 begins_checked config several =
     let w = start config in
@@ -94,6 +96,7 @@ begins_checked config several =
       };
     }
 
+-- the ledger of every run is a legal run of the bag
 pub every_run_legal : (config : Config) (events : List Event) (w : World) → Runs (start config) events w → IsLegal config w.ledger
 every_run_legal config events w run = by_number (cases_eq config.servers 1)
   where
@@ -112,7 +115,7 @@ every_run_settles config events w several run =
     let same = run_config (start config) w events run in
     (c.bag, subst (λ (k : Config). IsRun (empty_bag k) w.ledger c.bag) same (c.holds).legal, c.settles)
 
--- What is told of the end of the problem, with any number of servers.
+-- What is said of the end of the problem, with any number of servers.
 
 run_told : (w last : World) (events : List Event) → IsWell w → AllTold w → Runs w events last → AllTold last
 run_told w last [] well told run = subst AllTold run told
@@ -120,10 +123,12 @@ run_told w last (e ∷ events) well told run =
     let does = happens_does w run.0 e run.1 in
     run_told run.0 last events (well_kept w run.0 well does) (event_told w run.0 well told does) run.2
 
+-- at every moment of every run no idle rank has missed an end
 pub all_told : (config : Config) (events : List Event) (w : World) → Runs (start config) events w → AllTold w
 all_told config events w run =
     run_told (start config) w events (begins_well config) (λ t here. subst IsTold (sym (pool_at config t here)) (λ is. refl)) run
 
+-- in every run no rank is idle at a server that knows that the problem is done
 pub every_run_told : (config : Config) (events : List Event) (w : World) (server : Server) (e : Waiting) → server.0 < config.servers
     → Runs (start config) events w → Has (pool_of w server).kept.parked.waiting e → e.asked ≡ None → (pool_of w server).kept.done ≡ false
 every_run_told config events w server e there run has idle =

@@ -92,6 +92,7 @@ ends_alone (enters.Rejected rank call) = true
 ends_alone (enters.NoCurrent rank call) = true
 ends_alone _ = false
 
+-- each entry says that every server has declined a call
 abbrev pub EndAlone : List Entry → Type 0
 EndAlone es = Each (λ (e : Entry). ends_alone e ≡ true) es
 
@@ -267,6 +268,7 @@ all_answered None good = tt
 all_answered (Some x) good =
     posted_answered (record { state = x.state; sends = []; entries = x.entries; answer = x.answer }) x.says good
 
+-- a rank that was told an end hears modestly: it brings and wants nothing more
 pub hear_answers : (s : ClientModel) (from : Server) (letter : Letter) (x : Made) → IsModest s → hear s from letter ≡ Some x
     → IsModest x.state × EndAlone x.entries
 hear_answers s from letter x modest is =

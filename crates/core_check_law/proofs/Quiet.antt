@@ -112,7 +112,7 @@ none_travels (u ∷ us) none = by_place (λ rest. none_travels us rest) (is_trav
 
 -- Where no server has a push.
 module _ (w : World) (b : Bag) (well : IsWell w) (l : IsLawful w b) (free : AreUnpushed w) where
-  -- no push stands, so that none of its letters is under way
+  -- no push goes on, so that no letter of one is under way
   no_push : (a : Server) → links_weight w.config (letters_of (push_letter a)) w.links ≡ 0
   unfolding measure due
   no_push a =

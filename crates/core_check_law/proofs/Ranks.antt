@@ -1,4 +1,4 @@
--- A rank of the bag by its client; and a rank at rest has no letter under way that it says or hears, but Finish, and is ready for no call.
+-- A rank of the bag by its client. A rank at rest has no letter under way that it says or hears, but Finish, and is ready for no call.
 use Rattle.std.proofs.Common.{◌≡◌, ◌<◌, ◌≤◌, ◌⊎◌, inl, inr, ℕ, Bool, true, false, not, List, ◌∷◌, Option, None, Some, refl, sym, ap, ◌∙◌, arith}
 use Rattle.std.proofs.lemmas.Bool.{eq-eqb, lt-ltb}
 use Rattle.adlb_unit.specs.Links.{is_within, place_of}
@@ -132,10 +132,12 @@ client_ended w b r coming seat x here e =
     let c = client_of w r in
     has_ended c c.finished coming (ap (λ (s : RankState). s.status) (stands_as w b r coming seat x here) ∙ e)
 
+-- the client of a rank that has finished waits for nothing
 pub client_ends : (w : World) (b : Bag) (r : Rank) (coming : Option Message) → IsWell w → r.0 < w.config.ranks → IsSeat w b r coming
     → (x : RankState) → rank_at b r ≡ Some x → Ends x → (client_of w r).pending ≡ waits_for.Nothing
 client_ends w b r coming well within seat x here e = (well.own.ranks r within).rests (client_ended w b r coming seat x here e)
 
+-- the client of a rank that asks in the bag waits for the answer of this reserve
 pub client_asks : (w : World) (b : Bag) (r : Rank) (coming : Option Message) → IsSeat w b r coming → (x : RankState) → rank_at b r ≡ Some x
     → (asks : AsksAs w r x) → AsksFor (client_of w r).pending coming asks.0.request asks.0.types
 client_asks w b r coming seat x here asks =

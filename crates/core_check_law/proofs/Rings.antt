@@ -134,5 +134,6 @@ begins_ringed config = record {
   };
 }
 
+-- at every moment of every run tokens say what is so of the servers
 pub every_run_ringed : (config : Config) (events : List Event) (w : World) → Runs (start config) events w → IsRinged w
 every_run_ringed config events w run = run_ringed (start config) w events (begins_well config) run (begins_ringed config)

@@ -25,6 +25,7 @@ split_run found first b n (x ∷ xs) es run all =
     let same : all.0 ≡ run.0 = all.1.2 ∙ sym run.1.2 in
     split_run found run.0 b n xs es run.2 (subst (λ (y : Bag). IsRunWhere found y (xs ++ es) n) same all.2)
 
+-- the entry that exhaustion is found
 abbrev pub is_finding : Entry → Bool
 is_finding enters.Exhausted = true
 is_finding _ = false
@@ -56,6 +57,7 @@ frees_other me batch part = by_due (is_due part)
     by_due true = refl
     by_due false = refl
 
+-- an act that finds no exhaustion enters none
 pub act_other : (a : Act) (s : ServerModel) → finds a ≡ false → list_any is_finding (entries a s) ≡ false
 act_other (Finds from t) s other = absurd (cc)
 act_other Finds_alone s other = absurd (cc)
@@ -68,6 +70,7 @@ told_other : (rank : Rank) (e : Entry) → teller e ≡ Some rank → is_finding
 told_other rank enters.Exhausted told = absurd (cc)
 told_other rank _ told = refl
 
+-- a rank's entries find no exhaustion
 pub rank_other : (rank : Rank) (es : List Entry) → Each (λ e. teller e ≡ Some rank) es → list_any is_finding es ≡ false
 rank_other rank [] each = refl
 rank_other rank (e ∷ es) each = rw (told_other rank e each.0) (rank_other rank es each.1)

@@ -19,6 +19,7 @@ use Rattle.core_check_law.proofs.Stirred.{IsStep, IsStirred}
 use Rattle.core_check_law.proofs.Stirring.{AreStirred, acts_stirred}
 use Rattle.core_check_law.proofs.Ticks.{tick_stirs}
 
+-- acts one after the other, each a step
 abbrev pub AreSteps : World → Server → List Act → Type 0
 AreSteps w me [] = Unit {0}
 AreSteps w me (a ∷ more) = IsStep w me a × AreSteps (acted w me a) me more

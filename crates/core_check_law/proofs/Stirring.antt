@@ -1,4 +1,4 @@
--- Each act that may change what is free or who waits is of an event that raises the activity, or tells an end where no check runs: it is
+-- Each act that may change what is free or who waits is of an event that raises the activity, or tells an end where no check runs. It is
 -- carried out where the server is stirred.
 use Rattle.std.proofs.Common.{◌≡◌, ◌==◌, ◌⊎◌, inl, inr, ℕ, Bool, true, false, cond, ◌&&◌, not, List, [], ◌∷◌, ◌++◌, find, Option, None, Some, refl, sym, ap, ◌∙◌, subst}
 use Rattle.std.specs.Option.{IfSome, option_map}

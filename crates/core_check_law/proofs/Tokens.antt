@@ -98,6 +98,7 @@ none_runs w shape some even off =
     let here : one (pool_of w zeroth).kept.ring.runs ≡ 0 = rw off refl in
     zero_on tokens w.config w.links shape.square (omega arith)
 
+-- a test counts one at most
 pub at_most : (t : Bool) → one t ≤ 1
 at_most true = omega arith
 at_most false = omega arith

@@ -45,6 +45,7 @@ use Rattle.core_check_law.proofs.Lists.{has_there}
 abbrev pub idles : List Waiting → ℕ
 idles es = weigh (λ (e : Waiting). if_idle e.asked 1) es
 
+-- no rank is idle here if the server knows that the problem is done
 abbrev pub IsTold : ServerModel → Type 0
 IsTold s = s.kept.done ≡ true → idles s.kept.parked.waiting ≡ 0
 
@@ -72,6 +73,7 @@ few_come (Parks wish) s low = absurd (cc)
 few_come (Wakes at wish from rest) s low = absurd (cc)
 few_come _ s low = omega arith
 
+-- an act by which nobody becomes idle keeps that idle ranks were told
 pub act_told : (a : Act) (s : ServerModel) → SitsIn a s → rises a ≡ false → IsTold s → IsTold (done a s)
 act_told a s sits low told is_done =
     let was = told (sym (done_is a s ∙ same_done a s.kept.done low) ∙ is_done) in
@@ -88,6 +90,7 @@ follows_low (Wakes at wish from rest) none = absurd (cc)
 follows_low (Hears_done rank request) none = absurd (cc)
 follows_low _ none = refl
 
+-- acts that take no letter keep that idle ranks were told
 pub more_told : (list : List Act) (s : ServerModel) → AreSure list s → TakeNone list → IsTold s → IsTold (all_done list s)
 more_told [] s sure none told = told
 more_told (a ∷ list) s sure none told =
@@ -208,6 +211,7 @@ told_all end (e ∷ behind) before s stands none = by_asked e.asked refl (λ ahe
 -- Plans: the first act raises nothing; or the server does not know that the problem is done; or the first decider tells those that are
 -- idle.
 
+-- by its first act nobody becomes idle, or the problem is not done, or the first decider tells those that are idle
 abbrev pub Settles : ServerModel → Plan → Type 0
 Settles s p =
     (rises p.first ≡ false) ⊎ ((done p.first s).kept.done ≡ false)
@@ -331,7 +335,7 @@ serve_told s from letter x is told = by_test (is_within s.config from && nat_lt 
         by_plan (rule t from letter.message) plan (settles_by t told from letter.message plan) e
     by_test false e = absurd (cc)
 
--- none of them is idle
+-- no rank of the list is idle
 pub told_is : (s : ServerModel) (e : Waiting) → IsTold s → Has s.kept.parked.waiting e → e.asked ≡ None → s.kept.done ≡ false
 told_is s e told has asked = by_flag s.kept.done refl
   where

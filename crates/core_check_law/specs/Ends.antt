@@ -1,4 +1,4 @@
--- The letters that tell of an end: what server 0 has found reached each other server, or is on its way there.
+-- The letters that say that an end was found: what server 0 has found reached each other server, or is on its way there.
 use Rattle.std.specs.Prelude.{◌≡◌, ℕ, ◌+◌, ◌==◌, Bool, true, false, ◌&&◌, if◌then◌else◌}
 use Rattle.adlb_unit.specs.declared.actors.Actor.{Actor}
 use Rattle.adlb_unit.specs.declared.actors.Actor.TheVariants as by

@@ -55,7 +55,7 @@ abbrev pub IsUnchanged : ServerModel → Type 0
 IsUnchanged s = s.activity ≡ s.kept.ring.mark
 
 -- the token is of the last check. In wave 1 the servers so far have their mark of it, the others do not, and the list is of ranks
--- with their homes so far; in wave 2 all servers have their mark. A server that has changed nothing since its mark is quiet, and its
+-- with their homes so far. In wave 2 all servers have their mark. A server that has changed nothing since its mark is quiet, and its
 -- ranks of the list are those that wait there.
 pub record IsOnWay (w : World) (to : Server) (t : Token) : Type 0 where
   pub number : t.check ≡ last_check w

@@ -20,7 +20,7 @@ AreApart [] = Unit {0}
 AreApart (a ∷ asked) = Each (λ (b : Asker). a.0.0 ≢ b.0.0) asked × AreApart asked
 
 -- The token is in one of its two waves, and its list is of ranks of the run, each named once. The servers that it has passed in wave 1,
--- and those that it still has to visit in wave 2, have not made the tests of its check; in wave 2 server 0 has.
+-- and those that it still has to visit in wave 2, have not made the tests of its check. In wave 2 server 0 has.
 pub record IsOnTurn (w : World) (to : Server) (t : Token) : Type 0 where
   pub wave : (t.wave ≡ 1) ⊎ (t.wave ≡ 2)
   pub inside : Each (λ (a : Asker). a.0.0 < w.config.ranks) t.asked

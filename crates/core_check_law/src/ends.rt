@@ -14,13 +14,13 @@ ghost use Rattle.core_run.specs.World.{World, client_of, pool_of, start};
 ghost use Rattle.core_check_law.specs.After.{AllOver, AreIdle, IsShutDown};
 ghost use Rattle.core_check_law.specs.Ends.{IsToldOnce, is_exhaust, is_exhausted, is_shut, is_shutdown};
 
-/// In every run, of every number of ranks and servers and whatever the order of calls and letters: once server 0 has found
-/// that all work is used up, each other server knows it, or one letter that tells it so is under way, and before that none is
-/// (`exhaust_told`); likewise that no rank waits or runs any more (`shutdown_told`). After all work was found used up no server
-/// accepts, refuses, keeps or grants anything in the ledger, or looks in vain, and nothing is promised, sent, received or taken
-/// back (`idle`): each rank has finished, or asks for what no unit that is free or between servers is permitted to it for, or was
-/// told an end (`over`). A server is shut only where each rank has finished (`finished`); then nothing is promised and no unit is
-/// between servers (`shut`).
+/// In every run, whatever the numbers of ranks and servers and the order of calls and letters. Once server 0 has found that all
+/// work is used up, each other server knows it, or one letter that tells it so is under way. Before that there is no such letter
+/// (`exhaust_told`). Likewise that no rank waits or runs any more (`shutdown_told`). After that no server accepts, refuses, keeps
+/// or grants anything in the ledger, or looks in vain, and nothing is promised, sent, received or taken back (`idle`). Each rank
+/// has finished, or asks for what no unit that is free or between servers is permitted to it for, or was told an end (`over`). A
+/// server is shut only where each rank has finished (`finished`); then nothing is promised and no unit is between servers
+/// (`shut`).
 pub fn end_laws()
     ensures exhaust_told { (config : Config) (events : List Event) (w : World) (server : Server) → server.0 ≢ 0 →
         server.0 < config.servers → Runs (start config) events w → IsToldOnce is_exhaust is_exhausted w server }

@@ -12,7 +12,7 @@ use Rattle.core_inline.proofs.Told.{Before, Behind, IsAt, IsStage, Within, true_
 use Rattle.core_run.specs.declared.events.Event.TheVariants as occurs
 use Rattle.rank_client.specs.declared.pendings.Pending.TheVariants as waits_for
 
--- so many events of the call are to come at most
+-- at most this number of events of the call is to come
 abbrev pub to_come : World → ℕ
 to_come w = 2 * length (asked w) + length (told w) + more (client_of w zeroth).pending
 

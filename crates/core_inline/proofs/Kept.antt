@@ -33,7 +33,7 @@ pub record IsGoing (i : Inside) (last : Bag) : Type 0 where
   pub all : i.answered ≡ length (rank_in i.world).transcript
   pub ready : has_finished (said_in i) ≡ false → IsReady i.world
 
--- The fields hold together where this is told of the ledger.
+-- The fields hold together where this is said of the ledger.
 module _ (i : Inside) (begun : Option Call) (t : IsTold i.world.world.config i.world.world.ledger (said_in i) begun) where
   pub begun_now : (run_of i).begun ≡ begun
   begun_now = begun_is i.world.world.config i.world.world.ledger (said_in i) begun t

@@ -106,7 +106,7 @@ front_open (Some d) last (s ∷ []) [] begun call is of_it pends = absurd (let s
 front_open pending last (s ∷ []) (u ∷ rest) begun call is of_it pends = absurd is
 front_open pending last (s ∷ u ∷ l) rest begun call is of_it pends = absurd is
 
--- what is told of a ledger, and of a longer one, is told of those between
+-- what is said of a ledger, and of a longer one, holds of those between
 pub told_front : (config : Config) (said : List Said) (call : Call) (ledger front rest : List Entry) → IsToldOf config said call ledger
     → IsToldOf config said call ((ledger ++ front) ++ rest) → IsToldOf config said call (ledger ++ front)
 told_front config said call ledger front rest (first, before, of_first) (begun, whole, of_call) =

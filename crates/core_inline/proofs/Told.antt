@@ -1,4 +1,4 @@
--- What the ledger tells of a call in a world of one rank and one server, also after an event that failed.
+-- What the ledger says of a call in a world of one rank and one server, also after an event that failed.
 use Rattle.core_inline.proofs.Prelude.{Answer, Bag, Bool, Call, ClientModel, CommonRef, Entry, Event, HasAnswer, IsEnabled, IsFailed}
 use Rattle.core_inline.proofs.Prelude.{IsLeft, IsLone, IsOpen, IsRun, IsRunWhere, IsTold, List, Memory, Message, None, Option, Pending}
 use Rattle.core_inline.proofs.Prelude.{RankState, Said, Seen, Server, Some, Stops, TooLong, Trouble, Waits, World, [], ap, append-nil}
@@ -105,7 +105,7 @@ module _ (w : World) (l : IsLone w) where
   seat : HasSeat w bag.0 zeroth
   seat = bag.1.ranks zeroth (omega (arith, l.one_rank))
 
-  -- what is told of the ledger by the rank's state in the bag
+  -- what is said of the ledger by the rank's state in the bag
   abbrev told_as : (said more : List Said) (begun : Option Call) (r : RankState) → said_with c c.pending seat.coming ≡ said ++ more
       → rank_of c c.finished seat.coming ≡ r → IsOpen (call_of r.status) more begun → IsTold w.config w.ledger said begun
   told_as said more begun r says is open_call = record {
@@ -182,7 +182,7 @@ module _ (said : List Said) (call : Call) (w : World) (event : Event) (i : IsSta
     late = λ n long. let h = late n long in (h.0, omega (arith, h.1, i.few));
   }
 
-  -- The event failed: what is told of the call before it and after it is told of what it left, and the rank has heard what it had
+  -- The event failed: what is said of the call before it and after it is said of what it left, and the rank has heard what it had
   -- before or what it would have after.
   pub stopped : (trouble : Trouble) (now : Seen) → Stops w event trouble now.world → IsFailed said call trouble now
   stopped Memory now stops =

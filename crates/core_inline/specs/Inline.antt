@@ -35,7 +35,7 @@ pub record Run : Type 0 where
   pub finished : Bool
   pub ended : Bool
 
--- the world at the start, whose server takes so many bytes
+-- the world at the start, whose server has this limit
 pub record IsStart (limit : ℕ) (run : Run) : Type 0 where
   pub one_rank : run.config.ranks ≡ 1
   pub one_server : run.config.servers ≡ 1

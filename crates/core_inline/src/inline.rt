@@ -65,8 +65,8 @@ impl InlineWorld {
     }
 
     /// What stands at the end: the ledger, the calls of the rank with their answers, of which nothing is held, and the units that
-    /// are left, in arrival order, after `finish_inline` was called. It answers `TooLong` exactly where a call of this world,
-    /// `finish_inline` among them, met it; `Memory` where a call met that, or where there is none for the list of what is left.
+    /// are left, in arrival order, after `finish_inline` was called. It answers `TooLong` exactly if a call of this world,
+    /// `finish_inline` among them, met it. It answers `Memory` if a call met that, or if the list of what is left has no memory.
     pub fn end(self) -> Result<(Ledger, Trace<Said>, Vec<LeftUnit>), Trouble>
         requires finished { self.run.finished ≡ true }
         ensures whole { OnOk result (self.run.failed ≡ None) }

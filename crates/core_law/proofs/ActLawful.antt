@@ -57,7 +57,7 @@ module _ (w : World) (k : Server) (b : Bag) (well : IsWell w) (l : IsLawful w b)
         });
   }
 
-  -- an act that tells of no rank
+  -- an act that is about no rank
   tells_nobody : (a : Act) → Needs (found_in w.config) a b (pool_of w k).me → about a ≡ None → Succeeds w k a b
   tells_nobody a needs none = record {
     needs = needs;
@@ -182,6 +182,7 @@ module _ (w : World) (k : Server) (b : Bag) (well : IsWell w) (l : IsLawful w b)
 
 -- The stamp of an event.
 
+-- the stamp of an event keeps what is lawful
 pub tick_lawful : (w : World) (k : Server) (stamp : ℕ) (up : Bool) (b : Bag) → k.0 < w.config.servers → IsWell w → IsLawful w b
     → IsLawful (ticks w k stamp up) b
 tick_lawful w k stamp up b here well l =

@@ -34,7 +34,7 @@ use Rattle.core_law.proofs.RankSteps.{AreSilent, weighs_nothing}
 use Rattle.core_law.proofs.Seats.{IsMade, seat_stays}
 use Rattle.core_law.proofs.UnderWay.{at_front, each_parts}
 
--- the rank of which an act tells; a hint changes nothing for its rank, and a push and a check tell of none
+-- the rank that an act is about; a hint changes nothing for its rank, and a push and a check are about no rank
 abbrev pub about : Act → Option Rank
 about (Accepts unit) = Some unit.id.rank
 about (Refuses unit) = Some unit.id.rank
@@ -91,7 +91,7 @@ about Finds_alone = None
 about Shuts_alone = None
 about Checks_alone = None
 
--- It enters nothing of others, says nothing to them, and none of them comes to wait.
+-- It enters nothing of others, says nothing to them, and no other rank comes to wait.
 
 frees_silent : (me : Rank) (k : Server) (batch : BatchId) (part : Part) → AreSilent me (frees k batch part)
 frees_silent me k batch part = by_due (is_due part)
@@ -206,7 +206,7 @@ others_wait c coming me (e ∷ es) named each = (
   others_wait c coming me es named each.1,
 )
 
--- an act that tells of another rank, or of none
+-- an act that is about another rank, or about no rank
 pub other_stays : (w : World) (k : Server) (a : Act) (b n : Bag) (me : Rank) (coming : Option Message) → IsMade w k a b n
     → tells_of me (about a) ≡ false → All (IsFact n) (holds (client_of w me) coming) → IsSeat w b me coming
     → IsSeat (acted w k a) n me coming
@@ -229,6 +229,7 @@ front_is w k a me coming h is takes_it b seat =
     let of = at_front (OfCall c coming) w.config w.links h.from (by.Server k) front.0 front.1 seat.letters front.2 there front.3 in
     subst (λ (m : Message). IsOfCall c coming h.from (by.Server k) m) front.4 of
 
+-- who waits here waits as its client says
 pub gone_is : (w : World) (k : Server) (at : Around) (e : Waiting) (b : Bag) (me : Rank) (coming : Option Message) → k.0 < w.config.servers
     → (pool_of w k).kept.parked.waiting ≡ at.before ++ (e ∷ at.behind) → IsSeat w b me coming → IsWaiting (client_of w me) coming e
 gone_is w k at e b me coming here sits seat =

@@ -11,19 +11,24 @@ use Rattle.core_run.specs.World.{World, client_of, pool_of, rank_named, server_n
 abbrev pub with_client : World → Rank → ClientModel → World
 with_client w me s = record w { ranks = set w.ranks me.0 s }
 
+-- the world with the state of one server set
 abbrev pub with_pool : World → Server → ServerModel → World
 with_pool w me s = record w { servers = set w.servers me.0 s }
 
+-- a client that was set is found
 pub client_there : (w : World) (me : Rank) (s : ClientModel) → me.0 < length w.ranks → client_of (with_client w me s) me ≡ s
 client_there w me s inside = get_or-set_same w.ranks me.0 s (new_client w.config me) inside
 
+-- setting one client leaves the others
 pub client_beside : (w : World) (me other : Rank) (s : ClientModel) → other.0 ≢ me.0
     → client_of (with_client w me s) other ≡ client_of w other
 client_beside w me other s differs = get_or-set_other w.ranks me.0 other.0 s (new_client w.config other) differs
 
+-- a server that was set is found
 pub pool_there : (w : World) (me : Server) (s : ServerModel) → me.0 < length w.servers → pool_of (with_pool w me s) me ≡ s
 pool_there w me s inside = get_or-set_same w.servers me.0 s (new_pool w.config me) inside
 
+-- setting one server leaves the others
 pub pool_beside : (w : World) (me other : Server) (s : ServerModel) → other.0 ≢ me.0 → pool_of (with_pool w me s) other ≡ pool_of w other
 pool_beside w me other s differs = get_or-set_other w.servers me.0 other.0 s (new_pool w.config other) differs
 
@@ -39,6 +44,7 @@ every_client P w me s inside here others rank within = by_place (cases_eq rank.0
         subst (λ (r : Rank). P r (client_of (with_client w me s) r)) it (subst (P me) (sym (client_there w me s inside)) here)
     by_place (inr differs) = subst (P rank) (sym (client_beside w me rank s differs)) (others rank within differs)
 
+-- what holds of the set server and of the others holds of each
 pub every_pool : (P : Server → ServerModel → Type 0) (w : World) (me : Server) (s : ServerModel) → me.0 < length w.servers → P me s
     → ((other : Server) → other.0 < w.config.servers → other.0 ≢ me.0 → P other (pool_of w other)) → (server : Server)
     → server.0 < w.config.servers → P server (pool_of (with_pool w me s) server)

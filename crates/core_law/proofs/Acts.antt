@@ -24,19 +24,23 @@ use Rattle.core_law.proofs.UnderWay.{AllLinks, taken_links}
 
 -- What is sent.
 
+-- counting letters that go off changes nothing that a server keeps
 pub counted_kept : (s : ServerModel) (ys : List ServerSaying) → (all_counted s ys).kept ≡ s.kept
 counted_kept s [] = refl
 counted_kept s (y ∷ ys) = counted_kept (counted s y.to) ys
 
+-- counting letters that go off leaves the run's numbers and the server's own
 pub counted_own : (s : ServerModel) (ys : List ServerSaying) → ((all_counted s ys).config ≡ s.config) × ((all_counted s ys).me ≡ s.me)
 counted_own s [] = (refl, refl)
 counted_own s (y ∷ ys) = counted_own (counted s y.to) ys
 
+-- letters weigh the same with stamps and places as without
 pub sent_weight : (m : Weights) (me : Server) (s : ServerModel) (ys : List ServerSaying)
     → sends_weight m (by.Server me) (stamped s ys) ≡ said_weight m.letter me ys
 sent_weight m me s [] = refl
 sent_weight m me s (y ∷ ys) = ap (λ n. m.letter (by.Server me) y.to y.message + n) (sent_weight m me (counted s y.to) ys)
 
+-- letters with stamps and places go to actors of the run
 pub sent_within : (config : Config) (s : ServerModel) (ys : List ServerSaying) → AreSaid config ys → AreWithin config (stamped s ys)
 sent_within config s [] are = tt
 sent_within config s (y ∷ ys) are = (are.0, sent_within config (counted s y.to) ys are.1)
@@ -71,6 +75,7 @@ off_keeps J config me goes links (h ∷ more) are holds =
     let next = off_keeps J config me goes (put_link links from to are.1) more are.5 (goes links h.from are.0 are.1 are.2 are.3 holds) in
     subst (λ (rest : List Letter). J (taken_off config me (put_link links from to rest) more)) (ap behind_front (sym are.3)) next
 
+-- links stay square where a server takes a letter off
 pub taken_square : (config : Config) (me : Server) (links : Links) (heard : List Heard) → me.0 < config.servers
     → AreFront config me links heard → IsSquare (actors config) links → IsSquare (actors config) (taken_off config me links heard)
 taken_square config me links heard here are sq =
@@ -79,6 +84,7 @@ taken_square config me links heard here are sq =
     (λ links from l rest f front sq. square_put (actors config) links (place_of config from) (place_of config (by.Server me)) rest
     (place_below config from f) t sq) links heard are sq
 
+-- of each link, where a server takes a letter off
 pub taken_off_links : (P : Actor → Actor → List Letter → Type 0) (config : Config) (me : Server) (links : Links) (heard : List Heard)
     → me.0 < config.servers → AreFront config me links heard → IsSquare (actors config) links
     → ((from : Actor) (l : Letter) (rest : List Letter) → P from (by.Server me) (l ∷ rest) → P from (by.Server me) rest)
@@ -93,6 +99,7 @@ taken_off_links P config me links heard here are sq goes all =
       taken_links P config links from (by.Server me) l rest was.0 f within front (goes from l rest) was.1,
     )) links heard are (sq, all)).1
 
+-- of each letter, where a server takes a letter off
 pub taken_off_on : (P : Actor → Actor → Letter → Type 0) (config : Config) (me : Server) (links : Links) (heard : List Heard)
     → me.0 < config.servers → AreFront config me links heard → IsSquare (actors config) links → OnLinks P config links
     → OnLinks P config (taken_off config me links heard)
@@ -102,6 +109,7 @@ taken_off_on P config me links heard here are sq on =
           (λ a b la lb. on.each a b la lb);
     }
 
+-- the letters that are left and the one that was taken weigh what all weighed
 pub taken_weight : (config : Config) (m : Weights) (me : Server) (links : Links) (heard : List Heard) → me.0 < config.servers
     → AreFront config me links heard → IsSquare (actors config) links
     → links_weight config m (taken_off config me links heard) + heard_weight m.letter me heard ≡ links_weight config m links
@@ -139,6 +147,7 @@ shape_kept w me a shape is said =
           (taken_square w.config me w.links (takes a) is.here is.front shape.square);
     }
 
+-- an act that keeps a balance of weights leaves the world balanced
 pub balance_kept : (m : Weights) (w : World) (me : Server) (a : Act) → IsShaped w → IsAct w me a → IsOwn w me a
     → ActKeeps m a (pool_of w me) → IsBalanced m w → IsBalanced m (acted w me a)
 unfolding measure due

@@ -47,6 +47,7 @@ none_between w id well alone =
           (link w.links (place_of w.config from) (place_of w.config to)) (fit.each from to f t);
     }
 
+-- if no unit is promised, there is no promise
 pub none_named : (rooms : List Room) → ((id : UnitId) → promises_named id rooms ≡ 0) → rooms ≡ []
 none_named [] none = refl
 none_named (p ∷ rooms) none =

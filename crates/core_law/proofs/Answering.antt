@@ -306,6 +306,7 @@ idle_here w k at wish rest b well l here sits =
 
 -- The call of a rank for which its home asks.
 
+-- a server that is asked for a rank is asked of the rank's pending reserve
 pub ask_call : (w : World) (k from : Server) (a : Act) (b : Bag) (wish : Wish) → IsLawful w b → IsAct w k a
     → takes a ≡ of_server from (tells.Ask wish.rank wish.request wish.types) ∷ [] → wish.rank.0 < w.config.ranks
     → IsCalling w b wish.rank (waits_for.Reserve wish.request wish.types)

@@ -63,7 +63,7 @@ no_push_letter w k shape none even =
     let nothing : links_weight w.config (letters_of (push_letter k)) w.links ≡ 0 = omega arith in
     zero_on (letters_of (push_letter k)) w.config w.links shape.square nothing
 
--- Each letter that is none of its pushes is none of an open push of the unit.
+-- A letter that is not of its pushes is not of an open push of the unit.
 
 held_elsewhere : (b : Bag) (k c : Server) (x id : UnitId) (u : Lodged) → unit_of b id ≡ Some u → u.place ≡ Free k → IsHeldAt b c x
     → one (c.0 == k.0) ≡ 0 → one (same_unit x id) ≡ 0

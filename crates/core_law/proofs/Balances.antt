@@ -139,6 +139,7 @@ numbered_law config rank next = record { heard = number_heard config rank next; 
 
 -- Remote letters: a rank neither hears nor sends one.
 
+-- where each element weighs 0, a list does
 pub weighs_none : {X : Type 0} (xs : List X) → weigh (λ (x : X). 0) xs ≡ 0
 weighs_none [] = refl
 weighs_none (x ∷ xs) = let later = weighs_none xs in omega arith

@@ -50,6 +50,7 @@ run_calm w last (e ∷ events) well calm run =
 begins_calm : (config : Config) → AreCalm (start config)
 begins_calm config server within = subst IsOnceCalm (sym (pool_at config server within)) (start_is_calm config server)
 
+-- in every run no rank waits twice, and no free unit lies for an idle one
 pub every_run_calm : (config : Config) (events : List Event) (w : World) (server : Server) → server.0 < config.servers
     → Runs (start config) events w → WaitOnce (pool_of w server) × IsCalm (pool_of w server)
 every_run_calm config events w server there run =

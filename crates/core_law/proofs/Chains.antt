@@ -48,6 +48,7 @@ nothing_done w me = same_parts w (sym (set-get_or w.servers me.0 (new_pool w.con
 pub pool_is : (w : World) (me : Server) (a : Act) → me.0 < length w.servers → pool_of (acted w me a) me ≡ done a (pool_of w me)
 pool_is w me a here = get_or-set_same w.servers me.0 (done a (pool_of w me)) (new_pool w.config me) here
 
+-- a server is in the world after an act, too
 pub inside_after : (w : World) (me : Server) (a : Act) → me.0 < length w.servers → me.0 < length (acted w me a).servers
 inside_after w me a here = let same = length-set w.servers me.0 (done a (pool_of w me)) in omega arith
 

@@ -48,6 +48,7 @@ started_ended m activity parked fits alone zeroth =
     let all = judged_ended after (first_token after parked) (first_failing true activity activity fits) zeroth refl in
     rw (eq-eqb m.config.servers 1 alone) all
 
+-- a check of a server that is alone ends at once
 pub check_ended : (s : ServerModel) → s.config.servers ≡ 1 → s.me.0 ≡ 0 → HasEnded s.activity (check_alone s)
 check_ended s alone zeroth =
     started_ended (ring_at s) s.activity (askers s.kept) (fit_among s.kept (askers s.kept)) alone zeroth
@@ -60,6 +61,7 @@ Elsewhere (Shuts from t) s = s.config.servers ≢ 1
 Elsewhere (Hears_shutdown from) s = s.config.servers ≢ 1
 Elsewhere _ s = Unit {0}
 
+-- the tests of a token leave whether a check runs
 pub tested_runs : (wave : ℕ) (r : Ring) → (tested_in wave r).runs ≡ r.runs
 tested_runs wave r = by_test (eqb wave 2) refl
   where

@@ -314,7 +314,7 @@ held_beside : (b : Bag) (id : UnitId) (place : UnitPlace) (rank : Rank) (note : 
     → IsHeld b rank note → IsHeld (moved id place b) rank note
 held_beside b id place rank note differs h = (h.0, (moved_other b id note.id place differs ∙ h.1.0, h.1.1))
 
--- a unit that is free is none of these
+-- a unit that is free is not among these
 held_through : (b : Bag) (id : UnitId) (me : Server) (place : UnitPlace) (rank : Rank) (u : Lodged) (note : UnitNote)
     → unit_of b id ≡ Some u → u.place ≡ Free me → IsHeld b rank note → IsHeld (moved id place b) rank note
 held_through b id me place rank u note there free h = by_test (same_unit id note.id) refl

@@ -59,6 +59,7 @@ run_paid w last (e ∷ events) well none run =
 begins_paid : (config : Config) → NoneOwes (start config)
 begins_paid config server within = subst OwesNone (sym (pool_at config server within)) refl
 
+-- in every run no server owes an acknowledgement between events
 pub every_run_paid : (config : Config) (events : List Event) (w : World) → Runs (start config) events w → NoneOwes w
 every_run_paid config events w run = run_paid (start config) w events (begins_well config) (begins_paid config) run
 
@@ -109,6 +110,7 @@ under_way b w a well none there others same =
     let only = one_adds (server_weight (push_weights b).server_due) w.servers a.0 (new_pool w.config a) inside others in
     omega arith
 
+-- of a push that goes on exactly one letter is under way
 pub letters_of_push : (w : World) (a : Server) → IsWell w → NoneOwes w → a.0 < w.config.servers
     → links_weight w.config (letters_of (push_letter a)) w.links ≡ one (is_some (pool_of w a).kept.pushing.push)
 letters_of_push w a well none there =

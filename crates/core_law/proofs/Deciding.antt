@@ -463,7 +463,7 @@ module _ (w : World) (k : Server) (b : Bag) (well : IsWell w) (l : IsLawful w b)
       (replies w k _ _ _ refl (let e = one_self rank in omega arith) refl) (refl, h.here)
       (_, rank_is rank p h.calling, refl)
 
-  -- so many units of the batch that ends were accepted
+  -- this number of units of the batch that ends was accepted
   accepted_now : (c : ClientModel) (common : CommonRef) (batch : BatchId) (accepted : ℕ) → HasAcceptedOf b c.batch c.accepted → c.batch ≡ Some common
       → common.batch ≡ batch → accepted ≡ c.accepted → HasAccepted b batch accepted
   accepted_now c common batch accepted has is named count = λ p there.

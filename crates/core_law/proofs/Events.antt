@@ -116,6 +116,7 @@ handled_chain w next from me letter rest x list inside kept does makes acted_so 
       is = is ∙ chain;
     }
 
+-- an event of a server is a chain of its acts
 pub event_chain : (w next : World) (from : Actor) (me : Server) (letter : Letter) (rest : List Letter) (x : Served)
     → me.0 < length w.servers → All (IsWish w.config me) (pool_of w me).kept.parked.wishes → Serves w from me letter rest x next
     → IsChain w next me (next_stamp (pool_of w me) letter) (raises letter.message)

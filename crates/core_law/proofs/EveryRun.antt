@@ -40,12 +40,14 @@ use Rattle.core_law.proofs.Sums.{AreWithin, front_goes}
 
 -- What a step of a rank changes.
 
+-- an event in which a rank begins a call changes its client by the rule of that call
 pub call_began : (w next : World) (me : Rank) (call : Call) (x : Made) → AreOwn w → Begins w me call x next
     → Began w.config me (client_of w me) x
 call_began w next me call x own does =
     on_some (Began w.config me (client_of w me)) (begin (client_of w me) call) x
     (begins w.config me (client_of w me) call (own.ranks me does.here)) does.does
 
+-- an event in which a rank hears a letter changes its client by the rule of that letter
 pub answer_heard : (w next : World) (from : Server) (me : Rank) (letter : Letter) (rest : List Letter) (x : Made) → AreOwn w
     → Hears w from me letter rest x next → Heard w.config me (client_of w me) letter.message x
 answer_heard w next from me letter rest x own does =
@@ -68,10 +70,12 @@ asked_within run s x same (It_leaves h) = all x.sends h.each
         let n : (f.to).0 < run.servers = let e = ap (λ (c : Config). c.servers) same in let l = f.within in omega arith in
         (rw f.is (lt-ltb (f.to).0 run.servers n), all sends each.1)
 
+-- what a rank sends as it begins a call goes to servers of the run
 pub call_within : (w next : World) (me : Rank) (call : Call) (x : Made) → AreOwn w → Begins w me call x next → AreWithin w.config x.sends
 call_within w next me call x own does =
     asked_within w.config (client_of w me) x (own.ranks me does.here).config (call_began w next me call x own does).after
 
+-- what a rank sends as it hears a letter goes to servers of the run
 pub answer_within : (w next : World) (from : Server) (me : Rank) (letter : Letter) (rest : List Letter) (x : Made) → AreOwn w
     → Hears w from me letter rest x next → AreWithin w.config x.sends
 answer_within w next from me letter rest x own does =
@@ -79,6 +83,7 @@ answer_within w next from me letter rest x own does =
 
 -- An event.
 
+-- a rank of the run is in the world
 pub inside_ranks : (w : World) (me : Rank) → IsWell w → me.0 < w.config.ranks → me.0 < length w.ranks
 inside_ranks w me well here = let e = (well.shape).ranks in omega arith
 
@@ -124,6 +129,7 @@ answer_well w next from me letter rest x well does =
     shape does.here within
     (off m) (law.heard me (client_of w me) from letter.message x h h.after))
 
+-- what holds of letters and of each actor alone is kept by each event
 pub well_kept : (w next : World) → IsWell w → Does w next → IsWell next
 well_kept w next well (A_call {me = me} {call = call} {x = x} does) = subst IsWell (sym does.is) (call_well w next me call x well does)
 well_kept w next well (An_answer {from = from} {me = me} {letter = letter} {rest = rest} {x = x} does) =
@@ -150,6 +156,7 @@ pub record AreZero (config : Config) (m : Weights) : Type 0 where
   pub server_due : (i k : ℕ) → m.server_due i (new_pool config (server_named k)).kept ≡ 0
   pub rank_due : (i k : ℕ) → m.rank_due i (new_client config (rank_named k)) ≡ 0
 
+-- the start of a run is balanced for weights that are 0 there
 pub begins_even : (config : Config) (m : Weights) → AreZero config m → IsBalanced m (start config)
 unfolding measure due
 begins_even config m z =
@@ -175,16 +182,19 @@ none_finished : (config : Config) (rank : Rank) (b : Bool) → cond b (one (get_
 none_finished config rank true = ap one (same_always config.ranks rank.0 false)
 none_finished config rank false = refl
 
+-- at the start each client is new
 pub client_at : (config : Config) (rank : Rank) → rank.0 < config.ranks → client_of (start config) rank ≡ new_client config rank
 client_at config rank within =
     get_or-map-range_with_len (λ n. new_client config (rank_named n)) 0 config.ranks rank.0 rank.0 (new_client config rank) within
     (omega arith)
 
+-- at the start each server is new
 pub pool_at : (config : Config) (server : Server) → server.0 < config.servers → pool_of (start config) server ≡ new_pool config server
 pool_at config server within =
     get_or-map-range_with_len (λ n. new_pool config (server_named n)) 0 config.servers server.0 server.0 (new_pool config server) within
     (omega arith)
 
+-- the start of a run is well
 pub begins_well : (config : Config) → IsWell (start config)
 begins_well config =
     let n = actors config in
@@ -250,9 +260,11 @@ run_well w last [] well run = rw (← run) well
 run_well w last (e ∷ events) well run =
     run_well run.0 last events (well_kept w run.0 well (happens_does w run.0 e run.1)) run.2
 
+-- what holds of letters and of each actor alone, holds at every moment of every run
 pub every_run_well : (config : Config) (events : List Event) (w : World) → Runs (start config) events w → IsWell w
 every_run_well config events w run = run_well (start config) w events (begins_well config) run
 
+-- a run keeps its configuration
 pub run_config : (w last : World) (events : List Event) → Runs w events last → last.config ≡ w.config
 run_config w last [] run = ap (λ (v : World). v.config) (sym run)
 run_config w last (e ∷ events) run = run_config run.0 last events run.2 ∙ same_config w run.0 (happens_does w run.0 e run.1)

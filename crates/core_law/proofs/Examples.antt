@@ -28,7 +28,7 @@ use Rattle.core_law.specs.Acting.{acted}
 use Rattle.core_law.specs.Letters.{one_letter, remotes}
 use Rattle.core_law.specs.Measures.{measure, weights}
 
--- so many ranks and servers, each server with room for 64 bytes
+-- a run with this number of ranks and of servers, each server with room for 64 bytes
 abbrev sized : (ranks servers : ℕ) → (0 < ranks) × (ranks ≤ 32) → (0 < servers) × (servers ≤ 8) → Config
 sized ranks servers some few = record {
   ranks = ranks;
@@ -113,7 +113,7 @@ rejected_after_each_server : ledger_after two_servers
 unfolding post
 rejected_after_each_server = refl
 
--- a count tells of what the home took, and of nothing at the other server
+-- a count has what the home took, and nothing of the other server
 home_alone_is_counted : ledger_after two_servers
     (puts 0 ∷ asks 0 0 ∷ hears 0 0 ∷ puts 0 ∷ asks 0 1 ∷ hears 0 1 ∷ counts 0 ∷ asks 0 0 ∷ hears 0 0 ∷ [])
     ≡ Some (
@@ -177,7 +177,7 @@ no_second_finish : ledger_after two_servers (finishes 0 ∷ asks 0 1 ∷ asks 0 
 unfolding post
 no_second_finish = refl
 
--- calls behind the last answer wait in the ledger alone: nothing of the put is in the transcript
+-- calls after the last answer wait in the ledger alone: nothing of the put is in the transcript
 transcript_is_behind : option_map (λ (w : World). length (transcript w (rank 0))) (run (start two_servers) (puts 0 ∷ asks 0 0 ∷ []))
     ≡ Some 0
 unfolding post
@@ -212,7 +212,7 @@ waiting_after config events =
     option_map (λ (w : World). map (λ (s : ServerModel). (map (λ e. e.wish.rank) s.kept.parked.waiting, has_ended s)) w.servers)
     (run (start config) events)
 
--- of the call of a rank so many letters are under way, or so often it waits, before the first event and after each
+-- how many letters of a rank's call are under way, or how often it waits, before the first event and after each
 abbrev calls_along : Config → ℕ → List Event → List (Option ℕ)
 calls_along config number events =
     map (λ k. option_map (measure (weights (one_letter (rank number)))) (run (start config) (take k events)))

@@ -236,6 +236,7 @@ pub fits : (w : World) (from to : Actor) (letter : Letter) (rest : List Letter) 
 fits w from to letter rest well f t front =
     front_fits w.config w.links from to letter rest (all_fit w well.shape well.kind) f t front
 
+-- an option that is not empty has a value
 pub some_of : {X : Type 0} (o : Option X) → IsSome o → (x : X) × (o ≡ Some x)
 some_of None some = absurd (cc)
 some_of (Some x) some = (x, refl)
@@ -362,8 +363,8 @@ to_rank w b from me letter rest well l there here small front =
 pub apart_is : (a b : ℕ) → not (a == b) ≡ true → a ≢ b
 apart_is a b apart same = let e = eq-eqb a b same in absurd (cc)
 
--- the home asks; an answer comes where the rank waits with the sender unanswered; a hint comes to the home; a letter of a push comes
--- where that push stands, or as the bag has its unit; a notice comes to server 0, and a verdict from it
+-- the home asks. An answer comes where the rank waits with the sender unanswered. A hint comes to the home. A letter of a push comes
+-- where that push stands, or as the bag has its unit. A notice comes to server 0, and a verdict from it
 between_awaited : (w : World) (b : Bag) (from me : Server) (letter : Letter) (rest : List Letter) (m : Message) → IsWell w → IsLawful w b
     → NoneOwes w → from.0 < w.config.servers → me.0 < w.config.servers → from ≢ (pool_of w me).me
     → link w.links (place_of w.config (by.Server from)) (place_of w.config (by.Server me)) ≡ letter ∷ rest → letter.message ≡ m
@@ -462,6 +463,7 @@ handled_here w b (by.Rank from) (by.Server to) letter rest well l paid f t small
 handled_here w b (by.Server from) (by.Rank to) letter rest well l paid f t small going plain front =
     to_rank w b from to letter rest well l (ltb-true from.0 w.config.servers f) (ltb-true to.0 w.config.ranks t) small front
 
+-- in every run the front letter of each list is expected, but for tokens
 pub none_is_stuck : (config : Config) (events : List Event) (w : World)
     → Runs (start config) events w
     → NoneIsStuck w

@@ -34,6 +34,7 @@ put_beside n links a b k v la differs sq =
 pub put_elsewhere : (links : Links) (a b x k : ℕ) (v : List Letter) → (x ≡ a → ⊥) → link (put_link links a b v) x k ≡ link links x k
 put_elsewhere links a b x k v differs = ap (λ r. get_or r k []) (get_or-set_other links a x (set (row links a) b v) [] differs)
 
+-- letters of one actor leave the links from others
 pub post_other : (config : Config) (links : Links) (a x b : ℕ) (sends : List Sending) → (x ≡ a → ⊥)
     → link (post config links a sends) x b ≡ link links x b
 unfolding post
@@ -93,6 +94,7 @@ pub front_le : (m : Weights) (config : Config) (links : Links) (from to : Actor)
     → link links (place_of config from) (place_of config to) ≡ l ∷ rest → m.letter from to l.message ≤ links_weight config m links
 front_le m config links from to l rest sq f t front = let off = front_goes config m links from to l rest sq f t front in omega arith
 
+-- the front letter of a link weighs no more than all letters
 pub front_held : (m : Weights) (w : World) (from to : Actor) (l : Letter) (rest : List Letter) → IsShaped w → is_within w.config from ≡ true
     → is_within w.config to ≡ true → link w.links (place_of w.config from) (place_of w.config to) ≡ l ∷ rest
     → m.letter from to l.message ≤ measure m w

@@ -37,7 +37,7 @@ use Rattle.core_law.proofs.Well.{act_well, inside_servers, own_of, tick_well}
 
 -- Lines.
 
--- so many letters were sent so far, the last with this stamp at most
+-- this number of letters was sent so far, the last with this stamp at most
 record Line (letters : List Letter) (sent clock : ℕ) : Type 0 where
   first : ℕ
   places : AreConsecutive first letters sent
@@ -271,6 +271,7 @@ kept_in_line w next well line (A_request {from = from} {me = me} {letter = lette
 
 -- At the start.
 
+-- at the start each link is empty
 pub empty_link : (n a b : ℕ) → a < n → link (replicate n (replicate n [])) a b ≡ []
 empty_link n a b below =
     let none : List Letter = [] in
@@ -305,6 +306,7 @@ run_in_line w last (e ∷ events) well line run =
     let d = happens_does w run.0 e run.1 in
     run_in_line run.0 last events (well_kept w run.0 well d) (kept_in_line w run.0 well line d) run.2
 
+-- in every run the letters on each link stand in line
 pub every_run_in_line : (config : Config) (events : List Event) (w : World) → Runs (start config) events w → (from to : Actor)
     → is_within w.config from ≡ true → is_within w.config to ≡ true → IsInLine w from to
 every_run_in_line config events w run from to f t =

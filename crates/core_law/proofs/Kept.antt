@@ -25,6 +25,7 @@ pub record IsLaw (config : Config) (m : Weights) : Type 0 where
       → RankKeeps m me s (m.letter (by.Server from) (by.Rank me) message) x
   pub begun : (me : Rank) (s : ClientModel) (x : Made) → Began config me s x → Then s x → RankKeeps m me s 0 x
 
+-- a step of a rank that weighs as much after as before keeps a balance
 pub rank_balance : (m : Weights) (w : World) (me : Rank) (links : Links) (x : Made) (taken : ℕ) → IsShaped (record w { links = links })
     → me.0 < w.config.ranks → AreWithin w.config x.sends → links_weight w.config m links + taken ≡ links_weight w.config m w.links
     → RankKeeps m me (client_of w me) taken x → IsBalanced m w → IsBalanced m (after_rank w me links x)

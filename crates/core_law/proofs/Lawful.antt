@@ -47,6 +47,7 @@ use Rattle.core_law.proofs.Brought.{are_brought}
 abbrev pub Lawful : World → Type 0
 Lawful w = (b : Bag) × IsLawful w b
 
+-- each event keeps what is lawful
 pub kept_lawful : (w next : World) → IsWell w → Lawful w → Does w next → Lawful next
 kept_lawful w next well (b, l) (A_call {me = me} {call = call} {x = x} does) = call_lawful w next me call x b well l does
 kept_lawful w next well (b, l) (An_answer {from = from} {me = me} {letter = letter} {rest = rest} {x = x} does) =
@@ -104,6 +105,7 @@ run_lawful w last (e ∷ events) well l run =
     let d = happens_does w run.0 e run.1 in
     run_lawful run.0 last events (well_kept w run.0 well d) (kept_lawful w run.0 well l d) run.2
 
+-- every run is lawful at every moment
 pub every_run_lawful : (config : Config) (events : List Event) (w : World) → Runs (start config) events w → Lawful w
 every_run_lawful config events w run =
     run_lawful (start config) w events (begins_well config) (empty_bag config, starts_lawful config) run
@@ -121,12 +123,14 @@ pub ledger_is_legal : (config : Config) (events : List Event) (w : World) → Ru
 ledger_is_legal config events w run =
     let l = every_run_lawful config events w run in (l.0, ledger_is config events w l.0 run l.1)
 
+-- with one server the ledger of every run is a legal run of the bag
 pub alone_is_legal : (config : Config) (events : List Event) (w : World) → config.servers ≡ 1 → Runs (start config) events w
     → IsLegal config w.ledger
 alone_is_legal config events w alone run =
     let l = ledger_is_legal config events w run in
     (l.0, alone_run config (empty_bag config) l.0 w.ledger alone l.1)
 
+-- in every run the bag to which the ledger leads agrees with each server
 pub servers_agree : (config : Config) (events : List Event) (w : World) → Runs (start config) events w
     → (b : Bag) × IsLedger config w b × ((server : Server) → server.0 < config.servers → ServerAgrees b (pool_of w server))
 servers_agree config events w run =
@@ -162,6 +166,7 @@ said_behind c (waits_for.Keep request common first tried) (Some m) = plus_behind
 said_behind c (waits_for.Close request batch) (Some m) = plus_behind c.transcript calls_to.EndBatch (close_coming m)
 said_behind c (waits_for.Count request kind) (Some m) = plus_behind c.transcript (calls_to.Count kind) (count_coming m)
 
+-- in every run a rank's transcript is what the ledger says of its calls, but for the pending one
 pub ledger_tells : (config : Config) (events : List Event) (w : World) (rank : Rank) → rank.0 < config.ranks
     → Runs (start config) events w
     → Tells w rank
@@ -174,6 +179,7 @@ ledger_tells config events w rank within run =
       λ idle. sym its.1.said ∙ idle_said c its.0 idle,
     )
 
+-- in every run there is a bag in which each rank has its seat
 pub actors_seated : (config : Config) (events : List Event) (w : World) → Runs (start config) events w → (b : Bag) × IsSeated w b
 actors_seated config events w run =
     let l = every_run_lawful config events w run in (

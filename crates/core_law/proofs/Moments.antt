@@ -73,6 +73,7 @@ notes_held : (notes more held : List UnitNote) → All (Contains notes) held →
 notes_held notes more held all =
     All-weaker (Contains notes) (Contains (notes ++ more)) (λ n there. Contains-append_left notes more n there) held all
 
+-- what is lawful stays so where a rank begins a call
 pub call_lawful : (w next : World) (me : Rank) (call : Call) (x : Made) (b : Bag) → IsWell w → IsLawful w b
     → Begins w me call x next
     → (n : Bag) × IsLawful next n
@@ -105,6 +106,7 @@ call_lawful w next me call x b well l does =
 
 -- An answer is heard.
 
+-- what is lawful stays so where a rank hears a letter
 pub answer_lawful : (w next : World) (from : Server) (me : Rank) (letter : Letter) (rest : List Letter) (x : Made) (b : Bag)
     → IsWell w → IsLawful w b
     → Hears w from me letter rest x next → (n : Bag) × IsLawful next n

@@ -64,6 +64,7 @@ between_places P config links i k li lk on =
     let each = on.each from to (actor_within config i li) (actor_within config k lk) in
     subst (λ (b : ℕ). At i b) (actor_place config k) (subst (λ (a : ℕ). At a (place_of config to)) (actor_place config i) each)
 
+-- if each letter weighs 0, all links do
 pub zero_from : (m : Weights) (config : Config) (links : Links) → IsSquare (actors config) links
     → OnLinks (λ from to (l : Letter). m.letter from to l.message ≡ 0) config links → links_weight config m links ≡ 0
 zero_from m config links sq on =

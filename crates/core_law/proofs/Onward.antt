@@ -196,11 +196,12 @@ travel_later rule b e to unit l apart there =
     is.found ∙ ap (λ (w : Work). Some (record { unit = w; place = is.unit.place })) is.same
     ∙ ap (λ (p : UnitPlace). Some (record { unit = unit; place = p })) place
 
+-- a test that counts 0 does not pass
 pub one_not : (t : Bool) → one t ≡ 0 → t ≡ false
 one_not true e = absurd (omega arith)
 one_not false e = refl
 
--- the entry pushes a unit of which the letter is none of the open ones
+-- the entry pushes a unit of which the letter is not an open one
 abbrev pub IsApart : Entry → Actor → Actor → Message → Type 0
 IsApart e from to m = (id : UnitId) → pushes e ≡ Some id → open_letter id from to m ≡ 0
 
@@ -267,7 +268,7 @@ run_later rule (e ∷ es) b n from to m run apart of =
     let next = is_of_push_later rule b e from to m step.1 apart.0 of in
     run_later rule es run.0 n from to m run.2 apart.1 (subst (λ (x : Bag). IsOfPush x from to m) (sym step.2) next)
 
--- entries that push nothing are apart from every letter, and those of one unit from each letter that is none of its open ones
+-- entries that push nothing are apart from every letter, and those of one unit from each letter that is not an open one of it
 pub none_pushed : (es : List Entry) (from to : Actor) (m : Message) → Each (λ e. pushes e ≡ None) es → AreApart es from to m
 none_pushed [] from to m none = tt
 none_pushed (e ∷ es) from to m none =

@@ -1,4 +1,4 @@
--- A step that does not tell of a rank adds no call of it.
+-- A step that is not about a rank adds no call of it.
 use Rattle.std.proofs.Common.{◌≡◌, false, [], ◌++◌, Option, Some, None, refl, sym, ap, ◌∙◌}
 use Rattle.std.specs.Prelude.{option_and_then}
 use Rattle.std.specs.Option.{option_map}

@@ -1,4 +1,4 @@
--- A client stands for its rank after a step that tells of another.
+-- A client stands for its rank after a step that is about another.
 use Rattle.std.proofs.Common.{◌≡◌, ◌≢◌, ℕ, zero, suc, ◌+◌, ◌==◌, find, inl, inr, Bool, true, false, List, [], ◌∷◌, ◌++◌, Option, Some, None, refl, sym, ap, ◌∙◌, subst, slice_get}
 use Rattle.std.specs.Prelude.{option_and_then}
 use Rattle.std.proofs.lemmas.Bool.{eq-eqb}
@@ -178,7 +178,7 @@ part_kept : (me : Rank) (b : Bag) (server : Server) (batch : BatchId) (o : Optio
 part_kept me b server batch None differs = aside me b b.parts b.promises
 part_kept me b server batch (Some k) differs = then_rank me batch.rank _ b _ differs (aside me b _ b.promises)
 
--- An entry that does not tell of the rank.
+-- An entry that is not about the rank.
 
 same : (me : Rank) (b : Bag) → Leaves me b b
 same me b = aside me b b.parts b.promises

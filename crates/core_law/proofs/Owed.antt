@@ -18,6 +18,7 @@ use Rattle.core_law.proofs.UnderWay.{zero_on}
 
 -- Sums.
 
+-- where each element weighs 0 by its place, a list does
 pub no_sum : {X : Type 0} (xs : List X) → weigh_at (λ i x. 0) xs ≡ 0
 no_sum xs = none_adds (λ i x. 0) xs (λ i x. refl)
 
@@ -39,6 +40,7 @@ rank_owed w rank f inside =
 
 -- Letters.
 
+-- the letters of a rank's call count whether one is pending
 pub letters_are : (w : World) (rank : Rank) → rank.0 < length w.ranks → IsBalanced (weights (one_letter rank)) w
     → measure (weights (one_letter rank)) w ≡ one (not (is_idle (client_of w rank).pending))
 unfolding due
@@ -48,6 +50,7 @@ letters_are w rank inside even =
     let same = even.same in
     omega arith
 
+-- a rank's Finish letters to a server, and those that it handled, count whether the rank has finished
 pub finishes_are : (w : World) (rank : Rank) (server : Server) → rank.0 < length w.ranks → IsBalanced (finishes rank server) w
     → measure (finishes rank server) w ≡ one (client_of w rank).finished
 unfolding due
@@ -57,6 +60,7 @@ finishes_are w rank server inside even =
     let same = even.same in
     omega arith
 
+-- no letter is of a kind that does not go there
 pub no_kinds : (w : World) → IsBalanced (kinds w.config) w → measure (kinds w.config) w ≡ 0
 unfolding due
 no_kinds w even = let a = no_sum w.servers in let b = no_sum w.ranks in let e = even.same in omega arith

@@ -66,6 +66,7 @@ AreFit config me heard = Each (FitsHeard config me) heard
 abbrev pub AllFit : Config → Links → Type 0
 AllFit config links = OnLinks (λ from to (l : Letter). misfit config from to l.message ≡ 0) config links
 
+-- a test passes if its failure counts 0
 pub fits_is : (t : Bool) → one (not t) ≡ 0 → t ≡ true
 fits_is true none = refl
 fits_is false none = absurd (omega arith)
@@ -263,6 +264,7 @@ shut_alone config me a s here own fit sure alone now =
     let long : length s.kept.finished ≡ s.config.ranks = own.finished ∙ ap (λ (c : Config). c.ranks) (sym own.config) in
     shut_is a s its.0 its.1 long (takes_elsewhere config me a s here own.config fit) sure (own.shut alone) now
 
+-- at a server that is alone no check runs after an act
 pub runs_alone : (config : Config) (me : Server) (a : Act) (s : ServerModel) → me.0 < config.servers → IsPool config me s → Sure a s
     → config.servers ≡ 1 → (ring_after a s).runs ≡ false
 runs_alone config me a s here own sure alone =
@@ -336,7 +338,7 @@ back_to me from apart =
     let parts = and_parts (not (from.0 == me.0)) true apart in
     and_from (not (me.0 == from.0)) true (told_apart me.0 from.0 (other_way from.0 me.0 parts.0)) refl
 
--- the token goes on to the server behind this one, which is another where this one is not alone
+-- the token goes on to the next server, which is another where this one is not alone
 onward_fits : (config : Config) (me : Server) (s : ServerModel) (t : Token) → me.0 < config.servers → IsPool config me s
     → config.servers ≢ 1 → FitsSaid config me (to_server (onward s) (tells.Token t))
 onward_fits config me s t here own several =

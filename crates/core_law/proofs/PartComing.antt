@@ -33,7 +33,7 @@ use Rattle.server_law.specs.Acts.{batch_of, frees, unit_of as unit_named}
 use Rattle.core_law.proofs.Coming.{Comes, Waits, accepted_same, no_call, one_call, rank_changed, ring_next, single}
 use Rattle.core_law.proofs.Gone.{facts_same}
 
--- A part is freed behind the entry, if it is due then.
+-- A part is freed after the entry, if it is due then.
 
 -- the counts of a rank's batch, where a part is changed and its count is not
 accepted_turned : (b : Bag) (batch : BatchId) (g : Lot → Lot) → ((p : Lot) → (g p).batch ≡ p.batch) → ((p : Lot) → (g p).accepted ≡ p.accepted)
@@ -77,7 +77,7 @@ freed_comes c p a b e me batch k =
       accepted = accepted_turned n batch (λ q. record q { freed = true }) (λ q. refl) (λ q. refl) _ _ k.accepted;
     }
 
--- an entry, and behind it the freeing of a part that is due
+-- an entry, and after it the freeing of a part that is due
 pub with_frees : (found : Bag → Bool) (c : ClientModel) (p : Pending) (a : Message) (b next : Bag) (e : Entry) (me : Server)
     (batch : BatchId) (part : Part)
     → ((n : Bag) → IsRunWhere found b (e ∷ []) n → Comes c p a b n (e ∷ [])) → IsRunWhere found b (e ∷ frees me batch part) next

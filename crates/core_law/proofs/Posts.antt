@@ -15,11 +15,13 @@ abbrev pub lettered : ClientModel → List ClientSaying → List Sending
 lettered s [] = []
 lettered s (y ∷ ys) = request_posted s y ∷ lettered (counted s y.to) ys
 
+-- what requests send comes after what was sent before
 pub requests_sends : (says : List ClientSaying) (x : Made) → (post_requests x says).sends ≡ x.sends ++ lettered x.state says
 requests_sends [] x = sym (append-nil x.sends)
 requests_sends (y ∷ says) x =
     requests_sends says _ ∙ append_assoc x.sends (request_posted x.state y ∷ []) (lettered (counted x.state y.to) says)
 
+-- requests weigh the same with stamps and places as without
 pub requests_weight : (f : Actor → Message → ℕ) (s : ClientModel) (says : List ClientSaying)
     → weigh (λ x. f x.to x.letter.message) (lettered s says) ≡ weigh (λ y. f (by.Server y.to) y.message) says
 requests_weight f s [] = refl
@@ -36,6 +38,7 @@ pub requests_state : (says : List ClientSaying) (x : Made)
 requests_state [] x = refl
 requests_state (y ∷ says) x = requests_state says _
 
+-- sending requests enters nothing
 pub requests_entries : (says : List ClientSaying) (x : Made) → (post_requests x says).entries ≡ x.entries
 requests_entries [] x = refl
 requests_entries (y ∷ says) x = requests_entries says _

@@ -22,7 +22,7 @@ use Rattle.core_law.specs.Pushed.{letters_of}
 use Rattle.core_law.specs.Pushes.{promised_letter, push_letter, travels_letter}
 use Rattle.core_law.proofs.Examples.{asks, brings, hears, illegal_from, ledger_after, rank, reserves, server, two_and_two, unit}
 
--- a rank puts so many bytes of type 1 for any rank
+-- a rank puts a body of this length, of type 1, for any rank
 abbrev puts_bytes : ℕ → ℕ → Event
 puts_bytes number size = occurs.Call (rank number) (calls_to.Put (record { 0 = 1 }) (pos 0) Any None (replicate size 7))
 

@@ -1,5 +1,5 @@
--- Each act of a push, and that exhaustion was found: what it needs of the bag is so, and what is known of these letters stays so; and
--- every other act leaves it.
+-- Each act of a push, and that exhaustion was found: what it needs of the bag is so, and what is known of these letters stays so.
+-- Every other act leaves it.
 use Rattle.std.specs.Option.{option_map}
 use Rattle.std.specs.Prelude.{Contains, fold}
 use Rattle.std.proofs.Common.{Bool, None, Option, Some, [], ap, arith, cond, false, length, not, refl, subst, sym, true, ℕ, ◌<◌, ◌==◌, ◌∙◌, ◌∷◌, ◌≡◌}

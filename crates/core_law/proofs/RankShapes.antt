@@ -61,6 +61,7 @@ pub record Leaving (s : ClientModel) (x : Made) : Type 0 where
       (map farewell (range_with_len 0 s.config.servers))
   pub each : Each (IsFarewell s.config) x.sends
 
+-- what a step of a rank has sent: one letter that asks a server, the letters of Finish, or nothing
 pub data Then (s : ClientModel) (x : Made) : Type 0 where
   It_rests : (h : Resting s x) → Then s x
   It_asks : (h : Asking s x) → Then s x
@@ -79,7 +80,7 @@ ChangesBag me e b =
     (f : RankState → RankState) × (is_done : Bool) × (after b e ≡ with_rank me f (record b { done = is_done }))
     × (b.done ≡ true → is_done ≡ true)
 
--- the entry tells of this rank, and changes no more than that
+-- the entry is about this rank, and changes nothing else
 abbrev pub ChangesRank : Rank → Entry → Type 0
 ChangesRank me e = (teller e ≡ Some me) × ((b : Bag) → ChangesBag me e b)
 

@@ -43,7 +43,7 @@ use Rattle.core_law.proofs.UnderWay.{each_weaker, posted_on, weaker}
 use Rattle.core_law.specs.Pushed.{IsOfPush}
 use Rattle.core_law.proofs.RankPushes.{LeavesServers, rank_pushed}
 
--- Entries that do not tell of a rank.
+-- Entries that are not about a rank.
 
 abbrev pub AreSilent : Rank → List Entry → Type 0
 AreSilent me es = Each (λ e. tells_of me (teller e) ≡ false) es

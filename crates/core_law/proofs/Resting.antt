@@ -69,6 +69,7 @@ length-changed f place [] = refl
 length-changed f zero (x ∷ xs) = refl
 length-changed f (suc place) (x ∷ xs) = ap suc (length-changed f place xs)
 
+-- a run of the bag keeps how many ranks there are
 pub ranks_stay : (found : Bag → Bool) (b last : Bag) (es : List Entry) → IsRunWhere found b es last → length last.ranks ≡ length b.ranks
 ranks_stay found b last [] run = ap (λ (x : Bag). length x.ranks) (sym run)
 ranks_stay found b last (e ∷ es) run =

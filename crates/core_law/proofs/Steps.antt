@@ -43,6 +43,7 @@ pub record Begins (w : World) (me : Rank) (call : Call) (x : Made) (next : World
   pub does : begin (client_of w me) call ≡ Some x
   pub is : next ≡ after_rank w me w.links x
 
+-- what an event does: a rank begins a call, a rank hears a letter, or a server handles one
 pub data Does : World → World → Type 0 where
   A_call : {w next : World} {me : Rank} {call : Call} {x : Made} → Begins w me call x next → Does w next
   An_answer : {w next : World} {from : Server} {me : Rank} {letter : Letter} {rest : List Letter} {x : Made}
@@ -87,6 +88,7 @@ handle_does w (by.Server from) (by.Server to) next (letter ∷ rest) f t l h =
     (unless_some (has_ended (pool_of w to)) o next h) in
     A_request {from = by.Server from} (record { here = ltb-true to.0 w.config.servers t; there = f; front = l; does = s.1; is = s.2 })
 
+-- an event that happens does one of the three
 pub happens_does : (w next : World) (e : Event) → happens w e ≡ Some next → Does w next
 happens_does w next (occurs.Call me call) h =
     let s = when_some (ltb me.0 w.config.ranks) (option_map (after_rank w me w.links) (begin (client_of w me) call)) next h in
@@ -98,6 +100,7 @@ happens_does w next (occurs.Deliver from to) h =
     let parts = and_parts (is_within w.config from) (is_within w.config to) s.0 in
     handle_does w from to next letters parts.0 parts.1 refl s.1
 
+-- an event keeps the configuration
 pub same_config : (w next : World) → Does w next → next.config ≡ w.config
 same_config w next (A_call does) = ap (λ (v : World). v.config) does.is
 same_config w next (An_answer does) = ap (λ (v : World). v.config) does.is
@@ -114,6 +117,7 @@ unfolding measure
 taken_weight m w from to letter rest shape f t front =
     let off = front_goes w.config m w.links from to letter rest shape.square f t front in omega arith
 
+-- a world without the front letter of a link is still a world of these actors
 pub taken_shaped : (w : World) (from to : Actor) (rest : List Letter) → IsShaped w → is_within w.config from ≡ true
     → is_within w.config to ≡ true → IsShaped (record w { links = taken w from to rest })
 taken_shaped w from to rest shape f t = record {

@@ -18,6 +18,7 @@ use Rattle.core_run.specs.World.{Links, actors, link, post, put_link, row}
 use Rattle.core_law.specs.Measures.{Weights, actor, link_weight, links_weight, row_weight, said_weight, sends_weight, weigh, weigh_at}
 use Rattle.core_law.specs.Well.{IsSquare}
 
+-- two lists joined weigh what both do
 pub weigh-append : {X : Type 0} (f : X → ℕ) (xs ys : List X) → weigh f (xs ++ ys) ≡ weigh f xs + weigh f ys
 weigh-append f [] ys = omega arith
 weigh-append f (x ∷ xs) ys = let h = weigh-append f xs ys in omega arith
@@ -39,6 +40,7 @@ none_adds f [] zeros = refl
 none_adds f (x ∷ xs) zeros =
     let here = zeros zero x in let later = none_adds (λ i. f (suc i)) xs (λ i. zeros (suc i)) in omega arith
 
+-- where only one element weighs anything, a list weighs as it does
 pub one_adds : {X : Type 0} (f : ℕ → X → ℕ) (xs : List X) (n : ℕ) (d : X) → n < length xs → ((i : ℕ) (x : X) → i ≢ n → f i x ≡ 0)
     → weigh_at f xs ≡ f n (get_or xs n d)
 one_adds f [] n d inside others = absurd (omega arith)
@@ -59,6 +61,7 @@ weigh_at_le f g less [] = omega arith
 weigh_at_le f g less (x ∷ xs) =
     let here = less zero x in let later = weigh_at_le (λ i. f (suc i)) (λ i. g (suc i)) (λ i. less (suc i)) xs in omega arith
 
+-- where each letter weighs less, all links do
 pub links_le : (config : Config) (m n : Weights) (links : Links)
     → ((from to : Actor) (x : Message) → m.letter from to x ≤ n.letter from to x)
     → links_weight config m links ≤ links_weight config n links
@@ -76,6 +79,7 @@ weigh_at-set f [] i y d l = absurd (omega arith)
 weigh_at-set f (x ∷ xs) zero y d l = omega arith
 weigh_at-set f (x ∷ xs) (suc i) y d l = let h = weigh_at-set (λ k. f (suc k)) xs i y d (omega arith) in omega arith
 
+-- the actor at an actor's place is that actor
 pub place_actor : (config : Config) (a : Actor) → is_within config a ≡ true → actor config (place_of config a) ≡ a
 place_actor config (by.Rank r) h = rw h
 place_actor config (by.Server s) h =
@@ -83,6 +87,7 @@ place_actor config (by.Server s) h =
     let same : config.ranks + s.0 - config.ranks ≡ s.0 = omega arith in
     rw (no, same)
 
+-- the place of an actor of the run is one of the world
 pub place_below : (config : Config) (a : Actor) → is_within config a ≡ true → place_of config a < actors config
 place_below config (by.Rank r) h = let l = ltb-true r.0 config.ranks h in omega arith
 place_below config (by.Server s) h = let l = ltb-true s.0 config.servers h in omega arith
@@ -124,6 +129,7 @@ square_post config links a (x ∷ sends) l are sq =
     (square_put (actors config) links a (place_of config x.to) (link links a (place_of config x.to) ++ x.letter ∷ []) l
     (place_below config x.to are.0) sq)
 
+-- letters that are sent add their weights
 pub post_weight : (config : Config) (m : Weights) (links : Links) (a : ℕ) (sends : List Sending) → a < actors config
     → AreWithin config sends → IsSquare (actors config) links
     → links_weight config m (post config links a sends) ≡ links_weight config m links + sends_weight m (actor config a) sends

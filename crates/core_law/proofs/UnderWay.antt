@@ -15,14 +15,17 @@ use Rattle.core_law.proofs.Fifo.{letters_for, link_le, post_other, post_same, pu
 
 -- Of each element of a list.
 
+-- what holds of each element of two lists holds of them joined
 pub each_append : {X : Type 0} (P : X → Type 0) (xs ys : List X) → Each P xs → Each P ys → Each P (xs ++ ys)
 each_append P [] ys a b = b
 each_append P (x ∷ xs) ys a b = (a.0, each_append P xs ys a.1 b)
 
+-- what holds of each element of joined lists holds of both
 pub each_parts : {X : Type 0} (P : X → Type 0) (xs ys : List X) → Each P (xs ++ ys) → Each P xs × Each P ys
 each_parts P [] ys all = (tt, all)
 each_parts P (x ∷ xs) ys all = let later = each_parts P xs ys all.1 in ((all.0, later.0), later.1)
 
+-- what follows of each element
 pub each_weaker : {X : Type 0} (P Q : X → Type 0) → ((x : X) → P x → Q x) → (xs : List X) → Each P xs → Each Q xs
 each_weaker P Q f [] a = tt
 each_weaker P Q f (x ∷ xs) a = (f x a.0, each_weaker P Q f xs a.1)
@@ -33,6 +36,7 @@ each_both P Q (x ∷ xs) a b = ((a.0, b.0), each_both P Q xs a.1 b.1)
 
 -- Of each link, with the actors between which it is.
 
+-- it holds of the letters on each link
 abbrev pub AllLinks : (Actor → Actor → List Letter → Type 0) → Config → Links → Type 0
 AllLinks P config links =
     (from to : Actor) → is_within config from ≡ true → is_within config to ≡ true
@@ -100,6 +104,7 @@ posted_links P Q config links me sends sq i are comes others all from to f t = b
 
 -- Of each letter under way.
 
+-- what follows of each letter
 pub weaker : (P Q : Actor → Actor → Letter → Type 0) (config : Config) (links : Links)
     → ((from to : Actor) (l : Letter) → P from to l → Q from to l) → OnLinks P config links → OnLinks Q config links
 weaker P Q config links f on = record {
@@ -107,6 +112,7 @@ weaker P Q config links f on = record {
       (on.each from to h t);
 }
 
+-- of each letter both, if each of the two
 pub both : (P Q : Actor → Actor → Letter → Type 0) (config : Config) (links : Links) → OnLinks P config links → OnLinks Q config links
     → OnLinks (λ from to l. P from to l × Q from to l) config links
 both P Q config links p q = record {
@@ -147,6 +153,7 @@ sent_to P config from to (x ∷ sends) t are each =
         (subst (λ (a : Actor). P from a x.letter) same each.0, later)
     by_test false is later = later
 
+-- of each letter, where letters go off
 pub posted_on : (P : Actor → Actor → Letter → Type 0) (config : Config) (links : Links) (me : Actor) (sends : List Sending)
     → IsSquare (actors config) links → OnLinks P config links → is_within config me ≡ true → AreWithin config sends
     → Each (λ (x : Sending). P me x.to x.letter) sends → OnLinks P config (post config links (place_of config me) sends)
@@ -162,6 +169,7 @@ each_zero : (f : Letter → ℕ) (ls : List Letter) → weigh f ls ≡ 0 → Eac
 each_zero f [] none = tt
 each_zero f (l ∷ ls) none = (omega arith, each_zero f ls (omega arith))
 
+-- if all links weigh 0, each letter does
 pub zero_on : (m : Weights) (config : Config) (links : Links) → IsSquare (actors config) links → links_weight config m links ≡ 0
     → OnLinks (λ from to l. m.letter from to l.message ≡ 0) config links
 zero_on m config links sq none = record { each = at }

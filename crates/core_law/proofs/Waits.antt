@@ -24,6 +24,7 @@ by_around f (Some at) waiting gone come is =
     let all = ap (weigh f) is in
     omega arith
 
+-- those who wait after an act, and those who go, weigh what those who waited and those who come weigh
 pub waits : (f : Waiting → ℕ) (a : Act) (s : ServerModel) → SitsIn a s
     → weigh f (waiting_after a s) + weigh f (goes a) ≡ weigh f s.kept.parked.waiting + weigh f (comes a s)
 waits f a s sits = by_around f (around a) s.kept.parked.waiting (goes a) (comes a s) sits

@@ -25,6 +25,7 @@ use Rattle.core_law.proofs.Pushing.{even_push_keeps, pushing_even, pushing_to_ev
 use Rattle.core_law.proofs.Sums.{weigh_at-set}
 use Rattle.core_law.proofs.Waits.{even_keeps}
 
+-- a server of the run is in the world
 pub inside_servers : (w : World) (me : Server) → IsWell w → me.0 < w.config.servers → me.0 < length w.servers
 inside_servers w me well here = let e = (well.shape).servers in omega arith
 
@@ -35,6 +36,7 @@ pub fit_of : (w : World) (me : Server) (a : Act) → IsWell w → IsAct w me a �
 fit_of w me a well is =
     are_fit w.config me w.links (takes a) is.here (well.shape).square (all_fit w well.shape well.kind) is.front
 
+-- an act of a server has its own state
 pub own_of : (w : World) (me : Server) (a : Act) → IsWell w → IsAct w me a → IsOwn w me a
 own_of w me a well is =
     let s = pool_of w me in
@@ -45,6 +47,7 @@ own_of w me a well is =
       said = said_within w.config me (says a s) (said_fits w.config me a s is.here pool (fit_of w me a well is) is.sits is.sure is.hints);
     }
 
+-- each act keeps what holds of letters and of each actor alone
 pub act_well : (w : World) (me : Server) (a : Act) → IsWell w → IsAct w me a → IsWell (acted w me a)
 act_well w me a well is =
     let s = pool_of w me in
@@ -85,6 +88,7 @@ same_sum : (f : ℕ → Kept → ℕ) (w : World) (me : Server) (stamp : ℕ) (u
 same_sum f w me stamp up here =
     let h = weigh_at-set (server_weight f) w.servers me.0 (ticked (pool_of w me) stamp up) (new_pool w.config me) here in omega arith
 
+-- the stamp of an event keeps every balance
 pub tick_balance : (m : Weights) (w : World) (me : Server) (stamp : ℕ) (up : Bool) → me.0 < length w.servers → IsBalanced m w
     → IsBalanced m (ticks w me stamp up)
 unfolding measure due
@@ -117,6 +121,7 @@ tick_pool config me s stamp up own = record {
   alone = own.alone;
 }
 
+-- the stamp of an event keeps what holds of letters and of each actor alone
 pub tick_well : (w : World) (me : Server) (stamp : ℕ) (up : Bool) → me.0 < w.config.servers → IsWell w → IsWell (ticks w me stamp up)
 tick_well w me stamp up here well =
     let inside = inside_servers w me well here in

@@ -41,8 +41,8 @@ IsAsked s (waits_for.Close request batch) to m = (m ≡ tells.CloseBatch request
 IsAsked s (waits_for.Count request kind) to m = (m ≡ tells.Count request kind) × (to ≡ home s.config s.me)
 IsAsked s (waits_for.SetDone request tried) to m = (m ≡ tells.Done request) × (to ≡ looks_at s tried)
 
--- Between servers, the home's request for the rank is of its pending call, where nothing is decided; an answer that there is a unit
--- is what was decided, and the home's word of it is awaited; one that there is none decides nothing.
+-- Between servers, the home's request for the rank is of its pending call, where nothing is decided. An answer that there is a unit
+-- is what was decided, and the home's word of it is awaited. An answer that there is no unit decides nothing.
 abbrev pub IsOfRemote : ClientModel → Option Message → Message → Type 0
 IsOfRemote s coming (tells.Ask rank request types) = rank ≡ s.me → (coming ≡ None) × (s.pending ≡ waits_for.Reserve request types)
 IsOfRemote s coming (tells.AskGrant rank request note) =

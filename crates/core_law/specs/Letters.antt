@@ -145,8 +145,8 @@ numbered rank next = record {
   rank_due = at_rank rank (λ s. one (not (is_idle s.pending) && (s.next == next)));
 }
 
--- Remote letters: between the home and the server that was asked there are as many about the rank in this call as it waits at its
--- home in this call with that server unanswered.
+-- Remote letters. Between the home and the server that was asked as many are about the rank in this call as it waits at its home
+-- with that server unanswered.
 
 -- a rank for which a server was asked weighs so much; an idle one nothing
 abbrev pub if_asked : Option Server → (Server → ℕ) → ℕ

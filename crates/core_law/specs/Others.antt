@@ -41,12 +41,12 @@ teller enters.Exhausted = None
 teller (enters.Over rank call end) = Some rank
 teller (enters.Finished rank call) = Some rank
 
--- the entry does not tell of this rank
+-- the entry is not about this rank
 abbrev pub tells_of : Rank → Option Rank → Bool
 tells_of rank None = false
 tells_of rank (Some other) = other.0 == rank.0
 
--- the law: a client that stands for its rank of a sound bag stands for it after a step that does not tell of this rank
+-- the law: a client that stands for its rank of a sound bag stands for it after a step that is not about this rank
 abbrev pub ClientsStay : Type 0
 ClientsStay = (found : Bag → Bool) (b next : Bag) (e : Entry) (s : ClientModel) (coming : Option Message) → IsSoundBag b
     → StepsWhere found b e next

@@ -37,8 +37,8 @@ pub record IsNote (config : Config) (note : UnitNote) : Type 0 where
   pub there : note.server.0 < config.servers
   pub common : IsAt config note.common
 
--- the call that is pending is the last one. A put has not been refused by each server, nor has a common part, and not each server
--- has looked for a try, and not each has heard that the problem is done; a unit that is fetched is no longer held
+-- the call that is pending is the last one. Some server has not refused a put or a common part that is pending, has not looked
+-- for a try, or has not heard that the problem is done. A unit that is fetched is no longer held
 abbrev pub IsCall : ClientModel → Pending → Type 0
 IsCall s waits_for.Nothing = Prim.Unit {0}
 IsCall s (waits_for.Put unit first tried) = IsOffer s unit × (tried < s.config.servers)

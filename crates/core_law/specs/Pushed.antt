@@ -51,8 +51,8 @@ letters_of f = record { letter = f; server = no_server; rank = no_rank; server_d
 abbrev pub on_way : UnitId → List Lodged → ℕ
 on_way id units = sum_by (λ (u : Lodged). one (is_travelling u.place && same_unit u.unit.id id)) units
 
--- Of each unit at most one letter of a push is under way, but for acknowledgements; the bag has what it says; a promise is there exactly
--- while a letter of promised room is; and a unit is between servers exactly while the letter is that brings it.
+-- Of each unit at most one letter of a push is under way, but for acknowledgements. The bag has what it says. A promise is there exactly
+-- while a letter of promised room is. A unit is between servers exactly while the letter is that brings it.
 pub record IsPushed (w : World) (b : Bag) : Type 0 where
   pub opens : (id : UnitId) → links_weight w.config (letters_of (open_letter id)) w.links ≤ 1
   pub letters : OnLinks (λ from to l. IsOfPush b from to l.message) w.config w.links

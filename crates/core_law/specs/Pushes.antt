@@ -34,7 +34,7 @@ pushing a = record {
   due = λ place p. one (place == a.0);
 }
 
--- The same to one server, of one unit, before or after the unit or a cancel of it was sent.
+-- Letters of pushes to one server, of one unit, before or after the unit or a cancel of it was sent.
 
 abbrev pub is_push : Server → Server → UnitId → ℕ → ℕ → UnitId → Bool
 is_push a t id from to of = (from == a.0) && ((to == t.0) && same_unit of id)

@@ -20,7 +20,7 @@ use Rattle.core_law.specs.Pushed.{IsOfPush, letters_of, on_way}
 use Rattle.core_law.specs.Pushes.{promised_letter, travels_letter}
 use Rattle.core_run.specs.World.{World, client_of, pool_of}
 
--- The client of this rank stands for it, also while an answer comes; its calls in the ledger are its transcript and then its pending
+-- The client of this rank stands for it, also while an answer comes. Its calls in the ledger are its transcript and then its pending
 -- call, where that answer ends it. What comes is what the ledger has decided of the call and the rank has not heard.
 pub record HasSeat (w : World) (b : Bag) (me : Rank) : Type 0 where
   pub coming : Option Message
@@ -33,7 +33,7 @@ pub record AreMoving (w : World) (b : Bag) : Type 0 where
   pub travels : (id : UnitId) → links_weight w.config (letters_of (travels_letter id)) w.links ≡ on_way id b.units
   pub rooms : (id : UnitId) → links_weight w.config (letters_of (promised_letter id)) w.links ≡ promises_named id b.promises
 
--- each letter of a push says what the bag has of its unit; exactly one letter is under way that brings each unit between servers, and
+-- each letter of a push says what the bag has of its unit. Exactly one letter is under way that brings each unit between servers, and
 -- exactly one of promised room for each promise
 pub record AreBrought (w : World) (b : Bag) : Type 0 where
   pub told : OnLinks (λ from to l. IsOfPush b from to l.message) w.config w.links

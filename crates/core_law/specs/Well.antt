@@ -9,7 +9,7 @@ use Rattle.core_law.specs.Measures.{IsBalanced, push_weights, weights}
 use Rattle.core_law.specs.Pushes.{pushing, pushing_to}
 use Rattle.core_law.specs.Own.{AreOwn}
 
--- so many rows of so many lists
+-- this number of rows, each of this number of lists
 pub record IsSquare (n : ℕ) (links : Links) : Type 0 where
   pub rows : length links ≡ n
   pub each : (a : ℕ) → a < n → length (row links a) ≡ n

@@ -15,23 +15,23 @@ ghost use Rattle.core_law.specs.Seats.{AreBrought, IsSeated};
 ghost use Rattle.core_run.specs.Runs.{NoneIsStuck, Runs, Tells, run};
 ghost use Rattle.core_run.specs.World.{World, pool_of, start};
 
-/// What an entry leaves of the ranks of which it does not tell: a client stands for its rank of the bag after each such step
-/// (`ClientsStay`), and it adds nothing to the calls of that rank (`CallsStay`).
+/// What an entry leaves of the ranks that it is not about. A client stands for its rank of the bag after each such step
+/// (`ClientsStay`), and the entry adds nothing to the calls of that rank (`CallsStay`).
 pub fn other_laws()
     ensures clients_stay { ClientsStay }
     ensures calls_stay { CallsStay }
 {}
 
-/// In every run, of every number of ranks and servers and whatever the order of calls and letters: the ledger so far is a
-/// legal run of the bag (`legal`), where it is set aside what several servers find when they find that all work is used up
-/// (`found_in`); with one server nothing is (`legal_alone`). The bag agrees with each server (`agrees`). Each rank's transcript is what the
-/// ledger says of its calls, but for the pending one (`calls`). What each actor is to the bag, is told at once by
-/// `seated`. At each server no rank waits twice, and no free unit there is permitted to a rank that waits there and is idle
-/// (`calm`). Each letter of a push says what the bag has of its unit. Each unit of the bag that is between servers is
-/// brought by exactly one letter under way, and for each promise exactly one letter of promised room is: the answer that
-/// there is room, the unit, or the cancel (`moving`). The front letter of each list is expected, also between servers: where
-/// one asks another for a rank, is answered, or is told of a unit, in each letter of a push, and in a notice and a verdict;
-/// so no event is stuck while stamps are given, but for tokens (`expected`). A run as a relation is the one that the function `run` makes (`same_run`).
+/// In every run, whatever the numbers of ranks and servers and the order of calls and letters. The ledger so far is a legal run of the bag
+/// (`legal`). It is set aside what several servers find when they find that all work is used up (`found_in`). With one server nothing is
+/// set aside (`legal_alone`). The bag agrees with each server (`agrees`). Each rank's transcript is what the ledger says of its calls, but
+/// for the pending one (`calls`). What each actor is to the bag, is told at once by `seated`. At each server no rank waits twice, and no
+/// free unit there is permitted to a rank that waits there and is idle (`calm`). Each letter of a push says what the bag has of its unit.
+/// Each unit of the bag that is between servers is brought by exactly one letter under way. For each promise exactly one letter of
+/// promised room is under way: the answer that there is room, the unit, or the cancel (`moving`). The front letter of each list is
+/// expected, also between servers: where one asks another for a rank, is answered, or hears of a unit. So is each letter of a push, a
+/// notice and a verdict. So no event is stuck while stamps are given, but for tokens (`expected`). A run as a relation is the one that the
+/// function `run` makes (`same_run`).
 pub fn core_run_laws()
     ensures same_run { (w last : World) (events : List Event) → Runs w events last ↔ (run w events ≡ Some last) }
     ensures legal { (config : Config) (events : List Event) (w : World) → Runs (start config) events w →

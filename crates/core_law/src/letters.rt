@@ -19,22 +19,22 @@ ghost use Rattle.core_run.specs.Runs.{Runs};
 ghost use Rattle.core_run.specs.World.{World, pool_of, start};
 
 /// In every run, of every number of ranks and servers: each letter is of a kind that its sender sends to its receiver
-/// (`kinds`); servers write to each other about the ranks of the run, the rank's home to others or others to its home, of
-/// units that are pushed, and of checks: notices and failures to server 0, a token to the next server, and a verdict from
-/// server 0. While a call of a rank is pending, exactly one letter of it is under way, also between servers, or it waits at
-/// a server and is idle; otherwise none is (`one_letter`), with the number of the call (`numbered`). Between a home and
-/// another server there are as many letters about a rank's call as the rank waits at that home in this call with that
-/// server unanswered (`remotes`): by `one_letter` at most one. A Finish letter to a server, or that the server handled
-/// it, is there exactly where the rank has finished (`finishes`). The letters from one actor to another are the last
-/// that were sent, by consecutive places, and their stamps do not fall and are not past the sender's last event
-/// (`in_line`). While a push of a server stands, exactly one letter of it is under way, and otherwise none: the query for
-/// room, the answer to it, the unit or a cancel of it, or the acknowledgement (`pushes`). By server, unit and whether the
-/// unit or a cancel of it was sent, there is one exactly where the push that stands is this one: until then it is the query
-/// or its answer, from then on the unit, the cancel or the acknowledgement (`pushes_to`). Between events no server owes an
-/// acknowledgement (`none_owes`). Each actor's own state is as `AreOwn` says (`own`): the ranks that wait at a server have
-/// their home there, and only other servers are asked for them; the ranks whose wishes it keeps have their homes elsewhere;
-/// a push goes to another server; the last notice and the last mark of a server were of its activity or less; with one
-/// server no check goes round, and it is shut only where each rank has finished.
+/// (`kinds`). Servers write to each other about the ranks of the run, the rank's home to others or others to its home, and
+/// of units that are pushed. Of checks they write notices and failures to server 0, a token to the next server, and a
+/// verdict from server 0. While a call of a rank is pending, exactly one letter of it is under way, also between servers,
+/// or it waits at a server and is idle. Otherwise there is no such letter (`one_letter`), with the number of the call
+/// (`numbered`). Between a home and another server there are as many letters about a rank's call as the rank waits there
+/// with that server unanswered (`remotes`). By `one_letter` that is at most one. A Finish letter to a server, or that the
+/// server handled it, is there exactly if the rank has finished (`finishes`). The letters from one actor to another are the
+/// last that were sent, by consecutive places. Their stamps do not fall and are not past the sender's last event
+/// (`in_line`). While a push of a server goes on, exactly one letter of it is under way, and otherwise there is no such
+/// letter. It is the query for room, the answer to it, the unit or a cancel of it, or the acknowledgement (`pushes`). By
+/// server, unit and whether the unit or a cancel of it was sent, there is one exactly if the push that goes on is this one.
+/// Until then it is the query or its answer, from then on the unit, the cancel or the acknowledgement (`pushes_to`).
+/// Between events no server owes an acknowledgement (`none_owes`). Each actor's own state is as `AreOwn` says (`own`): the
+/// ranks that wait at a server have their home there, and only other servers are asked for them. The ranks whose wishes it
+/// keeps have their homes elsewhere. A push goes to another server. The last notice and the last mark of a server were of
+/// its activity or less. With one server no check goes round, and it is shut only where each rank has finished.
 pub fn letter_laws()
     ensures kinds { (config : Config) (events : List Event) (w : World) →
         Runs (start config) events w → IsBalanced (kinds config) w }

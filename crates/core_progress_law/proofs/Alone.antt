@@ -85,7 +85,7 @@ pub record IsReady (t : ServerModel) : Type 0 where
   pub idle : t.kept.ring.runs ≡ false
   pub waits : (e : Waiting) → Has t.kept.parked.waiting e → e.asked ≡ None
 
--- none of the acts says such a letter
+-- no act of these says such a letter
 abbrev pub NoneBring : List Act → Type 0
 NoneBring list = Each (λ (a : Act). brings a ≡ false) list
 

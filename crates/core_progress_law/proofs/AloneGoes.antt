@@ -66,7 +66,7 @@ pool_all w me [] inside = refl
 pool_all w me (a ∷ more) inside =
     pool_all (acted w me a) me more (inside_after w me a inside) ∙ ap (all_done more) (pool_is w me a inside)
 
--- where nothing is under way after them, none of them said a letter that brings the run on
+-- where nothing is under way after them, no act of them said a letter that brings the run on
 silent : (w : World) (me : Server) (list : List Act) → IsWell w → AreActs w me list → TakeNone list → measure news (acted_all w me list) ≡ 0
     → (measure news w ≡ 0) × NoneBring list
 silent w me [] well are none ends = (ends, tt)

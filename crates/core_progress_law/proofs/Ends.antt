@@ -23,7 +23,7 @@ carried_state : (list : List Act) (s : ServerModel) → (carried list s).state �
 carried_state [] s = refl
 carried_state (a ∷ list) s = carried_state list (done a s)
 
--- what deciders decide, and those behind them
+-- what deciders decide, and those after them
 pub decided_split : (ds es : List Decider) (s : ServerModel)
     → decided (ds ++ es) s ≡ decided ds s ++ decided es (all_done (decided ds s) s)
 decided_split [] es s = refl

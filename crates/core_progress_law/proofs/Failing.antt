@@ -223,7 +223,7 @@ module _ (w : World) (me : Server) (well : IsWell w) (ring : IsRinged w) (known 
       by_fit None e = let no : None ≡ Some failed.why = ap fitting (sym e) ∙ fitting_is in absurd (cc)
       by_fit (Some id) e = not_fits t way failed.at named id e
 
-  -- where there is no news and a check goes round, none of the causes is
+  -- where there is no news and a check goes round, no cause is there
   pub no_cause : (t : Token) → IsOnWay w me t → s.me ≡ me → Cause s t → ⊥
   no_cause t way named (inl busy) =
       let quiet = still_quiet w me well known.paid here none in let no : false ≡ true = sym busy ∙ quiet in absurd (cc)

@@ -405,7 +405,7 @@ serve_full s from letter x several is told = by_test (is_within s.config from &&
         by_plan (rule t from letter.message) plan (settles_by t told several from letter.message plan) e
     by_test false e = absurd (cc)
 
--- none of them is idle
+-- no rank of these is idle
 pub full_is : (s : ServerModel) (e : Waiting) → IsFull s → Has s.kept.parked.waiting e → e.asked ≡ None → s.kept.exhausted ≡ false
 full_is s e told has asked = by_flag s.kept.exhausted refl
   where

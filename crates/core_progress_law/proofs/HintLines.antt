@@ -1,4 +1,4 @@
--- From one server to another two hints of a rank are under way at most: one before the last answer about the rank, and one behind it.
+-- From one server to another two hints of a rank are under way at most: one before the last answer about the rank, and one after it.
 use Rattle.adlb_unit.specs.Links.{place_of}
 use Rattle.adlb_unit.specs.declared.configs.Config.{Config}
 use Rattle.adlb_unit.specs.declared.letters.Letter.{Letter}
@@ -18,7 +18,7 @@ use Rattle.std.proofs.Common.{Bool, List, [], ap, arith, cond, false, not, refl,
 use Rattle.std.proofs.lemmas.Bool.{eqb-true}
 use Rattle.adlb_unit.specs.declared.messages.Message.TheVariants as tells
 
--- how many hints of a rank there are before the last answer about it, and behind that
+-- how many hints of a rank there are before the last answer about it, and after that
 pub record Split : Type 0 where
   pub early : ℕ
   pub late : ℕ
@@ -39,7 +39,7 @@ next_split r x (tells.AskGrant rank request note) = answered (rank.0 == r) x
 next_split r x (tells.AskNone rank request) = answered (rank.0 == r) x
 next_split r x _ = x
 
--- letters one behind the other
+-- letters one after the other
 abbrev pub split : ℕ → Split → List Letter → Split
 split r x [] = x
 split r x (l ∷ ls) = split r (next_split r x l.message) ls
@@ -108,7 +108,7 @@ none_less x = record { early = omega arith; late = omega arith }
 pub rest_less : (r : ℕ) (l : Letter) (rest : List Letter) → IsLess (split r none_yet rest) (split r none_yet (l ∷ rest))
 rest_less r l rest = split_less r none_yet (next_split r none_yet l.message) rest (none_less (next_split r none_yet l.message))
 
--- Where no answer about the rank is under way, none of its hints is before one.
+-- Where no answer about the rank is under way, no hint of it is before one.
 
 next_early : (r : Rank) (x : Split) (m : Message) → remote_letter r m ≡ 0 → x.early ≡ 0 → (next_split r.0 x m).early ≡ 0
 next_early r x (tells.AskGrant rank request note) none zero_early = by_test (rank.0 == r.0) none

@@ -57,7 +57,7 @@ use Rattle.std.specs.Prelude.{nat_lt}
 use Rattle.adlb_unit.specs.declared.actors.Actor.TheVariants as by
 use Rattle.adlb_unit.specs.declared.messages.Message.TheVariants as tells
 
--- Between two servers, of each rank with its home at the second: one hint at most before the last answer, and one behind it, if the
+-- Between two servers, of each rank with its home at the second: one hint at most before the last answer, and one after it, if the
 -- first keeps no wish of it.
 
 pub record IsFew (ls : List Letter) (r : Rank) (kept : ℕ) : Type 0 where
@@ -254,7 +254,7 @@ answer_holds x rank r wishes holds first = by_rank (rank.0 == r) refl
         let none = gone r rank wishes is in let early = first is in (omega (arith, holds.1), omega arith)
     by_rank false is = less_holds x rank r wishes holds
 
--- the answer that there is none: the wish is kept
+-- the answer that there is no unit: the wish is kept
 none_holds : (x : Split) (wish : Wish) (r : ℕ) (wishes : List Wish) → Holds x (wishes_of r wishes)
     → ((wish.rank.0 == r) ≡ true → x.early ≡ 0)
     → Holds (answered (wish.rank.0 == r) x) (wishes_of r (unwished wish.rank wishes ++ wish ∷ []))

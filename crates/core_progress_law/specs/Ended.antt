@@ -35,9 +35,9 @@ CanGoOn w =
     ((from : Actor) × (to : Actor) × (next : World) × (happens w (occurs.Deliver from to) ≡ Some next))
     ⊎ ((r : Rank) × (r.0 < w.config.ranks) × (is_free (client_of w r) ≡ true))
 
--- Of a run so far that begins `n` calls at most: it has so many events at most, whatever the order in which letters are delivered. It has
--- ended where no letter is under way but to servers that have ended, and no rank can begin a call. Up to 2^34 calls no stamp reaches its
--- limit: so the run has ended, or goes on; and where no letter can be delivered, and no rank can begin a call, it has ended.
+-- Of a run so far that begins `n` calls at most: it has no more events than the bound, whatever the order in which letters are delivered.
+-- It has ended where no letter is under way but to servers that have ended, and no rank can begin a call. Up to 2^34 calls no stamp
+-- reaches its limit: so the run has ended, or goes on. Where no letter can be delivered, and no rank can begin a call, it has ended.
 pub record EndsWithin (n : ℕ) (events : List Event) (w : World) : Type 0 where
   pub few : length events ≤ 8192 * (n + 1)
   pub ends : IsStill w → IsEnded w

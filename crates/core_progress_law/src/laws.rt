@@ -9,8 +9,8 @@ ghost use Rattle.core_run.specs.declared.events.Event.{Event};
 ghost use Rattle.core_run.specs.Runs.{Runs};
 ghost use Rattle.core_run.specs.World.{World, happens, start};
 
-/// In every run, of every number of ranks and servers and whatever the order of calls and letters: where no letter is under way
-/// to an actor that has not ended, and no rank can begin a call, each rank has finished and each server has ended (`ends`): no
+/// In every run, whatever the numbers of ranks and servers and the order of calls and letters. Where no letter is under way to
+/// an actor that has not ended, and no rank can begin a call, each rank has finished and each server has ended (`ends`). So no
 /// run gets stuck. A world in which no event can happen has ended, if fewer than 2^34 calls were begun, so that no stamp reaches
 /// its limit (`dead`). With several servers something goes on until then, or a check goes round that finds all as it was
 /// (`goes`).

@@ -1,4 +1,4 @@
-//! In which order the ledger of a run tells of ends.
+//! In which order the ledger of a run has ends.
 
 ghost use Rattle.std.specs.Prelude.{◌≡◌, ◌++◌, ◌∷◌, false, List};
 ghost use Rattle.std.specs.List.{list_any};
@@ -11,8 +11,8 @@ ghost use Rattle.core_run.specs.declared.events.Event.{Event};
 ghost use Rattle.core_run.specs.Runs.{Runs};
 ghost use Rattle.core_run.specs.World.{World, start};
 
-/// In every run, of every number of ranks and servers and whatever the order of calls and letters: all work is found used up only
-/// where no rank has called the problem done (`undone`): no `Done` entry stands before the `Exhausted` entry.
+/// In every run, whatever the numbers of ranks and servers and the order of calls and letters. All work is found used up only
+/// where no rank has called the problem done (`undone`). No `Done` entry is before the `Exhausted` entry.
 pub fn order_laws()
     ensures undone { (config : Config) (events : List Event) (w : World) (before behind : List Entry) → Runs (start config) events w →
         w.ledger ≡ before ++ Exhausted ∷ behind → list_any (causes NoMoreWork) before ≡ false }

@@ -50,7 +50,7 @@ is_of_check (tells.Token t) = true
 is_of_check (tells.Failed t why) = true
 is_of_check _ = false
 
--- the front letter of each list can be handled, where its receiver has not ended and its stamp is one that is given; of tokens, and of
+-- the front letter of each list can be handled, where its receiver has not ended and its stamp is one that is given. Of tokens, and of
 -- those that have failed, it is not said
 abbrev pub NoneIsStuck : World → Type 0
 NoneIsStuck w =

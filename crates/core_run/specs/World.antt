@@ -102,8 +102,8 @@ after_server w server links x = record w {
 abbrev pub taken : World → Actor → Actor → List Letter → Links
 taken w from to rest = put_link w.links (place_of w.config from) (place_of w.config to) rest
 
--- the actor handles the front letter of this list; nothing where there is none, where the actor has ended, or where the letter is
--- not expected
+-- the actor handles the front letter of this list; nothing if there is no letter, if the actor has ended, or if the letter is not
+-- expected
 abbrev pub handle : World → Actor → Actor → List Letter → Option World
 handle w from to [] = None
 handle w (by.Rank from) (by.Rank to) (letter ∷ rest) = None

@@ -69,6 +69,7 @@ use Rattle.adlb_unit.specs.declared.messages.Message.TheVariants as tells
 use Rattle.bag_ledger.specs.declared.entries.Call.TheVariants as calls_to
 use Rattle.rank_client.specs.declared.pendings.Pending.TheVariants as waits_for
 
+-- the server knows that the problem is done
 abbrev pub done_at : World → Server → Bool
 done_at w t = (pool_of w t).kept.done
 
@@ -510,6 +511,7 @@ module _ (w next : World) (from : Actor) (me : Server) (letter : Letter) (rest :
 
 -- An event of a rank.
 
+-- some rank is still telling the servers that the problem is done
 abbrev pub SomePending : World → Type 0
 SomePending v = (r : Rank) × (r.0 < v.config.ranks) × (q : ℕ) × (tried : ℕ) × ((client_of v r).pending ≡ waits_for.SetDone q tried)
 
@@ -620,7 +622,7 @@ module _ (w next : World) (from : Server) (me : Rank) (letter : Letter) (rest : 
       let b = ap (λ (k : Rank). (behind w.config (home w.config k) tried).0) own.me in
       ap server_named (sym (at ∙ a ∙ b))
 
-  -- so a rank that is told of it is told by a server that knows
+  -- so a rank that hears it hears it from a server that knows
   pub heard_of : (q tried : ℕ) → (client_of w me).pending ≡ waits_for.SetDone q tried → done_at w from ≡ true
   heard_of q tried is =
       let goes : GoesOn (ticked (client_of w me) (letter_stamp (client_of w me) letter)) q tried from letter.message x.state.pending =

@@ -69,7 +69,7 @@ finish_is_news r t (by.Rank from) (by.Server to) m = by_message m
 finish_is_news r t (by.Rank from) (by.Rank to) m = omega arith
 finish_is_news r t (by.Server from) to m = omega arith
 
--- a letter of the rank's call is none of the others
+-- a letter of the rank's call is not among the others
 quiet_none : (config : Config) (r : Rank) (from to : Actor) (m : Message) → is_request m ≡ false → is_to_rank m ≡ false
     → remote_letter r m ≡ 0 → misfit config from to m ≡ 0 → call_letter r from to m ≡ 0
 quiet_none config r (by.Rank from) (by.Server to) m ask answer remote fits = rw ask refl

@@ -52,6 +52,7 @@ module _ (P : ServerModel → Type 0) (kept : IsKept P) where
 
 -- A run that goes on by one event.
 
+-- a run with one event more
 pub snoc : (w mid next : World) (es : List Event) (e : Event) → Runs w es mid → happens mid e ≡ Some next → Runs w (es ++ e ∷ []) next
 snoc w mid next [] e run is = (next, ap (λ (v : World). happens v e) run ∙ is, refl)
 snoc w mid next (x ∷ es) e run is = (run.0, run.1, snoc run.0 mid next es e run.2 is)

@@ -1,4 +1,4 @@
--- News: what is under way, or can begin, that brings a run on. And what servers know of each other where there is none.
+-- News: what is under way, or can begin, that brings a run on. And what servers know of each other where there is no news.
 use Rattle.std.specs.Prelude.{◌≡◌, ◌≢◌, ◌<◌, ◌⊎◌, ℕ, true, None}
 use Rattle.adlb_unit.specs.declared.messages.Message.{Message}
 use Rattle.adlb_unit.specs.declared.messages.Message.TheVariants as tells

@@ -1,4 +1,4 @@
--- In a world to which a run leads, there is no event exactly if one can see that there is none.
+-- In a world to which a run leads, there is no such event exactly if the tests say so.
 use Rattle.std.proofs.Common.{◌≡◌, ◌<◌, ◌↔◌, ◌⊎◌, inl, inr, ℕ, Bool, true, false, ◌&&◌, cond, List, [], ◌∷◌, length}
 use Rattle.std.proofs.Common.{Option, Some, None, Result, Ok, Err, refl, sym, ap, ◌∙◌, subst, arith}
 use Rattle.std.specs.Prelude.{IsSome, IsTrue, nat_lt, not}

@@ -29,7 +29,7 @@ use Rattle.core_world.specs.Seen.{under_way}
 use Rattle.core_world.specs.Stage.{with_client, with_server}
 use Rattle.core_world.proofs.Stamps.{unmapped}
 
--- An event adds its entries behind those of before, and changes no configuration.
+-- An event adds its entries after those of before, and changes no configuration.
 
 abbrev Extends : World → Option World → Type 0
 Extends w None = Prim.Unit {0}

@@ -48,7 +48,7 @@ event_answer w (occurs.Deliver from to) = front_answer w from to (under_way w fr
 abbrev pub IsEnabled : World → Event → Type 0
 IsEnabled w event = IsSome (happens w event)
 
--- The rank is not in the run, or not ready for the call; one of the two actors is not in the run, no letter is under way from the one to
+-- The rank is not in the run, or not ready for the call. One of the two actors is not in the run, no letter is under way from the one to
 -- the other, or the receiver has ended. In a world to which a run leads, there is no such event exactly then.
 abbrev pub HasNone : World → Event → Type 0
 HasNone w (occurs.Call rank call) = (is_within w.config (by.Rank rank) ≡ false) ⊎ (begin (client_of w rank) call ≡ None)
@@ -76,7 +76,7 @@ pub record IsKept (old new : World) : Type 0 where
   pub ledger : new.ledger ≡ old.ledger
   pub transcripts : (rank : Rank) → transcript new rank ≡ transcript old rank
 
--- some entries of an event stand behind those of before, in order
+-- some entries of an event follow those of before, in order
 pub record IsBetween (before now after : List Entry) : Type 0 where
   pub entered : List Entry
   pub rest : List Entry

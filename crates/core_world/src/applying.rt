@@ -17,13 +17,12 @@ use core_run::Event;
 
 impl World {
     /// Carries out an event, as `happens` says: a rank begins a call, or an actor handles the front letter of a list. It tells the
-    /// answer of the call that the event answers, if there is one (`event_answer`). If there
-    /// is no such event now, it answers `NotEnabled` with the event, and nothing has changed; this is tested first. It is so
-    /// exactly if the rank or an actor is not in the run, the rank is not ready, no letter is under way, or the receiver has
-    /// ended (`HasNone`): every other front letter is expected, since a run leads to the world. It answers
-    /// `TooLong` exactly when the event is enabled and its stamp would reach `2^48`, which is so only after `2^34` calls; the only
-    /// other error is `Memory`. After one of these two the world has failed, and answers the same to every event; what stands
-    /// then is said by `Stops`.
+    /// answer of the call that the event answers, if there is one (`event_answer`). If there is no such event now, it answers
+    /// `NotEnabled` with the event, and nothing has changed; this is tested first. It is so exactly if the rank or an actor is not
+    /// in the run, the rank is not ready, no letter is under way, or the receiver has ended (`HasNone`). Every other front letter
+    /// is expected, since a run leads to the world. It answers `TooLong` exactly when the event is enabled and its stamp would
+    /// reach `2^48`, which is so only after `2^34` calls; the only other error is `Memory`. After one of these two the world has
+    /// failed, and answers the same to every event; what stands then is said by `Stops`.
     pub fn apply(&mut self, event: Event) -> Result<Option<Answer>, ApplyFault>
         ensures told { IfOk result (λ answer. answer ≡ event_answer self.old.world event) }
         ensures applied { OnOk result (Applies self.old event self.new) }
@@ -78,7 +77,7 @@ impl World {
         }
     }
 
-    /// Applies the events in order, as `run` says, and tells how many there were. At the first refusal it stops: the number says
+    /// Applies the events in order, as `run` says, and tells how many there were. At the first refusal it stops. The number says
     /// how many were applied before, and the fault is that of the event of this number, from 0, as `apply` answers it.
     pub fn run_events(&mut self, events: Vec<Event>) -> Result<u64, (u64, ApplyFault)>
         ensures number { IfOk result (λ n. n ≡ length events.items) }

@@ -11,7 +11,7 @@ use thiserror::Error;
 /// Why a world does not apply an event.
 #[derive(Drop, Error)]
 pub enum ApplyFault {
-    /// There is no such event now: the rank is not in the run or not ready for the call; or an actor is not in the run, no
+    /// There is no such event now. The rank is not in the run or not ready for the call. Or an actor is not in the run, no
     /// letter is under way from the one to the other, or the receiver has ended.
     #[error("the event is not enabled now")]
     NotEnabled { event: Event },

@@ -69,7 +69,7 @@ impl Model for Row {
 }
 
 impl Row {
-    // So many empty lists.
+    // Empty lists, of this number.
     fn new(alloc: Global, actors: usize) -> Result<Row, NoMemory>
         ensures { IfOk result (λ row. row ≡ replicate actors []) }
     {
@@ -122,7 +122,7 @@ impl Model for Links {
 }
 
 impl Links {
-    // No letter, among so many actors.
+    // No letter, among this number of actors.
     pub(crate) fn new(alloc: Global, actors: usize) -> Result<Links, NoMemory>
         ensures { IfOk result (λ links. links ≡ replicate actors (replicate actors [])) }
     {
@@ -171,7 +171,7 @@ impl Links {
         row.pop(to)
     }
 
-    // Appends a letter to the list. A list that is none takes none.
+    // Appends a letter to the list. Does nothing if there is no such list.
     fn push(&mut self, from: usize, to: usize, letter: Letter) -> Result<(), NoMemory>
         ensures { OnOk result (self.new ≡ put_link self.old from to (link self.old from to ++ letter ∷ [])) }
     {

@@ -99,7 +99,7 @@ impl Stage {
         }
     }
 
-    // How many letters wait on the list; none where an actor is none of the run.
+    // How many letters wait on the list; 0 where an actor is not in the run.
     pub(crate) fn waiting(&self, from: Actor, to: Actor) -> u64
         ensures { result ≡ length (under_way self.now from to) }
     {

@@ -70,8 +70,7 @@ impl World {
         self.stage.client_at(rank).batch_open()
     }
 
-    /// How many letters from one actor to another were sent and not handled. Where one of the two is no actor of the run, there
-    /// are none.
+    /// How many letters from one actor to another were sent and not handled. It is 0 where one of the two is not in the run.
     pub fn waiting(&self, from: Actor, to: Actor) -> u64
         ensures { result ≡ length (under_way self.now.world from to) }
     {

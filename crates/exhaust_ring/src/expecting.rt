@@ -8,10 +8,10 @@ use adlb_unit::{Config, Rank, Server, Token, Types};
 
 impl Ring {
     /// The server expects this token from that server (`expects`, which tests `Expects`: `ring_laws`): it comes from the one
-    /// before in ring order. In wave 1 it names ranks of the run, each once; at server 0 it is of the check that runs,
-    /// elsewhere no mark of this check is there, and no rank that it names has its home there. In wave 2 it is at
-    /// server 0 of the check that runs, whose tests were passed there; elsewhere the mark of this check is there, and
-    /// its tests were not made.
+    /// before in ring order. In wave 1 it names ranks of the run, each once. At server 0 it is of the check that runs,
+    /// elsewhere no mark of this check is there, and no rank that it names has its home there. In wave 2 it is at server 0
+    /// of the check that runs, whose tests were passed there. Elsewhere the mark of this check is there, and its tests were
+    /// not made.
     pub fn expects(&self, from: Server, token: &Token) -> bool
         ensures { result ≡ expects self.now from token.now }
     {

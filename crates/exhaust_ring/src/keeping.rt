@@ -70,9 +70,9 @@ impl Ring {
         self.wanted = true;
     }
 
-    /// A check may start, of a server that is quiet or not (`MayStart`, and as a test `may_start`): at server 0, if one
-    /// is wanted and none runs, the server is quiet, and the end of the run was not found. Besides, it tells what is so
-    /// of each ring (`IsRing`).
+    /// A check may start, of a server that is quiet or not (`MayStart`, and as a test `may_start`). It may at server 0,
+    /// if one is wanted and none runs, the server is quiet, and the end of the run was not found. Besides, it tells
+    /// what is so of each ring (`IsRing`).
     pub fn may_start(&self, quiet: bool) -> bool
         ensures may { IsTrue result ↔ MayStart self.now quiet }
         ensures test { result ≡ may_start self.now quiet }

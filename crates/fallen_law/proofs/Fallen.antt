@@ -98,7 +98,7 @@ rule_told s (by.Server from) (tells.Gone trouble) told = none_if (from.0 == s.me
     none_if false = refl
 rule_told s (by.Server from) _ told = absurd (cc)
 
--- So an event gets none of them.
+-- So no event gets such a letter.
 
 plain_if : (t : Bool) → (t ≡ true → ⊥) → t ≡ false
 plain_if true none = absurd (none refl)

@@ -24,7 +24,7 @@ is_told (tells.Broken trouble) = true
 is_told (tells.Gone trouble) = true
 is_told _ = false
 
--- to each actor of the run went what the journal sent, and behind it what an actor that failed tells alone; of each came what the journal
+-- to each actor of the run went what the journal sent, and after it what an actor that failed tells alone. Of each came what the journal
 -- got, and perhaps more
 pub record Begins (d : DeskModel) : Type 0 where
   pub sends : (to : ℕ) → to < actors d.config

@@ -95,7 +95,7 @@ pub enum Definition {
 }
 
 /// Of definitions of distinct names: a name is worth a value by the rule if and only if it is in as many turns as there are
-/// definitions, so it has one value at most; and no later turn finds more.
+/// definitions, so it has one value at most. No later turn finds more.
 pub fn flow_laws()
     ensures values { (flow : List Definition) → AreDistinct flow → (name : Name) (v : ℕ) →
         (value flow name ≡ Some v) ↔ HasValue flow name v }

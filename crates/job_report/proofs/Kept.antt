@@ -53,7 +53,7 @@ pub outcomes_added : (i : ℕ) (outcomes : List Outcome) (list all : List (ℕ �
 outcomes_added i outcomes list all past so_far =
     sym (append-nil list) ∙ ap (λ l. list ++ all_told l) (sym (drop_all i outcomes past)) ∙ so_far
 
--- those of a puzzle in a list behind another
+-- those of a puzzle in a list that follows another
 cons_if : (hit : Bool) (g : Cells) (xs ys : List Cells) → (if hit then g ∷ (xs ++ ys) else xs ++ ys) ≡ (if hit then g ∷ xs else xs) ++ ys
 cons_if true g xs ys = refl
 cons_if false g xs ys = refl
@@ -103,7 +103,7 @@ found_sorted n [] (s ∷ new) long stable = absurd (omega (arith, long))
 found_sorted n (d ∷ old) new long stable =
     sym (found_ties n d.1 new) ∙ ap (λ l. map (λ s. s.1.now) l) (stable (n, d.1)) ∙ found_ties n d.1 (d ∷ old)
 
--- none of these is of the puzzle, or all are
+-- no element of these is of the puzzle, or each is
 none_found : (n : ℕ) (told : List (ℕ × Bor Cells)) → All (λ s. (s.0 == n) ≡ false) told → found_in n (pairs told) ≡ []
 unfolding found_in
 none_found n [] none = refl
@@ -119,7 +119,7 @@ all_found n (s ∷ told) all =
     ap (λ hit. if hit then s.1.now ∷ found_in n (pairs told) else found_in n (pairs told)) (all 0 s (omega arith))
     ∙ ap (λ l. s.1.now ∷ l) (all_found n told (All-tail (λ s. (s.0 == n) ≡ true) s told all))
 
--- those that stand together, behind some before the puzzle and before some behind it
+-- those that stand together, after some before the puzzle and before some after it
 pub found_between : (n : ℕ) (before mid behind : List (ℕ × Bor Cells)) → All (λ s. (s.0 == n) ≡ false) before →
     All (λ s. (s.0 == n) ≡ true) mid → All (λ s. (s.0 == n) ≡ false) behind →
     map (λ s. s.1) (pairs mid) ≡ found_in n (pairs (before ++ (mid ++ behind)))

@@ -33,7 +33,7 @@ abbrev pub AddsPuzzle : ℕ → List Outcome → List ℕ → List ℕ → Type 
 AddsPuzzle p outcomes text next =
     (part : List ℕ) × (next ≡ text ++ part) × ((budget : ℕ) (g : Cells) → IsHeld budget p g outcomes → IsPuzzlePart budget p g part)
 
--- it was made of what all outcomes tell of the puzzle
+-- it was made of what all outcomes have of the puzzle
 pub adds_puzzle : (p : ℕ) (f : Found) (outcomes : List Outcome) (text next : List ℕ) →
     ((part : List ℕ) × (next ≡ text ++ part) × ((all : List Outcome) (budget : ℕ) (g : Cells) → grids_at f p ≡ found p all →
     is_over_at f p ≡ told_over p all → IsHeld budget p g all → IsPuzzlePart budget p g part)) →
@@ -96,7 +96,7 @@ batch_more i p b jobs job common items bytes listed answers outcomes text next w
     subst (λ left. IsBefore jobs p b left outcomes text) (begins i jobs job (Batch common items) within is kind) so_far in
     batch_before jobs p b common items (drop (i + 1) jobs) answers outcomes text next looked told here
 
--- the totals behind all parts
+-- the totals after all parts
 pub totals_are : (budget grain : ℕ) (jobs : List Job) (outcomes : List Outcome) → AreWhole budget grain jobs outcomes →
     totals (made_in 0 outcomes) (made_in 1 outcomes) (made_in 2 outcomes) (made_in 3 outcomes)
     ≡ totals (all_boards budget grain jobs) (all_solutions budget jobs) (all_items jobs) (all_items jobs)
@@ -106,7 +106,7 @@ totals_are budget grain jobs outcomes whole =
     ∙ ap (λ k. totals (all_boards budget grain jobs) (all_solutions budget jobs) k (made_in 3 outcomes)) whole.jobs_made
     ∙ ap (λ k. totals (all_boards budget grain jobs) (all_solutions budget jobs) (all_items jobs) k) whole.answers_made
 
--- behind the last job stands the report
+-- after the last job stands the report
 pub report_is : (i p b : ℕ) (jobs : List Job) (outcomes : List Outcome) (text bytes : List ℕ) → length jobs ≤ i →
     IsBefore jobs p b (drop i jobs) outcomes text →
     bytes ≡ text ++ totals (made_in 0 outcomes) (made_in 1 outcomes) (made_in 2 outcomes) (made_in 3 outcomes) → (budget grain : ℕ) →

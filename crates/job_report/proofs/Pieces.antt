@@ -6,7 +6,7 @@ use Rattle.sudoku_law.specs.Grid.{Cells}
 use Rattle.sudoku_law.specs.Text.{text_of}
 use Rattle.job_report.specs.Report.{counted, grid_lines}
 
--- four pieces behind an old text
+-- four pieces after an old text
 pub four : (old a b c d p q r s : List ℕ) → p ≡ old ++ a → q ≡ p ++ b → r ≡ q ++ c → s ≡ r ++ d → s ≡ old ++ (((a ++ b) ++ c) ++ d)
 four old a b c d p q r s e1 e2 e3 e4 =
     e4 ∙ ap (λ x. x ++ d) (e3 ∙ ap (λ x. x ++ c) (e2 ∙ ap (λ x. x ++ b) e1)) ∙ simp append_assoc
@@ -26,7 +26,7 @@ one_more_line text old mid next grids i x within is so_far e1 e2 =
 pub all_lines : (text old : List ℕ) (grids : List Cells) (i : ℕ) → drop i grids ≡ [] → text ++ grid_lines (drop i grids) ≡ old → text ≡ old
 all_lines text old grids i none so_far = sym (append-nil text) ∙ ap (λ l. text ++ grid_lines l) (sym none) ∙ so_far
 
--- a count behind a text is a count whose name begins with the text
+-- a count after a text is a count whose name begins with the text
 pub count_after : (text name : List ℕ) (n : ℕ) → text ++ counted name n ≡ counted (text ++ name) n
 count_after text name n =
     let blank : List ℕ = codes " " in

@@ -39,7 +39,7 @@ module _ (budget : ℕ) (f : Found) (outcomes : List Outcome) (grids : (n : ℕ)
       ∙ ap (λ rest. one rest (is_over_puzzle budget g)) (overs_are (p + 1) b jobs held.1)
       ∙ sym (sum_by-cons (λ x. cond (is_over_puzzle budget x) 1 0) g (puzzles jobs))
 
-  -- as many solutions are told of the others as they have
+  -- the others are told as many solutions as they have
   pub solutions_are : (p b : ℕ) (jobs : List Job) → AreHeld budget p b jobs outcomes →
       solutions_from f p (puzzles jobs) ≡ sum_by (solutions_reported budget) (puzzles jobs)
   unfolding puzzles
@@ -117,7 +117,7 @@ pub all_counted : (f : Found) (i : ℕ) (jobs : List Job) (counts : Counts) → 
     IsCounting f jobs [] counts
 all_counted f i jobs counts past so_far = subst (λ left. IsCounting f jobs left counts) (drop_all i jobs past) so_far
 
--- The counts of jobs of which the outcomes hold all, in lines behind an empty text, with the totals are the summary.
+-- The counts of jobs of which the outcomes hold all, in lines after an empty text, with the totals are the summary.
 module _ (budget grain : ℕ) (jobs : List Job) (f : Found) (outcomes : List Outcome) (counts : Counts)
     (whole : AreWhole budget grain jobs outcomes) where
   pub puzzles_line_is : ((n : ℕ) → grids_at f n ≡ found n outcomes) → ((n : ℕ) → is_over_at f n ≡ told_over n outcomes) →

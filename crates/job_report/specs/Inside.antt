@@ -13,14 +13,14 @@ use Rattle.job_report.specs.declared.found.Found.{Found}
 use Rattle.job_report.specs.declared.summaries.Counts.{Counts}
 use Rattle.sudoku_law.specs.Grid.{Cells}
 
--- the solutions that are told of puzzle n, and whether it is told to be over
+-- the solutions of puzzle n as they are told, and whether it is told to be over
 abbrev pub grids_at : Found → ℕ → List Cells
 grids_at f n = found_in n f.told
 
 abbrev pub is_over_at : Found → ℕ → Bool
 is_over_at f n = contains nat_cmp f.overs n
 
--- puzzle n counts as over or not, and how many solutions are told of it if it does not
+-- puzzle n counts as over or not, and how many of its solutions are told if it does not
 abbrev pub over_count_at : Found → ℕ → ℕ
 over_count_at f n = if is_over_at f n then 1 else 0
 
@@ -48,7 +48,7 @@ pub record HasRoom (counts : Counts) : Type 0 where
 abbrev pub by_item : ℕ × ℕ → ℕ × ℕ → Ordering
 by_item a b = ordering_then (nat_cmp a.0 b.0) (nat_cmp a.1 b.1)
 
--- the value of item n of batch b, or 0 if there is none
+-- the value of item n of batch b, or 0 if it has no value
 abbrev pub value_at : Answers → ℕ → ℕ → ℕ
 value_at answers b n = unwrap_or (get by_item answers.held (b, n)) 0
 

@@ -23,7 +23,7 @@ found n outcomes = flat_map (λ (o : Outcome). found_in n o.solutions.items) out
 abbrev pub told_over : ℕ → List Outcome → Bool
 told_over n outcomes = list_any (λ (o : Outcome). list_any (λ x. x == n) o.overs.items) outcomes
 
--- the values told of item n of batch b among these answers, and in all outcomes
+-- the values of item n of batch b among these answers, and in all outcomes
 unfoldable pub answers_in : ℕ → ℕ → List (ℕ × ℕ × ℕ) → List ℕ
 answers_in b n [] = []
 answers_in b n (a ∷ answers) = if (a.0 == b) && (a.1 == n) then a.2 ∷ answers_in b n answers else answers_in b n answers
@@ -53,7 +53,7 @@ AreHeld budget p b [] outcomes = Unit {0}
 AreHeld budget p b (Puzzle g ∷ jobs) outcomes = IsHeld budget p g outcomes × AreHeld budget (p + 1) b jobs outcomes
 AreHeld budget p b (Batch common items ∷ jobs) outcomes = AreAnswered b 1 common items outcomes × AreHeld budget p (b + 1) jobs outcomes
 
--- the outcomes together hold what these jobs are to give, and count what is made of them; that each of these counts is below 2^128 is
+-- the outcomes together hold what these jobs are to give, and count what is made of them. That each of these counts is below 2^128 is
 -- a condition of `render` by itself
 pub record AreWhole (budget grain : ℕ) (jobs : List Job) (outcomes : List Outcome) : Type 0 where
   pub held : AreHeld budget 1 1 jobs outcomes

@@ -9,7 +9,7 @@ use adlb_unit::{NoMemory, or_no_memory};
 use std::alloc::Global;
 use std::collections::BTreeMap;
 
-/// The values that were told of items, by the batch and the number of the item in it.
+/// The values that items were given, by the batch and the number of the item in it.
 #[derive(Drop)]
 pub(crate) struct Answers {
     held: BTreeMap<(u32, u32), u64>,

@@ -1,4 +1,4 @@
-//! What all outcomes tell of puzzles, looked up by the number of the puzzle.
+//! What all outcomes have of puzzles, looked up by the number of the puzzle.
 
 ghost use Rattle.std.specs.Prelude.{◌≡◌, ◌==◌, ◌||◌, ℕ, length, IfOk, OnOk};
 ghost use Rattle.std.specs.BTreeSet.{contains};

@@ -24,7 +24,7 @@ const FIRST_LINES: &[(u64, &str)] = &[
     ),
 ];
 
-/// What stands behind the seventh line of the seed 1.
+/// What follows the seventh line of the seed 1.
 const EIGHTH: &str =
     "5..83..168.6.....2172.965.32.73.1..496..543713..7.9.587..543.296..91.8.54..62813.\n\
      batch 5..83..168.6.....2172.965.32.73.1..496..543713..7.9.587..543.296..91.8.54..62813.\n\
@@ -60,7 +60,7 @@ fn is_puzzle(line: &str) -> bool {
     line.len() == 81 && line.bytes().filter(|byte| *byte != b'.').count() >= 41
 }
 
-// What is made of eight puzzles has their lines, and a batch behind them.
+// What is made of eight puzzles has their lines, and a batch after them.
 fn has_a_batch(alloc: Global) -> Result<bool, Fail> {
     let all = text(alloc, 8, 1)?;
     Ok(

@@ -149,7 +149,7 @@ const PUZZLES: &[Row] = &[
     ),
 ];
 
-/// A puzzle of which a node is over has none of its solutions in the report.
+/// A puzzle of which a node is over has no solution of it in the report.
 const OVERS: &[Row] = &[
     (
         b"................",

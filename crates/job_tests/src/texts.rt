@@ -143,7 +143,7 @@ fn refuses_numbers(rt: HostRuntime) -> Result<(), Fail> {
     check(&rt, rt.alloc(), NUMBERS)
 }
 
-/// A comment of so many bytes is read as expected.
+/// A comment of this length is read as expected.
 fn is_comment(alloc: Global, count: usize, expected: &str) -> Result<bool, Fail> {
     let line = vec![in alloc; b'#'; count]?;
     is_told(alloc, line.as_slice(), expected)

@@ -10,7 +10,7 @@ use Rattle.std.proofs.lemmas.List.Splits.{slice_split_first, slice_split_none}
 use Rattle.std.proofs.lemmas.List.Sums.{position_or_len_is, prefix_len-le-length, fails_before_first}
 use Rattle.job_text.specs.Lines.{is_line_feed, lines}
 
--- the place of the first element that passes, and that there is none
+-- the place of the first element that passes, and that there is no such element
 pub place_is : (p : ℕ → Bool) (xs : List ℕ) (i : ℕ) → position p xs ≡ Some i → position_or_len p xs ≡ i
 place_is p xs i e = let s = position-Some p xs i 0 e in position_or_len_is p xs i 0 (omega arith) s.2 (λ lt. s.1)
 

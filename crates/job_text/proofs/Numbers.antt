@@ -12,7 +12,7 @@ use Rattle.job_text.specs.Words.{byte_number}
 pub is_text : (w : List ℕ) (n : ℕ) → n < 256 → w ≡ decimal n → IsUtf8 w
 is_text w n lt e = subst IsUtf8 (sym e) (IsUtf8-from_ascii (decimal n) (IsAscii-decimal n (omega arith)))
 
--- the word is a number, or it is none
+-- the word is a number, or it is not
 pub number_is : (w : List ℕ) (n : ℕ) → n < 256 → w ≡ decimal n → byte_number w ≡ Some n
 unfolding byte_number
 number_is w n lt e =

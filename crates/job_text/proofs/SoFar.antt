@@ -47,7 +47,7 @@ ends old jobs kinds before none =
     ap (λ (l : List Job). old.jobs.items ++ l) (ends_behind old.current kinds none)
     ∙ sym (append_assoc old.jobs.items (jobs_behind old.current []) (jobs_of kinds)) ∙ ap (λ (l : List Job). l ++ jobs_of kinds) (sym before)
 
--- what comes is behind the jobs of what was read
+-- what comes is after the jobs of what was read
 joined : (new : Reading) (jobs more : List Job) (kinds : List Kind) (c : Option OpenBatch) → new.jobs.items ≡ jobs → new.current ≡ c
     → jobs_behind c kinds ≡ more → jobs ++ more ≡ jobs_with new kinds
 joined new jobs more kinds c items current behind =

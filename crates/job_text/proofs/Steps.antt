@@ -9,7 +9,7 @@ use Rattle.job_text.specs.Jobs.{fault_of, goes_on, or_later, first_refused, inpu
 use Rattle.job_text.specs.Inside.Left.{lines_left, bytes_left, ends_left}
 use Rattle.job_text.specs.Inside.Read.{Extends, adds, count, is_open, jobs_with}
 
--- these lines were read, so many, and those that are left go on from there
+-- these lines were read, of this number, and those that are left go on from there
 pub record IsReadTo (bytes : List ℕ) (r : Reading) (left : Lines) (number : ℕ) : Type 0 where
   pub jobs : input_jobs bytes ≡ jobs_with r (map kind_of (lines_left left))
   pub refused : input_refused bytes ≡ first_refused (is_open r) (number + 1) (map kind_of (lines_left left))

@@ -17,7 +17,7 @@ items_of (batch bytes ∷ kinds) = []
 items_of (item (Some i) ∷ kinds) = i ∷ items_of kinds
 items_of (_ ∷ kinds) = items_of kinds
 
--- the jobs of lines: each puzzle, and each batch with the items behind it
+-- the jobs of lines: each puzzle, and each batch with the items after it
 unfoldable pub jobs_of : List Kind → List Job
 jobs_of [] = []
 jobs_of (puzzle grid ∷ kinds) = Puzzle grid ∷ jobs_of kinds
@@ -31,7 +31,7 @@ fault_of false (item i) = Some why.Item
 fault_of true (item None) = Some why.Number
 fault_of on _ = None
 
--- a batch is going on behind a line, where one was (on) or was not going on before it
+-- a batch is going on after a line, where one was (on) or was not going on before it
 abbrev pub goes_on : Bool → Kind → Bool
 goes_on on (puzzle grid) = false
 goes_on on (batch bytes) = true

@@ -62,16 +62,16 @@ item_of line =
 abbrev pub is_item_name : List ℕ → Bool
 is_item_name word = bytes_eq word (codes "count") || bytes_eq word (codes "sum") || bytes_eq word (codes "max")
 
--- a line that begins with a word: with `batch`, a batch of the bytes behind the space after it, or of none; with the name of
--- an item, that item
+-- a line that begins with a word: with `batch`, a batch of the bytes after the space after it, or of no bytes; with the name
+-- of an item, that item
 unfoldable pub named_kind : List ℕ → Kind
 named_kind line =
     if bytes_eq (first_word line) (codes "batch") then batch (behind_word line)
     else if is_item_name (first_word line) then item (item_of line)
     else bad Word
 
--- a line that is not too long: it is empty or a comment; or it is a puzzle by its first byte, and what stands behind its
--- first blank is a remark; or it begins with a word
+-- a line that is not too long: it is empty or a comment; or it is a puzzle by its first byte, and what follows its first
+-- blank is a remark; or it begins with a word
 unfoldable pub short_kind : List ℕ → Kind
 short_kind line =
     if (length line == 0) || (slice_index line 0 == 35) then skipped

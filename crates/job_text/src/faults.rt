@@ -21,7 +21,7 @@ pub enum LineWhy {
     /// It is an item that is not of its form.
     #[error("number")]
     Number,
-    /// It begins with none of the words.
+    /// It begins with no word of these.
     #[error("word")]
     Word,
 }

@@ -1,5 +1,11 @@
 //! The jobs of an input: puzzles, and batches of items over common bytes.
 //!
+//!     match read_jobs(alloc, b"batch abcabc\ncount 97 98\n") {
+//!         Ok(jobs) => ..,
+//!         Err(JobsFault::Refused { line, why }) => .., // counted from 1
+//!         Err(JobsFault::Memory) => ..,
+//!     }
+//!
 //! An input is cut into lines (`specs/Lines.antt`). Each line is of one kind (`specs/Kinds.antt`): it is skipped, it
 //! is a puzzle, it begins a batch, it is an item of the batch before it, or it is refused. `specs/Jobs.antt` has the
 //! jobs of lines, and which line is refused first. It stands on `sudoku_rules` and on the payloads of `adlb_unit`.

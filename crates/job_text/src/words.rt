@@ -15,7 +15,7 @@ fn place_of(bytes: &[u8], at: u8) -> Option<usize>
     bytes.iter().position(|byte| *byte == at)
 }
 
-/// What stands before the first of these bytes, and what stands behind it, if there is one.
+/// What stands before the first of these bytes, and what follows it, if there is one.
 pub(crate) fn cut(bytes: &[u8], at: u8) -> Option<(&[u8], &[u8])>
     ensures { CutsAt (λ byte. byte == at) bytes.now result }
 {
@@ -25,7 +25,7 @@ pub(crate) fn cut(bytes: &[u8], at: u8) -> Option<(&[u8], &[u8])>
     }
 }
 
-/// The first word of a text, which ends before the first space, and what stands behind that space.
+/// The first word of a text, which ends before the first space, and what follows that space.
 pub(crate) fn cut_word(text: &[u8]) -> (&[u8], &[u8])
     ensures { (result.0.now ≡ first_word text.now) × (result.1.now ≡ behind_word text.now) }
 {

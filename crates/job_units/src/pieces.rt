@@ -6,7 +6,7 @@ ghost use Rattle.std.specs.Int.{to_be_bytes, w32, w64};
 use adlb_unit::{NoMemory, Payload, or_no_memory};
 use std::alloc::Global;
 
-/// Three pieces, one behind the other, of which the first two are numbers or empty. Its only error is `NoMemory`.
+/// Three pieces, one after the other, of which the first two are numbers or empty. Its only error is `NoMemory`.
 pub fn joined(alloc: Global, first: &[u8], second: &[u8], third: &[u8]) -> Result<Payload, NoMemory>
     requires first { length first.now ≤ 8 }
     requires second { length second.now ≤ 8 }

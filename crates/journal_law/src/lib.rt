@@ -1,10 +1,10 @@
 //! When the journals of several actors are one run of all of them: a law, whatever their protocol.
 //!
 //! Actors are numbers. An event of an actor has a stamp, it may have got a letter, and it sends letters. A journal is its
-//! actor's own run where its events, in order, are steps of that actor from its start, their stamps rise, and each
-//! letter's stamp is that of the event which sent it and below that of the event which got it. Journals compose where, on
-//! each link, what was got is a prefix of what was sent. The law: the events of journals that compose, in the order of
-//! their stamps and among equal stamps of their actors, are a run of all actors.
+//! actor's own run if its events, in order, are steps of that actor from its start, and their stamps rise. Each letter's
+//! stamp is that of the event which sent it and below that of the event which got it. Journals compose where, on each
+//! link, what was got is a prefix of what was sent. The law: the events of journals that compose, in the order of their
+//! stamps and among equal stamps of their actors, are a run of all actors.
 //!
 //! It stands on nothing else of the workspace. `specs/Machines.antt` says what actors and their worlds are,
 //! `specs/Journals.antt` when journals compose, `specs/Orders.antt` what their merge is, `specs/Runs.antt` what a run is,
@@ -41,7 +41,7 @@ pub trait Protocol {
     ghost Steps: { ℕ → Self.State → Self.Event → Self.State → Type 0 };
 }
 
-/// The events of journals that compose, by stamp and then by actor, are a run from the start, after which each actor is in
+/// The events of journals that compose, by stamp and then by actor, are a run from the start. After it each actor is in
 /// the state in which its journal ends, and what was sent and not got is under way.
 pub fn journals_compose<P: Protocol>()
     ensures { let machine : Machine P.State P.Letter P.Event = record { actors = P.actors; stamp = P.stamp; cause = P.cause; sends = P.sends; letter_stamp = P.letter_stamp; start = P.start; Steps = P.Steps } in

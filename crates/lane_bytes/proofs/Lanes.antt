@@ -76,7 +76,7 @@ both_each : (lo hi : ℕ) (xs : List ℕ) → map (λ x. cond (nat_le x hi) (one
 both_each lo hi [] = refl
 both_each lo hi (x ∷ xs) = λ i. both (nat_le lo x) (nat_le x hi) i ∷ both_each lo hi xs i
 
--- what a comparison of bytes tells of each lane
+-- what a comparison of bytes says of each lane
 abbrev told : List ℕ → List ℕ → List Bool
 told xs ys = map (top 7) (zip2 (λ a b. cond (nat_le a b) 255 0) xs ys)
 

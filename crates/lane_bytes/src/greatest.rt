@@ -6,7 +6,7 @@ ghost use Rattle.lane_bytes.specs.Answers.{greatest};
 use crate::LANES;
 use std::simd::prelude::*;
 
-/// The greatest of the bytes; 0 if there are none.
+/// The greatest of the bytes; 0 if there are no bytes.
 pub fn max_byte(bytes: &[u8]) -> u8
     ensures { result ≡ greatest bytes.now }
 {

@@ -15,7 +15,7 @@ use Rattle.ledger_checker.specs.Stops.{first_stop, stop_or}
 use Rattle.ledger_checker.specs.declared.checking.Stop.{Stop}
 use Rattle.ledger_checker.proofs.Growing.{room_kept}
 
--- where an entry is a step, the stop stands behind it
+-- where an entry is a step, the stop follows it
 pub stop_behind : (b next : Bag) (e : Entry) (place : ℕ) (es : List Entry) → step b e ≡ Some next → first_stop next (place + 1) es ≡ first_stop b place (e ∷ es)
 stop_behind b next e place es is = rw is refl
 

@@ -14,13 +14,14 @@ use bag_ledger::Entry;
 use packed_ledger::Ledger;
 use std::alloc::Global;
 
-/// The place of the first entry of the ledger that is no step of the bag from the state which the entries before it
-/// leave, counted from 0; nothing exactly where the ledger is a legal run. So it is the least such place. It fails for want of
-/// memory alone.
+/// The place of the first entry of the ledger that is no step of the bag from the state which the entries before it leave,
+/// counted from 0. `None` exactly if the ledger is a legal run. So it is the least such place. It fails for want of memory
+/// alone.
 ///
 /// A ledger of n entries takes time within n log n and room within n. Each entry looks a few things up by their ids, and
-/// `Looked` and `Counted` look counts up: two for each type that the rank wants, of which there are 16 at most, or two in all.
-/// `Exhausted` alone, which is legal once, looks at all units for each rank, of which there are 32 at most, and at all promises.
+/// `Looked` and `Counted` look counts up. Those are two for each type that the rank wants, of which there are 16 at most, or two
+/// in all. `Exhausted` alone, which is legal once, looks at all units for each rank, of which there are 32 at most, and at all
+/// promises.
 pub fn first_illegal(
     alloc: Global,
     ledger: &Ledger,
@@ -68,9 +69,9 @@ fn place_of(stop: Option<Stop>) -> Option<u64>
     }
 }
 
-/// Follows the ledger from the machine's state on, up to the first entry that is no step (`first_stop`), which is given back; the machine
-/// is then as the entries before leave it. `watch` is told of each entry that was a step. Its only error is `NoMemory`, and then the
-/// machine is of no use.
+/// Follows the ledger from the machine's state on, up to the first entry that is no step (`first_stop`), which is given back. The machine
+/// is then as the entries before leave it. `watch` is told each entry that was a step. Its only error is `NoMemory`, and then the machine
+/// is of no use.
 pub fn first_stop<W: Watch>(
     alloc: Global,
     machine: &mut Machine,

@@ -143,7 +143,7 @@ fronts (e ∷ l) (f ∷ m) x y p q is =
     let same = same_entry e f p.0 q.0 both.0 in
     subst (λ (g : Entry). Fronts (e ∷ l) (g ∷ m) x y) same (fronts_more e l m x y (fronts l m x y p.1 q.1 both.1))
 
--- the same behind first lines
+-- texts after their first lines
 pub record Opened (c d : Config) (l m : List Entry) (x y : List ℕ) : Type 0 where
   pub config : c ≡ d
   pub entries : Fronts l m x y

@@ -160,7 +160,7 @@ pub first_joined : (k : ℕ) (w : List ℕ) (ws : List (List ℕ)) → 0 < lengt
 first_joined k w [] some = refl
 first_joined k w (v ∷ ws) some = get_or_append_left w (k ∷ join_with_byte k (v ∷ ws)) 0 0 some
 
--- joined words as the first, and then each of the others behind the byte
+-- joined words as the first, and then each of the others after the byte
 pub joined_is : {X : Type 0} (f : X → List ℕ) (k : ℕ) (w : List ℕ) (xs : List X)
     → join_with_byte k (w ∷ map f xs) ≡ w ++ flat_map (λ x. k ∷ f x) xs
 joined_is f k w [] = sym (append-nil w)

@@ -27,7 +27,7 @@ some_is e = cc
 none_some : {A : Type 0} {x : A} → None ≡ Some x → ⊥
 none_some e = absurd cc
 
--- a list that begins with a line has a line feed, and is cut behind the line
+-- a list that begins with a line has a line feed, and is cut after the line
 pub no_line : (bytes rest : List ℕ) (x : List ℕ × List Field) → free 10 bytes ≡ true → bytes ≡ line x ++ rest → ⊥
 no_line bytes rest x p e = cut_somewhere 10 (joined x) rest (ap (free 10) (sym (e ∙ line_then x rest)) ∙ p)
 
@@ -118,7 +118,7 @@ shorter rest after e same =
     let size : length rest ≡ length (joined (row e) ++ 10 ∷ after) = ap length (same ∙ line_then (row e) after) in
     omega (arith, simp length-append at size)
 
--- the first line and those behind it
+-- the first line and those after it
 pub text_is : (c : Config) (entries : List Entry) (bytes first rest : List ℕ) → IsCut 10 bytes first rest
     → words (first_row c) ≡ parts_of 32 first → IsRest rest entries → IsText c entries bytes
 text_is c entries bytes first rest is same read = record {

@@ -114,7 +114,7 @@ unfolding pair_in
 pair_reads = checked_reads pair_field (λ w. (digits_value 10 (before_dot w), digits_value 10 (behind_dot w)))
     (λ x p. let back = id_back x.0 x.1 p in two (λ (r n : ℕ). (r, n)) back.before back.behind)
 
--- targets, and what may be none
+-- targets, and what may be absent
 target_back : (t : Target) → IsWithin (aim t) → target_guess (word (aim t)) ≡ t
 target_back target.Any p = refl
 target_back (target.Only rank) p = ap (λ (n : ℕ). target.Only (record { 0 = n })) (short_back rank.0 p)

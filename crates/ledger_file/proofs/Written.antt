@@ -11,7 +11,7 @@ use Rattle.ledger_file.specs.Lines.{IsEntry, row, line}
 use Rattle.ledger_file.specs.Inside.Given.{field_of, fields_of, heads, spaced, what, who}
 use Rattle.ledger_file.proofs.Bytes.{joined_is}
 
--- a list whose first was written, and then the others behind the byte k
+-- a list whose first was written, and then the others after the byte k
 pub list_written : {X : Type 0} (f : X → List ℕ) (k : ℕ) (old mid out : List ℕ) (xs : List X) (d : X) (rest : List X) (i : ℕ)
     → 1 ≤ length xs → rest ≡ take (length xs - 1) (drop 1 xs) → mid ≡ old ++ f (get_or xs 0 d)
     → out ≡ mid ++ flat_map (λ x. k ∷ f x) (take i rest) → length rest ≤ i → out ≡ old ++ join_with_byte k (map f xs)
@@ -23,7 +23,7 @@ list_written f k old mid out (x ∷ xs) d rest i some others first so_far all =
     ∙ ap (λ (ys : List _). (old ++ f x) ++ flat_map (λ y. k ∷ f y) ys) whole
     ∙ append_assoc old (f x) (flat_map (λ y. k ∷ f y) xs) ∙ ap (λ (v : List ℕ). old ++ v) (sym (joined_is f k (f x) xs))
 
--- fields that were written, each behind a blank
+-- fields that were written, each after a blank
 spaced_is : (fs : List Field) → flat_map (λ f. 32 ∷ word (field_of f)) fs ≡ spaced (fields_of fs)
 spaced_is [] = refl
 spaced_is (f ∷ fs) = ap (λ (v : List ℕ). (32 ∷ word (field_of f)) ++ v) (spaced_is fs)

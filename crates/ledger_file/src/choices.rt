@@ -1,4 +1,4 @@
-//! Words that are one of some: targets, what may be none, ends.
+//! Words that are one of some: targets, what may be absent, ends.
 
 ghost use Rattle.std.specs.Prelude.{◌≡◌, ◌++◌, ℕ, List, None, IfSome};
 ghost use Rattle.ledger_file.specs.Fields.{aim, rank_or_none, prio_or_none, told};
@@ -24,7 +24,7 @@ pub fn target(word: &[u8]) -> Result<Target, LineFault>
     Err(LineFault::Bad)
 }
 
-// What stands behind this front, if the word begins with it.
+// What follows this front, if the word begins with it.
 fn behind<'a>(word: &'a [u8], front: &[u8]) -> Option<&'a [u8]>
     ensures joined { IfSome result (λ rest. word.now ≡ front.now ++ rest.now) }
     ensures another { result ≡ None → (rest : List ℕ) → word.now ≡ front.now ++ rest → ⊥ }

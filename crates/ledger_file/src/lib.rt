@@ -1,10 +1,17 @@
 //! The text of a configuration and the ledger of a run: written, and read again.
 //!
-//! A text is a first line with the numbers of the configuration, a line for each entry (its name and its fields, with
-//! blanks between), and a last line with the number of entries. It stands on `adlb_unit`, `bag_ledger` and `packed_ledger`.
-//! `specs/Lines.antt` has the lines, entry by entry, and which line is refused first; `specs/Fields.antt` has how
-//! each field is written, and which numbers there are. `laws` states that a configuration and a ledger have one text,
-//! and no text is that of two.
+//!     let text = write_ledger(alloc, &config, &ledger)?;
+//!     match read_ledger(alloc, &text) {
+//!         Ok((config, ledger)) => ..,
+//!         Err(LedgerFault::Refused { line }) => ..,
+//!         Err(LedgerFault::Memory) => ..,
+//!     }
+//!
+//! A text has a first line with the numbers of the configuration. Then comes a line for each entry (its name and its
+//! fields, with blanks between), and a last line with the number of entries. It stands on `adlb_unit`, `bag_ledger` and
+//! `packed_ledger`. `specs/Lines.antt` has the lines, entry by entry, and which line is refused first; `specs/Fields.antt`
+//! has how each field is written, and which numbers there are. `laws` states that a configuration and a ledger have one
+//! text, and no text is that of two.
 #![tactic(auto)]
 
 mod choices;

@@ -59,7 +59,7 @@ pub fn payload(alloc: Global, word: &[u8]) -> Result<Payload, LineFault>
     Ok(Payload::from_vec(bytes))
 }
 
-// The number of a hexadecimal digit in lower case. `Bad` exactly if it is none.
+// The number of a hexadecimal digit in lower case. `Bad` exactly if it is not one.
 fn nibble(digit: u8) -> Result<u8, LineFault>
     ensures { MatchResult result (λ n. (n < 16) × (digit ≡ digit_glyph false n)) (λ fault. (fault ≡ LineFault.Bad) × ((n : ℕ) → n < 16 → digit ≡ digit_glyph false n → ⊥)) }
 {

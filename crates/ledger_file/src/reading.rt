@@ -61,7 +61,7 @@ fn sizes_of(line: &[u8]) -> Result<(u32, u32, u64), LineFault>
     words.last(sizes)
 }
 
-// The entries of the lines behind the first, up to the last line, with which the bytes end.
+// The entries of the lines after the first, up to the last line, with which the bytes end.
 fn entries_of(alloc: Global, bytes: &[u8]) -> Result<Ledger, LedgerFault>
     ensures read { IfOk result (IsRest bytes.now) }
     ensures refused { (line : ℕ) → result ≡ Err (LedgerFault.Refused line) → IsBadAfter bytes.now line }
@@ -92,15 +92,15 @@ fn entries_of(alloc: Global, bytes: &[u8]) -> Result<Ledger, LedgerFault>
     }
 }
 
-/// A line behind the first: that of an entry, or the last.
+/// A line after the first: that of an entry, or the last.
 #[derive(Drop)]
 enum Line {
     Entry(Entry),
     Last,
 }
 
-// The first line, and what stands behind it, after `count` entries. `Bad` exactly if it is neither that of an entry
-// nor the last line.
+// The first line, and what follows it, after `count` entries. `Bad` exactly if it is neither that of an entry nor the
+// last line.
 fn next_line(alloc: Global, bytes: &[u8], count: u64) -> Result<(Line, &[u8]), LineFault>
     ensures { IsNext bytes.now count result }
 {

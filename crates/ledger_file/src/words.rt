@@ -11,9 +11,9 @@ use crate::numbers::{id, number, prio, short};
 use adlb_unit::{End, Payload, Rank, Server, Target, Types, UnitId};
 use std::alloc::Global;
 
-/// Each reads the next word as a field, and fails as `Bad` exactly if there is none or it is no such field.
+/// Each reads the next word as a field, and fails as `Bad` exactly if there is no further word or it is no such field.
 impl<'a> Parts<'a> {
-    /// The next word. `Bad` exactly if there is none.
+    /// The next word. `Bad` exactly if there is no further word.
     pub fn word(&mut self) -> Result<&'a [u8], LineFault>
         ensures { MatchResult result (λ w. parts_left self.old ≡ w.now ∷ parts_left self.new) (λ fault. (fault ≡ LineFault.Bad) × (parts_left self.old ≡ [])) }
     {

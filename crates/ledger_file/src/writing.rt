@@ -93,7 +93,7 @@ fn append_who(bytes: &mut Vec<u8>, entry: &Entry) -> Result<(), NoMemory>
     }
 }
 
-// Appends the fields behind those. Its only error is `NoMemory`.
+// Appends the fields after those. Its only error is `NoMemory`.
 fn append_what(bytes: &mut Vec<u8>, entry: &Entry) -> Result<(), NoMemory>
     ensures written { OnOk result (bytes.new.items ≡ bytes.old.items ++ spaced (what entry.now)) }
     ensures within { OnOk result (AllByRecursion IsWithin (what entry.now)) }
@@ -154,7 +154,7 @@ fn append_line(bytes: &mut Vec<u8>, name: &[u8], fields: &[Field<'_>]) -> Result
     append(bytes, b"\n")
 }
 
-// Appends fields, each behind a blank. Its only error is `NoMemory`.
+// Appends fields, each after a blank. Its only error is `NoMemory`.
 fn append_fields(bytes: &mut Vec<u8>, fields: &[Field<'_>]) -> Result<(), NoMemory>
     ensures written { OnOk result (bytes.new.items ≡ bytes.old.items ++ spaced (fields_of fields.now)) }
     ensures within { OnOk result (AllByRecursion IsWithin (fields_of fields.now)) }

@@ -21,7 +21,7 @@ use Rattle.ledger_rules.specs.declared.rules.Rule.{Rule}
 use Rattle.ledger_rules.specs.Table.{broken, meets, rules_of}
 use Rattle.ledger_rules.proofs.Obeyed.{obeyed}
 
--- none of the rules is broken exactly where all are met
+-- no rule is broken exactly if all are met
 all_met : (b : Bag) (rules : List Rule) → broken b rules ≡ None → list_all (meets b) rules ≡ true
 all_met b [] none = refl
 all_met b (r ∷ rs) none = by_test (λ rest. all_met b rs rest) (meets b r) refl none

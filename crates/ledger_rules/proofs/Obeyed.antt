@@ -1,4 +1,4 @@
--- An entry is a step exactly where the bag meets all its rules.
+-- An entry is a step exactly if the bag meets all its rules.
 use Rattle.std.proofs.Common.{◌≡◌, ◌+◌, ◌==◌, ◌&&◌, not, length}
 use Rattle.std.specs.Prelude.{is_none, nat_lt}
 use Rattle.std.specs.List.{list_all}

@@ -1,8 +1,8 @@
--- Conditions one behind the other are a list of conditions, of which the first says that what is looked up is there.
+-- Conditions one after the other are a list of conditions, of which the first says that what is looked up is there.
 use Rattle.std.proofs.Common.{◌≡◌, Bool, true, false, ◌&&◌, Option, Some, None, refl}
 use Rattle.bag_ledger.specs.Step.{has}
 
--- conditions alone, behind one that each entry is under
+-- conditions alone, after one that each entry is under
 
 pub two : (d a b : Bool) → (d && (a && b)) ≡ (d && (a && (b && true)))
 two false a b = refl

@@ -50,7 +50,7 @@ fn line_of(alloc: Global, entry: Entry) -> Result<Vec<u8>, NoMemory> {
     Ok(line)
 }
 
-/// What is wrong with the ledger (`IsComplaint`): nothing exactly where it is a legal run. Its only error is `NoMemory`.
+/// What is wrong with the ledger (`IsComplaint`): nothing exactly if it is a legal run. Its only error is `NoMemory`.
 pub fn first_complaint(
     alloc: Global,
     config: &Config,

@@ -298,7 +298,7 @@ fn over(machine: &Machine, rank: Rank, call: u64, end: End) -> Option<Rule>
     broken(machine, &rules)
 }
 
-/// The first rule of the entry, in the order of the table, that the bag does not meet (`broken`, `rules_of`); nothing exactly where the
+/// The first rule of the entry, in the order of the table, that the bag does not meet (`broken`, `rules_of`); nothing exactly if the
 /// entry is a step (`rule_laws`).
 pub fn first_broken(machine: &Machine, entry: &Entry) -> Option<Rule>
     requires { length machine.now.ranks ≤ 32 }

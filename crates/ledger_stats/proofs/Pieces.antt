@@ -1,11 +1,11 @@
--- The lines of a ledger's counts, piece by piece behind a text.
+-- The lines of a ledger's counts, piece by piece after a text.
 use Rattle.std.proofs.Common.{◌≡◌, ℕ, List, ◌++◌, ap, ◌∙◌, append_assoc, codes, count_by}
 use Rattle.bag_ledger.specs.declared.entries.Entry.{Entry}
 use Rattle.ledger_stats.specs.declared.stats.Statistic.{Statistic}
 use Rattle.ledger_stats.specs.declared.stats.Statistic.TheVariants.{Accepted, Refused, Rejected, Granted, Pushed}
 use Rattle.ledger_stats.specs.Stats.{counted, counts, line, stats_text}
 
--- seven pieces behind an old text
+-- seven pieces after an old text
 seven : (old a b c d e f g p q r s t u v : List ℕ) → p ≡ old ++ a → q ≡ p ++ b → r ≡ q ++ c → s ≡ r ++ d → t ≡ s ++ e → u ≡ t ++ f
     → v ≡ u ++ g → v ≡ old ++ (a ++ b ++ c ++ d ++ e ++ f ++ g)
 seven old a b c d e f g p q r s t u v e1 e2 e3 e4 e5 e6 e7 =

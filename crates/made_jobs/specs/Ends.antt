@@ -5,7 +5,7 @@ use Rattle.adlb_io.specs.Whole.{TakesPrefix}
 use Rattle.made_jobs.specs.declared.faults.MadeFault.{MadeFault}
 use Rattle.made_jobs.specs.declared.faults.MadeFault.TheVariants.{Memory, Write}
 
--- What is told of a sink: what was taken, its count of faults, and that all is flushed.
+-- What is seen of a sink: what was taken, its count of faults, and that all is flushed.
 pub record SinkSeen : Type 0 where
   pub taken : Option (List ℕ)
   pub writes : ℕ

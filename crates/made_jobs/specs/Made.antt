@@ -7,7 +7,7 @@ use Rattle.rand_pcg.specs.Pcg.{multiplier_64, pcg32}
 unfoldable pub seeded : ℕ → Lcg
 seeded seed = started 64 multiplier_64 seed (increment_of 64 54)
 
--- the next word of a generator, and the generator behind it
+-- the next word of a generator, and the generator after it
 unfoldable pub draw : Lcg → ℕ × Lcg
 draw generator = pcg32 generator
 
@@ -15,7 +15,7 @@ draw generator = pcg32 generator
 unfoldable pub full_grid : List ℕ
 full_grid = codes "534678912672195348198342567859761423426853791713924856961537284287419635345286179"
 
--- signs with the generator behind them: the sign at a place changes places with that at a drawn place up to it
+-- signs with the generator after them: the sign at a place changes places with that at a drawn place up to it
 abbrev pub exchange : ℕ → List ℕ × Lcg → List ℕ × Lcg
 exchange place at = (swap at.0 place ((draw at.1).0 % (place + 1)), (draw at.1).1)
 
@@ -45,7 +45,7 @@ unfoldable pub blanks : ℕ → List ℕ × Lcg → List ℕ × Lcg
 blanks zero at = at
 blanks (suc times) at = blank (blanks times at)
 
--- the signs of the next puzzle, and the generator behind it
+-- the signs of the next puzzle, and the generator after it
 unfoldable pub puzzle : Lcg → List ℕ × Lcg
 puzzle generator = blanks 40 (relabelled (shuffled generator).0, (shuffled generator).1)
 
@@ -53,11 +53,11 @@ puzzle generator = blanks 40 (relabelled (shuffled generator).0, (shuffled gener
 abbrev pub batch_of : List ℕ → List ℕ
 batch_of signs = codes "batch " ++ signs ++ codes "\ncount 49 53\nsum\nmax\n"
 
--- the lines of the puzzle of this number, from 1: its own, and behind each eighth a batch of its signs
+-- the lines of the puzzle of this number, from 1: its own, and after each eighth a batch of its signs
 unfoldable pub lines_of : ℕ → List ℕ → List ℕ
 lines_of number signs = signs ++ codes "\n" ++ (if number % 8 == 0 then batch_of signs else [])
 
--- the lines of this many puzzles, and the generator behind them
+-- the lines of this many puzzles, and the generator after them
 unfoldable pub made : ℕ → Lcg → List ℕ × Lcg
 made zero generator = ([], generator)
 made (suc count) generator =

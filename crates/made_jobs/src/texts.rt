@@ -10,10 +10,10 @@ use std::alloc::Global;
 /// How many puzzles come to one batch.
 const PUZZLES_A_BATCH: u32 = 8;
 
-/// What stands behind the bytes of a batch.
+/// What follows the bytes of a batch.
 const ITEMS: &[u8] = b"\ncount 49 53\nsum\nmax\n";
 
-/// The text of `count` puzzles drawn from a seed, a line each, with a batch of four lines behind every eighth
+/// The text of `count` puzzles drawn from a seed, a line each, with a batch of four lines after every eighth
 /// (`made_text`). Its only error is `NoMemory`.
 pub fn made(alloc: Global, count: u32, seed: u64) -> Result<Vec<u8>, NoMemory>
     ensures { IfOk result (λ text. text.items ≡ made_text count seed) }

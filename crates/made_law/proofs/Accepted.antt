@@ -43,7 +43,7 @@ batch_is_front signs good = record {
       ∙ ap (λ (items : List Item). Batch signs (made_items ++ items) ∷ jobs_of (kinds back)) after.items;
 }
 
--- a batch behind an eighth puzzle, and nothing behind any other
+-- a batch after an eighth puzzle, and nothing after any other
 either_is_front : (eighth : Bool) (text : List ℕ) (jobs : List Job) → IsFront text jobs
     → IsFront (cond eighth text []) (cond eighth jobs [])
 either_is_front true text jobs front = front

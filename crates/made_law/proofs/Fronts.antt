@@ -48,7 +48,7 @@ pub record IsFront (front : List ℕ) (own : List Job) : Type 0 where
 pub nothing_is_front : IsFront [] []
 nothing_is_front = record { follows = λ back good. good; jobs = λ back good. refl }
 
--- one front behind another
+-- one front after another
 pub fronts_join : (front next : List ℕ) (jobs more : List Job) → IsFront front jobs → IsFront next more
     → IsFront (front ++ next) (jobs ++ more)
 fronts_join front next jobs more first second = record {

@@ -1,4 +1,4 @@
--- The kinds of the lines of a made puzzle, and of the batch behind it.
+-- The kinds of the lines of a made puzzle, and of the batch after it.
 use Rattle.std.proofs.Common.{◌≡◌, ◌∙◌, ℕ, ◌+◌, Bool, true, false, cond, eqb, ltb, not, ◌&&◌, ◌||◌, List, [], ◌∷◌, ◌++◌, codes, get_or, length, map, take, refl, ap, Some, append_assoc, length-append, one-add, arith}
 use Rattle.std.specs.Fmt.{digits}
 use Rattle.std.specs.List.{before_first, list_all, prefix_len}

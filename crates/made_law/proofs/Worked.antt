@@ -1,5 +1,5 @@
--- Jobs that are made, by computation: those of a seed, and which puzzles have a batch behind them. And a grid that is none
--- of theirs, for it has no solution.
+-- Jobs that are made, by computation: those of a seed, and which puzzles have a batch after them. And a grid that is not
+-- among theirs, since it has no solution.
 use Rattle.std.proofs.Common.{◌≡◌, ◌∙◌, ℕ, List, [], ◌∷◌, arith, codes, refl, replicate, sym}
 use Rattle.job_text.specs.declared.items.Item.TheVariants.{Count, Max, Sum}
 use Rattle.job_text.specs.declared.jobs.Job.TheVariants.{Batch, Puzzle}

@@ -12,7 +12,7 @@ use Rattle.made_jobs.specs.Made.{made, puzzle}
 abbrev pub made_items : List Item
 made_items = Count 49 53 ∷ Sum ∷ Max ∷ []
 
--- the jobs of the puzzle of this number, from 1: the grid of its signs, and behind each eighth a batch of the signs
+-- the jobs of the puzzle of this number, from 1: the grid of its signs, and after each eighth a batch of the signs
 abbrev pub puzzle_jobs : ℕ → List ℕ → List Job
 puzzle_jobs number signs = Puzzle (map digit_of signs) ∷ (if number % 8 == 0 then Batch signs made_items ∷ [] else [])
 

@@ -12,9 +12,9 @@ ghost use Rattle.made_law.specs.Solved.{IsSolvable};
 
 use made_jobs::made_laws;
 
-/// What a made text is as an input, for every count and seed: no line of it is refused (`accepted`), and its jobs are
-/// those made of the count and the seed (`jobs`). So it has a puzzle for each that was asked for (`puzzles`) and a
-/// batch for each eighth of them (`all`), of three items (`items`), and each of its puzzles has a solution (`solved`).
+/// What a made text is as an input, for every count and seed. No line of it is refused (`accepted`), and its jobs are
+/// those made of the count and the seed (`jobs`). So it has a puzzle for each that was asked for (`puzzles`), and a
+/// batch for each eighth of them (`all`), of three items (`items`). Each of its puzzles has a solution (`solved`).
 pub fn made_is_accepted()
     ensures accepted { (count seed : ℕ) → input_refused (made_text count seed) ≡ None }
     ensures jobs { (count seed : ℕ) → input_jobs (made_text count seed) ≡ made_jobs count (seeded seed) }

@@ -1,4 +1,4 @@
--- Two lists behind one another, place by place.
+-- Two lists, one after the other, place by place.
 use Rattle.std.proofs.Common.{◌≡◌, ◌<◌, ◌+◌, ℕ, zero, suc, List, [], ◌∷◌, ◌++◌, length, map, get_or, set, refl, ap, arith}
 
 pub or_left : {T : Type 0} (xs ys : List T) (k : ℕ) (d : T) → k < length xs → get_or (xs ++ ys) k d ≡ get_or xs k d

@@ -13,8 +13,8 @@ use adlb_unit::NoMemory;
 use packed_ledger::{Kept, Ledger, Unread};
 use std::alloc::Global;
 
-/// The entries that all actors of a run kept, in one ledger: by stamp, among equal stamps by actor, the ranks before the
-/// servers, and of one actor in its order (`IsLedgerOf`), if in what each actor kept stamps do not fall.
+/// The entries that all actors of a run kept, in one ledger. They are by stamp, among equal stamps by actor, the ranks
+/// before the servers, and of one actor in its order (`IsLedgerOf`), if in what each actor kept stamps do not fall.
 ///
 /// If it is what is kept of journals that compose, there is one history of all their events, which is a run of all actors, and
 /// the ledger has its entries (`IsOneHistory`). No event is held. Its only error is `NoMemory`.

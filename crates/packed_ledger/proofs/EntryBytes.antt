@@ -1,4 +1,4 @@
--- Entries as bytes, one behind the other.
+-- Entries as bytes, one after the other.
 use Rattle.std.proofs.Common.{ℕ, zero, suc, ◌≡◌, ◌+◌, ◌*◌, ◌≤◌, ◌<◌, ℤ, Option, List, []}
 use Rattle.std.proofs.Common.{◌∷◌, ◌++◌, length, drop, append_assoc, length-append, length-drop, refl, sym, ap, ◌∙◌, subst, arith}
 use Rattle.std.proofs.lemmas.List.{append-nil, drop-drop}
@@ -64,7 +64,7 @@ plain (enters.Asked rank call types) _ _ not_asked _ = absurd (not_asked rank ca
 plain (enters.Tried rank call types) _ _ _ not_tried = absurd (not_tried rank call types refl)
 plain _ _ _ _ _ = record { body = refl; kinds = refl; size = refl }
 
--- what is pushed behind the row
+-- what is pushed after the row
 pub pushed : (e : Entry) (bytes rowed last tail : List ℕ) → rowed ≡ bytes ++ row_before (row_of e) [] → last ≡ rowed ++ tail
     → body_of e ++ (flat_map kind_code (kinds_of e) ++ []) ≡ tail → last ≡ bytes ++ entry_before e []
 unfolding entry_before
@@ -98,7 +98,7 @@ unfolding stamped_before
 stamped_pushed s bytes at_stamp last stamp entry =
     entry ∙ ap (λ (l : List ℕ). l ++ entry_before s.entry []) stamp ∙ append_assoc bytes (groups 10 s.stamp) (entry_before s.entry [])
 
--- the places of a list behind its first ones
+-- the places of a list after its first ones
 pub drop_one : {X : Type 0} (xs : List X) (n : ℕ) (x : X) (behind : List X) → drop n xs ≡ x ∷ behind
     → (drop (n + 1) xs ≡ behind) × (n < length xs)
 drop_one [] zero x behind e = absurd (cc)

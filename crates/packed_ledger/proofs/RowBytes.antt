@@ -79,7 +79,7 @@ are_marks r m same =
       amount = ap (λ (n : ℕ). n / 128 % 2) same ∙ bit_8 a b c d e f g h small;
     }
 
--- more bytes behind a row
+-- more bytes after a row
 pub row_with_more : (r : Row) (a b : List ℕ) → row_before r a ++ b ≡ row_before r (a ++ b)
 unfolding row_before
 row_with_more r a b = simp append_assoc

@@ -1,4 +1,4 @@
-//! Entries as bytes: the row of an entry, and behind it the bytes or the types that it tells.
+//! Entries as bytes: the row of an entry, and after it the bytes or the types that it tells.
 
 ghost use Rattle.std.specs.Prelude.{ℕ, ◌≡◌, ◌≤◌, ◌<◌, ◌+◌, ◌++◌, List, [], Some, length, take, IfOk};
 ghost use Rattle.std.specs.List.{All, flat_map};
@@ -73,7 +73,7 @@ fn push_kinds(bytes: &mut Vec<u8>, kinds: &[WorkType])
     }
 }
 
-/// The entry in front, and what stands behind it. Its only error is `NoMemory`.
+/// The entry in front, and what follows it. Its only error is `NoMemory`.
 pub(crate) fn read_entry(alloc: Global, bytes: &[u8]) -> Result<(Entry, &[u8]), NoMemory>
     ensures { (e : Entry) (rest : List ℕ) → IsKept e → bytes.now ≡ entry_before e rest → IfOk result (λ r. (r.0 ≡ e) × (r.1.now ≡ rest)) }
 {
@@ -156,7 +156,7 @@ fn read_types(bytes: &[u8], count: usize) -> Result<(Types, &[u8]), NoMemory>
     }
 }
 
-/// Appends the entry behind its stamp. There is room for it.
+/// Appends the entry after its stamp. There is room for it.
 pub(crate) fn push_stamped(bytes: &mut Vec<u8>, last: &Stamped)
     requires { vec_len bytes.old + size_of last.now.entry ≤ vec_capacity bytes.old }
     ensures items { bytes.new.items ≡ bytes.old.items ++ stamped_before last.now [] }

@@ -56,7 +56,7 @@ fn marks(row: &Row) -> u8
         + 128 * mark(row.amount)
 }
 
-/// The row in front, and what stands behind it.
+/// The row in front, and what follows it.
 pub(crate) fn read_row(bytes: &[u8]) -> (Row, &[u8])
     ensures { (row : Row) (rest : List ℕ) → RowFits row → bytes.now ≡ row_before row rest → (result.0 ≡ row) × (result.1.now ≡ rest) }
 {

@@ -95,7 +95,7 @@ is_query p = some_push (λ s. not s.sent) p.push
 abbrev pub is_under_way : Pushing → Bool
 is_under_way p = some_push (λ s. s.sent) p.push
 
--- what is told of a push
+-- what is said of a push
 abbrev pub shown : StandingPush → Server × UnitId × Bool
 shown p = (p.to, p.id, p.sent)
 
@@ -108,7 +108,7 @@ IsPressed config q = config.limit - config.limit / 8 < charge_of q
 abbrev pub is_pressed : Config → Queue → Bool
 is_pressed config q = nat_lt (config.limit - config.limit / 8) (charge_of q)
 
--- the other servers are asked in turn, from the one behind this one on, by how many pushes were begun before
+-- the other servers are asked in turn, from the one after this one on, by how many pushes were begun before
 abbrev pub next_to : Config → Server → ℕ → Server
 next_to config me pushes = behind config me (pushes % (config.servers - 1) + 1)
 

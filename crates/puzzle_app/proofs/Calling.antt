@@ -135,7 +135,7 @@ goes_open grain b (s ∷ said) last goes =
 pub so_open : (p : PuzzleProgram) (said : List Said) → IsSoFar p said → has_finished said ≡ false
 so_open p said is = goes_open p.settings.grain (start_of p) said is.last is.goes
 
--- the calls before and behind a call
+-- the calls before and after a call
 pub goes_split : (grain : ℕ) (b : Books) (said more : List Said) (last : Books) → Goes grain b (said ++ more) last →
     (mid : Books) × Goes grain b said mid × Goes grain mid more last
 goes_split grain b [] more last goes = (b, refl, goes)

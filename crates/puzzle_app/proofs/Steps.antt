@@ -30,7 +30,7 @@ use Rattle.puzzle_app.specs.declared.program.PuzzleProgram.{PuzzleProgram}
 use Rattle.puzzle_app.proofs.Fetching.{fetch_moves}
 use Rattle.puzzle_app.proofs.Tallies.{Counted, Fresh, Same, as_it_was, counted_tasks, made_over, tally_fresh, tally_one, tally_over, tally_same}
 
--- a call behind others
+-- a call after others
 pub goes_snoc : (grain : ℕ) (b : Books) (said : List Said) (mid next : Books) (s : Said) → Goes grain b said mid → Moves grain mid s next →
     Goes grain b (said ++ s ∷ []) next
 goes_snoc grain b [] mid next s same move = (next, subst (λ x. Moves grain x s next) (sym same) move, refl)

@@ -354,7 +354,7 @@ counted_tasks budget p b (Batch common items ∷ jobs) =
       answered = omega (arith, sum_by-append (one_if (is_kind 3)) (as_units own) more, later.answered, jobs_kind 3 own refl);
     }
 
--- an empty desk, where so many boards and jobs are counted
+-- an empty desk, where these numbers of boards and jobs are counted
 pub record Fresh (m n : ℕ) (d : Desk) : Type 0 where
   pub waiting : d.waiting.items ≡ []
   pub kept : d.kept.items ≡ []

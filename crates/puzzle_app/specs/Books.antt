@@ -41,7 +41,7 @@ abbrev pub received : ℕ → Arrival → List Task → Option (List ℕ) → Li
 received grain a tasks on came = going (put_all (makes grain a) ++ tasks) on (came ++ a ∷ [])
 
 -- these are the bytes of a fetch of this unit: the note has the work type and the answer rank of a put of it, whose body is what the
--- fetch gave behind the common bytes
+-- fetch gave after the common bytes
 pub record IsFetchOf (note : UnitNote) (bytes : List ℕ) (unit : Made) : Type 0 where
   pub form : IsUnit unit
   pub prio : ℤ
@@ -92,7 +92,7 @@ pub data Moves (grain : ℕ) (b : Books) (s : Said) (next : Books) : Type 0 wher
   stopped_before : (common : List ℕ) (jobs : List Job) (rest : List Task) (came : List Arrival) (end : told_end.End) →
       b ≡ going (Begin common jobs ∷ rest) None came → s ≡ said_of (BeginBatch common) (Ended end) →
       next ≡ shut (put_all (as_units jobs) ++ rest) None came → Moves grain b s next
-  -- it ends the batch, each job of which was put; or behind an end
+  -- it ends the batch, each job of which was put; or after an end
   closed : (common : List ℕ) (rest : List Task) (came : List Arrival) →
       b ≡ going (End ∷ rest) (Some common) came → s ≡ said_of EndBatch Fine → next ≡ going rest None came → Moves grain b s next
   closed_behind : (common : List ℕ) (rest : List Task) (came : List Arrival) →

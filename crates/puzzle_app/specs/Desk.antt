@@ -63,7 +63,7 @@ pub record Works (grain : ℕ) (board : Board) (old new : Desk) : Type 0 where
 abbrev pub answers_to : List ℕ → List Job → List Made
 answers_to common jobs = map (λ (j : Job). made.Answer (answer_of common j)) jobs
 
--- the items of a batch that no server takes came: their answers wait behind all else, and are counted
+-- the items of a batch that no server takes came: their answers wait after all else, and are counted
 pub record Answers (batch : ℕ) (common : List ℕ) (items : List Item) (old new : Desk) : Type 0 where
   pub waiting : new.waiting.items ≡ old.waiting.items ++ answers_to common (jobs_from batch 1 items)
   pub kept : new.kept ≡ old.kept

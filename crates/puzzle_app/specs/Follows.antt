@@ -33,13 +33,13 @@ pub record IsSoFar (p : PuzzleProgram) (said : List Said) : Type 0 where
   pub last : Books
   pub goes : Goes p.settings.grain (start_of p) said last
 
--- those, and the call that it has begun behind them and that is not answered, if there is one: with some answer it is the next
+-- those, and the call that it has begun after them and that is not answered, if there is one: with some answer it is the next
 abbrev pub IsUnderWay : PuzzleProgram → List Said → Option Call → Type 0
 IsUnderWay p said None = IsSoFar p said
 IsUnderWay p said (Some call) = (answer : Answer) × IsSoFar p (said ++ said_of call answer ∷ [])
 
 -- the calls that it has made at its end, which was told, and its outcome: the solutions and the answers that stay with it, the numbers
--- of the puzzles that are over, and how many units it made; what was still to do then was not done
+-- of the puzzles that are over, and how many units it made. What was still to do then was not done
 pub record Follows (p : PuzzleProgram) (said : List Said) (outcome : Outcome) : Type 0 where
   pub left : List Task
   pub came : List Arrival

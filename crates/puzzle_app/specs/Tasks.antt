@@ -20,7 +20,7 @@ unfoldable pub jobs_from : ℕ → ℕ → List Item → List units.Job
 jobs_from b n [] = []
 jobs_from b n (item ∷ items) = record { batch = b; number = n; item = item } ∷ jobs_from b (n + 1) items
 
--- the tasks of jobs in input order: a board of each puzzle is put, and each batch is begun; the next puzzle has the number p, the
+-- the tasks of jobs in input order: a board of each puzzle is put, and each batch is begun. The next puzzle has the number p, the
 -- next batch the number b
 unfoldable pub tasks_from : ℕ → ℕ → ℕ → List Job → List Task
 tasks_from budget p b [] = []

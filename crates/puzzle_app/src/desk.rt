@@ -33,7 +33,7 @@ pub struct Desk {
 }
 
 impl Desk {
-    /// A desk on which nothing waits or stays. So many boards and jobs are made of the jobs of an input.
+    /// An empty desk; `boards` and `jobs` count the units that the input makes.
     pub fn new(alloc: Global, boards: u128, jobs: u128) -> Desk
         ensures waiting { result.waiting.items ≡ [] }
         ensures kept { result.kept.items ≡ [] }
@@ -116,7 +116,7 @@ impl Desk {
         }
     }
 
-    /// The items of a batch that no server takes come to the rank (`Answers`): their answers wait behind all else. Its
+    /// The items of a batch that no server takes come to the rank (`Answers`): their answers wait after all else. Its
     /// only error is `NoMemory`.
     pub fn answer_all(&mut self, batch: u32, common: &[u8], items: &[Item]) -> Result<(), NoMemory>
         requires room { HasRoom self.old }
@@ -214,7 +214,7 @@ fn put_children_first(
     Ok(())
 }
 
-// The answers to the items of a batch wait behind all else, in order.
+// The answers to the items of a batch wait after all else, in order.
 fn put_answers_last(
     waiting: &mut VecDeque<Made>,
     batch: u32,

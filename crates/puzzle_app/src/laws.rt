@@ -15,9 +15,9 @@ ghost use Rattle.puzzle_app.specs.Transcripts.{all_come, all_refused, batches_in
 ghost use Rattle.puzzle_app.specs.declared.program.PuzzleProgram.{PuzzleProgram};
 
 /// What a rank's calls add up to. What was put, what is still to be put, and the jobs of the batches that no server
-/// took are, as a permutation, what the program makes of its jobs and by the work on each unit that came to it
-/// (`puts`). The units that came to it are in order those that no server took, those that it fetched, and the jobs of
-/// the batches that no server took (`came`).
+/// took are, as a permutation, what the program makes. It makes units of its jobs, and by the work on each unit that
+/// came to it (`puts`). The units that came to it are in order those that no server took, those that it fetched, and
+/// the jobs of the batches that no server took (`came`).
 pub fn calls_add_up()
     ensures puts { (p : PuzzleProgram) (said : List Said) (last : Books) →
         Goes p.settings.grain (start_of p) said last →
@@ -31,11 +31,11 @@ pub fn calls_add_up()
 /// How a rank's calls go on. They are no other calls than puts, reservations, fetches, and beginnings and ends of
 /// batches (`own`), and Finish is not among them (`running`). Each call stands at its books (`each`), and the calls
 /// before it are such calls too (`front`). A reservation is of any type, and comes only when nothing is to be done, no
-/// batch goes on and nothing is held (`reserves`). Exactly the unit that a call grants is held behind it (`grants`),
-/// and when one is held the next call is its fetch (`fetches`). A batch begins with its first task and when none goes
-/// on (`begins`); while one goes on, jobs and answers are put, and it is ended (`within`); and the books tell whether
-/// one goes on as the transcript does (`going_on`). Behind an end only the batch that goes on is ended (`last`), and
-/// the books are shut exactly when the transcript tells one (`told`).
+/// batch goes on and nothing is held (`reserves`). Exactly the unit that a call grants is held after it (`grants`), and
+/// when one is held the next call is its fetch (`fetches`). A batch begins with its first task and when none goes on
+/// (`begins`). While one goes on, jobs and answers are put, and it is ended (`within`). The books tell whether one goes
+/// on as the transcript does (`going_on`). After an end only the batch that goes on is ended (`last`), and the books
+/// are shut exactly when the transcript tells one (`told`).
 pub fn calls_in_order()
     ensures own { (p : PuzzleProgram) (said : List Said) → IsSoFar p said →
         All (λ (s : Said). is_own s.call ≡ true) said }

@@ -2,7 +2,7 @@
 //!
 //! A `PuzzleProgram` works the jobs of `job_text` by the calls of `rank_client`, with the units of `job_units`, and
 //! ends with an outcome of `job_report`. `specs/Tasks.antt` says what a rank is to do with the jobs of an input,
-//! `specs/Arrivals.antt` what the units that come to it make, `specs/Books.antt` which call it makes next, and
+//! `specs/Arrivals.antt` what the units that come to it make. `specs/Books.antt` says which call it makes next, and
 //! `specs/Follows.antt` with what outcome it ends. `calls_add_up` and `calls_in_order` say what follows from the
 //! relation of a rank's calls for its transcript alone.
 #![tactic(auto)]

@@ -13,7 +13,7 @@ pub struct Place {
 }
 
 impl Place {
-    /// The place behind a job.
+    /// The place after a job.
     pub fn behind(self, job: &Job) -> Place
         requires few { self.puzzle + self.batch ≤ 2 ^ 25 }
         ensures { result ≡ behind self job.now }

@@ -14,7 +14,7 @@ use job_text::Jobs;
 use rank_client::{Adlb, RankProgram};
 use std::alloc::Global;
 
-/// The program of a rank. If it has the jobs of an input, it goes through them in order: it puts a board of each
+/// The program of a rank. If it has the jobs of an input, it goes through them in order. It puts a board of each
 /// puzzle, and the items of each batch as jobs of a batch, which it answers itself if no server keeps the common bytes.
 /// Then it takes units until it is told an end: it works boards and jobs, and keeps the solutions and answers that come
 /// to it.

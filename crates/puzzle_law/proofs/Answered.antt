@@ -28,7 +28,7 @@ answers_in-append b n (x ∷ xs) ys = here ((x.0 == b) && (x.1 == n)) (answers_i
     here true later = ap (λ l. x.2 ∷ l) later
     here false later = later
 
--- the values told of an item in all outcomes
+-- the values of an item in all outcomes
 pub answers_are : (b n : ℕ) (outcomes : List Outcome) → answers_of b n outcomes ≡ answers_in b n (answered_in outcomes)
 unfolding answers_in
 answers_are b n [] = refl
@@ -54,7 +54,7 @@ answers_pass b n p (x ∷ xs) =
     here true = sum_by-cons (one_if p) x.2 (answers_in b n xs)
     here false = omega arith
 
--- the answers that stay weigh what is told of them
+-- the answers that stay weigh as they are told
 pub told_weighs : (w : ℕ × ℕ × ℕ → ℕ) (came : List Arrival) → sum_by (told_weight w) came ≡ sum_by w (told_by came)
 told_weighs w [] = refl
 told_weighs w (a ∷ came) = omega (arith, sum_by-cons (told_weight w) a came, one_told a.common a.unit, told_weighs w came)
@@ -68,7 +68,7 @@ told_weighs w (a ∷ came) = omega (arith, sum_by-cons (told_weight w) a came, o
 
 -- One batch.
 
--- the answer to another item is none of this one
+-- the answer to another item is not one of this item
 another : (b n c m : ℕ) (common : List ℕ) (item : Item) (items : List Item) → ((c == b) && (m == n)) ≡ false →
     answers_in b n (item_answers c m common (item ∷ items)) ≡ answers_in b n (item_answers c (m + 1) common items)
 unfolding answers_in item_answers
@@ -106,7 +106,7 @@ first_item b n common item items =
     ∙ ap (λ t. cond t (value ∷ rest) rest) (eq-eqb n n refl)
     ∙ ap (λ l. value ∷ l) (later_items b n b (n + 1) common items (omega arith))
 
--- of items behind it there is what there is without it
+-- of later items there is what there is without it
 pub next_items : (b n m : ℕ) (common : List ℕ) (item : Item) (items : List Item) → n < m →
     answers_in b m (item_answers b n common (item ∷ items)) ≡ answers_in b m (item_answers b (n + 1) common items)
 next_items b n m common item items less = another b m b n common item items (other_item b m b n (λ e. omega arith))
@@ -132,7 +132,7 @@ first_batch b n common items jobs =
     ∙ ap (λ l. its ++ l) (later_batches b n (b + 1) jobs (omega arith))
     ∙ append-nil its
 
--- of items of batches behind it there is what there is without it
+-- of items of later batches there is what there is without it
 pub next_batches : (b c n : ℕ) (common : List ℕ) (items : List Item) (jobs : List Job) → b < c →
     answers_in c n (job_answers b (Batch common items ∷ jobs)) ≡ answers_in c n (job_answers (b + 1) jobs)
 unfolding job_answers

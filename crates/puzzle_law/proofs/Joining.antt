@@ -22,6 +22,7 @@ Conserves =
     (config : Config) (ledger : List Entry) (last : Bag) → 0 < config.ranks → IsRun (start config) ledger last → AreOrderly config ledger →
     IsBalanced config ledger last
 
+-- in a run of puzzle programs the outcomes hold what the jobs are to give
 pub joined_whole : Conserves →
     (config : Config) (ledger : List Entry) (last : Bag) (settings : Settings) (jobs : List Job) (outcomes : List Outcome) →
     0 < config.ranks → IsRun (start config) ledger last → All IsSudoku (puzzles jobs) →
@@ -31,6 +32,7 @@ joined_whole conserves config ledger last settings jobs outcomes some legal grid
     conserves config ledger last some legal (run_is_orderly config ledger settings jobs outcomes run) in
     run_is_whole config ledger last settings jobs outcomes some balanced grids run
 
+-- in a run of puzzle programs each accepted unit was fetched
 pub joined_spent : Conserves →
     (config : Config) (ledger : List Entry) (last : Bag) (settings : Settings) (jobs : List Job) (outcomes : List Outcome) →
     0 < config.ranks → IsRun (start config) ledger last → IsPuzzleRun config ledger settings jobs outcomes →
@@ -40,6 +42,7 @@ joined_spent conserves config ledger last settings jobs outcomes some legal run 
     conserves config ledger last some legal (run_is_orderly config ledger settings jobs outcomes run) in
     balanced.spent
 
+-- in a run of puzzle programs each common part was freed
 pub joined_freed : Conserves →
     (config : Config) (ledger : List Entry) (last : Bag) (settings : Settings) (jobs : List Job) (outcomes : List Outcome) →
     0 < config.ranks → IsRun (start config) ledger last → IsPuzzleRun config ledger settings jobs outcomes →

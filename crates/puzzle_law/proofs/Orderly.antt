@@ -27,7 +27,7 @@ abbrev is_end : Answer → Bool
 is_end (answers.Ended end) = true
 is_end _ = false
 
--- a call of the program is the next one of an orderly rank; behind an end the batch that was going on goes on
+-- a call of the program is the next one of an orderly rank; after an end the batch that was going on goes on
 record IsOrdered (ranks : ℕ) (b : Books) (s : Said) (next : Books) : Type 0 where
   comes : IsNext ranks b.held b.on s.call
   stays : batch_after b.on s.call s.answer ≡ next.on
@@ -94,9 +94,9 @@ each_ordered grain ranks some = record {
       record { comes = refl; stays = sym is.stays; holds = is.holds; ends = λ live. is.lives; keeps = λ e. is.stays };
 }
 
--- Behind an end.
+-- After an end.
 
--- behind an end a rank ends its batch and makes no other call
+-- after an end a rank ends its batch and makes no other call
 abbrev IsLast : Books → Said → Books → Type 0
 IsLast b s next =
     b.ended ≡ true → (common : List ℕ) × (b.on ≡ Some common) × (s ≡ end_batch) × (next.on ≡ None) × (next.ended ≡ true)
@@ -116,7 +116,7 @@ each_last grain = record {
   at_fetched = λ came note bytes e. absurd (cc);
 }
 
--- the calls behind an end, and then Finish
+-- the calls after an end, and then Finish
 behind_end : (grain : ℕ) (b : Books) (said : List Said) (last : Books) → b.ended ≡ true → last.on ≡ None → Goes grain b said last →
     said ++ finish ∷ [] ≡ last_calls b.on
 behind_end grain b [] last over none same =

@@ -96,7 +96,7 @@ unfolding waits
 waits-put_all on [] tasks = refl
 waits-put_all on (unit ∷ units) tasks = ap (λ l. arrival (bytes_on on) unit ∷ l) (waits-put_all on units tasks)
 
--- tasks behind tasks: no batch is going on behind them
+-- tasks after tasks: no batch is going on after them
 pub waits-append : (xs ys : List Task) → waits None (xs ++ ys) ≡ waits None xs ++ waits None ys
 unfolding waits
 waits-append [] ys = refl
@@ -112,7 +112,7 @@ pub put_waits : (q : Test) (on : Option (List ℕ)) (unit : Made) (tasks : List 
 unfolding waits
 put_waits q on unit tasks = sum_by-cons (one_if q) (arrival (bytes_on on) unit) (waits on tasks)
 
--- a batch that is begun, and ended behind its jobs
+-- a batch that is begun, and ended after its jobs
 pub batch_waits : (common : List ℕ) (jobs : List Job) (tasks : List Task) →
     waits None (Begin common jobs ∷ tasks) ≡ map (arrival common) (as_units jobs) ++ waits None tasks
 unfolding waits

@@ -83,7 +83,7 @@ passing_board grain n p b =
     let of_puzzle : ℕ → ℕ = λ m. cond (b.puzzle == n) m 0 in
     ap of_puzzle (passing_adds grain p b) ∙ sym (made_weighs (is_of n) (passing p) (one_if p) grain b)
 
--- work on a board leaves none of them, and a solution stays
+-- work on a board leaves no such unit, and a solution stays
 pub passing_law : (grain n : ℕ) (p : Cells → Bool) (common : List ℕ) (unit : Made) →
     weight (is_of n) (passing p) (one_if p) (over common unit)
     ≡ kept_weight (is_of n) (one_if p) (over common unit)

@@ -19,9 +19,9 @@ ghost use Rattle.sudoku_rules.specs.Sides.{IsSudoku};
 
 use balance_law::balance_laws;
 
-/// The joining of ledger, programs and report, for every configuration. In a legal run in which each rank
-/// ran its puzzle program and then finished, the outcomes together hold exactly what the jobs are to give (`whole`); each
-/// accepted unit was fetched, so no unit is left (`spent`); and the common part of each batch was freed (`freed`).
+/// The joining of ledger, programs and report, for every configuration. In a legal run in which each rank ran its puzzle
+/// program and then finished, the outcomes together hold exactly what the jobs are to give (`whole`). Each accepted unit
+/// was fetched, so no unit is left (`spent`). The common part of each batch was freed (`freed`).
 pub fn joining_laws()
     ensures whole { (config : Config) (ledger : List Entry) (last : Bag) (settings : Settings) (jobs : List Job)
         (outcomes : List Outcome) →

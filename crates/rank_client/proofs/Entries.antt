@@ -30,7 +30,7 @@ changed_at f (y ∷ xs) (suc n) x e = changed_at f xs n x e
 pub rank_changed : (b : Bag) (rank : Rank) (f : RankState → RankState) (r : RankState) → rank_at b rank ≡ Some r → rank_at (with_rank rank f b) rank ≡ Some (f r)
 rank_changed b rank f r e = changed_at f b.ranks rank.0 r e
 
--- What is asked where exhaustion is found is none of a rank's entries.
+-- What is asked where exhaustion is found concerns no entry of a rank.
 
 same_number : (n : ℕ) → (n == n) ≡ true
 same_number n = eq-eqb n n refl

@@ -67,7 +67,7 @@ tried_at_home : tries ≡ server 2
 unfolding config rank tries server
 tried_at_home = refl
 
--- the server that is asked next, where this one has looked as the last of so many and one
+-- the server that is asked next, where this one has looked, as the last of n + 1
 looks_next : ℕ → ℕ → Option (List Actor)
 looks_next tried from =
     option_map (λ (x : Made). map (λ (y : Sending). y.to) x.sends)
@@ -103,7 +103,7 @@ told_at_home : told_first ≡ server 2
 unfolding config rank told_first server
 told_at_home = refl
 
--- the server that is told next, where this one has heard it as the last of so many and one
+-- the server that is told next, where this one has heard it, as the last of n + 1
 tells_next : ℕ → ℕ → Option (List Actor)
 tells_next tried from =
     option_map (λ (x : Made). map (λ (y : Sending). y.to) x.sends)

@@ -135,7 +135,7 @@ can_call m (calls_to.Count kind) is whole can grant = tt
 can_call m calls_to.SetDone is whole can grant = tt
 can_call m calls_to.Finish is whole can grant = sym (batch_stands m is whole) ∙ can.suits
 
--- no batch is going on behind the end of one, whatever it came to
+-- no batch is going on after the end of one, whatever it came to
 pub batch_ended : (r : Result (Prim.Unit {0}) Trouble) (on : Bool) → batch_after calls_to.EndBatch (done_came r) on ≡ false
 batch_ended (Ok done) on = refl
 batch_ended (Err trouble) on = refl

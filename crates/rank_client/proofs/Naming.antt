@@ -32,7 +32,7 @@ named_more said s id now between before last first was =
     ∙ ap (λ t. t || (is_fetched id said || fetches id s.call)) (sym (granted_more id said s))
     ∙ ap (λ t. is_granted id (said ++ s ∷ []) || t) (sym (fetched_more id said s))
 
--- there are none at the start
+-- there are no ids at the start
 pub none_named : (id : UnitId) → (is_granted id [] || is_fetched id []) ≡ false
 unfolding is_granted is_fetched
 none_named id = refl

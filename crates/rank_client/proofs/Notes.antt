@@ -111,7 +111,7 @@ not_held s id first none = by_found (note_with id s.handles) refl
         let there : is_granted id s.transcript ≡ true = ap (λ i. is_granted i s.transcript) (sym here.0) ∙ here.1 in
         absurd (cc (there, none))
 
--- The unit that is fetched stands behind those that are held.
+-- The unit that is fetched follows those that are held.
 
 abbrev pub others : UnitId → List UnitNote → List UnitNote
 others id notes = filter (λ n. not (same_unit n.id id)) notes

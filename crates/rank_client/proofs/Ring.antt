@@ -1,4 +1,4 @@
--- So many servers in ring order as there are servers are all of them.
+-- As many servers in ring order as there are servers are all servers.
 use Rattle.std.proofs.Common.{◌≡◌, ◌<◌, ◌≤◌, ◌+◌, ◌-◌, ◌*◌, ◌/◌, ◌%◌, ℕ, ◌⊎◌, true, length, get_or, ap, ◌∙◌, arith, ◌==◌, inl, inr}
 use Rattle.std.specs.List.{range_with_len, list_any}
 use Rattle.std.proofs.lemmas.Bool.{cases_lt, eq-eqb}

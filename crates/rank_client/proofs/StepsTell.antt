@@ -1,4 +1,4 @@
--- A client knows its transcript, and each step tells of the call that is begun or pending.
+-- A client knows its transcript, and each step is about the call that is begun or pending.
 use Rattle.std.proofs.Common.{Option, refl, sym, ◌∙◌, arith}
 use Rattle.adlb_unit.specs.declared.configs.Config.{Config}
 use Rattle.adlb_unit.specs.declared.names.Rank.{Rank}

@@ -37,7 +37,7 @@ use Rattle.rank_client.specs.Step.{Made}
 abbrev pub running : ClientModel → RankState
 running s = record { status = does.Running; declined = []; next = s.next; batch = s.batch; end = s.end }
 
--- so many servers in ring order
+-- the first servers in ring order, of this number
 abbrev pub ring_from : Config → Server → ℕ → List Server
 ring_from config first n = map (behind config first) (range_with_len 0 n)
 
@@ -204,7 +204,7 @@ accepted_by s (waits_for.Put unit first tried) (Some m) = put_leaves s.accepted 
 accepted_by s (waits_for.Keep request common first tried) (Some m) = keep_leaves s.accepted m
 accepted_by s pending coming = s.accepted
 
--- so many units of the rank's batch were accepted
+-- this number of units of the rank's batch was accepted
 abbrev pub HasAccepted : Bag → Option CommonRef → ℕ → Type 0
 HasAccepted b None n = Prim.Unit {0}
 HasAccepted b (Some batch) n = (p : Part) × (part_of b batch.batch ≡ Some p) × (p.accepted ≡ n)
@@ -218,8 +218,8 @@ pub record ClientAgrees (s : ClientModel) (coming : Option Message) (b : Bag) : 
   pub owed : IsOwedIn b s.pending coming
   pub accepted : HasAccepted b (rank_of s s.finished coming).batch (accepted_by s s.pending coming)
 
--- the entries of the step are steps of the bag, the client stands for its rank afterwards, and its transcript, with its pending call
--- where that has its answer in the ledger, is what the ledger says of the rank; whatever is asked where exhaustion is found
+-- the entries of the step are steps of the bag, and the client stands for its rank afterwards. Its transcript, with its pending call
+-- where that has its answer in the ledger, is what the ledger says of the rank. Whatever is asked where exhaustion is found
 abbrev pub Follows : (Bag → Bool) → ClientModel → Option Message → Bag → Made → Type 0
 Follows found s coming b x =
     (next : Bag) × IsRunWhere found b x.entries next × ClientAgrees x.state None next

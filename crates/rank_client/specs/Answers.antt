@@ -71,9 +71,9 @@ heeds_end (calls_to.Try types) = true
 heeds_end (calls_to.BeginBatch common) = true
 heeds_end _ = false
 
--- The rank can make the call, in a run of so many ranks and servers: a put with a body of at most 2^20 bytes for a rank of the run; a
--- reserve; a try; a fetch of a unit that was granted and not fetched; the end of the batch that is going on; a count; that the
--- problem is done; or, while no batch is, the beginning of one with a common part of at most 2^20 bytes, or Finish.
+-- The rank can make the call, in a run with these numbers of ranks and servers: a put with a body of at most 2^20 bytes for a rank of
+-- the run; a reserve; a try; a fetch of a unit that was granted and not fetched; the end of the batch that is going on; a count; that
+-- the problem is done; or, while no batch is, the beginning of one with a common part of at most 2^20 bytes, or Finish.
 abbrev pub CanCall : ℕ → ℕ → List Said → Call → Type 0
 CanCall ranks servers said (calls_to.Put kind prio target answer body) = (length body ≤ body_limit) × Aims target ranks
 CanCall ranks servers said (calls_to.Reserve types) = Unit {0}

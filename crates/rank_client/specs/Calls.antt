@@ -86,13 +86,13 @@ Repeats (Some trouble) now = now ≡ Some trouble
 abbrev pub Pends : Option Call → Call → Type 0
 Pends begun call = (begun ≡ None) ⊎ (begun ≡ Some call)
 
--- the call that was begun and not answered when a link failed; there is none while it has not failed
+-- the call that was begun and not answered when a link failed; there is no such call while it has not failed
 abbrev pub unanswered : Option Trouble → Option Call → Option Call
 unanswered None begun = None
 unanswered (Some trouble) begun = begun
 
--- what is begun and not answered after a call: nothing while the link has not failed; where it fails in this call, perhaps this
--- call; where it had failed, what it was
+-- what is begun and not answered after a call: nothing while the link has not failed. Where it fails in this call, perhaps this
+-- call. Where it had failed, what it was
 abbrev pub Began : Option Trouble → Option Call → Call → Option Trouble → Option Call → Type 0
 Began (Some trouble) before call now begun = begun ≡ before
 Began None before call None begun = begun ≡ None

@@ -31,7 +31,7 @@ abbrev pub IsAtServer : ClientModel → Option CommonRef → Type 0
 IsAtServer s None = Unit {0}
 IsAtServer s (Some common) = common.server.0 < s.config.servers
 
--- the note names a server of the run, and so does its common part, if it has one; the rank was granted no unit of its id before,
+-- the note names a server of the run, and so does its common part, if it has one. The rank was granted no unit of its id before,
 -- and fetched none, which follows (`GrantsComeFirst`)
 pub record IsNewNote (s : ClientModel) (note : UnitNote) : Type 0 where
   pub server : note.server.0 < s.config.servers

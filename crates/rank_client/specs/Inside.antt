@@ -77,7 +77,7 @@ abbrev pub awaited : Pending → ℕ
 awaited waits_for.Nothing = 1
 awaited _ = 2
 
--- room to ask each server behind the one that is being asked, after so many were, and for an entry at the end
+-- room to ask each server after the one that is being asked, after this number of servers were, and for an entry at the end
 abbrev pub HasTries : Config → Room → ℕ → Type 0
 HasTries config room tried =
     (vec_len room.tries + tried + 1 ≡ config.servers) × (1 ≤ vec_capacity room.entries) × (room.entries.items ≡ [])

@@ -67,7 +67,7 @@ over s entry call end =
 
 -- Put.
 
--- the home of the rank that the target names; for any, the server that is as many places behind the rank's home as it put before
+-- the home of the rank that the target names; for any, the server as many places after the rank's home as it put before
 abbrev pub first_server : ClientModel → Target → Server
 first_server s Any = behind s.config (home s.config s.me) s.puts
 first_server s (Only rank) = home s.config rank
@@ -111,7 +111,7 @@ reserve s types None =
 
 -- Try.
 
--- the server that looks after so many have, of which the home is the first
+-- the server that looks after this number of servers has, of which the home is the first
 abbrev pub looks_at : ClientModel → ℕ → Server
 looks_at s tried = behind s.config (home s.config s.me) tried
 
@@ -213,7 +213,7 @@ open_call s calls_to.Finish = if is_none s.batch then Some (finish s) else None
 abbrev pub is_for : ℕ → Server → Server → ℕ → Bool
 is_for request at from to = (to == request) && (from.0 == at.0)
 
--- the server that is asked after so many have refused
+-- the server that is asked after this number of servers has refused
 abbrev pub asked : ClientModel → Server → ℕ → Server
 asked s first tried = behind s.config first tried
 
@@ -341,7 +341,7 @@ hear_close s request batch from (tells.Closed to) =
     if is_for request batch.server from to then Some (ends (record s { batch = None }) [] calls_to.EndBatch answers.Fine) else None
 hear_close s request batch from _ = None
 
--- the home tells of its free units
+-- the home says how many free units it has
 abbrev pub hear_count : ClientModel → ℕ → WorkType → Server → Message → Option ClientResponse
 hear_count s request kind from (tells.Counted to info) =
     if is_for request (home s.config s.me) from to then Some (ends s [] (calls_to.Count kind) (answers.Info info)) else None

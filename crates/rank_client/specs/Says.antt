@@ -40,7 +40,7 @@ pub record Tells (s : ClientModel) (stamp : ℕ) (call : Call) (answer : Option 
   pub trouble : t.trouble ≡ s.trouble
 
 -- The law. A client knows its transcript at the start, after each step of a call, and after a failure. It is ready for each call that
--- its rank can make. And each step tells of the call that is begun or pending, and of no other.
+-- its rank can make. And each step is about the call that is begun or pending, and about no other.
 pub record StepsTell : Type 0 where
   pub at_start : (config : Config) (me : Rank) → Remembers (start config me)
   pub after_failure : (s : ClientModel) (trouble : Option Trouble) → Remembers s → Remembers (record s { trouble = trouble })

@@ -59,7 +59,7 @@ made x = post (record { state = x.state; sends = []; entries = x.entries; answer
 abbrev pub begin : ClientModel → Call → Option Made
 begin s call = if is_free s then option_map made (open_call (ticked s (call_stamp s)) call) else None
 
--- the rank hears a letter; nothing where the letter is not expected: by a rank that has not finished, with a stamp that was given,
+-- the rank hears a letter. Nothing where the letter is not expected: by a rank that has not finished, with a stamp that was given,
 -- as the pending call awaits it
 abbrev pub hear : ClientModel → Server → Letter → Option Made
 hear s from letter =

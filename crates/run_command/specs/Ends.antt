@@ -1,5 +1,5 @@
 -- How a command that runs a rank program over an input ends. What its input asks (`asks`), which line of it is refused and why
--- (`refuses`), what is kept of a run over what is asked (`keeps`), and what is told of it (`tells`) are the command's own.
+-- (`refuses`), what is kept of a run over what is asked (`keeps`), and what is written of it (`tells`) are the command's own.
 use Rattle.std.specs.Prelude.{◌≡◌, ◌↔◌, ◌<◌, ◌≤◌, ◌+◌, ◌^◌, ℕ, Bool, true, List, length, Option, Some, None, IsSome}
 use Rattle.adlb_io.specs.Inputs.{HasMore, IsAtEnd}
 use Rattle.adlb_io.specs.Outside.{Rises, Takes}
@@ -65,7 +65,7 @@ abbrev pub IsRefusedAt : {W : Type 0} → (List ℕ → ℕ → W → Type 0) �
 IsRefusedAt refuses left line why = (bytes : List ℕ) → left ≡ Some bytes → (length bytes ≤ input_limit) × refuses bytes line why
 
 -- `asks`: these bytes ask this; `refuses`: this is the first line of them that is refused, and why; `keeps`: this is kept of a run over
--- what is asked; `tells`: this is told of it. A is what is asked, W why a line is refused, K what is kept
+-- what is asked; `tells`: this is said of it. A is what is asked, W why a line is refused, K what is kept
 module _ {A W K : Type 0} (asks : List ℕ → A → Type 0) (refuses : List ℕ → ℕ → W → Type 0) (keeps : A → K → Type 0)
     (tells : A → K → List ℕ → Type 0)
   where

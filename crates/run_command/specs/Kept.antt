@@ -29,8 +29,8 @@ pub record IsRunBy {P O : Type 0} (follows : P → Rank → List Said → O → 
   pub calls_are : calls r.config r.ledger rank ≡ said ++ finish ∷ []
   pub followed : follows program rank said outcome
 
--- what is asked was run by its programs: the ledger is a legal run with the configuration of the report; each rank's transcript is its
--- calls in the ledger, in order; each rank ran its program; and where each accepted unit was fetched none is left
+-- what is asked was run by its programs: the ledger is a legal run with the configuration of the report. Each rank's transcript is its
+-- calls in the ledger, in order. Each rank ran its program. Where each accepted unit was fetched none is left
 pub record HasRun {A P O : Type 0} (are_programs : ℕ → A → List P → Type 0) (follows : P → Rank → List Said → O → Type 0)
     (asked : A) (r : Reported O) : Type 0 where
   pub programs : List P
@@ -60,7 +60,7 @@ abbrev pub HasStarted : Config → ℕ → ℕ → Type 0
 HasStarted config before now = RisesBy (config.ranks + config.servers) before now
 
 -- a run in line or with threads: what it keeps has such numbers. With threads, what is kept is of a run in threads, which is one run of
--- all actors (`Kept::one_run`), and a thread for each rank and for each server was started. A run in line leaves the spawner alone.
+-- all actors (`Kept::one_run`). A thread for each rank and for each server was started. A run in line leaves the spawner alone.
 pub record IsRunWith {O : Type 0} (IsOf : Config → Type 0) (inline : Bool) (before after : Scene) (kept : Option (Kept O)) : Type 0 where
   pub numbers : IfSome kept (λ k. IsOf k.report.config)
   pub threaded : inline ≡ false → IfSome kept (λ k. (k.threaded ≡ true) × HasStarted k.report.config before.started after.started)

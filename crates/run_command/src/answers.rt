@@ -1,4 +1,4 @@
-//! The answer to what an input asks: what is kept of its run, and what is told of it.
+//! The answer to what an input asks: what is kept of its run, and what is written of it.
 
 ghost use Rattle.std.specs.Prelude.{◌≡◌, IfOk, IfErr};
 ghost use Rattle.run_command.specs.Kept.{HasRun, IsKept};
@@ -9,7 +9,7 @@ use crate::kept::Kept;
 use rank_client::RankProgram;
 use std::alloc::Global;
 
-/// What is kept of a run, and what is told of it.
+/// What is kept of a run, and what is written of it.
 #[derive(Drop)]
 pub(crate) struct Answer<O> {
     pub kept: Kept<O>,

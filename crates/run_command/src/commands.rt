@@ -32,10 +32,10 @@ pub trait Command {
 
     ghost refuses: { Self → List ℕ → ℕ → Self.Why → Type 0 };
 
-    // The ranks of a run over what is asked, of which there are so many, have these programs.
+    // The ranks of a run over what is asked, of this number, have these programs.
     ghost are_programs: { Self → ℕ → Self.Asked → List Self.Program → Type 0 };
 
-    // This is told of a run over what is asked, of which this is kept.
+    // This is said of a run over what is asked, if this is kept of it.
     ghost tells: { Self → Self.Asked → Kept Self.Program.Outcome → List ℕ → Type 0 };
 
     /// Reads what the bytes of an input of at most 2^24 bytes ask.
@@ -57,7 +57,7 @@ pub trait Command {
             Self.Program.fits p ranks) }
         ensures programs { IfOk result (λ programs. are_programs self.now ranks asked.now programs.items) };
 
-    /// What is told of a run over what was asked. All its work is done. Its only error is `NoMemory`.
+    /// What is written of a run over what was asked. All its work is done. Its only error is `NoMemory`.
     fn tell(
         &self,
         alloc: Global,

@@ -20,8 +20,8 @@ use adlb_unit::Config;
 use rank_client::RankProgram;
 use std::alloc::Global;
 
-/// Reads what the input asks, works it by the programs of as many ranks as the configuration has over its servers, each in a thread of
-/// its own, and writes what is told. It waits for its threads.
+/// Reads what the input asks, works it by the programs of the configuration's ranks over its servers, each in a thread of its own, and
+/// writes what is told. It waits for its threads.
 ///
 /// `EndsBy` says of each end what was written and kept and why it came, as of a run in line, and one end besides. `NoThread`: the
 /// spawner's count of faults rose (or stands at its last value). What is kept is of a run in threads, which is one run of all actors

@@ -29,7 +29,7 @@ impl Words {
         word % count.max(1)
     }
 
-    // One of the places of a list of so many.
+    // A place of a list of this length.
     pub(crate) fn place(&mut self, count: usize) -> usize {
         let word: u32 = self.generator.next_word();
         word as usize % count.max(1)
@@ -111,7 +111,7 @@ fn put(alloc: Global, words: &mut Words, config: Config) -> Result<Call, Fail> {
     })
 }
 
-// A target in a run of so many ranks.
+// A target in a run with this number of ranks.
 fn target(words: &mut Words, ranks: u32) -> Target {
     let rank = Rank(words.below(ranks));
     match words.below(4) {

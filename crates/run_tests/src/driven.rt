@@ -49,7 +49,7 @@ fn config_of(number: u64) -> Result<Config, Fail> {
     }
 }
 
-// Each of so many ranks was told an end, and has finished.
+// Each of the first ranks, of this number, was told an end, and has finished.
 fn all_have_finished(entries: &[Entry], ranks: u32) -> bool {
     for rank in 0..ranks {
         if !has_finished(entries, rank) {
@@ -101,9 +101,9 @@ fn is_judged(
     Ok(first_illegal(alloc, ledger, config) == Ok(None) && shows(alloc, entries, config, place)?)
 }
 
-// What some run has shown: a put that each server refused; a unit that went to a waiting rank as it came; a count of some unit; a
-// look at one server behind another; a try with several servers that was granted; a unit that another server than the home had for a
-// rank that reserved, and one that came there only after the rank had asked; a push that was taken back; in how many runs with several
+// What some run has shown: a put that each server refused; a unit that went to a waiting rank as it came; a count of some unit; a look
+// at one server after another; a try with several servers that was granted; a unit that another server than the home had for a rank
+// that reserved, and one that came there only after the rank had asked; a push that was taken back; in how many runs with several
 // servers a unit moved, in how many these found that all work is used up, in how many the problem was done, and in how many a common
 // part was freed; and how many entries all have.
 #[derive(Debug, Default, Drop)]
@@ -270,7 +270,7 @@ fn driven_runs_are_legal_and_one_change_shows(rt: HostRuntime) -> Result<(), Fai
     Ok(())
 }
 
-// One server looked right behind another in the same call.
+// One server looked right after another in one call.
 fn is_look_on(pair: &[Entry]) -> bool {
     match pair {
         [
@@ -285,7 +285,7 @@ fn is_look_on(pair: &[Entry]) -> bool {
     }
 }
 
-// The unit was granted right behind its coming.
+// The unit was granted right after its coming.
 fn is_settled(pair: &[Entry]) -> bool {
     match pair {
         [Entry::Accepted { id, .. }, Entry::Granted { id: to, .. }] => id == to,

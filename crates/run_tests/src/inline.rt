@@ -36,7 +36,7 @@ enum Act {
     TryAndLeave,
     // A try is told this end.
     TryOver(TryFault),
-    // A count of this type tells so many units, this highest priority, and so many that have it.
+    // A count of this type: how many units, their highest priority, and how many have it.
     Count(u32, u64, Option<i32>, u64),
     // A batch with the common part `xy` begins.
     Begin,

@@ -13,7 +13,7 @@ use std::test::Fail;
 // A unit, by the rank that put it and the number of its put.
 type Unit = (u32, u64);
 
-// An entry of a small ledger, in constant numbers: servers and ranks, then calls, units and what is told of them. The type
+// An entry of a small ledger, in constant numbers: servers and ranks, then calls, units and what is said of them. The type
 // that a rank wants is any, or this one. The only batch is the first of rank 0.
 #[derive(Clone, Copy)]
 enum Row {
@@ -42,7 +42,7 @@ enum Row {
     Closed,
     CommonFetched(u32),
     Freed,
-    // Rank 0 counts type 1 in its third call, and is told of two free units with this priority.
+    // Rank 0 counts type 1 in its third call, and is said of two free units with this priority.
     Counting,
     Counted(i32),
     Done(u32, u64),
@@ -307,7 +307,7 @@ impl Writer {
         Ok(())
     }
 
-    // What is to be inserted behind the last row.
+    // What is to be inserted after the last row.
     fn end(&mut self) -> Result<(), NoMemory> {
         match self.edit {
             Insert(other) if self.at <= self.place => self.push(other),
@@ -384,7 +384,7 @@ fn numbers(base: Base) -> (u32, u32, u64) {
     }
 }
 
-// The rows of a ledger; of the long one those behind its units.
+// The rows of a ledger; of the long one those after its units.
 fn rows(base: Base) -> &'static [Row] {
     match base {
         Base::FullServers => FULL_SERVERS,

@@ -17,7 +17,7 @@ use std::test::Fail;
 enum Does {
     // The rank puts a unit of this type and target.
     Puts(u32, u32, Target),
-    // The rank puts a unit of so many bytes and this priority, for any rank.
+    // The rank puts a unit of this length and priority, for any rank.
     PutsLong(u32, usize, i32),
     // The rank fetches the unit of this number, which the rank of the second number put.
     Fetches(u32, u32, u64),
@@ -37,8 +37,8 @@ use Does::{
     Across, Down, Fetches, Finishes, Puts, PutsLong, Reserves, ReservesOf, SetsDone, Tries, Up,
 };
 
-// What happens in a run of so many ranks and servers, the ledger that it leaves, each entry as `row` has it, and how many letters are
-// under way at its end.
+// What happens in a run with these numbers of ranks and servers, the ledger that it leaves, each entry as `row` has it, and how many
+// letters are under way at its end.
 struct Scene {
     ranks: u32,
     servers: u32,
@@ -244,7 +244,7 @@ const SCENES: &[Scene] = &[
             refused 0 by 60; rejected 1; ",
         letters: 1,
     },
-    // The same where it is fetched meanwhile.
+    // A push whose unit is fetched meanwhile.
     Scene {
         ranks: 2,
         servers: 2,
@@ -779,7 +779,7 @@ impl Stepped {
         Ok(self.world.left(Server(number))?)
     }
 
-    // So many units are at the server of this number, each one of rank 1, at server 0 and not pinned.
+    // This number of units is at the server of this number, each one of rank 1, at server 0 and not pinned.
     fn has_left(&self, number: u32, count: usize) -> Result<bool, Fail> {
         let left = self.left(number)?;
         let are_as_put = left.iter().all(|unit| unit.id.rank.0 == 1

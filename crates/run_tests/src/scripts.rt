@@ -124,7 +124,7 @@ impl GoingRun {
         }
     }
 
-    // One of the events that are enabled; none if there is none.
+    // One of the events that are enabled; `None` if there is no such event.
     fn choose(&mut self, alloc: Global) -> Result<Option<Event>, Fail> {
         match self.chosen(alloc)? {
             None => Ok(None),

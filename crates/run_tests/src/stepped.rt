@@ -22,7 +22,7 @@ const THIRD: Actor = Actor::Server(Server(2));
 // An event of the only rank or of a list of letters.
 #[derive(Clone, Copy)]
 enum Does {
-    // The rank puts so many bytes.
+    // The rank puts a body of this length.
     Puts(usize),
     // It puts this byte.
     PutsByte(u8),
@@ -367,7 +367,7 @@ fn count(alloc: Global, number: u64) -> Result<String, Fail> {
     Ok(format!(in alloc; "{number}")?)
 }
 
-// A world of one rank and so many servers, each with the lowest limit, gives what stands beside each line.
+// A world of one rank and this number of servers, each with the lowest limit, gives what is beside each line.
 fn play(rt: &impl Abort, alloc: Global, servers: u32, scene: &[(Line, &str)]) -> Result<(), Fail> {
     let config = Config::new(1, servers, 64)?;
     let mut world = World::new(alloc, config)?;
@@ -647,7 +647,7 @@ const WORK_1: [Does; 8] = [
     Does::Delivers(FIRST, RANK),
 ];
 
-// The same of the unit of number 2.
+// So it is of the unit of number 2.
 const WORK_2: [Does; 8] = [
     Does::Reserves,
     Does::Delivers(RANK, FIRST),

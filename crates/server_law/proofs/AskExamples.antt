@@ -100,7 +100,7 @@ an_ask_is_granted :
     ∷ []
 an_ask_is_granted = refl
 
--- there is none: the wish is kept in place of an earlier one of the rank, behind those of others
+-- there is no unit: the wish is kept in place of an earlier one of the rank, after those of others
 a_wish_takes_the_place_of_an_earlier_one :
     events fresh (asks 1 (wants_threes 1 7) ∷ asks 2 (wants 2 3) ∷ asks 1 (wants 1 9) ∷ [])
     ≡ record {
@@ -153,7 +153,7 @@ where_the_problem_is_done_none_is_given :
     ∷ []
 where_the_problem_is_done_none_is_given = refl
 
--- Server 0 asks for its rank 0: the servers behind it, one after the other, and then the rank is idle.
+-- Server 0 asks for its rank 0: the servers after it, one after the other, and then the rank is idle.
 
 the_others_are_asked_in_turn :
     events fresh (reserves 0 4 ∷ has_none 1 0 4 ∷ has_none 2 0 4 ∷ [])
@@ -173,7 +173,7 @@ the_others_are_asked_in_turn :
     ∷ []
 the_others_are_asked_in_turn = refl
 
--- one of them has pinned a unit to it, and the rank is told of it
+-- one of them has pinned a unit to it, and the rank hears it
 abbrev elsewhere : Work
 elsewhere = unit 5 (targets.Only (rank 0))
 
@@ -219,7 +219,7 @@ a_unit_that_came_meanwhile_is_found :
     ∷ []
 a_unit_that_came_meanwhile_is_found = refl
 
--- where an end is known by then, the rank is told of it, even if there is a unit
+-- where an end is known by then, the rank is told it, even if there is a unit
 abbrev asked_known : Bool → Bool → Option ServerModel
 asked_known is_done used_up = option_map (knows is_done used_up) (after fresh (reserves 0 4 ∷ puts 0 (for_any 0) ∷ []))
 
@@ -300,8 +300,8 @@ a_unit_goes_to_the_first_rank_of_its_target :
     ∷ []
 a_unit_goes_to_the_first_rank_of_its_target = refl
 
--- where nobody waits that is idle, the homes of ranks whose wishes it takes off are told: first the rank that its target names before
--- others, then each in its order; a wish of other types stays
+-- where nobody waits that is idle, the homes of ranks whose wishes it takes off are told. First comes the rank that its target names
+-- before others, then each in its order. A wish of other types stays
 abbrev wished : List Said
 wished = asks 1 (wants 1 7) ∷ asks 2 (wants_threes 2 3) ∷ asks 1 (wants 4 5) ∷ asks 2 (wants 5 6) ∷ reserves 0 4 ∷ []
 

@@ -1,4 +1,4 @@
--- The best unit for a wish: what it is, and what it says that there is none.
+-- The best unit for a wish: what it is, and what it says if there is no such unit.
 use Rattle.std.proofs.Common.{◌≡◌, ◌⊎◌, inl, inr, true, false, List, get_or, Option, Some, None, is_some, refl, sym, ap, ◌∙◌, All, Contains}
 use Rattle.std.specs.Prelude.{option_and_then, is_none}
 use Rattle.std.proofs.lemmas.Bool.{and_parts, false_from_ne_true}
@@ -44,6 +44,7 @@ pub record IsFit (wish : Wish) (units : List Placed) (p : Placed) : Type 0 where
   pub free : p.pin ≡ None
   pub permits : permitted wish.rank wish.types p.unit.kind p.unit.target ≡ true
 
+-- the best unit for a wish is free and permitted
 pub best_is_fit : (k : Kept) (wish : Wish) (p : Placed) → HasDistinctIds k.queue.units → best_for k wish ≡ Some p
     → IsFit wish k.queue.units p
 best_is_fit k wish p distinct is = by_id (best_of wish.rank wish.types k.queue.units) refl is
@@ -77,7 +78,7 @@ given_fits k wish unit distinct (inl free) =
     )
 given_fits k wish unit distinct (inr best) = (best.0, best_is_fit k wish best.0 distinct best.1, best.2)
 
--- where there is none, no unit is free and permitted
+-- if there is no best unit, no unit is free and permitted
 pub nothing_fits : (k : Kept) (wish : Wish) → is_some (best_for k wish) ≡ false
     → All (λ p. offered wish.rank wish.types p ≡ false) k.queue.units
 nothing_fits k wish none i d within = false_from_ne_true (offered wish.rank wish.types (get_or units i d)) impossible

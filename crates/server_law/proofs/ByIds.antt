@@ -33,11 +33,13 @@ both_found units id test p distinct found =
     let parts = and_parts (same_unit (id_of p) id) (test p) first.passes in
     (listed_is_found units p id distinct (first.place, first.within, first.read) (same_unit_is (id_of p) id parts.0), parts.1)
 
+-- a free unit that is found is the one that its id finds
 pub free_is_found : (units : List Placed) (id : UnitId) (p : Placed) → HasDistinctIds units → find (is_free_as id) units ≡ Some p
     → (unit_with id units ≡ Some p) × (p.pin ≡ None)
 free_is_found units id p distinct found =
     let at = both_found units id (λ q. is_none q.pin) p distinct found in (at.0, free_is p.pin at.1)
 
+-- a pinned unit that is found is the one that its id finds
 pub pinned_is_found : (units : List Placed) (id : UnitId) (rank : Rank) (p : Placed) → HasDistinctIds units
     → find (is_pinned_as id rank) units ≡ Some p → (unit_with id units ≡ Some p) × (p.pin ≡ Some rank)
 pinned_is_found units id rank p distinct found =

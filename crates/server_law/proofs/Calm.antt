@@ -264,6 +264,7 @@ is_mild (by.Server from) (tells.AskNone rank request) = false
 is_mild (by.Server from) (tells.PushUnit unit) = false
 is_mild _ _ = true
 
+-- lists of one element are equal by that element
 pub first_is : {X : Type 0} {x y : X} → x ∷ [] ≡ y ∷ [] → x ≡ y
 first_is is = some_is (ap (λ l. slice_get l 0) is)
 
@@ -375,6 +376,7 @@ event_calm s from message list once calm are = by_plan (rule s from message) ref
     by_plan (Some p) by mended is =
         subst (λ l. IsCalmIn (all_done l s).kept) (some_is is) (mended (plan_handles s from message p by))
 
+-- after each event no free unit lies for an idle rank
 pub events_keep_calm : EventsKeepCalm
 events_keep_calm s from letter x once calm is =
     let step = step_acts s from letter x is in

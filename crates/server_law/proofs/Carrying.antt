@@ -68,9 +68,11 @@ with_act x a = record { state = done a x.state; sends = x.sends ++ sends a x.sta
 pub carried_more : (a : Act) (more : List Act) (s : ServerModel) → carried (a ∷ more) s ≡ followed (performed a s) more
 carried_more a more s = refl
 
+-- if no act follows, nothing changes
 pub followed_none : (x : Served) → followed x [] ≡ x
 followed_none x = rw (append-nil x.sends, append-nil x.entries) refl
 
+-- one more act that follows is carried out first
 pub followed_more : (x : Served) (a : Act) (more : List Act) → followed x (a ∷ more) ≡ followed (with_act x a) more
 followed_more x a more =
     let rest = carried more (done a x.state) in
@@ -84,6 +86,7 @@ followed_joined [] ys x = ap (λ z. followed z ys) (sym (followed_none x))
 followed_joined (a ∷ xs) ys x =
     followed_more x a (xs ++ ys) ∙ followed_joined xs ys (with_act x a) ∙ ap (λ z. followed z ys) (sym (followed_more x a xs))
 
+-- acts that are carried out leave the state that they make one after the other
 pub carried_state : (list : List Act) (s : ServerModel) → (carried list s).state ≡ all_done list s
 carried_state [] s = refl
 carried_state (a ∷ list) s = carried_state list (done a s)
@@ -95,6 +98,7 @@ abbrev pub followed_by : Served → List Decider → Served
 followed_by x [] = x
 followed_by x (d ∷ ds) = followed_by (followed x (d x.state)) ds
 
+-- what deciders give is carried out one after the other
 pub decided_carried : (ds : List Decider) (x : Served) → followed x (decided ds x.state) ≡ followed_by x ds
 decided_carried [] x = followed_none x
 decided_carried (d ∷ ds) x =

@@ -117,7 +117,7 @@ abbrev seen_after : List Event → Option Seen
 seen_after events =
     option_map (λ (p : Pair). record { to_zeroth = p.to_zeroth; to_first = p.to_first; entered = p.entered; told = p.told }) (run events fresh)
 
--- Both ranks want units of type 3, of which there is none. The unit that rank 1 puts is of type 2, and is pushed to server 0.
+-- Both ranks want units of type 3, of which there is no unit. The unit that rank 1 puts is of type 2, and is pushed to server 0.
 
 abbrev threes : Option (List WorkType)
 threes = Some (record { 0 = 3 } ∷ [])

@@ -218,6 +218,7 @@ known_agrees b s is_done is_exhausted hears knows m done exhausted found = recor
 
 -- At the start of a run.
 
+-- the bag at the start agrees with each server
 pub start_agrees : StartAgrees
 start_agrees config me within = record {
   servers = refl;

@@ -135,7 +135,7 @@ unit_weighs me kind f unit (Pinned at rank) = by_test (at.0 == me.0) refl
 unit_weighs me kind f unit (Travelling to) = refl
 unit_weighs me kind f unit Spent = refl
 
--- what the bag tells of the units that are free at the server is what the server's queue tells
+-- what the bag says of the units that are free at the server is what the server's queue says
 pub info_agrees : (b : Bag) (s : ServerModel) (kind : WorkType) → ServerAgrees b s → info_of b s.me kind ≡ counts_of kind s.kept.queue.units
 info_agrees b s kind m =
     told_alike (map (λ (u : Lodged). u.unit.prio) (filter (is_of_kind s.me kind) b.units))

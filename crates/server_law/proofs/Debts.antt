@@ -119,6 +119,7 @@ acts_pay s from message list none are = by_plan (rule s from message) refl (rule
     by_plan None by pays is = absurd (cc)
     by_plan (Some p) by pays is = subst (λ l. OwesNone (all_done l s)) (some_is is) (pays (plan_handles s from message p by))
 
+-- an event in which a unit comes says its acknowledgement
 pub events_pay : EventsPay
 events_pay s from letter x none is =
     let step = step_acts s from letter x is in
@@ -139,6 +140,7 @@ hints_leave_debt test (w ∷ wishes) s = by_test (hints_leave_debt test wishes) 
     by_test later true = later (done (Hints w) s)
     by_test later false = later s
 
+-- settling a unit leaves what is owed
 pub settles_leaves_debt : (id : UnitId) (s : ServerModel) → (all_done (settles id s) s).kept.owed ≡ s.kept.owed
 settles_leaves_debt id s = by_unit (find (is_free_as id) s.kept.queue.units)
   where

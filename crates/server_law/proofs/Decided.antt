@@ -53,6 +53,7 @@ EachDecides (d ∷ ds) = Decides d × EachDecides ds
 abbrev pub HintsNone : Decider → Type 0
 HintsNone d = (wishes : List Wish) (s : ServerModel) → AreHintsOf wishes (d s)
 
+-- no decider of these gives a hint
 abbrev pub EachHintsNone : List Decider → Type 0
 EachHintsNone [] = Unit {0}
 EachHintsNone (d ∷ ds) = HintsNone d × EachHintsNone ds
@@ -70,6 +71,7 @@ pub hints_joined : (wishes : List Wish) (xs ys : List Act)
 hints_joined wishes [] ys a b = b
 hints_joined wishes (x ∷ xs) ys a b = (a.0, hints_joined wishes xs ys a.1 b)
 
+-- what such deciders give has no hint
 pub decided_hints_none : (ds : List Decider) (wishes : List Wish) (s : ServerModel)
     → EachHintsNone ds → AreHintsOf wishes (decided ds s)
 decided_hints_none [] wishes s each = tt
@@ -92,6 +94,7 @@ pub each_joined : (ds es : List Decider) → EachDecides ds → EachDecides es �
 each_joined [] es each later = later
 each_joined (d ∷ ds) es each later = (each.0, each_joined ds es each.1 later)
 
+-- two lists of deciders that give no hint, joined
 pub each_none_joined : (ds es : List Decider) → EachHintsNone ds → EachHintsNone es → EachHintsNone (ds ++ es)
 each_none_joined [] es each later = later
 each_none_joined (d ∷ ds) es each later = (each.0, each_none_joined ds es each.1 later)
@@ -191,6 +194,7 @@ presses_decides true s = by_query (query_of s.config s.me s.kept.pushing s.kept.
     by_query None is = (tt, tt)
     by_query (Some q) is = ((refl, is, tt), (refl, tt))
 
+-- the beginning of a push gives no hint
 pub presses_hints_none : (taken : Bool) → HintsNone (presses taken)
 presses_hints_none false wishes s = tt
 presses_hints_none true wishes s = by_query (query_of s.config s.me s.kept.pushing s.kept.queue)
@@ -206,6 +210,7 @@ acks_decides s = by_debt s.kept.owed refl
     by_debt None is = (tt, tt)
     by_debt (Some d) is = ((refl, is, tt), (refl, tt))
 
+-- the acknowledgement gives no hint
 pub acks_hints_none : HintsNone acks
 acks_hints_none wishes s = by_debt s.kept.owed
   where
@@ -250,6 +255,7 @@ pub record IsIdleAt (rank : Rank) (waiting : List Waiting) (p : Place) : Type 0 
   pub stands : waiting ≡ p.at.before ++ idle p.here.wish p.here.to_ask ∷ p.at.behind
   pub own : is_of rank p.here ≡ true
 
+-- a place that is found among those that wait is that of an idle rank
 pub idle_found : (rank : Rank) (waiting : List Waiting)
     → IfSome (place_in (λ e. is_of rank e && is_idle e) waiting) (IsIdleAt rank waiting)
 idle_found rank waiting = by_place (place_in test waiting) (place_found test waiting)
@@ -398,6 +404,7 @@ checks_decides s = by_test (may_start (ring_at s) (is_quiet s)) refl
     by_test true may = by_number (may_is (ring_at s) (is_quiet s) may) (s.config.servers == 1) refl
     by_test false may = (tt, tt)
 
+-- what follows an event gives no hint
 pub ends_event_hints_none : EachHintsNone ends_event
 ends_event_hints_none = (notices_hints_none, (checks_hints_none, tt))
 

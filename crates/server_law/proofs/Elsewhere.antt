@@ -226,6 +226,7 @@ entry_stays found b enters.Exhausted s sound l differs m =
     (λ zeroth is. absurd (differs (ap (λ n. Some (server_of n)) (sym zeroth))))
 entry_stays found b _ s sound l differs m = m
 
+-- a step of the bag leaves its agreement with each server that is not the entry's keeper
 pub servers_stay : ServersStay
 servers_stay found b next e s sound step differs m =
     subst (λ (n : Bag). ServerAgrees n s) (sym step.2) (entry_stays found b e s sound step.1 differs m)

@@ -56,6 +56,7 @@ checks_none s none = ap (checks_if s) none
 pub checks_unquiet : (s : ServerModel) → is_quiet s ≡ false → checks s ≡ []
 checks_unquiet s unquiet = checks_none s (unquiet_may_not (ring_at s) (is_quiet s) unquiet)
 
+-- after an event that leaves a server not quiet nothing follows
 pub ends_unquiet : (s : ServerModel) → is_quiet s ≡ false → decided ends_event s ≡ []
 ends_unquiet s unquiet =
     let later : List Act → List Act = λ list. list ++ decided (checks ∷ []) (all_done list s) in

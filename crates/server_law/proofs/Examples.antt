@@ -390,7 +390,7 @@ the_problem_is_done :
     ∷ []
 the_problem_is_done = refl
 
--- Counts: of units of priorities 3 and 7, then of the one that is left free, and of a type of which there is none.
+-- Counts: of units of priorities 3 and 7, then of the one that is left free, and of a type without units.
 
 abbrev counts : ℕ → ℕ → Said
 counts request kind = says 0 (tells.Count request (record { 0 = kind }))

@@ -107,7 +107,7 @@ where_apart : {X : Type 0} (same : Bool) (o : Option X) {A B : Type 0} → (same
 where_apart true o apart there = (λ some. absurd (cc), λ both. let no = apart.1 both.0 in absurd (cc))
 where_apart false o apart there = (λ some. (apart.0 refl, there.0 some), λ both. there.1 both.1)
 
--- a rank is found for which the sender was asked, or there is none
+-- a rank is found for which the sender was asked, or there is no such rank
 module _ (s : ServerModel) (from : Server) (rank : Rank) (request : ℕ) where
   abbrev test : Waiting → Bool
   test = has_asked from rank request
@@ -201,6 +201,7 @@ visit_some s from t = by_me (s.me.0 == 0)
     by_me true = by_wave (t.wave == 1)
     by_me false = other_wave (t.wave == 1)
 
+-- a letter of another server has a rule exactly if it is awaited
 pub server_rule_awaited : (s : ServerModel) (from : Server) (message : Message)
     → IsSome (server_rule s from message) ↔ IsAwaitedFrom s from message
 server_rule_awaited s from (tells.Ask rank request types) = if_some (expects_ask s from rank) _ (expects_ask_says s from rank)
@@ -246,6 +247,7 @@ module _ (s : ServerModel) (from : Actor) (letter : Letter) where
       where_some _ (option_map carry list) within
       (map_some carry list (map_some (in_order ends_event now) (rule now from letter.message) awaited))
 
+-- exactly the letters that are expected have a step
 pub expected_have_steps : ExpectedHaveSteps
 expected_have_steps s (by.Server from) letter =
     let t = at_event s letter in

@@ -18,6 +18,7 @@ use Rattle.reserve_path.specs.declared.wishes.Wish.{Wish}
 use Rattle.server_law.specs.State.{Kept}
 use Rattle.server_law.proofs.Tests.{find_says, free_says, is_free_says, is_pinned_says, pinned_says, unit_says}
 
+-- an option that is not empty has a value
 pub some_there : {X : Type 0} (o : Option X) → IsSome o → (x : X) × (o ≡ Some x)
 some_there None some = absurd (cc)
 some_there (Some x) some = (x, refl)
@@ -69,6 +70,7 @@ best_says k wish = by_best (best_of wish.rank wish.types k.queue.units) refl
 stands : (test : Placed → Bool) (units : List Placed) (p : Placed) → find test units ≡ Some p → (test p ≡ true) × Contains units p
 stands test units p found = let first = find_first test units p found in (first.passes, (first.place, first.within, first.read))
 
+-- a unit that is found pinned to a rank has this id and this pin, and stands in the list
 pub pinned_is : (id : UnitId) (rank : Rank) (units : List Placed) (p : Placed) → find (is_pinned_as id rank) units ≡ Some p
     → (id_of p ≡ id) × (p.pin ≡ Some rank) × Contains units p
 pinned_is id rank units p found =
@@ -76,10 +78,12 @@ pinned_is id rank units p found =
     let is = (is_pinned_says id rank p).0 at.0 in
     (is.0, is.1, at.1)
 
+-- if there is a unit of this id pinned to the rank, it is found
 pub pinned_there : (id : UnitId) (rank : Rank) (units : List Placed) → HasPinned id rank units
     → (p : Placed) × (find (is_pinned_as id rank) units ≡ Some p)
 pinned_there id rank units has = some_there (find (is_pinned_as id rank) units) ((pinned_says id rank units).1 has)
 
+-- a free unit that is found has this id and stands in the list
 pub free_is : (id : UnitId) (units : List Placed) (p : Placed) → find (is_free_as id) units ≡ Some p
     → (id_of p ≡ id) × (p.pin ≡ None) × Contains units p
 free_is id units p found =
@@ -87,8 +91,10 @@ free_is id units p found =
     let is = (is_free_says id p).0 at.0 in
     (is.0, is.1, at.1)
 
+-- if there is a free unit of this id, it is found
 pub free_there : (id : UnitId) (units : List Placed) → HasFree id units → (p : Placed) × (find (is_free_as id) units ≡ Some p)
 free_there id units has = some_there (find (is_free_as id) units) ((free_says id units).1 has)
 
+-- if there is no free unit of this id, nothing is found
 pub none_free : (id : UnitId) (units : List Placed) → (HasFree id units → ⊥) → find (is_free_as id) units ≡ None
 none_free id units none = none_where (find (is_free_as id) units) (false_from_ne_true _ (λ some. none ((free_says id units).0 some)))

@@ -233,6 +233,7 @@ planned_by_server s from apart tells.Shutdown =
     if_plan s (by.Server from) tells.Shutdown (from.0 == 0) _ (λ zeroth. made refl (eqb-true from.0 0 zeroth) refl tt tt)
 planned_by_server s from apart _ = tt
 
+-- each rule of a letter is a plan
 pub planned : (s : ServerModel) (from : Actor) (message : Message) → IfSome (rule s from message) (IsPlan s from message)
 planned s (by.Rank from) (tells.Put unit) = if_plan s (by.Rank from) (tells.Put unit) (expects_put s from unit) _ (λ expected.
     let is : unit.id.rank ≡ from = ((expects_put_says s from unit).0 expected).sender in
@@ -270,6 +271,7 @@ first_is_no_hint : (wishes : List Wish) (a : Act) (heard : Heard) → takes a �
 first_is_no_hint wishes (Hints wish) heard is = absurd (cc)
 first_is_no_hint wishes _ heard is = tt
 
+-- a letter is handled by the acts of its rule
 pub acts_handle : ActsHandle
 acts_handle s from message list is = by_plan (rule s from message) (planned s from message) is
   where

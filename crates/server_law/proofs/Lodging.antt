@@ -31,7 +31,7 @@ use Rattle.reserve_path.specs.Grants.{unit_with}
 abbrev to_place : UnitPlace → Lodged → Lodged
 to_place place u = record u { place = place }
 
--- a unit that is elsewhere is none of the server's, and weighs nothing there
+-- a unit that is elsewhere is not one of the server's, and weighs nothing there
 pub no_slot : (me : Server) (u : Lodged) → pin_at me u.place ≡ None → slot_of me u ≡ None
 no_slot me u away = ap (λ o. option_map (λ (pin : Option Rank). record { unit = u.unit; pin = pin }) o) away
 
@@ -223,6 +223,7 @@ slot_is me u p is = by_pin (pin_at me u.place) refl is
         let same : record { unit = u.unit; pin = pin } ≡ p = some_is is in
         (ap (λ (q : Placed). q.unit) same, at ∙ ap (λ (q : Placed). Some q.pin) same)
 
+-- a unit that the queue has is lodged at the server in the bag, with its pin
 pub lodged : (all : List Lodged) (me : Server) (units : List Placed) (id : UnitId) (p : Placed) → HoldsUnits all me units
     → unit_with id units ≡ Some p → (u : Lodged) × IsLodged all me id p u
 lodged all me units id p holds there = by_found (find (of_id id) all) refl (sym (holds.each id) ∙ there)
@@ -237,6 +238,7 @@ abbrev pub place_with : Server → Option Rank → UnitPlace
 place_with me None = Free me
 place_with me (Some rank) = Pinned me rank
 
+-- the place of a unit that is free or pinned here
 pub place_is : (me : Server) (pin : Option Rank) (place : UnitPlace) → pin_at me place ≡ Some pin → place ≡ place_with me pin
 place_is me pin (Free at) is = by_test (at.0 == me.0) refl is
   where

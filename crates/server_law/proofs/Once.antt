@@ -57,6 +57,7 @@ comes_once (Parks wish) s rank sure once = by_test (wish.rank.0 == rank.0) refl
 comes_once (Asks_on at wish to rest) s rank sure once = let was = once rank in omega arith
 comes_once _ s rank sure once = let was = once rank in omega arith
 
+-- an act leaves no rank that waits twice
 pub act_once : (a : Act) (s : ServerModel) → SitsIn a s → Sure a s → WaitOnce s → WaitOnce (done a s)
 act_once a s sits sure once rank =
     let after = count_after (is_of rank) a s sits in
@@ -64,6 +65,7 @@ act_once a s sits sure once rank =
     let few : count_by (is_of rank) (waiting_after a s) ≤ 1 = omega arith in
     subst (λ (k : Kept). count_by (is_of rank) k.parked.waiting ≤ 1) (sym (done_kept a s)) few
 
+-- acts leave no rank that waits twice
 pub acts_once : (list : List Act) (s : ServerModel) → AreSure list s → WaitOnce s → WaitOnce (all_done list s)
 acts_once [] s sure once = once
 acts_once (a ∷ more) s sure once = acts_once more (done a s) sure.2 (act_once a s sure.0 sure.1 once)
@@ -86,6 +88,7 @@ but_first : List Act → List Act
 but_first [] = []
 but_first (a ∷ more) = more
 
+-- the plan of a letter's rule handles it
 pub plan_handles : (s : ServerModel) (from : Actor) (message : Message) (p : Plan) → rule s from message ≡ Some p → Handles s from message p
 unfolding but_first
 plan_handles s from message p is =
@@ -109,6 +112,7 @@ pub record IsStep (s : ServerModel) (from : Actor) (letter : Letter) (x : Served
   pub are : acts (at_event s letter) from letter.message ≡ Some list
   pub makes : carried list (at_event s letter) ≡ x
 
+-- a step of a server is acts, of which the first takes the letter
 pub step_acts : (s : ServerModel) (from : Actor) (letter : Letter) (x : Served)
     → serve s from letter ≡ Some x → IsStep s from letter x
 step_acts s from letter x is = by_test (is_within s.config from && nat_lt letter.stamp stamp_limit) is
@@ -126,6 +130,7 @@ step_acts s from letter x is = by_test (is_within s.config from && nat_lt letter
     by_test true is = by_list (acts (at_event s letter) from letter.message) refl is
     by_test false is = absurd (cc)
 
+-- after each event no rank waits twice
 pub events_keep_once : EventsKeepOnce
 events_keep_once s from letter x once is =
     let step = step_acts s from letter x is in

@@ -213,6 +213,7 @@ steps_told found b es a s steps = (steps.0, steps.1, told steps.0 a s steps.2, s
 
 -- Each act.
 
+-- the entries of an act that is sure are steps of the bag, which agrees afterwards
 pub acts_are_legal : ActsAreLegal
 acts_are_legal found b s (Accepts unit) m rests sits sure needs = accepts found b s unit m rests needs.0 needs.1 needs.2 sure.2
 acts_are_legal found b s (Refuses unit) m rests sits sure needs = refuses found b s unit m rests needs sure.2

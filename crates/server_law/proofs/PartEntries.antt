@@ -40,6 +40,7 @@ pub record IsLodged (b : Bag) (me : Server) (batch : BatchId) (part : Part) (lot
   pub unfreed : lot.freed ≡ false
   pub same : part_seen lot ≡ part
 
+-- a part that the store has is kept at the server in the bag
 pub lodged_part : (b : Bag) (s : ServerModel) (batch : BatchId) (part : Part) → ServerAgrees b s → part_in s.kept.parts batch ≡ Some part
     → (lot : Lot) × IsLodged b s.me batch part lot
 lodged_part b s batch part m found = by_lot (part_of b batch) refl (sym (m.parts batch) ∙ found)

@@ -107,6 +107,7 @@ takes_where unit waiting p stands passes =
     let both = and_parts (is_idle p.here) (permits unit p.here.wish) passes in
     record { stands = stands ∙ ap (λ e. p.at.before ++ e ∷ p.at.behind) (idle_is p.here both.0); permitted = both.1 }
 
+-- the rank that takes a unit waits, is idle, and is permitted the unit
 pub taker_found : (unit : Work) (waiting : List Waiting) → IfSome (taker unit waiting) (Takes unit waiting)
 taker_found unit waiting =
     by_places (place_in (is_idle_first unit) waiting) (place_in (is_idle_for unit) waiting)

@@ -70,7 +70,7 @@ a_put_of_an_eighth_less_begins_none :
     ≡ record { sends = tells_to 1 0 0 (tells.Accepted 0) ∷ []; entries = accepts 0 ∷ []; push = None; charge = 56; promises = [] } ∷ []
 a_put_of_an_eighth_less_begins_none = refl
 
--- the server behind this one is asked first
+-- the next server is asked first
 a_byte_more_does :
     events fresh (puts 0 (bytes 57 0) ∷ [])
     ≡ record {
@@ -185,7 +185,7 @@ a_spent_unit_is_not_pushed :
     ∷ [])
 a_spent_unit_is_not_pushed = refl
 
--- there is none: the push has ended, and the next put begins another, for which the next server is asked
+-- there is no room: the push has ended, and the next put begins another, for which the next server is asked
 a_refused_push_ends :
     seen_after (puts 0 pressing ∷ []) (no 1 0 ∷ puts 0 (bytes 1 1) ∷ [])
     ≡ Some (record { sends = []; entries = []; push = None; charge = 57; promises = [] }

@@ -52,6 +52,7 @@ settles_unwished id s nobody unwished = by_unit (find (is_free_as id) s.kept.que
 
 -- Where a unit has come, which is the only one of its id.
 
+-- a unit that has come, free
 abbrev pub free : Work → Placed
 free unit = record { unit = unit; pin = None }
 

@@ -22,6 +22,7 @@ use Rattle.server_law.specs.State.{Kept, ServerModel, ring_at}
 use Rattle.server_law.specs.Sure.{IsExhausted}
 use Rattle.server_law.proofs.Found.{best_says, some_there}
 
+-- the test of whether a check may start says it
 pub may_is : (m : RingModel) (quiet : Bool) → may_start m quiet ≡ true → MayStart m quiet
 may_is m quiet e =
     let a = and_parts (m.me.0 == 0) (m.ring.wanted && (not m.ring.runs && (quiet && not m.shut))) e in
@@ -30,6 +31,7 @@ may_is m quiet e =
     let d = and_parts quiet (not m.shut) c.1 in
     record { zeroth = eqb-true m.me.0 0 a.0; wanted = b.0; alone = not-true m.ring.runs c.0; rests = d.0; going = not-true m.shut d.1 }
 
+-- where a check may start its test passes
 pub may_tested : (m : RingModel) (quiet : Bool) → MayStart m quiet → may_start m quiet ≡ true
 may_tested m quiet may = rw (eq-eqb m.me.0 0 may.zeroth, may.wanted, may.alone, may.rests, may.going) refl
 

@@ -107,6 +107,7 @@ rank_says a b = (same_rank_is a b, λ same. eq-eqb a.0 b.0 (ap (λ (r : Rank). r
 pub unit_says : (a b : UnitId) → Says (same_unit a b) (a ≡ b)
 unit_says a b = (same_unit_is a b, same_unit_from a b)
 
+-- the test of a target: it names ranks of the run alone
 pub in_ranks_says : (config : Config) (target : Target) → Says (in_ranks config target) (Aims target config.ranks)
 in_ranks_says config Anyone = (λ is. tt, λ is. refl)
 in_ranks_says config (Only rank) = below_says rank.0 config.ranks
@@ -124,6 +125,7 @@ pub is_pin_says : (pin : Option Rank) (rank : Rank) → Says (is_pin pin rank) (
 is_pin_says None rank = (λ no. absurd (cc), λ is. absurd (cc))
 is_pin_says (Some to) rank = (λ is. ap (λ (r : Rank). Some r) ((rank_says to rank).0 is), λ is. (rank_says to rank).1 (some_is is))
 
+-- the test of an empty option
 pub is_none_says : {X : Type 0} (o : Option X) → Says (is_none o) (o ≡ None)
 is_none_says None = (λ is. refl, λ is. refl)
 is_none_says (Some x) = (λ no. absurd (cc), λ is. absurd (cc))
@@ -137,6 +139,7 @@ is_free_says id p = both_say (same_unit (id_of p) id) (is_none p.pin) (unit_says
 pub pinned_says : (id : UnitId) (rank : Rank) (units : List Placed) → IsSome (find (is_pinned_as id rank) units) ↔ HasPinned id rank units
 pinned_says id rank units = find_says (is_pinned_as id rank) (λ p. (id_of p ≡ id) × (p.pin ≡ Some rank)) (is_pinned_says id rank) units
 
+-- a free unit of an id is found exactly if there is one
 pub free_says : (id : UnitId) (units : List Placed) → IsSome (find (is_free_as id) units) ↔ HasFree id units
 free_says id units = find_says (is_free_as id) (λ p. (id_of p ≡ id) × (p.pin ≡ None)) (is_free_says id) units
 
@@ -156,6 +159,7 @@ query_says k id =
     (not_says (has_unit id k.queue.units) (has_unit_says id k.queue.units))
     (not_says (has_promise id k.queue.promises) (has_promise_says id k.queue.promises))
 
+-- the test of a unit that comes: it is not here, its room is promised, and no acknowledgement is owed
 pub unit_comes_says : (k : Kept) (unit : Work) → Says (expects_unit k unit)
     (HasNoUnit unit.id k.queue.units × HasRoom unit.id (length unit.body) k.queue.promises × (k.owed ≡ None))
 unit_comes_says k unit =
@@ -239,12 +243,14 @@ pub is_since_says : (rank : Rank) (request : ℕ) (e : Waiting)
     → Says (is_since rank request e) ((e.wish.rank ≡ rank) × (e.wish.request ≡ request))
 is_since_says rank request e = both_say (is_of rank e) (e.wish.request == request) (is_of_says rank e) (same_says e.wish.request request)
 
+-- the test of an entry: this rank waits in this call, with this server unanswered
 pub has_asked_says : (from : Server) (rank : Rank) (request : ℕ) (e : Waiting)
     → Says (has_asked from rank request e) ((e.wish.rank ≡ rank) × (e.wish.request ≡ request) × (e.asked ≡ Some from))
 has_asked_says from rank request e =
     let both = both_say _ _ (is_since_says rank request e) (is_asked_at_says e.asked from) in
     (λ is. let all = both.0 is in (all.0.0, all.0.1, all.1), λ is. both.1 ((is.0, is.1), is.2))
 
+-- the test of an answer: the rank waits here in this call, with the sender unanswered
 pub unanswered_says : (s : ServerModel) (from : Server) (rank : Rank) (request : ℕ)
     → Says (list_any (has_asked from rank request) s.kept.parked.waiting) (IsUnanswered s from rank request)
 unanswered_says s from rank request =
@@ -258,14 +264,17 @@ expects_ask_says s from rank =
     both_say (nat_lt rank.0 s.config.ranks) (is_home s.config from rank) (below_says rank.0 s.config.ranks)
     (same_says (home_of s.config.servers rank) from.0)
 
+-- the test of a hint: the rank is in the run and at home here
 pub expects_hint_says : (s : ServerModel) (rank : Rank) → Says (expects_hint s rank) ((rank.0 < s.config.ranks) × IsHome s rank)
 expects_hint_says s rank =
     both_say (nat_lt rank.0 s.config.ranks) (is_home s.config s.me rank) (below_says rank.0 s.config.ranks) (is_home_says s rank)
 
+-- the test of a rank that does not wait here
 pub waits_not_says : (k : Kept) (rank : Rank)
     → (is_waiting k rank ≡ false) ↔ All (λ (e : Waiting). e.wish.rank ≢ rank) k.parked.waiting
 waits_not_says k rank = none_says (is_of rank) (λ (e : Waiting). e.wish.rank ≡ rank) (is_of_says rank) k.parked.waiting
 
+-- the test of a rank that runs, as far as the server knows
 pub runs_says : (s : ServerModel) (rank : Rank) → Says (runs s.kept rank) (Runs s rank)
 runs_says s rank =
     let waits = not_says (is_waiting s.kept rank) (waits_not_says s.kept rank) in
@@ -273,9 +282,11 @@ runs_says s rank =
     let both = both_say (not (is_waiting s.kept rank)) (not (is_finished s.kept rank)) waits ended in
     (λ is. record { waits_not = (both.0 is).0; finished_not = (both.0 is).1 }, λ (is : Runs s rank). both.1 (is.waits_not, is.finished_not))
 
+-- the test of a rank that runs and is at home here
 pub runs_at_home_says : (s : ServerModel) (rank : Rank) → Says (runs_at_home s rank) (IsHome s rank × Runs s rank)
 runs_at_home_says s rank = both_say (is_home s.config s.me rank) (runs s.kept rank) (is_home_says s rank) (runs_says s rank)
 
+-- the test of a put: the unit is new
 pub expects_put_says : (s : ServerModel) (from : Rank) (unit : Work) → Says (expects_put s from unit) (IsNew s from unit)
 expects_put_says s from unit =
     let own = rank_says unit.id.rank from in
@@ -293,7 +304,7 @@ expects_put_says s from unit =
 
 -- Checks.
 
--- server 0 is told of the check that runs
+-- server 0 hears of the check that runs
 pub running_says : (m : RingModel) (t : Token) → Says (is_running m t) (IsRunning m t)
 running_says m t =
     let same = both_say m.ring.runs (t.check == m.ring.check) (λ is. is, λ is. is) (same_says t.check m.ring.check) in
@@ -337,6 +348,7 @@ each_below_says test n =
       λ each. list_all-from_AllPass test all (λ k d within. let below : k < n = omega arith in ap test (at k d below) ∙ each k below),
     )
 
+-- the test of a quiet server says that it is
 pub quiet_is_tested : QuietIsTested
 quiet_is_tested s =
     let all = each_below_says (λ n. rests s (record { 0 = n })) s.config.ranks in

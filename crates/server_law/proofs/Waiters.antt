@@ -11,6 +11,7 @@ use Rattle.server_law.specs.Sure.{Sits, SitsIn}
 
 -- Elements, one by one.
 
+-- it holds of each element
 abbrev pub Each : {X : Type 0} → (X → Type 0) → List X → Type 0
 Each P [] = Unit {0}
 Each P (x ∷ xs) = P x × Each P xs
@@ -63,6 +64,7 @@ module _ {X : Type 0} (P : X → Type 0) where
   has_parts (x ∷ xs) ys (inl holds) = inl (inl holds)
   has_parts (x ∷ xs) ys (inr has) = elim (has_parts xs ys has) [ inl left ↦ inl (inr left) | inr right ↦ inr right ]
 
+-- what follows of each element
 pub each_weaker : {X : Type 0} (P Q : X → Type 0) (xs : List X) → ((x : X) → P x → Q x) → Each P xs → Each Q xs
 each_weaker P Q [] f each = tt
 each_weaker P Q (x ∷ xs) f each = (f x each.0, each_weaker P Q xs f each.1)
@@ -73,6 +75,7 @@ each_both P Q (x ∷ xs) a b = ((a.0, b.0), each_both P Q xs a.1 b.1)
 
 -- How many pass a test.
 
+-- a test as a number: 1 if it passes, and otherwise 0
 abbrev pub one : Bool → ℕ
 one t = cond t 1 0
 
@@ -80,6 +83,7 @@ one_of : (t : Bool) → one t ≡ 0 → t ≡ false
 one_of true is = absurd (omega arith)
 one_of false is = refl
 
+-- where no element is counted, no element passes
 pub none_of : {X : Type 0} (test : X → Bool) (xs : List X) → count_by test xs ≡ 0 → Each (λ x. test x ≡ false) xs
 none_of test [] none = tt
 none_of test (x ∷ xs) none =
@@ -108,12 +112,15 @@ counted_named : (s : ServerModel) (xs : List ServerSaying) → ((all_counted s x
 counted_named s [] = (refl, refl)
 counted_named s (x ∷ xs) = counted_named (counted s x.to) xs
 
+-- what an act makes of what a server keeps
 pub done_kept : (a : Act) (s : ServerModel) → (done a s).kept ≡ (does a s).kept
 done_kept a s = counted_kept (does a s) (says a s)
 
+-- an act leaves the run's numbers and the server's own
 pub done_named : (a : Act) (s : ServerModel) → ((done a s).config ≡ s.config) × ((done a s).me ≡ s.me)
 done_named a s = counted_named (does a s) (says a s)
 
+-- acts after acts are all of them, one after the other
 pub all_done_joined : (xs ys : List Act) (s : ServerModel) → all_done (xs ++ ys) s ≡ all_done ys (all_done xs s)
 all_done_joined [] ys s = refl
 all_done_joined (x ∷ xs) ys s = all_done_joined xs ys (done x s)

@@ -1,5 +1,5 @@
 -- What a server does, one act after the other: the letter that an act takes, what it changes, says and enters in the ledger. Each
--- act tells of at most one rank.
+-- act is about one rank at most.
 use Rattle.std.specs.Prelude.{ℕ, ◌+◌, ◌==◌, Bool, true, not, List, [], ◌∷◌, ◌++◌, filter, length, map, Option, None, Some, slice_set, if◌then◌else◌}
 use Rattle.adlb_unit.specs.Ring.{behind, others}
 use Rattle.adlb_unit.specs.Targets.{home}
@@ -45,7 +45,7 @@ pub record Heard : Type 0 where
   pub from : Actor
   pub message : Message
 
--- the ranks that wait before one and behind it
+-- the ranks that wait before one and after it
 pub record Around : Type 0 where
   pub before : List Waiting
   pub behind : List Waiting
@@ -59,7 +59,7 @@ pub data Act : Type 0 where
   Grants : Wish → Work → Act
   Ends_reserve : Wish → End → Act
   Parks : Wish → Act
-  -- a try: a unit is pinned to the rank, the call is ended, or there is none
+  -- a try: a unit is pinned to the rank, the call is ended, or there is no unit
   Grants_try : Wish → Work → Act
   Ends_try : Wish → End → Act
   Looks : Wish → Act
@@ -72,13 +72,13 @@ pub data Act : Type 0 where
   Keeps : Rank → ℕ → List ℕ → Act
   Refuses_part : Rank → ℕ → List ℕ → Act
   Ends_keep : Rank → ℕ → List ℕ → End → Act
-  -- a batch ends, of which so many units were accepted, and its part is closed; the common part of a batch is fetched
+  -- a batch ends, of which this number of units was accepted, and its part is closed; the common part of a batch is fetched
   Closes : ℕ → BatchId → ℕ → Part → Act
   Fetches_part : Rank → ℕ → BatchId → Part → Act
   -- a rank that waits and is idle gets a unit, or is told an end
   Gives : Around → Wish → List Server → Work → Act
   Tells : Around → Wish → List Server → End → Act
-  -- of a rank that waits the next server is asked; that server has pinned a unit to it, of which it is told, or had none, so that it is
+  -- of a rank that waits the next server is asked; that server has pinned a unit to it, which it is told, or had no unit, so that it is
   -- idle; another server has a unit for it by now, and is among those still to be asked; and a hint that comes too late
   Asks_on : Around → Wish → Server → List Server → Act
   Passes_on : Around → Wish → Server → List Server → UnitNote → Act
@@ -89,8 +89,8 @@ pub data Act : Type 0 where
   Answers : Server → Wish → Work → Act
   Declines : Server → Wish → Act
   Hints : Wish → Act
-  -- a unit is to move to a server where there is room: that server is asked for room; it promises it, or has none; the unit goes, or it
-  -- is no longer free and the push is taken back; the push has ended, since there was no room or by its acknowledgement
+  -- a unit is to move to a server where there is room: that server is asked for room; it promises it, or has no room; the unit goes, or
+  -- it is no longer free and the push is taken back; the push has ended, since there was no room or by its acknowledgement
   Queries : Server → UnitId → ℕ → Act
   Promises : Server → UnitId → ℕ → Act
   Refuses_push : Server → UnitId → ℕ → Act
@@ -373,7 +373,7 @@ does a s = record s {
 abbrev pub zeroth : Server
 zeroth = record { 0 = 0 }
 
--- the server behind this one, to which the token goes on
+-- the next server, to which the token goes on
 abbrev pub onward : ServerModel → Server
 onward s = behind s.config s.me 1
 

@@ -1,4 +1,4 @@
--- What a server keeps from event to event: no free unit lies for a rank that is idle, and a rank for which another server is
+-- What a server keeps from event to event. No free unit lies for a rank that is idle, and a rank for which another server is
 -- asked is left alone until that server answers.
 use Rattle.std.specs.Prelude.{◌≡◌, ◌≢◌, ◌≤◌, ℕ, All, Any, None, Some, count_by}
 use Rattle.adlb_unit.specs.declared.actors.Actor.{Actor}
@@ -56,7 +56,7 @@ EventsPay =
 abbrev pub IsAsked : ServerModel → Wish → Server → Type 0
 IsAsked s wish asked = Any (λ (e : Waiting). (e.wish ≡ wish) × (e.asked ≡ Some asked)) s.kept.parked.waiting
 
--- the actor is this server, and tells of the call of the wish
+-- the actor is this server, and its letter is about the call of the wish
 abbrev pub IsAbout : Wish → Server → Actor → Rank → ℕ → Type 0
 IsAbout wish asked from rank request = (from ≡ by.Server asked) × (rank ≡ wish.rank) × (request ≡ wish.request)
 

@@ -19,8 +19,8 @@ use Rattle.server_law.specs.Acts.{batch_of}
 use Rattle.server_law.specs.State.{ServerModel, is_finished, ring_at}
 use Rattle.server_law.specs.Step.{serve}
 
--- the unit is the sender's; no unit and no promise of its id is here; its body is no longer than it may be; a rank that its target
--- names is one of the run
+-- the unit is the sender's. No unit and no promise of its id is here. Its body is no longer than it may be. A rank that its target
+-- names is in the run
 pub record IsNew (s : ServerModel) (from : Rank) (unit : Unit) : Type 0 where
   pub sender : unit.id.rank ≡ from
   pub new : HasNoUnit unit.id s.kept.queue.units

@@ -38,7 +38,7 @@ is_free_as id p = same_unit (id_of p) id && is_none p.pin
 abbrev pub best_for : Kept → Wish → Option Placed
 best_for k wish = best_at k.queue wish.rank wish.types
 
--- so many bytes more would go beyond the limit
+-- this number of bytes more would go beyond the limit
 abbrev pub exceeds : Queue → ℕ → Bool
 exceeds queue n = nat_lt queue.limit (charge_of queue + n)
 

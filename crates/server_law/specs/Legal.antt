@@ -56,7 +56,7 @@ EndsBatch b request batch =
     (r : RankState) × (common : CommonRef) × (rank_at b batch.rank ≡ Some r) × (r.status ≡ is_at.Closing request) × (r.batch ≡ Some common)
     × (common.batch ≡ batch)
 
--- so many units of the batch were accepted
+-- this number of units of the batch was accepted
 abbrev pub HasAccepted : Bag → BatchId → ℕ → Type 0
 HasAccepted b batch accepted = (p : Part) → part_of b batch ≡ Some p → p.accepted ≡ accepted
 
@@ -97,7 +97,7 @@ Needs found (Withdraws from id) b me = IsHeldAt b from id × PromisesAreSingle b
 Needs found a b me = Unit {0}
 
 -- the law: from a bag that agrees with the server and in which no common part is due, the entries of an act that is sure are steps of
--- the bag, where it has what the act needs; and the bag agrees with the server afterwards, and no part is due
+-- the bag, where it has what the act needs. The bag agrees with the server afterwards, and no part is due
 abbrev pub ActsAreLegal : Type 0
 ActsAreLegal =
     (found : Bag → Bool) (b : Bag) (s : ServerModel) (a : Act) → ServerAgrees b s → has_due b ≡ false → SitsIn a s → Sure a s

@@ -21,7 +21,7 @@ pub record IsHeldAt (b : Bag) (server : Server) (id : UnitId) : Type 0 where
   pub found : unit_of b id ≡ Some unit
   pub held : is_held_at server unit.place ≡ true
 
--- the unit has so many own bytes
+-- the unit has this number of own bytes
 pub record IsMeasured (b : Bag) (id : UnitId) (size : ℕ) : Type 0 where
   pub unit : Lodged
   pub found : unit_of b id ≡ Some unit

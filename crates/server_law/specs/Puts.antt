@@ -15,8 +15,8 @@ use Rattle.server_law.specs.Plan.{Decider, Plan, plan}
 use Rattle.server_law.specs.Presses.{presses}
 use Rattle.server_law.specs.State.{Kept, ServerModel}
 
--- the unit is the sender's; no unit and no promise of its id is here; its body is no longer than it may be; a rank that its target
--- names is one of the run
+-- the unit is the sender's. No unit and no promise of its id is here. Its body is no longer than it may be. A rank that its target
+-- names is in the run
 abbrev pub expects_put : ServerModel → Rank → Work → Bool
 expects_put s from unit =
     (unit.id.rank.0 == from.0) && not (has_unit unit.id s.kept.queue.units) && not (has_promise unit.id s.kept.queue.promises)
@@ -36,7 +36,7 @@ put false false unit = Accepts unit
 abbrev pub put_now : Kept → Work → Act
 put_now k unit = put k.done (is_over k.queue unit) unit
 
--- A unit that has become free is settled: the rank that it goes to gets it; where there is none, the wishes that it takes off go.
+-- A unit that has become free is settled: the rank that it goes to gets it; if there is no such rank, the wishes that it takes off go.
 
 abbrev pub gives : Kept → Work → Option Place → List Act
 gives k unit None = hint_all unit k.parked.wishes

@@ -52,8 +52,8 @@ NoneIsPromised = (b : Bag) (s : ServerModel) → ServerAgrees b s → HasAll b s
 abbrev pub WaitsFor : List Waiting → Rank → RankState → Type 0
 WaitsFor waiting rank r = Any (λ (e : Waiting). (e.wish.rank ≡ rank) × (r.status ≡ is_at.Asking e.wish.request e.wish.types)) waiting
 
--- the bag agrees with the server, is all there, and nothing is promised; each rank has finished, or waits there for what it asks; some
--- rank asks; and no free unit is permitted to a rank that waits
+-- the bag agrees with the server, is all there, and nothing is promised. Each rank has finished, or waits there for what it asks. Some
+-- rank asks. No free unit is permitted to a rank that waits
 pub record RestsAt (b : Bag) (s : ServerModel) : Type 0 where
   pub agrees : ServerAgrees b s
   pub all : HasAll b s.me

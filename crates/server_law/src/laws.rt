@@ -7,7 +7,7 @@ ghost use Rattle.server_law.specs.Quiet.{QuietIsTested};
 ghost use Rattle.server_law.specs.Sure.{ActsHandle};
 
 /// The bag at the start of a run agrees with each server (`StartAgrees`). Exactly the letters that are expected have a
-/// step (`ExpectedHaveSteps`). A letter is handled by the acts of its rule: the first takes it, the others take none, each
+/// step (`ExpectedHaveSteps`). A letter is handled by the acts of its rule. The first takes it, the others take none, each
 /// finds the server as it needs it, and hints are of wishes that were kept (`ActsHandle`). The test of a quiet server says
 /// what it is meant to (`QuietIsTested`).
 pub fn server_laws()
@@ -18,9 +18,9 @@ pub fn server_laws()
 {}
 
 /// At the start and after each event no rank waits twice (`WaitOnce`), and no free unit is permitted to a rank that waits and
-/// is idle (`IsCalm`). A rank for which another server was asked waits on until that server answers (`AskedWaitOn`), and
-/// until then, but by letters of its own, no unit of its home is granted to it and its call is not over (`AskedAreLeft`).
-/// An event in which a unit comes from another server says its acknowledgement, so that none is owed between events
+/// is idle (`IsCalm`). A rank for which another server was asked waits on until that server answers (`AskedWaitOn`). Until
+/// then, but by letters of its own, no unit of its home is granted to it and its call is not over (`AskedAreLeft`). An event
+/// in which a unit comes from another server says its acknowledgement, so that no acknowledgement is owed between events
 /// (`EventsPay`).
 pub fn calm_laws()
     ensures start_is_calm { StartIsCalm }

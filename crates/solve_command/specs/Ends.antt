@@ -20,13 +20,13 @@ EndsWith settings tells before after fault kept =
     EndsBy AreJobs RefusesLine (IsKept (λ ranks. ArePrograms settings) FollowsPuzzles) (λ jobs k told. tells jobs k.report told)
     before after fault kept
 
--- the ends of `solve`: the report is told, and behind it this tail; what is kept has such numbers
+-- the ends of `solve`: the report is told, and after it this tail; what is kept has such numbers
 pub record Solves (settings : Settings) (tail : Reported Outcome → List ℕ) (IsOf : Config → Type 0) (inline : Bool) (before after : Scene)
     (fault : Option (Fault LineWhy)) (kept : Option (Kept Outcome)) : Type 0 where
   pub ends : EndsWith settings (IsReported settings tail) before after fault kept
   pub run : IsRunWith IsOf inline before after kept
 
--- the ends of `drill`: those of a run over the made text, as if a source of which no read fails had it and nothing else; it leaves the
+-- the ends of `drill`: those of a run over the made text, as if a source of which no read fails had it and nothing else. It leaves the
 -- real source as it was
 pub record Drills (count seed : ℕ) (settings : Settings) (IsOf : Config → Type 0) (inline : Bool) (before after : Scene)
     (fault : Option (Fault LineWhy)) (kept : Option (Kept Outcome)) : Type 0 where

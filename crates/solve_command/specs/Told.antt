@@ -1,4 +1,4 @@
--- What is told of a run over puzzles and batches.
+-- What is written of a run over puzzles and batches.
 use Rattle.std.specs.Prelude.{◌≡◌, ◌++◌, ℕ, Bool, List, [], length, if◌then◌else◌, codes, decimal}
 use Rattle.adlb_threads.specs.Reports.{Reported}
 use Rattle.job_report.specs.Report.{IsReport}
@@ -12,7 +12,7 @@ use Rattle.solve_command.specs.declared.extras.Extras.{Extras}
 use Rattle.solve_command.specs.declared.wanted.Wanted.{Wanted}
 use Rattle.solve_command.specs.declared.wanted.Wanted.TheVariants.{Report, Summary}
 
--- the report of the jobs, and behind it this tail of what is kept
+-- the report of the jobs, and after it this tail of what is kept
 abbrev pub IsReported : Settings → (Reported Outcome → List ℕ) → List Job → Reported Outcome → List ℕ → Type 0
 IsReported settings tail jobs r told =
     (report : List ℕ) × IsReport settings.budget settings.grain jobs report × (told ≡ report ++ tail r)

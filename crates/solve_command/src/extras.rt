@@ -12,7 +12,7 @@ use ledger_file::write_ledger;
 use ledger_stats::append_stats;
 use std::alloc::Global;
 
-/// What is written behind the report of a run: bytes that tell of what is kept of it.
+/// What is written after the report of a run: bytes that follow from what is kept of it.
 pub trait Tail {
     // These bytes, where this is kept.
     ghost tail: { Self → Reported Outcome → List ℕ };
@@ -27,12 +27,12 @@ pub trait Tail {
         ensures { OnOk result (text.new.items ≡ text.old.items ++ tail self.now report.now) };
 }
 
-/// What of the kept ledger is written behind the report.
+/// What is written of the kept ledger after the report.
 #[derive(Clone, Copy)]
 pub struct Extras {
     /// Its counts.
     pub stats: bool,
-    /// Its text, behind them.
+    /// Its text, after them.
     pub ledger: bool,
 }
 

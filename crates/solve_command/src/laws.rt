@@ -14,9 +14,9 @@ ghost use Rattle.solve_command.specs.Ends.{EndsWith};
 ghost use Rattle.solve_command.specs.Told.{IsTold};
 ghost use Rattle.solve_command.specs.declared.wanted.Wanted.{Wanted};
 
-/// What follows of a source that tells its bytes, if no read failed, for any settings, whatever is wanted of it. An accepted input is answered, if no write failed
-/// and no start was refused either (`complete`), a refused one is refused at its first such line (`refused`), and one that is too long is
-/// told as such (`overlong`), unless memory fails; besides, only the stamps can end.
+/// What follows of a source that tells its bytes, if no read failed, for any settings, whatever is wanted of it. An accepted input is
+/// answered, if no write failed and no start was refused either (`complete`). A refused one is refused at its first such line (`refused`).
+/// One that is too long is told as such (`overlong`). Memory may fail each time. Besides, only the stamps can end.
 pub fn puzzle_laws()
     ensures complete { (settings : Settings) (wanted : Wanted (Reported Outcome → List ℕ)) (before after : Scene) (fault : Option (Fault LineWhy))
         (kept : Option (Kept Outcome)) (bytes : List ℕ) →

@@ -15,9 +15,9 @@ use puzzle_app::Settings;
 use run_command::{Ended, run};
 use std::alloc::Global;
 
-/// Reads the input's puzzles and batches, works them with these settings, in line or with as many ranks and servers as the configuration
-/// has, and writes their report, and behind it the tail. `Solves` says how it ends, and what it keeps and starts. It waits for its
-/// threads, unless it runs in line.
+/// Reads the input's puzzles and batches, and works them with these settings, in line or with the configuration's ranks and servers.
+/// Writes their report, and after it the tail. `Solves` says how it ends, and what it keeps and starts. It waits for its threads, unless
+/// it runs in line.
 pub fn solve<E, S, K, T, G>(
     alloc: Global,
     settings: Settings,

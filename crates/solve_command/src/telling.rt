@@ -1,4 +1,4 @@
-//! What is told of a run over puzzles and batches.
+//! What is written of a run over puzzles and batches.
 
 ghost use Rattle.std.specs.Prelude.{IfOk};
 ghost use Rattle.run_command.specs.Kept.{HasRun, IsWorkedUp};

@@ -16,7 +16,7 @@ use std::alloc::Global;
 /// What is written of a run.
 #[derive(Clone, Copy)]
 pub enum Wanted<E> {
-    /// The report of its jobs, and this behind it.
+    /// The report of its jobs, and then this.
     Report(E),
     /// The summary of a drill of `count` puzzles from `seed`.
     Summary { count: u32, seed: u64 },
@@ -39,7 +39,7 @@ pub fn text_of<E: Tail + Copy>(
     }
 }
 
-// The report, and this behind it. Its only error is `NoMemory`.
+// The report, and then this. Its only error is `NoMemory`.
 fn report_of<E: Tail + Copy>(
     alloc: Global,
     tail: E,

@@ -38,10 +38,12 @@ pub none_at_first : (p : ℕ → Bool) → any_below 0 p ≡ false
 unfolding any_below
 none_at_first p = refl
 
+-- one more number changes the choice, or leaves it
 pub fewest_more : (m : ℕ) (g : Cells) (n : ℕ) → fewest_below m g (n + 1) ≡ fewer m g n (fewest_below m g n)
 unfolding fewest_below
 fewest_more m g n = rw add-one refl
 
+-- among the numbers below 0 there is no choice
 pub fewest_at_first : (m : ℕ) (g : Cells) → fewest_below m g 0 ≡ None
 unfolding fewest_below
 fewest_at_first m g = refl

@@ -160,6 +160,6 @@ none_from m g none = at (fewest m g) refl
     at None e = e
     at (Some c) e = absurd (none c (fewest_is m g c e).blank)
 
--- no cell is chosen exactly where none is blank
+-- no cell is chosen exactly if no cell is blank
 pub none_exact : (m : ℕ) (g : Cells) → (fewest m g ≡ None) ↔ ((cell : ℕ) → IsBlank g cell → ⊥)
 none_exact m g = (λ e cell blank. fewest_is_none m g cell e blank.within blank.blank, none_from m g)

@@ -56,6 +56,7 @@ handed_out share g = record { solutions = []; children = (share, g) ∷ []; over
 abbrev pub met_at : ℕ → ℕ → ℕ → ℕ → Cells → Tree → Met
 met_at grain budget k share g below = cond (hands_out grain budget k) (handed_out share g) (walk grain below)
 
+-- a child is handed out, or its tree is walked on
 pub met_cases : (grain budget k share : ℕ) (g : Cells) (below : Tree) (P : Met → Type 0) → P (handed_out share g) → P (walk grain below) → P (met_at grain budget k share g below)
 met_cases grain budget k share g below P out worked = cond_both (hands_out grain budget k) (handed_out share g) (walk grain below) P (λ yes. out) (λ no. worked)
 

@@ -77,6 +77,7 @@ one_rising (x ∷ xs) (y ∷ ys) up_x up_y to back =
 rises_as_text : (m : ℕ) (g : Cells) (xs : List Cells) → IsSolutionList m g xs → Rises xs
 rises_as_text m g xs is k within = sym (text_order (get_or xs k []) (get_or xs (k + 1) [])) ∙ is.rising k within
 
+-- a grid has one list of solutions
 pub solutions_unique : (m : ℕ) (g : Cells) (xs ys : List Cells) → IsSolutionList m g xs → IsSolutionList m g ys → xs ≡ ys
 solutions_unique m g xs ys a b =
     one_rising xs ys (rises_as_text m g xs a) (rises_as_text m g ys b)

@@ -71,7 +71,7 @@ conflict m g = any_below (length g) (λ i. any_below i (λ j. clash m g i j))
 abbrev pub used : ℕ → Cells → ℕ → ℕ → Bool
 used m g cell d = any_below (length g) (λ j. shares m cell j && (slice_index g j == d))
 
--- so many numbers from this one on
+-- the numbers from this one on, of this count
 unfoldable pub count_up : ℕ → ℕ → List ℕ
 count_up from zero = []
 count_up from (suc n) = from ∷ count_up (from + 1) n

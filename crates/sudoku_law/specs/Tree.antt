@@ -10,7 +10,7 @@ pub data Tree : Type 0 where
   solution : Cells → Tree
   -- the budget is used up
   over : Tree
-  -- a child of a node that has this budget and so many children: the child's budget, its grid and its tree; then the node's other children
+  -- a child of a node with this budget and number of children: the child's budget, its grid and its tree; then the node's other children
   child : ℕ → ℕ → ℕ → Cells → Tree → Tree → Tree
 
 -- a child for each digit at the cell, in order; rec is the tree of each
@@ -53,7 +53,7 @@ is_over over = true
 is_over (child budget k share g below others) = is_over below || is_over others
 is_over _ = false
 
--- a node with this budget and so many children hands them out as units of their own
+-- a node with this budget and number of children hands them out as units of their own
 abbrev pub hands_out : ℕ → ℕ → ℕ → Bool
 hands_out grain budget k = nat_lt grain budget && nat_lt 1 k
 

@@ -35,10 +35,10 @@ pub fn solution_nodes_are_solutions()
     ensures only { (m : ℕ) (g s : Cells) → IsGrid m g → fewest m g ≡ None → IsSolution m g s → s ≡ g }
 {}
 
-/// The chosen cell is blank (`blank`), and at a blank cell each solution of a grid extends one child: its
-/// digit there is a candidate (`candidate`), and it is a solution of the child with that digit (`extends`).
-/// The child of a candidate has those solutions of the grid that have this digit at the cell (`child`), so
-/// distinct children share none (`apart`).
+/// The chosen cell is blank (`blank`), and at a blank cell each solution of a grid extends one child. Its digit there
+/// is a candidate (`candidate`), and it is a solution of the child with that digit (`extends`). The child of a
+/// candidate has those solutions of the grid that have this digit at the cell (`child`), so distinct children share
+/// none (`apart`).
 pub fn solutions_extend_one_child()
     ensures blank { (m : ℕ) (g : Cells) (cell : ℕ) → fewest m g ≡ Some cell → IsBlank g cell }
     ensures candidate { (m : ℕ) (g s : Cells) (cell : ℕ) → IsGrid m g → IsBlank g cell → IsSolution m g s →

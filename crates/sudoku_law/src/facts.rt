@@ -10,8 +10,8 @@ ghost use Rattle.sudoku_law.specs.Pairs.{IsSolutionByPairs};
 ghost use Rattle.sudoku_law.specs.Solutions.{IsSolutionList};
 ghost use Rattle.sudoku_law.specs.Tree.{tree, walk, solutions, is_over, handed, boards};
 
-/// The literal rules, each digit in exactly one cell of every row, column and box, and the rules by pairs, no
-/// two cells of a row, column or box with the same digit, have the same solutions.
+/// The literal rules say: each digit is in exactly one cell of every row, column and box. The rules by pairs say: no
+/// two cells of a row, column or box have the same digit. Both have the same solutions.
 pub fn rule_by_pairs()
     ensures law { (m : ℕ) (g s : Cells) → IsSolution m g s ↔ IsSolutionByPairs m g s }
 {}
@@ -22,18 +22,18 @@ pub fn solution_list_is_unique()
         IsSolutionList m g xs → IsSolutionList m g ys → xs ≡ ys }
 {}
 
-/// The tests on a grid say what their definitions say: that it has a conflict (`conflict`), which of its blank
-/// cells is the first with the fewest candidates (`fewest`), and that none is blank (`full`).
+/// The tests on a grid say what their definitions say: that it has a conflict (`conflict`), which of its blank cells is
+/// the first with the fewest candidates (`fewest`), and that no cell is blank (`full`).
 pub fn tests_are_exact()
     ensures conflict { (m : ℕ) (g : Cells) → (conflict m g ≡ true) ↔ HasConflict m g }
     ensures fewest { (m : ℕ) (g : Cells) (cell : ℕ) → (fewest m g ≡ Some cell) ↔ IsFewest m g cell }
     ensures full { (m : ℕ) (g : Cells) → (fewest m g ≡ None) ↔ ((cell : ℕ) → IsBlank g cell → ⊥) }
 {}
 
-/// What one unit meets, and what the trees of the boards that it hands out have, are together the whole
-/// tree's: the solution nodes (`nodes`), the boards (`boards`), and whether a node is over (`over`). Each board
-/// that it hands out is a grid with a lower budget (`children`), its solution nodes are grids (`grids`), and no
-/// tree hands out more boards than the greatest digit times its budget (`bound`).
+/// What one unit meets, and what the trees of the boards that it hands out have, are together the whole tree's. This
+/// holds of the solution nodes (`nodes`), the boards (`boards`), and whether a node is over (`over`). Each board that
+/// it hands out is a grid with a lower budget (`children`), and its solution nodes are grids (`grids`). No tree hands
+/// out more boards than the greatest digit times its budget (`bound`).
 pub fn unit_adds_up()
     ensures nodes { (m grain b : ℕ) (g : Cells) → IsPermutation (solutions (tree m b g))
         ((walk grain (tree m b g)).solutions

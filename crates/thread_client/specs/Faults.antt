@@ -6,7 +6,7 @@ use Rattle.adlb_unit.specs.declared.notes.Trouble.TheVariants as troubles
 use Rattle.thread_client.specs.declared.faults.ActorFault.{ActorFault}
 use Rattle.thread_client.specs.declared.faults.ActorFault.TheVariants as faults
 
--- the trouble that is told of it
+-- the trouble that others are told for it
 abbrev pub told : ActorFault → Trouble
 told faults.Memory = troubles.Memory
 told (faults.TooLong stamp) = troubles.TooLong stamp
@@ -16,6 +16,6 @@ told (faults.Unexpected from) = troubles.Memory
 abbrev pub IsLate : Trouble → Type 0
 IsLate trouble = (stamp : ℕ) → trouble ≡ troubles.TooLong stamp → stamp_limit ≤ stamp
 
--- and of what is told of a fault
+-- and of what others are told for a fault
 abbrev pub IsLateFault : ActorFault → Type 0
 IsLateFault fault = IsLate (told fault)

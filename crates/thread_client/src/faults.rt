@@ -19,8 +19,8 @@ pub enum ActorFault {
 }
 
 impl ActorFault {
-    /// The fault of an actor that met this trouble, or was told of it, exactly if it can be one that an actor met (`IsLate`): a stamp
-    /// that is too long is past the last one that is given. Otherwise it is `Memory`.
+    /// The fault of an actor that met this trouble, or was told it, exactly if it can be one that an actor met (`IsLate`). That is
+    /// if a stamp that is too long is past the last one that is given. Otherwise it is `Memory`.
     pub fn of(trouble: Trouble) -> ActorFault
         ensures late { IsLate (told result) }
         ensures same { IsLate trouble → told result ≡ trouble }
@@ -33,7 +33,7 @@ impl ActorFault {
         }
     }
 
-    /// What the actor's calls answer, and what others are told. A letter that was not expected is told as `Memory`: no answer of a
+    /// What the actor's calls answer, and what others are told. A letter that was not expected is told as `Memory`. No answer of a
     /// call, no letter and no status has a word for it, since none comes in a run whose actors keep to the protocol.
     pub fn told(self) -> Trouble
         ensures { result ≡ told self }
@@ -45,8 +45,8 @@ impl ActorFault {
     }
 }
 
-// Why a client failed that met this trouble, if it did: the actor of this number sent a letter that was not expected, if there was
-// one, and otherwise the trouble says it.
+// Why a client failed that met this trouble, if it did. If there was a sender, the actor of this number sent a letter that was not
+// expected. Otherwise the trouble says it.
 pub(crate) fn fault_of(trouble: Option<Trouble>, unexpected: Option<u32>) -> Option<ActorFault>
     requires late { IfSome trouble IsLate }
     requires memory { (from : ℕ) → unexpected ≡ Some from → trouble ≡ Some Trouble.Memory }

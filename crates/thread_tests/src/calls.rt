@@ -374,7 +374,7 @@ fn is_left<M: Mailing>(end: &LinkEnd<M>, answered: usize, leaves: Leaves) -> boo
     end.fault == fault && answered.saturating_add(finished) == said
 }
 
-// The link, which has answered so many calls, leaves this at its end; if a batch is going on, it has none.
+// The link, which has answered this number of calls, leaves this at its end; if a batch is going on, it leaves nothing.
 fn is_end<R: Wait + Copy, M: Mailing>(link: Link<R, M>, answered: usize, leaves: Leaves) -> bool
     requires { has_finished link.core.transcript ≡ false }
 {

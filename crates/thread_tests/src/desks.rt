@@ -74,7 +74,7 @@ fn three_desks_are_cleared(rt: HostRuntime) -> Result<(), Fail> {
     Ok(())
 }
 
-// The desks are made and closed again. So many journals are left.
+// The desks are made and closed again. This number of journals is left.
 fn cleared<M: Mailing>(
     alloc: Global,
     config: Config,

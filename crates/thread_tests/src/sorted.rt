@@ -28,7 +28,7 @@ fn entry((stamp, actor, number): Told) -> Entry {
     }
 }
 
-// What the entries tell of up to 63 events of an actor, whose stamps rise by up to 4, each with up to 3 entries.
+// The entries of up to 63 events of an actor, whose stamps rise by up to 4, each with up to 3 entries.
 fn made(alloc: Global, actor: u32) -> Result<Vec<Told>, AllocError> {
     let mut word = next(u64::from(actor));
     let mut all = Vec::new(alloc);

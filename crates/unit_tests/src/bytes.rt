@@ -27,7 +27,7 @@ fn writes_standard_output(rt: HostRuntime) -> Result<(), Fail> {
     Ok(())
 }
 
-// A source of these bytes, which gives so many at a time, and whose read of this number fails.
+// A source of these bytes, which gives pieces of this length, and whose read of this number fails.
 fn source(alloc: Global, bytes: &[u8], per_read: usize, fails: u64) -> Result<MemorySource, Fail>
     requires { 0 < per_read }
 {
@@ -82,8 +82,8 @@ fn a_room_is_not_filled_past_a_failure(rt: HostRuntime) -> Result<(), Fail> {
     Ok(())
 }
 
-// A text of 20 bytes goes in two writes of 10, and the third call is the flush. Where the call of this number fails, so many bytes
-// are taken, and the answer is this.
+// A text of 20 bytes goes in two writes of 10, and the third call is the flush. If the call of this number fails, this number of
+// bytes is taken, and the answer is this.
 fn is_taken(
     alloc: Global,
     fails: u64,

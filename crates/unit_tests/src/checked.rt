@@ -46,7 +46,7 @@ fn tells_failing(
     Ok(told == wanted && output.taken() == line.as_bytes())
 }
 
-/// Ledgers, and what is told of them.
+/// Ledgers, and what is said of them.
 const TOLD: &[(&[u8], Verdict, &str)] = &[
     (
         b"ledger 2 1 64\nend 0\n",
@@ -104,7 +104,7 @@ fn refuses_each_other_text_and_writes_nothing(rt: HostRuntime) -> Result<(), Fai
     Ok(())
 }
 
-// An input of so many line feeds is refused so, and nothing is written.
+// An input of this number of line feeds is refused so, and nothing is written.
 fn feeds_are_refused(alloc: Global, size: usize, fault: CheckFault) -> Result<bool, Fail> {
     tells(alloc, vec![in alloc; b'\n'; size]?, Err(fault), "")
 }

@@ -1,4 +1,4 @@
-//! The counts of a ledger, as they stand behind a text.
+//! The counts of a ledger, as they follow a text.
 
 use adlb_unit::{
     BatchId, End, Info, NoMemory, Payload, Rank, Server, Target, Types, UnitId, WorkType,
@@ -154,7 +154,7 @@ fn enter_others(ledger: &mut Ledger) -> Result<(), NoMemory> {
     Ok(())
 }
 
-// Enters each entry so many times, and those that are counted as often as `more` has it besides.
+// Enters each entry `each` times, and those that are counted as often as `more` has it besides.
 fn enter_all(
     alloc: Global,
     ledger: &mut Ledger,
@@ -172,7 +172,7 @@ fn enter_all(
 /// `each`, `more` and `left` of a ledger, and the text.
 type Row = (u32, [u32; 5], u64, &'static str);
 
-// A line, and behind it the counts of a ledger that has each entry `each` times, and those that are counted as often as
+// A line, and after it the counts of a ledger that has each entry `each` times, and those that are counted as often as
 // `more` has it besides.
 fn is_text(alloc: Global, (each, more, left, expected): &Row) -> Result<bool, Fail> {
     let mut ledger = Ledger::new(alloc);

@@ -2,7 +2,7 @@
 
 use adlb_unit::{Rank, Target, Types, TypesFault, WorkType, class_for, permits};
 
-// So many types are refused as a list for this.
+// A list of this number of types is refused for this.
 fn is_refused(kinds: &[WorkType], fault: TypesFault) -> bool {
     Types::list(kinds).err() == Some(fault)
 }

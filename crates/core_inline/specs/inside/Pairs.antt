@@ -86,8 +86,8 @@ pub record IsTrue (w : Seen) : Type 0 where
   pub left : IsLeft told.last (left_of (server_in w))
   pub short : length (rank_in w).transcript < stamp_limit
 
--- after the call has its answer: it comes to the transcript, and is what such a call can be answered; the client knows whether a batch is
--- going on; after Finish the server has ended, and after another call the rank can make the next one
+-- after the call has its answer: it comes to the transcript, and is what such a call can be answered. The client knows whether a batch is
+-- going on. After Finish the server has ended, and after another call the rank can make the next one
 pub record IsAnswered (said : List Said) (call : Call) (answer : Answer) (w : Seen) : Type 0 where
   pub whole : w.trouble ≡ None
   pub true_now : IsTrue w
@@ -97,7 +97,7 @@ pub record IsAnswered (said : List Said) (call : Call) (answer : Answer) (w : Se
   pub ended : is_ended (server_in w) ≡ is_finish call
   pub ready : is_finish call ≡ false → IsReady w
 
--- The call failed: what the rank has heard is as before, the ledger tells of the call what was entered, and a stamp that was too long
+-- The call failed: what the rank has heard is as before, the ledger has of the call what was entered, and a stamp that was too long
 -- is past the last one.
 pub record IsFailed (said : List Said) (call : Call) (trouble : Trouble) (w : Seen) : Type 0 where
   pub kept : take (length said) (rank_in w).transcript ≡ said

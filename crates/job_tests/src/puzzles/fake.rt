@@ -37,8 +37,8 @@ pub struct Fake {
 }
 
 impl Fake {
-    /// A link that rejects nothing if `every` is 0, and otherwise each put and batch behind a multiple of that many
-    /// calls. It tells an end to each call behind `stops` calls.
+    /// A link that rejects nothing if `every` is 0, and otherwise each put and batch after a multiple of that many
+    /// calls. It tells an end to each call after `stops` calls.
     pub fn new(alloc: Global, every: u64, stops: usize) -> Fake
         ensures said { result.said.items ≡ [] }
         ensures trouble { result.trouble ≡ None }
@@ -289,7 +289,7 @@ fn total_of(note: &UnitNote) -> u64
     total
 }
 
-// Whether a batch goes on behind a call with this answer.
+// Whether a batch goes on after a call with this answer.
 fn goes_on(call: &Call, answer: &Answer, on: bool) -> bool
     ensures { result ≡ goes_on call.now answer.now on }
 {

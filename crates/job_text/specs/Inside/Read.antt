@@ -7,7 +7,7 @@ use Rattle.job_text.specs.declared.reading.Reading.{Reading}
 use Rattle.job_text.specs.Kinds.{Kind, skipped, puzzle, batch, item, bad}
 use Rattle.job_text.specs.Jobs.{items_of, jobs_of, fault_of, goes_on}
 
--- the jobs of lines of these kinds, behind a batch that is going on, if there is one
+-- the jobs of lines of these kinds, after a batch that is going on, if there is one
 abbrev pub jobs_behind : Option OpenBatch → List Kind → List Job
 jobs_behind None kinds = jobs_of kinds
 jobs_behind (Some b) kinds = Batch b.common (b.items.items ++ items_of kinds) ∷ jobs_of kinds

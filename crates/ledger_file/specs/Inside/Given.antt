@@ -23,11 +23,11 @@ field_of (given.End e) = told e
 abbrev pub fields_of : List Field → List Spelt
 fields_of fs = map field_of fs
 
--- fields, each behind a blank
+-- fields, each after a blank
 abbrev pub spaced : List Spelt → List ℕ
 spaced fs = flat_map (λ f. 32 ∷ word f) fs
 
--- how many fields of an entry tell of a server, of a rank or another server, and of a call; these, and those behind them
+-- how many fields of an entry name a server, a rank or another server, and a call; these, and those after them
 abbrev pub heads : Entry → ℕ
 heads (of.Granted server rank call unit) = 3
 heads (of.Looked server rank call) = 3

@@ -1,4 +1,4 @@
--- The lines behind the first.
+-- The lines after the first.
 use Rattle.std.specs.Prelude.{◌≡◌, ◌≢◌, ℕ, ◌+◌, List, [], ◌++◌, length, Result, Ok, Err, ⊤}
 use Rattle.std.specs.Borrow.{Bor}
 use Rattle.bag_ledger.specs.declared.entries.Entry.{Entry}
@@ -8,7 +8,7 @@ use Rattle.ledger_file.specs.declared.reading.Line.{Line}
 use Rattle.ledger_file.specs.declared.reading.Line.TheVariants as next
 use Rattle.ledger_file.specs.Lines.{row, line, lines, last_row, IsEntry, AreEntries, BeginsWithEntry, BeginsWithEnd}
 
--- the bytes begin with this line, before those behind it
+-- the bytes begin with this line, before those after it
 abbrev pub IsLine : List ℕ → ℕ → Line → List ℕ → Type 0
 IsLine bytes count (next.Entry e) after = IsEntry e × (bytes ≡ line (row e) ++ after)
 IsLine bytes count next.Last after = bytes ≡ line (last_row count) ++ after
@@ -26,11 +26,11 @@ pub record HasRead (bytes : List ℕ) (entries : List Entry) (rest : List ℕ) :
   pub within : AreEntries entries
   pub whole : bytes ≡ lines entries ++ rest
 
--- the lines behind the first, whole
+-- the lines after the first, whole
 abbrev pub IsRest : List ℕ → List Entry → Type 0
 IsRest bytes entries = HasRead bytes entries (line (last_row (length entries)))
 
--- behind the first line, the first that is not what is due at its place
+-- after the first line, the first that is not what is due at its place
 pub data IsBadAfter (bytes : List ℕ) (at : ℕ) : Type 0 where
   none_next : (entries : List Entry) (rest : List ℕ) → HasRead bytes entries rest → (BeginsWithEntry rest → ⊥) →
       (BeginsWithEnd (length entries) rest → ⊥) → at ≡ length entries + 2 → IsBadAfter bytes at

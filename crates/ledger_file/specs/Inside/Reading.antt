@@ -57,7 +57,7 @@ rank_guess w = record { 0 = digits_value 10 w }
 abbrev pub kind_guess : List ℕ → WorkType
 kind_guess w = record { 0 = digits_value 10 w }
 
--- what stands before and behind the first dot
+-- what stands before and after the first dot
 abbrev pub before_dot : List ℕ → List ℕ
 before_dot [] = []
 before_dot (b ∷ w) = if b == 46 then [] else b ∷ before_dot w
@@ -155,7 +155,7 @@ unit_of x = record { rank = rank_of x.0; number = x.1 }
 abbrev pub batch_of : ℕ × ℕ → BatchId
 batch_of x = record { rank = rank_of x.0; number = x.1 }
 
--- the numbers of a rank and of its call; what is read behind these, behind a server, and behind the id of a unit
+-- the numbers of a rank and of its call; what is read after these, after a server, and after the id of a unit
 unfoldable pub call_in : List (List ℕ) → Option ((ℕ × ℕ) × List (List ℕ))
 call_in ws = onward (λ rank vs. onward (λ call us. Some ((rank, call), us)) (first number_in vs)) (first length_in ws)
 
@@ -168,7 +168,7 @@ with_server k = next length_in (λ n. k (server_of n))
 abbrev pub with_unit : {E : Type 0} → (UnitId → List (List ℕ) → Option E) → List (List ℕ) → Option E
 with_unit k = next pair_in (λ x. k (unit_of x))
 
--- a value that is read, and the words behind it; and if no word is left, the value alone
+-- a value that is read, and the words after it; and if no word is left, the value alone
 abbrev pub value : {E : Type 0} → E → List (List ℕ) → Option (E × List (List ℕ))
 value e ws = Some (e, ws)
 
@@ -185,7 +185,7 @@ abbrev pub Gives : {X A : Type 0} → (X → A) → Result X LineFault → Optio
 Gives view (Ok x) read = read ≡ Some (view x)
 Gives view (Err f) read = Fails f read
 
--- what a reader returned of a word: the field that the word is, or none where it is none, unless memory ran out
+-- what a reader returned of a word: the field that the word is, or `None` where it is not one, unless memory ran out
 abbrev pub Misses : {A : Type 0} → (A → Field) → List ℕ → LineFault → Type 0
 Misses field w fault.Memory = ⊤
 Misses field w fault.Bad = (a : _) → IsWithin (field a) → w ≡ word (field a) → ⊥

@@ -11,7 +11,7 @@ use crate::names::Name;
 use adlb_unit::{BatchId, Rank, Server, Types, UnitId};
 use bag_ledger::Entry;
 
-/// The entry of this name, which tells of a call alone.
+/// The entry of this name, which names a call alone.
 pub fn of_call(name: Name, words: &mut Parts<'_>) -> Result<Entry, LineFault>
     ensures { Gives (λ e. (e, parts_left words.new)) result (with_call (λ rank call. value (call_entry name rank call)) (parts_left words.old)) }
 {
@@ -31,7 +31,7 @@ fn call_entry(name: Name, rank: Rank, call: u64) -> Entry
     }
 }
 
-/// The entry of this name, which tells of a call and the types that are wanted.
+/// The entry of this name, which names a call and the types that are wanted.
 pub fn of_wish(name: Name, words: &mut Parts<'_>) -> Result<Entry, LineFault>
     ensures { Gives (λ e. (e, parts_left words.new)) result (with_call (λ rank call. next types_in (λ types. value (wish_entry name rank call types))) (parts_left words.old)) }
 {
@@ -49,7 +49,7 @@ fn wish_entry(name: Name, rank: Rank, call: u64, types: Types) -> Entry
     }
 }
 
-/// The entry of this name, which tells of a server and an id.
+/// The entry of this name, which names a server and an id.
 pub fn of_id(name: Name, words: &mut Parts<'_>) -> Result<Entry, LineFault>
     ensures { Gives (λ e. (e, parts_left words.new)) result (with_server (λ server. next pair_in (λ x. value (id_entry name server x))) (parts_left words.old)) }
 {
@@ -72,7 +72,7 @@ fn id_entry(name: Name, server: Server, rank: Rank, number: u64) -> Entry
     }
 }
 
-/// The entry of this name, which tells of a server, whom it gives to, and an id.
+/// The entry of this name, which names a server, whom it gives to, and an id.
 pub fn of_way(name: Name, words: &mut Parts<'_>) -> Result<Entry, LineFault>
     ensures { Gives (λ e. (e, parts_left words.new)) result (with_server (λ server. next length_in (λ to. next pair_in (λ x. value (way_entry name server to x)))) (parts_left words.old)) }
 {

@@ -31,7 +31,7 @@ kind_code kind = groups 5 kind.0
 abbrev pub kind_fits : WorkType → Type 0
 kind_fits kind = kind.0 < 2 ^ 32
 
--- the entry, and these bytes behind it
+-- the entry, and these bytes after it
 unfoldable pub entry_before : Entry → List ℕ → List ℕ
 entry_before e rest = row_before (row_of e) (body_of e ++ (flat_map kind_code (kinds_of e) ++ rest))
 
@@ -48,7 +48,7 @@ pub record IsKeptStamped (s : Stamped) : Type 0 where
   pub stamp : s.stamp < 2 ^ 64
   pub entry : IsKept s.entry
 
--- one behind the other, where this is one before the bytes behind it
+-- one after the other, where this is one before the bytes after it
 unfoldable pub codes : {X : Type 0} → (X → List ℕ → List ℕ) → List X → List ℕ
 codes before [] = []
 codes before (x ∷ xs) = before x (codes before xs)

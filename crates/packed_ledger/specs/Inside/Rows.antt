@@ -9,7 +9,7 @@ marks r =
     mark r.first + 2 * mark r.second + 4 * mark r.third + 8 * mark r.fourth + 16 * mark r.fifth + 32 * mark r.call + 64 * mark r.number +
     128 * mark r.amount
 
--- the row, and these bytes behind it
+-- the row, and these bytes after it
 unfoldable pub row_before : Row → List ℕ → List ℕ
 row_before r rest =
     r.head ∷ marks r ∷ (part 5 r.first ++ (part 5 r.second ++ (part 5 r.third ++ (part 5 r.fourth ++ (part 5 r.fifth

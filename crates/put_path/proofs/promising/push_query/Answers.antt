@@ -3,7 +3,7 @@ use Rattle.std.proofs.lemmas.Bool.{cases_lt}
 use Rattle.work_queue.specs.Queue.{charge_of}
 use Rattle.put_path.proofs.promising.push_query.Goals as goal
 
--- so many bytes more would not go beyond the limit, since room was promised
+-- this number of bytes more would not go beyond the limit, since room was promised
 pub returns-in-Ok-clause-promise : goal.returns-in-Ok-clause-promise
 returns-in-Ok-clause-promise c =
     let q = c.args.queue.now in
