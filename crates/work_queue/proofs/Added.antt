@@ -5,6 +5,9 @@ use Rattle.std.specs.VecDeque.{deque_capacity, deque_len}
 use Rattle.std.proofs.lemmas.List.Elements.{All-push, All-weaker, filter_map-append}
 use Rattle.std.proofs.lemmas.List.Quantifiers.{all_pairs_push}
 use Rattle.std.proofs.lemmas.List.Sums.{sum_by_push}
+use Rattle.std.specs.Prelude.{if◌then◌else◌}
+use Rattle.adlb_unit.specs.Ids.{same_unit}
+use Rattle.adlb_unit.specs.declared.names.UnitId.{UnitId}
 use Rattle.adlb_unit.specs.declared.units.Unit.{Unit}
 use Rattle.slab.specs.Slab.{HasRoomFor, Slab, get, Updates}
 use Rattle.work_queue.proofs.Indexed.{indexed_come}
@@ -13,7 +16,7 @@ use Rattle.work_queue.proofs.Units.{units_one, units_same}
 use Rattle.work_queue.specs.Inside.{IsSound, queue_of}
 use Rattle.work_queue.specs.Queue.{HasApartPromises, HasDistinctPromises, HasNoPromise, HasNoUnit, IsSmall, id_of, promised, size_of}
 use Rattle.work_queue.specs.Inside.Index.{IsInOrder, entry_of}
-use Rattle.work_queue.specs.Inside.Names.{IsById}
+use Rattle.work_queue.specs.Inside.Names.{spare_in, stamp_at}
 use Rattle.work_queue.specs.Inside.Units.{units_at}
 use Rattle.work_queue.specs.declared.placing.Placed.{Placed}
 use Rattle.work_queue.specs.declared.queues.WorkQueue.TheInside.{Inside}
@@ -52,14 +55,13 @@ pub record Comes (w v : Inside) (key : ℕ) (unit : Unit) : Type 0 where
   pub entries : IsPermutation (entry_of (record { unit = unit; pin = None }) w.arrivals ∷ w.index.entries.items) v.index.entries.items
   pub in_order : IsInOrder v.index.entries.items
   pub stamps : v.index.stamps.items ≡ w.index.stamps.items ++ w.arrivals ∷ []
-  pub names : IsPermutation (record { id = unit.id; stamp = w.arrivals } ∷ w.names.kept.items) v.names.kept.items
-  pub by_id : IsById v.names.kept.items
+  pub names : (q : UnitId) → stamp_at v.names q ≡ (if same_unit unit.id q then Some w.arrivals else stamp_at w.names q)
   pub arrivals : v.arrivals ≡ w.arrivals + 1
   pub slots_room : HasRoomFor v.slots (length v.rooms)
   pub order_room : length v.order.items + length v.rooms ≤ v.order.capacity
   pub entries_room : deque_len v.index.entries + length v.rooms ≤ deque_capacity v.index.entries
   pub stamps_room : length v.index.stamps.items + length v.rooms ≤ v.index.stamps.capacity
-  pub names_room : deque_len v.names.kept + length v.rooms ≤ deque_capacity v.names.kept
+  pub names_room : length v.rooms ≤ spare_in v.names
 
 module _ (w v : Inside) (key : ℕ) (unit : Unit) (sound : IsSound w) (comes : Comes w v key unit) where
   pub units_come : units_at v.slots v.order.items ≡ units_at w.slots w.order.items ++ record { unit = unit; pin = None } ∷ []
@@ -94,7 +96,7 @@ module _ (w v : Inside) (key : ℕ) (unit : Unit) (sound : IsSound w) (comes : C
         charge = comes.charge ∙ rw units_come (omega (arith, sum_by_push size_of units now));
         within = comes.within;
         indexed = rw (units_come, comes.arrivals) (indexed_come units w.arrivals w.index sound.indexed v.index now refl comes.entries comes.in_order comes.stamps);
-        named = rw (units_come, comes.stamps) (named_come units now w.index.stamps.items w.arrivals w.names.kept.items v.names.kept.items sound.named sound.indexed.long comes.names comes.by_id);
+        named = rw (units_come, comes.stamps) (named_come units now w.index.stamps.items w.arrivals w.names v.names sound.named sound.indexed.long comes.fresh comes.names);
         slots_room = comes.slots_room;
         order_room = comes.order_room;
         entries_room = comes.entries_room;

@@ -30,7 +30,7 @@ pub record IsFound (w : Inside) (place key : ℕ) (p : Placed) (id : UnitId) : T
   pub has_id : id_of p ≡ id
 
 -- what the search by id answers for the units of the queue
-pub placed : (w : Inside) (id : UnitId) (place : ℕ) → IsSound w → ((units : List Placed) → HasDistinctIds units → IsNamed units w.index.stamps.items w.names.kept.items → length w.index.stamps.items ≡ length units → place ≡ position_or_len (is_unit id) units) → place ≡ position_or_len (is_unit id) (units_at w.slots w.order.items)
+pub placed : (w : Inside) (id : UnitId) (place : ℕ) → IsSound w → ((units : List Placed) → HasDistinctIds units → IsNamed units w.index.stamps.items w.names → length w.index.stamps.items ≡ length units → place ≡ position_or_len (is_unit id) units) → place ≡ position_or_len (is_unit id) (units_at w.slots w.order.items)
 placed w id place sound tells = tells (units_at w.slots w.order.items) sound.distinct sound.named sound.indexed.long
 
 pub place_in_order : (w : Inside) (id : UnitId) (place : ℕ) → IsSound w → HasUnit id (units_at w.slots w.order.items) → place ≡ position_or_len (is_unit id) (units_at w.slots w.order.items) → place < length w.order.items

@@ -9,6 +9,7 @@ use Rattle.adlb_unit.specs.declared.names.UnitId.{UnitId}
 use Rattle.slab.specs.Slab.{HasRoomFor}
 use Rattle.work_queue.specs.Inside.{IsSound, queue_of}
 use Rattle.work_queue.specs.Queue.{HasApartPromises, HasDistinctPromises, HasNoPromise, HasNoUnit, Promise, is_for_other, promised, size_of}
+use Rattle.work_queue.specs.Inside.Names.{spare_in, stamp_at}
 use Rattle.work_queue.specs.Inside.Units.{units_at}
 use Rattle.work_queue.specs.declared.placing.Placed.{Placed}
 use Rattle.work_queue.specs.declared.queues.WorkQueue.TheInside.{Inside}
@@ -19,13 +20,13 @@ pub record IsGrown (w v : Inside) : Type 0 where
   pub items : v.order.items ≡ w.order.items
   pub entries : v.index.entries.items ≡ w.index.entries.items
   pub stamps : v.index.stamps.items ≡ w.index.stamps.items
-  pub names : v.names.kept.items ≡ w.names.kept.items
+  pub names : (q : UnitId) → stamp_at v.names q ≡ stamp_at w.names q
   pub arrivals : v.arrivals ≡ w.arrivals
   pub slots_room : HasRoomFor v.slots (length v.rooms)
   pub order_room : length v.order.items + length v.rooms ≤ v.order.capacity
   pub entries_room : deque_len v.index.entries + length v.rooms ≤ deque_capacity v.index.entries
   pub stamps_room : length v.index.stamps.items + length v.rooms ≤ v.index.stamps.capacity
-  pub names_room : deque_len v.names.kept + length v.rooms ≤ deque_capacity v.names.kept
+  pub names_room : length v.rooms ≤ spare_in v.names
 
 module _ (w v : Inside) (sound : IsSound w) (grown : IsGrown w v) where
   pub units_kept : units_at v.slots v.order.items ≡ units_at w.slots w.order.items
@@ -48,10 +49,7 @@ module _ (w v : Inside) (sound : IsSound w) (grown : IsGrown w v) where
       below = rw (grown.stamps, grown.arrivals) sound.indexed.below;
       long = rw (units_kept, grown.stamps) sound.indexed.long;
     };
-    named = record {
-      held = rw (units_kept, grown.names, grown.stamps) sound.named.held;
-      by_id = rw grown.names sound.named.by_id;
-    };
+    named = record { each = λ q. rw (units_kept, grown.stamps) (grown.names q ∙ sound.named.each q) };
     slots_room = grown.slots_room;
     order_room = grown.order_room;
     entries_room = grown.entries_room;

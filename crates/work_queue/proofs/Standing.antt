@@ -6,19 +6,20 @@ use Rattle.std.specs.VecDeque.{deque_capacity, deque_len}
 use Rattle.std.proofs.lemmas.List.{drop_more, get_or_default, length-take-le, take-append-drop}
 use Rattle.std.proofs.lemmas.List.Elements.{All-append, All-drop, All-take}
 use Rattle.std.proofs.lemmas.List.Quantifiers.{all_pairs_remove}
+use Rattle.std.specs.Prelude.{if◌then◌else◌}
+use Rattle.adlb_unit.specs.Ids.{same_unit}
 use Rattle.adlb_unit.specs.declared.names.Rank.{Rank}
 use Rattle.adlb_unit.specs.declared.names.UnitId.{UnitId}
 use Rattle.slab.specs.Slab.{get}
 use Rattle.work_queue.proofs.Found.{IsFound, only_found}
 use Rattle.work_queue.proofs.Indexed.{entry_there, indexed_taken, others, others_held, others_pinned}
-use Rattle.work_queue.proofs.Names.{name_there, named_taken}
-use Rattle.work_queue.proofs.Units.{Parts, length-units, parts_at, unit_under, units_parted}
+use Rattle.work_queue.proofs.Names.{named_taken}
+use Rattle.work_queue.proofs.Units.{Parts, length-units, parts_at, units_parted}
 use Rattle.work_queue.specs.Inside.{IsSound}
 use Rattle.work_queue.specs.Queue.{HasFree, id_of}
 use Rattle.work_queue.specs.Inside.Index.{IsInOrder, IsIndexed, entry_of}
-use Rattle.work_queue.specs.Inside.Names.{IsById, IsNamed, name_of}
+use Rattle.work_queue.specs.Inside.Names.{IsNamed, spare_in, stamp_at}
 use Rattle.work_queue.specs.Inside.Units.{units_at}
-use Rattle.work_queue.specs.declared.naming.Name.{Name}
 use Rattle.work_queue.specs.declared.naming.Names.{Names}
 use Rattle.work_queue.specs.declared.entries.Entry.{Entry}
 use Rattle.work_queue.specs.declared.indexing.Index.{Index}
@@ -58,19 +59,11 @@ module _ (w : Inside) (place key : ℕ) (p : Placed) (id : UnitId) (sound : IsSo
   pub entry_found : p.pin ≡ None → Contains w.index.entries.items (entry_of p (get_or w.index.stamps.items place 0))
   entry_found free = entry_there (units_at w.slots front) (units_at w.slots back) p _ _ _ w.arrivals w.index indexed_parted stamps_parted as_long free
 
-  -- the unit's name
-  abbrev pub own_name : Name
-  own_name = name_of p (get_or w.index.stamps.items place 0)
-
-  named_parted : IsNamed (units_at w.slots front ++ p ∷ units_at w.slots back) (take place w.index.stamps.items ++ get_or w.index.stamps.items place 0 ∷ drop (suc place) w.index.stamps.items) w.names.kept.items
+  named_parted : IsNamed (units_at w.slots front ++ p ∷ units_at w.slots back) (take place w.index.stamps.items ++ get_or w.index.stamps.items place 0 ∷ drop (suc place) w.index.stamps.items) w.names
   named_parted = rw (units_parted w.slots w.order.items key p front back parts_of, stamps_parted) at sound.named
 
-  pub name_found : Contains w.names.kept.items own_name
-  name_found =
-      name_there (units_at w.slots w.order.items) w.index.stamps.items w.names.kept.items sound.named sound.indexed.long place p (unit_under w.slots w.order.items sound.there place at.within ∙ ap (λ k. get w.slots k) at.key_is ∙ at.found)
-
-  pub named_after_take : (new : List Name) → IsPermutation w.names.kept.items (own_name ∷ new) → All (λ x. x ≢ own_name) new → IsById new → IsNamed (units_at w.slots front ++ units_at w.slots back) (remove w.index.stamps.items place) new
-  named_after_take new left gone order = named_taken (units_at w.slots front) (units_at w.slots back) p _ _ _ w.names.kept.items new named_parted as_long left gone order
+  pub named_after_take : (new : Names) → ((q : UnitId) → stamp_at new q ≡ (if same_unit (id_of p) q then None else stamp_at w.names q)) → IsNamed (units_at w.slots front ++ units_at w.slots back) (remove w.index.stamps.items place) new
+  named_after_take new less = named_taken (units_at w.slots front) (units_at w.slots back) p _ _ _ w.names new named_parted as_long parts_of.distinct less
 
 -- the index no longer has the entry of the unit at the place, and has as much room
 pub record LeavesIndex (w : Inside) (place : ℕ) (p : Placed) (index : Index) : Type 0 where
@@ -93,13 +86,10 @@ pub record ForgetsUnit (w : Inside) (place : ℕ) (p : Placed) (index : Index) :
   pub stamps_fewer : length index.stamps.items + 1 ≡ length w.index.stamps.items
   pub stamps_same : index.stamps.capacity ≡ w.index.stamps.capacity
 
--- the names no longer have that of the unit at the place, and have as much room
-pub record LosesName (w : Inside) (place : ℕ) (p : Placed) (names : Names) : Type 0 where
-  pub left : IsPermutation w.names.kept.items (name_of p (get_or w.index.stamps.items place 0) ∷ names.kept.items)
-  pub gone : All (λ x. x ≢ name_of p (get_or w.index.stamps.items place 0)) names.kept.items
-  pub by_id : IsById names.kept.items
-  pub fewer : deque_len names.kept + 1 ≡ deque_len w.names.kept
-  pub same : deque_capacity names.kept ≡ deque_capacity w.names.kept
+-- nothing is kept of the id any more, and there is as much room
+pub record LosesName (w : Inside) (id : UnitId) (names : Names) : Type 0 where
+  pub less : (q : UnitId) → stamp_at names q ≡ (if same_unit id q then None else stamp_at w.names q)
+  pub room : spare_in w.names ≤ spare_in names
 
 module _ (w : Inside) (place key : ℕ) (p : Placed) (id : UnitId) (sound : IsSound w) (at : IsFound w place key p id) (index : Index) (forgets : ForgetsUnit w place p index) where
   abbrev before : List Placed
@@ -132,12 +122,6 @@ module _ (w : Inside) (place key : ℕ) (p : Placed) (id : UnitId) (sound : IsSo
 
   pub stamp_is : (stamp : ℕ) → stamp ≡ get_or w.index.stamps.items place stamp → stamp ≡ get_or w.index.stamps.items place 0
   stamp_is stamp read = read ∙ get_or_default w.index.stamps.items place stamp 0 (stamp_within w place key p id sound at)
-
-  pub name_is : (stamp : ℕ) → stamp ≡ get_or w.index.stamps.items place stamp → record { id = id; stamp = stamp } ≡ name_of p (get_or w.index.stamps.items place 0)
-  name_is stamp read =
-      let f : ℕ → Name = λ s. record { id = id; stamp = s } in
-      let g : UnitId → Name = λ i. record { id = i; stamp = get_or w.index.stamps.items place 0 } in
-      ap f (stamp_is stamp read) ∙ ap g (sym at.has_id)
 
   pub entry_is : (stamp : ℕ) (e : Entry) → e ≡ entry_of p stamp → stamp ≡ get_or w.index.stamps.items place stamp → e ≡ entry_of p (get_or w.index.stamps.items place 0)
   entry_is stamp e is read = is ∙ ap (λ s. entry_of p s) (stamp_is stamp read)

@@ -4,6 +4,8 @@ use Rattle.std.specs.List.{filter, remove}
 use Rattle.std.proofs.lemmas.List.Elements.{All-append, All-take, All-drop, All-filter, filter_map-append}
 use Rattle.std.proofs.lemmas.List.Kept.{AllPairs-filter}
 use Rattle.std.proofs.lemmas.List.Sums.{sum_by-append, sum_by-cons}
+use Rattle.std.specs.Prelude.{if◌then◌else◌}
+use Rattle.adlb_unit.specs.Ids.{same_unit}
 use Rattle.adlb_unit.specs.declared.names.UnitId.{UnitId}
 use Rattle.slab.specs.Slab.{Slab, get, slab_len, Updates}
 use Rattle.work_queue.proofs.Found.{IsFound}
@@ -12,6 +14,7 @@ use Rattle.work_queue.proofs.Standing.{ForgetsUnit, LosesName, indexed_after_tak
 use Rattle.work_queue.proofs.Units.{Parts, parts_at, units_besides, units_parted}
 use Rattle.work_queue.specs.Inside.{IsSound, queue_of}
 use Rattle.work_queue.specs.Queue.{HasNoUnit, IsSmall, has_other_id, id_of, size_of, without}
+use Rattle.work_queue.specs.Inside.Names.{stamp_at}
 use Rattle.work_queue.specs.Inside.Units.{units_at}
 use Rattle.work_queue.specs.declared.placing.Placed.{Placed}
 use Rattle.work_queue.specs.declared.queues.WorkQueue.TheInside.{Inside}
@@ -58,7 +61,7 @@ module _ (w : Inside) (new : Slab Placed) (place key : ℕ) (p : Placed) (id : U
   pub size_within : size_of p ≤ w.charge
   size_within = omega (arith, sizes, sound.charge)
 
-  pub sound_taken : (v : Inside) → v.slots ≡ new → v.order.items ≡ remove w.order.items place → v.charge ≡ w.charge - size_of p → v.limit ≡ w.limit → v.rooms ≡ w.rooms → v.common ≡ w.common → slab_len new + 1 ≡ slab_len w.slots → new.capacity ≡ w.slots.capacity → length v.order.items + 1 ≡ length w.order.items → v.order.capacity ≡ w.order.capacity → v.arrivals ≡ w.arrivals → ForgetsUnit w place p v.index → LosesName w place p v.names → IsSound v
+  pub sound_taken : (v : Inside) → v.slots ≡ new → v.order.items ≡ remove w.order.items place → v.charge ≡ w.charge - size_of p → v.limit ≡ w.limit → v.rooms ≡ w.rooms → v.common ≡ w.common → slab_len new + 1 ≡ slab_len w.slots → new.capacity ≡ w.slots.capacity → length v.order.items + 1 ≡ length w.order.items → v.order.capacity ≡ w.order.capacity → v.arrivals ≡ w.arrivals → ForgetsUnit w place p v.index → LosesName w id v.names → IsSound v
   sound_taken v slots order charge limit rooms common slab_less slab_same order_less order_same arrivals forgets loses =
       let O : ℕ → Type 0 = λ k. IsSome (get w.slots k) in
       let P : ℕ → Type 0 = λ k. IsSome (get new k) in
@@ -76,12 +79,12 @@ module _ (w : Inside) (new : Slab Placed) (place key : ℕ) (p : Placed) (id : U
         charge = rw (charge, slots, order, rooms, common) (omega (arith, sizes, sound.charge));
         within = omega (arith, charge, limit, sound.within);
         indexed = rw (slots, order, arrivals, units_left w.slots new w.order.items front back key p parts updates) (indexed_after_take w place key p id sound at v.index forgets);
-        named = rw (slots, order, forgets.stamps, units_left w.slots new w.order.items front back key p parts updates) (named_after_take w place key p id sound at v.names.kept.items loses.left loses.gone loses.by_id);
+        named = rw (slots, order, forgets.stamps, units_left w.slots new w.order.items front back key p parts updates) (named_after_take w place key p id sound at v.names (λ q. loses.less q ∙ ap (λ i. if same_unit i q then None else stamp_at w.names q) (sym at.has_id)));
         slots_room = rw (slots, rooms) (omega (arith, slab_less, slab_same, sound.slots_room));
         order_room = rw rooms (omega (arith, order_less, order_same, sound.order_room));
         entries_room = rw rooms (omega (arith, forgets.fewer, forgets.same, sound.entries_room));
         stamps_room = rw rooms (omega (arith, forgets.stamps_fewer, forgets.stamps_same, sound.stamps_room));
-        names_room = rw rooms (omega (arith, loses.fewer, loses.same, sound.names_room));
+        names_room = rw rooms (omega (arith, loses.room, sound.names_room));
       }
 
   pub view_taken : (v : Inside) → v.slots ≡ new → v.order.items ≡ remove w.order.items place → v.arrivals ≡ w.arrivals → v.limit ≡ w.limit → v.rooms ≡ w.rooms → v.common ≡ w.common → queue_of v ≡ without (queue_of w) id

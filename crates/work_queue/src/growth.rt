@@ -2,7 +2,9 @@
 
 ghost use Rattle.std.specs.Prelude.{◌≡◌, ◌≤◌, ◌+◌, OnOk, length};
 ghost use Rattle.std.specs.VecDeque.{deque_capacity, deque_len};
+ghost use Rattle.adlb_unit.specs.declared.names.UnitId.{UnitId};
 ghost use Rattle.slab.specs.Slab.{HasRoomFor};
+ghost use Rattle.work_queue.specs.Inside.Names.{spare_in, stamp_at};
 
 use crate::indexing::Index;
 use crate::naming::Names;
@@ -31,10 +33,9 @@ pub(crate) fn make_room(
     ensures stamps_grown { index.old.stamps.capacity ≤ index.new.stamps.capacity }
     ensures entries_room { OnOk result (deque_len index.new.entries + more ≤ deque_capacity index.new.entries) }
     ensures stamps_room { OnOk result (length index.new.stamps.items + more ≤ index.new.stamps.capacity) }
-    ensures names { names.new.kept.items ≡ names.old.kept.items }
-    ensures names_len { deque_len names.new.kept ≡ deque_len names.old.kept }
-    ensures names_grown { deque_capacity names.old.kept ≤ deque_capacity names.new.kept }
-    ensures names_room { OnOk result (deque_len names.new.kept + more ≤ deque_capacity names.new.kept) }
+    ensures names { (q : UnitId) → stamp_at names.new q ≡ stamp_at names.old q }
+    ensures names_grown { spare_in names.old ≤ spare_in names.new }
+    ensures names_room { OnOk result (more ≤ spare_in names.new) }
     ensures order_room { OnOk result (length order.new.items + more ≤ order.new.capacity) }
 {
     slots.reserve(more)?;

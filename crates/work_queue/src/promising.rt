@@ -6,7 +6,6 @@ ghost use Rattle.work_queue.specs.Queue.{Exceeds, HasNoPromise, HasNoUnit, HasPr
 
 use crate::entries::entry_for;
 use crate::growth::make_room;
-use crate::naming::Name;
 use crate::placing::Placed;
 use crate::queues::{AddFault, WorkQueue};
 use adlb_unit::{Unit, UnitId};
@@ -55,10 +54,7 @@ impl WorkQueue {
         ensures { self.new ≡ with_arrival self.old unit }
     {
         self.rooms.remove(unit.id);
-        self.names.add(Name {
-            id: unit.id,
-            stamp: self.arrivals,
-        });
+        self.names.add(unit.id, self.arrivals);
         let placed = Placed { unit, pin: None };
         self.index.add(entry_for(&placed, self.arrivals));
         let key = self.slots.insert_reserved(placed);

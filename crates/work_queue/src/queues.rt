@@ -11,7 +11,7 @@ ghost use Rattle.work_queue.specs.Queue.{Queue, Promise, HasApartPromises, HasDi
 use crate::entries::{entry_for, entry_under, free_entry};
 use crate::growth::make_room;
 use crate::indexing::Index;
-use crate::naming::{Name, Names};
+use crate::naming::Names;
 use crate::parted::Parted;
 use crate::placing::{Placed, UnitFacts};
 use crate::ranking::best_entry;
@@ -139,10 +139,7 @@ impl WorkQueue {
         if grown.is_err() {
             return Err((unit, AddFault::Memory));
         }
-        self.names.add(Name {
-            id: unit.id,
-            stamp: self.arrivals,
-        });
+        self.names.add(unit.id, self.arrivals);
         let placed = Placed { unit, pin: None };
         self.index.add(entry_for(&placed, self.arrivals));
         let key = self.slots.insert_reserved(placed);
@@ -221,7 +218,7 @@ impl WorkQueue {
         };
         let stamp = self.index.stamps.at(place);
         let entry = free_entry(&self.slots, key, stamp);
-        self.names.remove(Name { id, stamp });
+        self.names.remove(id);
         self.index.forget(place, entry);
         let unit = take_at(&mut self.slots, key);
         self.charge -= unit.body.len() as u64;

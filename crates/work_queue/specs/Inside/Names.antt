@@ -1,33 +1,30 @@
--- The units by their ids: by rank, then by number.
-use Rattle.std.specs.Prelude.{◌≡◌, ℕ, List, [], ◌∷◌, nat_lt, Bool, true}
-use Rattle.std.specs.List.{AllPairs}
-use Rattle.std.specs.List.Sorted.{IsPermutation}
+-- The units by their ids.
+use Rattle.std.specs.Prelude.{◌≡◌, ◌==◌, ◌&&◌, ℕ, List, [], ◌∷◌, Bool, Option, None, Some, if◌then◌else◌}
+use Rattle.std.specs.HashMap.{get, spare}
+use Rattle.adlb_unit.specs.Ids.{same_unit}
 use Rattle.adlb_unit.specs.declared.names.UnitId.{UnitId}
-use Rattle.work_queue.specs.Inside.Index.{lower_first}
-use Rattle.work_queue.specs.declared.naming.Name.{Name}
+use Rattle.work_queue.specs.Queue.{id_of}
+use Rattle.work_queue.specs.declared.naming.Names.{Names}
 use Rattle.work_queue.specs.declared.placing.Placed.{Placed}
 
--- a comes before b
-abbrev pub id_before : UnitId → UnitId → Bool
-id_before a b = lower_first a.rank.0 b.rank.0 (nat_lt a.number b.number)
+-- the test that two keys of the map are equal
+abbrev pub same_key : ℕ × ℕ → ℕ × ℕ → Bool
+same_key a b = (a.0 == b.0) && (a.1 == b.1)
 
-abbrev pub name_before : Name → Name → Bool
-name_before a b = id_before a.id b.id
+-- what is kept of the id
+abbrev pub stamp_at : Names → UnitId → Option ℕ
+stamp_at names id = get same_key names.kept (id.rank.0, id.number)
 
-abbrev pub IsById : List Name → Type 0
-IsById names = AllPairs (λ a b. name_before a b ≡ true) names
+-- how many more units there is room for
+abbrev pub spare_in : Names → ℕ
+spare_in names = spare names.kept
 
--- the name of a unit that came at this count of arrivals
-abbrev pub name_of : Placed → ℕ → Name
-name_of p stamp = record { id = p.unit.id; stamp = stamp }
+-- the count of arrivals at which the unit of this id came
+abbrev pub stamp_of : UnitId → List Placed → List ℕ → Option ℕ
+stamp_of id [] stamps = None
+stamp_of id (p ∷ units) [] = None
+stamp_of id (p ∷ units) (stamp ∷ stamps) = if same_unit (id_of p) id then Some stamp else stamp_of id units stamps
 
--- the names of the units, which came at these counts
-abbrev pub names_of : List Placed → List ℕ → List Name
-names_of [] stamps = []
-names_of (p ∷ units) [] = []
-names_of (p ∷ units) (stamp ∷ stamps) = name_of p stamp ∷ names_of units stamps
-
--- the names are in order, and there is one for each unit, free or pinned, and no other
-pub record IsNamed (units : List Placed) (stamps : List ℕ) (names : List Name) : Type 0 where
-  pub held : IsPermutation (names_of units stamps) names
-  pub by_id : IsById names
+-- of the id of each unit, free or pinned, its stamp is kept, and of no other id
+pub record IsNamed (units : List Placed) (stamps : List ℕ) (names : Names) : Type 0 where
+  pub each : (id : UnitId) → stamp_at names id ≡ stamp_of id units stamps

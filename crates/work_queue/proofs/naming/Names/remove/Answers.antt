@@ -1,31 +1,4 @@
-use Rattle.std.proofs.Common.{◌≡◌, arith, true}
-use Rattle.std.proofs.lemmas.Bool.{false≢true}
-use Rattle.std.proofs.lemmas.List.Quantifiers.{all_pairs_remove}
-use Rattle.std.proofs.lemmas.List.Sorted.{IsPermutation-remove}
-use Rattle.work_queue.proofs.Names.{name_self}
-use Rattle.work_queue.proofs.Sorted.{stands_at, stands_once}
-use Rattle.work_queue.specs.Inside.Names.{name_before}
-use Rattle.work_queue.specs.declared.naming.Name.{Name}
 use Rattle.work_queue.proofs.naming.Names.remove.Goals as goal
 
 pub returns-clause-names : goal.returns-clause-names
-returns-clause-names c =
-    let here = stands_at name_before name_self c.args.self.now.kept.items c.args.name c.place_for-place.result c.requires.order c.place_for-place.ensures.within c.place_for-place.ensures.point c.requires.there in
-    rw c.in-Some.ensures.items (IsPermutation-remove c.args.self.now.kept.items c.place_for-place.result c.args.name here.0 here.1)
-
-pub returns-clause-order : goal.returns-clause-order
-returns-clause-order c =
-    let R : Name → Name → Type 0 = λ a b. name_before a b ≡ true in
-    let here = stands_at name_before name_self c.args.self.now.kept.items c.args.name c.place_for-place.result c.requires.order c.place_for-place.ensures.within c.place_for-place.ensures.point c.requires.there in
-    rw c.in-Some.ensures.items (all_pairs_remove R c.args.self.now.kept.items c.place_for-place.result here.0 c.requires.order)
-
-pub returns-clause-gone : goal.returns-clause-gone
-returns-clause-gone c =
-    rw c.in-Some.ensures.items
-    (stands_once name_before name_self c.args.self.now.kept.items c.args.name c.place_for-place.result c.requires.order c.place_for-place.ensures.within c.place_for-place.ensures.point c.requires.there)
-
-pub unreachable-requires : goal.unreachable-requires
-unreachable-requires c =
-    let here = stands_at name_before name_self c.args.self.now.kept.items c.args.name c.place_for-place.result c.requires.order c.place_for-place.ensures.within c.place_for-place.ensures.point c.requires.there in
-    let within = here.0 in
-    false≢true (c.in-None.ensures.variant.1 (omega (arith, within)))
+returns-clause-names c = λ q. c.remove.ensures.updates.0 (q.rank.0, q.number)

@@ -5,7 +5,6 @@ use Rattle.work_queue.specs.Inside.Units.{units_at}
 use Rattle.work_queue.specs.declared.queues.WorkQueue.TheInside.{Inside}
 use Rattle.work_queue.specs.declared.entries.Entry.{Entry}
 use Rattle.work_queue.proofs.Indexed.{stamps_below}
-use Rattle.work_queue.proofs.Names.{name_fresh}
 use Rattle.work_queue.proofs.Added.{Comes, sound_come, view_come}
 use Rattle.work_queue.proofs.Grown.{apart_left, once_left}
 use Rattle.work_queue.proofs.Promises.{none_left, room_apart, room_told}
@@ -37,7 +36,6 @@ comes c =
       in_order = c.add-2.ensures.order;
       stamps = c.add-2.ensures.stamps ∙ ap (λ (e : Entry). c.self.inside.index.stamps.items ++ e.stamp ∷ []) c.entry_for.ensures;
       names = c.add.ensures.names;
-      by_id = c.add.ensures.order;
       arrivals = refl;
       slots_room = omega arith;
       order_room = omega arith;
@@ -57,10 +55,3 @@ returns c =
 
 pub add-requires-2-clause-last : goal.add-requires-2-clause-last
 add-requires-2-clause-last c = rw c.entry_for.ensures (stamps_below _ c.self.inside.arrivals c.self.inside.index c.self.invariant.indexed)
-
-pub add-requires-clause-fresh : goal.add-requires-clause-fresh
-add-requires-clause-fresh c =
-    let w = c.self.inside in
-    let Promised : Queue → Type 0 = λ q. HasRoom c.args.unit.id (length c.args.unit.body) q.promises in
-    let room : HasRoom c.args.unit.id (length c.args.unit.body) w.rooms = subst Promised (sym c.self.view_is) c.requires.promised in
-    name_fresh (units_at w.slots w.order.items) w.index.stamps.items w.names.kept.items c.self.invariant.named c.self.invariant.indexed.long c.args.unit.id (room_apart (units_at w.slots w.order.items) w.rooms c.args.unit.id (length c.args.unit.body) c.self.invariant.apart room)

@@ -4,6 +4,7 @@ use Rattle.std.proofs.lemmas.List.{length-append}
 use Rattle.std.proofs.lemmas.List.Sums.{sum_by_push}
 use Rattle.slab.specs.Slab.{HasRoomFor, slab_len}
 use Rattle.work_queue.specs.Queue.{HasNoPromise, HasNoUnit, Promise, Queue, promised}
+use Rattle.work_queue.specs.Inside.Names.{spare_in}
 use Rattle.work_queue.specs.Inside.Units.{units_at}
 use Rattle.work_queue.proofs.Grown.{apart_more, once_more, sound_grown, sound_rooms}
 use Rattle.work_queue.proofs.queues.WorkQueue.promise.Goals as goal
@@ -20,7 +21,7 @@ invariant_of-self-2 c =
     let keys : length c.make_room-grown.new.order.items + (c.len-more.result + 1) ≤ c.make_room-grown.new.order.capacity = search rules in
     let entries : deque_len c.make_room-grown.new.index.entries + (c.len-more.result + 1) ≤ deque_capacity c.make_room-grown.new.index.entries = search rules in
     let stamps : length c.make_room-grown.new.index.stamps.items + (c.len-more.result + 1) ≤ c.make_room-grown.new.index.stamps.capacity = search rules in
-    let names : deque_len c.make_room-grown.new.names.kept + (c.len-more.result + 1) ≤ deque_capacity c.make_room-grown.new.names.kept = search rules in
+    let names : c.len-more.result + 1 ≤ spare_in c.make_room-grown.new.names = search rules in
     sound_rooms w _ c.self.invariant
     (record { slots = c.make_room-grown.ensures.slots; items = c.make_room-grown.ensures.items; entries = c.make_room-grown.ensures.entries; stamps = c.make_room-grown.ensures.stamps; names = c.make_room-grown.ensures.names; arrivals = refl; slots_room = omega arith; order_room = omega arith; entries_room = omega arith; stamps_room = omega arith; names_room = omega arith })
     (rw added (once_more w.rooms c.args.id c.args.n c.self.invariant.once (subst Unpromised (sym c.self.view_is) c.requires.unpromised)))

@@ -1,6 +1,6 @@
 use Rattle.std.proofs.Common.{◌≡◌, ◌-◌, All, ap, arith, ◌∙◌, length, refl, subst, sym}
 use Rattle.work_queue.proofs.Found.{found_at, only_found, place_in_order, placed}
-use Rattle.work_queue.proofs.Standing.{ForgetsUnit, LosesName, entry_if_free, name_found, name_is, stamp_within, tells_entry}
+use Rattle.work_queue.proofs.Standing.{ForgetsUnit, LosesName, entry_if_free, stamp_within, tells_entry}
 use Rattle.work_queue.proofs.Taken.{size_within, sound_taken, view_taken}
 use Rattle.std.proofs.lemmas.Bool.{false≢true}
 use Rattle.adlb_unit.specs.declared.names.UnitId.{UnitId}
@@ -42,14 +42,7 @@ invariant_of-self c =
       stamps_fewer = c.forget.ensures.stamps_len;
       stamps_same = c.forget.ensures.stamps_same;
     } in
-    let name = name_is c.self.inside _ _ h.0 c.args.id c.self.invariant h.1 _ c.at-stamp.ensures in
-    let loses : LosesName c.self.inside c.place_of-place.result h.0 c.remove-2.new.self = record {
-      left = rw name at c.remove-2.ensures.names;
-      gone = rw name at c.remove-2.ensures.gone;
-      by_id = c.remove-2.ensures.order;
-      fewer = c.remove-2.ensures.len;
-      same = c.remove-2.ensures.same;
-    } in
+    let loses : LosesName c.self.inside c.args.id c.remove-2.new.self = record { less = c.remove-2.ensures.names; room = c.remove-2.ensures.room } in
     sound_taken c.self.inside _ _ _ h.0 c.args.id c.self.invariant h.1 c.take_at-unit.ensures.taken _ refl c.in-Some.ensures.items (ap (λ n. c.self.inside.charge - n) e) refl refl refl
     c.take_at-unit.ensures.len c.take_at-unit.ensures.capacity c.in-Some.ensures.len c.remove.ensures.capacity refl forgets loses
 
@@ -82,11 +75,6 @@ forget-requires-clause-there c =
     let h = found_at c.self.inside c.args.id c.place_of-place.result c.in-Some.key c.self.invariant (there c.self.inside c.args.self.now c.args.id c.self.view_is c.requires) (placed c.self.inside c.args.id c.place_of-place.result c.self.invariant c.place_of-place.ensures) c.in-Some.ensures.value in
     let tells = tells_entry c.self.inside _ _ h.0 c.args.id c.self.invariant h.1 _ _ c.at-stamp.ensures (c.free_entry-entry.ensures.free h.0 h.1.found) (λ rank. c.free_entry-entry.ensures.pinned h.0 rank h.1.found) in
     entry_if_free c.self.inside _ _ h.0 c.args.id c.self.invariant h.1 _ tells
-
-pub remove-requires-2-clause-there : goal.remove-requires-2-clause-there
-remove-requires-2-clause-there c =
-    let h = found_at c.self.inside c.args.id c.place_of-place.result c.in-Some.key c.self.invariant (there c.self.inside c.args.self.now c.args.id c.self.view_is c.requires) (placed c.self.inside c.args.id c.place_of-place.result c.self.invariant c.place_of-place.ensures) c.in-Some.ensures.value in
-    rw (name_is c.self.inside _ _ h.0 c.args.id c.self.invariant h.1 _ c.at-stamp.ensures) (name_found c.self.inside _ _ h.0 c.args.id c.self.invariant h.1)
 
 pub take_at-unit-requires : goal.take_at-unit-requires
 take_at-unit-requires c =
