@@ -1,0 +1,5 @@
+//! Tests of cities and tours.
+#![tactic(auto)]
+
+#[cfg(test)]
+mod reading;
