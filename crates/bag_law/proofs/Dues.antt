@@ -84,5 +84,6 @@ counts_any test (y ∷ ys) e = by_test (counts_any test ys) (test y) refl
 pub none_due : (b : Bag) → has_due b ≡ false → dues b.parts ≡ 0
 none_due b e = any_counts is_due b.parts e
 
+-- where no part counts as due, there is no due part
 pub not_due : (b : Bag) → dues b.parts ≡ 0 → has_due b ≡ false
 not_due b e = counts_any is_due b.parts e

@@ -123,6 +123,7 @@ new_shared ranks us ps (Some c) is = new_changed ranks us ps c.batch (λ p. reco
 pub pair_same : (a x n m : ℕ) → a ≡ x → one ((a == x) && (n == m)) ≡ one (n == m)
 pair_same a x n m same = rw (same, same_number x) refl
 
+-- two numbers that differ in the first do not count as equal
 pub pair_differs : (a x n m : ℕ) → (a ≡ x → ⊥) → one ((a == x) && (n == m)) ≡ 0
 pair_differs a x n m differs = rw (false_from_ne_true (a == x) (λ e. differs (eqb-true a x e))) refl
 

@@ -77,10 +77,12 @@ pub offer_bare : (s : Status) (x : ℕ × ℕ) → offer s ≡ Some x → is_fet
 offer_bare (does.Fetching call id own) x e = absurd (cc)
 offer_bare _ x e = refl
 
+-- a call that is open to servers is no fetch
 pub open_bare : (s : Status) (x : ℕ) → open_call s ≡ Some x → is_fetch s ≡ false
 open_bare (does.Fetching call id own) x e = absurd (cc)
 open_bare _ x e = refl
 
+-- a rank that wants something fetches nothing
 pub wish_bare : (s : Status) (x : ℕ × Option (List WorkType)) → wish s ≡ Some x → is_fetch s ≡ false
 wish_bare (does.Fetching call id own) x e = absurd (cc)
 wish_bare _ x e = refl

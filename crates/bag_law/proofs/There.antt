@@ -17,6 +17,7 @@ use Rattle.bag_law.specs.Counts.{part_in}
 use Rattle.bag_law.proofs.Plain.{kept_is}
 use Rattle.bag_law.proofs.Turn.{PartWas, part_was}
 
+-- each part is at a server of the run
 abbrev pub AreThere : Bag → Type 0
 AreThere b = PartsAreThere b.parts b.servers
 

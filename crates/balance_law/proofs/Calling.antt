@@ -38,6 +38,7 @@ use Rattle.balance_law.proofs.Seen.{IsAway, of_none, of_mine, first_said}
 use Rattle.balance_law.proofs.Shifts.{is_loose, lies, standing, pinned_stays, spent_stays}
 use Rattle.balance_law.proofs.Tallies.{Hand, Holds, IsAnswering, IsHeld, IsTally, IsNotEnd, call_adds, close_adds, coming_held, ended_well, finish_adds, hand_after, next_done, next_fetch, next_finish, tally_coming, tally_none}
 
+-- the rank has finished
 abbrev pub is_finished : Status → Bool
 is_finished does.Finished = true
 is_finished status = false
@@ -68,6 +69,7 @@ pub record IsTold (b : Bag) (r : RankState) (h : Hand) (said : List Said) : Type
   pub owes : h.owed ≡ []
   pub leaves : Leaves r h.batch said
 
+-- where an orderly rank stands: it was told no end yet, or it was
 abbrev pub IsCalling : ℕ → Bag → Rank → RankState → Hand → List Said → Type 0
 IsCalling n b rank r h said = IsUntold n b rank r h said ⊎ IsTold b r h said
 
@@ -93,12 +95,14 @@ pub record IsKept (n : ℕ) (b last : Bag) (e : Entry) (es : List Entry) (rank :
 
 -- Words of the order.
 
+-- the next call of an orderly rank, and how it goes on after the answer
 pub orderly_next : (n : ℕ) (held : Option UnitNote) (batch : Option (List ℕ)) (s : Said) (said : List Said)
     → IsOrderly n held batch (s ∷ said)
     → IsNext n held batch s.call × Goes s.answer batch said (IsOrderly n (granted_note s.answer) (batch_after batch s.call s.answer) said)
 unfolding IsOrderly
 orderly_next n held batch s said is = is
 
+-- an orderly rank's calls do not end before Finish
 pub orderly_none : (n : ℕ) (held : Option UnitNote) (batch : Option (List ℕ)) → IsOrderly n held batch [] → ⊥
 unfolding IsOrderly
 orderly_none n held batch is = is
@@ -129,6 +133,7 @@ never_finish (does.Fetching call id own) is = absurd (cc)
 never_finish (does.Counting call kind) is = absurd (cc)
 never_finish _ is = absurd (cc)
 
+-- the call of a rank that asks is a reserve
 pub asking_call : (status : Status) (call : Call) → is_asking status ≡ true → call_of status ≡ Some call
     → (types : Option (List WorkType)) × (call ≡ calls_to.Reserve types)
 asking_call (does.Asking k types) call asks is = (types, sym (some_is is))
@@ -183,6 +188,7 @@ idle_kept n b last e es rank now h silent idle calling batch =
     silent_kept n b last e es rank now h (of_none rank (says b e) silent) (of_none rank (accepted b e) idle.0)
     (of_none rank (granted b e) idle.1) (of_none rank (fetched b e) idle.2) calling batch
 
+-- an entry that passes a rank by leaves where it stands
 pub away_kept : (n : ℕ) (b last : Bag) (e : Entry) (es : List Entry) (rank : Rank) (r : RankState) (h : Hand) → IsEntered n b last e es
     → IsAway b e rank → h.batch ≡ bytes_in last r.batch → IsCalling n b rank r h (along says b (e ∷ es) rank)
     → IsKept n b last e es rank r h
@@ -403,6 +409,7 @@ done_is_other (Some common) said is =
     let call : calls_to.SetDone ≡ calls_to.EndBatch = ap (λ (s : Said). s.call) one in
     absurd (cc)
 
+-- a rank that leaves does not call the problem done
 pub leaves_never_done : (r : RankState) (batch : Option (List ℕ)) (said : List Said) → r.status ≡ does.Running
     → Leaves r batch (record { call = calls_to.SetDone; answer = answers.Fine } ∷ said) → ⊥
 leaves_never_done r batch said running (runs at rest) = done_is_other batch said rest
@@ -533,6 +540,7 @@ told_turn n b last e es rank was now h entered here batch t (finishes heard idle
       tally = rw mine (finish_adds last b e rank h t.nothing t.owes idle);
     }
 
+-- an entry that is a rank's turn leads to where it stands next
 pub turn_kept : (n : ℕ) (b last : Bag) (e : Entry) (es : List Entry) (rank : Rank) (was now : RankState) (h : Hand)
     → IsEntered n b last e es → Is b rank was → Is (after b e) rank now → h.batch ≡ bytes_in last was.batch
     → IsCalling n b rank was h (along says b (e ∷ es) rank) → Deed b e rank was now → IsKept n b last e es rank now h

@@ -22,14 +22,17 @@ use Rattle.balance_law.proofs.Whole.{empty, gone, left_balance, start_going, sta
 
 -- What is held, and what batch goes on, after calls.
 
+-- the note that is held after these calls
 unfoldable pub held_after : Option UnitNote → List Said → Option UnitNote
 held_after held [] = held
 held_after held (s ∷ said) = held_after (granted_note s.answer) said
 
+-- the batch that goes on after these calls
 unfoldable pub batch_behind : Option (List ℕ) → List Said → Option (List ℕ)
 batch_behind batch [] = batch
 batch_behind batch (s ∷ said) = batch_behind (batch_after batch s.call s.answer) said
 
+-- what is got in two parts of the calls
 pub got-append : (held : Option UnitNote) (xs ys : List Said) → got held (xs ++ ys) ≡ got held xs ++ got (held_after held xs) ys
 unfolding got held_after
 got-append held [] ys = refl
@@ -37,6 +40,7 @@ got-append held (s ∷ xs) ys =
     ap (λ l. parcel_got held s.call s.answer ++ l) (got-append (granted_note s.answer) xs ys)
     ∙ sym (append_assoc (parcel_got held s.call s.answer) (got (granted_note s.answer) xs) (got (held_after (granted_note s.answer) xs) ys))
 
+-- what is sent in two parts of the calls
 pub sent-append : (batch : Option (List ℕ)) (xs ys : List Said) → sent batch (xs ++ ys) ≡ sent batch xs ++ sent (batch_behind batch xs) ys
 unfolding sent batch_behind
 sent-append batch [] ys = refl

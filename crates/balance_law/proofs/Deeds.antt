@@ -42,10 +42,12 @@ abbrev pub accepted : Bag → Entry → Option (Rank × Unit)
 accepted b (Accepted server id) = option_and_then (λ r. put_by id.rank r.status) (rank_at b id.rank)
 accepted b _ = None
 
+-- whom the entry grants a unit, and which
 abbrev pub granted : Bag → Entry → Option (Rank × Unit)
 granted b (Granted server rank call id) = option_map (λ u. (rank, u.unit)) (unit_of b id)
 granted b _ = None
 
+-- whom the entry gives a unit's own bytes, and which unit
 abbrev pub fetched : Bag → Entry → Option (Rank × Unit)
 fetched b (Fetched server rank id) = option_map (λ u. (rank, u.unit)) (unit_of b id)
 fetched b _ = None
@@ -58,10 +60,12 @@ IsOf {X} rank o = (o ≡ None) ⊎ ((x : X) × (o ≡ Some (rank, x)))
 abbrev pub IsIdle : Bag → Entry → Type 0
 IsIdle b e = (accepted b e ≡ None) × (granted b e ≡ None) × (fetched b e ≡ None)
 
+-- the call is a fetch
 abbrev pub is_fetch : Call → Bool
 is_fetch (calls_to.Fetch id) = true
 is_fetch call = false
 
+-- the answer is not that the call is done
 abbrev pub IsNotFine : Answer → Type 0
 IsNotFine answers.Fine = ⊥
 IsNotFine answer = Prim.Unit {0}
@@ -130,6 +134,7 @@ Comes b e rank status call answers.Fine =
     (accepted b e ≡ put_by rank status) × (granted b e ≡ None) × (fetched b e ≡ None) × (is_fetch call ≡ false) × (is_asking status ≡ false)
 Comes b e rank status call answer = IsIdle b e × (is_fetch call ≡ false) × (is_asking status ≡ false)
 
+-- the end that a rank was told, after this answer
 abbrev pub end_after : Answer → Option End → Option End
 end_after (answers.Ended end) before = Some end
 end_after answer before = before

@@ -109,6 +109,7 @@ none_owed b batch gone =
     by_status : (status : Status) → status ≡ does.Finished → owing batch b.units status ≡ 0
     by_status status done = rw done refl
 
+-- where no part is due, all units are spent and all ranks have finished, each part is closed and freed
 pub all_freed : (b : Bag) → IsSoundBag b → dues b.parts ≡ 0 → All (λ u. u.place ≡ Spent) b.units
     → ((rank : Rank) (r : RankState) → Is b rank r → IsGoneRank r) → All (λ p. (p.closed ≡ true) × (p.freed ≡ true)) b.parts
 all_freed b sound none spent gone =

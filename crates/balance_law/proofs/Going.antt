@@ -56,6 +56,7 @@ pub record IsGoing (n : ℕ) (b last : Bag) (es : List Entry) (hands : Rank → 
   pub sound : IsSoundBag b
   pub long : length b.ranks ≡ n
 
+-- what each rank has in hand after the entry
 abbrev pub hands_after : Bag → Entry → (Rank → Hand) → Rank → Hand
 hands_after b e hands rank = hand_then b e rank (hands rank)
 
@@ -66,6 +67,7 @@ pub record IsStepped (n : ℕ) (b last : Bag) (e : Entry) (es : List Entry) (han
       → IsTally last (hands rank) (of_rank rank (says b e)) (of_rank rank (accepted b e)) (of_rank rank (granted b e))
       (of_rank rank (fetched b e))
 
+-- a list has an element at each of its places
 pub there_is : {X : Type 0} (xs : List X) (place : ℕ) → place < length xs → (x : X) × (slice_get xs place ≡ Some x)
 there_is [] place below = absurd (omega arith)
 there_is (x ∷ xs) zero below = (x, refl)
@@ -342,6 +344,7 @@ found_next n b last es hands some path going = record {
         let next = pending_next n b last (Exhausted ∷ es) rank r (hands rank) (calls_to.Reserve a.1) path there pends u.orderly in
         asks_any b.units rank r.status a.0 a.1 a.2 (any_type (hands rank).held (hands rank).batch a.1 next) (means.4 rank r there)
 
+-- a run of orderly ranks goes on by one entry
 pub going_next : (n : ℕ) (b last : Bag) (e : Entry) (es : List Entry) (hands : Rank → Hand) → 0 < n → IsPath b (e ∷ es) last
     → IsGoing n b last (e ∷ es) hands → IsStepped n b last e es hands
 going_next n b last Exhausted es hands some path going = found_next n b last es hands some path going

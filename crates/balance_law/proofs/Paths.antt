@@ -56,6 +56,7 @@ abbrev pub IsWithin : {X : Type 0} → ℕ → Option (Rank × X) → Type 0
 IsWithin n None = Prim.Unit {0}
 IsWithin n (Some (by, x)) = by.0 < n
 
+-- a sum over ranks is that of equal terms
 pub over_same : (n : ℕ) (f g : Rank → ℕ) → ((rank : Rank) → rank.0 < n → f rank ≡ g rank) → over_ranks n f ≡ over_ranks n g
 over_same zero f g same = refl
 over_same (suc n) f g same =
@@ -63,10 +64,12 @@ over_same (suc n) f g same =
     let e = same (record { 0 = n }) (omega arith) in
     omega (arith, h, e)
 
+-- a sum over ranks of sums
 pub over_plus : (n : ℕ) (f g : Rank → ℕ) → over_ranks n (λ rank. f rank + g rank) ≡ over_ranks n f + over_ranks n g
 over_plus zero f g = omega arith
 over_plus (suc n) f g = let h = over_plus n f g in omega (arith, h)
 
+-- a sum over ranks of zeros
 pub over_zero : (n : ℕ) → over_ranks n (λ rank. 0) ≡ 0
 over_zero zero = refl
 over_zero (suc n) = let h = over_zero n in omega (arith, h)
@@ -96,6 +99,7 @@ over_some f (suc n) by x l = by_test (by.0 == n) refl (λ lower. over_some f n b
         let h = rest (omega (arith, l, d)) in
         rw is (omega (arith, h))
 
+-- a sum over ranks of what one entry says of one rank
 pub over_one : {X : Type 0} (f : X → ℕ) (n : ℕ) (o : Option (Rank × X)) → IsWithin n o
     → over_ranks n (λ rank. sum_by f (of_rank rank o)) ≡ weight f o
 over_one f n None within = over_zero n

@@ -159,6 +159,7 @@ length_changed f place [] = refl
 length_changed f zero (x ∷ xs) = refl
 length_changed f (suc place) (x ∷ xs) = ap suc (length_changed f place xs)
 
+-- an entry leaves how many ranks there are
 pub ranks_stay : (b : Bag) (e : Entry) → Legal b e → length (after b e).ranks ≡ length b.ranks
 ranks_stay b e l = by_case (acted b e l)
   where
@@ -170,11 +171,13 @@ of_within : {X : Type 0} (n : ℕ) (rank : Rank) (o : Option (Rank × X)) → ra
 of_within n rank o below (inl none) = rw none tt
 of_within n rank o below (inr some) = rw some.1 below
 
+-- a place where something is found is one of the list
 pub place_within : {X : Type 0} (xs : List X) (place : ℕ) (x : X) → slice_get xs place ≡ Some x → place < length xs
 place_within [] place x is = absurd (cc)
 place_within (y ∷ ys) zero x is = omega arith
 place_within (y ∷ ys) (suc place) x is = let h = place_within ys place x is in omega arith
 
+-- whom an entry accepts, grants and gives is in the run
 pub all_within : (b : Bag) (e : Entry) (n : ℕ) → length b.ranks ≡ n → Legal b e
     → IsWithin n (accepted b e) × IsWithin n (granted b e) × IsWithin n (fetched b e)
 all_within b e n long l = by_case (acted b e l)

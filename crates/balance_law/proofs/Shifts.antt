@@ -31,10 +31,12 @@ is_loose (Free server) = true
 is_loose (Travelling to) = true
 is_loose place = false
 
+-- the unit is pinned
 abbrev pub is_pinned : UnitPlace → Bool
 is_pinned (Pinned server rank) = true
 is_pinned place = false
 
+-- the unit is not spent
 abbrev pub is_left : UnitPlace → Bool
 is_left Spent = false
 is_left place = true
@@ -43,6 +45,7 @@ is_left place = true
 abbrev pub lies : (UnitPlace → Bool) → (Unit → ℕ) → Placed → ℕ
 lies at f u = if at u.place then f u.unit else 0
 
+-- what the units of such places weigh
 abbrev pub standing : (UnitPlace → Bool) → (Unit → ℕ) → Bag → ℕ
 standing at f b = sum_by (lies at f) b.units
 
@@ -69,6 +72,7 @@ shared_units : (common : Option CommonRef) (b : Bag) → (shared common b).units
 shared_units None b = refl
 shared_units (Some common) b = refl
 
+-- what an entry does to the units is one of the shifts
 pub shift_of : (b : Bag) (e : Entry) → Legal b e → Shift b e
 shift_of b (Accepted server id) l =
     let put = unit_put (λ r. putting r.status) (rank_at b id.rank) l.0 l.1 l.2 (rw l.3 refl) in
@@ -151,14 +155,17 @@ loose_law f b e (leaves id u server to m idle) =
 loose_law f b e (arrives id u server m idle) =
     rw (idle.0, idle.1) (omega (arith, standing_moved is_loose f b e id u (Travelling server) (Free server) m))
 
+-- units that are left: accepted ones come, and fetched ones go
 pub left_stands : (f : Unit → ℕ) (b : Bag) (e : Entry) → Legal b e
     → standing is_left f (after b e) + weight f (fetched b e) ≡ standing is_left f b + weight f (accepted b e)
 left_stands f b e l = left_law f b e (shift_of b e l)
 
+-- units that are pinned: granted ones come, and fetched ones go
 pub pinned_stands : (f : Unit → ℕ) (b : Bag) (e : Entry) → Legal b e
     → standing is_pinned f (after b e) + weight f (fetched b e) ≡ standing is_pinned f b + weight f (granted b e)
 pinned_stands f b e l = pinned_law f b e (shift_of b e l)
 
+-- units that are free or travel: accepted ones come, and granted ones go
 pub loose_stands : (f : Unit → ℕ) (b : Bag) (e : Entry) → Legal b e
     → standing is_loose f (after b e) + weight f (granted b e) ≡ standing is_loose f b + weight f (accepted b e)
 loose_stands f b e l = loose_law f b e (shift_of b e l)
@@ -199,6 +206,7 @@ pinned_kept b e x v at to (leaves id u server goes m idle) found is =
 pinned_kept b e x v at to (arrives id u server m idle) found is =
     inl (other_stays b e id x u v (Travelling server) (Free server) (Pinned at to) m found is (λ same. absurd (cc)))
 
+-- a pinned unit stays so until it is fetched
 pub pinned_stays : (b : Bag) (e : Entry) (x : UnitId) (v : Placed) (at : Server) (to : Rank) → Legal b e → unit_of b x ≡ Some v
     → v.place ≡ Pinned at to → (unit_of (after b e) x ≡ Some v) ⊎ ((p : Unit) × (fetched b e ≡ Some (to, p)))
 pinned_stays b e x v at to l found is = pinned_kept b e x v at to (shift_of b e l) found is
@@ -218,6 +226,7 @@ spent_kept b e x v (leaves id u server to m idle) found is =
 spent_kept b e x v (arrives id u server m idle) found is =
     other_stays b e id x u v (Travelling server) (Free server) Spent m found is (λ same. absurd (cc))
 
+-- a spent unit stays so
 pub spent_stays : (b : Bag) (e : Entry) (x : UnitId) (v : Placed) → Legal b e → unit_of b x ≡ Some v → v.place ≡ Spent
     → unit_of (after b e) x ≡ Some v
 spent_stays b e x v l found is = spent_kept b e x v (shift_of b e l) found is

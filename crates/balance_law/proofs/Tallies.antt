@@ -63,6 +63,7 @@ pub record IsTally (last : Bag) (h : Hand) (said : List Said) (taken pinned give
   pub even : length given + pins (hand_after h said given).held (hand_after h said given).owed ≡ pins h.held h.owed + length pinned
   pub ended : All (λ s. IsEndedWell s.call s.answer) said
 
+-- a rank without calls has sent and got nothing
 pub tally_none : (last : Bag) (h : Hand) → IsTally last h [] [] [] []
 tally_none last h = record { sends = λ rest. refl; gets = λ rest later is. is; even = omega arith; ended = All-nil _ }
 
@@ -106,6 +107,7 @@ abbrev IsNotBody : Answer → Type 0
 IsNotBody (answers.Body body) = ⊥
 IsNotBody answer = Prim.Unit {0}
 
+-- the answer tells no end
 abbrev pub IsNotEnd : Answer → Type 0
 IsNotEnd (answers.Ended end) = ⊥
 IsNotEnd answer = Prim.Unit {0}
@@ -124,6 +126,7 @@ gets_nothing : (last : Bag) (h : Hand) (call : Call) (answer : Answer) → IsNot
 gets_nothing last h call answer body none =
     gets_none h.held call answer body ∙ ap (λ (us : List Unit). map (parcel_of last) (us ++ [])) (sym none)
 
+-- a call whose answer tells no end has ended well
 pub ended_well : (call : Call) (answer : Answer) → IsNotEnd answer → IsEndedWell call answer
 ended_well (calls_to.Reserve types) (answers.Ended end) not = absurd not
 ended_well call (answers.Ended end) not = absurd not
@@ -154,10 +157,12 @@ fine_sends last rank batch _ call is shares = absurd (cc)
 
 -- What the order of calls says of the next.
 
+-- an orderly rank never calls the problem done
 pub next_done : (n : ℕ) (held : Option UnitNote) (batch : Option (List ℕ)) → IsNext n held batch calls_to.SetDone → ⊥
 next_done n None batch next = next
 next_done n (Some note) batch next = next
 
+-- an orderly rank does not finish before it was told an end
 pub next_finish : (n : ℕ) (held : Option UnitNote) (batch : Option (List ℕ)) → IsNext n held batch calls_to.Finish → ⊥
 next_finish n None batch next = next
 next_finish n (Some note) batch next = next
@@ -166,6 +171,7 @@ next_held : (n : ℕ) (note : UnitNote) (batch : Option (List ℕ)) (call : Call
 next_held n note batch (calls_to.Fetch id) next is = absurd (cc)
 next_held n note batch _ next is = next
 
+-- an orderly rank fetches the unit of the note that it holds
 pub next_fetch : (n : ℕ) (held : Option UnitNote) (batch : Option (List ℕ)) (id : UnitId) → IsNext n held batch (calls_to.Fetch id)
     → (note : UnitNote) × (held ≡ Some note) × (id ≡ note.id)
 next_fetch n None batch id next = absurd next
@@ -180,6 +186,7 @@ pub record IsHeld (b : Bag) (rank : Rank) (note : UnitNote) (owed : List Unit) :
   pub told : note_of note.server placed.unit ≡ note
   pub stands : ((placed.place ≡ Pinned note.server rank) × (owed ≡ [])) ⊎ ((placed.place ≡ Spent) × (owed ≡ placed.unit ∷ []))
 
+-- the note that a rank holds, and the units whose common bytes it is owed, are those of the bag
 abbrev pub Holds : Bag → Rank → Option UnitNote → List Unit → Type 0
 Holds b rank None owed = owed ≡ []
 Holds b rank (Some note) owed = IsHeld b rank note owed
@@ -310,6 +317,7 @@ gift_adds last b e rank r h note call body a holds held g same =
         adds [] (of_none rank (fetched b e) gives) (read_all last note.server g.placed.unit body c p shared long (a.stay c p found) bytes)
         (rw is refl) (rw is refl)
 
+-- one answered call adds to what a rank sent and got what it sends and gets
 pub call_adds : (n : ℕ) (last b : Bag) (e : Entry) (rank : Rank) (r : RankState) (h : Hand) (call : Call) (answer : Answer)
     → IsAnswering b last rank r h call → Holds b rank h.held h.owed → IsNext n h.held h.batch call → Comes b e rank r.status call answer
     → IsEndedWell call answer → IsAdded last b e rank h (record { call = call; answer = answer })

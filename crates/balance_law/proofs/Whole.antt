@@ -36,6 +36,7 @@ use Rattle.balance_law.proofs.Going.{IsGoing, hands_after, going_next, there_is}
 
 -- What each rank sent and got along the path.
 
+-- what a rank sent and got along the rest of a run
 pub record IsCounted (b last : Bag) (es : List Entry) (rank : Rank) (h : Hand) : Type 0 where
   pub sends : sent h.batch (along says b es rank) ≡ map (parcel_of last) (along accepted b es rank)
   pub gets : got h.held (along says b es rank) ≡ map (parcel_of last) (h.owed ++ along fetched b es rank)
@@ -109,6 +110,7 @@ none_more b last rank r h out = record {
   ended = All-nil (λ (s : Said). IsEndedWell s.call s.answer);
 }
 
+-- where the run of orderly ranks ends, each has finished
 pub gone : (n : ℕ) (b last : Bag) (es : List Entry) (hands : Rank → Hand) → 0 < n → IsPath b es last → IsGoing n b last es hands
     → IsGone n b last es hands
 gone n b last [] hands some path going = record {
@@ -129,6 +131,7 @@ gone n b last (e ∷ es) hands some path going =
 
 -- The balances, along the path.
 
+-- over a run, what is left and what was fetched weigh what was left and what was accepted
 pub left_balance : (f : Unit → ℕ) (n : ℕ) (b last : Bag) (es : List Entry) → length b.ranks ≡ n → IsPath b es last
     → standing is_left f last + over_ranks n (λ rank. sum_by f (along fetched b es rank))
     ≡ standing is_left f b + over_ranks n (λ rank. sum_by f (along accepted b es rank))
@@ -141,6 +144,7 @@ left_balance f n b last (e ∷ es) long path =
     let accepts = over_along f n accepted b e es within.0 in
     omega (arith, rest, law, gives, accepts)
 
+-- over a run, what is pinned and what was fetched weigh what was pinned and what was granted
 pub pinned_balance : (f : Unit → ℕ) (n : ℕ) (b last : Bag) (es : List Entry) → length b.ranks ≡ n → IsPath b es last
     → standing is_pinned f last + over_ranks n (λ rank. sum_by f (along fetched b es rank))
     ≡ standing is_pinned f b + over_ranks n (λ rank. sum_by f (along granted b es rank))
@@ -204,6 +208,7 @@ none_loose n last hands some going =
 
 -- At the start.
 
+-- at the start there are as many ranks as the configuration has
 pub start_long : (config : Config) → length (start config).ranks ≡ config.ranks
 start_long config = length-replicate config.ranks fresh
 
@@ -217,6 +222,7 @@ below_start config rank r there =
 abbrev pub empty : Hand
 empty = record { held = None; batch = None; owed = [] }
 
+-- a run of orderly ranks goes on from the start
 pub start_going : (config : Config) (last : Bag) (ledger : List Entry) → IsRun (start config) ledger last → AreOrderly config ledger
     → IsGoing config.ranks (start config) last ledger (λ rank. empty)
 start_going config last ledger run orderly = record {

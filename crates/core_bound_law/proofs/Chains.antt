@@ -27,6 +27,7 @@ use Rattle.core_bound_law.specs.Costs.{IsDue, cost}
 
 -- Acts one after the other.
 
+-- each act is due at the server as it is by then
 abbrev pub AreDue : List Act → ServerModel → Type 0
 AreDue [] s = Unit {0}
 AreDue (a ∷ more) s = IsDue a s × AreDue more (done a s)
@@ -58,6 +59,7 @@ cost_joined m n xs ys s a b = record {
 
 -- Deciders that cost nothing.
 
+-- the decider gives acts that cost nothing
 abbrev pub IsFree : Decider → Type 0
 IsFree d = (s : ServerModel) → Costs 0 (d s) s
 

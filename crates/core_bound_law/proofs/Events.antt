@@ -102,6 +102,7 @@ ticked_credit s stamp false = omega arith
 
 -- An event.
 
+-- an event of a server takes at least 1 of the credit
 pub event_credit : (w next : World) (from : Actor) (me : Server) (letter : Letter) (rest : List Letter) (x : Served) → IsWell w
     → KeepSingle w
     → Serves w from me letter rest x next → credit next + 1 ≤ credit w

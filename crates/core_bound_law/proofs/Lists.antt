@@ -38,6 +38,7 @@ others_told s m = told_each s.me m (others s.config s.me) ∙ ap (λ n. n * lett
 
 -- A server more in a list of servers to ask.
 
+-- 50 for each other server are 350 at most
 pub few_others : (s : ServerModel) → weigh (λ (t : Server). 50) (others s.config s.me) ≤ 350
 few_others s =
     let n = same_each 50 (others s.config s.me) in

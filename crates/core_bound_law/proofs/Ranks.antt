@@ -205,6 +205,7 @@ module _ (s : ClientModel) (me : Actor) where
 
 -- A step.
 
+-- what the letters of a rank's step have to pay with
 abbrev pub made_cost : Rank → Made → ℕ
 made_cost me x = sends_weight letters_credit (by.Rank me) x.sends + pending_credit x.state.pending
 

@@ -111,6 +111,7 @@ absent id (p ∷ units) none =
 
 -- Plans.
 
+-- the first act of the plan leaves enough for those that follow
 pub record IsPaid (s : ServerModel) (p : Plan) : Type 0 where
   pub all : Costs (allowance p.first) (decided (p.follow ++ ends_event) (done p.first s)) (done p.first s)
 

@@ -94,6 +94,7 @@ wishes_single _ wishes once rank = once rank
 
 -- A step.
 
+-- the server keeps one wish at most of each rank
 abbrev pub IsSingle : ServerModel → Type 0
 IsSingle s = AreSingle s.kept.parked.wishes
 

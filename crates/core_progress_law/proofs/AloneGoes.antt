@@ -96,6 +96,7 @@ both_none (a ∷ more) all none = let bad : true ≡ false = sym all.0 ∙ none.
 
 -- With one server.
 
+-- at a server that is alone each rank that waits is idle
 pub all_idle : (config : Config) (me : Server) (s : ServerModel) → IsPool config me s → config.servers ≡ 1 → me.0 < config.servers
     → (e : Waiting) → Has s.kept.parked.waiting e → e.asked ≡ None
 all_idle config me s pool alone there e has =
@@ -116,6 +117,7 @@ rank_raises s from _ p is = refl
 
 -- An event: whatever was before, the run goes on.
 
+-- an event of a server that is alone: the run goes on
 pub event_alone : (w next : World) (from : Actor) (me : Server) (letter : Letter) (rest : List Letter) (x : Served) → IsWell w
     → w.config.servers ≡ 1 → IsWell next → NoneOwes next → IsCalm (pool_of next me) → IsFull (pool_of next me)
     → Serves w from me letter rest x next → GoesAlone next

@@ -151,6 +151,7 @@ answer_live w next from me letter rest x well does =
 
 -- no rank is idle where all work was found used up
 
+-- no rank is idle at a server that knows that all work was found used up
 abbrev pub AllFull : World → Type 0
 AllFull w = (t : Server) → t.0 < w.config.servers → IsFull (pool_of w t)
 

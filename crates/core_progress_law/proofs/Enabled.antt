@@ -26,6 +26,7 @@ use Rattle.core_run.specs.declared.events.Event.TheVariants as occurs
 
 -- A rank that is free can begin a call.
 
+-- a rank that is free can begin a reserve
 pub free_begins : (w : World) (r : Rank) → r.0 < w.config.ranks → is_free (client_of w r) ≡ true
     → happens w (occurs.Call r (calls_to.Reserve None)) ≡ None → ⊥
 free_begins w r low free none =

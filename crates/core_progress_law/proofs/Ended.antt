@@ -46,6 +46,7 @@ use Rattle.adlb_unit.specs.declared.actors.Actor.TheVariants as by
 
 -- At server 0 a check that is wanted has begun, where it is quiet.
 
+-- if server 0 is quiet and a check is wanted, one runs, or the server is shut
 abbrev pub IsStarted : ServerModel → Type 0
 IsStarted s = s.me.0 ≡ 0 → is_quiet s ≡ true → s.kept.ring.wanted ≡ true → (s.kept.ring.runs ≡ true) ⊎ (s.kept.shut ≡ true)
 

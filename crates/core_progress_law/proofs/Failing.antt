@@ -49,6 +49,7 @@ use Rattle.adlb_unit.specs.declared.messages.Message.TheVariants as tells
 
 -- What is known of the world.
 
+-- what is known of a world between events
 pub record IsKnown (w : World) : Type 0 where
   pub paid : NoneOwes w
   pub turn : AreOnTurn w

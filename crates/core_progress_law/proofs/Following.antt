@@ -60,6 +60,7 @@ brings_says _ s me is = absurd (cc)
 
 -- Deciders.
 
+-- each act that the decider decides says a letter after which more follows
 abbrev pub Brings : Decider → Type 0
 Brings d = (s : ServerModel) → AllBring (d s)
 
@@ -75,6 +76,7 @@ decided_brings (d ∷ ds) s each =
     let then = all_done (d s) s in
     each_append (λ (a : Act). brings a ≡ true) (d s) (decided ds then) (each.0 s) (decided_brings ds then each.1)
 
+-- telling an end to those that are idle brings the run on
 pub told_bring : (end : End) (before behind : List Waiting) → AllBring (tells_all end before behind)
 told_bring end before [] = tt
 told_bring end before (e ∷ behind) = by_asked e.asked (told_bring end before behind) (told_bring end (before ++ e ∷ []) behind)
@@ -134,6 +136,7 @@ presses_bring true s = by_query (query_of s.config s.me s.kept.pushing s.kept.qu
 
 -- The rules of a rank's letters.
 
+-- what follows the plan's first act brings the run on
 abbrev pub FollowsBring : Option Plan → Type 0
 FollowsBring o = IfSome o (λ (p : Plan). EachBrings p.follow)
 

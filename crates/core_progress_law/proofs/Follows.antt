@@ -26,6 +26,7 @@ use Rattle.adlb_unit.specs.declared.messages.Message.TheVariants as tells
 
 -- Sums.
 
+-- what an act makes of the news
 pub news_next : (w : World) (me : Server) (a : Act) → IsWell w → IsAct w me a
     → measure news (acted w me a) + heard_weight news.letter me (takes a)
     ≡ measure news w + said_weight news.letter me (says a (pool_of w me))
@@ -44,6 +45,7 @@ failures_next w me a well is = links_next failures w me a well.shape is (own_of 
 
 -- Server 0.
 
+-- server 0 is the one of number 0
 pub zero_is : (w : World) (me : Server) (a : Act) → IsWell w → IsAct w me a → (pool_of w me).me.0 ≡ 0 → me ≡ zeroth
 zero_is w me a well is e = ap server_named (ap (λ (k : Server). k.0) (sym (own_of w me a well is).named) ∙ e)
 

@@ -40,6 +40,7 @@ use Rattle.std.specs.Option.{IfSome}
 
 -- Acts that follow.
 
+-- after acts that take no letter the run goes on
 pub all_follow : (w : World) (me : Server) (a : Act) (more : List Act) → IsWell w → IsRinged w → w.config.servers ≢ 1
     → AreSteps w me (a ∷ more) → TakeNone (a ∷ more) → Goes (acted_all w me (a ∷ more))
 all_follow w me a [] well ring several are none = follow_goes w me well ring several a (are.0).act none.0

@@ -46,6 +46,7 @@ split r x (l ∷ ls) = split r (next_split r x l.message) ls
 
 -- More letters.
 
+-- letters are split one after the other
 pub split_append : (r : ℕ) (x : Split) (ls more : List Letter) → split r x (ls ++ more) ≡ split r (split r x ls) more
 split_append r x [] more = refl
 split_append r x (l ∷ ls) more = split_append r (next_split r x l.message) ls more
@@ -82,6 +83,7 @@ plain_for config b (x ∷ sends) plain = by_test (eqb (place_of config x.to) b) 
 
 -- Fewer letters.
 
+-- no more hints before the last answer and after it
 pub record IsLess (x y : Split) : Type 0 where
   pub early : x.early ≤ y.early
   pub late : x.late ≤ y.late
@@ -132,6 +134,7 @@ none_early r x (l ∷ ls) none zero_early =
 
 -- How many there are.
 
+-- a hint of this rank weighs 1
 abbrev pub hint_weight : ℕ → Message → ℕ
 hint_weight r (tells.Hint rank request) = one (rank.0 == r)
 hint_weight r _ = 0
@@ -155,6 +158,7 @@ split_sum r x (l ∷ ls) =
 
 -- Wishes of a rank.
 
+-- taking off one rank's wish leaves those of others
 pub other_wishes : (rank : Rank) (r : ℕ) (wishes : List Wish) → rank.0 ≢ r → wishes_of r (unwished rank wishes) ≡ wishes_of r wishes
 unfolding wishes_of
 other_wishes rank r [] differs = refl

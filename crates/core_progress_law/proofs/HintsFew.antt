@@ -60,6 +60,7 @@ use Rattle.adlb_unit.specs.declared.messages.Message.TheVariants as tells
 -- Between two servers, of each rank with its home at the second: one hint at most before the last answer, and one after it, if the
 -- first keeps no wish of it.
 
+-- two hints of the rank at most, one before the last answer and one after it, if no wish is kept
 pub record IsFew (ls : List Letter) (r : Rank) (kept : ℕ) : Type 0 where
   pub early : (split r.0 none_yet ls).early ≤ 1
   pub late : (split r.0 none_yet ls).late + kept ≤ 1

@@ -89,6 +89,7 @@ or_three : (s t u : Bool) → ((s || t) || u) ≡ (s || (t || u))
 or_three true t u = refl
 or_three false t u = refl
 
+-- ledgers in order, one after the other
 pub order_grows : (seen : Bool) (xs ys : List Entry) → AreOrdered seen xs → AreOrdered (seen || has_done xs) ys → AreOrdered seen (xs ++ ys)
 order_grows seen [] ys first then = subst (λ t. AreOrdered t ys) (or_nothing seen) then
 order_grows seen (x ∷ xs) ys first then = (
@@ -97,6 +98,7 @@ order_grows seen (x ∷ xs) ys first then = (
       (subst (λ t. AreOrdered t ys) (sym (or_three seen (causes ends_by.NoMoreWork x) (has_done xs))) then),
 )
 
+-- entries that find no exhaustion are in order
 pub order_other : (seen : Bool) (es : List Entry) → list_any is_finding es ≡ false → AreOrdered seen es
 order_other seen [] other = tt
 order_other seen (e ∷ es) other =
@@ -105,6 +107,7 @@ order_other seen (e ∷ es) other =
       order_other (seen || causes ends_by.NoMoreWork e) es parts.1,
     )
 
+-- before the entry that exhaustion is found no rank has called the problem done
 pub order_first : (seen : Bool) (before behind : List Entry) → AreOrdered seen (before ++ enters.Exhausted ∷ behind)
     → (seen ≡ false) × (has_done before ≡ false)
 order_first seen [] behind all = (all.0 refl, refl)
@@ -115,6 +118,7 @@ order_first seen (e ∷ before) behind all =
 
 -- Worlds.
 
+-- some server knows that the problem is done
 abbrev pub SomeKnows : World → Type 0
 SomeKnows w = (t : Server) × (t.0 < w.config.servers) × (done_at w t ≡ true)
 
@@ -153,6 +157,7 @@ done_stays : (a : Act) (is : Bool) → is ≡ true → done_after a is ≡ true
 done_stays (Hears_done rank request) is e = refl
 done_stays _ is e = e
 
+-- an act keeps the order of ends, if exhaustion is found before the problem is called done
 pub act_ordered : (w : World) (k : Server) (a : Act) → IsWell w → IsAct w k a → (finds a ≡ true → has_done w.ledger ≡ false) → IsOrdered w
     → IsOrdered (acted w k a)
 act_ordered w k a well is first was = record {
@@ -175,6 +180,7 @@ act_ordered w k a well is first was = record {
     by_entries (inl old) = by_was (was.heard old)
     by_entries (inr new) = let bad : false ≡ true = sym (act_undone a (pool_of w k)) ∙ new in absurd (cc)
 
+-- the stamp of an event keeps the order of ends
 pub tick_ordered : (w : World) (me : Server) (stamp : ℕ) (up : Bool) → IsWell w → me.0 < w.config.servers → IsOrdered w
     → IsOrdered (ticks w me stamp up)
 tick_ordered w me stamp up well here was = record { heard = λ called. by_was (was.heard called); order = was.order }
@@ -254,6 +260,7 @@ rank_order w me x was each =
     let told = each_weaker (ChangesRank who) (λ (e : Entry). teller e ≡ Some who) (λ e is. is.0) x.entries each in
     order_grows false w.ledger x.entries was.order (order_other (has_done w.ledger) x.entries (rank_other who x.entries told))
 
+-- a call that a rank begins keeps the order of ends
 pub call_ordered : (w next : World) (me : Rank) (call : Call) (x : Made) → IsWell w → Begins w me call x next → IsOrdered w
     → IsOrdered (after_rank w me w.links x)
 call_ordered w next me call x well does was = record {
@@ -300,6 +307,7 @@ ends_undone (e ∷ es) ends = rw (by_entry e ends.0, ends_undone es ends.1) refl
     by_entry (enters.NoCurrent rank call) is = refl
     by_entry _ is = absurd (cc)
 
+-- an answer that a rank hears keeps the order of ends
 pub answer_ordered : (w next : World) (from : Server) (me : Rank) (letter : Letter) (rest : List Letter) (x : Made) → IsWell w
     → AreTelling w → IsModest (client_of w me) → Hears w from me letter rest x next → IsOrdered w
     → IsOrdered (after_rank w me (taken w (by.Server from) (by.Rank me) rest) x)
@@ -439,6 +447,7 @@ follow_ordered k (a ∷ more) w none are well several was =
     follow_ordered k more (acted w k a) none.1 are.1 (act_well w k a well are.0) several
     (act_ordered w k a well are.0 (λ found. absurd (not_found a none.0 (alone_not k w a well several are.0) found)) was)
 
+-- an event of a server keeps the order of ends
 pub event_ordered : (w next : World) (from : Actor) (me : Server) (letter : Letter) (rest : List Letter) (x : Served) → IsChecked w
     → AreTelling w → Serves w from me letter rest x next → IsOrdered w → IsOrdered next
 event_ordered w next from me letter rest x c telling does was =

@@ -22,6 +22,7 @@ Weighing = Actor → Actor → Message → ℕ
 
 -- Two.
 
+-- what two weights weigh together
 abbrev pub both_weigh : Weighing → Weighing → Weighing
 both_weigh f g from to m = f from to m + g from to m
 
@@ -50,6 +51,7 @@ links_both config f g links =
 
 -- As many as there are numbers below one.
 
+-- what as many weights weigh together as there are numbers below one
 abbrev pub total : ℕ → (ℕ → Weighing) → Weighing
 total zero f from to m = 0
 total (suc n) f from to m = f n from to m + total n f from to m

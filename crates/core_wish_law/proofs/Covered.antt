@@ -31,6 +31,7 @@ use Rattle.adlb_unit.specs.declared.messages.Message.TheVariants as tells
 
 -- Letters: the home asks the server for the rank in this call; the server has a unit for it, or had none and has one by now.
 
+-- the letters about a rank's call by which another server is covered
 abbrev pub cover_about : Server → Server → Rank → ℕ → ℕ → ℕ → Message → ℕ
 cover_about h t r q from to (tells.Ask of number types) = about h t r q from to of number
 cover_about h t r q from to (tells.AskGrant of number note) = about h t r q to from of number
@@ -64,6 +65,7 @@ AllCovered w =
 
 -- Lists.
 
+-- what joined lists have, one of them has
 pub has_parts : {X : Type 0} (xs ys : List X) (x : X) → Has (xs ++ ys) x → Has xs x ⊎ Has ys x
 has_parts [] ys x has = inr has
 has_parts (y ∷ xs) ys x (inl same) = inl (inl same)
@@ -222,6 +224,7 @@ module _ (w : World) (me : Server) (a : Act) (well : IsWell w) (is : IsAct w me 
 
 -- Acts that follow.
 
+-- a letter about this rank and call counts 1
 pub about_self : (h t : Server) (r : Rank) (q : ℕ) → about h t r q h.0 t.0 r q ≡ 1
 about_self h t r q = rw (eq-eqb r.0 r.0 refl, eq-eqb q q refl, eq-eqb h.0 h.0 refl, eq-eqb t.0 t.0 refl) refl
 

@@ -18,6 +18,7 @@ use Rattle.std.proofs.Common.{List, Some, [], ap, refl, subst, sym, ◌++◌, �
 
 -- What each event of a server keeps, along a run.
 
+-- what each event of a server keeps of it
 pub record IsKept (P : ServerModel → Type 0) : Type 0 where
   pub begins : (config : Config) (me : Server) → P (new_pool config me)
   pub serves : (s : ServerModel) (from : Actor) (letter : Letter) (x : Served) → serve s from letter ≡ Some x → P s → P x.state

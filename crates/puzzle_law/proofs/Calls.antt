@@ -36,6 +36,7 @@ pub record IsOn (next : Books) : Type 0 where
   pub holds : next.held ≡ None
   pub stays : next.on ≡ None
 
+-- once a unit was brought no end was told, nothing is held and no batch goes on
 pub brought_on : (grain : ℕ) (common : List ℕ) (o : Option Made) (came : List Arrival) → IsOn (brought grain common o came)
 brought_on grain common None came = record { lives = refl; holds = refl; stays = refl }
 brought_on grain common (Some unit) came = record { lives = refl; holds = refl; stays = refl }

@@ -48,6 +48,7 @@ module _ (X : Type 0) (equal : X → X → Bool) (exact : (a b : X) → (equal a
 
 -- Grids.
 
+-- grids that every test counts alike are each other's reorderings
 pub grids_by_counts : (xs ys : List Cells) → ((p : Cells → Bool) → count_by p xs ≡ count_by p ys) → IsPermutation xs ys
 grids_by_counts = permuted_by_counts Cells bytes_eq bytes_eq-Decides
 
@@ -72,6 +73,7 @@ piece_exact a b = (
       ((bytes_eq-Decides a.common b.common).1 (ap (λ (x : Arrival). x.common) e)),
 )
 
+-- units with common bytes that every test counts alike are each other's reorderings
 pub pieces_by_counts : (xs ys : List Arrival) → ((q : Arrival → Bool) → count_by q xs ≡ count_by q ys) → IsPermutation xs ys
 pieces_by_counts = permuted_by_counts Arrival same_piece piece_exact
 

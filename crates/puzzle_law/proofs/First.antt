@@ -148,6 +148,7 @@ items_begun b n common (item ∷ items) =
       items_begun b (n + 1) common items,
     )
 
+-- the jobs of an input weigh as many as there are items
 pub jobs_begun : (budget p b : ℕ) (jobs : List Job) → sum_by job_weight (waits None (tasks_from budget p b jobs)) ≡ all_items jobs
 unfolding waits tasks_from
 jobs_begun budget p b [] = refl

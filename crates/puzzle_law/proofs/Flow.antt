@@ -42,6 +42,7 @@ passes q common (Some unit) = q (arrival common unit)
 abbrev pub reads_bytes : Test → WorkType → Option Rank → ℕ → List ℕ → Bool
 reads_bytes q kind answer long bytes = passes q (common_bytes long bytes) (unit_of kind.0 answer (own_bytes long bytes))
 
+-- a parcel is read as a unit that the test passes
 abbrev pub reads : Test → Parcel → Bool
 reads q p = reads_bytes q p.kind p.answer p.long (bytes_of p.common p.own)
 
@@ -256,6 +257,7 @@ each_flow grain = record {
 
 -- All calls of a rank.
 
+-- no call was told an end but a reserve
 abbrev pub AreEndedWell : List Said → Type 0
 AreEndedWell said = All (λ (s : Said). IsEndedWell s.call s.answer) said
 

@@ -14,6 +14,7 @@ use Rattle.puzzle_app.specs.Arrivals.{Arrival, arrival, bytes_on, makes}
 use Rattle.puzzle_app.specs.Tasks.{Task, Put, Begin, End, as_units, put_all}
 use Rattle.puzzle_law.proofs.Sums.{one_if}
 
+-- a test of units with their common bytes
 abbrev pub Test : Type 0
 Test = Arrival → Bool
 
@@ -58,6 +59,7 @@ makes_pieces grain common its (made.Solution s) = refl
 makes_pieces grain common its (made.Job j) = refl
 makes_pieces grain common its (made.Answer a) = refl
 
+-- what the work on two lists of arrivals makes, counted
 pub all-append : (q : Test) (grain : ℕ) (w v : List Arrival) →
     count_by q (all_by grain (w ++ v)) ≡ count_by q (all_by grain w) + count_by q (all_by grain v)
 all-append q grain w v =
@@ -118,10 +120,12 @@ pub batch_waits : (common : List ℕ) (jobs : List Job) (tasks : List Task) →
 unfolding waits
 batch_waits common jobs tasks = refl
 
+-- the end of a batch puts nothing
 pub end_waits : (on : Option (List ℕ)) (tasks : List Task) → waits on (End ∷ tasks) ≡ waits None tasks
 unfolding waits
 end_waits on tasks = refl
 
+-- without tasks nothing is to be put
 pub none_waits : (on : Option (List ℕ)) → waits on [] ≡ []
 unfolding waits
 none_waits on = refl

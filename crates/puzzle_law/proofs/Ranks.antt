@@ -34,6 +34,7 @@ use Rattle.puzzle_law.proofs.Sums.{one_if}
 abbrev pub kept_in : List Outcome → List (ℕ × Cells)
 kept_in outcomes = flat_map (λ (o : Outcome). o.solutions.items) outcomes
 
+-- the answers that all outcomes have
 abbrev pub answered_in : List Outcome → List (ℕ × ℕ × ℕ)
 answered_in outcomes = flat_map (λ (o : Outcome). o.answers.items) outcomes
 

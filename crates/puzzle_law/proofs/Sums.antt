@@ -9,13 +9,16 @@ use Rattle.std.proofs.lemmas.List.Sums.{sum_by-append, sum_by-cons}
 abbrev pub one_if : {X : Type 0} → (X → Bool) → X → ℕ
 one_if p x = cond (p x) 1 0
 
+-- a test counts one at most
 pub at_most_one : (b : Bool) → cond b 1 0 ≤ 1
 at_most_one true = omega arith
 at_most_one false = omega arith
 
+-- a list of one element, counted
 pub count_one : {X : Type 0} (p : X → Bool) (x : X) → count_by p (x ∷ []) ≡ one_if p x
 count_one p x = omega (arith, sum_by-cons (one_if p) x [])
 
+-- a sum over mapped elements
 pub sum_map : {X Y : Type 0} (f : Y → ℕ) (h : X → Y) (xs : List X) → sum_by f (map h xs) ≡ sum_by (λ x. f (h x)) xs
 sum_map f h xs = fold-map (λ a y. a + f y) h 0 xs
 
@@ -24,6 +27,7 @@ pub sum_flat : {X Y : Type 0} (f : Y → ℕ) (h : X → List Y) (xs : List X) �
 sum_flat f h [] = refl
 sum_flat f h (x ∷ xs) = omega (arith, sum_by-append f (h x) (flat_map h xs), sum_by-cons (λ y. sum_by f (h y)) x xs, sum_flat f h xs)
 
+-- a sum of zeros
 pub sum_none : {X : Type 0} (xs : List X) → sum_by (λ x. 0) xs ≡ 0
 sum_none [] = refl
 sum_none (x ∷ xs) = omega (arith, sum_by-cons (λ y. 0) x xs, sum_none xs)
@@ -33,6 +37,7 @@ pub sum_if : {X : Type 0} (b : Bool) (f : X → ℕ) (xs : List X) → sum_by (�
 sum_if true f xs = refl
 sum_if false f xs = sum_none xs
 
+-- two numbers that count by one test
 pub add_if : (b : Bool) (m n : ℕ) → cond b m 0 + cond b n 0 ≡ cond b (m + n) 0
 add_if true m n = refl
 add_if false m n = omega arith
@@ -49,6 +54,7 @@ sum_one_more f (x ∷ xs) = omega (arith, sum_by-cons (λ y. 1 + f y) x xs, sum_
 
 -- Some element passes just where the count is positive.
 
+-- if some element passes, at least one is counted
 pub some_counted : {X : Type 0} (p : X → Bool) (xs : List X) → list_any p xs ≡ true → 1 ≤ count_by p xs
 some_counted p [] some = absurd (cc)
 some_counted p (x ∷ xs) some = omega (arith, sum_by-cons (one_if p) x xs, here (p x) some (some_counted p xs))
@@ -57,6 +63,7 @@ some_counted p (x ∷ xs) some = omega (arith, sum_by-cons (one_if p) x xs, here
     here true e later = omega arith
     here false e later = omega (arith, later e)
 
+-- if no element passes, 0 are counted
 pub none_counted : {X : Type 0} (p : X → Bool) (xs : List X) → list_any p xs ≡ false → count_by p xs ≡ 0
 none_counted p [] none = refl
 none_counted p (x ∷ xs) none =

@@ -26,27 +26,35 @@ use Rattle.puzzle_law.proofs.Weights.{answer_weight, job_weight, kept_weight, ma
 abbrev pub nodes : ℕ → Cells → List Cells
 nodes budget g = solutions (tree_of budget g)
 
+-- how many solution nodes of a board's tree pass a test
 abbrev pub passing : (Cells → Bool) → ℕ → Cells → ℕ
 passing p budget g = count_by p (nodes budget g)
 
+-- how many solution nodes a board's tree has
 abbrev pub found : ℕ → Cells → ℕ
 found budget g = length (nodes budget g)
 
+-- how many boards a board's tree hands out
 abbrev pub handed_out : ℕ → ℕ → Cells → ℕ
 handed_out grain budget g = handed grain (tree_of budget g)
 
+-- whether some node of a board's tree is over, as 0 or 1
 abbrev pub over_one : ℕ → Cells → ℕ
 over_one budget g = cond (is_over (tree_of budget g)) 1 0
 
+-- if some node of a board's tree is over, how many boards it has, and otherwise 0
 abbrev pub over_all : ℕ → ℕ → Cells → ℕ
 over_all grain budget g = cond (is_over (tree_of budget g)) (boards grain (tree_of budget g)) 0
 
+-- the puzzle is the one of this number
 abbrev pub is_of : ℕ → ℕ → Bool
 is_of n k = k == n
 
+-- any puzzle
 abbrev pub any_puzzle : ℕ → Bool
 any_puzzle k = true
 
+-- a solution weighs nothing
 abbrev pub no_weight : Cells → ℕ
 no_weight g = 0
 
@@ -212,6 +220,7 @@ over_one_board grain n b =
     of_puzzle true met a m k h = omega arith
     of_puzzle false met a m k h = omega arith
 
+-- a board weighs at most whether its work met a node without budget, and what it makes
 pub over_one_law : (grain n : ℕ) (common : List ℕ) (unit : Made) →
     weight (is_of n) over_one no_weight (over common unit)
     ≤ one_if (is_over_at grain n) (over common unit)
@@ -248,6 +257,7 @@ over_all_board grain n b =
     of_puzzle true met a m k e h = omega arith
     of_puzzle false met a m k e h = omega arith
 
+-- whether a board's work met a node without budget, and what it makes, weigh at most what it weighs
 pub over_all_law : (grain n : ℕ) (common : List ℕ) (unit : Made) →
     one_if (is_over_at grain n) (over common unit)
     + sum_by (weight (is_of n) (over_all grain) no_weight) (pieces (makes grain (over common unit)))
@@ -281,6 +291,7 @@ no_jobs_made grain common (made.Solution s) = refl
 no_jobs_made grain common (made.Job j) = refl
 no_jobs_made grain common (made.Answer a) = refl
 
+-- a job weighs the answer that its work makes
 pub answers_law : (grain : ℕ) (common : List ℕ) (unit : Made) →
     job_weight (over common unit)
     ≡ count_by (is_kind 3) (makes grain (over common unit)) + sum_by job_weight (pieces (makes grain (over common unit)))

@@ -68,6 +68,7 @@ weighs t board solution (made.Solution s) = cond (t s.puzzle) (solution s.grid) 
 weighs t board solution (made.Job j) = 0
 weighs t board solution (made.Answer a) = 0
 
+-- what a unit weighs: a board by its tree, a solution by its grid
 abbrev pub weight : (ℕ → Bool) → (ℕ → Cells → ℕ) → (Cells → ℕ) → Arrival → ℕ
 weight t board solution a = weighs t board solution a.unit
 
@@ -106,6 +107,7 @@ abbrev keeps : (ℕ → Bool) → (Cells → ℕ) → Made → ℕ
 keeps t solution (made.Solution s) = cond (t s.puzzle) (solution s.grid) 0
 keeps t solution _ = 0
 
+-- what a unit weighs if it stays with its rank
 abbrev pub kept_weight : (ℕ → Bool) → (Cells → ℕ) → Arrival → ℕ
 kept_weight t solution a = keeps t solution a.unit
 
@@ -117,6 +119,7 @@ answer_weighs w common (made.Job j) = w (j.batch, j.number, (answer_of common j)
 answer_weighs w common (made.Answer a) = w (a.batch, a.number, a.value)
 answer_weighs w common _ = 0
 
+-- a job weighs what its answer weighs
 abbrev pub answer_weight : (ℕ × ℕ × ℕ → ℕ) → Arrival → ℕ
 answer_weight w a = answer_weighs w a.common a.unit
 
@@ -125,6 +128,7 @@ abbrev tells : (ℕ × ℕ × ℕ → ℕ) → Made → ℕ
 tells w (made.Answer a) = w (a.batch, a.number, a.value)
 tells w _ = 0
 
+-- the answers alone weigh
 abbrev pub told_weight : (ℕ × ℕ × ℕ → ℕ) → Arrival → ℕ
 told_weight w a = tells w a.unit
 
@@ -133,5 +137,6 @@ abbrev is_job : Made → ℕ
 is_job (made.Job j) = 1
 is_job _ = 0
 
+-- a job weighs 1
 abbrev pub job_weight : Arrival → ℕ
 job_weight a = is_job a.unit

@@ -21,19 +21,23 @@ any_gives (suc n) p h = elim (or_cases (p n) (any_below n p) h) [
   | inr later ↦ let r = any_gives n p later in (r.0, omega (arith, r.1), r.2)
 ]
 
+-- if no number below passes, this one does not
 pub none_of : (n : ℕ) (p : ℕ → Bool) (k : ℕ) → any_below n p ≡ false → k < n → p k ≡ false
 none_of n p k none below = elim (cases_Bool (p k)) [
   | inl passes ↦ absurd (let e : any_below n p ≡ true = any_from n p k below passes in cc)
   | inr fails ↦ fails
 ]
 
+-- if no number below passes and the next does not, no number up to it does
 pub none_more : (n : ℕ) (p : ℕ → Bool) → any_below n p ≡ false → p n ≡ false → any_below (n + 1) p ≡ false
 unfolding any_below
 none_more n p none here = rw (add-one, here) none
 
+-- if no number below passes, the test is false at the bound
 pub none_past : (n i : ℕ) (p : ℕ → Bool) → n ≤ i → i ≤ n → any_below i p ≡ false → false ≡ any_below n p
 none_past n i p past within none = let e : i ≡ n = omega arith in sym none ∙ ap (λ k. any_below k p) e
 
+-- no number is below 0
 pub none_at_first : (p : ℕ → Bool) → any_below 0 p ≡ false
 unfolding any_below
 none_at_first p = refl

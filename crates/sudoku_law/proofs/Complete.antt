@@ -102,6 +102,7 @@ set_solution m g s cell d within is same =
       boxes = is.boxes;
     }
 
+-- the subtrees of a grid have each of its solutions, if no node is over
 abbrev pub GivesAll : ℕ → (ℕ → Cells → Tree) → ℕ → Type 0
 GivesAll m rec b = (x s : Cells) → IsGrid m x → IsSolution m x s → is_over (rec b x) ≡ false → Contains (solutions (rec b x)) s
 

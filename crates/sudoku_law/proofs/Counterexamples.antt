@@ -42,6 +42,7 @@ pub spent_tree_is_over : is_over (tree 1 0 (0 ∷ [])) ≡ true
 unfolding grown at_cell any_below fewest_below
 spent_tree_is_over = refl
 
+-- a tree without budget has no solution node
 pub spent_tree_has_no_solution : solutions (tree 1 0 (0 ∷ [])) ≡ []
 unfolding grown at_cell any_below fewest_below
 spent_tree_has_no_solution = refl

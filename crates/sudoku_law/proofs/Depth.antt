@@ -28,6 +28,7 @@ cell_same m f h (suc rest) g (Some cell) same =
 node_same : (m : ℕ) (f h : Rec) (budget : ℕ) (g : Cells) → ((b : ℕ) (x : Cells) → b < budget → f b x ≡ h b x) → node m f budget g ≡ node m h budget g
 node_same m f h budget g same = ap (λ (t : Tree). cond (conflict m g) end t) (cell_same m f h budget g (fewest m g) same)
 
+-- trees of two depths above the budget are one
 pub depth_same : (m p q budget : ℕ) (g : Cells) → budget < p → budget < q → grown m p budget g ≡ grown m q budget g
 unfolding grown
 depth_same m zero q budget g under_p under_q = absurd (omega arith)

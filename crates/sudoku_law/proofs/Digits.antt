@@ -23,9 +23,11 @@ at_most_filter : (n : ℕ) (p : ℕ → Bool) (ds : List ℕ) → AreAtMost n ds
 at_most_filter n p [] all = tt
 at_most_filter n p (d ∷ ds) all = cond_both (p d) (d ∷ filter p ds) (filter p ds) (AreAtMost n) (λ t. (all.0, at_most_filter n p ds all.1)) (λ f. at_most_filter n p ds all.1)
 
+-- a candidate is at most the side
 pub candidates_at_most : (m : ℕ) (g : Cells) (cell : ℕ) → AreAtMost (side m) (candidates m g cell)
 candidates_at_most m g cell = at_most_filter (side m) (λ d. not (used m g cell d)) (count_up 1 (side m)) (at_most_up (side m) 1 (side m) (omega arith))
 
+-- each element of such a list is at most the bound
 pub at_most_each : (n d : ℕ) (ds : List ℕ) → AreAtMost n ds → Contains ds d → d ≤ n
 at_most_each n d [] all there = absurd (none_there d there)
 at_most_each n d (x ∷ ds) all there = elim (head_cases x d ds there) [
@@ -37,6 +39,7 @@ rising_lower : (a b : ℕ) (ds : List ℕ) → a ≤ b → IsRising b ds → IsR
 rising_lower a b [] le up = tt
 rising_lower a b (d ∷ ds) le up = (omega (arith, up.0), up.1)
 
+-- each element of a rising list is above its bound
 pub rising_above : (low d : ℕ) (ds : List ℕ) → IsRising low ds → Contains ds d → low < d
 rising_above low d [] up there = absurd (none_there d there)
 rising_above low d (x ∷ ds) up there = elim (head_cases x d ds there) [
@@ -53,6 +56,7 @@ rising_filter : (p : ℕ → Bool) (low : ℕ) (ds : List ℕ) → IsRising low 
 rising_filter p low [] up = tt
 rising_filter p low (d ∷ ds) up = cond_both (p d) (d ∷ filter p ds) (filter p ds) (IsRising low) (λ t. (up.0, rising_filter p d ds up.1)) (λ f. rising_filter p low ds (rising_lower low d ds (omega (arith, up.0)) up.1))
 
+-- candidates rise
 pub candidates_rising : (m : ℕ) (g : Cells) (cell : ℕ) → IsRising 0 (candidates m g cell)
 candidates_rising m g cell = rising_filter (λ d. not (used m g cell d)) 0 (count_up 1 (side m)) (rising_up 0 1 (side m) (omega arith))
 

@@ -30,6 +30,7 @@ branches_digit m rec budget k share g s cell low (d ∷ ds) gives grid within up
       | inr later ↦ Contains-later d (get_or s cell 0) ds (branches_digit m rec budget k share g s cell d ds gives grid within up.1 small.1 later)
     ]
 
+-- the subtrees of a grid have no solution node twice
 abbrev pub GivesDistinct : ℕ → (ℕ → Cells → Tree) → Type 0
 GivesDistinct m rec = (b : ℕ) (x : Cells) → IsGrid m x → IsDistinct (solutions (rec b x))
 

@@ -34,6 +34,7 @@ conflict_from m g (i, j, before, within, share, same, filled) =
     any_from (length g) (λ a. any_below a (λ b. clash m g a b)) i within
     (any_from i (λ b. clash m g i b) j before (clash_from m g i j (share, same, filled)))
 
+-- the test for a conflict says that there is one
 pub conflict_exact : (m : ℕ) (g : Cells) → (conflict m g ≡ true) ↔ HasConflict m g
 conflict_exact m g = (conflict_gives m g, conflict_from m g)
 
@@ -143,6 +144,7 @@ one_fewest m g a b is_a is_b = elim (cases_order a b) [
     never : {x y : ℕ} → x ≤ y → y < x → ⊥
     never p q = omega arith
 
+-- the first blank cell with the fewest candidates is chosen
 pub fewest_from : (m : ℕ) (g : Cells) (cell : ℕ) → IsFewest m g cell → fewest m g ≡ Some cell
 fewest_from m g cell is = at (fewest m g) refl
   where
@@ -150,6 +152,7 @@ fewest_from m g cell is = at (fewest m g) refl
     at None e = absurd (fewest_is_none m g cell e is.blank.within is.blank.blank)
     at (Some c) e = e ∙ ap (λ k. Some k) (one_fewest m g c cell (fewest_is m g c e) is)
 
+-- the chosen cell is the first blank one with the fewest candidates
 pub fewest_exact : (m : ℕ) (g : Cells) (cell : ℕ) → (fewest m g ≡ Some cell) ↔ IsFewest m g cell
 fewest_exact m g cell = (fewest_is m g cell, fewest_from m g cell)
 

@@ -68,8 +68,10 @@ boxes_have m u within =
 pub row_size : (m u : ℕ) → u < side m → how_many (size m) (λ cell. eqb (row_of m cell) u) ≡ side m
 row_size m u within = rows_have (side m) u within
 
+-- a column has as many cells as there are digits
 pub column_size : (m u : ℕ) → u < side m → how_many (size m) (λ cell. eqb (column_of m cell) u) ≡ side m
 column_size m u within = columns_have (side m) u within
 
+-- a box has as many cells as there are digits
 pub box_size : (m u : ℕ) → u < side m → how_many (size m) (λ cell. eqb (box_of m cell) u) ≡ side m
 box_size m u within = boxes_have m u within

@@ -12,11 +12,13 @@ sum_to (suc n) f = sum_to n f + f n
 abbrev pub one_if : Bool → ℕ
 one_if b = cond b 1 0
 
+-- how many numbers pass a test is a sum of 0 and 1
 pub how_many_is : (n : ℕ) (p : ℕ → Bool) → how_many n p ≡ sum_to n (λ k. one_if (p k))
 unfolding how_many sum_to
 how_many_is zero p = refl
 how_many_is (suc n) p = rw (how_many_is n p) refl
 
+-- sums of equal terms are equal
 pub sum_to_same : (n : ℕ) (f h : ℕ → ℕ) → ((k : ℕ) → k < n → f k ≡ h k) → sum_to n f ≡ sum_to n h
 unfolding sum_to
 sum_to_same zero f h same = refl
@@ -24,21 +26,25 @@ sum_to_same (suc n) f h same =
     let rest : sum_to n f ≡ sum_to n h = sum_to_same n f h (λ k less. same k (omega arith)) in
     omega (arith, rest, same n (omega arith))
 
+-- a sum of sums
 pub sum_to_both : (n : ℕ) (f h : ℕ → ℕ) → sum_to n (λ k. f k + h k) ≡ sum_to n f + sum_to n h
 unfolding sum_to
 sum_to_both zero f h = refl
 sum_to_both (suc n) f h = omega (arith, sum_to_both n f h)
 
+-- a sum of multiples
 pub sum_to_scaled : (n c : ℕ) (f : ℕ → ℕ) → sum_to n (λ k. c * f k) ≡ c * sum_to n f
 unfolding sum_to
 sum_to_scaled zero c f = omega arith
 sum_to_scaled (suc n) c f = rw (sum_to_scaled n c f) (sym (mul-add c (sum_to n f) (f n)))
 
+-- a sum of one number again and again
 pub sum_to_const : (n c : ℕ) → sum_to n (λ k. c) ≡ n * c
 unfolding sum_to
 sum_to_const zero c = omega arith
 sum_to_const (suc n) c = rw (sum_to_const n c) (grind arith)
 
+-- a sum of zeros
 pub sum_to_none : (n : ℕ) (f : ℕ → ℕ) → ((k : ℕ) → k < n → f k ≡ 0) → sum_to n f ≡ 0
 unfolding sum_to
 sum_to_none zero f none = refl
@@ -86,6 +92,7 @@ pub sum_to_is : (n u : ℕ) → u < n → sum_to n (λ k. one_if (eqb k u)) ≡ 
 sum_to_is n u within =
     sum_to_one n u (λ k. one_if (eqb k u)) within (λ k less differs. ap one_if (ne_eqb k u differs)) ∙ ap one_if (eq-eqb u u refl)
 
+-- a sum of numbers of at most 1 is at most how many there are
 pub sum_to_at_most : (n : ℕ) (f : ℕ → ℕ) → ((k : ℕ) → k < n → f k ≤ 1) → sum_to n f ≤ n
 unfolding sum_to
 sum_to_at_most zero f few = omega arith
