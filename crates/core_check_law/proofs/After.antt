@@ -73,6 +73,7 @@ use Rattle.core_check_law.proofs.Follows.{alone_not}
 abbrev pub IsFoundOver : World → Type 0
 IsFoundOver w = (b : Bag) → IsRun (empty_bag w.config) w.ledger b → IsX b × IdleAfter w.ledger
 
+-- what is so once an end was found
 pub record IsAfter (w : World) : Type 0 where
   pub lawful : Lawful w
   pub modest : (r : Rank) → r.0 < w.config.ranks → IsModest (client_of w r)
@@ -353,10 +354,12 @@ legal_over config events w b run legal =
     let same = run_config (start config) w events run in
     (every_run_after config events w run).over b (subst (λ (k : Config). IsRun (empty_bag k) w.ledger b) (sym same) legal)
 
+-- in every run, once all work was found used up, all is over
 pub all_over : (config : Config) (events : List Event) (w : World) (b : Bag) → Runs (start config) events w
     → IsRun (empty_bag config) w.ledger b → b.exhausted ≡ true → AllOver b
 all_over config events w b run legal = (legal_over config events w b run legal).0
 
+-- in every run no work follows the entry that all work was found used up
 pub none_works : (config : Config) (events : List Event) (w : World) (before behind : List Entry) → Runs (start config) events w
     → w.ledger ≡ before ++ enters.Exhausted ∷ behind → AreIdle behind
 none_works config events w before behind run is =
@@ -365,6 +368,7 @@ none_works config events w before behind run is =
 
 -- Where a server is shut.
 
+-- in every run a server is shut only where all ranks have finished, and nothing is promised or travels
 pub all_shut : (config : Config) (events : List Event) (w : World) (server : Server) (b : Bag) → server.0 < config.servers
     → Runs (start config) events w → IsRun (empty_bag config) w.ledger b → (pool_of w server).kept.shut ≡ true → IsShutDown b
 all_shut config events w server b there run legal shut =

@@ -24,6 +24,7 @@ use Rattle.core_law.proofs.Sums.{front_goes}
 
 -- Balances.
 
+-- a call that a rank begins keeps a balance that is a law
 pub call_even : (m : Weights) (w next : World) (me : Rank) (call : Call) (x : Made) → IsLaw w.config m → IsWell w
     → Begins w me call x next → IsBalanced m w → IsBalanced m (after_rank w me w.links x)
 call_even m w next me call x law well does even =
@@ -31,6 +32,7 @@ call_even m w next me call x law well does even =
     rank_balance m w me w.links x 0 well.shape does.here (call_within w next me call x well.own does) (omega arith)
     (law.begun me (client_of w me) x b b.after) even
 
+-- an answer that a rank hears keeps a balance that is a law
 pub answer_even : (m : Weights) (w next : World) (from : Server) (me : Rank) (letter : Letter) (rest : List Letter) (x : Made)
     → IsLaw w.config m → IsWell w → Hears w from me letter rest x next → IsBalanced m w
     → IsBalanced m (after_rank w me (taken w (by.Server from) (by.Rank me) rest) x)
@@ -46,6 +48,7 @@ answer_even m w next from me letter rest x law well does even =
 
 -- Any fact of a world.
 
+-- what stamps, acts and steps of ranks keep
 pub record AreKept (J : World → Type 0) : Type 0 where
   pub tick : (w : World) (me : Server) (stamp : ℕ) (up : Bool) → me.0 < w.config.servers → IsWell w → J w → J (ticks w me stamp up)
   pub act : (w : World) (me : Server) (a : Act) → IsWell w → IsAct w me a → J w → J (acted w me a)
@@ -62,12 +65,14 @@ does_keep J kept w next well (An_answer {from = from} {me = me} {letter = letter
 does_keep J kept w next well (A_request {from = from} {me = me} {letter = letter} {rest = rest} {x = x} does) holds =
     event_keeps J kept.tick kept.act w next from me letter rest x well does holds
 
+-- it holds along a run
 pub along : (J : World → Type 0) → AreKept J → (w last : World) (events : List Event) → IsWell w → Runs w events last → J w → J last
 along J kept w last [] well run holds = subst J run holds
 along J kept w last (e ∷ events) well run holds =
     let does = happens_does w run.0 e run.1 in
     along J kept run.0 last events (well_kept w run.0 well does) run.2 (does_keep J kept w run.0 well does holds)
 
+-- it holds at every moment of every run, if it holds at the start
 pub every_run_keeps : (J : World → Type 0) → AreKept J → (config : Config) (events : List Event) (w : World)
     → Runs (start config) events w → J (start config) → J w
 every_run_keeps J kept config events w run first = along J kept (start config) w events (begins_well config) run first

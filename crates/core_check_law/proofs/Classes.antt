@@ -72,6 +72,7 @@ tested_ring wave r = by_test (eqb wave 2) refl
     by_test true is = rw is (record { number = refl; mark = refl; check = refl })
     by_test false is = rw is (ring_same r)
 
+-- an act that takes no new mark leaves the ring as it was
 pub ring_of : (a : Act) (s : ServerModel) → marks_new a ≡ false → IsRingAsWas s.kept.ring (ring_after a s)
 ring_of Starts s old = absurd (cc)
 ring_of (Marks from t) s old = absurd (cc)
@@ -87,6 +88,7 @@ pub record IsParkedAsWas (a : Act) (s : ServerModel) : Type 0 where
   pub finished : finished_after a s.kept.finished ≡ s.kept.finished
   pub push : turned (turns a) s.kept.pushing.push ≡ s.kept.pushing.push
 
+-- an act that changes neither what is free nor who waits leaves those who wait
 pub parked_of : (a : Act) (s : ServerModel) → is_loud a ≡ false → IsParkedAsWas a s
 parked_of Notices s quiet = record { waiting = refl; finished = refl; push = refl }
 parked_of Notes_own s quiet = record { waiting = refl; finished = refl; push = refl }
@@ -109,6 +111,7 @@ parked_of _ s quiet = absurd (cc)
 abbrev pub SaysNone : (Server → Token → Type 0) → Server → Act → ServerModel → Type 0
 SaysNone P k a s = Each (λ (y : ServerSaying). OnToken P (by.Server k) y.to y.message) (says a s)
 
+-- an act that says no token says none of which this has to hold
 pub said_none : (P : Server → Token → Type 0) (k : Server) (a : Act) (s : ServerModel) → says_token a ≡ false → SaysNone P k a s
 said_none P k (Accepts unit) s silent = (tt, tt)
 said_none P k (Refuses unit) s silent = (tt, tt)

@@ -96,18 +96,22 @@ heard_here false before was = refl
 
 -- Of an act that hears of an end, or finds it: another server than server 0 hears, it does not know it yet, and so with server 0.
 
+-- this is not server 0, and if it is the server named, it did not know the end
 abbrev pub IsNew : (Kept → Bool) → Server → ServerModel → Type 0
 IsNew flag t s = (s.me.0 ≢ 0) × ((s.me.0 == t.0) ≡ true → flag s.kept ≡ false)
 
+-- who hears that all work is used up did not know it
 abbrev pub IsNewExhaust : Server → Act → ServerModel → Type 0
 IsNewExhaust t (Hears_exhaust from) s = IsNew is_exhausted t s
 IsNewExhaust t _ s = Unit {0}
 
+-- who hears that it may end did not know it
 abbrev pub IsNewShutdown : Server → Act → ServerModel → Type 0
 IsNewShutdown t (Hears_shutdown from) s = IsNew is_shut t s
 IsNewShutdown t (Shuts from u) s = s.kept.shut ≡ false
 IsNewShutdown t _ s = Unit {0}
 
+-- each act keeps that server 0 tells each other server once that all work is used up
 pub exhaust_kept : (t : Server) (a : Act) (s : ServerModel) → t.0 ≢ 0 → t.0 < s.config.servers → Sure a s → IsNewExhaust t a s
     → ActKeeps (exhausts t) a s
 exhaust_kept t (Finds from u) s other low sure new =
@@ -127,6 +131,7 @@ exhaust_kept t (Hears_exhaust from) s other low sure new =
 exhaust_kept t Finds_alone s other low sure new = let alone = sure.alone in absurd (omega arith)
 exhaust_kept t _ s other low sure new = omega arith
 
+-- each act keeps that server 0 tells each other server once that it may end
 pub shut_kept : (t : Server) (a : Act) (s : ServerModel) → t.0 ≢ 0 → t.0 < s.config.servers → Sure a s → IsNewShutdown t a s
     → ActKeeps (shuts t) a s
 shut_kept t (Shuts from u) s other low sure new =

@@ -84,6 +84,7 @@ begins_ending config = record {
   going = λ runs. ap (λ s. s.kept.shut) (pool_at config zeroth config.servers_within.0);
 }
 
+-- in every run server 0 tells each other server of an end once
 pub every_run_ends : (config : Config) (events : List Event) (w : World) → Runs (start config) events w → AreEnding w
 every_run_ends config events w run = every_run_keeps AreEnding ends_kept config events w run (begins_ending config)
 

@@ -116,9 +116,11 @@ new_shutdown w k _ well act t even going = tt
 
 -- No check runs where the end of the run was found.
 
+-- while a check runs at server 0 it is not shut
 abbrev pub IsGoing : Server → ServerModel → Type 0
 IsGoing k s = k.0 ≡ 0 → s.kept.ring.runs ≡ true → s.kept.shut ≡ false
 
+-- what is so of server 0 of a world, said of each server
 pub going_at : (w : World) → IsOpenAtZeroth w → (t : Server) → IsGoing t (pool_of w t)
 going_at w was t first = subst (λ (x : Server). (pool_of w x).kept.ring.runs ≡ true → (pool_of w x).kept.shut ≡ false)
     (ap server_named (sym first)) was
@@ -142,6 +144,7 @@ going_after Shuts_alone s first sure other alone was now = let ended = alone sur
 going_after Checks_alone s first sure other alone was now = let ended = alone sure in absurd (cc)
 going_after _ s first sure other alone was now = was now
 
+-- server 0 is not told that it may end
 pub no_shutdown : (w : World) (k : Server) (a : Act) (well : IsWell w) (act : IsAct w k a) → (pool_of w k).me.0 ≡ 0 → (from : Server)
     → a ≡ Hears_shutdown from → ⊥
 no_shutdown w k a well act first from is =
@@ -150,6 +153,7 @@ no_shutdown w k a well act first from is =
     let fits = and_parts (not (from.0 == k.0)) (from.0 == 0) (fit_of w k b well act_is).0.1 in
     elsewhere w k b well act_is from tells.Shutdown refl fits.1 fits.0 first
 
+-- server 0 is not told that all work is used up
 pub no_exhaust : (w : World) (k : Server) (a : Act) (well : IsWell w) (act : IsAct w k a) → (pool_of w k).me.0 ≡ 0 → (from : Server)
     → a ≡ Hears_exhaust from → ⊥
 no_exhaust w k a well act first from is =
@@ -175,6 +179,7 @@ act_going w k a well act was first =
 
 -- Together.
 
+-- each act keeps that server 0 tells each other server once
 pub act_ends : (w : World) (k : Server) (a : Act) → IsWell w → IsAct w k a → AreEnding w → AreEnding (acted w k a)
 act_ends w k a well act was =
     let s = pool_of w k in

@@ -113,6 +113,7 @@ finds_settled w b k from t h on is = by_list t.asked refl
     by_list (first ∷ more) e =
         bag_is_settled w b h.well h.lawful h.legal t.asked (finds_settling w b k from t h on is) first more e
 
+-- what an act needs to find all work used up is so
 pub settled_for : (w : World) (b : Bag) (k : Server) (a : Act) → Holds w b → Settles w b → IsAct w k a → is_alone a ≡ false → SettledFor a b
 settled_for w b k (Finds from t) h on is alone = finds_settled w b k from t h on is
 settled_for w b k Finds_alone h on is alone = absurd (cc)
@@ -201,6 +202,7 @@ module _ (k : Server) (w : World) (b : Bag) (several : 1 < w.config.servers) (h 
 
 -- The event.
 
+-- an event of a server keeps what tokens say of the bag
 pub event_settles : (w next : World) (from : Actor) (me : Server) (letter : Letter) (rest : List Letter) (x : Served) (b : Bag)
     → 1 < w.config.servers → Holds w b → IsRinged w → AreTold w → Settles w b → Serves w from me letter rest x next → Behind Settles next
 event_settles w next from me letter rest x b several h ring told on does =

@@ -44,6 +44,7 @@ SettledFor (Finds from t) b = settled b ≡ true
 SettledFor Finds_alone b = settled b ≡ true
 SettledFor _ b = Unit {0}
 
+-- the entries of an act that may find exhaustion are a legal run
 pub run_settled : (a : Act) (s : ServerModel) (found : Bag → Bool) (b n : Bag) → SettledFor a b → IsRunWhere found b (entries a s) n
     → IsRun b (entries a s) n
 run_settled (Finds from t) s found b n is run = (run.0, (run.1.0, (is, run.1.1.1), run.1.2), run.2)
@@ -59,6 +60,7 @@ pub record Next (w : World) (b : Bag) (k : Server) (a : Act) : Type 0 where
   pub run : IsRunWhere (found_in w.config) b (entries a (pool_of w k)) bag
   pub holds : Holds (acted w k a) bag
 
+-- an act that may find exhaustion leaves what holds of world and bag
 pub act_holds : (w : World) (b : Bag) (k : Server) (a : Act) → Holds w b → IsAct w k a → SettledFor a b → Next w b k a
 act_holds w b k a h is found =
     let s = pool_of w k in
@@ -86,6 +88,7 @@ not_alone Shuts_alone s sure several = absurd (several sure.0)
 not_alone Checks_alone s sure several = absurd (several sure)
 not_alone _ s sure several = refl
 
+-- the act starts a check
 abbrev pub is_start : Act → Bool
 is_start Starts = true
 is_start _ = false
@@ -111,6 +114,7 @@ nothing_found (Finds from t) b none alone = absurd (cc)
 nothing_found Finds_alone b none alone = absurd (cc)
 nothing_found _ b none alone = tt
 
+-- an act that is neither loud, nor of a turn, nor of a server alone leaves all that rests
 pub quiet_or_still : (a : Act) → is_loud a ≡ false → is_turn a ≡ false → is_alone a ≡ false → is_still a ≡ true
 quiet_or_still a quiet turn alone = by_act a quiet turn alone
   where
@@ -122,6 +126,7 @@ quiet_or_still a quiet turn alone = by_act a quiet turn alone
 abbrev pub Suits : Bool → Act → Type 0
 Suits up a = (is_query a ≡ false) × (up ≡ false → is_loud a ≡ false)
 
+-- it holds of the world and the bag to which its ledger leads
 abbrev pub Behind : (World → Bag → Type 0) → World → Type 0
 Behind P w = (n : Bag) × Holds w n × P w n
 

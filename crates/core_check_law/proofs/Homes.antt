@@ -27,23 +27,28 @@ pub homes_of : (config : Config) (me : Server) (es : List Waiting) → Each (IsE
 homes_of config me [] all = tt
 homes_of config me (e ∷ es) all = ((all.0).here, homes_of config me es all.1)
 
+-- filtering keeps a list each of whose elements passes
 pub kept_all : {X : Type 0} (p : X → Bool) (xs : List X) → Each (λ x. p x ≡ true) xs → filter p xs ≡ xs
 kept_all p [] all = refl
 kept_all p (x ∷ xs) all = let later = kept_all p xs all.1 in rw all.0 (ap (λ l. x ∷ l) later)
 
+-- filtering leaves nothing of a list no element of which passes
 pub kept_none : {X : Type 0} (p : X → Bool) (xs : List X) → Each (λ x. p x ≡ false) xs → filter p xs ≡ []
 kept_none p [] all = refl
 kept_none p (x ∷ xs) all = let later = kept_none p xs all.1 in rw all.0 later
 
+-- the home that a test names
 pub home_is : (config : Config) (me : Server) (a : Asker) → is_home config me a.0 ≡ true → (home config a.0).0 ≡ me.0
 home_is config me a e = eqb-true (home_of config.servers a.0) me.0 e
 
+-- the test of another home fails
 pub home_other : (config : Config) (t : Server) (a : Asker) → (home config a.0).0 ≢ t.0 → is_home config t a.0 ≡ false
 home_other config t a differs =
     false_from_ne_true (eqb (home_of config.servers a.0) t.0) (λ e. differs (eqb-true (home_of config.servers a.0) t.0 e))
 
 -- How far a token has come.
 
+-- a token that goes on from a server has reached one more
 pub reach_onward : (config : Config) (k : Server) → k.0 < config.servers → reach config (behind config k 1) ≡ k.0 + 1
 reach_onward config k here = by_end (cases_lt (k.0 + 1) config.servers)
   where
@@ -60,6 +65,7 @@ reach_onward config k here = by_end (cases_lt (k.0 + 1) config.servers)
         ap (λ n. n % config.servers) sum ∙ mod-mul-add 1 config.servers 0 (omega arith) in
         rw e (omega arith)
 
+-- a token at another server than server 0 has reached as many as its number
 pub reach_at : (config : Config) (k : Server) → k.0 ≢ 0 → reach config k ≡ k.0
 reach_at config k some =
     let no : eqb k.0 0 ≡ false = false_from_ne_true (eqb k.0 0) (λ i. some (eqb-true k.0 0 i)) in rw no refl

@@ -42,6 +42,7 @@ use Rattle.core_check_law.proofs.Over.{grant_stirs, is_coming, over_stays, settl
 
 -- A rank that was told an end has no call pending that brings or wants something.
 
+-- if the rank was told an end, no call of it is open to servers
 abbrev pub IsClosed : RankState → Type 0
 IsClosed x = IsTold x → open_call x.status ≡ None
 
@@ -90,6 +91,7 @@ call_closed c (waits_for.Count request kind) None modest told = refl
 call_closed c (waits_for.Count request kind) (Some m) modest told = refl
 call_closed c (waits_for.SetDone request tried) coming modest told = refl
 
+-- so it is of a rank whose client closes in its call
 pub client_closed : (c : ClientModel) (finished : Bool) (coming : Option Message) → ClosesIn c c.pending
     → IsClosed (rank_of c finished coming)
 client_closed c true coming modest told = refl
@@ -158,10 +160,12 @@ found_any test pick (y ∷ xs) x found is = by_pick (pick y) refl (λ later. fou
     by_pick true at later = let it : y ≡ x = some_is (rw at at found) in rw (it, is) refl
     by_pick false at later = or_right (test y) (list_any test xs) (later (rw at at found))
 
+-- the entry promises room
 abbrev pub is_promise : Entry → Bool
 is_promise (enters.Promised server id length) = true
 is_promise _ = false
 
+-- where all is over and nothing moves, no entry but a promise is of work
 pub no_work : (found : Bag → Bool) (b : Bag) (e : Entry) → LegalWhere found b e → AllOver b → AllClosed b → IsUnmoved b
     → is_promise e ≡ false → is_work e ≡ false
 no_work found b (enters.Refused server id used) l over closed still other =
@@ -193,6 +197,7 @@ no_work found b _ l over closed still other = refl
 
 -- Along a run.
 
+-- an entry that is not of work brings no unit
 pub idle_stays : (e : Entry) → is_work e ≡ false → is_coming e ≡ false
 idle_stays (enters.Accepted server id) idle = absurd (cc)
 idle_stays _ idle = refl
@@ -208,6 +213,7 @@ exhausted_same found b _ l other = refl
 abbrev pub IsX : Bag → Type 0
 IsX b = b.exhausted ≡ true → AllOver b
 
+-- once exhaustion was found, all is over after each step, too
 pub x_step : (b : Bag) (e : Entry) → LegalWhere settled b e → (b.exhausted ≡ true → is_coming e ≡ false) → IsX b → IsX (after b e)
 x_step b e l old x now = by_flag b.exhausted refl
   where
@@ -222,6 +228,7 @@ x_step b e l old x now = by_flag b.exhausted refl
     by_flag true is = over_stays settled b e l (old is) (x is)
     by_flag false is = by_entry e (is_finding e) l is refl now
 
+-- and after each run of steps
 pub x_run : (es : List Entry) (b n : Bag) → IsRun b es n → AreIdle es → IsX b → IsX n
 x_run [] b n run idle x = subst IsX run x
 x_run (e ∷ es) b n run idle x =
@@ -235,10 +242,12 @@ abbrev pub IdleBehind : Entry → List Entry → Type 0 → Type 0
 IdleBehind enters.Exhausted es rest = AreIdle es
 IdleBehind _ es rest = rest
 
+-- after exhaustion was found the ledger has no work
 abbrev pub IdleAfter : List Entry → Type 0
 IdleAfter [] = Unit {0}
 IdleAfter (e ∷ es) = IdleBehind e es (IdleAfter es)
 
+-- exhaustion that is not entered was found before
 pub found_run : (found : Bag → Bool) (es : List Entry) (b n : Bag) → IsRunWhere found b es n
     → (b.exhausted ≡ true) ⊎ (list_any is_finding es ≡ true)
     → n.exhausted ≡ true
@@ -257,13 +266,16 @@ first_idle : (e : Entry) (es : List Entry) → AreIdle es → IdleAfter es → I
 first_idle enters.Exhausted es idle rest = idle
 first_idle _ es idle rest = rest
 
+-- a ledger without work has no work after exhaustion was found
 pub idle_after : (es : List Entry) → AreIdle es → IdleAfter es
 idle_after [] idle = tt
 idle_after (e ∷ es) idle = first_idle e es idle.1 (idle_after es idle.1)
 
+-- a ledger with no work after its first entry
 pub begun_idle : (e : Entry) (es : List Entry) → AreIdle es → IdleAfter (e ∷ es)
 begun_idle e es idle = first_idle e es idle (idle_after es idle)
 
+-- a ledger that grows by no work has none after exhaustion was found
 pub idle_grows : (ledger es : List Entry) → IdleAfter ledger → (list_any is_finding ledger ≡ true → AreIdle es) → IdleAfter es
     → IdleAfter (ledger ++ es)
 idle_grows [] es was idle new = new

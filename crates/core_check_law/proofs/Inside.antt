@@ -15,10 +15,12 @@ use Rattle.bag_law.proofs.Plain.{accepted_is, kept_is}
 use Rattle.core_law.specs.OnLinks.{Each}
 use Rattle.core_law.proofs.UnderWay.{each_append}
 
+-- a unit that is free is at a server of the run
 abbrev pub IsFreeIn : ℕ → UnitPlace → Type 0
 IsFreeIn servers (Free t) = t.0 < servers
 IsFreeIn servers _ = Unit {0}
 
+-- so it is of each unit
 abbrev pub AreIn : ℕ → List Lodged → Type 0
 AreIn servers units = Each (λ (u : Lodged). IsFreeIn servers u.place) units
 
@@ -53,5 +55,6 @@ run_in b last (e ∷ es) run all =
     let same : n.servers ≡ b.servers = run_servers settled b n (e ∷ []) (n, run.1, refl) in
     subst (λ m. AreIn m last.units) same (run_in n last es run.2 (subst (λ m. AreIn m n.units) (sym same) here))
 
+-- after each legal run free units are at servers of the run
 pub free_in : (config : Config) (ledger : List Entry) (b : Bag) → IsRun (empty_bag config) ledger b → AreIn config.servers b.units
 free_in config ledger b run = run_in (empty_bag config) b ledger run tt

@@ -28,6 +28,7 @@ use Rattle.core_check_law.proofs.RankSteps.{answer_settles, call_settles}
 use Rattle.core_check_law.proofs.Rings.{begins_ringed, does_ringed}
 use Rattle.core_check_law.proofs.Told.{IsTold, serve_told, told_is}
 
+-- no idle rank has missed an end
 abbrev pub AllTold : World → Type 0
 AllTold w = (t : Server) → t.0 < w.config.servers → IsTold (pool_of w t)
 
@@ -50,6 +51,7 @@ event_told w next well told (A_request {from = from} {me = me} {letter = letter}
     (every_pool (λ t s. IsTold s) w me x.state (inside_servers w me well does.here)
     (serve_told (pool_of w me) from letter x does.does (told me does.here)) (λ t there differs. told t there))
 
+-- what tokens say of the bag is so after each event
 pub settles_next : (w next : World) → (c : IsChecked w) → Does w next → Behind Settles next
 settles_next w next c (A_call {me = me} {call = call} {x = x} does) =
     call_settles w next me call x c.bag c.holds c.ring c.settles does
@@ -59,6 +61,7 @@ settles_next w next c (A_request {from = from} {me = me} {letter = letter} {rest
     event_settles w next from me letter rest x c.bag c.several c.holds c.ring
     (λ t there e has idle. told_is (pool_of w t) e (c.told t there) has idle) c.settles does
 
+-- each event keeps what is checked
 pub checked_kept : (w next : World) → IsChecked w → Does w next → IsChecked next
 checked_kept w next c does =
     let well = (c.holds).well in
@@ -108,6 +111,7 @@ every_run_legal config events w run = by_number (cases_eq config.servers 1)
         let same = run_config (start config) w events run in
         (c.bag, subst (λ (k : Config). IsRun (empty_bag k) w.ledger c.bag) same (c.holds).legal)
 
+-- in every run tokens say what is so of the bag
 pub every_run_settles : (config : Config) (events : List Event) (w : World) → 1 < config.servers → Runs (start config) events w
     → (b : Bag) × IsRun (empty_bag config) w.ledger b × Settles w b
 every_run_settles config events w several run =

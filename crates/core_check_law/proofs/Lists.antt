@@ -42,6 +42,7 @@ each_has P [] x each has = absurd has
 each_has P (y ∷ ys) x each (inl same) = subst P same each.0
 each_has P (y ∷ ys) x each (inr later) = each_has P ys x each.1 later
 
+-- what holds of each element for each value
 pub each_all : {A X : Type 0} (P : A → X → Type 0) (xs : List X) → ((a : A) → Each (P a) xs) → Each (λ x. (a : A) → P a x) xs
 each_all P [] all = tt
 each_all P (x ∷ xs) all = ((λ a. (all a).0), each_all P xs (λ a. (all a).1))

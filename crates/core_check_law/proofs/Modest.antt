@@ -218,6 +218,7 @@ answer_good s (waits_for.SetDone request tried) from m none = done_heard s reque
 
 -- The step.
 
+-- a step leaves the rank modest, and enters no work
 abbrev pub IsGoodStep : Made → Type 0
 IsGoodStep x = IsModest x.state × AreIdle x.entries
 
@@ -232,6 +233,7 @@ all_made : (o : Option ClientResponse) → OnSome o IsGood → OnSome o (λ x. I
 all_made None good = tt
 all_made (Some x) good = made_good x good
 
+-- the beginning of a call is such a step
 pub begin_good : (s : ClientModel) (call : Call) (x : Made) → begin s call ≡ Some x → IsGoodStep x
 begin_good s call x is =
     let o = open_call (ticked s (call_stamp s)) call in
@@ -278,6 +280,7 @@ hear_answers s from letter x modest is =
     (if_some IsAnsweredStep (not s.finished && nat_lt letter.stamp stamp_limit) (option_map made o)
     (λ t. mapped_some IsAnsweredStep made o (all_answered o good))) is
 
+-- what a modest rank hears is such a step
 pub hear_good : (s : ClientModel) (from : Server) (letter : Letter) (x : Made) → IsModest s → hear s from letter ≡ Some x → IsGoodStep x
 hear_good s from letter x modest is =
     let a = hear_answers s from letter x modest is in (a.0, ends_idle x.entries a.1)

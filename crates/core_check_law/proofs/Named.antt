@@ -95,10 +95,12 @@ entries_inside w k well here =
     each_weaker (IsEntry w.config k) (λ (e : Waiting). e.wish.rank.0 < w.config.ranks) (λ e is. is.within) es
     (each_of_all (IsEntry w.config k) es (well.own.servers k here).waiting)
 
+-- those who wait at a server are ranks of the run
 pub askers_inside : (w : World) (k : Server) → IsWell w → k.0 < w.config.servers
     → Each (λ (a : Asker). a.0.0 < w.config.ranks) (askers (pool_of w k).kept)
 askers_inside w k well here = waiting_inside w.config.ranks (pool_of w k).kept.parked.waiting (entries_inside w k well here)
 
+-- those who wait at a server are named once
 pub askers_apart : (w : World) (k : Server) → IsWell w → k.0 < w.config.servers → AreApart (askers (pool_of w k).kept)
 askers_apart w k well here =
     waiting_apart w.config.ranks (pool_of w k).kept.parked.waiting (entries_inside w k well here)
@@ -113,11 +115,13 @@ apart_joined (a ∷ xs) ys first then differ =
 
 -- as the ring has it
 
+-- what holds of each element holds of all
 pub all_of_each : {X : Type 0} (P : X → Type 0) (xs : List X) → Each P xs → All P xs
 all_of_each P [] each i d inside = absurd (omega arith)
 all_of_each P (x ∷ xs) each zero d inside = each.0
 all_of_each P (x ∷ xs) each (suc i) d inside = all_of_each P xs each.1 i d (omega arith)
 
+-- a list of ranks of the run, each once, names them once
 pub are_named : (config : Config) (asked : List Asker) → Each (λ (a : Asker). a.0.0 < config.ranks) asked → AreApart asked
     → AreNamed config asked
 are_named config asked inside apart = record {

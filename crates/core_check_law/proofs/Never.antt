@@ -78,6 +78,7 @@ free_fits (q ∷ units) a id p none found may = by_test (free_fits units a id p 
         absurd (cc (fits, not_it))
     by_test later false is found = later (rw is at found) may
 
+-- where no unit fits, none is found for the wish
 pub none_found : (k : Kept) (wish : Wish) (unit : Work) → NoFit k.queue.units (asker wish)
     → IsFreeFor k unit wish ⊎ IsFound (best_for k wish) unit → ⊥
 none_found k wish unit none (inl free) =
@@ -124,6 +125,7 @@ pushes_none w k well free a from m is it weighs =
     let even = (well.push from).same in
     absurd (omega arith)
 
+-- a number is counted as equal to itself
 pub itself : (n : ℕ) → one (n == n) ≡ 1
 itself n = ap one (eq-eqb n n refl)
 

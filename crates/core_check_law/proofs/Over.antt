@@ -62,6 +62,7 @@ abbrev pub is_coming : Entry → Bool
 is_coming (enters.Accepted server id) = true
 is_coming _ = false
 
+-- where no unit is permitted to a rank, none is after an entry by which no unit comes
 pub none_stays : (found : Bag → Bool) (b : Bag) (e : Entry) → LegalWhere found b e → is_coming e ≡ false → (rank : Rank)
     (types : Option (List WorkType)) → NoneFor rank types b.units → NoneFor rank types (after b e).units
 none_stays found b (enters.Accepted server id) l old rank types none = absurd (cc)
@@ -92,6 +93,7 @@ is_restful is_at.Finished = true
 is_restful (is_at.Asking call types) = true
 is_restful _ = false
 
+-- the rank has finished, or asks in vain
 abbrev pub IsStill : Bag → Rank → RankState → Type 0
 IsStill b rank x = (x.status ≡ is_at.Finished) ⊎ AsksInVain b rank x
 
@@ -154,6 +156,7 @@ begins_turn : (b n : Bag) (rank : Rank) (status : Status) (x : RankState) → ra
 begins_turn b n rank status x there runs ranks =
     turns b n rank.0 (begun status) x there ranks (λ told. told) (rw runs refl)
 
+-- an entry leaves all ranks, or is one rank's turn
 pub turn_of : (found : Bag → Bool) (b : Bag) (e : Entry) → LegalWhere found b e → ((after b e).ranks ≡ b.ranks) ⊎ IsTurn b (after b e)
 turn_of found b (enters.Putting rank call kind prio target answer body) l =
     inr (turns b _ rank.0 _ l.0 l.1.0 refl (λ told. told) (rw l.1.1 refl))
@@ -221,6 +224,7 @@ turned_told b n t (inl e) = t.stirs (inl e)
 turned_told b n t (inr (inl vain)) = t.stirs (inr vain)
 turned_told b n t (inr (inr told)) = t.keeps told
 
+-- where all is over it stays so, unless a unit comes
 pub over_stays : (found : Bag → Bool) (b : Bag) (e : Entry) → LegalWhere found b e → is_coming e ≡ false → AllOver b → AllOver (after b e)
 over_stays found b e l old over rank y here = by_turn (turn_of found b e l)
   where
@@ -268,6 +272,7 @@ none_listed rank types (u ∷ us) away none =
         by_or true t off e = refl
         by_or false t off e = absurd (cc)
 
+-- a bag that is settled is over
 pub settled_over : (b : Bag) → settled b ≡ true → AllOver b
 settled_over b is rank x here = by_status x.status refl (s.0 rank x here) (s.4 rank x here)
   where

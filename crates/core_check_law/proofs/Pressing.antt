@@ -47,6 +47,7 @@ use Rattle.core_law.specs.OnLinks.{Each}
 use Rattle.core_law.proofs.UnderWay.{each_append}
 use Rattle.core_check_law.proofs.Never.{is_query}
 
+-- the act begins no push
 abbrev pub NoQuery : Act → Type 0
 NoQuery a = is_query a ≡ false
 
@@ -156,6 +157,7 @@ acks_none s = by_debt s.kept.owed
 
 -- Plans.
 
+-- the act accepts a unit
 abbrev pub is_accept : Act → Bool
 is_accept (Accepts unit) = true
 is_accept _ = false

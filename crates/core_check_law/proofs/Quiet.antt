@@ -53,6 +53,7 @@ AreTold w =
     (t : Server) → t.0 < w.config.servers → (e : Waiting) → Has (pool_of w t).kept.parked.waiting e → e.asked ≡ None
     → (pool_of w t).kept.done ≡ false
 
+-- each server is quiet
 abbrev pub AreQuiet : World → Type 0
 AreQuiet w = (t : Server) → t.0 < w.config.servers → is_quiet (pool_of w t) ≡ true
 

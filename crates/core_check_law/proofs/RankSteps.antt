@@ -67,6 +67,7 @@ rank_holds w me links x b n h each well l ring =
       },
     )
 
+-- a rank that begins a call leaves what tokens say of the bag
 pub call_settles : (w next : World) (me : Rank) (call : Call) (x : Made) (b : Bag) → Holds w b → IsRinged w → Settles w b
     → Begins w me call x next → Behind Settles next
 call_settles w next me call x b h ring on does =
@@ -84,6 +85,7 @@ call_settles w next me call x b h ring on does =
     (λ rests. ready_never w b h.well me does.here its.0 its.1 rests shape.free shape.going) on in
     subst (Behind Settles) (sym does.is) (n, kept.1, void_settles v n void)
 
+-- a rank that hears an answer leaves what tokens say of the bag
 pub answer_settles : (w next : World) (from : Server) (me : Rank) (letter : Letter) (rest : List Letter) (x : Made) (b : Bag) → Holds w b
     → IsRinged w → Settles w b → Hears w from me letter rest x next → Behind Settles next
 answer_settles w next from me letter rest x b h ring on does =

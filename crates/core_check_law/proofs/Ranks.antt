@@ -71,6 +71,7 @@ runs_on c (waits_for.Count request kind) None e = absurd (cc)
 runs_on c (waits_for.Count request kind) (Some m) e = absurd (cc)
 runs_on c (waits_for.SetDone request tried) coming e = absurd (cc)
 
+-- a rank that has finished in the bag has finished
 pub has_ended : (c : ClientModel) (finished : Bool) (coming : Option Message) → Ends (rank_of c finished coming) → finished ≡ true
 has_ended c true coming e = refl
 has_ended c false coming e = absurd (runs_on c c.pending coming e)
@@ -115,6 +116,7 @@ asks_in c (waits_for.Count request kind) None q t e = absurd (cc)
 asks_in c (waits_for.Count request kind) (Some m) q t e = absurd (cc)
 asks_in c (waits_for.SetDone request tried) coming q t e = absurd (cc)
 
+-- a rank that asks in the bag waits for this reserve
 pub has_asked : (c : ClientModel) (finished : Bool) (coming : Option Message) (q : ℕ) (t : Option (List WorkType))
     → Asks (rank_of c finished coming) q t → AsksFor c.pending coming q t
 has_asked c true coming q t e = absurd (cc)
@@ -122,10 +124,12 @@ has_asked c false coming q t e = asks_in c c.pending coming q t e
 
 -- Of a rank at rest.
 
+-- the state of a rank in the bag is read off its client
 pub stands_as : (w : World) (b : Bag) (r : Rank) (coming : Option Message) → IsSeat w b r coming → (x : RankState) → rank_at b r ≡ Some x
     → rank_of (client_of w r) (client_of w r).finished coming ≡ x
 stands_as w b r coming seat x here = some_is (sym seat.stands.rank ∙ ap (rank_at b) seat.named ∙ here)
 
+-- the client of a rank that has finished in the bag has finished
 pub client_ended : (w : World) (b : Bag) (r : Rank) (coming : Option Message) → IsSeat w b r coming → (x : RankState) → rank_at b r ≡ Some x
     → Ends x → (client_of w r).finished ≡ true
 client_ended w b r coming seat x here e =

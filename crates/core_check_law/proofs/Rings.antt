@@ -40,6 +40,7 @@ sends_none : (me : Rank) (sends : List Sending) → sends_weight tokens (by.Rank
 sends_none me [] = refl
 sends_none me (x ∷ sends) = let later = sends_none me sends in omega arith
 
+-- a rank says no token
 pub said_none : (P : Server → Token → Type 0) (me : Rank) (sends : List Sending)
     → Each (λ (x : Sending). OnToken P (by.Rank me) x.to x.letter.message) sends
 said_none P me [] = tt
@@ -75,11 +76,13 @@ rank_ringed w me links x shape here within weight goes ring = record {
     keeps : RankKeeps tokens me (client_of w me) 0 x
     keeps = let none = sends_none me x.sends in omega arith
 
+-- a rank that begins a call leaves what tokens say of the servers
 pub call_ringed : (w next : World) (me : Rank) (call : Call) (x : Made) → IsWell w → Begins w me call x next → IsRinged w
     → IsRinged (after_rank w me w.links x)
 call_ringed w next me call x well does ring =
     rank_ringed w me w.links x well.shape does.here (call_within w next me call x well.own does) refl (λ P on. on) ring
 
+-- a rank that hears an answer leaves what tokens say of the servers
 pub answer_ringed : (w next : World) (from : Server) (me : Rank) (letter : Letter) (rest : List Letter) (x : Made) → IsWell w
     → Hears w from me letter rest x next → IsRinged w → IsRinged (after_rank w me (taken w (by.Server from) (by.Rank me) rest) x)
 answer_ringed w next from me letter rest x well does ring =
@@ -93,6 +96,7 @@ answer_ringed w next from me letter rest x well does ring =
 
 -- Along every run.
 
+-- each event keeps what tokens say of the servers
 pub does_ringed : (w next : World) → IsWell w → Does w next → IsRinged w → IsRinged next
 does_ringed w next well (A_call {me = me} {call = call} {x = x} does) ring =
     subst IsRinged (sym does.is) (call_ringed w next me call x well does ring)
@@ -120,6 +124,7 @@ runs_none config = record {
     by_place true = refl
     by_place false = refl
 
+-- at the start no token is under way
 pub begins_ringed : (config : Config) → IsRinged (start config)
 begins_ringed config = record {
   numbered = record {

@@ -38,6 +38,7 @@ parts : (s t : Bool) → s || t ≡ false → (s ≡ false) × (t ≡ false)
 parts false t e = (refl, e)
 parts true t e = absurd (cc)
 
+-- a run that finds no exhaustion is legal, whatever is asked where it is found
 pub run_other : (found : Bag → Bool) (b n : Bag) (es : List Entry) → list_any is_finding es ≡ false → IsRunWhere found b es n → IsRun b es n
 run_other found b n [] other run = run
 run_other found b n (e ∷ es) other run =

@@ -46,6 +46,7 @@ use Rattle.core_check_law.proofs.Ticks.{after}
 use Rattle.core_check_law.proofs.Turns.{token_front, zeroth_here}
 use Rattle.core_check_law.specs.OnWay.{of_home}
 
+-- each rank has finished
 abbrev pub AllFinished : World → Type 0
 AllFinished w = (r : Rank) → r.0 < w.config.ranks → (client_of w r).finished ≡ true
 
@@ -90,6 +91,7 @@ shuts_finished w b k from t h on is r inside = by_rests ((settling.rest).ranks r
 
 -- Acts.
 
+-- the act is no verdict of several servers by which one is shut
 abbrev pub IsShuts : Act → Type 0
 IsShuts (Shuts from t) = ⊥
 IsShuts _ = Unit {0}
@@ -135,6 +137,7 @@ follow_shut k (a ∷ more) w none are well several was =
     follow_shut k more (acted w k a) none.1 are.1 (act_well w k a well are.0) several
     (act_shut w k a well several are.0 (none_shuts a none.0) was)
 
+-- the stamp of an event keeps that a server is shut only where all ranks have finished
 pub tick_shut : (w : World) (me : Server) (stamp : ℕ) (up : Bool) → IsWell w → me.0 < w.config.servers → IsShutRight w
     → IsShutRight (ticks w me stamp up)
 tick_shut w me stamp up well here was shut =
@@ -185,6 +188,7 @@ answer_shut w next from me letter rest x well does was shut =
     let ended = was shut me does.here in
     absurd (cc)
 
+-- each event keeps that a server is shut only where all ranks have finished
 pub shut_kept : (w next : World) → IsChecked w → Does w next → IsShutRight w → IsShutRight next
 shut_kept w next c (A_call {me = me} {call = call} {x = x} does) was =
     subst IsShutRight (sym does.is) (call_shut w next me call x (c.holds).well does was)
@@ -201,6 +205,7 @@ run_shut w last (e ∷ events) c run was =
     let does = happens_does w run.0 e run.1 in
     run_shut run.0 last events (checked_kept w run.0 c does) run.2 (shut_kept w run.0 c does was)
 
+-- at the start no server is shut
 pub begins_open : (config : Config) → IsShutRight (start config)
 begins_open config shut =
     let open_still = ap (λ (s : ServerModel). s.kept.shut) (pool_at config zeroth config.servers_within.0) in
@@ -215,6 +220,7 @@ alone_shut w well alone shut r inside =
     let all = pool.shut alone shut in
     client_finished w zeroth r well inside here (all r.0 false (let long = pool.finished in omega arith))
 
+-- in every run a server is shut only where all ranks have finished
 pub every_run_shut : (config : Config) (events : List Event) (w : World) → Runs (start config) events w → IsShutRight w
 every_run_shut config events w run = by_number (cases_eq config.servers 1)
   where

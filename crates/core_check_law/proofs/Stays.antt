@@ -36,9 +36,11 @@ pub record IsParkedSame (s n : ServerModel) : Type 0 where
 abbrev pub IsSteady : ServerModel → ServerModel → Type 0
 IsSteady s n = (s.kept.ring.mark < s.activity) ⊎ IsParkedSame s n
 
+-- a server with the same ranks waiting and push is as quiet
 pub quiet_same : (s n : ServerModel) → n.config ≡ s.config → n.me ≡ s.me → IsParkedSame s n → is_quiet s ≡ true → is_quiet n ≡ true
 quiet_same s n c m same quiet = rw (c, m, same.waiting, same.finished, same.push) quiet
 
+-- a server with the same ranks waiting names them alike
 pub askers_same : (k n : Kept) → n.parked.waiting ≡ k.parked.waiting → askers n ≡ askers k
 askers_same k n same = ap (λ l. map wants l) same
 

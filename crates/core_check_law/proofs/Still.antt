@@ -43,15 +43,18 @@ is_still Notes_own = true
 is_still (Wants from) = true
 is_still _ = false
 
+-- what those who wait wish
 abbrev pub wishes : List Waiting → List Wish
 wishes l = map wish_of l
 
+-- the act leaves queue, wishes, push and ends as they were
 pub record IsStill (a : Act) (s : ServerModel) : Type 0 where
   pub queue : queue_after a s.kept.queue ≡ s.kept.queue
   pub wished : wishes (goes a) ≡ wishes (comes a s)
   pub push : turned (turns a) s.kept.pushing.push ≡ s.kept.pushing.push
   pub done : done_after a s.kept.done ≡ s.kept.done
 
+-- so it is of each act of this class
 pub still : (a : Act) (s : ServerModel) → is_still a ≡ true → IsStill a s
 still (Asks_on at wish to rest) s e = record { queue = refl; wished = refl; push = refl; done = refl }
 still (Wakes at wish from rest) s e = record { queue = refl; wished = refl; push = refl; done = refl }
@@ -68,6 +71,7 @@ still Notes_own s e = record { queue = refl; wished = refl; push = refl; done = 
 still (Wants from) s e = record { queue = refl; wished = refl; push = refl; done = refl }
 still _ s e = absurd (cc)
 
+-- such an act enters nothing
 pub still_enters : (a : Act) (s : ServerModel) → is_still a ≡ true → entries a s ≡ []
 still_enters (Asks_on at wish to rest) s e = refl
 still_enters (Wakes at wish from rest) s e = refl
@@ -102,6 +106,7 @@ pub record IsAsWas (w next : World) (t : Server) : Type 0 where
   pub done : (pool_of next t).kept.done ≡ (pool_of w t).kept.done
   pub push : (pool_of next t).kept.pushing.push ≡ (pool_of w t).kept.pushing.push
 
+-- such an act leaves each server as it was, as far as tokens say
 pub as_was : (w : World) (k : Server) (a : Act) → IsShaped w → IsAct w k a → IsStill a (pool_of w k) → (t : Server)
     → t.0 < w.config.servers → IsAsWas w (acted w k a) t
 as_was w k a shape is x t there = by_server (now w k a shape is.here t there)

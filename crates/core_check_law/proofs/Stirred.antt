@@ -9,6 +9,7 @@ use Rattle.core_law.specs.Acting.{IsAct}
 -- Acts of the ring, and all others. Each other act is of an event whose letter raises the activity, but for the ends that are told
 -- where exhaustion is found.
 
+-- the act may change what is free or who waits
 abbrev pub is_loud : Act → Bool
 is_loud Notices = false
 is_loud Notes_own = false

@@ -60,6 +60,7 @@ use Rattle.core_check_law.proofs.Ticks.{off_stirs, stirred_stays}
 
 -- Acts one after the other.
 
+-- each loud act of these is carried out where the server is stirred
 abbrev pub AreStirred : List Act → ServerModel → Type 0
 AreStirred [] s = Unit {0}
 AreStirred (a ∷ more) s = (is_loud a ≡ true → IsStirred s) × AreStirred more (done a s)
@@ -426,6 +427,7 @@ plan_stirred s from message p is stirring stirred = by_raised (raises message) r
         let soft = first_soft p.first heard is.takes down in
         (λ loud. let no : true ≡ false = sym loud ∙ soft in absurd (cc), by_few (stirring.few down))
 
+-- the loud acts of an event are carried out where the server is stirred
 pub acts_stirred : (s : ServerModel) (from : Actor) (message : Message) (list : List Act) → acts s from message ≡ Some list
     → (raises message ≡ true → IsStirred s) → AreStirred list s
 acts_stirred s from message list is stirred = by_plan (rule s from message) (planned s from message) (rule_stirring s from message) is

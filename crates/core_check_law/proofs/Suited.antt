@@ -226,6 +226,7 @@ rule_fine s (by.Server from) m e = server_fine s from m e
 
 -- Acts.
 
+-- the acts that follow a first one that leaves all that rests are suited to it
 pub suited : (s : ServerModel) (from : Actor) (m : Message) (first : Act) (more : List Act) → s.config.servers ≢ 1
     → acts s from m ≡ Some (first ∷ more) → takes first ≡ record { from = from; message = m } ∷ [] → rests first ≡ true
     → Each (Suits (raises m)) more

@@ -109,6 +109,7 @@ module _ (w : World) (me : Server) (stamp : ℕ) (up : Bool) (well : IsWell w) (
 
 -- Stirred.
 
+-- the stamp of an event that raises the activity stirs the server
 pub tick_stirs : (s : ServerModel) (stamp : ℕ) → s.kept.ring.mark ≤ s.activity → IsStirred (ticked s stamp true)
 tick_stirs s stamp low = inl (omega arith)
 
@@ -132,6 +133,7 @@ off_stirs a s zero_here off = inr ((
   ap (λ (x : Kept). x.ring.runs) (counted_kept (does a s) (says a s)) ∙ off,
 ))
 
+-- a stirred server stays so through an act that takes no mark
 pub stirred_stays : (a : Act) (s : ServerModel) → marks_new a ≡ false → IsStirred s → IsStirred (done a s)
 stirred_stays a s old (inl more) =
     let kept = ap (λ (x : Kept). x.ring.mark) (counted_kept (does a s) (says a s)) in

@@ -46,6 +46,7 @@ alone_kept config me a s here own sure one_server took said =
     let after = runs_alone config me a s here own sure alone in
     same_runs a s took said (after ∙ sym (own.alone alone))
 
+-- each act keeps that tokens under way are as many as checks run
 pub token_kept : (config : Config) (me : Server) (a : Act) (s : ServerModel) → me.0 < config.servers → IsPool config me s → Sure a s → Keeps a s
 token_kept config me Starts s here own sure = rw (sure.0.zeroth, sure.0.alone) refl
 token_kept config me (Fails from t why) s here own sure =
@@ -69,6 +70,7 @@ token_kept config me Shuts_alone s here own sure = alone_kept config me Shuts_al
 token_kept config me Checks_alone s here own sure = alone_kept config me Checks_alone s here own sure sure refl refl
 token_kept config me _ s here own sure = omega arith
 
+-- of another number nothing is counted
 pub not_here : (i n m : ℕ) → i ≢ n → cond (eqb i n) m 0 ≡ 0
 not_here i n m differs =
     let no_one : eqb i n ≡ false = false_from_ne_true (eqb i n) (λ e. differs (eqb-true i n e)) in rw no_one refl
@@ -87,6 +89,7 @@ token_count w shape some even =
     let e = even.same in
     omega arith
 
+-- the letter is no token
 abbrev pub NoToken : Actor → Actor → Letter → Type 0
 NoToken from to l = token_letter from to l.message ≡ 0
 
@@ -123,6 +126,7 @@ not_token P (by.Server from) (by.Server to) _ none = tt
 not_token P (by.Server from) (by.Rank to) m none = tt
 not_token P (by.Rank from) to m none = tt
 
+-- what follows of each token
 pub token_weaker : (P Q : Server → Token → Type 0) → ((to : Server) (t : Token) → P to t → Q to t) → (from to : Actor) (m : Message)
     → OnToken P from to m → OnToken Q from to m
 token_weaker P Q f (by.Server from) (by.Server to) (tells.Token t) p = f to t p
@@ -137,6 +141,7 @@ not_failed P (by.Server from) (by.Server to) _ none = tt
 not_failed P (by.Server from) (by.Rank to) m none = tt
 not_failed P (by.Rank from) to m none = tt
 
+-- what follows of each failed test
 pub failed_weaker : (P Q : Token → Type 0) → ((t : Token) → P t → Q t) → (from to : Actor) (m : Message)
     → OnFailed P from to m → OnFailed Q from to m
 failed_weaker P Q f (by.Server from) (by.Server to) (tells.Failed t why) p = f t p

@@ -96,6 +96,7 @@ more_told [] s sure none told = told
 more_told (a ∷ list) s sure none told =
     more_told list (done a s) sure.2 none.1 (act_told a s sure.0 (follows_low a none.0) told)
 
+-- acts that take no letter leave whether the problem is done
 pub more_done : (list : List Act) (s : ServerModel) → TakeNone list → (all_done list s).kept.done ≡ s.kept.done
 more_done [] s none = refl
 more_done (a ∷ list) s none =

@@ -22,6 +22,7 @@ use Rattle.core_check_law.proofs.Ticks.{after}
 abbrev pub HasVerdict : World → Type 0
 HasVerdict w = ((pool_of w zeroth).kept.exhausted ≡ true) ⊎ ((pool_of w zeroth).kept.shut ≡ true)
 
+-- once server 0 has found an end no server has a push
 abbrev pub IsDown : World → Type 0
 IsDown w = HasVerdict w → AreUnpushed w
 
@@ -45,6 +46,7 @@ push_stays (Stops_push to id length) s other sure free = refl
 push_stays (Ends_push to id length) s other sure free = refl
 push_stays _ s other sure free = free
 
+-- no push goes on after an act that begins none
 pub unpushed_stays : (w : World) (k : Server) (a : Act) → IsWell w → IsAct w k a → is_query a ≡ false → AreUnpushed w
     → AreUnpushed (acted w k a)
 unpushed_stays w k a well is other free t there = by_server (now w k a well.shape is.here t there)
@@ -101,6 +103,7 @@ abbrev pub is_promised : Act → Bool
 is_promised (Promises from id length) = true
 is_promised _ = false
 
+-- where no push goes on no act promises room
 pub promises_none : (w : World) (k : Server) (a : Act) → IsWell w → AreUnpushed w → IsAct w k a → is_promised a ≡ false
 promises_none w k (Promises from id length) well free is =
     absurd (pushes_none w k well free (Promises from id length) from (tells.PushQuery id length) is refl (itself from.0))
@@ -108,6 +111,7 @@ promises_none w k _ well free is = refl
 
 -- The stamp.
 
+-- the stamp of an event keeps that no server has a push after an end
 pub tick_down : (w : World) (me : Server) (stamp : ℕ) (up : Bool) → IsWell w → me.0 < w.config.servers → IsDown w
     → IsDown (ticks w me stamp up)
 tick_down w me stamp up well here was found t there =

@@ -38,6 +38,7 @@ found_back found b n (x ∷ es) run e =
     let later = found_back found run.0 n es run.2 e in
     is_found_after b x (ap (λ (y : Bag). y.exhausted) (sym run.1.2) ∙ later)
 
+-- what is open after entries was open before them
 pub open_before : (found : Bag → Bool) (b n : Bag) (es : List Entry) → IsRunWhere found b es n → (asked : List Asker) → IsOpen n asked
     → IsOpen b asked
 open_before found b n es run asked (inl nobody) = inl nobody
@@ -47,9 +48,11 @@ open_before found b n es run asked (inr fresh) = inr (found_back found b n es ru
 abbrev pub IsVoid : World → Bag → Server → Token → Type 0
 IsVoid w b to t = t.wave ≡ 2 → AreUnchanged w (reach w.config to) → IsOpen b t.asked → ⊥
 
+-- no token of wave 2 says anything of the bag, since its condition does not hold
 abbrev pub Voids : World → Bag → Type 0
 Voids w b = OnLinks (λ from to l. OnToken (IsVoid w b) from to l.message) w.config w.links
 
+-- so all that tokens say of the bag is so
 pub void_settles : (w : World) (b : Bag) → Voids w b → Settles w b
 void_settles w b on =
     weaker (λ from to l. OnToken (IsVoid w b) from to l.message)

@@ -36,6 +36,7 @@ abbrev pub goes_on : Act → Bool
 goes_on (Passes from t) = true
 goes_on _ = false
 
+-- an act that leaves all that rests takes no mark and says no token
 pub still_old : (a : Act) → is_still a ≡ true → (marks_new a ≡ false) × (says_token a ≡ false)
 still_old Starts e = absurd (cc)
 still_old (Marks from t) e = absurd (cc)
@@ -45,6 +46,7 @@ still_old Shuts_alone e = absurd (cc)
 still_old Checks_alone e = absurd (cc)
 still_old _ e = (refl, refl)
 
+-- an act that is neither of a turn nor of a server alone takes no mark and says no token
 pub other_old : (a : Act) → is_turn a ≡ false → is_alone a ≡ false → (marks_new a ≡ false) × (says_token a ≡ false)
 other_old Starts e f = absurd (cc)
 other_old (Marks from t) e f = absurd (cc)

@@ -21,9 +21,11 @@ use Rattle.server_law.specs.Carried.{Served}
 use Rattle.server_law.specs.State.{ServerModel, awaiting, idle, start}
 use Rattle.server_law.proofs.Examples.{Said, accepts, grant, grants, heard, puts, rank, reserves, run_of, says, server, tells_to, unit}
 
+-- six ranks and three servers
 abbrev pub three_servers : Config
 three_servers = run_of 6 3 (omega arith, omega arith) (omega arith, omega arith)
 
+-- server 0 at the start
 abbrev pub fresh : ServerModel
 fresh = start three_servers (server 0)
 
@@ -31,6 +33,7 @@ fresh = start three_servers (server 0)
 abbrev pub server_says : ℕ → Message → Said
 server_says from message = record { from = by.Server (server from); stamp = 0; message = message }
 
+-- a letter of server 0 to another server
 abbrev pub tells_server : ℕ → ℕ → ℕ → Message → Sending
 tells_server stamp place to message = sending stamp place (by.Server (server to)) message
 

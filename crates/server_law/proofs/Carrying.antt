@@ -42,10 +42,12 @@ use Rattle.server_law.specs.Waits.{asks_on, looks_again}
 
 -- Letters.
 
+-- the stamps and places of two lists of letters, one after the other
 pub stamped_joined : (xs ys : List ServerSaying) (s : ServerModel) → stamped s (xs ++ ys) ≡ stamped s xs ++ stamped (all_counted s xs) ys
 stamped_joined [] ys s = refl
 stamped_joined (x ∷ xs) ys s = ap (λ l. posted s x ∷ l) (stamped_joined xs ys (counted s x.to))
 
+-- two lists of letters counted one after the other
 pub counted_joined : (xs ys : List ServerSaying) (s : ServerModel) → all_counted s (xs ++ ys) ≡ all_counted (all_counted s xs) ys
 counted_joined [] ys s = refl
 counted_joined (x ∷ xs) ys s = counted_joined xs ys (counted s x.to)
@@ -78,9 +80,11 @@ followed_more x a more =
     let rest = carried more (done a x.state) in
     rw (append_assoc x.sends (sends a x.state) rest.sends, append_assoc x.entries (entries a x.state) rest.entries) refl
 
+-- one act that follows is carried out
 pub followed_one : (x : Served) (a : Act) → followed x (a ∷ []) ≡ with_act x a
 followed_one x a = followed_more x a [] ∙ followed_none (with_act x a)
 
+-- acts that follow in two parts
 pub followed_joined : (xs ys : List Act) (x : Served) → followed x (xs ++ ys) ≡ followed (followed x xs) ys
 followed_joined [] ys x = ap (λ z. followed z ys) (sym (followed_none x))
 followed_joined (a ∷ xs) ys x =
@@ -107,6 +111,7 @@ decided_carried (d ∷ ds) x =
     ∙ ap (λ s. followed (followed x first) (decided ds s)) (sym (carried_state first x.state))
     ∙ decided_carried ds (followed x first)
 
+-- a plan is its first act, and then what its deciders give
 pub plan_carried : (last : List Decider) (s : ServerModel) (p : Plan)
     → carried (in_order last s p) s ≡ followed_by (performed p.first s) (p.follow ++ last)
 plan_carried last s p = decided_carried (p.follow ++ last) (performed p.first s)
@@ -117,10 +122,12 @@ plan_carried last s p = decided_carried (p.follow ++ last) (performed p.first s)
 abbrev pub handled : ServerModel → Actor → Message → Option Served
 handled s from message = option_map (λ list. carried list s) (acts s from message)
 
+-- a letter with a stamp that is given is served by its rule
 pub serve_is : (s : ServerModel) (from : Actor) (letter : Letter) → is_within s.config from ≡ true → letter.stamp < stamp_limit
     → serve s from letter ≡ handled (at_event s letter) from letter.message
 serve_is s from letter within given = rw (within, lt-ltb letter.stamp stamp_limit given) refl
 
+-- a letter that has a rule is handled by it
 pub handled_by : (s : ServerModel) (from : Actor) (message : Message) (first : Act) (follow : List Decider)
     → rule s from message ≡ plan first follow
     → handled s from message ≡ Some (followed_by (performed first s) (follow ++ ends_event))
@@ -128,6 +135,7 @@ handled_by s from message first follow is =
     ap (λ o. option_map (λ list. carried list s) (option_map (in_order ends_event s) o)) is
     ∙ ap (λ x. Some x) (plan_carried ends_event s (record { first = first; follow = follow }))
 
+-- how a put is handled
 pub put_handled : (s : ServerModel) (from : Rank) (unit : Work) → expects_put s from unit ≡ true
     → handled s (by.Rank from) (tells.Put unit)
     ≡ Some (followed_by (performed (put_now s.kept unit) s) (settles unit.id ∷ presses (is_taken s.kept unit) ∷ ends_event))
@@ -135,6 +143,7 @@ put_handled s from unit expected =
     handled_by s (by.Rank from) (tells.Put unit) (put_now s.kept unit)
     (settles unit.id ∷ presses (is_taken s.kept unit) ∷ []) (rw expected refl)
 
+-- how a reserve is handled
 pub reserve_handled : (s : ServerModel) (wish : Wish) → runs_at_home s wish.rank ≡ true
     → handled s (by.Rank wish.rank) (tells.Reserve wish.request wish.types)
     ≡ Some (followed_by (performed (reserve_now s.kept wish) s) (asks_on wish.rank ∷ ends_event))
@@ -142,6 +151,7 @@ reserve_handled s wish expected =
     handled_by s (by.Rank wish.rank) (tells.Reserve wish.request wish.types) (reserve_now s.kept wish) (asks_on wish.rank ∷ [])
     (rw expected refl)
 
+-- how a fetch is handled
 pub fetch_handled : (s : ServerModel) (from : Rank) (request : ℕ) (id : UnitId) (p : Placed)
     → find (is_pinned_as id from) s.kept.queue.units ≡ Some p
     → handled s (by.Rank from) (tells.Fetch request id)
@@ -149,10 +159,12 @@ pub fetch_handled : (s : ServerModel) (from : Rank) (request : ℕ) (id : UnitId
 fetch_handled s from request id p found =
     handled_by s (by.Rank from) (tells.Fetch request id) (Fetches from request id p.unit) [] (rw found refl)
 
+-- how Finish is handled
 pub finish_handled : (s : ServerModel) (from : Rank) → runs s.kept from ≡ true
     → handled s (by.Rank from) tells.Finish ≡ Some (followed_by (performed (Notes_finish from) s) ends_event)
 finish_handled s from expected = handled_by s (by.Rank from) tells.Finish (Notes_finish from) [] (rw expected refl)
 
+-- how the word that the problem is done is handled
 pub done_handled : (s : ServerModel) (from : Rank) (request : ℕ)
     → handled s (by.Rank from) (tells.Done request)
     ≡ Some (followed_by (performed (Hears_done from request) s) (tells_idle ends_by.NoMoreWork ∷ ends_event))
@@ -161,6 +173,7 @@ done_handled s from request =
 
 -- Letters of another server.
 
+-- how a request of another home is handled
 pub ask_handled : (s : ServerModel) (from : Server) (wish : Wish) → (from.0 == s.me.0) ≡ false → expects_ask s from wish.rank ≡ true
     → handled s (by.Server from) (tells.Ask wish.rank wish.request wish.types)
     ≡ Some (followed_by (performed (answer_now s.kept from wish) s) ends_event)
@@ -232,6 +245,7 @@ module _ (s : ServerModel) (from : Server) (id : UnitId) (other : (from.0 == s.m
   cancel_handled expected =
       handled_by s (by.Server from) (tells.PushCancel id) (Withdraws from id) [] (rw (other, expected) refl)
 
+-- how a unit that comes is handled
 pub unit_handled : (s : ServerModel) (from : Server) (unit : Work) → (from.0 == s.me.0) ≡ false → expects_unit s.kept unit ≡ true
     → handled s (by.Server from) (tells.PushUnit unit)
     ≡ Some (followed_by (performed (Arrives from unit) s) (settles unit.id ∷ acks ∷ ends_event))

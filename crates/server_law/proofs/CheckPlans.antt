@@ -97,6 +97,7 @@ module _ (s : ServerModel) (from : Server) (t : Token) where
             let some : t.asked ≢ [] = λ none. let no : first ∷ more ≡ [] = sym are ∙ none in absurd (cc) in
             told s ends_by.Exhausted (Finds from t) refl (r, some, was) refl refl
 
+-- the rule of a token is a plan
 pub token_plan : (s : ServerModel) (from : Server) (t : Token) → (from.0 == s.me.0) ≡ false
     → IfSome (token_rule s from t) (IsPlan s (by.Server from) (tells.Token t))
 token_plan s from t apart = by_test (expects (ring_at s) from t) refl

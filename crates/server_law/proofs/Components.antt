@@ -28,6 +28,7 @@ use Rattle.server_law.proofs.Rooms.{AreRooms}
 abbrev pub with_units : List Placed → ℕ → ServerModel → ServerModel
 with_units units arrivals s = record s { kept = record s.kept { queue = record s.kept.queue { units = units; arrivals = arrivals } } }
 
+-- bag and server agree where both have other units
 pub units_agree : (b : Bag) (s : ServerModel) (all : List Lodged) (units : List Placed) (arrivals : ℕ) → ServerAgrees b s
     → HoldsUnits all s.me units → ServerAgrees (record b { units = all }) (with_units units arrivals s)
 units_agree b s all units arrivals m holds = record {
@@ -63,6 +64,7 @@ with_parts store common s = record s { kept = record s.kept { queue = record s.k
 abbrev pub HoldsParts : List Part → Server → Store → Type 0
 HoldsParts lots me store = (batch : BatchId) → part_in store batch ≡ option_and_then (part_at me) (find (of_batch batch) lots)
 
+-- bag and server agree where both have other parts
 pub parts_agree : (b : Bag) (s : ServerModel) (lots : List Part) (store : Store) (common : ℕ) → ServerAgrees b s
     → HoldsParts lots s.me store → sum_by (part_charge s.me) lots ≡ common
     → ServerAgrees (record b { parts = lots }) (with_parts store common s)
@@ -171,6 +173,7 @@ shared_agrees b s (Some c) is_open m =
 abbrev pub with_rooms : List Promise → ServerModel → ServerModel
 with_rooms promises s = record s { kept = record s.kept { queue = record s.kept.queue { promises = promises } } }
 
+-- bag and server agree where both have other promises
 pub rooms_agree : (b : Bag) (s : ServerModel) (rooms : List Room) (promises : List Promise) → ServerAgrees b s
     → AreRooms rooms s.me promises → sum_by (promise_charge s.me) rooms ≡ sum_by promised promises → HasDistinctPromises promises
     → ServerAgrees (record b { promises = rooms }) (with_rooms promises s)
@@ -198,6 +201,7 @@ promises_agree b s rooms m are same = rooms_agree b s rooms s.kept.queue.promise
 abbrev pub with_knowledge : Bool → Bool → ServerModel → ServerModel
 with_knowledge is_done is_exhausted s = record s { kept = record s.kept { done = is_done; exhausted = is_exhausted } }
 
+-- bag and server agree where the server knows of an end that the bag has
 pub known_agrees : (b : Bag) (s : ServerModel) (is_done is_exhausted hears knows : Bool) → ServerAgrees b s
     → (hears ≡ true → is_done ≡ true) → (knows ≡ true → is_exhausted ≡ true) → (s.me.0 ≡ 0 → is_exhausted ≡ true → knows ≡ true)
     → ServerAgrees (record b { done = is_done; exhausted = is_exhausted }) (with_knowledge hears knows s)

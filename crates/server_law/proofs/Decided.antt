@@ -42,9 +42,11 @@ use Rattle.server_law.proofs.Tests.{is_free_says}
 abbrev pub Follow : List Act → ServerModel → Type 0
 Follow list s = AreSure list s × TakeNone list
 
+-- what the decider gives is sure, and takes no letter
 abbrev pub Decides : Decider → Type 0
 Decides d = (s : ServerModel) → Follow (d s) s
 
+-- so it is of each of these deciders
 abbrev pub EachDecides : List Decider → Type 0
 EachDecides [] = Unit {0}
 EachDecides (d ∷ ds) = Decides d × EachDecides ds
@@ -58,14 +60,17 @@ abbrev pub EachHintsNone : List Decider → Type 0
 EachHintsNone [] = Unit {0}
 EachHintsNone (d ∷ ds) = HintsNone d × EachHintsNone ds
 
+-- sure acts after sure acts are sure
 pub are_sure_joined : (xs ys : List Act) (s : ServerModel) → AreSure xs s → AreSure ys (all_done xs s) → AreSure (xs ++ ys) s
 are_sure_joined [] ys s a b = b
 are_sure_joined (x ∷ xs) ys s a b = (a.0, a.1, are_sure_joined xs ys (done x s) a.2 b)
 
+-- two lists of acts that take no letter, joined
 pub take_none_joined : (xs ys : List Act) → TakeNone xs → TakeNone ys → TakeNone (xs ++ ys)
 take_none_joined [] ys a b = b
 take_none_joined (x ∷ xs) ys a b = (a.0, take_none_joined xs ys a.1 b)
 
+-- two lists of acts whose hints are of these wishes, joined
 pub hints_joined : (wishes : List Wish) (xs ys : List Act)
     → AreHintsOf wishes xs → AreHintsOf wishes ys → AreHintsOf wishes (xs ++ ys)
 hints_joined wishes [] ys a b = b
@@ -83,6 +88,7 @@ decided_hints_none (d ∷ ds) wishes s each =
 pub follow_joined : (xs ys : List Act) (s : ServerModel) → Follow xs s → Follow ys (all_done xs s) → Follow (xs ++ ys) s
 follow_joined xs ys s first then = (are_sure_joined xs ys s first.0 then.0, take_none_joined xs ys first.1 then.1)
 
+-- what such deciders give can follow
 pub decided_follow : (ds : List Decider) (s : ServerModel) → EachDecides ds → Follow (decided ds s) s
 decided_follow [] s each = (tt, tt)
 decided_follow (d ∷ ds) s each =
@@ -90,6 +96,7 @@ decided_follow (d ∷ ds) s each =
     let then = all_done (d s) s in
     follow_joined (d s) (decided ds then) s first (decided_follow ds then each.1)
 
+-- two lists of such deciders, joined
 pub each_joined : (ds es : List Decider) → EachDecides ds → EachDecides es → EachDecides (ds ++ es)
 each_joined [] es each later = later
 each_joined (d ∷ ds) es each later = (each.0, each_joined ds es each.1 later)
@@ -150,6 +157,7 @@ hints_of test all (w ∷ wishes) among = by_test (hints_of test all wishes (λ v
     by_test later true = (among w (0, w, omega arith, refl, refl), later)
     by_test later false = later
 
+-- settling a unit is such a decider
 pub settles_decides : (id : UnitId) → Decides (settles id)
 settles_decides id s = by_unit (find (is_free_as id) s.kept.queue.units) refl
   where
@@ -168,6 +176,7 @@ settles_decides id s = by_unit (find (is_free_as id) s.kept.queue.units) refl
     by_unit None found = (tt, tt)
     by_unit (Some p) found = by_taker p found (taker p.unit s.kept.parked.waiting) (taker_found p.unit s.kept.parked.waiting)
 
+-- settling a unit hints of wishes that were kept
 pub settles_hints : (id : UnitId) (s : ServerModel) → AreHintsOf s.kept.parked.wishes (settles id s)
 settles_hints id s = by_unit (find (is_free_as id) s.kept.queue.units)
   where
@@ -186,6 +195,7 @@ settles_hints id s = by_unit (find (is_free_as id) s.kept.queue.units)
 
 -- Where a push begins, and where an acknowledgement is owed.
 
+-- the beginning of a push is such a decider
 pub presses_decides : (taken : Bool) → Decides (presses taken)
 presses_decides false s = (tt, tt)
 presses_decides true s = by_query (query_of s.config s.me s.kept.pushing s.kept.queue) refl
@@ -203,6 +213,7 @@ presses_hints_none true wishes s = by_query (query_of s.config s.me s.kept.pushi
     by_query None = tt
     by_query (Some q) = (tt, tt)
 
+-- the acknowledgement is such a decider
 pub acks_decides : Decides acks
 acks_decides s = by_debt s.kept.owed refl
   where
@@ -220,6 +231,7 @@ acks_hints_none wishes s = by_debt s.kept.owed
 
 -- Where a rank that waits is asked for, and where it has become idle.
 
+-- asking the next server is such a decider
 pub asks_on_decides : (rank : Rank) → Decides (asks_on rank)
 asks_on_decides rank s = by_place (place_in (is_of rank) s.kept.parked.waiting) (place_found (is_of rank) s.kept.parked.waiting)
   where
@@ -237,6 +249,7 @@ asks_on_decides rank s = by_place (place_in (is_of rank) s.kept.parked.waiting) 
     by_place None is = (tt, tt)
     by_place (Some p) is = by_asked p is.stands p.here.asked refl p.here.to_ask refl
 
+-- asking the next server gives no hint
 pub asks_on_hints_none : (rank : Rank) → HintsNone (asks_on rank)
 asks_on_hints_none rank wishes s = by_place (place_in (is_of rank) s.kept.parked.waiting)
   where
@@ -269,6 +282,7 @@ idle_found rank waiting = by_place (place_in test waiting) (place_found test wai
         let both = and_parts (is_of rank p.here) (is_idle p.here) is.passes in
         record { stands = is.stands ∙ ap (λ e. p.at.before ++ e ∷ p.at.behind) (idle_is p.here both.1); own = both.0 }
 
+-- looking again for a rank is such a decider
 pub looks_again_decides : (rank : Rank) → Decides (looks_again rank)
 looks_again_decides rank s =
     by_place (place_in (λ e. is_of rank e && is_idle e) s.kept.parked.waiting) (idle_found rank s.kept.parked.waiting)
@@ -286,6 +300,7 @@ looks_again_decides rank s =
     by_place (Some p) is =
         by_tests s.kept.done s.kept.exhausted (best_for s.kept p.here.wish) p.at p.here.wish p.here.to_ask is.stands refl refl refl
 
+-- looking again for a rank gives no hint
 pub looks_again_hints_none : (rank : Rank) → HintsNone (looks_again rank)
 looks_again_hints_none rank wishes s = by_place (place_in (λ e. is_of rank e && is_idle e) s.kept.parked.waiting)
   where
@@ -307,6 +322,7 @@ cause_stays : (end : End) (at : Around) (wish : Wish) (rest : List Server) (told
 cause_stays ends_by.NoMoreWork at wish rest told s cause = cause
 cause_stays ends_by.Exhausted at wish rest told s cause = cause
 
+-- telling an end to those that are idle can follow
 pub told_follow : (end : End) (behind before : List Waiting) (s : ServerModel) → s.kept.parked.waiting ≡ before ++ behind
     → HasCause s.kept end → Follow (tells_all end before behind) s
 told_follow end [] before s stands cause = (tt, tt)
@@ -324,6 +340,7 @@ told_follow end (e ∷ behind) before s stands cause = by_asked e.asked refl (to
         ((stands ∙ ap (λ x. before ++ x ∷ behind) (idle_is e (ap is_none asked)), cause, rest.0), (refl, rest.1))
     by_asked (Some t) asked later = later (before ++ e ∷ []) s (stands ∙ sym (append_assoc before (e ∷ []) behind)) cause
 
+-- telling an end gives no hint
 pub told_hints_none : (end : End) (behind before : List Waiting) (wishes : List Wish)
     → AreHintsOf wishes (tells_all end before behind)
 told_hints_none end [] before wishes = tt
@@ -337,11 +354,13 @@ told_hints_none end (e ∷ behind) before wishes =
     by_asked None told passed = (tt, told)
     by_asked (Some t) told passed = passed
 
+-- telling an end to all that are idle gives no hint
 pub tells_idle_hints_none : (end : End) → HintsNone (tells_idle end)
 tells_idle_hints_none end wishes s = told_hints_none end s.kept.parked.waiting [] wishes
 
 -- What follows each event.
 
+-- notices give no hint
 pub notices_hints_none : HintsNone notices
 notices_hints_none wishes s = by_test (is_quiet s && not (is_noted s.kept.noted s.activity))
   where
@@ -353,6 +372,7 @@ notices_hints_none wishes s = by_test (is_quiet s && not (is_noted s.kept.noted 
     by_test true = by_me (s.me.0 == 0)
     by_test false = tt
 
+-- notices are such a decider
 pub notices_decides : Decides notices
 notices_decides s = by_test (is_quiet s && not (is_noted s.kept.noted s.activity)) refl
   where
@@ -364,6 +384,7 @@ notices_decides s = by_test (is_quiet s && not (is_noted s.kept.noted s.activity
     by_test true changed = by_me (and_parts (is_quiet s) (not (is_noted s.kept.noted s.activity)) changed).0 (s.me.0 == 0) refl
     by_test false changed = (tt, tt)
 
+-- the start of a check gives no hint
 pub checks_hints_none : HintsNone checks
 checks_hints_none wishes s = by_test (may_start (ring_at s) (is_quiet s))
   where
@@ -382,6 +403,7 @@ checks_hints_none wishes s = by_test (may_start (ring_at s) (is_quiet s))
     by_test true = by_number (s.config.servers == 1)
     by_test false = tt
 
+-- the start of a check is such a decider
 pub checks_decides : Decides checks
 checks_decides s = by_test (may_start (ring_at s) (is_quiet s)) refl
   where
@@ -408,5 +430,6 @@ checks_decides s = by_test (may_start (ring_at s) (is_quiet s)) refl
 pub ends_event_hints_none : EachHintsNone ends_event
 ends_event_hints_none = (notices_hints_none, (checks_hints_none, tt))
 
+-- what follows an event are such deciders
 pub ends_event_decides : EachDecides ends_event
 ends_event_decides = (notices_decides, (checks_decides, tt))

@@ -38,6 +38,7 @@ pub notices_unquiet : (s : ServerModel) → is_quiet s ≡ false → notices s �
 unfolding notices_if
 notices_unquiet s unquiet = ap (notices_if s) (and_left (is_quiet s) (not (is_noted s.kept.noted s.activity)) unquiet)
 
+-- where notice was given of the activity, no notice follows
 pub notices_noted : (s : ServerModel) → is_noted s.kept.noted s.activity ≡ true → notices s ≡ []
 unfolding notices_if
 notices_noted s noted = ap (notices_if s) (and_right (is_quiet s) (not (is_noted s.kept.noted s.activity)) (ap not noted))
@@ -86,6 +87,7 @@ starts_round s others =
 
 -- How the end is told, where each rank that waits is idle.
 
+-- no server that was asked for the rank is unanswered
 abbrev pub IsIdle : Waiting → Type 0
 IsIdle e = e.asked ≡ None
 
@@ -111,6 +113,7 @@ at_waiting s waiting = record s { kept = record s.kept { parked = record s.kept.
 abbrev pub tells_over : End → Waiting → ServerSaying
 tells_over end e = to_rank e.wish.rank (tells.Ended e.wish.request end)
 
+-- the entry that the rank was told the end
 abbrev pub enters_over : End → Waiting → Entry
 enters_over end e = enters.Over e.wish.rank e.wish.request end
 
@@ -122,6 +125,7 @@ all_told end waiting s = record {
   entries = map (enters_over end) waiting;
 }
 
+-- telling an end to those that are idle tells each of them
 pub tells_each : (end : End) (waiting : List Waiting) (s : ServerModel) → All IsIdle waiting → s.kept.parked.waiting ≡ waiting
     → carried (tells_all end [] waiting) s ≡ all_told end waiting s
 tells_each end [] s idle is = ap (λ l. let x : Served = record { state = at_waiting s l; sends = []; entries = [] } in x) is

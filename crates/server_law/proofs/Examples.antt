@@ -36,6 +36,7 @@ use Rattle.server_law.specs.Step.{serve}
 
 -- Runs, of servers with a limit of 64 bytes.
 
+-- a run of these numbers of ranks and servers
 abbrev pub run_of : (ranks servers : ℕ) → InRanks ranks → InServers servers → Config
 run_of ranks servers many several = record {
   ranks = ranks;
@@ -49,6 +50,7 @@ run_of ranks servers many several = record {
 abbrev one_rank : Config
 one_rank = run_of 1 1 (omega arith, omega arith) (omega arith, omega arith)
 
+-- two ranks and one server
 abbrev pub two_ranks : Config
 two_ranks = run_of 2 1 (omega arith, omega arith) (omega arith, omega arith)
 
@@ -58,9 +60,11 @@ three_ranks = run_of 3 1 (omega arith, omega arith) (omega arith, omega arith)
 abbrev two_servers : Config
 two_servers = run_of 1 2 (omega arith, omega arith) (omega arith, omega arith)
 
+-- a rank by its number
 abbrev pub rank : ℕ → Rank
 rank number = record { 0 = number }
 
+-- a server by its number
 abbrev pub server : ℕ → Server
 server number = record { 0 = number }
 
@@ -70,18 +74,22 @@ begun config = start config (server 0)
 
 -- Units of rank 0.
 
+-- rank 0's unit of this number
 abbrev pub id : ℕ → UnitId
 id number = record { rank = rank 0; number = number }
 
+-- a unit of this number, length, priority and target
 abbrev pub sized_unit : ℕ → ℕ → ℤ → Target → Work
 sized_unit size number prio target =
     record { id = id number; kind = record { 0 = 2 }; prio = prio; target = target; answer = None; common = None; body = replicate size 7 }
 
+-- a unit of this number and target
 abbrev pub unit : ℕ → Target → Work
 unit number target = sized_unit 4 number (pos 0) target
 
 -- Letters, and what is seen of the events that handle them.
 
+-- a letter and its sender
 pub record Said : Type 0 where
   pub from : Actor
   pub stamp : ℕ
@@ -91,12 +99,15 @@ pub record Said : Type 0 where
 abbrev stamped : ℕ → Message → Said
 stamped stamp message = record { from = by.Rank (rank 0); stamp = stamp; message = message }
 
+-- the rank of this number says this
 abbrev pub says : ℕ → Message → Said
 says from message = record { from = by.Rank (rank from); stamp = 0; message = message }
 
+-- the rank puts the unit
 abbrev pub puts : ℕ → Work → Said
 puts from unit = says from (tells.Put unit)
 
+-- the rank reserves, in the call of this number
 abbrev pub reserves : ℕ → ℕ → Said
 reserves from request = says from (tells.Reserve request None)
 
@@ -105,6 +116,7 @@ record Seen : Type 0 where
   entries : List Entry
   waits : List ℕ
 
+-- what the server makes of a letter
 abbrev pub heard : ServerModel → Said → Option Served
 heard s x = serve s x.from (record { stamp = x.stamp; place = 0; message = x.message })
 
@@ -139,6 +151,7 @@ is_shut config letters = option_map (λ (s : ServerModel). s.kept.shut) (after (
 abbrev pub tells_to : ℕ → ℕ → ℕ → Message → Sending
 tells_to stamp place to message = sending stamp place (by.Rank (rank to)) message
 
+-- the grant of a unit in this call
 abbrev pub grant : ℕ → Work → Message
 grant request unit = tells.Grant request (note_of (server 0) unit)
 
@@ -149,6 +162,7 @@ used_up request = tells.Ended request ends_by.Exhausted
 abbrev pub accepts : ℕ → Entry
 accepts number = enters.Accepted (server 0) (id number)
 
+-- the entry of a grant
 abbrev pub grants : ℕ → ℕ → ℕ → Entry
 grants to request number = enters.Granted (server 0) (rank to) request (id number)
 

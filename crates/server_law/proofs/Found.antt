@@ -35,11 +35,13 @@ pub record IsUnit (id : UnitId) (units : List Placed) (p : Placed) : Type 0 wher
   pub is : id_of p ≡ id
   pub there : Contains units p
 
+-- a unit that is found has this id and is in the list
 pub unit_is : (id : UnitId) (units : List Placed) (p : Placed) → unit_with id units ≡ Some p → IsUnit id units p
 unit_is id units p found =
     let listed = find_listed id_of units p id found in
     record { found = found; is = listed.1; there = listed.0 }
 
+-- if there is a unit of this id, it is found
 pub unit_there : (id : UnitId) (units : List Placed) → HasUnit id units → (p : Placed) × IsUnit id units p
 unit_there id units has =
     let says = find_says (λ p. same_unit (id_of p) id) (λ p. id_of p ≡ id) (λ p. unit_says (id_of p) id) units in

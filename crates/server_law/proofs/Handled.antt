@@ -47,6 +47,7 @@ use Rattle.server_law.proofs.Decided.{asks_on_decides, asks_on_hints_none, looks
 
 -- The rules.
 
+-- the rule of a put is a plan
 pub put_plan : (s : ServerModel) (unit : Work) → expects_put s unit.id.rank unit ≡ true
     → (is_done over : Bool) → s.kept.done ≡ is_done → is_over s.kept.queue unit ≡ over → (taken : Bool)
     → IsPlan s (by.Rank unit.id.rank) (tells.Put unit)
@@ -149,6 +150,7 @@ pub record IsAskedAt (s : ServerModel) (from : Server) (rank : Rank) (request : 
   pub own : p.here.wish.rank ≡ rank
   pub since : p.here.wish.request ≡ request
 
+-- a place where the sender is unanswered is that of the rank that waits for it
 pub asked_at_place : (s : ServerModel) (from : Server) (rank : Rank) (request : ℕ) (p : Place)
     → IsPlace (has_asked from rank request) s.kept.parked.waiting p → IsAskedAt s from rank request p
 asked_at_place s from rank request p is =

@@ -74,6 +74,7 @@ acts_wait_on (a ∷ more) s wish asked sure none has =
     acts_wait_on more (done a s) wish asked sure.2 none.1
     (act_waits_on a s wish asked sure.0 (subst (λ heard. Each (NoAnswer wish asked) heard) (sym none.0) tt) has)
 
+-- a rank for which a server is asked waits on until that server answers
 pub asked_wait_on : AskedWaitOn
 asked_wait_on s from letter x wish asked is waits other =
     let step = step_acts s from letter x is in
@@ -199,6 +200,7 @@ not_own : (s : ServerModel) (from : Actor) (letter : Letter) → IsExpected s fr
 not_own s (by.Rank from) letter expected is = absurd (cc)
 not_own s (by.Server from) letter expected is = expected.1 (cc)
 
+-- until then no unit of its home is granted to it and its call is not over
 pub asked_are_left : AskedAreLeft
 asked_are_left s from letter x wish asked is once home waits other foreign =
     let step = step_acts s from letter x is in

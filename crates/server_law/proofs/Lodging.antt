@@ -35,6 +35,7 @@ to_place place u = record u { place = place }
 pub no_slot : (me : Server) (u : Lodged) → pin_at me u.place ≡ None → slot_of me u ≡ None
 no_slot me u away = ap (λ o. option_map (λ (pin : Option Rank). record { unit = u.unit; pin = pin }) o) away
 
+-- a unit that is elsewhere weighs nothing here
 pub no_weight : (me : Server) (f : UnitWeight) (u : Lodged) → pin_at me u.place ≡ None → weight_at me f u ≡ 0
 no_weight me f u away = ap (pinned_weight f u.unit) away
 
@@ -44,14 +45,17 @@ slot_there me u p same pin =
     ap (λ o. option_map (λ (pin : Option Rank). record { unit = u.unit; pin = pin }) o) pin
     ∙ ap (λ (unit : Work). Some (record { unit = unit; pin = p.pin })) same
 
+-- a unit that is here weighs what the queue's unit weighs
 pub weight_there : (me : Server) (f : UnitWeight) (u : Lodged) (p : Placed) → u.unit ≡ p.unit → pin_at me u.place ≡ Some p.pin
     → weight_at me f u ≡ weight_in f p
 weight_there me f u p same pin =
     ap (pinned_weight f u.unit) pin ∙ ap (λ (unit : Work). weight_in f (record { unit = unit; pin = p.pin })) same
 
+-- a free unit here has no pin
 pub free_here : (me : Server) → pin_at me (Free me) ≡ Some None
 free_here me = ap (λ t. cond t (Some None) None) (same_number me.0)
 
+-- a unit pinned here has its pin
 pub pinned_here : (me : Server) (rank : Rank) → pin_at me (Pinned me rank) ≡ Some (Some rank)
 pinned_here me rank = ap (λ t. cond t (Some (Some rank)) None) (same_number me.0)
 
@@ -134,6 +138,7 @@ holds_added all me units unit holds new = record {
 
 -- A unit goes to another place.
 
+-- what a server holds where one unit moves in bag and queue
 pub holds_moved : (all : List Lodged) (me : Server) (units now : List Placed) (id : UnitId) (place : UnitPlace) (u : Lodged)
     → HoldsUnits all me units → find (of_id id) all ≡ Some u → unit_with id now ≡ slot_of me (record u { place = place })
     → ((other : UnitId) → same_unit id other ≡ false → unit_with other now ≡ unit_with other units) → HasDistinctIds now

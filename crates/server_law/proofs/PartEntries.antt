@@ -34,6 +34,7 @@ use Rattle.server_law.proofs.Entering.{AreSteps, charge_agrees, is_step, none_ch
 
 -- The bag's part of which the server has one.
 
+-- the part in the bag that the server keeps
 pub record IsLodged (b : Bag) (me : Server) (batch : BatchId) (part : Part) (lot : Lot) : Type 0 where
   pub found : part_of b batch ≡ Some lot
   pub here : lot.server ≡ me
@@ -194,6 +195,7 @@ module _ (found : Bag → Bool) (b : Bag) (s : ServerModel) (batch : BatchId) (p
 
 -- The acts.
 
+-- the entry of a common part that is kept
 pub keeps : (found : Bag → Bool) (b : Bag) (s : ServerModel) (rank : Rank) (request : ℕ) (common : List ℕ) → ServerAgrees b s
     → has_due b ≡ false → Begins b s.me rank request common → part_of b (batch_of rank request) ≡ None → exceeds s.kept.queue (length common) ≡ false
     → AreSteps found b (entries (Keeps rank request common) s) (done (Keeps rank request common) s)
@@ -234,6 +236,7 @@ keeps found b s rank request common m rests of new over =
         (λ other differs. in_inserted s.kept.parts batch other (fresh common) ∙ rw differs refl))
         (omega arith)
 
+-- the entry of a common part that is refused
 pub refuses_part : (found : Bag → Bool) (b : Bag) (s : ServerModel) (rank : Rank) (request : ℕ) (common : List ℕ) → ServerAgrees b s
     → has_due b ≡ false → Begins b s.me rank request common → exceeds s.kept.queue (length common) ≡ true
     → AreSteps found b (entries (Refuses_part rank request common) s) (done (Refuses_part rank request common) s)
@@ -245,6 +248,7 @@ refuses_part found b s rank request common m rests of over =
     (done (Refuses_part rank request common) s)
     (rw rests refl, (of.0, length common, of.1, ap offer of.2, rw m.servers m.within, of.3, used, rw m.limit above), refl) m rests
 
+-- the entries of a batch that ends
 pub closes : (found : Bag → Bool) (b : Bag) (s : ServerModel) (request : ℕ) (batch : BatchId) (accepted : ℕ) (part : Part) → ServerAgrees b s
     → has_due b ≡ false → EndsBatch b request batch → HasAccepted b batch accepted → part_in s.kept.parts batch ≡ Some part
     → AreSteps found b (entries (Closes request batch accepted part) s) (done (Closes request batch accepted part) s)
@@ -269,6 +273,7 @@ closes found b s request batch accepted part m rests of all held =
     legal : Legal b (enters.Closed s.me batch)
     legal = (of.0, request, of.1, lot, of.2, of.3, of.4, of.5, (rw m.servers m.within, is.found, is.here, is.unfreed))
 
+-- the entries of common bytes that are fetched
 pub fetches_part : (found : Bag → Bool) (b : Bag) (s : ServerModel) (rank : Rank) (request : ℕ) (batch : BatchId) (part : Part) → ServerAgrees b s
     → has_due b ≡ false → IsOwed b rank request batch → part_in s.kept.parts batch ≡ Some part
     → AreSteps found b (entries (Fetches_part rank request batch part) s) (done (Fetches_part rank request batch part) s)

@@ -23,6 +23,7 @@ pub record IsPlan (s : ServerModel) (from : Actor) (message : Message) (p : Plan
   pub follow : Follow (decided (p.follow ++ ends_event) (done p.first s)) (done p.first s)
   pub hints : AreHintsOf s.kept.parked.wishes (decided (p.follow ++ ends_event) (done p.first s))
 
+-- a rule by a test is a plan if each case is
 pub if_plan : (s : ServerModel) (from : Actor) (message : Message) (test : Bool) (p : Plan) → (test ≡ true → IsPlan s from message p)
     → IfSome (cond test (Some p) None) (IsPlan s from message)
 if_plan s from message true p is = is refl

@@ -55,6 +55,7 @@ held_rests from Spent held = refl
 
 -- Room is promised.
 
+-- the entry of room that is promised
 pub promises : (found : Bag → Bool) (b : Bag) (s : ServerModel) (from : Server) (id : UnitId) (n : ℕ) → ServerAgrees b s → has_due b ≡ false
     → expects_query s.kept id ≡ true → exceeds s.kept.queue n ≡ false → from ≢ s.me → IsHeldAt b from id → IsMeasured b id n
     → promise_of b id ≡ None → AreSteps found b (entries (Promises from id n) s) (done (Promises from id n) s)
@@ -94,6 +95,7 @@ promises found b s from id n m rests expected fits other held long none =
 
 -- The unit leaves.
 
+-- the entry of a unit that leaves
 pub leaves : (found : Bag → Bool) (b : Bag) (s : ServerModel) (to : Server) (p : Placed) → ServerAgrees b s → has_due b ≡ false → to.0 < b.servers
     → IsPromisedAt b to p.unit.id → unit_with p.unit.id s.kept.queue.units ≡ Some p → p.pin ≡ None
     → AreSteps found b (enters.Left s.me to p.unit.id ∷ [])

@@ -22,6 +22,7 @@ use Rattle.server_law.proofs.Decided.{acks_decides, acks_hints_none}
 use Rattle.server_law.proofs.Plans.{IsPlan, made, settled}
 use Rattle.server_law.proofs.Tests.{is_free_says}
 
+-- the rule of a query for room is a plan
 pub query_plan : (s : ServerModel) (from : Server) (id : UnitId) (length : ℕ) → expects_query s.kept id ≡ true
     → (over : Bool) → exceeds s.kept.queue length ≡ over
     → IsPlan s (by.Server from) (tells.PushQuery id length) (record { first = answer_query over from id length; follow = [] })
@@ -30,6 +31,7 @@ query_plan s from id length expected false is = made refl (expected, is) refl tt
 
 -- Where this server's push stands.
 
+-- the rule of promised room is a plan
 pub yes_plan : (s : ServerModel) (from : Server) (id : UnitId) (push : Option StandingPush) (free : Option Placed)
     → s.kept.pushing.push ≡ push → find (is_free_as id) s.kept.queue.units ≡ free
     → IfSome (yes_at from id push free) (IsPlan s (by.Server from) (tells.PushYes id))
@@ -50,6 +52,7 @@ yes_plan s from id (Some p) free stands found = by_test (is_push_as from id fals
     by_test true is = by_unit free found is
     by_test false is = tt
 
+-- the rule of refused room is a plan
 pub no_plan : (s : ServerModel) (from : Server) (id : UnitId) (push : Option StandingPush) → s.kept.pushing.push ≡ push
     → IfSome (no_at from id push) (IsPlan s (by.Server from) (tells.PushNo id))
 no_plan s from id None stands = tt
@@ -60,6 +63,7 @@ no_plan s from id (Some p) stands = by_test (is_push_as from id false p) refl
     by_test true is = made refl (stands ∙ ap Some (push_is from id false p is)) refl tt tt
     by_test false is = tt
 
+-- the rule of an acknowledgement is a plan
 pub ack_plan : (s : ServerModel) (from : Server) (id : UnitId) (push : Option StandingPush) → s.kept.pushing.push ≡ push
     → IfSome (ack_at from id push) (IsPlan s (by.Server from) (tells.PushAck id))
 ack_plan s from id None stands = tt
@@ -72,11 +76,13 @@ ack_plan s from id (Some p) stands = by_test (is_push_as from id true p) refl
 
 -- Where the unit comes, or is taken back.
 
+-- the rule of a unit that comes is a plan
 pub unit_plan : (s : ServerModel) (from : Server) (unit : Work) → expects_unit s.kept unit ≡ true
     → IsPlan s (by.Server from) (tells.PushUnit unit) (record { first = Arrives from unit; follow = settles unit.id ∷ acks ∷ [] })
 unit_plan s from unit expected =
     settled unit.id (Arrives from unit) (acks ∷ []) refl expected refl refl (acks_decides, tt) (acks_hints_none, tt)
 
+-- the rule of a cancel is a plan
 pub cancel_plan : (s : ServerModel) (from : Server) (id : UnitId) → has_promise id s.kept.queue.promises ≡ true
     → IsPlan s (by.Server from) (tells.PushCancel id) (record { first = Withdraws from id; follow = [] })
 cancel_plan s from id expected = made refl expected refl tt tt

@@ -21,6 +21,7 @@ use Rattle.work_queue.proofs.Named.{find_listed}
 use Rattle.work_queue.proofs.Promises.{less_left, promised_id, removed_is}
 use Rattle.server_law.specs.Agreement.{room_at, room_for}
 
+-- the promise is of this unit
 abbrev pub of_room : UnitId → Room → Bool
 of_room id p = same_unit p.id id
 
@@ -30,6 +31,7 @@ AreRooms rooms me promises = (id : UnitId) → room_for id promises ≡ option_a
 
 -- Room is promised.
 
+-- promises where one comes
 pub rooms_added : (rooms : List Room) (me : Server) (promises : List Promise) (id : UnitId) (n : ℕ) → AreRooms rooms me promises
     → find (of_room id) rooms ≡ None
     → AreRooms (rooms ++ record { server = me; id = id; length = n } ∷ []) me (promises ++ record { id = id; length = n } ∷ [])
@@ -63,6 +65,7 @@ rooms_added rooms me promises id n are none other =
 
 -- A promise ends.
 
+-- promises without those of a unit
 pub rooms_left : (rooms : List Room) (me : Server) (promises : List Promise) (id : UnitId) → AreRooms rooms me promises
     → AreRooms (filter (λ (p : Room). not (same_unit p.id id)) rooms) me (filter (is_for_other id) promises)
 rooms_left rooms me promises id are other = by_test (same_unit id other) refl
@@ -90,6 +93,7 @@ pub record IsRoom (rooms : List Room) (me : Server) (promises : List Promise) (i
   pub here : room.server ≡ me
   pub kept : room_for id promises ≡ Some (record { id = room.id; length = room.length })
 
+-- a promise of the queue is one of the bag
 pub room_is : (rooms : List Room) (me : Server) (promises : List Promise) (id : UnitId) (p : Promise) → AreRooms rooms me promises
     → room_for id promises ≡ Some p → IsRoom rooms me promises id
 room_is rooms me promises id p are there = by_found (find (of_room id) rooms) refl (sym (are id) ∙ there)

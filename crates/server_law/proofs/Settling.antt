@@ -31,11 +31,13 @@ settles_none id s none = rw none refl
 not_free : (id : UnitId) (units : List Placed) → HasNoUnit id units → HasFree id units → ⊥
 not_free id units new has = new has.0 has.1 has.2 (ap id_of has.3 ∙ has.4.0)
 
+-- a unit that is not here is not settled
 pub settles_unknown : (id : UnitId) (s : ServerModel) → HasNoUnit id s.kept.queue.units → settles id s ≡ []
 settles_unknown id s new = settles_none id s (none_free id s.kept.queue.units (not_free id s.kept.queue.units new))
 
 -- Where nobody waits, the wishes go that the unit takes off.
 
+-- where nobody waits, a free unit makes hints alone
 pub settles_nobody : (id : UnitId) (s : ServerModel) (p : Placed) → find (is_free_as id) s.kept.queue.units ≡ Some p
     → s.kept.parked.waiting ≡ [] → settles id s ≡ hint_all p.unit s.kept.parked.wishes
 settles_nobody id s p found nobody =
@@ -56,6 +58,7 @@ settles_unwished id s nobody unwished = by_unit (find (is_free_as id) s.kept.que
 abbrev pub free : Work → Placed
 free unit = record { unit = unit; pin = None }
 
+-- a unit that has come is found free
 pub finds_new : (units : List Placed) (unit : Work) → HasNoUnit unit.id units
     → find (is_free_as unit.id) (units ++ free unit ∷ []) ≡ Some (free unit)
 finds_new units unit new =
@@ -88,12 +91,14 @@ module _ (s : ServerModel) (unit : Work) (expected : expects_put s unit.id.rank 
 
 -- Where a unit comes from another server, it goes to who takes it.
 
+-- a unit that has come goes to the rank that takes it
 pub settles_arrived : (s : ServerModel) (from : Server) (unit : Work) → HasNoUnit unit.id s.kept.queue.units
     → settles unit.id (done (Arrives from unit) s) ≡ gives (done (Arrives from unit) s).kept unit (taker unit s.kept.parked.waiting)
 settles_arrived s from unit new = settles_new (done (Arrives from unit) s) s.kept.queue.units unit new refl
 
 -- Where there is no other server, no push begins.
 
+-- with one server no push begins
 pub presses_alone : (taken : Bool) (s : ServerModel) → s.config.servers ≡ 1 → presses taken s ≡ []
 presses_alone false s alone = refl
 presses_alone true s alone =

@@ -49,6 +49,7 @@ use Rattle.server_law.specs.State.{Kept, ServerModel, is_finished, is_home, is_w
 abbrev pub Says : Bool → Type 0 → Type 0
 Says b A = (b ≡ true) ↔ A
 
+-- two tests together say both
 pub both_say : (x y : Bool) {A B : Type 0} → Says x A → Says y B → Says (x && y) (A × B)
 both_say x y a b = (
   λ is. let parts = and_parts x y is in (a.0 parts.0, b.0 parts.1),
@@ -92,18 +93,22 @@ module _ {X : Type 0} (test : X → Bool) (P : X → Type 0) (says : (x : X) →
 
 -- Numbers and names.
 
+-- the test of equal numbers
 pub same_says : (m n : ℕ) → Says (m == n) (m ≡ n)
 same_says m n = (eqb-true m n, eq-eqb m n)
 
+-- the test of a lower number
 pub below_says : (m n : ℕ) → Says (nat_lt m n) (m < n)
 below_says m n = (ltb-true m n, lt-ltb m n)
 
 at_most_says : (m n : ℕ) → Says (nat_le m n) (m ≤ n)
 at_most_says m n = (leb-true m n, le-leb m n)
 
+-- the test of one rank
 pub rank_says : (a b : Rank) → Says (a.0 == b.0) (a ≡ b)
 rank_says a b = (same_rank_is a b, λ same. eq-eqb a.0 b.0 (ap (λ (r : Rank). r.0) same))
 
+-- the test of equal ids
 pub unit_says : (a b : UnitId) → Says (same_unit a b) (a ≡ b)
 unit_says a b = (same_unit_is a b, same_unit_from a b)
 
@@ -115,12 +120,15 @@ in_ranks_says config (Soft rank) = below_says rank.0 config.ranks
 
 -- Units and promises.
 
+-- the test that no unit of this id is here
 pub has_unit_says : (id : UnitId) (units : List Placed) → (has_unit id units ≡ false) ↔ HasNoUnit id units
 has_unit_says id units = none_says (λ p. same_unit (id_of p) id) (λ p. id_of p ≡ id) (λ p. unit_says (id_of p) id) units
 
+-- the test that no promise of this id is here
 pub has_promise_says : (id : UnitId) (promises : List Promise) → (has_promise id promises ≡ false) ↔ HasNoPromise id promises
 has_promise_says id promises = none_says (λ p. same_unit p.id id) (λ (p : Promise). p.id ≡ id) (λ p. unit_says p.id id) promises
 
+-- the test of a pin
 pub is_pin_says : (pin : Option Rank) (rank : Rank) → Says (is_pin pin rank) (pin ≡ Some rank)
 is_pin_says None rank = (λ no. absurd (cc), λ is. absurd (cc))
 is_pin_says (Some to) rank = (λ is. ap (λ (r : Rank). Some r) ((rank_says to rank).0 is), λ is. (rank_says to rank).1 (some_is is))
@@ -130,12 +138,15 @@ pub is_none_says : {X : Type 0} (o : Option X) → Says (is_none o) (o ≡ None)
 is_none_says None = (λ is. refl, λ is. refl)
 is_none_says (Some x) = (λ no. absurd (cc), λ is. absurd (cc))
 
+-- the test of a unit of this id that is pinned to the rank
 pub is_pinned_says : (id : UnitId) (rank : Rank) (p : Placed) → Says (is_pinned_as id rank p) ((id_of p ≡ id) × (p.pin ≡ Some rank))
 is_pinned_says id rank p = both_say (same_unit (id_of p) id) (is_pin p.pin rank) (unit_says (id_of p) id) (is_pin_says p.pin rank)
 
+-- the test of a free unit of this id
 pub is_free_says : (id : UnitId) (p : Placed) → Says (is_free_as id p) ((id_of p ≡ id) × (p.pin ≡ None))
 is_free_says id p = both_say (same_unit (id_of p) id) (is_none p.pin) (unit_says (id_of p) id) (is_none_says p.pin)
 
+-- a unit of an id pinned to the rank is found exactly if there is one
 pub pinned_says : (id : UnitId) (rank : Rank) (units : List Placed) → IsSome (find (is_pinned_as id rank) units) ↔ HasPinned id rank units
 pinned_says id rank units = find_says (is_pinned_as id rank) (λ p. (id_of p ≡ id) × (p.pin ≡ Some rank)) (is_pinned_says id rank) units
 
@@ -143,9 +154,11 @@ pinned_says id rank units = find_says (is_pinned_as id rank) (λ p. (id_of p ≡
 pub free_says : (id : UnitId) (units : List Placed) → IsSome (find (is_free_as id) units) ↔ HasFree id units
 free_says id units = find_says (is_free_as id) (λ p. (id_of p ≡ id) × (p.pin ≡ None)) (is_free_says id) units
 
+-- the test that room is promised to the unit
 pub promise_says : (id : UnitId) (promises : List Promise) → Says (has_promise id promises) (HasPromise id promises)
 promise_says id promises = any_says (λ p. same_unit p.id id) (λ (p : Promise). p.id ≡ id) (λ p. unit_says p.id id) promises
 
+-- the test that room of this length is promised to the unit
 pub room_says : (id : UnitId) (n : ℕ) (promises : List Promise) → Says (list_any (is_room_for id n) promises) (HasRoom id n promises)
 room_says id n promises =
     any_says (is_room_for id n) (λ (p : Promise). (p.id ≡ id) × (p.length ≡ n))
@@ -153,6 +166,7 @@ room_says id n promises =
 
 -- Pushes.
 
+-- the test of a query: neither the unit nor a promise of it is here
 pub query_says : (k : Kept) (id : UnitId) → Says (expects_query k id) (HasNoUnit id k.queue.units × HasNoPromise id k.queue.promises)
 query_says k id =
     both_say (not (has_unit id k.queue.units)) (not (has_promise id k.queue.promises))
@@ -187,6 +201,7 @@ fewer_says fetches None = (λ is accepted e. absurd (cc), λ all. refl)
 fewer_says fetches (Some n) =
     (λ is accepted e. subst (λ k. fetches < k) (some_is e) (ltb-true fetches n is), λ all. lt-ltb fetches n (all n refl))
 
+-- the test of a part whose batch ends
 pub can_close_says : (from : Rank) (batch : BatchId) (accepted common : ℕ) (p : Part)
     → Says (can_close from batch accepted common p) ((batch.rank ≡ from) × CanClose accepted p × (length p.bytes ≤ common))
 can_close_says from batch accepted common p =
@@ -200,11 +215,13 @@ can_close_says from batch accepted common p =
 can_fetch_says : (common : ℕ) (p : Part) → Says (can_fetch common p) (CanFetch p × (length p.bytes ≤ common))
 can_fetch_says common p = both_say _ _ (fewer_says p.fetches p.accepted) (at_most_says (length p.bytes) common)
 
+-- the test of a part that is to be kept
 pub keep_says : (s : ServerModel) (from : Rank) (request : ℕ) (common : List ℕ)
     → Says (expects_keep s from request common) ((part_in s.kept.parts (batch_of from request) ≡ None) × (length common ≤ body_limit))
 keep_says s from request common =
     both_say _ _ (is_none_says (part_in s.kept.parts (batch_of from request))) (at_most_says (length common) body_limit)
 
+-- the test of a batch that ends
 pub close_says : (s : ServerModel) (from : Rank) (batch : BatchId) (accepted : ℕ)
     → IsSome (part_if (can_close from batch accepted s.kept.queue.common) (part_in s.kept.parts batch))
     ↔ ((batch.rank ≡ from) × PartKept s.kept.parts batch s.kept.queue.common (CanClose accepted))
@@ -214,6 +231,7 @@ close_says s from batch accepted =
       λ is. says.1 (is.1.part, is.1.here, (is.0, is.1.holds, is.1.charged)),
     )
 
+-- the test of common bytes that are fetched
 pub share_says : (s : ServerModel) (batch : BatchId)
     → IsSome (part_if (can_fetch s.kept.queue.common) (part_in s.kept.parts batch)) ↔ PartKept s.kept.parts batch s.kept.queue.common CanFetch
 share_says s batch =
@@ -224,21 +242,26 @@ share_says s batch =
 
 -- Ranks.
 
+-- the test of a rank that is at home here
 pub is_home_says : (s : ServerModel) (rank : Rank) → Says (is_home s.config s.me rank) (IsHome s rank)
 is_home_says s rank = same_says (home_of s.config.servers rank) s.me.0
 
+-- the test of an entry of the rank
 pub is_of_says : (rank : Rank) (e : Waiting) → Says (is_of rank e) (e.wish.rank ≡ rank)
 is_of_says rank e = rank_says e.wish.rank rank
 
+-- the test of one server
 pub server_says : (a b : Server) → Says (a.0 == b.0) (a ≡ b)
 server_says a b =
     let named : ℕ → Server = λ n. record { 0 = n } in
     (λ is. ap named (eqb-true a.0 b.0 is), λ same. eq-eqb a.0 b.0 (ap (λ (x : Server). x.0) same))
 
+-- the test that this server is unanswered
 pub is_asked_at_says : (asked : Option Server) (from : Server) → Says (is_asked_at asked from) (asked ≡ Some from)
 is_asked_at_says None from = (λ no. absurd (cc), λ is. absurd (cc))
 is_asked_at_says (Some t) from = (λ is. ap (λ (x : Server). Some x) ((server_says t from).0 is), λ is. (server_says t from).1 (some_is is))
 
+-- the test of an entry of the rank since this call
 pub is_since_says : (rank : Rank) (request : ℕ) (e : Waiting)
     → Says (is_since rank request e) ((e.wish.rank ≡ rank) × (e.wish.request ≡ request))
 is_since_says rank request e = both_say (is_of rank e) (e.wish.request == request) (is_of_says rank e) (same_says e.wish.request request)
@@ -258,6 +281,7 @@ unanswered_says s from rank request =
     (λ (e : Waiting). (e.wish.rank ≡ rank) × (e.wish.request ≡ request) × (e.asked ≡ Some from)) (has_asked_says from rank request)
     s.kept.parked.waiting
 
+-- the test of a request of another home
 pub expects_ask_says : (s : ServerModel) (from : Server) (rank : Rank)
     → Says (expects_ask s from rank) ((rank.0 < s.config.ranks) × (home_of s.config.servers rank ≡ from.0))
 expects_ask_says s from rank =
@@ -315,9 +339,11 @@ running_says m t =
 
 -- Quiet servers.
 
+-- the entry is the rank's, and idle
 abbrev pub is_idle_of : Rank → Waiting → Bool
 is_idle_of rank e = is_of rank e && is_idle e
 
+-- the test that the rank waits here and is idle
 pub waits_idle_says : (s : ServerModel) (rank : Rank) → Says (list_any (is_idle_of rank) s.kept.parked.waiting) (WaitsIdle s rank)
 waits_idle_says s rank =
     any_says (is_idle_of rank) (λ (e : Waiting). (e.wish.rank ≡ rank) × (e.asked ≡ None))
@@ -327,6 +353,7 @@ waits_idle_says s rank =
 abbrev pub Rests : ServerModel → Rank → Type 0
 Rests s rank = IsHome s rank → WaitsIdle s rank ⊎ (is_finished s.kept rank ≡ true)
 
+-- the test that the rank has finished, or waits here and is idle
 pub rests_says : (s : ServerModel) (rank : Rank) → Says (rests s rank) (Rests s rank)
 rests_says s rank =
     by_tests (is_home s.config s.me rank) (is_finished s.kept rank) (list_any (is_idle_of rank) s.kept.parked.waiting) (is_home_says s rank)

@@ -16,6 +16,7 @@ abbrev pub Each : {X : Type 0} → (X → Type 0) → List X → Type 0
 Each P [] = Unit {0}
 Each P (x ∷ xs) = P x × Each P xs
 
+-- it holds of some element
 abbrev pub Has : {X : Type 0} → (X → Type 0) → List X → Type 0
 Has P [] = ⊥
 Has P (x ∷ xs) = P x ⊎ Has P xs
@@ -69,6 +70,7 @@ pub each_weaker : {X : Type 0} (P Q : X → Type 0) (xs : List X) → ((x : X) �
 each_weaker P Q [] f each = tt
 each_weaker P Q (x ∷ xs) f each = (f x each.0, each_weaker P Q xs f each.1)
 
+-- of each element both, if each of the two
 pub each_both : {X : Type 0} (P Q : X → Type 0) (xs : List X) → Each P xs → Each Q xs → Each (λ x. P x × Q x) xs
 each_both P Q [] a b = tt
 each_both P Q (x ∷ xs) a b = ((a.0, b.0), each_both P Q xs a.1 b.1)
@@ -90,6 +92,7 @@ none_of test (x ∷ xs) none =
     let sum = sum_by-cons (λ y. one (test y)) x xs in
     (one_of (test x) (omega arith), none_of test xs (omega arith))
 
+-- if an element passes, at least one is counted
 pub some_of : {X : Type 0} (test : X → Bool) (P : X → Type 0) (xs : List X) → ((x : X) → P x → test x ≡ true) → Has P xs
     → 1 ≤ count_by test xs
 some_of test P [] is has = absurd has
