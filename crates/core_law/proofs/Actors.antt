@@ -8,6 +8,7 @@ use Rattle.rank_client.specs.State.{ClientModel, start as new_client}
 use Rattle.server_law.specs.State.{ServerModel, start as new_pool}
 use Rattle.core_run.specs.World.{World, client_of, pool_of, rank_named, server_named}
 
+-- the world with the state of one client set
 abbrev pub with_client : World → Rank → ClientModel → World
 with_client w me s = record w { ranks = set w.ranks me.0 s }
 

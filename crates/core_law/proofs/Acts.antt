@@ -129,11 +129,13 @@ taken_weight config m me links (h ∷ more) here are sq =
 
 -- One act.
 
+-- what each act keeps is kept by acts one after the other
 pub acts_keep : (J : World → Type 0) (me : Server) → ((w : World) (a : Act) → IsAct w me a → J w → J (acted w me a))
     → (w : World) (list : List Act) → AreActs w me list → J w → J (acted_all w me list)
 acts_keep J me step w [] are holds = holds
 acts_keep J me step w (a ∷ more) are holds = acts_keep J me step (acted w me a) more are.1 (step w a are.0 holds)
 
+-- an act leaves a world of these actors
 pub shape_kept : (w : World) (me : Server) (a : Act) → IsShaped w → IsAct w me a → AreSaid w.config (says a (pool_of w me))
     → IsShaped (acted w me a)
 shape_kept w me a shape is said =

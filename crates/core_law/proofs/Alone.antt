@@ -57,6 +57,7 @@ none_named (p ∷ rooms) none =
     let all = none p.id in
     absurd (omega arith)
 
+-- with one server nothing is promised
 pub alone_unpromised : (w : World) (b : Bag) → IsWell w → w.config.servers ≡ 1 → IsPushed w b → b.promises ≡ []
 alone_unpromised w b well alone pushed =
     none_named b.promises

@@ -57,6 +57,7 @@ not_finished w me p well within call busy =
     let rests : is_idle p ≡ true = ap is_idle (sym call ∙ own.rests done) in
     absurd (cc (rests, busy)))
 
+-- a rank whose call is pending waits in client and bag
 pub waits_so : (w : World) (b : Bag) (me : Rank) (p : Pending) → IsWell w → IsLawful w b → IsCalling w b me p → Waits (client_of w me) p b
 waits_so w b me p well l is =
     let seat = is.seat in
@@ -79,6 +80,7 @@ pub replies : (w : World) (k : Server) (a : Act) (me : Rank) (now : Message) →
 replies w k a me now said one_goes nobody =
     record { said = λ awaited. rw said ((λ who. (refl, awaited)), tt); one_goes = one_goes; nobody = nobody }
 
+-- an act that answers a rank's call leaves every seat, with what was decided for that rank
 pub reply_passes : (w : World) (k : Server) (a : Act) (b n : Bag) (me : Rank) (p : Pending) (now : Message) (from : Server)
     → IsMade w k a b n → IsWell w
     → IsCalling w b me p → Replies w k a me now from → Comes (client_of w me) p now b n (entries a (pool_of w k))
@@ -208,6 +210,7 @@ pub record IsPutHere (w : World) (k : Server) (b : Bag) (unit : Work) : Type 0 w
   pub calling : IsCalling w b unit.id.rank (waits_for.Put unit first tried)
   pub here : k ≡ asked (client_of w unit.id.rank) first tried
 
+-- a put that is handled is of the rank's pending call
 pub put_here : (w : World) (k : Server) (a : Act) (b : Bag) (unit : Work) → IsLawful w b → IsAct w k a
     → takes a ≡ of_rank unit.id.rank (tells.Put unit) ∷ [] → IsPutHere w k b unit
 put_here w k a b unit l is takes_it =
@@ -220,6 +223,7 @@ pub record IsReserveHere (w : World) (k : Server) (b : Bag) (wish : Wish) : Type
   pub calling : IsCalling w b wish.rank (waits_for.Reserve wish.request wish.types)
   pub here : k ≡ home (client_of w wish.rank).config (client_of w wish.rank).me
 
+-- a reserve that is handled is of the rank's pending call
 pub reserve_here : (w : World) (k : Server) (a : Act) (b : Bag) (wish : Wish) → IsLawful w b → IsAct w k a
     → takes a ≡ of_rank wish.rank (tells.Reserve wish.request wish.types) ∷ [] → IsReserveHere w k b wish
 reserve_here w k a b wish l is takes_it =
@@ -233,6 +237,7 @@ pub record IsTryHere (w : World) (k : Server) (b : Bag) (wish : Wish) : Type 0 w
   pub calling : IsCalling w b wish.rank (waits_for.Try wish.request wish.types tried)
   pub here : k ≡ looks_at (client_of w wish.rank) tried
 
+-- a try that is handled is of the rank's pending call
 pub try_here : (w : World) (k : Server) (a : Act) (b : Bag) (wish : Wish) → IsLawful w b → IsAct w k a
     → takes a ≡ of_rank wish.rank (tells.Try wish.request wish.types) ∷ [] → IsTryHere w k b wish
 try_here w k a b wish l is takes_it =
@@ -247,6 +252,7 @@ pub record IsFetchHere (w : World) (k : Server) (b : Bag) (rank : Rank) (request
   pub named : note.id ≡ id
   pub here : k ≡ note.server
 
+-- a fetch that is handled is of the rank's pending call
 pub fetch_here : (w : World) (k : Server) (a : Act) (b : Bag) (rank : Rank) (request : ℕ) (id : UnitId) → IsLawful w b → IsAct w k a
     → takes a ≡ of_rank rank (tells.Fetch request id) ∷ [] → IsFetchHere w k b rank request id
 fetch_here w k a b rank request id l is takes_it =
@@ -265,6 +271,7 @@ home_here w k me well within is =
     let home_is : home w.config me ≡ k = ap server_named place in
     sym (rw (own.config, own.me) home_is)
 
+-- a rank that waits and is idle has its reserve pending
 pub waiting_call : (w : World) (k : Server) (b : Bag) (e : Waiting) → IsWell w → IsLawful w b → IsEntry w.config k e → e.asked ≡ None
     → ((coming : Option Message) → IsSeat w b e.wish.rank coming → IsWaiting (client_of w e.wish.rank) coming e)
     → IsReserveHere w k b e.wish
@@ -296,6 +303,7 @@ entry_here w k at e well here sits =
     let all = subst (λ (es : List Waiting). All (IsEntry w.config k) es) sits pool.waiting in
     all_at (IsEntry w.config k) at.before at.behind e all
 
+-- a rank that waits here and is idle, with its pending call and its seat
 pub idle_here : (w : World) (k : Server) (at : Around) (wish : Wish) (rest : List Server) (b : Bag) → IsWell w → IsLawful w b
     → k.0 < w.config.servers
     → (pool_of w k).kept.parked.waiting ≡ at.before ++ (idle wish rest ∷ at.behind) → IsReserveHere w k b wish
@@ -319,6 +327,7 @@ ask_call w k from a b wish l is takes_it within =
 
 -- What is taken weighs 1.
 
+-- a rank is counted as equal to itself
 pub one_self : (me : Rank) → one (me.0 == me.0) ≡ 1
 one_self me = ap one (eq-eqb me.0 me.0 refl)
 
@@ -331,6 +340,7 @@ pub record IsKeepHere (w : World) (k : Server) (b : Bag) (rank : Rank) (request 
   pub calling : IsCalling w b rank (waits_for.Keep request common first tried)
   pub here : k ≡ asked (client_of w rank) first tried
 
+-- the beginning of a batch that is handled is the rank's pending call
 pub keep_here : (w : World) (k : Server) (a : Act) (b : Bag) (rank : Rank) (request : ℕ) (common : List ℕ) → IsLawful w b → IsAct w k a
     → takes a ≡ of_rank rank (tells.KeepCommon request common) ∷ [] → IsKeepHere w k b rank request common
 keep_here w k a b rank request common l is takes_it =
@@ -346,6 +356,7 @@ pub record IsCloseHere (w : World) (k : Server) (b : Bag) (request : ℕ) (batch
   pub count : accepted ≡ (client_of w batch.rank).accepted
   pub here : k ≡ common.server
 
+-- the end of a batch that is handled is the rank's pending call
 pub close_here : (w : World) (k : Server) (a : Act) (b : Bag) (request : ℕ) (batch : BatchId) (accepted : ℕ) → IsLawful w b → IsAct w k a
     → takes a ≡ of_rank batch.rank (tells.CloseBatch request batch accepted) ∷ [] → IsCloseHere w k b request batch accepted
 close_here w k a b request batch accepted l is takes_it =
@@ -362,6 +373,7 @@ pub record IsCommonHere (w : World) (k : Server) (b : Bag) (rank : Rank) (reques
   pub named : common.batch ≡ batch
   pub here : k ≡ common.server
 
+-- a fetch of common bytes that is handled is of the rank's pending call
 pub common_here : (w : World) (k : Server) (a : Act) (b : Bag) (rank : Rank) (request : ℕ) (batch : BatchId) → IsLawful w b → IsAct w k a
     → takes a ≡ of_rank rank (tells.FetchCommon request batch) ∷ [] → IsCommonHere w k b rank request batch
 common_here w k a b rank request batch l is takes_it =
@@ -376,6 +388,7 @@ pub record IsCountHere (w : World) (k : Server) (b : Bag) (rank : Rank) (request
   pub calling : IsCalling w b rank (waits_for.Count request kind)
   pub here : k ≡ home (client_of w rank).config (client_of w rank).me
 
+-- a count that is handled is the rank's pending call
 pub count_here : (w : World) (k : Server) (a : Act) (b : Bag) (rank : Rank) (request : ℕ) (kind : WorkType) → IsLawful w b → IsAct w k a
     → takes a ≡ of_rank rank (tells.Count request kind) ∷ [] → IsCountHere w k b rank request kind
 count_here w k a b rank request kind l is takes_it =
@@ -404,6 +417,7 @@ pub record IsDoneHere (w : World) (k : Server) (b : Bag) (rank : Rank) (request 
   pub calling : IsCalling w b rank (waits_for.SetDone request tried)
   pub here : k ≡ looks_at (client_of w rank) tried
 
+-- the word that the problem is done is of the rank's pending call
 pub done_here : (w : World) (k : Server) (a : Act) (b : Bag) (rank : Rank) (request : ℕ) → IsLawful w b → IsAct w k a
     → takes a ≡ of_rank rank (tells.Done request) ∷ [] → IsDoneHere w k b rank request
 done_here w k a b rank request l is takes_it =

@@ -112,6 +112,7 @@ unopened w k b id u shape none even pushed found free =
 
 -- No room is promised for it.
 
+-- a letter of promised room is an open one
 pub promised_opens : (id : UnitId) (from to : Actor) (m : Message) → promised_letter id from to m ≤ open_letter id from to m
 promised_opens id (by.Server from) (by.Server to) m = by_message m
   where
@@ -123,6 +124,7 @@ promised_opens id (by.Server from) (by.Server to) m = by_message m
 promised_opens id (by.Server from) (by.Rank to) m = omega arith
 promised_opens id (by.Rank from) to m = omega arith
 
+-- a unit without an open letter has no promise
 pub unpromised : (w : World) (b : Bag) (id : UnitId) → IsPushed w b → links_weight w.config (letters_of (open_letter id)) w.links ≡ 0
     → promise_of b id ≡ None
 unpromised w b id pushed none =
@@ -132,6 +134,7 @@ unpromised w b id pushed none =
 
 -- A push begins.
 
+-- the query for room opens a push, and leaves what is known of the others
 pub queries_pushed : (w : World) (k to : Server) (id : UnitId) (size : ℕ) (b : Bag) (u : Lodged) → IsMade w k (Queries to id size) b b
     → (pool_of w k).kept.pushing.push ≡ None → IsBalanced (push_weights (pushing k)) w → unit_of b id ≡ Some u → u.place ≡ Free k
     → length u.unit.body ≡ size → IsPushed w b → IsPushed (acted w k (Queries to id size)) b

@@ -45,6 +45,7 @@ is_of_act enters.Exhausted = true
 is_of_act (enters.Over rank call end) = true
 is_of_act _ = false
 
+-- entries as acts make them
 abbrev pub AreOfActs : List Entry → Type 0
 AreOfActs es = Each (λ e. is_of_act e ≡ true) es
 
@@ -55,6 +56,7 @@ frees_of_act k batch part = by_due (is_due part)
     by_due true = (refl, tt)
     by_due false = tt
 
+-- the entries of an act are such
 pub of_act : (a : Act) (s : ServerModel) → AreOfActs (entries a s)
 of_act (Parks wish) s = tt
 of_act (Notes_finish rank) s = tt
@@ -191,12 +193,14 @@ facts_after found b n _ notes is step facts = absurd (cc)
 
 -- All entries of an act.
 
+-- such entries leave what notes say
 pub run_facts : (found : Bag → Bool) (es : List Entry) (b n : Bag) (notes : List UnitNote) → AreOfActs es → IsRunWhere found b es n
     → All (IsFact b) notes → All (IsFact n) notes
 run_facts found [] b n notes are run facts = subst (λ (x : Bag). All (IsFact x) notes) run facts
 run_facts found (e ∷ es) b n notes are run facts =
     run_facts found es run.0 n notes are.1 run.2 (facts_after found b run.0 e notes are.0 run.1 facts)
 
+-- entries that are not a server's leave its agreement with the bag
 pub run_servers : ServersStay → (found : Bag → Bool) (es : List Entry) (b n : Bag) (t : ServerModel) → Each (λ e. keeper e ≢ Some t.me) es
     → IsSoundBag b → IsRunWhere found b es n → ServerAgrees b t → ServerAgrees n t
 run_servers stay found [] b n t others sound run agrees = subst (λ (x : Bag). ServerAgrees x t) run agrees

@@ -23,16 +23,19 @@ use Rattle.core_law.proofs.Sums.{others_none, weigh-map_none}
 
 -- A server.
 
+-- each act takes and says as many letters of a rank's call as it changes who waits
 pub calls_even : (rank : Rank) (a : Act) (s : ServerModel) → IsEven (one_letter rank) a s
 calls_even rank (Finds from t) s = let none = others_none (call_letter rank) s.me s tells.Exhaust (λ to. refl) in omega arith
 calls_even rank (Shuts from t) s = let none = others_none (call_letter rank) s.me s tells.Shutdown (λ to. refl) in omega arith
 calls_even rank _ s = omega arith
 
+-- so it is of letters with the number of the call
 pub numbers_even : (rank : Rank) (next : ℕ) (a : Act) (s : ServerModel) → IsEven (numbered rank next) a s
 numbers_even rank next (Finds from t) s = let none = others_none (numbered_letter rank next) s.me s tells.Exhaust (λ to. refl) in omega arith
 numbers_even rank next (Shuts from t) s = let none = others_none (numbered_letter rank next) s.me s tells.Shutdown (λ to. refl) in omega arith
 numbers_even rank next _ s = omega arith
 
+-- so it is of letters between a home and another server about a rank
 pub remotes_even : (home asked : Server) (rank : Rank) (request : ℕ) (a : Act) (s : ServerModel)
     → IsEven (remotes home asked rank request) a s
 remotes_even home asked rank request (Finds from t) s =
@@ -41,6 +44,7 @@ remotes_even home asked rank request (Shuts from t) s =
     let none = others_none (remotes_letter home asked rank request) s.me s tells.Shutdown (λ to. refl) in omega arith
 remotes_even home asked rank request _ s = omega arith
 
+-- so it is of all letters between servers about a rank
 pub any_even : (rank : Rank) (a : Act) (s : ServerModel) → IsEven (any_remote rank) a s
 any_even rank (Finds from t) s = let none = others_none (any_remote_letter rank) s.me s tells.Exhaust (λ to. refl) in omega arith
 any_even rank (Shuts from t) s = let none = others_none (any_remote_letter rank) s.me s tells.Shutdown (λ to. refl) in omega arith
@@ -68,6 +72,7 @@ kinds_begun config me s x b (It_leaves l) =
     let sends = l.weight (misfit config (by.Rank me)) in
     omega arith
 
+-- each step of a rank keeps that letters are of kinds that go there
 pub kinds_law : (config : Config) → IsLaw config (kinds config)
 kinds_law config = record { heard = kinds_heard config; begun = kinds_begun config }
 
@@ -110,6 +115,7 @@ call_begun config rank me s x b (It_leaves l) =
     let sends = l.weight (call_letter rank (by.Rank me)) in
     rw (b.free, l.pending) (omega arith)
 
+-- each step of a rank keeps that its pending call has one letter
 pub one_letter_law : (config : Config) (rank : Rank) → IsLaw config (weights (one_letter rank))
 one_letter_law config rank = record { heard = call_heard config rank; begun = call_begun config rank }
 
@@ -134,6 +140,7 @@ number_begun config rank next me s x b (It_leaves l) =
     let sends = l.weight (numbered_letter rank next (by.Rank me)) in
     rw (b.free, l.pending) (omega arith)
 
+-- and with the number of the call
 pub numbered_law : (config : Config) (rank : Rank) (next : ℕ) → IsLaw config (weights (numbered rank next))
 numbered_law config rank next = record { heard = number_heard config rank next; begun = number_begun config rank next }
 
@@ -144,6 +151,7 @@ pub weighs_none : {X : Type 0} (xs : List X) → weigh (λ (x : X). 0) xs ≡ 0
 weighs_none [] = refl
 weighs_none (x ∷ xs) = let later = weighs_none xs in omega arith
 
+-- each step of a rank leaves letters between servers
 pub remotes_law : (config : Config) (home asked : Server) (rank : Rank) (request : ℕ)
     → IsLaw config (weights (remotes home asked rank request))
 remotes_law config home asked rank request = record {
@@ -151,6 +159,7 @@ remotes_law config home asked rank request = record {
   begun = λ me s x b after. let none = weighs_none x.sends in omega arith;
 }
 
+-- and all of them about a rank
 pub any_law : (config : Config) (rank : Rank) → IsLaw config (weights (any_remote rank))
 any_law config rank = record {
   heard = λ me s from m x h after. let none = weighs_none x.sends in omega arith;

@@ -51,6 +51,7 @@ travels_opens id (by.Server from) (by.Server to) m = by_message m
 travels_opens id (by.Server from) (by.Rank to) m = omega arith
 travels_opens id (by.Rank from) to m = omega arith
 
+-- what is known of pushes says where each unit and each promise is
 pub are_brought : (w : World) (b : Bag) → IsPushed w b → AreBrought w b
 are_brought w b pushed = record {
   told = pushed.letters;

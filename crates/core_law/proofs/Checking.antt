@@ -69,6 +69,7 @@ tested_runs wave r = by_test (eqb wave 2) refl
     by_test true is = rw is refl
     by_test false is = rw is refl
 
+-- the tests of a token leave the mark
 pub tested_mark : (wave : ℕ) (r : Ring) → (tested_in wave r).mark ≡ r.mark
 tested_mark wave r = by_test (eqb wave 2) refl
   where
@@ -76,6 +77,7 @@ tested_mark wave r = by_test (eqb wave 2) refl
     by_test true is = rw is refl
     by_test false is = rw is refl
 
+-- at a server that is alone no check runs after an act
 pub alone_after : (a : Act) (s : ServerModel) → s.config.servers ≡ 1 → s.me.0 ≡ 0 → Sure a s → s.kept.ring.runs ≡ false
     → (ring_after a s).runs ≡ false
 alone_after Notes_own s alone zeroth sure was = was
@@ -96,6 +98,7 @@ alone_after _ s alone zeroth sure was = was
 marked : (s : ServerModel) → s.config.servers ≡ 1 → s.me.0 < s.config.servers → (check_alone s).ring.ring.mark ≤ s.activity
 marked s alone here = let is = (check_ended s alone (omega arith)).mark in omega arith
 
+-- the last mark is of the activity or of less, after an act too
 pub mark_after : (a : Act) (s : ServerModel) → s.me.0 < s.config.servers → Sure a s → s.kept.ring.mark ≤ s.activity
     → (ring_after a s).mark ≤ s.activity
 mark_after Notes_own s here sure was = was
@@ -113,6 +116,7 @@ mark_after Shuts_alone s here sure was = marked s sure.0 here
 mark_after Checks_alone s here sure was = marked s sure here
 mark_after _ s here sure was = was
 
+-- the last notice is of the activity or of less, after an act too
 pub noted_is : (a : Act) (s : ServerModel) → IfSome s.kept.noted (λ n. n ≤ s.activity) → IfSome (noted_after a s) (λ n. n ≤ s.activity)
 noted_is Notices s was = omega arith
 noted_is Notes_own s was = omega arith
@@ -139,6 +143,7 @@ quiet_finished s alone zeroth long quiet nobody =
     ∙ AllPass-from_list_all test (range_with_len 0 s.config.ranks) all i 0 (omega arith) in
     finished_where (is_home s.config s.me (rank_named i)) (is_finished s.kept (rank_named i)) here (rw nobody at rest))
 
+-- a server that is alone is shut only where each rank has finished, after an act too
 pub shut_is : (a : Act) (s : ServerModel) → s.config.servers ≡ 1 → s.me.0 ≡ 0 → length s.kept.finished ≡ s.config.ranks
     → Elsewhere a s → Sure a s → (s.kept.shut ≡ true → All (λ finished. finished ≡ true) s.kept.finished)
     → shut_after a s.kept.shut ≡ true → All (λ finished. finished ≡ true) (finished_after a s.kept.finished)

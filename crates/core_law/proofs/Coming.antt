@@ -54,12 +54,14 @@ use Rattle.core_law.specs.Lawful.{IsFact}
 
 -- The counts of a rank's batch, where the parts are the same.
 
+-- what a batch has accepted depends on the parts alone
 pub accepted_same : (b c : Bag) (o : Option CommonRef) (n : ℕ) → c.parts ≡ b.parts → HasAccepted b o n → HasAccepted c o n
 accepted_same b c None n same has = tt
 accepted_same b c (Some batch) n same has = (has.0, ap (find (λ (p : Part). same_batch p.batch batch.batch)) same ∙ has.1, has.2)
 
 -- A rank whose request is under way or that waits, and one whose answer is decided.
 
+-- the rank waits for its call, in client and bag
 pub record Waits (c : ClientModel) (p : Pending) (b : Bag) : Type 0 where
   pub rank : rank_at b c.me ≡ Some (in_call c p None)
   pub servers : b.servers ≡ c.config.servers
@@ -70,6 +72,7 @@ pub record Waits (c : ClientModel) (p : Pending) (b : Bag) : Type 0 where
   pub owed : IsOwedIn b p None
   pub accepted : HasAccepted b (in_call c p None).batch (accepted_by c p None)
 
+-- what the entries have decided of the rank's call, and how it stands then
 pub record Comes (c : ClientModel) (p : Pending) (a : Message) (b next : Bag) (es : List Entry) : Type 0 where
   pub rank : rank_at next c.me ≡ Some (in_call c p (Some a))
   pub servers : next.servers ≡ c.config.servers
@@ -82,6 +85,7 @@ pub record Comes (c : ClientModel) (p : Pending) (a : Message) (b next : Bag) (e
 
 -- Both are seats.
 
+-- a client that stands for its rank and waits, waits in the bag
 pub waits_of : (c : ClientModel) (p : Pending) (b : Bag) → c.pending ≡ p → c.finished ≡ false → ClientAgrees c None b
     → All (IsFact b) (holds c None) → IsCall c c.pending → Waits c p b
 waits_of c p b is going a facts call = subst (λ (q : Pending). Waits c q b) is (record {
@@ -101,6 +105,7 @@ Decided c a b next es =
     ClientAgrees c (Some a) next × (said c c.pending (Some a) ≡ said c c.pending None ++ calls_from b es c.me)
     × All (IsFact next) (holds c (Some a))
 
+-- what has come is decided
 pub decided_of : (c : ClientModel) (p : Pending) (a : Message) (b next : Bag) (es : List Entry) → c.pending ≡ p → c.finished ≡ false
     → Comes c p a b next es → Decided c a b next es
 decided_of c p a b next es is going comes = of_pending (subst (λ (q : Pending). Comes c q a b next es) (sym is) comes)
@@ -111,21 +116,26 @@ decided_of c p a b next es is going comes = of_pending (subst (λ (q : Pending).
 
 -- One entry.
 
+-- a run of one entry is its step
 pub single : (b next : Bag) (e : Entry) → IsRun b (e ∷ []) next → Legal b e × (next ≡ after b e)
 single b next e run = (run.1.1, sym run.2 ∙ run.1.2)
 
+-- the calls of an entry that says one
 pub one_call : (b : Bag) (e : Entry) (rank : Rank) (s : Said) → says b e ≡ Some (rank, s) → calls_from b (e ∷ []) rank ≡ s ∷ []
 one_call b e rank s is = ap (λ o. said_by rank o ++ []) is ∙ rw (eq-eqb rank.0 rank.0 refl) refl
 
+-- the calls of an entry that says nothing
 pub no_call : (b : Bag) (e : Entry) (rank : Rank) → says b e ≡ None → calls_from b (e ∷ []) rank ≡ []
 no_call b e rank is = ap (λ o. said_by rank o ++ []) is
 
+-- a rank that was changed is found changed
 pub rank_changed : (b : Bag) (rank : Rank) (f : RankState → RankState) (r : RankState) → rank_at b rank ≡ Some r
     → rank_at (with_rank rank f b) rank ≡ Some (f r)
 rank_changed b rank f r at = changed_here f rank.0 b.ranks r at
 
 -- The call is over.
 
+-- the rank's state once it was told the end
 abbrev pub overs : End → RankState → RankState
 overs end r = ended (record r { end = Some end })
 
@@ -142,6 +152,7 @@ pub record IsEnded (c : ClientModel) (p : Pending) (request : ℕ) (end : End) :
   pub batch : (in_call c p (Some (tells.Ended request end))).batch ≡ (in_call c p None).batch
   pub accepted : accepted_by c p (Some (tells.Ended request end)) ≡ accepted_by c p None
 
+-- an end that is told answers the call
 pub over_comes : (c : ClientModel) (p : Pending) (b next : Bag) (request : ℕ) (end : End) → Waits c p b → IsEnded c p request end
     → IsRun b (enters.Over c.me request end ∷ []) next
     → Comes c p (tells.Ended request end) b next (enters.Over c.me request end ∷ [])
@@ -162,6 +173,7 @@ over_comes c p b next request end w e run =
       facts = rw e.notes (facts_same b (with_rank c.me (overs end) b) (c.handles ++ note_coming p None) refl w.facts);
     })
 
+-- a put can be answered by an end
 pub put_ended : (c : ClientModel) (unit : Unit) (first : Server) (tried request : ℕ) (end : End)
     → IsEnded c (waits_for.Put unit first tried) request end
 put_ended c unit first tried request end = record {
@@ -177,6 +189,7 @@ put_ended c unit first tried request end = record {
   accepted = refl;
 }
 
+-- a reserve can be answered by an end
 pub reserve_ended : (c : ClientModel) (request : ℕ) (types : Option (List WorkType)) (to : ℕ) (end : End)
     → IsEnded c (waits_for.Reserve request types) to end
 reserve_ended c request types to end = record {
@@ -192,6 +205,7 @@ reserve_ended c request types to end = record {
   accepted = refl;
 }
 
+-- a try can be answered by an end
 pub try_ended : (c : ClientModel) (request : ℕ) (types : Option (List WorkType)) (tried to : ℕ) (end : End)
     → IsEnded c (waits_for.Try request types tried) to end
 try_ended c request types tried to end = record {
@@ -207,6 +221,7 @@ try_ended c request types tried to end = record {
   accepted = refl;
 }
 
+-- the beginning of a batch can be answered by an end
 pub keep_ended : (c : ClientModel) (request : ℕ) (common : List ℕ) (first : Server) (tried to : ℕ) (end : End)
     → IsEnded c (waits_for.Keep request common first tried) to end
 keep_ended c request common first tried to end = record {
@@ -232,6 +247,7 @@ ring_next config first tried me is =
     map-range_with_len_more (behind config first) 0 tried tried (omega arith) in
     ap (λ s. ring_from config first tried ++ s ∷ []) is ∙ sym more
 
+-- a put that is refused
 pub refused_comes : (c : ClientModel) (unit : Unit) (first : Server) (tried : ℕ) (me : Server) (b next : Bag) (used : ℕ)
     → Waits c (waits_for.Put unit first tried) b → me ≡ asked c first tried → IsRun b (enters.Refused me unit.id used ∷ []) next
     → Comes c (waits_for.Put unit first tried) (tells.Full unit.id.number used) b next (enters.Refused me unit.id used ∷ [])
@@ -278,6 +294,7 @@ one_more b n (Some c) k same has = (
   ap (λ m. m + 1) has.2,
 )
 
+-- a put that is accepted
 pub accepted_comes : (c : ClientModel) (unit : Unit) (first : Server) (tried : ℕ) (me : Server) (b next : Bag)
     → Waits c (waits_for.Put unit first tried) b → IsRun b (enters.Accepted me unit.id ∷ []) next
     → Comes c (waits_for.Put unit first tried) (tells.Accepted unit.id.number) b next (enters.Accepted me unit.id ∷ [])
@@ -346,6 +363,7 @@ pub record IsGranted (c : ClientModel) (p : Pending) (request : ℕ) (note : Uni
   pub batch : (in_call c p (Some (tells.Grant request note))).batch ≡ (in_call c p None).batch
   pub accepted : accepted_by c p (Some (tells.Grant request note)) ≡ accepted_by c p None
 
+-- a reserve can be answered by a grant
 pub reserve_granted : (c : ClientModel) (request : ℕ) (types : Option (List WorkType)) (to : ℕ) (note : UnitNote)
     → IsGranted c (waits_for.Reserve request types) to note
 reserve_granted c request types to note = record {
@@ -362,6 +380,7 @@ reserve_granted c request types to note = record {
   accepted = refl;
 }
 
+-- a try can be answered by a grant
 pub try_granted : (c : ClientModel) (request : ℕ) (types : Option (List WorkType)) (tried to : ℕ) (note : UnitNote)
     → IsGranted c (waits_for.Try request types tried) to note
 try_granted c request types tried to note = record {
@@ -378,6 +397,7 @@ try_granted c request types tried to note = record {
   accepted = refl;
 }
 
+-- a unit that is granted
 pub granted_comes : (c : ClientModel) (p : Pending) (request : ℕ) (me : Server) (work : Unit) (u : Lodged) (b next : Bag)
     → IsGranted c p request (note_of me work) → Waits c p b → unit_of b work.id ≡ Some u → u.unit ≡ work → u.place ≡ Free me
     → IsRun b (enters.Granted me c.me request work.id ∷ []) next
@@ -415,6 +435,7 @@ granted_comes c p request me work u b next g w there same free run =
 
 -- A server has looked in vain.
 
+-- a try for which a server has looked
 pub looked_comes : (c : ClientModel) (request : ℕ) (types : Option (List WorkType)) (tried : ℕ) (me : Server) (b next : Bag)
     → Waits c (waits_for.Try request types tried) b → me ≡ looks_at c tried → IsRun b (enters.Looked me c.me request ∷ []) next
     → Comes c (waits_for.Try request types tried) (tells.Nothing request) b next (enters.Looked me c.me request ∷ [])
@@ -454,6 +475,7 @@ fetched_shares c request note u b w there =
     let one : fact.0 ≡ u = some_is (sym fact.1 ∙ there) in
     fact.2 ∙ ap (λ (v : Lodged). note_of note.server v.unit) one
 
+-- a unit's own bytes
 pub fetched_comes : (c : ClientModel) (request : ℕ) (note : UnitNote) (me : Server) (work : Unit) (u : Lodged) (b next : Bag)
     → Waits c (waits_for.Fetch request note) b → unit_of b note.id ≡ Some u → u.unit ≡ work
     → IsRun b (enters.Fetched me c.me note.id ∷ []) next
@@ -530,6 +552,7 @@ fetched_comes c request note me work u b next w there same run =
 
 -- A count is told.
 
+-- a count that is answered
 pub counted_comes : (c : ClientModel) (request : ℕ) (kind : WorkType) (me : Server) (info : Info) (b next : Bag)
     → Waits c (waits_for.Count request kind) b → IsRun b (enters.Counted me c.me request info ∷ []) next
     → Comes c (waits_for.Count request kind) (tells.Counted request info) b next (enters.Counted me c.me request info ∷ [])
@@ -552,6 +575,7 @@ counted_comes c request kind me info b next w run =
 
 -- A server has heard that the problem is done, of which the ledger told before.
 
+-- a server that has heard that the problem is done
 pub told_comes : (c : ClientModel) (request tried : ℕ) (b next : Bag) → Waits c (waits_for.SetDone request tried) b → b ≡ next
     → Comes c (waits_for.SetDone request tried) (tells.DoneHeard request) b next []
 told_comes c request tried b next w same = rw (sym same) (record {

@@ -117,6 +117,7 @@ letters_of_push w a well none there =
     under_way (pushing a) w a well none there (λ i s differs. elsewhere_none a i s.kept.pushing.push differs) (well.push a).same
     ∙ of_one a (pool_of w a).kept.pushing.push
 
+-- of a push, by server, unit and what was sent, exactly one letter is under way while it goes on
 pub letters_of_this : (w : World) (a t : Server) (id : UnitId) (sent : Bool) → IsWell w → NoneOwes w → a.0 < w.config.servers
     → links_weight w.config (letters_of (push_as a t id sent)) w.links
     ≡ one (some_push (is_push_as t id sent) (pool_of w a).kept.pushing.push)

@@ -70,6 +70,7 @@ use Rattle.core_law.proofs.Seats.{IsMade}
 pub record IsDone (w : World) (k : Server) (a : Act) (n : Bag) : Type 0 where
   pub seat : (r : Rank) → about a ≡ Some r → r.0 < w.config.ranks → (now : Option Message) × IsSeat (acted w k a) n r now
 
+-- what the act needs of the bag is so, and what it makes of it and of the rank
 pub record Succeeds (w : World) (k : Server) (a : Act) (b : Bag) : Type 0 where
   pub needs : Needs (found_in w.config) a b (pool_of w k).me
   pub makes : (n : Bag) → IsMade w k a b n → IsDone w k a n
@@ -78,6 +79,7 @@ pub record Succeeds (w : World) (k : Server) (a : Act) (b : Bag) : Type 0 where
 abbrev pub IsFreeAt : Bag → Server → Work → Type 0
 IsFreeAt b me unit = (u : Lodged) × (unit_of b unit.id ≡ Some u) × (u.unit ≡ unit) × (u.place ≡ Free me)
 
+-- a unit that is free in the queue is free at the server in the bag
 pub free_at : (b : Bag) (s : ServerModel) (p : Placed) (unit : Work) → ServerAgrees b s → p.unit ≡ unit
     → unit_with p.unit.id s.kept.queue.units ≡ Some p → p.pin ≡ None → IsFreeAt b s.me unit
 free_at b s p unit m same found free =

@@ -153,6 +153,7 @@ event_keeps J tick step w next from me letter rest x well does holds =
     (tick_well w me stamp up does.here well, tick w me stamp up does.here well holds) in
     subst J (sym chain.is) all.1
 
+-- each event of a server keeps what holds of letters and of each actor alone
 pub event_well : (w next : World) (from : Actor) (me : Server) (letter : Letter) (rest : List Letter) (x : Served) → IsWell w
     → Serves w from me letter rest x next → IsWell next
 event_well w next from me letter rest x well does =

@@ -173,6 +173,7 @@ no_cond : (b : Bool) → cond {A = ℕ} b 0 0 ≡ 0
 no_cond true = refl
 no_cond false = refl
 
+-- a list of one value has it at each place
 pub same_always : {X : Type 0} (n i : ℕ) (x : X) → get_or (replicate n x) i x ≡ x
 same_always zero i x = refl
 same_always (suc n) zero x = refl

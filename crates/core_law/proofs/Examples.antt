@@ -48,6 +48,7 @@ two_servers = sized 1 2 (omega arith, omega arith) (omega arith, omega arith)
 abbrev three_servers : Config
 three_servers = sized 1 3 (omega arith, omega arith) (omega arith, omega arith)
 
+-- two ranks and two servers
 abbrev pub two_and_two : Config
 two_and_two = sized 2 2 (omega arith, omega arith) (omega arith, omega arith)
 
@@ -57,9 +58,11 @@ two_ranks = sized 2 1 (omega arith, omega arith) (omega arith, omega arith)
 abbrev three_ranks : Config
 three_ranks = sized 3 1 (omega arith, omega arith) (omega arith, omega arith)
 
+-- a rank by its number
 abbrev pub rank : ℕ → Rank
 rank number = rank_named number
 
+-- a server by its number
 abbrev pub server : ℕ → Server
 server number = server_named number
 
@@ -71,6 +74,7 @@ unit number call = record { rank = rank_named number; number = call }
 abbrev puts : ℕ → Event
 puts number = occurs.Call (rank number) (calls_to.Put (record { 0 = 2 }) (pos 0) Any None (replicate 40 7))
 
+-- the rank of this number reserves
 abbrev pub reserves : ℕ → Event
 reserves number = occurs.Call (rank number) (calls_to.Reserve None)
 
@@ -83,6 +87,7 @@ counts number = occurs.Call (rank number) (calls_to.Count (record { 0 = 2 }))
 abbrev tries : ℕ → Event
 tries number = occurs.Call (rank number) (calls_to.Try None)
 
+-- the rank of this number finishes
 abbrev pub finishes : ℕ → Event
 finishes number = occurs.Call (rank number) calls_to.Finish
 
@@ -90,15 +95,18 @@ finishes number = occurs.Call (rank number) calls_to.Finish
 abbrev pub asks : ℕ → ℕ → Event
 asks number at = occurs.Deliver (by.Rank (rank number)) (by.Server (server at))
 
+-- the rank hears the next letter of the server
 abbrev pub hears : ℕ → ℕ → Event
 hears number at = occurs.Deliver (by.Server (server at)) (by.Rank (rank number))
 
+-- a server handles the next letter of another
 abbrev pub brings : ℕ → ℕ → Event
 brings from to = occurs.Deliver (by.Server (server from)) (by.Server (server to))
 
 abbrev putting : ℕ → ℕ → Entry
 putting number call = enters.Putting (rank number) call (record { 0 = 2 }) (pos 0) Any None (replicate 40 7)
 
+-- the ledger after these events
 abbrev pub ledger_after : Config → List Event → Option (List Entry)
 ledger_after config events = option_map (λ (w : World). w.ledger) (run (start config) events)
 
@@ -324,6 +332,7 @@ illegal_at w = illegal_from w.config w.ledger
 abbrev hello : List ℕ
 hello = 104 ∷ 101 ∷ 108 ∷ 108 ∷ 111 ∷ []
 
+-- a rank reserves where no server has a unit
 abbrev pub asked_in_vain : List Event
 asked_in_vain = reserves 1 ∷ asks 1 1 ∷ brings 1 0 ∷ brings 0 1 ∷ brings 1 0 ∷ []
 

@@ -19,18 +19,21 @@ abbrev pub letters_for : Config → ℕ → List Sending → List Letter
 letters_for config b [] = []
 letters_for config b (x ∷ sends) = cond (eqb (place_of config x.to) b) (x.letter ∷ letters_for config b sends) (letters_for config b sends)
 
+-- a link that was set is found
 pub put_there : (n : ℕ) (links : Links) (a b : ℕ) (v : List Letter) → a < n → b < n → IsSquare n links → link (put_link links a b v) a b ≡ v
 put_there n links a b v la lb sq =
     let wide : b < length (row links a) = let e = sq.each a la in omega arith in
     let in' : a < length links = let e = sq.rows in omega arith in
     ap (λ r. get_or r b []) (get_or-set_same links a (set (row links a) b v) [] in') ∙ get_or-set_same (row links a) b v [] wide
 
+-- setting one link leaves the others from its sender
 pub put_beside : (n : ℕ) (links : Links) (a b k : ℕ) (v : List Letter) → a < n → (k ≡ b → ⊥) → IsSquare n links
     → link (put_link links a b v) a k ≡ link links a k
 put_beside n links a b k v la differs sq =
     let in' : a < length links = let e = sq.rows in omega arith in
     ap (λ r. get_or r k []) (get_or-set_same links a (set (row links a) b v) [] in') ∙ get_or-set_other (row links a) b k v [] differs
 
+-- setting one link leaves those from other senders
 pub put_elsewhere : (links : Links) (a b x k : ℕ) (v : List Letter) → (x ≡ a → ⊥) → link (put_link links a b v) x k ≡ link links x k
 put_elsewhere links a b x k v differs = ap (λ r. get_or r k []) (get_or-set_other links a x (set (row links a) b v) [] differs)
 
@@ -44,6 +47,7 @@ post_other config links a x b (s ∷ sends) differs =
     post_other config (put_link links a (place_of config s.to) v) a x b sends differs
     ∙ put_elsewhere links a (place_of config s.to) x b v differs
 
+-- letters that go off come last on their links
 pub post_same : (config : Config) (links : Links) (a b : ℕ) (sends : List Sending) → a < actors config → AreWithin config sends
     → IsSquare (actors config) links → link (post config links a sends) a b ≡ link links a b ++ letters_for config b sends
 unfolding post

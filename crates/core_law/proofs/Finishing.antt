@@ -48,6 +48,7 @@ handled true false now was e = omega arith
 handled false true now was e = refl
 handled false false now was e = refl
 
+-- each act keeps the count of a rank's Finish letters
 pub finish_act : (config : Config) (rank : Rank) (server : Server) (a : Act) (s : ServerModel) → IsFirst config a s
     → ActKeeps (finishes rank server) a s
 finish_act config rank server (Notes_finish from) s first =
@@ -121,5 +122,6 @@ begun config rank server there me s x b (It_leaves l) =
     let even = done (eqb me.0 rank.0) in
     rw (b.going, l.finished) (omega arith)
 
+-- the count of a rank's Finish letters is a law of runs
 pub finishes_law : (config : Config) (rank : Rank) (server : Server) → server.0 < config.servers → IsLaw config (finishes rank server)
 finishes_law config rank server there = record { heard = heard config rank server; begun = begun config rank server there }

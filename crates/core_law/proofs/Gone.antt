@@ -30,11 +30,13 @@ IsGone b id = (u : Lodged) × (unit_of b id ≡ Some u) × (is_free u.place ≡ 
 
 -- The bag changes.
 
+-- what notes say depends on the units alone
 pub facts_same : (b c : Bag) (notes : List UnitNote) → c.units ≡ b.units → All (IsFact b) notes → All (IsFact c) notes
 facts_same b c notes same all =
     let find_in : UnitId → List Lodged → Option Lodged = λ id units. find (λ (u : Lodged). same_unit u.unit.id id) units in
     All-weaker (IsFact b) (IsFact c) (λ note f. (f.0, ap (find_in note.id) same ∙ f.1, f.2)) notes all
 
+-- what notes say stays so where a unit comes
 pub facts_added : (b : Bag) (u : Lodged) (notes : List UnitNote) → All (IsFact b) notes
     → All (IsFact (record b { units = b.units ++ u ∷ [] })) notes
 facts_added b u notes all =
@@ -46,6 +48,7 @@ fact_moved b id place note fact =
     let v = moved_keeps b id note.id place fact.0 fact.1 in
     (v.0, v.1, fact.2 ∙ ap (note_of note.server) (sym v.2))
 
+-- what notes say stays so where a unit moves
 pub facts_moved : (b : Bag) (id : UnitId) (place : UnitPlace) (notes : List UnitNote) → All (IsFact b) notes
     → All (IsFact (moved id place b)) notes
 facts_moved b id place notes all = All-weaker (IsFact b) (IsFact (moved id place b)) (fact_moved b id place) notes all
@@ -77,6 +80,7 @@ parted true f a c e = inl refl
 parted false true a c e = inr (inl refl)
 parted false false a c e = inr (inr e)
 
+-- a unit that a rank has taken is spent
 pub taken_gone : (b : Bag) (rank : Rank) (id : UnitId) (said : List Said) → All (IsTrueSaid b rank) said → is_taken id said ≡ true
     → IsGone b id
 unfolding is_granted is_fetched

@@ -119,6 +119,7 @@ IsLedger config w b = IsRunWhere (found_in config) (empty_bag config) w.ledger b
 ledger_is : (config : Config) (events : List Event) (w : World) (b : Bag) → Runs (start config) events w → IsLawful w b → IsLedger config w b
 ledger_is config events w b run l = subst (λ (k : Config). IsLedger k w b) (run_config (start config) w events run) l.run
 
+-- in every run the ledger leads to a bag
 pub ledger_is_legal : (config : Config) (events : List Event) (w : World) → Runs (start config) events w → (b : Bag) × IsLedger config w b
 ledger_is_legal config events w run =
     let l = every_run_lawful config events w run in (l.0, ledger_is config events w l.0 run l.1)
@@ -198,6 +199,7 @@ actors_seated config events w run =
     moving : (w : World) (b : Bag) → IsPushed w b → AreMoving w b
     moving w b pushed = record { travels = pushed.travels; rooms = pushed.rooms }
 
+-- in every run letters bring each unit between servers, and are there for each promise
 pub units_are_brought : (config : Config) (events : List Event) (w : World) → Runs (start config) events w
     → (b : Bag) × IsLedger config w b × AreBrought w b
 units_are_brought config events w run =
@@ -206,10 +208,12 @@ units_are_brought config events w run =
 
 -- A run as a relation and as a function.
 
+-- a run as a relation is one as a function
 pub run_is : (w last : World) (events : List Event) → Runs w events last → run w events ≡ Some last
 run_is w last [] r = ap Some r
 run_is w last (e ∷ events) r = ap (λ o. option_and_then (λ next. run next events) o) r.1 ∙ run_is r.0 last events r.2
 
+-- a run as a function is one as a relation
 pub is_run : (w last : World) (events : List Event) → run w events ≡ Some last → Runs w events last
 is_run w last [] e = some_is e
 is_run w last (x ∷ events) e = by_event (λ next rest. is_run next last events rest) (happens w x) refl e

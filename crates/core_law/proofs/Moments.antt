@@ -35,6 +35,7 @@ use Rattle.core_law.proofs.Steps.{Begins, Hears, taken_shaped, taken_weight}
 use Rattle.core_law.proofs.UnderWay.{at_front, taken_on, zero_on}
 use Rattle.core_law.proofs.RankPushes.{heard_leaves}
 
+-- where a measure is 0 no letter weighs anything
 pub no_letters : (m : Weights) (w : World) → measure m w ≡ 0 → links_weight w.config m w.links ≡ 0
 unfolding measure
 no_letters m w none = omega arith
@@ -63,6 +64,7 @@ idle_stands c coming b idle a =
       accepted = subst (HasAccepted b (rank_of c c.finished None).batch) (idle_accepted c coming idle) (rw same at a.accepted);
     }
 
+-- a rank without a pending call has said its transcript
 pub idle_said : (c : ClientModel) (coming : Option Message) → c.pending ≡ waits_for.Nothing → said c c.pending coming ≡ c.transcript
 idle_said c None idle = ap (λ p. said c p None) idle
 idle_said c (Some m) idle = ap (λ p. said c p (Some m)) idle

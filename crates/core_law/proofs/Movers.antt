@@ -33,12 +33,15 @@ pub record AreEven (w : World) (k : Server) (a : Act) (b n : Bag) : Type 0 where
   pub travels : (id : UnitId) → heard_weight (travels_letter id) k (takes a) + on_way id n.units
       ≡ said_weight (travels_letter id) k (says a (pool_of w k)) + on_way id b.units
 
+-- what the act says of pushes is so of the bag
 abbrev pub SaysOfPush : Bag → Server → Act → ServerModel → Type 0
 SaysOfPush n k a s = Each (λ y. IsOfPush n (by.Server k) y.to y.message) (says a s)
 
+-- of each unit one open letter is under way at most
 abbrev pub OpensOne : World → Type 0
 OpensOne w = (id : UnitId) → links_weight w.config (letters_of (open_letter id)) w.links ≤ 1
 
+-- what letters say of pushes stays so where entries are apart from them
 pub pushed_next : (w : World) (k : Server) (a : Act) (b n : Bag) → IsMade w k a b n
     → OnLinks (λ from to l. AreApart (entries a (pool_of w k)) from to l.message) w.config (taken_off w.config k w.links (takes a))
     → SaysOfPush n k a (pool_of w k) → OpensOne (acted w k a) → AreEven w k a b n → IsPushed w b → IsPushed (acted w k a) n
@@ -89,10 +92,12 @@ opens_kept w k a b n m none pushed id =
     let before = pushed.opens id in
     omega arith
 
+-- what holds of every value holds of each element
 pub each_all : {X : Type 0} (P : X → Type 0) (xs : List X) → ((x : X) → P x) → Each P xs
 each_all P [] f = tt
 each_all P (x ∷ xs) f = (f x, each_all P xs f)
 
+-- an act that pushes nothing and opens no push leaves what is known of pushes
 pub mover_stays : (w : World) (k : Server) (a : Act) (b n : Bag) → IsMade w k a b n
     → Each (λ e. pushes e ≡ None) (entries a (pool_of w k)) → OpensNone a → SaysOfPush n k a (pool_of w k) → AreEven w k a b n
     → IsPushed w b → IsPushed (acted w k a) n

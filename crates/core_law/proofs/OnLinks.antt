@@ -42,6 +42,7 @@ actor_place config i = by_order (cases_lt i config.ranks)
 
 -- Where each letter weighs nothing, so do all.
 
+-- where each element weighs 0 by its place, a list does
 pub all_zero : {X : Type 0} (f : ℕ → X → ℕ) (xs : List X) (d : X) → ((i : ℕ) → i < length xs → f i (get_or xs i d) ≡ 0)
     → weigh_at f xs ≡ 0
 all_zero f [] d none = refl

@@ -8,6 +8,7 @@ use Rattle.core_law.specs.Letters.{one}
 abbrev pub picked : {X : Type 0} → (X → Bool) → List X → ℕ
 picked test xs = sum_by (λ x. one (test x)) xs
 
+-- where a test picks no element, none is found
 pub picked_none : {X : Type 0} (test : X → Bool) (xs : List X) → picked test xs ≡ 0 → find test xs ≡ None
 picked_none test [] none = refl
 picked_none test (x ∷ xs) none = by_test (picked_none test xs) (test x) refl

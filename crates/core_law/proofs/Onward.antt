@@ -41,6 +41,7 @@ IsOnward p q =
     (q ≡ p)
     ⊎ ((at : Server) × (rank : Rank) × (((p ≡ Free at) × (q ≡ Pinned at rank)) ⊎ ((p ≡ Pinned at rank) × (q ≡ Spent))))
 
+-- the unit is where it was, or further on: pinned where it was free, or spent where it was pinned
 pub record IsLater (n : Bag) (id : UnitId) (u : Lodged) : Type 0 where
   pub unit : Lodged
   pub found : unit_of n id ≡ Some unit
@@ -137,6 +138,7 @@ same_promises b (enters.Arrived server x) none = absurd (cc)
 same_promises b (enters.Withdrawn server x) none = absurd (cc)
 same_promises b e none = refl
 
+-- entries that push nothing leave the promises
 pub run_promises : (rule : Bag → Bool) (es : List Entry) (b n : Bag) → IsRunWhere rule b es n → Each (λ e. pushes e ≡ None) es
     → n.promises ≡ b.promises
 run_promises rule [] b n run none = ap (λ (x : Bag). x.promises) (sym run)
@@ -257,9 +259,11 @@ is_of_push_later rule b e (by.Rank from) to m l apart of = tt
 
 -- All entries.
 
+-- the entries push no unit of which this is an open letter
 abbrev pub AreApart : List Entry → Actor → Actor → Message → Type 0
 AreApart es from to m = Each (λ e. IsApart e from to m) es
 
+-- entries that are apart from a letter of a push leave what it says
 pub run_later : (rule : Bag → Bool) (es : List Entry) (b n : Bag) (from to : Actor) (m : Message) → IsRunWhere rule b es n
     → AreApart es from to m → IsOfPush b from to m → IsOfPush n from to m
 run_later rule [] b n from to m run apart of = subst (λ (x : Bag). IsOfPush x from to m) run of
@@ -274,6 +278,7 @@ none_pushed [] from to m none = tt
 none_pushed (e ∷ es) from to m none =
     ((λ id is. let no_one : None ≡ Some id = sym none.0 ∙ is in absurd (cc)), none_pushed es from to m none.1)
 
+-- entries that push one unit are apart from letters that are not open ones of it
 pub of_one : (es : List Entry) (id : UnitId) (from to : Actor) (m : Message) → Each (λ e. pushes e ≡ Some id) es
     → open_letter id from to m ≡ 0 → AreApart es from to m
 of_one [] id from to m all none = tt

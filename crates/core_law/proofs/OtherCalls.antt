@@ -74,6 +74,7 @@ entry_silent me b (enters.Over rank call end) is = answer_other me b rank (answe
 entry_silent me b (enters.Finished rank call) is = own_other me rank _ is
 entry_silent me b _ is = refl
 
+-- a step that is not about a rank adds no call of it
 pub calls_stay : CallsStay
 calls_stay found b next e es rank step is =
     ap (λ l. l ++ calls_from (after b e) es rank) (entry_silent rank b e is) ∙ ap (λ n. calls_from n es rank) (sym step.2)

@@ -294,6 +294,7 @@ part_counted found me b (enters.CommonFetched server rank x) batch p sound l is 
     count_kept b x batch (λ q. record q { fetched = q.fetched + 1 }) (λ q. refl) (λ q. refl) p there
 part_counted found me b _ batch p sound l is own there = (p, there, refl)
 
+-- a client stands for its rank after a step that is about another
 pub clients_stay : ClientsStay
 clients_stay found b next e s coming sound step is a =
     let keeps : KeepsUnits s.me b (after b e) = record {

@@ -31,6 +31,7 @@ none_wait (x ∷ xs) = let here = none x.kept.parked.waiting in let later = none
     none [] = refl
     none (e ∷ es) = let later = none es in omega arith
 
+-- what is owed by one rank, where others owe nothing
 pub rank_owed : (w : World) (rank : Rank) (f : ClientModel → ℕ) → rank.0 < length w.ranks
     → weigh_at (at_rank rank f) w.ranks ≡ f (client_of w rank)
 rank_owed w rank f inside =

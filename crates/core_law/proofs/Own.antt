@@ -50,15 +50,18 @@ each_all : {X : Type 0} (P : X → Type 0) (xs : List X) → All P xs → Each P
 each_all P [] all = tt
 each_all P (x ∷ xs) all = (All-head P x xs all, each_all P xs (All-tail P x xs all))
 
+-- what holds of each element holds of all
 pub all_each : {X : Type 0} (P : X → Type 0) (xs : List X) → Each P xs → All P xs
 all_each P [] each = All-nil P
 all_each P (x ∷ xs) each = All-cons P x xs each.0 (all_each P xs each.1)
 
 -- What is taken comes from actors of the run, and is of a kind that goes there.
 
+-- what the server hears is of a kind that comes from there
 abbrev pub FitsHeard : Config → Server → Heard → Type 0
 FitsHeard config me h = (is_within config h.from ≡ true) × (fits_link config h.from (by.Server me) h.message ≡ true)
 
+-- so it is of all that it hears
 abbrev pub AreFit : Config → Server → List Heard → Type 0
 AreFit config me heard = Each (FitsHeard config me) heard
 
@@ -79,6 +82,7 @@ front_fits config links from to l rest on f t front =
     fits_is (fits_link config from to l.message)
     (at_front (λ a b (x : Letter). misfit config a b x.message ≡ 0) config links from to l rest on f t front)
 
+-- what a server takes off links of such kinds is of such a kind
 pub are_fit : (config : Config) (me : Server) (links : Links) (heard : List Heard) → me.0 < config.servers
     → IsSquare (actors config) links → AllFit config links → AreFront config me links heard → AreFit config me heard
 are_fit config me links [] here sq on are = tt
@@ -275,6 +279,7 @@ pub counted_activity : (s : ServerModel) (ys : List ServerSaying) → (all_count
 counted_activity s [] = refl
 counted_activity s (y ∷ ys) = counted_activity (counted s y.to) ys
 
+-- each act keeps a server's own state
 pub pool_kept : (config : Config) (me : Server) (a : Act) (s : ServerModel) → me.0 < config.servers → IsPool config me s
     → AreFit config me (takes a) → SitsIn a s → Sure a s → IsPool config me (done a s)
 pool_kept config me a s here own fit sits sure =
@@ -304,6 +309,7 @@ pool_kept config me a s here own fit sits sure =
 
 -- What it says goes to actors of the run, and is of a kind that goes there.
 
+-- what the server says is of a kind that goes there
 abbrev pub FitsSaid : Config → Server → ServerSaying → Type 0
 FitsSaid config me y = (is_within config y.to ≡ true) × (fits_link config (by.Server me) y.to y.message ≡ true)
 
@@ -382,6 +388,7 @@ verdict_fits : (config : Config) (me : Server) (s : ServerModel) (t : Token) →
     → (me.0 == 0) ≡ true
 verdict_fits config me s t own judges = eq-eqb me.0 0 (ap (λ (k : Server). k.0) (sym own.me) ∙ judges.running.zeroth)
 
+-- what an act says is of a kind that goes there
 pub said_fits : (config : Config) (me : Server) (a : Act) (s : ServerModel) → me.0 < config.servers → IsPool config me s
     → AreFit config me (takes a) → SitsIn a s → Sure a s → HintsAway config me a → Each (FitsSaid config me) (says a s)
 said_fits config me (Accepts unit) s here own fit sits sure hints = ((fit.0.0, refl), tt)
@@ -445,6 +452,7 @@ said_fits config me (Shuts from t) s here own fit sits sure hints =
     others_fit config me s tells.Shutdown here own (λ to. verdict_fits config me s t own sure.0)
 said_fits config me _ s here own fit sits sure hints = tt
 
+-- what an act says goes to actors of the run
 pub said_within : (config : Config) (me : Server) (ys : List ServerSaying) → Each (FitsSaid config me) ys → AreSaid config ys
 said_within config me [] each = tt
 said_within config me (y ∷ ys) each = (each.0.0, said_within config me ys each.1)
@@ -465,6 +473,7 @@ said_none config me (y ∷ ys) each =
     let later = said_none config me ys each.1 in
     omega arith
 
+-- each act keeps that letters are of kinds that go there
 pub kinds_act : (config : Config) (me : Server) (a : Act) (s : ServerModel) → me.0 < config.servers → IsPool config me s
     → AreFit config me (takes a) → SitsIn a s → Sure a s → HintsAway config me a → ActKeeps (kinds config) a s
 kinds_act config me a s here own fit sits sure hints =
@@ -475,10 +484,12 @@ kinds_act config me a s here own fit sits sure hints =
 
 -- The Finish letter of a rank that ran, as far as the server knew.
 
+-- the rank whose Finish the act takes had not finished for this server
 abbrev pub IsFirst : Config → Act → ServerModel → Type 0
 IsFirst config (Notes_finish rank) s = (is_finished s.kept rank ≡ false) × (rank.0 < length s.kept.finished)
 IsFirst config _ s = Unit {0}
 
+-- so it is of each act that is sure
 pub is_first : (config : Config) (me : Server) (a : Act) (s : ServerModel) → IsPool config me s → AreFit config me (takes a) → Sure a s
     → IsFirst config a s
 is_first config me (Notes_finish rank) s own fit sure =

@@ -95,6 +95,7 @@ with_frees found c p a b next e me batch part comes run = by_due (is_due part) r
 
 -- A batch begins.
 
+-- the beginning of a batch whose part is kept
 pub kept_comes : (c : ClientModel) (request : ℕ) (common : List ℕ) (first : Server) (tried : ℕ) (me : Server) (b next : Bag)
     → Waits c (waits_for.Keep request common first tried) b → me ≡ asked c first tried → part_of b (batch_of c.me request) ≡ None
     → IsRun b (enters.Kept me (batch_of c.me request) ∷ []) next
@@ -123,6 +124,7 @@ kept_comes c request common first tried me b next w is new run =
       facts = facts_same b d (c.handles ++ []) refl w.facts;
     })
 
+-- the beginning of a batch whose part is refused
 pub part_refused_comes : (c : ClientModel) (request : ℕ) (common : List ℕ) (first : Server) (tried : ℕ) (me : Server) (b next : Bag) (used : ℕ)
     → Waits c (waits_for.Keep request common first tried) b → me ≡ asked c first tried
     → IsRun b (enters.Refused me (unit_named c.me request) used ∷ []) next
@@ -146,6 +148,7 @@ part_refused_comes c request common first tried me b next used w is run =
 
 -- It ends.
 
+-- the end of a batch
 pub closed_comes : (c : ClientModel) (request : ℕ) (common : CommonRef) (batch : BatchId) (me : Server) (b next : Bag)
     → Waits c (waits_for.Close request common) b → batch.rank ≡ c.me → IsRun b (enters.Closed me batch ∷ []) next
     → Comes c (waits_for.Close request common) (tells.Closed request) b next (enters.Closed me batch ∷ [])
@@ -172,6 +175,7 @@ closed_comes c request common batch me b next w own run =
 
 -- Common bytes come.
 
+-- the common bytes of a fetch
 pub common_comes : (c : ClientModel) (request : ℕ) (note : UnitNote) (common : CommonRef) (own : List ℕ) (batch : BatchId) (lot : Lot) (me : Server)
     (b next : Bag)
     → Waits c (waits_for.Common request note common own) b → part_of b batch ≡ Some lot

@@ -25,6 +25,7 @@ use Rattle.core_law.proofs.UnderWay.{same_actor}
 
 -- Lines.
 
+-- consecutive places, one list after the other
 pub joined_places : (first middle last : ℕ) (xs ys : List Letter) → AreConsecutive first xs middle → AreConsecutive middle ys last
     → AreConsecutive first (xs ++ ys) last
 joined_places first middle last [] ys a b = rw a b
@@ -41,6 +42,7 @@ event_stamps low stamp (y ∷ ys) few some each = (
       each.1,
 )
 
+-- stamps that do not fall, one list after the other
 pub joined_stamps : (low last stamp : ℕ) (xs ys : List Letter) → last ≤ stamp → 0 < stamp → AreStamped low xs last
     → Each (λ (l : Letter). l.stamp ≡ stamp) ys → AreStamped low (xs ++ ys) stamp
 joined_stamps low last stamp [] ys few some a each = event_stamps low stamp ys (omega arith) some each
@@ -48,11 +50,13 @@ joined_stamps low last stamp (x ∷ xs) ys few some a each = (a.0, a.1, joined_s
 
 -- What an actor sends in a step.
 
+-- what a step has sent stands in line on each link
 pub record IsPosted (config : Config) (sends : List Sending) (before now : Actor → ℕ) (clock : ℕ) : Type 0 where
   pub places : (to : Actor) → is_within config to ≡ true
       → AreConsecutive (before to) (letters_for config (place_of config to) sends) (now to)
   pub stamps : (to : Actor) → Each (λ (l : Letter). l.stamp ≡ clock) (letters_for config (place_of config to) sends)
 
+-- a step that sends nothing leaves each link
 pub none_posted : (config : Config) (before now : Actor → ℕ) (clock : ℕ) → ((to : Actor) → is_within config to ≡ true → before to ≡ now to)
     → IsPosted config [] before now clock
 none_posted config before now clock same = record { places = same; stamps = λ to. tt }

@@ -27,6 +27,7 @@ pub requests_weight : (f : Actor → Message → ℕ) (s : ClientModel) (says : 
 requests_weight f s [] = refl
 requests_weight f s (y ∷ says) = ap (λ n. f (by.Server y.to) y.message + n) (requests_weight f (counted s y.to) says)
 
+-- what holds of each request holds of each letter
 pub requests_each : (P : Actor → Message → Type 0) (s : ClientModel) (says : List ClientSaying)
     → Each (λ y. P (by.Server y.to) y.message) says → Each (λ x. P x.to x.letter.message) (lettered s says)
 requests_each P s [] each = tt

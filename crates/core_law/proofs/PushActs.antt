@@ -46,6 +46,7 @@ use Rattle.core_law.proofs.UnderWay.{at_front}
 
 -- Acts that push nothing.
 
+-- the act pushes nothing, and finds no exhaustion
 abbrev pub IsPlain : Act → Type 0
 IsPlain (Queries to id n) = ⊥
 IsPlain (Promises from id n) = ⊥
@@ -148,6 +149,7 @@ no_travel_said id (Shuts from t) s k plain =
     let none = others_none (travels_letter id) k s tells.Shutdown (λ to. refl) in omega arith
 no_travel_said id _ s k plain = omega arith
 
+-- an act that pushes nothing leaves what is known of pushes
 pub plain_pushed : (w : World) (k : Server) (a : Act) (b n : Bag) → IsMade w k a b n → IsPlain a → IsPushed w b → IsPushed (acted w k a) n
 unfolding ArePushless
 plain_pushed w k a b n m plain pushed =
@@ -167,6 +169,7 @@ plain_pushed w k a b n m plain pushed =
 
 -- All work is found used up, and the other servers are told so.
 
+-- finding all work used up leaves what is known of pushes
 pub finds_pushed : (w : World) (k from : Server) (t : Token) (b n : Bag) → IsMade w k (Finds from t) b n → IsPushed w b
     → IsPushed (acted w k (Finds from t)) n
 finds_pushed w k from t b n m pushed =
@@ -198,6 +201,7 @@ taken_of w k a b h is takes_it pushed =
 one_same : (id : UnitId) → one (same_unit id id) + 0 ≡ 1
 one_same id = let e = same_unit_from id id refl in rw e refl
 
+-- room that is promised
 pub promises_pushed : (w : World) (k from : Server) (id : UnitId) (size : ℕ) (b n : Bag) → IsMade w k (Promises from id size) b n
     → IsPushed w b → IsPushed (acted w k (Promises from id size)) n
 promises_pushed w k from id size b n m pushed =
@@ -223,6 +227,7 @@ promises_pushed w k from id size b n m pushed =
       travels = λ x. let now = ap (on_way x) units in omega arith;
     }) pushed
 
+-- room that is refused
 pub refuses_pushed : (w : World) (k from : Server) (id : UnitId) (size : ℕ) (b : Bag) → IsMade w k (Refuses_push from id size) b b
     → IsPushed w b → IsPushed (acted w k (Refuses_push from id size)) b
 refuses_pushed w k from id size b m pushed =
@@ -230,6 +235,7 @@ refuses_pushed w k from id size b m pushed =
     taken_of w k (Refuses_push from id size) b (of_server from (tells.PushQuery id size)) m.is refl pushed in
     mover_stays w k (Refuses_push from id size) b b m tt tt (of.0, tt) (record { rooms = λ x. refl; travels = λ x. refl }) pushed
 
+-- a unit that goes
 pub sends_pushed : (w : World) (k to : Server) (size : ℕ) (unit : Work) (b n : Bag) → IsMade w k (Sends_unit to size unit) b n
     → unit_of b unit.id ≡ Some (record { unit = unit; place = Free (pool_of w k).me }) → IsPushed w b
     → IsPushed (acted w k (Sends_unit to size unit)) n
@@ -247,6 +253,7 @@ sends_pushed w k to size unit b n m found pushed =
           omega arith;
     }) pushed
 
+-- a push that is cancelled
 pub cancels_pushed : (w : World) (k to : Server) (id : UnitId) (size : ℕ) (b : Bag) → IsMade w k (Cancels to id size) b b
     → IsPushed w b → IsPushed (acted w k (Cancels to id size)) b
 cancels_pushed w k to id size b m pushed =
@@ -254,6 +261,7 @@ cancels_pushed w k to id size b m pushed =
     taken_of w k (Cancels to id size) b (of_server to (tells.PushYes id)) m.is refl pushed in
     mover_stays w k (Cancels to id size) b b m tt tt (of, tt) (record { rooms = λ x. refl; travels = λ x. refl }) pushed
 
+-- a unit that comes
 pub arrives_pushed : (w : World) (k from : Server) (unit : Work) (b n : Bag) (p : Room) → IsMade w k (Arrives from unit) b n
     → PromisesAreSingle b.promises → promise_of b unit.id ≡ Some p → IsPushed w b → IsPushed (acted w k (Arrives from unit)) n
 arrives_pushed w k from unit b n p m once found pushed =
@@ -274,6 +282,7 @@ arrives_pushed w k from unit b n p m once found pushed =
           omega arith;
     }) pushed
 
+-- a promise that is withdrawn
 pub withdraws_pushed : (w : World) (k from : Server) (id : UnitId) (b n : Bag) → IsMade w k (Withdraws from id) b n
     → PromisesAreSingle b.promises → IsPushed w b → IsPushed (acted w k (Withdraws from id)) n
 withdraws_pushed w k from id b n m once pushed =

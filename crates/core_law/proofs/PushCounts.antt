@@ -68,6 +68,7 @@ promise_gone id x rooms p single found =
     one_is_one (same_unit p.id x) ∙ ap (λ (i : UnitId). one (same_unit i x)) (same_unit_is p.id id its) in
     omega arith
 
+-- a unit of which no promise is counted has none
 pub not_promised : (b : Bag) (id : UnitId) → promises_named id b.promises ≡ 0 → promise_of b id ≡ None
 not_promised b id none = picked_none (λ (p : Room). same_unit p.id id) b.promises (sym (named_are id b.promises) ∙ none)
 

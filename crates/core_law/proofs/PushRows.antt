@@ -53,6 +53,7 @@ never : (a b c : Bool) → one (a && (false && (b && c))) ≡ 0
 never true b c = refl
 never false b c = refl
 
+-- a push of another server weighs nothing here
 pub elsewhere : (a t : Server) (id : UnitId) (sent : Bool) (place : ℕ) (o : Option StandingPush) → place ≢ a.0
     → weight (λ (p : StandingPush). one (is_sent sent p.sent && is_push a t id place p.to.0 p.id)) o ≡ 0
 elsewhere a t id sent place None differs = refl
@@ -154,6 +155,7 @@ cancel_awaited b s from to id a named promised =
 own_push : (a t : Server) (id : UnitId) → is_push a t id a.0 t.0 id ≡ true
 own_push a t id = rw (eq-eqb a.0 a.0 refl, eq-eqb t.0 t.0 refl, same_unit_from id id refl) refl
 
+-- the letter is of a push
 abbrev pub IsOfPushes : Message → Type 0
 IsOfPushes (tells.PushQuery id n) = Prim.Unit {0}
 IsOfPushes (tells.PushYes id) = Prim.Unit {0}
@@ -163,6 +165,7 @@ IsOfPushes (tells.PushCancel id) = Prim.Unit {0}
 IsOfPushes (tells.PushAck id) = Prim.Unit {0}
 IsOfPushes _ = ⊥
 
+-- a letter of a push at the front of its link is awaited
 pub push_awaited : (w : World) (b : Bag) (from me : Server) (l : Letter) (rest : List Letter) (m : Message) → IsWell w → IsTracked b
     → ServerAgrees b (pool_of w me) → (pool_of w me).kept.owed ≡ None → from.0 < w.config.servers → me.0 < w.config.servers
     → from ≢ (pool_of w me).me

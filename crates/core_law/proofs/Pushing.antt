@@ -30,6 +30,7 @@ use Rattle.core_law.proofs.Sums.{others_none}
 
 -- To whom a push goes.
 
+-- what holds of each element of a mapped range holds at its places
 pub each_at : {X : Type 0} (P : X → Type 0) (f : ℕ → X) (from n i : ℕ) → Each P (map f (range_with_len from n)) → i < n → P (f (i + from))
 each_at P f from zero i each few = absurd (omega arith)
 each_at P f from (suc n) zero each few = let e : from ≡ 0 + from = omega arith in subst (λ (k : ℕ). P (f k)) e each.0
@@ -54,6 +55,7 @@ none_is : {X : Type 0} (o : Option X) → is_none o ≡ true → o ≡ None
 none_is None is = refl
 none_is (Some x) is = absurd (cc)
 
+-- a push goes to another server of the run
 pub begins_push : (config : Config) (me : Server) (p : Pushing) (queue : Queue) (q : PushQuery) → query_of config me p queue ≡ Some q
     → Begins_push config me p q
 begins_push config me p queue q is = by_test (may_push config p queue) refl is
@@ -77,11 +79,13 @@ begins_push config me p queue q is = by_test (may_push config p queue) refl is
 
 -- A server.
 
+-- each act takes and says as many letters of a push as it changes the push and the acknowledgement
 pub pushing_even : (a : Server) (act : Act) (s : ServerModel) → IsEvenPush (pushing a) act s
 pushing_even a (Finds from t) s = let none = others_none (push_letter a) s.me s tells.Exhaust (λ to. refl) in omega arith
 pushing_even a (Shuts from t) s = let none = others_none (push_letter a) s.me s tells.Shutdown (λ to. refl) in omega arith
 pushing_even a _ s = omega arith
 
+-- so it is by server, unit and what was sent
 pub pushing_to_even : (a t : Server) (id : UnitId) (sent : Bool) (act : Act) (s : ServerModel) → IsEvenPush (pushing_to a t id sent) act s
 pushing_to_even a t id sent (Finds from token) s =
     let none = others_none (push_as a t id sent) s.me s tells.Exhaust (λ to. refl) in omega arith
@@ -116,6 +120,7 @@ changed_weight : {X : Type 0} (f : X → ℕ) (o : Option (Option X × Option X)
 changed_weight f None x is = refl
 changed_weight f (Some change) x is = let same = ap (weight f) is in omega arith
 
+-- an act that is even keeps the balance of pushes
 pub even_push_keeps : (b : PushBalance) (a : Act) (s : ServerModel) → Sure a s → IsEvenPush b a s → ActKeeps (push_weights b) a s
 even_push_keeps b a s sure even =
     let pushed = changed_weight (b.due s.me.0) (turns a) s.kept.pushing.push (turns_stand a s sure) in
@@ -124,12 +129,14 @@ even_push_keeps b a s sure even =
 
 -- A rank: it neither hears nor sends such a letter.
 
+-- the balance of a server's push is a law of runs
 pub pushing_law : (config : Config) (a : Server) → IsLaw config (push_weights (pushing a))
 pushing_law config a = record {
   heard = λ me s from m x h after. let none = weighs_none x.sends in omega arith;
   begun = λ me s x b after. let none = weighs_none x.sends in omega arith;
 }
 
+-- and by server, unit and what was sent
 pub pushing_to_law : (config : Config) (a t : Server) (id : UnitId) (sent : Bool) → IsLaw config (push_weights (pushing_to a t id sent))
 pushing_to_law config a t id sent = record {
   heard = λ me s from m x h after. let none = weighs_none x.sends in omega arith;

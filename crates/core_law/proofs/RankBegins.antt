@@ -247,6 +247,7 @@ module _ (run : Config) (me : Rank) (s : ClientModel) (own : IsClient run me s) 
   call_opens calls_to.Finish = if_some (λ z. Began run me s (made z)) (is_none s.batch) _ (λ is. finish_opens)
   call_opens calls_to.SetDone = done_opens
 
+-- the beginning of a call changes a client as its rule says
 pub begins : (run : Config) (me : Rank) (s : ClientModel) (call : Call) → IsClient run me s → OnSome (begin s call) (Began run me s)
 begins run me s call own =
     if_some (Began run me s) (is_free s) _

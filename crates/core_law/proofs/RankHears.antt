@@ -418,6 +418,7 @@ module _ (run : Config) (me : Rank) (s : ClientModel) (own : IsClient run me s) 
     call_heard (waits_for.Count request kind) from m is = count_heard request kind from m is
     call_heard (waits_for.SetDone request tried) from m is = done_heard request tried from m is
 
+-- a letter that is heard changes a client as its rule says
 pub hears : (run : Config) (me : Rank) (s : ClientModel) (from : Server) (letter : Letter) → IsClient run me s
     → OnSome (hear s from letter) (Heard run me s letter.message)
 hears run me s from letter own =

@@ -102,6 +102,7 @@ heard_leaves w from me l rest shape h t front f is =
     let none = is.to_rank from me l.message in
     omega arith
 
+-- a step of a rank leaves what is known of pushes
 pub rank_pushed : (rule : Bag → Bool) (w : World) (me : Rank) (links : Links) (x : Made) (b n : Bag) → me.0 < w.config.ranks
     → AreWithin w.config x.sends
     → IsSquare (actors w.config) links → LeavesServers w links → OnLinks (λ from to l. IsOfPush b from to l.message) w.config links
@@ -143,6 +144,7 @@ start_on P config = record {
       subst (λ (ls : List Letter). Each (P from to) ls) (sym none) tt;
 }
 
+-- at the start nothing is pushed
 pub start_pushed : (config : Config) → IsPushed (start config) (empty_bag config)
 start_pushed config =
     let shape = (begins_well config).shape in

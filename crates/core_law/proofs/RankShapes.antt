@@ -31,11 +31,13 @@ use Rattle.core_law.specs.Own.{IsCall, IsClient}
 
 -- What follows: the rank waits for nothing; it waits for the answer to a letter that it sends; or it leaves.
 
+-- the step sends nothing
 pub record Resting (s : ClientModel) (x : Made) : Type 0 where
   pub pending : x.state.pending ≡ waits_for.Nothing
   pub finished : x.state.finished ≡ false
   pub sends : x.sends ≡ []
 
+-- the step asks one server
 pub record Asking (s : ClientModel) (x : Made) : Type 0 where
   pub to : Server
   pub letter : Letter
@@ -54,6 +56,7 @@ pub record IsFarewell (run : Config) (y : Sending) : Type 0 where
   pub within : to.0 < run.servers
   pub message : y.letter.message ≡ tells.Finish
 
+-- the step tells each server that the rank has finished
 pub record Leaving (s : ClientModel) (x : Made) : Type 0 where
   pub pending : x.state.pending ≡ waits_for.Nothing
   pub finished : x.state.finished ≡ true
@@ -84,6 +87,7 @@ ChangesBag me e b =
 abbrev pub ChangesRank : Rank → Entry → Type 0
 ChangesRank me e = (teller e ≡ Some me) × ((b : Bag) → ChangesBag me e b)
 
+-- what a rank does where it begins a call
 pub record Began (run : Config) (me : Rank) (s : ClientModel) (x : Made) : Type 0 where
   pub free : s.pending ≡ waits_for.Nothing
   pub going : s.finished ≡ false
@@ -95,6 +99,7 @@ pub record Began (run : Config) (me : Rank) (s : ClientModel) (x : Made) : Type 
   pub made : IsMade s x
   pub after : Then s x
 
+-- what a rank does where it hears a letter
 pub record Heard (run : Config) (me : Rank) (s : ClientModel) (m : Message) (x : Made) : Type 0 where
   pub kind : is_to_rank m ≡ true
   pub busy : is_idle s.pending ≡ false
@@ -110,6 +115,7 @@ pub record Heard (run : Config) (me : Rank) (s : ClientModel) (m : Message) (x :
 
 -- What is known of the letter that was sent.
 
+-- what a pending call asks is a request
 pub asked_request : (s : ClientModel) (p : Pending) (to : Server) (m : Message) → IsAsked s p to m → is_request m ≡ true
 asked_request s waits_for.Nothing to m a = absurd a
 asked_request s (waits_for.Put unit first tried) to m a = ap is_request a.0
@@ -122,6 +128,7 @@ asked_request s (waits_for.Close request batch) to m a = ap is_request a.0
 asked_request s (waits_for.Count request kind) to m a = ap is_request a.0
 asked_request s (waits_for.SetDone request tried) to m a = ap is_request a.0
 
+-- a rank that asks has a call pending
 pub asked_busy : (s : ClientModel) (p : Pending) (to : Server) (m : Message) → IsAsked s p to m → is_idle p ≡ false
 asked_busy s waits_for.Nothing to m a = absurd a
 asked_busy s (waits_for.Put unit first tried) to m a = refl
@@ -134,6 +141,7 @@ asked_busy s (waits_for.Close request batch) to m a = refl
 asked_busy s (waits_for.Count request kind) to m a = refl
 asked_busy s (waits_for.SetDone request tried) to m a = refl
 
+-- what a pending call asks has its number
 pub asked_number : (s : ClientModel) (p : Pending) (to : Server) (m : Message) → IsCall s p → IsAsked s p to m → request_of m + 1 ≡ s.next
 asked_number s waits_for.Nothing to m call a = absurd a
 asked_number s (waits_for.Put unit first tried) to m call a = ap (λ k. request_of k + 1) a.0 ∙ call.0.call

@@ -45,12 +45,15 @@ use Rattle.core_law.proofs.RankPushes.{LeavesServers, rank_pushed}
 
 -- Entries that are not about a rank.
 
+-- no entry of these is about the rank
 abbrev pub AreSilent : Rank → List Entry → Type 0
 AreSilent me es = Each (λ e. tells_of me (teller e) ≡ false) es
 
+-- a step of a sound bag leaves it sound
 pub sound_after : (found : Bag → Bool) (b n : Bag) (e : Entry) → IsSoundBag b → StepsWhere found b e n → IsSoundBag n
 sound_after found b n e sound step = rw step.2 (step_keeps_sound found b e step.1 sound)
 
+-- a client stands for its rank after entries that are silent about it
 pub run_stands : (found : Bag → Bool) (c : ClientModel) (coming : Option Message) (es : List Entry) (b n : Bag) → IsSoundBag b
     → AreSilent c.me es → IsRunWhere found b es n → ClientAgrees c coming b → ClientAgrees c coming n
 run_stands found c coming [] b n sound silent run stands = subst (ClientAgrees c coming) run stands
@@ -58,6 +61,7 @@ run_stands found c coming (e ∷ es) b n sound silent run stands =
     run_stands found c coming es run.0 n (sound_after found b run.0 e sound run.1) silent.1 run.2
     (clients_stay found b run.0 e c coming sound run.1 silent.0 stands)
 
+-- entries that are silent about a rank add no call of it
 pub run_silent : (found : Bag → Bool) (me : Rank) (es : List Entry) (b n : Bag) → AreSilent me es → IsRunWhere found b es n
     → calls_from b es me ≡ []
 run_silent found me [] b n silent run = refl
@@ -67,6 +71,7 @@ run_silent found me (e ∷ es) b n silent run =
 other_rank : (me other : Rank) → other.0 ≢ me.0 → tells_of other (Some me) ≡ false
 other_rank me other differs = false_from_ne_true (me.0 == other.0) (λ same. differs (sym (eqb-true me.0 other.0 same)))
 
+-- the entries of one rank are silent about others
 pub others_silent : (me other : Rank) (es : List Entry) → other.0 ≢ me.0 → Each (ChangesRank me) es → AreSilent other es
 others_silent me other es differs each =
     each_weaker (ChangesRank me) (λ e. tells_of other (teller e) ≡ false)
@@ -109,6 +114,7 @@ still_agrees b ranks is_done s done a = record {
 
 -- What a rank sends is of its call and of no other's.
 
+-- what a step of a rank sends is of its pending call
 pub sent_of_call : (s : ClientModel) (x : Made) → x.state.me ≡ s.me → Then s x
     → Each (λ (y : Sending). OfCall x.state None (by.Rank s.me) y.to y.letter) x.sends
 sent_of_call s x me (It_rests h) = rw h.sends tt
@@ -137,6 +143,7 @@ remote_nothing c coming me (tells.AskGrant of request note) named none = λ who.
 remote_nothing c coming me (tells.AskNone of request) named none = λ who. let is = one_is of me (who ∙ named) in absurd (omega arith)
 remote_nothing c coming me _ named none = tt
 
+-- a letter that weighs nothing for a rank is of no call of it
 pub weighs_nothing : (c : ClientModel) (coming : Option Message) (me : Rank) (from to : Actor) (m : Message) → c.me ≡ me
     → call_letter me from to m ≡ 0 → IsOfCall c coming from to m
 weighs_nothing c coming me (by.Rank from) (by.Server to) m named none =

@@ -29,6 +29,7 @@ some_weighs f (x ∷ xs) some = by_weight (cases_eq (f x) 0) (some_weighs f xs)
     by_weight (inl none) later = let i = later (omega arith) in (suc i.0, i.1, omega (arith, i.2), i.3, i.4)
     by_weight (inr some_here) later = (0, x, omega arith, refl, omega arith)
 
+-- a test that counts something passes
 pub one_is : (t : Bool) → 0 < one t → t ≡ true
 one_is true some = refl
 one_is false some = absurd (omega arith)

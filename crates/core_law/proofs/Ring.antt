@@ -36,6 +36,7 @@ not_among config first tried from (suc n) few below =
     (eqb-true ((first.0 + from) % config.servers) ((first.0 + tried) % config.servers) e)) in
     rw (here, later) refl
 
+-- the server that is asked now is not among those that were tried
 pub not_tried : (config : Config) (first : Server) (tried : ℕ) → tried < config.servers
     → list_any (λ (s : Server). s.0 == (behind config first tried).0) (ring_from config first tried) ≡ false
 not_tried config first tried below = not_among config first tried 0 tried (omega arith) below

@@ -76,6 +76,7 @@ pub record IsMade (w : World) (k : Server) (a : Act) (b n : Bag) : Type 0 where
 
 -- Nothing changes for the rank.
 
+-- an act whose entries, letters and waiting ranks are of others leaves a seat
 pub seat_stays : (w : World) (k : Server) (a : Act) (b n : Bag) (me : Rank) (coming : Option Message) → IsMade w k a b n
     → AreSilent me (entries a (pool_of w k))
     → Each (λ y. IsOfCall (client_of w me) coming (by.Server k) y.to y.message) (says a (pool_of w k))
@@ -172,6 +173,7 @@ pub record IsDecided (w : World) (b n : Bag) (me : Rank) (coming now : Option Me
       ≡ said (client_of w me) (client_of w me).pending coming ++ calls_from b es me
   pub facts : All (IsFact n) (holds (client_of w me) now)
 
+-- an act that takes what stands for a rank's call passes its seat on
 pub seat_passes : (w : World) (k : Server) (a : Act) (b n : Bag) (me : Rank) (coming now : Option Message) → IsMade w k a b n
     → TakesCall w k a me
     → IsDecided w b n me coming now (entries a (pool_of w k))

@@ -16,6 +16,7 @@ requests_counts : (says : List ClientSaying) (x : Made) → length (post_request
 requests_counts [] x = refl
 requests_counts (y ∷ says) x = requests_counts says _ ∙ length-set x.state.sent y.to.0 (get_or x.state.sent y.to.0 0 + 1)
 
+-- what a step of a rank posts
 pub record RankPosts (config : Config) (s : ClientModel) (x : Made) : Type 0 where
   pub posted : IsPosted config x.sends (rank_sent s) (rank_sent x.state) x.state.clock
   pub later : s.clock < x.state.clock
@@ -38,6 +39,7 @@ rule_posts config s z counts sent past are =
       counts = requests_counts z.says bare ∙ ap length sent ∙ counts;
     }
 
+-- a step by its rule posts letters in line
 pub made_posts : (config : Config) (s : ClientModel) (x : Made) → length s.sent ≡ config.servers → IsMade s x → AreWithin config x.sends
     → RankPosts config s x
 made_posts config s x counts m are =

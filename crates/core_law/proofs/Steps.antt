@@ -140,6 +140,7 @@ rank_weight m w me x shape here within =
     let state = weigh_at-set m.rank w.ranks me.0 x.state (new_client w.config me) (let g = shape.ranks in omega arith) in
     omega arith
 
+-- a step of a rank leaves a world of these actors
 pub rank_shaped : (w : World) (me : Rank) (x : Made) → IsShaped w → me.0 < w.config.ranks → AreWithin w.config x.sends
     → IsShaped (after_rank w me w.links x)
 rank_shaped w me x shape here within =

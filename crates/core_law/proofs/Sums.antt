@@ -92,6 +92,7 @@ pub place_below : (config : Config) (a : Actor) → is_within config a ≡ true 
 place_below config (by.Rank r) h = let l = ltb-true r.0 config.ranks h in omega arith
 place_below config (by.Server s) h = let l = ltb-true s.0 config.servers h in omega arith
 
+-- links stay square where one is set
 pub square_put : (n : ℕ) (links : Links) (a b : ℕ) (x : List Letter) → a < n → b < n → IsSquare n links → IsSquare n (put_link links a b x)
 square_put n links a b x la lb sq =
     record {
@@ -120,6 +121,7 @@ abbrev pub AreWithin : Config → List Sending → Type 0
 AreWithin config [] = Unit {0}
 AreWithin config (x ∷ sends) = (is_within config x.to ≡ true) × AreWithin config sends
 
+-- links stay square where letters go off
 pub square_post : (config : Config) (links : Links) (a : ℕ) (sends : List Sending) → a < actors config → AreWithin config sends
     → IsSquare (actors config) links → IsSquare (actors config) (post config links a sends)
 unfolding post

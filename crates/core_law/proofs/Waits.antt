@@ -46,6 +46,7 @@ each_around P (Some at) waiting gone come sits all new =
     let parts = each_parts P at.before (gone ++ at.behind) (subst (Each P) sits all) in
     each_append P at.before (come ++ at.behind) parts.0 (each_append P come at.behind new (each_parts P gone at.behind parts.1).1)
 
+-- what holds of each who waited and of who comes holds of who waits after an act
 pub each_after : (P : Waiting → Type 0) (a : Act) (s : ServerModel) → SitsIn a s → Each P s.kept.parked.waiting → Each P (comes a s)
     → Each P (waiting_after a s)
 each_after P a s sits all new = each_around P (around a) s.kept.parked.waiting (goes a) (comes a s) sits all new
