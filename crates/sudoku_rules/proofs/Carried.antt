@@ -18,7 +18,8 @@ use Rattle.sudoku_rules.proofs.Masks.{marked_at}
 use Rattle.sudoku_rules.proofs.Conflict.{conflict_means, means_conflict}
 use Rattle.sudoku_rules.proofs.Rest.{without, without_same, without_other}
 
-shares_swap : (m i j : ℕ) → shares m i j ≡ shares m j i
+-- which of two cells is named first does not matter
+pub shares_swap : (m i j : ℕ) → shares m i j ≡ shares m j i
 shares_swap m i j =
     rw (eqb_comm (row_of m i) (row_of m j), eqb_comm (column_of m i) (column_of m j), eqb_comm (box_of m i) (box_of m j)) refl
 

@@ -26,6 +26,14 @@ pub record IsWorked (m : ℕ) {S C : ℕ} (grain budget k share : ℕ) (start : 
   pub met : both (met_of found) (rest_of m grain budget k share start.cells cell (from_digit m start.cells cell (from + 1)))
       ≡ both (met_of before) (walk grain (tree m budget start.cells))
 
+-- the same where the grid stays as it is
+pub record IsTried (m : ℕ) (grain budget k share : ℕ) (g : Cells) (cell : ℕ) (before : Expansion) (left : ℕ) (found : Expansion) : Type 0 where
+  pub from : ℕ
+  pub few : from ≤ side m
+  pub rest : IsRest (side m) (λ d. can m g cell d) from left
+  pub met : both (met_of found) (rest_of m grain budget k share g cell (from_digit m g cell (from + 1)))
+      ≡ both (met_of before) (walk grain (tree m budget g))
+
 -- the mask of the candidates
 pub options_rest : (m : ℕ) (g : Cells) (cell options : ℕ) → AreOptions m g cell options → IsRest (side m) (λ d. can m g cell d) 0 options
 options_rest m g cell options are =

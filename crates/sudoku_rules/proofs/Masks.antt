@@ -186,7 +186,7 @@ bit_test v x false is =
     ap not (eq-eqb (bit_and v (2 ^ x)) 0 e)
 
 -- a cell clashes where a cell before it that shares has its digit
-clash_here : (m : ℕ) (g : Cells) (n d : ℕ) → get_or g n 0 ≡ d → 0 < d → any_below n (λ j. clash m g n j) ≡ near m g n n d
+pub clash_here : (m : ℕ) (g : Cells) (n d : ℕ) → get_or g n 0 ≡ d → 0 < d → any_below n (λ j. clash m g n j) ≡ near m g n n d
 clash_here m g n d has some = any_same n (λ j. clash m g n j) (λ j. shares m n j && eqb (get_or g j 0) d) (λ j.
     ap (λ b. (shares m n j && eqb (get_or g n 0) (get_or g j 0)) && not b) (ne_eqb (get_or g n 0) 0 (λ e. omega (arith, has, e)))
     ∙ and_true (shares m n j && eqb (get_or g n 0) (get_or g j 0))
@@ -194,13 +194,13 @@ clash_here m g n d has some = any_same n (λ j. clash m g n j) (λ j. shares m n
     ∙ ap (λ b. shares m n j && b) (eqb_comm d (get_or g j 0)))
 
 -- a blank cell clashes with none
-no_clash : (m : ℕ) (g : Cells) (n : ℕ) → get_or g n 0 ≡ 0 → any_below n (λ j. clash m g n j) ≡ false
+pub no_clash : (m : ℕ) (g : Cells) (n : ℕ) → get_or g n 0 ≡ 0 → any_below n (λ j. clash m g n j) ≡ false
 no_clash m g n blank =
     any_none n (λ j. clash m g n j)
     (λ j. and_right (shares m n j && eqb (get_or g n 0) (get_or g j 0)) (not (eqb (get_or g n 0) 0))
     (ap not (eq-eqb (get_or g n 0) 0 blank)))
 
-clashes_more : (m : ℕ) (g : Cells) (n : ℕ)
+pub clashes_more : (m : ℕ) (g : Cells) (n : ℕ)
     → any_below (n + 1) (λ i. any_below i (λ j. clash m g i j)) ≡
     (any_below n (λ j. clash m g n j) || any_below n (λ i. any_below i (λ j. clash m g i j)))
 unfolding any_below

@@ -19,6 +19,14 @@ side_some m low high = each_side (λ m. 0 < side m) (omega arith) (omega arith) 
 pub side_few : (m : ℕ) → 2 ≤ m → m ≤ 4 → side m ≤ 16
 side_few m low high = each_side (λ m. side m ≤ 16) (omega arith) (omega arith) (omega arith) m low high
 
+-- sides 4 and 9 have 81 cells at most
+pub narrow_size : (m : ℕ) → 2 ≤ m → m ≤ 3 → size m ≤ 81
+narrow_size m low high =
+    each_side (λ m. m ≤ 3 → size m ≤ 81) (λ h. omega arith) (λ h. omega arith) (λ h. omega arith) m low (wider high) high
+  where
+    wider : {k : ℕ} → k ≤ 3 → k ≤ 4
+    wider h = omega arith
+
 pub row_within : (m : ℕ) → 2 ≤ m → m ≤ 4 → (cell : ℕ) → cell < size m → row_of m cell < side m
 row_within m low high =
     each_side (λ m. (cell : ℕ) → cell < size m → row_of m cell < side m) (λ cell h. omega arith) (λ cell h. omega arith)

@@ -11,7 +11,7 @@ abbrev pub at_digit : ℕ → Bool → ℕ → ℕ → Cells → ℕ → ℕ →
 at_digit m hands grain share g cell d =
     cond (used m g cell d) nothing (cond hands (handed_out share (set g cell d)) (walk grain (tree m share (set g cell d))))
 
-or_assoc : (a b c : Bool) → ((a || b) || c) ≡ (a || (b || c))
+pub or_assoc : (a b c : Bool) → ((a || b) || c) ≡ (a || (b || c))
 or_assoc true b c = refl
 or_assoc false b c = refl
 

@@ -3,4 +3,6 @@ pub mod Forms
 pub mod Masks
 pub mod Packed
 pub mod Marked
+pub mod Planes
+pub mod Boards
 pub mod Pieces

@@ -15,6 +15,7 @@ ghost use Rattle.sudoku_rules.specs.Expansion.{met_of};
 
 use crate::grid::{Form, Grid};
 use crate::marked::{Marked, take_lowest};
+use crate::search::search_cells;
 use adlb_unit::{NoMemory, or_no_memory};
 use std::alloc::Global;
 
@@ -41,8 +42,8 @@ pub fn expand(alloc: Global, budget: u64, grid: &Grid, grain: u64) -> Result<Exp
         over: false,
     };
     match grid.form() {
-        Form::Four(cells) => work_cells::<2, 4, 16>(budget, cells, grain, &mut found)?,
-        Form::Nine(cells) => work_cells::<3, 9, 81>(budget, cells, grain, &mut found)?,
+        Form::Four(cells) => search_cells::<2, 4, 16>(budget, cells, grain, &mut found)?,
+        Form::Nine(cells) => search_cells::<3, 9, 81>(budget, cells, grain, &mut found)?,
         Form::Sixteen(cells) => work_cells::<4, 16, 256>(budget, cells, grain, &mut found)?,
     }
     Ok(found)
@@ -65,7 +66,7 @@ pub fn in_text_order(solutions: &mut Vec<Grid>) -> Result<(), NoMemory>
     }
 }
 
-// Works the tree of these cells.
+// Works the tree of these cells, of side 16, by the masks of rows, columns and boxes.
 fn work_cells<const M: usize, const SIDE: usize, const CELLS: usize>(
     budget: u64,
     cells: &[u8; CELLS],
@@ -123,22 +124,24 @@ fn work<const M: usize, const SIDE: usize, const CELLS: usize>(
     Ok(())
 }
 
-fn keep_solution(cells: &[u8], found: &mut Expansion) -> Result<(), NoMemory>
+/// Keeps a solution node.
+pub fn keep_solution(cells: &[u8], found: &mut Expansion) -> Result<(), NoMemory>
     requires { IsSudoku cells.now }
     ensures { OnOk result (met_of found.new ≡ both (met_of found.old) (solved cells.now)) }
 {
     or_no_memory(found.solutions.push(Grid::of(cells)))
 }
 
-fn keep_child(share: u64, cells: &[u8], found: &mut Expansion) -> Result<(), NoMemory>
+/// Keeps a board that is handed out with its share of the budget.
+pub fn keep_child(share: u64, cells: &[u8], found: &mut Expansion) -> Result<(), NoMemory>
     requires { IsSudoku cells.now }
     ensures { OnOk result (met_of found.new ≡ both (met_of found.old) (handed_out share cells.now)) }
 {
     or_no_memory(found.children.push((share, Grid::of(cells))))
 }
 
-// A node with this budget and `count` candidates hands its children out.
-fn is_handing_out(budget: u64, grain: u64, count: u32) -> bool
+/// A node with this budget and `count` candidates hands its children out.
+pub fn is_handing_out(budget: u64, grain: u64, count: u32) -> bool
     ensures { result ≡ hands_out grain budget count }
 {
     budget > grain && count > 1
