@@ -1,4 +1,4 @@
--- The names of lanes, one behind the other.
+-- The names of lanes, one after the other.
 use Rattle.std.proofs.Common.{◌≡◌, ◌∙◌, ◌+◌, ◌*◌, ℕ, List, [], ◌++◌, ap, sym, append_assoc, append-nil, add-one}
 use Rattle.ledger_picture.specs.Front.{lane_of, lanes}
 
@@ -16,7 +16,7 @@ one_more old now next word top height k so_far more =
     (more ∙ ap (λ x. x ++ lane_of word (top + height * k) k) so_far
     ∙ append_assoc old (lanes word top height k) (lane_of word (top + height * k) k))
 
--- four pieces behind nothing
+-- four pieces after nothing
 pub four : (none p q r t front size names rest : List ℕ) → none ≡ [] → p ≡ none ++ front → q ≡ p ++ size → r ≡ q ++ names
     → t ≡ r ++ rest → t ≡ front ++ size ++ names ++ rest
 four none p q r t front size names rest e e1 e2 e3 e4 =

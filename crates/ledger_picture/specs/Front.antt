@@ -38,7 +38,7 @@ abbrev pub lanes_of : Numbers → List ℕ
 lanes_of numbers = lanes (codes "rank") 104 24 numbers.ranks
     ++ lanes (codes "server") (132 + 24 * numbers.ranks) 80 numbers.servers
 
--- the text begins with the picture's numbers, and has, behind its size, a lane for each rank and each server
+-- the text begins with the picture's numbers, and has, after its size, a lane for each rank and each server
 pub record IsPicture (numbers : Numbers) (text : List ℕ) : Type 0 where
   pub size : List ℕ
   pub rest : List ℕ

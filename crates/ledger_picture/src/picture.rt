@@ -39,7 +39,7 @@ pub fn draw(alloc: Global, config: &Config, ledger: &Ledger) -> Result<Picture, 
     Ok(Picture { numbers, text })
 }
 
-// What a picture has behind the names of its lanes. Its only error is `NoMemory`.
+// What a picture has after the names of its lanes. Its only error is `NoMemory`.
 fn paint(
     alloc: Global,
     config: &Config,

@@ -170,7 +170,7 @@ impl RankLane {
         }
     }
 
-    // Whether a mark of this kind may be drawn in the column, and if so keeps the columns behind it free of others.
+    // Whether a mark of this kind may be drawn in the column, and if so keeps the next columns free of others.
     fn has_room(&mut self, mark: Mark, column: u64, apart: u64) -> bool {
         let next = match mark {
             Mark::Rejected => &mut self.rejected,

@@ -24,7 +24,7 @@ impl Strip {
     }
 }
 
-/// A number over the columns, drawn as steps: in each column the highest that it was there, and behind it the last.
+/// A number over the columns, drawn as steps: in each column the highest that it was there, and after it the last.
 #[derive(Drop)]
 pub(crate) struct Steps {
     strip: Strip,
