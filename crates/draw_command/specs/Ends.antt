@@ -1,5 +1,5 @@
 -- How a drawing ends: what it read and wrote, and why.
-use Rattle.std.specs.Prelude.{◌≡◌, ◌⊎◌, ◌+◌, ℕ, Bool, true, List, Option, Result, Ok, Err}
+use Rattle.std.specs.Prelude.{◌≡◌, ◌⊎◌, ◌+◌, ℕ, true, List, Option, Result, Ok, Err}
 use Rattle.adlb_io.specs.Inputs.{IsAtEnd, Seen}
 use Rattle.adlb_io.specs.Outside.{Rises, Takes}
 use Rattle.adlb_io.specs.Whole.{Reads, TakesPrefix}
