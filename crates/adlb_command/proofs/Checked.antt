@@ -9,7 +9,6 @@ use Rattle.ledger_command.specs.Input.{input_limit}
 use Rattle.ledger_command.specs.Verdicts.{IsVerdict}
 use Rattle.ledger_command.specs.declared.faults.CheckFault.{CheckFault}
 use Rattle.ledger_command.specs.declared.faults.CheckFault.TheVariants as checks
-use Rattle.ledger_command.specs.declared.verdicts.Verdict.{Verdict}
 use Rattle.ledger_command.proofs.Ending.{RefusesNone, overlong_told, refused_there, text_told}
 use Rattle.ledger_file.specs.Lines.{IsFirstBad, IsText}
 use Rattle.adlb_command.specs.Ends.{fault_at_check, fault_told}
@@ -19,17 +18,20 @@ use Rattle.adlb_command.specs.declared.ends.RunFault.{RunFault}
 use Rattle.adlb_command.specs.declared.ends.RunFault.TheVariants.{Input, Memory, TooLarge}
 use Rattle.adlb_command.specs.declared.ends.LineWhy.TheVariants.{Entry}
 
-fine_or : (checked : Result Verdict CheckFault) (config : Config) (ledger : List of.Entry) →
-    MatchResult checked (IsVerdict config ledger) (λ fault. fault ≡ checks.Memory) → (fault_told checked ≡ None) ⊎ (fault_told checked ≡ Some Memory)
-fine_or (Ok verdict) config ledger told = inl refl
-fine_or (Err fault) config ledger is = inr (ap (λ f. Some (fault_at_check f)) is)
+-- what was told without a fault is told, or memory failed
+pub fine_or : {X : Type 0} (P : X → Type 0) (told : Result X CheckFault) →
+    MatchResult told P (λ fault. fault ≡ checks.Memory) → (fault_told told ≡ None) ⊎ (fault_told told ≡ Some Memory)
+fine_or P (Ok x) is = inl refl
+fine_or P (Err fault) is = inr (ap (λ f. Some (fault_at_check f)) is)
 
-either_told : (checked : Result Verdict CheckFault) (fault : CheckFault) → (checked ≡ Err fault) ⊎ (checked ≡ Err checks.Memory) →
-    (fault_told checked ≡ Some (fault_at_check fault)) ⊎ (fault_told checked ≡ Some Memory)
-either_told checked fault (inl e) = inl (ap fault_told e)
-either_told checked fault (inr e) = inr (ap fault_told e)
+-- one of two faults is one of the two that they are told as
+pub either_told : {X : Type 0} (told : Result X CheckFault) (fault : CheckFault) → (told ≡ Err fault) ⊎ (told ≡ Err checks.Memory) →
+    (fault_told told ≡ Some (fault_at_check fault)) ⊎ (fault_told told ≡ Some Memory)
+either_told {X} told fault (inl e) = inl (ap (λ (r : Result X CheckFault). fault_told r) e)
+either_told {X} told fault (inr e) = inr (ap (λ (r : Result X CheckFault). fault_told r) e)
 
-either_is : (fault told : Option RunFault) (a b : Option RunFault) → fault ≡ told → (told ≡ a) ⊎ (told ≡ b) → (fault ≡ a) ⊎ (fault ≡ b)
+-- what is equal to one of two is one of them
+pub either_is : (fault told : Option RunFault) (a b : Option RunFault) → fault ≡ told → (told ≡ a) ⊎ (told ≡ b) → (fault ≡ a) ⊎ (fault ≡ b)
 either_is fault told a b same (inl e) = inl (same ∙ e)
 either_is fault told a b same (inr e) = inr (same ∙ e)
 
@@ -40,7 +42,7 @@ module _ (before after : Scene) (fault : Option RunFault) (kept : Option AnyKept
       (config : Config) (ledger : List of.Entry) → length bytes ≤ input_limit → IsText config ledger bytes →
       (Rises before.writes after.writes → ⊥) → (fault ≡ None) ⊎ (fault ≡ Some Memory)
   text_checked none two config ledger short text no_write =
-      either_is fault (fault_told ends.checked) None (Some Memory) ends.fault_is (fine_or ends.checked config ledger
+      either_is fault (fault_told ends.checked) None (Some Memory) ends.fault_is (fine_or (IsVerdict config ledger) ends.checked
       (text_told (seen_in before) (seen_in after) bytes told no_read none two config ledger short text no_write ends.checked ends.ends))
 
   -- a text of none is refused

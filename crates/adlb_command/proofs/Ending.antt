@@ -2,7 +2,7 @@
 use Rattle.std.proofs.Common.{◌≡◌, ◌⊎◌, ℕ, Option, Some, None, Result, Ok, Err, refl, sym, subst, inl, inr}
 use Rattle.adlb_unit.specs.declared.configs.Config.{Config}
 use Rattle.command_words.specs.declared.commands.Command.{Command}
-use Rattle.command_words.specs.declared.commands.Command.TheVariants.{Solve, Check, Make, Drill}
+use Rattle.command_words.specs.declared.commands.Command.TheVariants.{Solve, Check, Make, Drill, Draw}
 use Rattle.command_words.specs.declared.commands.RunOptions.{RunOptions}
 use Rattle.command_words.specs.declared.commands.SolveWords.{SolveWords}
 use Rattle.command_words.specs.declared.commands.WordsFault.{WordsFault}
@@ -11,7 +11,6 @@ use Rattle.job_report.specs.declared.outcomes.Outcome.{Outcome}
 use Rattle.job_text.specs.declared.faults.LineWhy as of_jobs
 use Rattle.ledger_command.specs.declared.faults.CheckFault.{CheckFault}
 use Rattle.ledger_command.specs.declared.faults.CheckFault.TheVariants as checks
-use Rattle.ledger_command.specs.declared.verdicts.Verdict.{Verdict}
 use Rattle.made_jobs.specs.Made.{made_text}
 use Rattle.made_jobs.specs.declared.faults.MadeFault.{MadeFault}
 use Rattle.made_jobs.specs.declared.faults.MadeFault.TheVariants as makes
@@ -27,7 +26,7 @@ use Rattle.solve_command.specs.Told.{behind}
 use Rattle.solve_command.specs.declared.extras.Extras.{Extras}
 use Rattle.adlb_command.proofs.Made.{none_taken}
 use Rattle.adlb_command.specs.Ends.{fault_ended, fault_made, fault_said, fault_told, kept_ended}
-use Rattle.adlb_command.specs.Top.{DrillsAs, EndsAs, EndsAsChecked, EndsAsMade, EndsAsRun, EndsUnsaid, SolvesAs}
+use Rattle.adlb_command.specs.Top.{DrillsAs, EndsAs, EndsAsChecked, EndsAsDrawn, EndsAsMade, EndsAsRun, EndsUnsaid, SolvesAs}
 use Rattle.adlb_command.specs.Words.{IsConfigOf, extras_of, settings_of}
 use Rattle.adlb_command.specs.declared.ends.AnyKept.{AnyKept}
 use Rattle.adlb_command.specs.declared.ends.RunFault.{RunFault}
@@ -60,6 +59,13 @@ module _ (here : Scene) where
   }
   out_of_memory (Some Check) = record {
     checked = Err checks.Memory;
+    fault_is = refl;
+    ends = (refl, inl refl);
+    none_kept = refl;
+    none_started = starts_none;
+  }
+  out_of_memory (Some Draw) = record {
+    drawn = Err checks.Memory;
     fault_is = refl;
     ends = (refl, inl refl);
     none_kept = refl;
@@ -139,6 +145,9 @@ module _ (said : Option Command) (before after : Scene) (fault : Option RunFault
   pub ends_checked : said ≡ Some Check → EndsAsChecked before after fault kept → EndsAs said before after fault kept
   ends_checked is ended = subst (λ s. EndsAs s before after fault kept) (sym is) ended
 
+  pub ends_drawn : said ≡ Some Draw → EndsAsDrawn before after fault kept → EndsAs said before after fault kept
+  ends_drawn is ended = subst (λ s. EndsAs s before after fault kept) (sym is) ended
+
   pub ends_made : (count seed : ℕ) → said ≡ Some (Make count seed) → EndsAsMade count seed before after fault kept →
       EndsAs said before after fault kept
   ends_made count seed is ended = subst (λ s. EndsAs s before after fault kept) (sym is) ended
@@ -155,13 +164,13 @@ no_usage_ran (Some runs.Memory) e = absurd (cc)
 no_usage_ran (Some (runs.TooLong stamp)) e = absurd (cc)
 no_usage_ran (Some (runs.TooLarge taken)) e = absurd (cc)
 
-no_usage_checked : (checked : Result Verdict CheckFault) → Some Usage ≡ fault_told checked → ⊥
-no_usage_checked (Ok verdict) e = absurd (cc)
-no_usage_checked (Err checks.Read) e = absurd (cc)
-no_usage_checked (Err checks.Write) e = absurd (cc)
-no_usage_checked (Err checks.Memory) e = absurd (cc)
-no_usage_checked (Err (checks.TooLarge taken)) e = absurd (cc)
-no_usage_checked (Err (checks.Entry line)) e = absurd (cc)
+no_usage_told : {X : Type 0} (told : Result X CheckFault) → Some Usage ≡ fault_told told → ⊥
+no_usage_told (Ok x) e = absurd (cc)
+no_usage_told (Err checks.Read) e = absurd (cc)
+no_usage_told (Err checks.Write) e = absurd (cc)
+no_usage_told (Err checks.Memory) e = absurd (cc)
+no_usage_told (Err (checks.TooLarge taken)) e = absurd (cc)
+no_usage_told (Err (checks.Entry line)) e = absurd (cc)
 
 no_usage_made : (made : Result (Unit {0}) MadeFault) → Some Usage ≡ fault_made made → ⊥
 no_usage_made (Ok done) e = absurd (cc)
@@ -172,6 +181,7 @@ pub usage_unsaid : (said : Option Command) (before after : Scene) (kept : Option
     EndsAs said before after (Some Usage) kept → said ≡ None
 usage_unsaid None before after kept ends = refl
 usage_unsaid (Some (Solve w)) before after kept ends = absurd (no_usage_ran ends.met ends.fault_is)
-usage_unsaid (Some Check) before after kept ends = absurd (no_usage_checked ends.checked ends.fault_is)
+usage_unsaid (Some Check) before after kept ends = absurd (no_usage_told ends.checked ends.fault_is)
 usage_unsaid (Some (Make count seed)) before after kept ends = absurd (no_usage_made ends.made ends.fault_is)
 usage_unsaid (Some (Drill count seed options)) before after kept ends = absurd (no_usage_ran ends.met ends.fault_is)
+usage_unsaid (Some Draw) before after kept ends = absurd (no_usage_told ends.drawn ends.fault_is)

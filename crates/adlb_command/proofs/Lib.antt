@@ -1,4 +1,5 @@
 pub mod Ending
 pub mod Checked
+pub mod Drawn
 pub mod Made
 pub mod Solved

@@ -9,7 +9,6 @@ use Rattle.job_text.specs.declared.faults.LineWhy as of_jobs
 use Rattle.job_text.specs.declared.faults.LineWhy.TheVariants as jobs
 use Rattle.ledger_command.specs.declared.faults.CheckFault.{CheckFault}
 use Rattle.ledger_command.specs.declared.faults.CheckFault.TheVariants as checks
-use Rattle.ledger_command.specs.declared.verdicts.Verdict.{Verdict}
 use Rattle.made_jobs.specs.declared.faults.MadeFault.{MadeFault}
 use Rattle.made_jobs.specs.declared.faults.MadeFault.TheVariants as makes
 use Rattle.run_command.specs.Kept.{Kept}
@@ -40,7 +39,7 @@ IsFine (Some Memory) = Unit {0}
 IsFine (Some (TooLong stamp)) = Unit {0}
 IsFine fault = ⊥
 
--- Which fault of a command one of the words is, one of a run over puzzles and batches, one of a check, and one of a making.
+-- Which fault of a command one of the words is, one of a run over puzzles and batches, one of a check or a drawing, and one of a making.
 
 abbrev pub fault_said : WordsFault → RunFault
 fault_said words.Usage = Usage
@@ -80,8 +79,8 @@ abbrev pub fault_ended : Option (of_runs.Fault of_jobs.LineWhy) → Option RunFa
 fault_ended None = None
 fault_ended (Some fault) = Some (fault_run fault)
 
-abbrev pub fault_told : Result Verdict CheckFault → Option RunFault
-fault_told (Ok verdict) = None
+abbrev pub fault_told : {X : Type 0} → Result X CheckFault → Option RunFault
+fault_told (Ok told) = None
 fault_told (Err fault) = Some (fault_at_check fault)
 
 abbrev pub fault_made : Result (Unit {0}) MadeFault → Option RunFault

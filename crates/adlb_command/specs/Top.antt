@@ -2,14 +2,16 @@
 use Rattle.std.specs.Prelude.{◌≡◌, ◌⊎◌, ℕ, Option, Some, None, Result}
 use Rattle.adlb_io.specs.Inputs.{Seen, seen}
 use Rattle.command_words.specs.declared.commands.Command.{Command}
-use Rattle.command_words.specs.declared.commands.Command.TheVariants.{Solve, Check, Make, Drill}
+use Rattle.command_words.specs.declared.commands.Command.TheVariants.{Solve, Check, Make, Drill, Draw}
 use Rattle.command_words.specs.declared.commands.RunOptions.{RunOptions}
 use Rattle.command_words.specs.declared.commands.SolveWords.{SolveWords}
+use Rattle.draw_command.specs.Ends.{DrawsTo}
 use Rattle.job_report.specs.declared.outcomes.Outcome.{Outcome}
 use Rattle.job_text.specs.declared.faults.LineWhy as of_jobs
 use Rattle.ledger_command.specs.Ends.{ChecksTo}
 use Rattle.ledger_command.specs.declared.faults.CheckFault.{CheckFault}
 use Rattle.ledger_command.specs.declared.verdicts.Verdict.{Verdict}
+use Rattle.ledger_picture.specs.declared.numbers.Numbers.{Numbers}
 use Rattle.made_jobs.specs.Ends.{MakesTo, sink_seen}
 use Rattle.made_jobs.specs.Made.{made_text}
 use Rattle.made_jobs.specs.declared.faults.MadeFault.{MadeFault}
@@ -24,7 +26,7 @@ use Rattle.adlb_command.specs.declared.ends.AnyKept.{AnyKept}
 use Rattle.adlb_command.specs.declared.ends.RunFault.{RunFault}
 use Rattle.adlb_command.specs.declared.ends.RunFault.TheVariants.{Usage, Memory}
 
--- what `check` sees of the outside
+-- what `check` and `draw` see of the outside
 abbrev pub seen_in : Scene → Seen
 seen_in s = seen s.left s.reads s.taken s.writes s.flushed
 
@@ -62,6 +64,14 @@ pub record EndsAsChecked (before after : Scene) (fault : Option RunFault) (kept 
   pub none_kept : kept ≡ None
   pub none_started : StartsNone before after
 
+-- the ends of `draw`: it ends as the drawing of the ledger did, keeps nothing, and starts no thread
+pub record EndsAsDrawn (before after : Scene) (fault : Option RunFault) (kept : Option AnyKept) : Type 0 where
+  pub drawn : Result Numbers CheckFault
+  pub fault_is : fault ≡ fault_told drawn
+  pub ends : DrawsTo (seen_in before) (seen_in after) drawn
+  pub none_kept : kept ≡ None
+  pub none_started : StartsNone before after
+
 -- the ends of `make`: the made text was written, or a part of it; nothing was read, nothing is kept, and no thread was started
 pub record EndsAsMade (count seed : ℕ) (before after : Scene) (fault : Option RunFault) (kept : Option AnyKept) : Type 0 where
   pub made : Result (Unit {0}) MadeFault
@@ -79,3 +89,4 @@ EndsAs (Some (Solve words)) before after fault kept = EndsAsRun (SolvesAs words 
 EndsAs (Some Check) before after fault kept = EndsAsChecked before after fault kept
 EndsAs (Some (Make count seed)) before after fault kept = EndsAsMade count seed before after fault kept
 EndsAs (Some (Drill count seed options)) before after fault kept = EndsAsRun (DrillsAs count seed options before after) fault kept
+EndsAs (Some Draw) before after fault kept = EndsAsDrawn before after fault kept

@@ -62,7 +62,7 @@ pub enum RunFault {
     #[error("line {line}: {why}")]
     Input { line: u64, why: LineWhy },
     /// The words are refused.
-    #[error("usage: adlbrun solve, make, drill or check with their options")]
+    #[error("usage: adlbrun solve, make, drill, check or draw with their options")]
     Usage,
     /// The source failed.
     #[error("read failed")]
@@ -76,7 +76,7 @@ pub enum RunFault {
     /// An event of the run would have this stamp, which is past the last one that is given.
     #[error("stamp limit reached")]
     TooLong { stamp: u64 },
-    /// The input has more than 2^24 bytes, or 2^26 for `check`, of which this many were taken.
+    /// The input has more than 2^24 bytes, or 2^26 for `check` and `draw`, of which this many were taken.
     #[error("input too large")]
     TooLarge { taken: u64 },
     /// A start of a thread was refused.

@@ -29,7 +29,7 @@ use made_law::made_is_accepted;
 /// start was refused either (`complete`), a refused one is refused at its first such line (`refused`), and one that is too long is told as
 /// such (`overlong`), unless memory fails; besides, only the stamps can end.
 /// `check`: a text of a ledger is told (`checked`), any other input is refused at its first line that is not what is due (`bad`), and one
-/// that is too long is told as such (`long`), unless memory fails. `make`: if no write failed, the whole text was written, unless memory
+/// that is too long is told as such (`long`), unless memory fails; and so of `draw` (`drawn`, `undrawn`, `longer`). `make`: if no write failed, the whole text was written, unless memory
 /// fails (`made`). `drill`: if no write failed and no start was refused, the summary was written, but for the ends that `complete` leaves
 /// (`drilled`).
 pub fn end_laws()
@@ -58,6 +58,17 @@ pub fn end_laws()
         (fault ≡ Some (RunFault.Input line LineWhy.Entry)) ⊎ (fault ≡ Some RunFault.Memory) }
     ensures long { (before after : Scene) (fault : Option RunFault) (kept : Option AnyKept) (bytes : List ℕ) →
         EndsAs (Some Command.Check) before after fault kept → before.left ≡ Some bytes → (Rises before.reads after.reads → ⊥) →
+        ledger_limit < length bytes → (fault ≡ Some (RunFault.TooLarge (ledger_limit + 1))) ⊎ (fault ≡ Some RunFault.Memory) }
+    ensures drawn { (before after : Scene) (fault : Option RunFault) (kept : Option AnyKept) (bytes : List ℕ) →
+        EndsAs (Some Command.Draw) before after fault kept → before.left ≡ Some bytes → (Rises before.reads after.reads → ⊥) →
+        (config : Config) (ledger : List Entry) → length bytes ≤ ledger_limit → IsText config ledger bytes →
+        (Rises before.writes after.writes → ⊥) → (fault ≡ None) ⊎ (fault ≡ Some RunFault.Memory) }
+    ensures undrawn { (before after : Scene) (fault : Option RunFault) (kept : Option AnyKept) (bytes : List ℕ) →
+        EndsAs (Some Command.Draw) before after fault kept → before.left ≡ Some bytes → (Rises before.reads after.reads → ⊥) →
+        (line : ℕ) → length bytes ≤ ledger_limit → IsFirstBad bytes line →
+        (fault ≡ Some (RunFault.Input line LineWhy.Entry)) ⊎ (fault ≡ Some RunFault.Memory) }
+    ensures longer { (before after : Scene) (fault : Option RunFault) (kept : Option AnyKept) (bytes : List ℕ) →
+        EndsAs (Some Command.Draw) before after fault kept → before.left ≡ Some bytes → (Rises before.reads after.reads → ⊥) →
         ledger_limit < length bytes → (fault ≡ Some (RunFault.TooLarge (ledger_limit + 1))) ⊎ (fault ≡ Some RunFault.Memory) }
     ensures drilled { (count seed : ℕ) (options : RunOptions) (before after : Scene) (fault : Option RunFault) (kept : Option AnyKept) →
         EndsAs (Some (Command.Drill count seed options)) before after fault kept → count ≤ 100000 →

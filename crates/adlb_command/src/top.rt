@@ -5,12 +5,13 @@ ghost use Rattle.std.specs.String.{string_bytes};
 ghost use Rattle.command_words.specs.Said.{command_of};
 ghost use Rattle.run_command.specs.Ends.{scene};
 ghost use Rattle.adlb_command.specs.Ends.{status_of};
-ghost use Rattle.adlb_command.specs.Top.{EndsAs, EndsAsChecked, EndsAsMade};
+ghost use Rattle.adlb_command.specs.Top.{EndsAs, EndsAsChecked, EndsAsDrawn, EndsAsMade};
 
 use crate::ends::{RunEnd, RunFault};
 use crate::words::{config, extras, settings};
 use adlb_io::{Gate, Sink, Source, Spawner};
 use command_words::{Command, read_words};
+use draw_command::draw_ledger;
 use ledger_command::check_ledger;
 use made_jobs::write_made;
 use solve_command::{drill, solve};
@@ -19,11 +20,11 @@ use std::alloc::Global;
 /// Runs the command that the words give. `solve` reads puzzles and batches of items from the input, and writes their report to
 /// the output, and what else the words ask for; `make` reads nothing, and writes puzzles and batches that are made from a seed; `drill`
 /// reads nothing, works these as `solve` would, and writes a summary; `check` reads the text of a ledger, and writes whether it is a
-/// legal run. `solve` and `drill` run each rank and each server in a thread of its own, and wait for them, unless the words say
-/// `--inline`; `make` and `check` start no thread. Status 0 says that the whole output was written and flushed.
+/// legal run; `draw` reads one, and writes its picture. `solve` and `drill` run each rank and each server in a thread of its own, and wait for them, unless the words say
+/// `--inline`; the others start no thread. Status 0 says that the whole output was written and flushed.
 ///
 /// It ends as the command does that the words say (`EndsAs`): `solve` and `drill` by their row of `EndsBy`, `make` as `write_made` and
-/// `check` as `check_ledger`. If they say none it ends with `Usage`, and nothing is read or written then. Each fault that has its cause
+/// `check` as `check_ledger`, `draw` as `draw_ledger`. If they say none it ends with `Usage`, and nothing is read or written then. Each fault that has its cause
 /// yields to `Memory`. What follows of accepted and refused inputs is in `end_laws`.
 pub fn run_adlb<S: Source, K: Sink, T: Spawner, G: Gate + Send + Drop + 'static>(
     alloc: Global,
@@ -57,6 +58,7 @@ pub fn run_adlb<S: Source, K: Sink, T: Spawner, G: Gate + Send + Drop + 'static>
             gate,
         )),
         Ok(Command::Check) => check(alloc, input, output),
+        Ok(Command::Draw) => draw(alloc, input, output),
         Ok(Command::Make { count, seed }) => make(alloc, count, seed, output),
         Ok(
             Command::Drill {
@@ -92,6 +94,22 @@ fn check<S: Source, K: Sink>(alloc: Global, input: &mut S, output: &mut K) -> Ru
     let mut complaint = None;
     match check_ledger(alloc, input, output, &mut complaint) {
         Ok(_) => RunEnd::complaining(complaint),
+        Err(fault) => RunEnd::new(Some(RunFault::from(fault))),
+    }
+}
+
+// Draws a ledger.
+fn draw<S: Source, K: Sink>(alloc: Global, input: &mut S, output: &mut K) -> RunEnd
+    ensures status { result.status ≡ status_of result.fault }
+    ensures ends { (refused started : ℕ) → EndsAsDrawn
+        (scene (S.left input.old) (S.faults input.old) (K.taken output.old) (K.faults output.old) (K.all_flushed output.old) refused started)
+        (scene (S.left input.new) (S.faults input.new) (K.taken output.new) (K.faults output.new) (K.all_flushed output.new) refused started)
+        result.fault result.kept }
+    ensures source { S.faults input.old ≤ S.faults input.new }
+    ensures sink { K.faults output.old ≤ K.faults output.new }
+{
+    match draw_ledger(alloc, input, output) {
+        Ok(_) => RunEnd::new(None),
         Err(fault) => RunEnd::new(Some(RunFault::from(fault))),
     }
 }

@@ -1,14 +1,18 @@
-//! Gates, which a rank passes after each grant and each fetch.
+//! Gates, which a rank passes before each call that waits for a unit, and after each grant, each fetch and each put that was taken.
 
 use adlb_unit::{NoMemory, Rank};
 
-/// What a rank has just got, with the number of its call.
+/// What a rank is about to wait for, or has just got or put, with the number of its call.
 #[derive(Clone, Copy, PartialEq, Eq)]
 pub enum GatePoint {
+    /// The rank reserves, and is about to wait for a unit.
+    Waiting { call: u64 },
     /// A unit was granted.
     Granted { call: u64 },
     /// A unit was fetched.
     Fetched { call: u64 },
+    /// A unit was put, and a server took it.
+    Put { call: u64 },
 }
 
 /// Where a rank may be held up, so that a test decides who goes on. Nothing that a rank is told depends on it.

@@ -13,6 +13,7 @@ const USAGE: &[&str] = &[
     "--budget 1 to 2^32 nodes a puzzle, or 2^24                --grain 1 to 2^32 nodes a unit, or 2^16",
     "--inline: one rank and one server, and no thread",
     "--stats: counts of the run behind the report              --ledger: all that happened, behind the report",
+    "draw                                    write a picture, an SVG, of the ledger whose text standard input is",
 ];
 
 /// What would have been accepted in place of what this fault is of, line by line; nothing where the fault says all.
@@ -21,7 +22,7 @@ pub(crate) fn hints(fault: &RunFault) -> &'static [&'static str] {
         RunFault::Usage => USAGE,
         RunFault::Input { why, .. } => line_hints(why),
         RunFault::TooLarge { .. } => {
-            &["an input has at most 2^24 bytes, and that of check at most 2^26"]
+            &["an input has at most 2^24 bytes, and that of check and draw at most 2^26"]
         }
         _ => &[],
     }

@@ -31,7 +31,7 @@ const PLAIN: &[(RunFault, &str)] = &[
     (
         RunFault::TooLarge { taken: 16_777_217 },
         "adlbrun: input too large\n\
-         \x20 an input has at most 2^24 bytes, and that of check at most 2^26\n",
+         \x20 an input has at most 2^24 bytes, and that of check and draw at most 2^26\n",
     ),
 ];
 
@@ -94,7 +94,7 @@ fn says_what_a_line_can_be(rt: HostRuntime) -> Result<(), Fail> {
 }
 
 /// What is said of words that are refused: the first line, and those after the one that names the word.
-const FIRST: &str = "adlbrun: usage: adlbrun solve, make, drill or check with their options\n";
+const FIRST: &str = "adlbrun: usage: adlbrun solve, make, drill, check or draw with their options\n";
 
 const COMMANDS: &str = "\n\
     \x20 solve [OPTION..] [--stats] [--ledger]   solve the puzzles and work the batches of standard input\n\
@@ -105,7 +105,8 @@ const COMMANDS: &str = "\n\
     \x20 --ranks 1 to 32, or 4        --servers 1 to 8, or 2       --limit 64 to 2^30 bytes a server, or 2^26\n\
     \x20 --budget 1 to 2^32 nodes a puzzle, or 2^24                --grain 1 to 2^32 nodes a unit, or 2^16\n\
     \x20 --inline: one rank and one server, and no thread\n\
-    \x20 --stats: counts of the run behind the report              --ledger: all that happened, behind the report\n";
+    \x20 --stats: counts of the run behind the report              --ledger: all that happened, behind the report\n\
+    \x20 draw                                    write a picture, an SVG, of the ledger whose text standard input is\n";
 
 /// Words that are refused, and what is said of the word.
 const REFUSED: &[(&str, &str)] = &[

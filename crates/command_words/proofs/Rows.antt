@@ -2,7 +2,7 @@
 use Rattle.std.proofs.Common.{◌≡◌, ◌∷◌, [], None, Some, codes, false, refl, true}
 use Rattle.clap.proofs.OnLiterals.{clap_on_literals}
 use Rattle.command_words.specs.Said.{command_of, default_run}
-use Rattle.command_words.specs.declared.commands.Command.TheVariants.{Check, Drill, Make, Solve}
+use Rattle.command_words.specs.declared.commands.Command.TheVariants.{Check, Draw, Drill, Make, Solve}
 
 no_word : command_of [] ≡ None
 no_word = refl
@@ -69,3 +69,7 @@ between : command_of (codes "drill" ∷ codes "+3" ∷ codes "--budget" ∷ code
     ≡ Some (Drill 3 4 (record default_run { budget = 100 }))
 unfolding clap_on_literals
 between = refl
+
+draw : command_of (codes "draw" ∷ []) ≡ Some Draw
+unfolding clap_on_literals
+draw = refl

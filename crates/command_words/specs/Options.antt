@@ -68,3 +68,6 @@ make_app = with_made (bare (codes "make"))
 
 abbrev pub drill_app : App
 drill_app = with_run (with_made (bare (codes "drill")))
+
+abbrev pub draw_app : App
+draw_app = bare (codes "draw")

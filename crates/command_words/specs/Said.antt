@@ -5,10 +5,10 @@ use Rattle.std.specs.Str.{bytes_eq}
 use Rattle.std.specs.Str.Parse.{digits_value, without_leading_plus}
 use Rattle.adlb_unit.specs.Limits.{InLimit}
 use Rattle.clap.specs.Words.{App, Kinds, Row, Text, fault_of, matches_of, one_of}
-use Rattle.command_words.specs.Options.{check_app, drill_app, make_app, solve_app}
+use Rattle.command_words.specs.Options.{check_app, draw_app, drill_app, make_app, solve_app}
 use Rattle.command_words.specs.Ranges.{IsIn, budgets, counts, grains, limits, rank_counts, seeds, server_counts}
 use Rattle.command_words.specs.declared.commands.Command.{Command}
-use Rattle.command_words.specs.declared.commands.Command.TheVariants.{Solve, Check, Make, Drill}
+use Rattle.command_words.specs.declared.commands.Command.TheVariants.{Solve, Check, Make, Drill, Draw}
 use Rattle.command_words.specs.declared.commands.RunOptions.{RunOptions}
 use Rattle.command_words.specs.declared.commands.Sizes.{Sizes}
 
@@ -61,6 +61,9 @@ drill_of rows = Drill
     (number_of (codes "seed") seeds.default rows)
     (run_of rows)
 
+abbrev pub draw_of : List Row → Command
+draw_of rows = Draw
+
 -- the command, unless there is a fault
 abbrev pub unless : Kinds → Command → Option Command
 unless [] command = Some command
@@ -78,7 +81,8 @@ command_of (word ∷ words) =
     else (if bytes_eq word (codes "check") then read_by check_app check_of words
     else (if bytes_eq word (codes "make") then read_by make_app make_of words
     else (if bytes_eq word (codes "drill") then read_by drill_app drill_of words
-    else None)))
+    else (if bytes_eq word (codes "draw") then read_by draw_app draw_of words
+    else None))))
 
 -- the numbers of a run are within their limits
 pub record AreWithin (sizes : Sizes) : Type 0 where
@@ -97,3 +101,4 @@ IsWithin (Solve words) = IsRunWithin words.options
 IsWithin Check = ⊤
 IsWithin (Make count seed) = IsIn counts count
 IsWithin (Drill count seed run) = IsIn counts count × IsRunWithin run
+IsWithin Draw = ⊤

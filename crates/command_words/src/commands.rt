@@ -56,6 +56,8 @@ pub enum Command {
         seed: u64,
         options: RunOptions,
     },
+    /// Draw a ledger's text.
+    Draw,
 }
 
 /// Why the words give no command.

@@ -2,7 +2,7 @@
 
 ghost use Rattle.std.specs.Prelude.{◌≡◌, IfOk, false};
 ghost use Rattle.clap.specs.Words.{app_of, rule_of, with_rule};
-ghost use Rattle.command_words.specs.Options.{bare, check_app, drill_app, flag_rule, make_app, number_rule};
+ghost use Rattle.command_words.specs.Options.{bare, check_app, draw_app, drill_app, flag_rule, make_app, number_rule};
 ghost use Rattle.command_words.specs.Options.{option_rule, solve_app, with_made, with_run, with_sizes, with_work};
 
 use clap::builder::ValueParser;
@@ -143,4 +143,11 @@ pub(crate) fn drill_command<'a>(alloc: Global) -> Result<Command<'a>, AllocError
     ensures { IfOk result (λ c. app_of c ≡ drill_app) }
 {
     with_run(alloc, with_made(alloc, command(alloc, "drill"))?)
+}
+
+/// `draw` (`draw_app`).
+pub(crate) fn draw_command<'a>(alloc: Global) -> Command<'a>
+    ensures { app_of result ≡ draw_app }
+{
+    command(alloc, "draw")
 }

@@ -4,14 +4,14 @@ ghost use Rattle.std.specs.Prelude.{◌≡◌, ◌≢◌, IfErr, IfOk, None, Som
 ghost use Rattle.std.specs.String.{string_bytes};
 ghost use Rattle.clap.specs.Words.{IsParsedFrom, app_of, fault_of, found_of, is_simple_and_free, rows_of};
 ghost use Rattle.command_words.specs.Inside.{HoldsIn, HoldsMade, HoldsRun, HoldsSizes, IsFound};
-ghost use Rattle.command_words.specs.Options.{check_app, drill_app, make_app, solve_app};
+ghost use Rattle.command_words.specs.Options.{check_app, draw_app, drill_app, make_app, solve_app};
 ghost use Rattle.command_words.specs.Ranges.{IsIn, counts, seeds};
-ghost use Rattle.command_words.specs.Said.{AreWithin, IsRunWithin, IsWithin, check_of, command_of, drill_of, flag_of};
+ghost use Rattle.command_words.specs.Said.{AreWithin, IsRunWithin, IsWithin, check_of, command_of, draw_of, drill_of, flag_of};
 ghost use Rattle.command_words.specs.Said.{make_of, number_of, read_by, run_of, sizes_of, solve_of};
 ghost use Rattle.command_words.specs.declared.commands.WordsFault.TheVariants.{Usage};
 
 use crate::commands::{Command, RunOptions, Sizes, SolveWords, WordsFault};
-use crate::options::{check_command, drill_command, make_command, solve_command};
+use crate::options::{check_command, draw_command, drill_command, make_command, solve_command};
 use clap::ArgMatches;
 use clap::error::ErrorKind;
 use std::alloc::Global;
@@ -139,6 +139,16 @@ fn read_drill(alloc: Global, words: &[String]) -> Result<Command, WordsFault>
     })
 }
 
+fn read_draw(alloc: Global, words: &[String]) -> Result<Command, WordsFault>
+    ensures said { IfOk result (λ c. read_by draw_app draw_of (map string_bytes words.now) ≡ Some c) }
+    ensures within { IfOk result IsWithin }
+    ensures refused { IfErr result (λ f. f ≡ Usage →
+        read_by draw_app draw_of (map string_bytes words.now) ≡ None) }
+{
+    matches_of(draw_command(alloc), words)?;
+    Ok(Command::Draw)
+}
+
 /// The command that the words say (`command_of`), with its numbers within their limits (`IsWithin`). `Usage` comes
 /// only where they say none, and `Memory` if an allocation failed.
 pub fn read_words(alloc: Global, words: &[String]) -> Result<Command, WordsFault>
@@ -153,6 +163,7 @@ pub fn read_words(alloc: Global, words: &[String]) -> Result<Command, WordsFault
             "check" => read_check(alloc, rest),
             "make" => read_make(alloc, rest),
             "drill" => read_drill(alloc, rest),
+            "draw" => read_draw(alloc, rest),
             _ => Err(WordsFault::Usage),
         },
     }

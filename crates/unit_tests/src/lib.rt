@@ -1,9 +1,10 @@
 //! Units, letters, bytes, threads, words, and ledgers as text, checked and counted, by example.
 //!
 //! It holds tests alone, of `adlb_unit`, `adlb_io`, `bag_ledger`, `command_words`, `ledger_file`, `ledger_rules`,
-//! `ledger_command` and `ledger_stats`. They show which numbers and targets are taken, what is permitted, that what is
+//! `ledger_command`, `ledger_stats` and `draw_command`. They show which numbers and targets are taken, what is permitted, that what is
 //! heavy has a twin, how bytes are read and written and threads started, which words are accepted, which lines of a text
-//! are refused, what is said of each rule that an entry breaks, and how a check of a ledger ends.
+//! are refused, what is said of each rule that an entry breaks, and how a check and a
+//! drawing of a ledger end.
 #![tactic(auto)]
 
 #[cfg(test)]
@@ -18,6 +19,8 @@ mod complaints;
 mod configs;
 #[cfg(test)]
 mod counts;
+#[cfg(test)]
+mod drawn;
 #[cfg(test)]
 mod handles;
 #[cfg(test)]

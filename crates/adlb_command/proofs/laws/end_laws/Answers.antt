@@ -6,6 +6,7 @@ use Rattle.solve_command.proofs.Ended.{accepted_fine, overlong_told, refused_at_
 use Rattle.solve_command.specs.Told.{IsReported, behind}
 use Rattle.adlb_command.specs.Words.{IsConfigOf, extras_of, settings_of}
 use Rattle.adlb_command.proofs.Checked.{bad_checked, long_checked, text_checked}
+use Rattle.adlb_command.proofs.Drawn.{bad_drawn, long_drawn, text_drawn}
 use Rattle.adlb_command.proofs.Ending.{usage_unsaid}
 use Rattle.adlb_command.proofs.Made.{made_whole}
 use Rattle.adlb_command.proofs.Solved.{either_told, fine_told}
@@ -50,6 +51,20 @@ returns-clause-bad c = λ before after fault kept bytes ends told no_read line s
 pub returns-clause-long : goal.returns-clause-long
 returns-clause-long c = λ before after fault kept bytes ends told no_read long.
     long_checked before after fault kept bytes ends told no_read long
+
+pub returns-clause-drawn : goal.returns-clause-drawn
+returns-clause-drawn c = λ before after fault kept bytes ends told no_read config ledger short text no_write.
+    text_drawn before after fault kept bytes ends told no_read c.text_laws.ensures.no_text
+    (λ a b l m. c.text_laws.ensures.no_text_of_two a b l m bytes) config ledger short text no_write
+
+pub returns-clause-undrawn : goal.returns-clause-undrawn
+returns-clause-undrawn c = λ before after fault kept bytes ends told no_read line short bad.
+    bad_drawn before after fault kept bytes ends told no_read c.text_laws.ensures.no_text (c.text_laws.ensures.one_line bytes) line
+    short bad
+
+pub returns-clause-longer : goal.returns-clause-longer
+returns-clause-longer c = λ before after fault kept bytes ends told no_read long.
+    long_drawn before after fault kept bytes ends told no_read long
 
 pub returns-clause-made : goal.returns-clause-made
 returns-clause-made c = λ count seed before after fault kept ends no_write. made_whole count seed before after fault kept ends no_write

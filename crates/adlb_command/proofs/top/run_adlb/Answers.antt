@@ -2,7 +2,7 @@ use Rattle.std.proofs.Common.{◌≡◌, ◌∙◌, Some, ap, map, subst}
 use Rattle.std.specs.String.{string_bytes}
 use Rattle.command_words.specs.Said.{command_of}
 use Rattle.run_command.specs.Ends.{scene}
-use Rattle.adlb_command.proofs.Ending.{drilled_said, ends_checked, ends_drilled, ends_made, ends_solved, ends_unread, solved_said}
+use Rattle.adlb_command.proofs.Ending.{drilled_said, ends_checked, ends_drawn, ends_drilled, ends_made, ends_solved, ends_unread, solved_said}
 use Rattle.adlb_command.proofs.top.run_adlb.Goals as goal
 
 pub returns-in-Ok-Solve-clause-ends : goal.returns-in-Ok-Solve-clause-ends
@@ -33,6 +33,19 @@ returns-in-Ok-Check-clause-ends g c =
     (g.K.Sink.faults c.check.new.output) (g.K.Sink.all_flushed c.check.new.output) refused started)
     c.check.result.fault c.check.result.kept
     (subst (λ x. said ≡ Some x) c.in-Ok-Check.field-0-is c.in-Ok-Check.ensures.said) (c.check.ensures.ends refused started)
+
+pub returns-in-Ok-Draw-clause-ends : goal.returns-in-Ok-Draw-clause-ends
+returns-in-Ok-Draw-clause-ends g c =
+    let said = command_of (map string_bytes c.args.words.now) in
+    let refused = g.T.Spawner.faults c.args.threads.now in
+    let started = g.T.Spawner.starts c.args.threads.now in
+    ends_drawn said
+    (scene (g.S.Source.left c.args.input.now) (g.S.Source.faults c.args.input.now) (g.K.Sink.taken c.args.output.now)
+    (g.K.Sink.faults c.args.output.now) (g.K.Sink.all_flushed c.args.output.now) refused started)
+    (scene (g.S.Source.left c.draw.new.input) (g.S.Source.faults c.draw.new.input) (g.K.Sink.taken c.draw.new.output)
+    (g.K.Sink.faults c.draw.new.output) (g.K.Sink.all_flushed c.draw.new.output) refused started)
+    c.draw.result.fault c.draw.result.kept
+    (subst (λ x. said ≡ Some x) c.in-Ok-Draw.field-0-is c.in-Ok-Draw.ensures.said) (c.draw.ensures.ends refused started)
 
 pub returns-in-Ok-Make-clause-ends : goal.returns-in-Ok-Make-clause-ends
 returns-in-Ok-Make-clause-ends g c =
