@@ -15,7 +15,9 @@ pub enum GatePoint {
     Put { call: u64 },
 }
 
-/// Where a rank may be held up, so that a test decides who goes on. Nothing that a rank is told depends on it.
+/// Where a rank may be held up, so that a test decides who goes on. What a rank is told can't depend on it: a pass gets the
+/// rank's number and the point, and gives nothing back. A gate is trusted to return, which no clause says; a rank that it
+/// holds for ever waits for ever, and those that wait for that rank with it.
 pub trait Gate {
     /// Returns when the rank may go on.
     fn pass(&self, rank: Rank, point: GatePoint);

@@ -1,6 +1,6 @@
 //! Threads of the system.
 
-ghost use Rattle.std.specs.Prelude.{◌≡◌};
+ghost use Rattle.std.specs.Prelude.{◌≡◌, true};
 
 use crate::spawners::Spawner;
 use std::sync::Wait;
@@ -41,7 +41,10 @@ impl<R: Threads + Wait + Send + Copy + 'static> Spawner for RealThreads<R> {
 
     ghost starts = { λ s. s.starts };
 
-    fn may_start(&mut self) -> bool {
+    fn may_start(&mut self) -> bool
+        ensures each { result ≡ true }
+        ensures same { (self.new.faults ≡ self.old.faults) × (self.new.starts ≡ self.old.starts) }
+    {
         true
     }
 

@@ -1,7 +1,7 @@
 //! Starting of threads, each with a promise about its result.
 
 ghost use Rattle.std.specs.Prelude.{◌≡◌, ◌≤◌, ◌-◌, ◌^◌, ℕ, IfOk, IfErr, OnOk, OnErr};
-ghost use Rattle.adlb_io.specs.Outside.{Rises};
+ghost use Rattle.adlb_io.specs.Outside.{one_more};
 
 use std::sync::Wait;
 use std::thread;
@@ -23,8 +23,8 @@ impl<O, P: Promise<O>> Task<O, P> {
     }
 }
 
-/// What starts threads, and counts what it started and what it refused. Neither count ever falls, and each stands still at
-/// the last value of a `u64`.
+/// What starts threads, and counts what it started and what it refused, each start by one. Neither count ever falls, and
+/// each stands still at the last value of a `u64`.
 pub trait Spawner: Threads {
     /// The handle that its threads wait by.
     type Rt: Wait + Send + Copy + 'static;
@@ -37,26 +37,25 @@ pub trait Spawner: Threads {
     /// How many threads were started.
     ghost starts: { Self → ℕ };
 
-    /// Whether the next start is to be tried.
+    /// Whether the next start is to be tried. No clause of the trait says when it is not, so a spawner is trusted to refuse no
+    /// start without need: one that refuses each keeps every clause.
     fn may_start(&mut self) -> bool
         ensures { (faults self.new ≡ faults self.old) × (starts self.new ≡ starts self.old) };
 
     /// Counts a start.
     fn note_start(&mut self)
-        ensures counted { Rises (starts self.old) (starts self.new) }
+        ensures counted { starts self.new ≡ one_more (starts self.old) }
         ensures later { starts self.old ≤ starts self.new }
-        ensures last { starts self.new ≤ 2 ^ 64 - 1 }
         ensures same { faults self.new ≡ faults self.old };
 
     /// Counts a refused start.
     fn note_refusal(&mut self)
-        ensures counted { Rises (faults self.old) (faults self.new) }
+        ensures counted { faults self.new ≡ one_more (faults self.old) }
         ensures later { faults self.old ≤ faults self.new }
-        ensures last { faults self.new ≤ 2 ^ 64 - 1 }
         ensures same { starts self.new ≡ starts self.old };
 
-    /// Starts a thread that does the work, whose results all keep the promise. A refused start gives the work back, unbegun,
-    /// and comes only if the count of faults rose (or stands at its last value). Otherwise the count of starts did.
+    /// Starts a thread that does the work, whose results all keep the promise. A refused start gives the work back, unbegun.
+    /// A start is counted by exactly one among the starts, and a refused one among the faults.
     final fn start<
         O: Send + Drop + 'static,
         P: Promise<O> + Drop,
@@ -66,11 +65,9 @@ pub trait Spawner: Threads {
         requires keeps { (r : O) → F.post work r → P.kept_by promise r }
         ensures task { IfOk result (λ task. task.handle.promise ≡ promise) }
         ensures back { IfErr result (λ given. given ≡ work) }
-        ensures started { OnOk result ((Rises (starts self.old) (starts self.new)) × (faults self.new ≡ faults self.old)) }
-        ensures refused { OnErr result ((Rises (faults self.old) (faults self.new)) × (starts self.new ≡ starts self.old)) }
+        ensures started { OnOk result ((starts self.new ≡ one_more (starts self.old)) × (faults self.new ≡ faults self.old)) }
+        ensures refused { OnErr result ((faults self.new ≡ one_more (faults self.old)) × (starts self.new ≡ starts self.old)) }
         ensures later { (faults self.old ≤ faults self.new) × (starts self.old ≤ starts self.new) }
-        ensures last_start { OnOk result (starts self.new ≤ 2 ^ 64 - 1) }
-        ensures last_fault { OnErr result (faults self.new ≤ 2 ^ 64 - 1) }
     {
         if !self.may_start() {
             self.note_refusal();

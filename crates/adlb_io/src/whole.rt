@@ -1,6 +1,6 @@
 //! Reading from a source until it ends or there is no more room, and writing a whole text to a sink.
 
-ghost use Rattle.std.specs.Prelude.{◌≡◌, ◌≤◌, length, take, IfOk, IfErr, OnOk, OnErr, true};
+ghost use Rattle.std.specs.Prelude.{◌≡◌, ◌≤◌, ◌==◌, length, take, IfOk, IfErr, OnOk, OnErr, true, false, if◌then◌else◌};
 ghost use Rattle.adlb_io.specs.Outside.{Rises, Takes};
 ghost use Rattle.adlb_io.specs.Whole.{Fills, IsCut, Reads};
 ghost use Rattle.adlb_io.specs.Inside.{Appends};
@@ -83,12 +83,14 @@ pub struct Unwritten {
 }
 
 /// Writes the whole text and flushes. A refusal tells how many bytes of the text the sink took before, which are its
-/// first. `Failed` comes only where the sink's count of faults rose (or stands at its last value).
+/// first; if it took any, they are not flushed. `Failed` comes only where the sink's count of faults rose (or stands at
+/// its last value).
 pub fn write_all<K: Sink>(sink: &mut K, text: &[u8]) -> Result<(), Unwritten>
     ensures taken { OnOk result (Takes (K.taken sink.old) (K.taken sink.new) text.now) }
     ensures flushed { OnOk result (K.all_flushed sink.new ≡ true) }
     ensures front { IfErr result (λ e. Takes (K.taken sink.old) (K.taken sink.new) (take e.taken text.now)) }
     ensures part { IfErr result (λ e. e.taken ≤ length text.now) }
+    ensures unflushed { IfErr result (λ e. K.all_flushed sink.new ≡ (if e.taken == 0 then K.all_flushed sink.old else false)) }
     ensures later { K.faults sink.old ≤ K.faults sink.new }
     ensures cause { IfErr result (λ e. e.fault ≡ SinkFault.Failed → Rises (K.faults sink.old) (K.faults sink.new)) }
 {

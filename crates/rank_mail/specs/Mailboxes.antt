@@ -6,10 +6,11 @@ use Rattle.crossbeam_channel.specs.declared.flavors.array.Key.{Key}
 use Rattle.adlb_unit.specs.declared.letters.Letter.{Letter}
 use Rattle.rank_mail.specs.declared.posted.Posted.{Posted}
 
--- which mailbox
+-- which mailbox, and for how many letters it has room
 pub record Place : Type 0 where
   pub table : TableId
   pub key : Badge (Key Posted)
+  pub capacity : ℕ
 
 -- the letters of one sender among these, in order
 abbrev pub letters_of : ℕ → List Posted → List Letter

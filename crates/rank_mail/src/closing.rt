@@ -1,9 +1,9 @@
 //! All mailboxes of a run: how they are made, and what is known once they are closed.
 
-ghost use Rattle.std.specs.Prelude.{◌≡◌, ◌<◌, ℕ, [], length, map, vec_len, IfOk, slice_get, Some};
+ghost use Rattle.std.specs.Prelude.{◌≡◌, ◌<◌, ℕ, All, [], length, map, vec_len, IfOk, slice_get, Some};
 ghost use mathlib.Core.List.{IsPrefix};
 ghost use Rattle.rank_mail.specs.Inside.{Agrees, all_closed};
-ghost use Rattle.rank_mail.specs.Mailboxes.{ClosedModel, InboxModel, PostModel, fresh_inbox, fresh_post, got_on, letters_of, places_of, sent_on, sent_to};
+ghost use Rattle.rank_mail.specs.Mailboxes.{ClosedModel, InboxModel, Place, PostModel, fresh_inbox, fresh_post, got_on, letters_of, places_of, sent_on, sent_to};
 
 use crate::inboxes::Inbox;
 use crate::posts::Post;
@@ -16,6 +16,7 @@ fn inboxes(alloc: Global, count: u32, capacity: usize) -> Result<Vec<Inbox>, All
     requires { 0 < capacity }
     ensures len { IfOk result (λ v. vec_len v ≡ count) }
     ensures fresh { IfOk result (λ v. v.items ≡ map (fresh_inbox 0) (places_of v.items)) }
+    ensures capacity { IfOk result (λ v. All (λ (b : InboxModel). b.place.capacity ≡ capacity) v.items) }
 {
     let mut all = Vec::new(alloc);
     for _ in 0..count {
@@ -30,6 +31,7 @@ fn make(alloc: Global, count: u32, capacity: usize) -> Result<(Vec<Post>, Vec<In
     requires { 0 < capacity }
     ensures len { IfOk result (λ r. (vec_len r.0 ≡ count) × (vec_len r.1 ≡ count)) }
     ensures inboxes { IfOk result (λ r. r.1.items ≡ map (fresh_inbox count) (places_of r.1.items)) }
+    ensures capacity { IfOk result (λ r. All (λ (p : Place). p.capacity ≡ capacity) (places_of r.1.items)) }
     ensures posts { IfOk result (λ r. (k : ℕ) (p : PostModel) → slice_get r.0.items k ≡ Some p → p ≡ fresh_post k (places_of r.1.items)) }
 {
     let mut inboxes = inboxes(alloc, count, capacity)?;
@@ -41,7 +43,7 @@ fn make(alloc: Global, count: u32, capacity: usize) -> Result<(Vec<Post>, Vec<In
     Ok((posts, inboxes))
 }
 
-/// A mailbox for each of `count` actors, which holds up to `capacity` letters, and for each actor its post. Post `i` is the
+/// A mailbox for each of `count` actors, with room for `capacity` letters, and for each actor its post. Post `i` is the
 /// sender `i` of every mailbox, inbox `i` the receiver of the mailbox `i`. Its only error is `NoMemory`.
 pub fn mailboxes(
     alloc: Global,
@@ -51,6 +53,7 @@ pub fn mailboxes(
     requires { 0 < capacity }
     ensures len { IfOk result (λ r. (vec_len r.0 ≡ count) × (vec_len r.1 ≡ count)) }
     ensures inboxes { IfOk result (λ r. r.1.items ≡ map (fresh_inbox count) (places_of r.1.items)) }
+    ensures capacity { IfOk result (λ r. All (λ (p : Place). p.capacity ≡ capacity) (places_of r.1.items)) }
     ensures posts { IfOk result (λ r. (k : ℕ) (p : PostModel) → slice_get r.0.items k ≡ Some p → p ≡ fresh_post k (places_of r.1.items)) }
 {
     match make(alloc, count, capacity as usize) {

@@ -2,7 +2,7 @@
 
 ghost use Rattle.std.specs.Prelude.{◌≡◌, ◌<◌, ◌++◌, ◌∷◌, [], true, length, IfOk, OnErr};
 ghost use Rattle.crossbeam_channel.specs.Claims.{view as pass_view, IsSeatAt};
-ghost use Rattle.crossbeam_channel.specs.Ends.{sends_on, receives_on};
+ghost use Rattle.crossbeam_channel.specs.Ends.{receives_on, ruled_capacity, sends_on};
 ghost use Rattle.rank_mail.specs.Inside.{Agrees, line_of, with_line};
 ghost use Rattle.rank_mail.specs.Mailboxes.{InboxModel, fresh_inbox};
 
@@ -25,7 +25,7 @@ pub struct Inbox {
 impl Model for Inbox {
     ghost Value = { InboxModel };
 
-    ghost view = { λ b. record { place = record { table = b.pass.table_id; key = b.pass.me.0.of }; got = (pass_view b.pass).got; senders = (pass_view b.pass).senders; closed = (pass_view b.pass).closed } };
+    ghost view = { λ b. record { place = record { table = b.pass.table_id; key = b.pass.me.0.of; capacity = ruled_capacity (sends_on b.desk) }; got = (pass_view b.pass).got; senders = (pass_view b.pass).senders; closed = (pass_view b.pass).closed } };
 
     ghost invariant = { λ b. IsSeatAt (sends_on b.desk) b.pass × (receives_on b.end ≡ sends_on b.desk) × ((pass_view b.pass).gets ≡ true) };
 }
@@ -43,7 +43,8 @@ impl Inbox {
     /// A mailbox for `capacity` letters, without senders. Its only error is `AllocError`.
     pub(crate) fn new(alloc: Global, capacity: usize) -> Result<Inbox, AllocError>
         requires { 0 < capacity }
-        ensures { IfOk result (λ b. b ≡ fresh_inbox 0 b.place) }
+        ensures fresh { IfOk result (λ b. b ≡ fresh_inbox 0 b.place) }
+        ensures capacity { IfOk result (λ b. b.place.capacity ≡ capacity) }
     {
         let (desk, end, pass) = mailbox(alloc, capacity)?;
         Ok(Inbox { end, desk, pass })

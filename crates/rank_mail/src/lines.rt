@@ -2,7 +2,7 @@
 
 ghost use Rattle.std.specs.Prelude.{◌≡◌, ◌++◌, ◌∷◌, [], true};
 ghost use Rattle.crossbeam_channel.specs.Claims.{view as pass_view, IsSeatAt};
-ghost use Rattle.crossbeam_channel.specs.Ends.{sends_on};
+ghost use Rattle.crossbeam_channel.specs.Ends.{ruled_capacity, sends_on};
 ghost use Rattle.rank_mail.specs.Inside.{LineModel};
 
 use crate::posted::Posted;
@@ -21,7 +21,7 @@ pub struct Line {
 impl Model for Line {
     ghost Value = { LineModel };
 
-    ghost view = { λ l. record { place = record { table = l.pass.table_id; key = l.pass.me.0.of }; from = (pass_view l.pass).from; sent = (pass_view l.pass).sent } };
+    ghost view = { λ l. record { place = record { table = l.pass.table_id; key = l.pass.me.0.of; capacity = ruled_capacity (sends_on l.end) }; from = (pass_view l.pass).from; sent = (pass_view l.pass).sent } };
 
     ghost invariant = { λ l. IsSeatAt (sends_on l.end) l.pass × ((pass_view l.pass).sends ≡ true) };
 }

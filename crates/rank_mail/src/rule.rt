@@ -2,7 +2,7 @@
 
 ghost use Rattle.std.specs.Prelude.{◌≡◌, ◌<◌, ℕ, List, [], true, length, IfOk};
 ghost use Rattle.crossbeam_channel.specs.Claims.{view, IsSeatAt};
-ghost use Rattle.crossbeam_channel.specs.Ends.{sends_on, receives_on};
+ghost use Rattle.crossbeam_channel.specs.Ends.{receives_on, ruled_capacity, sends_on};
 ghost use Rattle.rank_mail.specs.Inside.{sender, receiver, spent, after_send, after_receive, after_split, after_join, Compares, Delivers};
 
 use crate::posted::{Known, Posted};
@@ -82,7 +82,8 @@ pub fn mailbox(
     capacity: usize,
 ) -> Result<(MailSender, MailReceiver, MailPass), AllocError>
     requires { 0 < capacity }
-    ensures { IfOk result (λ r. (receives_on r.1 ≡ sends_on r.0) × IsSeatAt (sends_on r.0) r.2 × (view r.2 ≡ receiver)) }
+    ensures made { IfOk result (λ r. (receives_on r.1 ≡ sends_on r.0) × IsSeatAt (sends_on r.0) r.2 × (view r.2 ≡ receiver)) }
+    ensures capacity { IfOk result (λ r. ruled_capacity (sends_on r.0) ≡ capacity) }
 {
     bounded_with::<Posted, Known, InOrder, Global>(alloc, capacity)
 }

@@ -1,5 +1,6 @@
 pub mod Conditions
 pub mod Examples
+pub mod Fronts
 pub mod Granted
 pub mod Others
 pub mod Outcomes

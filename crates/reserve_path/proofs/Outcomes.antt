@@ -3,6 +3,7 @@ use Rattle.std.proofs.Common.{◌≡◌, ℕ, Option, None, Some, List, [], ◌�
 use Rattle.std.specs.Prelude.{slice_get}
 use Rattle.std.specs.List.{position}
 use Rattle.std.specs.Option.{option_map}
+use Rattle.std.proofs.lemmas.Option.{get_or_from_slice_get}
 use Rattle.adlb_unit.specs.declared.names.Rank.{Rank}
 use Rattle.adlb_unit.specs.declared.names.Server.{Server}
 use Rattle.adlb_unit.specs.declared.notes.UnitNote.{UnitNote}
@@ -35,10 +36,10 @@ none_granted me (Some p) is = absurd (cc (is))
 
 -- The rank that was found at a place is the one that is told of.
 
-pub one_now : (i m : ParkedModel) → i ≡ m → (rank : Rank) (n : ℕ) (read e : Waiting) → position (is_of rank) m.parked.waiting ≡ Some n
-    → read ≡ get_or i.parked.waiting n read → entry_of m rank ≡ Some e → read ≡ e
-one_now i m view rank n read e there is found =
-    is ∙ ap (λ (x : ParkedModel). get_or x.parked.waiting n read) view
+pub one_now : (m : ParkedModel) (rank : Rank) (n : ℕ) (read e : Waiting) → position (is_of rank) m.parked.waiting ≡ Some n
+    → slice_get m.parked.waiting n ≡ Some read → entry_of m rank ≡ Some e → read ≡ e
+one_now m rank n read e there is found =
+    sym (get_or_from_slice_get m.parked.waiting n read read is)
     ∙ some_same (get_or m.parked.waiting n read) e (sym (found_at (is_of rank) m.parked.waiting n read there) ∙ found)
 
 -- so what was granted is what is told of it

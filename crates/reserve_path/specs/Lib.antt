@@ -1,4 +1,5 @@
 pub mod Calls
+pub mod Front
 pub mod Grants
 pub mod Inside
 pub mod Parked

@@ -7,6 +7,7 @@ ghost use Rattle.reserve_path.specs.Calls.{asks_next, forgotten, gone, hears_of,
 ghost use Rattle.reserve_path.specs.Parked.{IsAway, IsOther, IsParked, IsWaiting, empty, entry_of, is_asked, is_idle, is_of, is_parked, with_waiting};
 ghost use Rattle.reserve_path.specs.declared.waits.Waiting.{Waiting as Entry};
 
+use crate::front::Front;
 use crate::steps::ReserveStep;
 use crate::waits::Waiting;
 use crate::wishes::Wish;
@@ -15,13 +16,13 @@ use std::alloc::Global;
 use std::marker::Model;
 
 /// The ranks that wait at one server, in the order in which they came, and the wishes of ranks that wait elsewhere.
-/// Contracts see it as a `ParkedModel` of `specs/Parked.antt`. It has room for all ranks from its making, and no call
-/// but `new` takes memory.
+/// Contracts see it as a `ParkedModel` of `specs/Parked.antt`. It has an entry for each rank and room for its wish from
+/// its making, and no call but `new` takes memory.
 #[derive(Drop)]
 pub struct Parked {
     pub(crate) config: Config,
     pub(crate) me: Server,
-    pub(crate) waiting: Vec<Waiting>,
+    pub(crate) front: Front,
     pub(crate) wishes: Vec<Wish>,
 }
 
@@ -43,13 +44,12 @@ impl Parked {
         requires { me.0 < config.servers }
         ensures { IfOk result (λ p. p ≡ empty config me) }
     {
-        let ranks = config.ranks as usize;
-        let waiting = or_no_memory(Vec::with_capacity(alloc, ranks))?;
-        let wishes = or_no_memory(Vec::with_capacity(alloc, ranks))?;
+        let front = Front::new(alloc, config.ranks)?;
+        let wishes = or_no_memory(Vec::with_capacity(alloc, config.ranks as usize))?;
         Ok(Parked {
             config,
             me,
-            waiting,
+            front,
             wishes,
         })
     }
@@ -68,7 +68,10 @@ impl Parked {
         ensures some { result ≡ list_any is_asked self.now.parked.waiting }
         ensures sound { IsParked self.now }
     {
-        self.waiting.iter().any(|waits| waits.asked.is_some())
+        self.front
+            .waiting()
+            .iter()
+            .any(|waits| waits.asked.is_some())
     }
 
     /// The request since which the rank waits, and the server that is unanswered, if one is. `None` exactly if the
@@ -76,10 +79,8 @@ impl Parked {
     pub fn awaits(&self, rank: Rank) -> Option<(u64, Option<Server>)>
         ensures { result ≡ option_map request_of (entry_of self.now rank) }
     {
-        let waits = self
-            .waiting
-            .iter()
-            .find(|waits| waits.wish.rank.0 == rank.0);
+        let waiting = self.front.waiting();
+        let waits = waiting.iter().find(|waits| waits.wish.rank.0 == rank.0);
         match waits {
             Some(waits) => Some((waits.wish.request, waits.asked)),
             None => None,
@@ -90,10 +91,8 @@ impl Parked {
     pub fn types_of(&self, rank: Rank) -> Option<Types>
         ensures { result ≡ option_map (λ (e : Entry). e.wish.types) (entry_of self.now rank) }
     {
-        let waits = self
-            .waiting
-            .iter()
-            .find(|waits| waits.wish.rank.0 == rank.0);
+        let waiting = self.front.waiting();
+        let waits = waiting.iter().find(|waits| waits.wish.rank.0 == rank.0);
         match waits {
             Some(waits) => Some(waits.wish.types.twin()),
             None => None,
@@ -105,7 +104,7 @@ impl Parked {
         ensures waiting { result.0 ≡ length self.now.parked.waiting }
         ensures wishes { result.1 ≡ length self.now.parked.wishes }
     {
-        (self.waiting.len(), self.wishes.len())
+        (self.front.waiting().len(), self.wishes.len())
     }
 
     /// Copies the ranks that wait, each with the types that it wants, to the front of the room, in the order in which
@@ -114,8 +113,9 @@ impl Parked {
         ensures count { result ≡ length self.now.parked.waiting }
         ensures room { room.new ≡ map wants self.now.parked.waiting ++ drop (length self.now.parked.waiting) room.old }
     {
+        let waiting = self.front.waiting();
         let mut count = 0;
-        for waits in &self.waiting {
+        for waits in waiting {
             room[count as usize] = (waits.wish.rank, waits.wish.types.twin());
             count += 1;
         }
@@ -126,9 +126,8 @@ impl Parked {
     pub(crate) fn place_of(&self, rank: Rank) -> Option<usize>
         ensures { result ≡ position (is_of rank) self.now.parked.waiting }
     {
-        self.waiting
-            .iter()
-            .position(|waits| waits.wish.rank.0 == rank.0)
+        let waiting = self.front.waiting();
+        waiting.iter().position(|waits| waits.wish.rank.0 == rank.0)
     }
 
     // The place of the rank, if it waits since this request.
@@ -136,8 +135,17 @@ impl Parked {
         ensures place { result ≡ position (is_since rank request) self.now.parked.waiting }
         ensures sound { IsParked self.now }
     {
-        self.waiting.iter().position(|waits| waits.wish.rank.0 == rank.0
+        let waiting = self.front.waiting();
+        waiting.iter().position(|waits| waits.wish.rank.0 == rank.0
             && waits.wish.request == request)
+    }
+
+    // Who waits at this place.
+    pub(crate) fn at(&self, place: usize) -> &Waiting
+        requires { place < length self.now.parked.waiting }
+        ensures { slice_get self.now.parked.waiting place ≡ Some result.now }
+    {
+        &self.front.waiting()[place]
     }
 
     // For the rank at this place, the next server is asked.
@@ -148,7 +156,7 @@ impl Parked {
         ensures asked { (e : Entry) → slice_get self.old.parked.waiting place ≡ Some e →
             self.new ≡ with_waiting self.old (slice_set self.old.parked.waiting place (asks_next e)) }
     {
-        self.waiting[place].ask_next()
+        self.front.ask_next(place)
     }
 
     // For the rank at this place, another server has hinted.
@@ -161,7 +169,7 @@ impl Parked {
             self.new ≡ with_waiting self.old
             (slice_set self.old.parked.waiting place (hears_of self.old.config self.old.me from e)) }
     {
-        self.waiting[place].hear_of(&self.config, self.me, from)
+        self.front.hear_of(place, &self.config, self.me, from)
     }
 
     // The rank waits from now on, behind the others.
@@ -170,14 +178,16 @@ impl Parked {
         requires new { is_parked self.old waits.wish.rank ≡ false }
         ensures { self.new ≡ with_waiting self.old (self.old.parked.waiting ++ waits ∷ []) }
     {
-        self.waiting.push_reserved(waits);
+        self.front.park(waits);
     }
 
     // The rank waits no longer.
     pub(crate) fn leave(&mut self, rank: Rank)
         ensures { self.new ≡ gone self.old rank }
     {
-        self.waiting.retain(|waits| waits.wish.rank.0 != rank.0);
+        if let Some(place) = self.place_of(rank) {
+            self.front.leave(place);
+        }
     }
 
     // The rank has no wish any more.

@@ -92,7 +92,7 @@ impl Parked {
         let Some(place) = self.place_of(rank) else {
             unreachable!()
         };
-        match grant(queue, self.me, rank, &self.waiting[place].wish.types) {
+        match grant(queue, self.me, rank, &self.at(place).wish.types) {
             Some(note) => {
                 self.leave(rank);
                 ReserveStep::Granted(note)

@@ -29,7 +29,7 @@ impl Model for ToAsk {
 
 impl ToAsk {
     // No server.
-    fn none() -> ToAsk
+    pub(crate) fn none() -> ToAsk
         ensures { result ≡ [] }
     {
         ToAsk {

@@ -1,7 +1,8 @@
-use Rattle.std.proofs.Common.{◌≡◌, ◌+◌, length, map, slice_get, vec_len, inl, inr, ap, sym, ◌∙◌, rules}
+use Rattle.std.proofs.Common.{◌≡◌, ◌+◌, All, length, map, subst, slice_get, vec_len, inl, inr, ap, sym, ◌∙◌, rules}
 use Rattle.std.proofs.lemmas.List.{length-map}
+use Rattle.std.proofs.lemmas.List.Elements.{All-map}
 use Rattle.rank_mail.specs.Inside.{with_line}
-use Rattle.rank_mail.specs.Mailboxes.{fresh_inbox, fresh_post, places_of}
+use Rattle.rank_mail.specs.Mailboxes.{InboxModel, Place, fresh_inbox, fresh_post, places_of}
 use Rattle.rank_mail.proofs.Lists.{get_snoc}
 use Rattle.rank_mail.proofs.Ends.{senders_fresh, more_fresh, places_fresh}
 use Rattle.rank_mail.proofs.closing.make.Goals as goal
@@ -31,3 +32,9 @@ loop-number-preserved c =
             | inr new ↦ let k_is : n ≡ k = sym was.len ∙ count ∙ sym new.0 in sym new.1 ∙ post ∙ ap (λ j. fresh_post j ps) k_is
           ];
     }
+
+pub returns-clause-capacity : goal.returns-clause-capacity
+returns-clause-capacity c =
+    let P : Place → Type 0 = λ p. p.capacity ≡ c.args.capacity in
+    let place : InboxModel → Place = λ b. b.place in
+    subst (All P) (sym c.loop-number.invariant.places) (All-map P place c.in_ok-inboxes.inboxes.items c.in_ok-inboxes.ensures.capacity)

@@ -1,14 +1,32 @@
-use Rattle.std.proofs.Common.{◌≡◌, List, filter, not, ap, sym, subst, ◌∙◌, arith, rules}
-use Rattle.std.proofs.lemmas.Fn.{filter_same}
+use Rattle.std.proofs.Common.{◌≡◌, ◌<◌, List, Some, filter, get_or, length, not, ap, sym, subst, ◌∙◌}
+use Rattle.std.specs.List.{position}
+use Rattle.std.proofs.lemmas.List.Quantifiers.{position-Some}
+use Rattle.reserve_path.proofs.Fronts.{none_out, taken_out}
+use Rattle.reserve_path.proofs.Places.{at_place, nobody, none_at, of_tells}
 use Rattle.reserve_path.proofs.Sound.{gone_sound}
 use Rattle.reserve_path.specs.Calls.{gone}
+use Rattle.reserve_path.specs.Front.{FrontModel}
 use Rattle.reserve_path.specs.Inside.{parked_of}
 use Rattle.reserve_path.specs.Parked.{IsParked, ParkedModel, is_of, with_waiting}
 use Rattle.reserve_path.specs.declared.waits.Waiting.{Waiting}
 use Rattle.reserve_path.proofs.parking.Parked.leave.Goals as goal
 
-left : (c : goal.After-retain) → c.retain.new.self.items ≡ filter (λ e. not (is_of c.args.rank e)) c.self.inside.waiting.items
-left c = filter_same _ (λ e. not (is_of c.args.rank e)) _ (λ x b f' k. search rules) _ _ c.retain.ensures.filtered
+pub leave-requires : goal.leave-requires
+leave-requires c =
+    let there = sym c.place_of.ensures ∙ c.in-Some.is in
+    subst (λ (m : ParkedModel). c.in-Some.place < length m.parked.waiting) (sym c.self.view_is)
+    (position-Some (is_of c.args.rank) c.args.self.now.parked.waiting c.in-Some.place (nobody c.args.rank) there).0
+
+-- who waited at the place is taken out
+left : (c : goal.After-leave) → c.leave.new.self.waiting ≡ filter (λ e. not (is_of c.args.rank e)) c.self.inside.front.waiting
+left c =
+    let waiting = c.self.inside.front.waiting in
+    let there = subst (λ (m : ParkedModel). position (is_of c.args.rank) m.parked.waiting ≡ Some c.in-Some.place) (sym c.self.view_is)
+    (sym c.place_of.ensures ∙ c.in-Some.is) in
+    let at = at_place (is_of c.args.rank) c.args.rank (of_tells c.args.rank) waiting c.self.invariant.sound.once c.in-Some.place
+    (nobody c.args.rank) there in
+    ap (λ (f : FrontModel). f.waiting) c.leave.ensures
+    ∙ taken_out (is_of c.args.rank) waiting c.in-Some.place (get_or waiting c.in-Some.place (nobody c.args.rank)) at
 
 pub invariant_of-self : goal.invariant_of-self
 invariant_of-self c =
@@ -16,11 +34,17 @@ invariant_of-self c =
     let P : List Waiting → Type 0 = λ l. IsParked (with_waiting m l) in
     record {
       sound = subst P (sym (left c)) (gone_sound m c.args.rank c.self.invariant.sound);
-      room = omega (arith, c.retain.ensures.capacity, c.self.invariant.room);
+      entries = ap (λ (f : FrontModel). f.ranks) c.leave.ensures ∙ c.self.invariant.entries;
       wish_room = c.self.invariant.wish_room;
     }
 
-pub returns : goal.returns
-returns c =
+pub returns-in-Some : goal.returns-in-Some
+returns-in-Some c =
     ap (λ (l : List Waiting). with_waiting (parked_of c.self.inside) l) (left c)
     ∙ ap (λ (m : ParkedModel). gone m c.args.rank) c.self.view_is
+
+pub returns-in_default : goal.returns-in_default
+returns-in_default c =
+    let m = c.args.self.now in
+    let fails = none_at (is_of c.args.rank) m.parked.waiting (sym c.place_of.ensures ∙ c.in_default.is) in
+    ap (λ (l : List Waiting). with_waiting m l) (none_out (is_of c.args.rank) m.parked.waiting fails)

@@ -1,5 +1,6 @@
 use Rattle.std.proofs.Common.{◌≡◌, List, get_or, set, Option, None, Some, ap, sym, subst, ◌∙◌}
 use Rattle.std.specs.List.{AllPairs, slice_get}
+use Rattle.std.proofs.lemmas.List.Quantifiers.{position-Some}
 use Rattle.work_queue.specs.declared.placing.Placed.{Placed}
 use Rattle.reserve_path.proofs.Outcomes.{asks_first, none_granted, note_now, one_now, read_one, some_gone, some_step}
 use Rattle.reserve_path.proofs.Places.{AreApart, at_place, nobody, of_tells, set_turned, some_at}
@@ -11,6 +12,11 @@ use Rattle.reserve_path.specs.Parked.{IsParked, ParkedModel, is_asked, is_of, wi
 use Rattle.reserve_path.specs.declared.waits.Waiting.{Waiting}
 use Rattle.reserve_path.proofs.parking.Parked.remote_none.Goals as goal
 
+pub at-requires : goal.at-requires
+at-requires c =
+    (position-Some (is_of c.args.rank) c.args.self.now.parked.waiting c.in-Some.place (nobody c.args.rank)
+    (sym c.place_of.ensures ∙ c.in-Some.is)).0
+
 pub unreachable-requires : goal.unreachable-requires
 unreachable-requires c =
     some_at (is_of c.args.rank) is_asked c.args.self.now.parked.waiting c.requires (sym c.place_of.ensures ∙ c.in_default.is)
@@ -21,8 +27,8 @@ pub returns-in-Some-grant-clause-step : goal.returns-in-Some-grant-clause-step
 returns-in-Some-grant-clause-step c = λ e here.
     let m = c.args.self.now in
     let i = parked_of c.self.inside in
-    let read = c.index.result.now in
-    let same = one_now i m c.self.view_is c.args.rank c.in-Some.place read e (sym c.place_of.ensures ∙ c.in-Some.is) c.index.ensures here in
+    let read = c.at.result.now in
+    let same = one_now m c.args.rank c.in-Some.place read e (sym c.place_of.ensures ∙ c.in-Some.is) c.at.ensures here in
     let note = note_now i m c.self.view_is c.args.queue.now c.args.rank read e same
     (Some c.in-Some-grant.note) c.in-Some-grant.ensures.note in
     some_step m.me (best_for c.args.queue.now c.args.rank e.wish.types) e.to_ask c.in-Some-grant.note note
@@ -31,8 +37,8 @@ pub returns-in-Some-grant-clause-parked : goal.returns-in-Some-grant-clause-park
 returns-in-Some-grant-clause-parked c = λ e here.
     let m = c.args.self.now in
     let i = parked_of c.self.inside in
-    let read = c.index.result.now in
-    let same = one_now i m c.self.view_is c.args.rank c.in-Some.place read e (sym c.place_of.ensures ∙ c.in-Some.is) c.index.ensures here in
+    let read = c.at.result.now in
+    let same = one_now m c.args.rank c.in-Some.place read e (sym c.place_of.ensures ∙ c.in-Some.is) c.at.ensures here in
     let note = note_now i m c.self.view_is c.args.queue.now c.args.rank read e same
     (Some c.in-Some-grant.note) c.in-Some-grant.ensures.note in
     c.leave.ensures ∙ some_gone m.me m c.args.rank (best_for c.args.queue.now c.args.rank e.wish.types) c.in-Some-grant.note note
@@ -40,9 +46,8 @@ returns-in-Some-grant-clause-parked c = λ e here.
 pub returns-in-Some-grant-clause-queue : goal.returns-in-Some-grant-clause-queue
 returns-in-Some-grant-clause-queue c = λ e here.
     let m = c.args.self.now in
-    let i = parked_of c.self.inside in
-    let same = one_now i m c.self.view_is c.args.rank c.in-Some.place c.index.result.now e (sym c.place_of.ensures
-    ∙ c.in-Some.is) c.index.ensures here in
+    let same = one_now m c.args.rank c.in-Some.place c.at.result.now e (sym c.place_of.ensures
+    ∙ c.in-Some.is) c.at.ensures here in
     c.grant.ensures.pinned ∙ ap (λ (x : Waiting). with_grant c.args.queue.now c.args.rank x.wish.types) same
 
 -- None was.
@@ -51,9 +56,9 @@ pub returns-in-None-clause-step : goal.returns-in-None-clause-step
 returns-in-None-clause-step c = λ e here.
     let m = c.args.self.now in
     let i = parked_of c.self.inside in
-    let read = c.index.result.now in
+    let read = c.at.result.now in
     let found = sym c.place_of.ensures ∙ c.in-Some.is in
-    let same = one_now i m c.self.view_is c.args.rank c.in-Some.place read e found c.index.ensures here in
+    let same = one_now m c.args.rank c.in-Some.place read e found c.at.ensures here in
     let note = note_now i m c.self.view_is c.args.queue.now c.args.rank read e same None c.in-None.ensures.note in
     let none = none_granted m.me (best_for c.args.queue.now c.args.rank e.wish.types) note in
     let once = subst (λ (n : ParkedModel). AllPairs AreApart n.parked.waiting) c.self.view_is c.self.invariant.sound.once in
@@ -66,9 +71,9 @@ pub returns-in-None-clause-parked : goal.returns-in-None-clause-parked
 returns-in-None-clause-parked c = λ e here.
     let m = c.args.self.now in
     let i = parked_of c.self.inside in
-    let read = c.index.result.now in
+    let read = c.at.result.now in
     let found = sym c.place_of.ensures ∙ c.in-Some.is in
-    let same = one_now i m c.self.view_is c.args.rank c.in-Some.place read e found c.index.ensures here in
+    let same = one_now m c.args.rank c.in-Some.place read e found c.at.ensures here in
     let note = note_now i m c.self.view_is c.args.queue.now c.args.rank read e same None c.in-None.ensures.note in
     let none = none_granted m.me (best_for c.args.queue.now c.args.rank e.wish.types) note in
     let once = subst (λ (n : ParkedModel). AllPairs AreApart n.parked.waiting) c.self.view_is c.self.invariant.sound.once in
@@ -95,7 +100,6 @@ returns-in-None-clause-ask c = λ s is.
 pub returns-in-None-clause-queue : goal.returns-in-None-clause-queue
 returns-in-None-clause-queue c = λ e here.
     let m = c.args.self.now in
-    let i = parked_of c.self.inside in
-    let same = one_now i m c.self.view_is c.args.rank c.in-Some.place c.index.result.now e (sym c.place_of.ensures
-    ∙ c.in-Some.is) c.index.ensures here in
+    let same = one_now m c.args.rank c.in-Some.place c.at.result.now e (sym c.place_of.ensures
+    ∙ c.in-Some.is) c.at.ensures here in
     c.grant.ensures.pinned ∙ ap (λ (x : Waiting). with_grant c.args.queue.now c.args.rank x.wish.types) same
