@@ -33,7 +33,7 @@ inputs_of op (Some a) (Some b) v e = record { a = a; b = b; left = refl; right =
 inputs_of op None y v e = absurd (cc)
 inputs_of op (Some a) None v e = absurd (cc)
 
-gives_more : (less more : Worth) → IsMore more less → (d : Definition) (v : ℕ) → gives less d ≡ Some v → gives more d ≡ Some v
+pub gives_more : (less more : Worth) → IsMore more less → (d : Definition) (v : ℕ) → gives less d ≡ Some v → gives more d ≡ Some v
 gives_more less more knows (Let name w) v e = e
 gives_more less more knows (Rule name op left right) v e =
     let i = inputs_of op (less left) (less right) v e in
@@ -105,7 +105,7 @@ module _ (flow : List Definition) where
 abbrev known : Worth → Definition → Bool
 known worth d = is_some (worth (name_of d))
 
-some_of : (o : Option ℕ) → is_some o ≡ true → (v : ℕ) × (o ≡ Some v)
+pub some_of : (o : Option ℕ) → is_some o ≡ true → (v : ℕ) × (o ≡ Some v)
 some_of (Some v) e = (v, refl)
 some_of None e = absurd (cc)
 
@@ -292,7 +292,7 @@ pub has_turn : (flow : List Definition) → AreDistinct flow → (name : Name) (
 has_turn flow distinct name v h = let t = at_turn flow distinct name v h in enough flow t.k name v t.is
 
 -- and what a turn gives is a value by the rule
-gives_has : (flow : List Definition) (worth : Worth) → ((name : Name) (v : ℕ) → worth name ≡ Some v → HasValue flow name v) →
+pub gives_has : (flow : List Definition) (worth : Worth) → ((name : Name) (v : ℕ) → worth name ≡ Some v → HasValue flow name v) →
     (d : Definition) (v : ℕ) → Contains flow d → gives worth d ≡ Some v → HasValue flow (name_of d) v
 gives_has flow worth has (Let name w) v there e =
     let same : w ≡ v = cc in

@@ -94,6 +94,21 @@ pub enum Definition {
     },
 }
 
+impl Definition {
+    ghost use Rattle.std.specs.Prelude.{◌≡◌};
+    ghost use Rattle.flow_law.specs.Flows.{name_of};
+
+    /// The name that it defines.
+    pub fn name(&self) -> &Name
+        ensures { result.now ≡ name_of self.now }
+    {
+        match self {
+            Definition::Let { name, .. } => name,
+            Definition::Rule { name, .. } => name,
+        }
+    }
+}
+
 /// Of definitions of distinct names: a name is worth a value by the rule if and only if it is in as many turns as there are
 /// definitions, so it has one value at most. No later turn finds more.
 pub fn flow_laws()

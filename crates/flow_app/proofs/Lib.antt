@@ -1,0 +1,12 @@
+pub mod Cuts
+pub mod Numbered
+pub mod Storing
+pub mod Whole
+pub mod Defining
+pub mod Linking
+pub mod Steps
+pub mod Telling
+pub mod Lets
+pub mod Numbers
+pub mod Users
+pub mod Working

@@ -1,0 +1,5 @@
+use Rattle.flow_app.specs.Inside.Stored.{IsWhole}
+use Rattle.flow_app.proofs.finishing.finish_flow.Given as goal
+
+abbrev pub invariant-loop-outcome : goal.invariant-loop-outcome
+invariant-loop-outcome l = IsWhole l.flow l.store

@@ -1,0 +1,5 @@
+use Rattle.flow_app.specs.Inside.Stored.{IsWhole}
+use Rattle.flow_app.proofs.finishing.keep_all.Given as goal
+
+abbrev pub invariant-loop-answer : goal.invariant-loop-answer
+invariant-loop-answer l = IsWhole l.flow l.store

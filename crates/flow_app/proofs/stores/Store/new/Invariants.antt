@@ -1,0 +1,6 @@
+use Rattle.std.proofs.Common.{[]}
+use Rattle.flow_app.specs.Inside.Stored.{HasLetsTo, Stores}
+use Rattle.flow_app.proofs.stores.Store.new.Given as goal
+
+abbrev pub invariant-loop-place : goal.invariant-loop-place
+invariant-loop-place l = record { stored : Stores l.flow l.store []; lets : HasLetsTo l.flow l.store.values.items l.place }

@@ -1,0 +1,9 @@
+-- The pieces of the output.
+use Rattle.std.specs.Prelude.{ℕ, List, ◌++◌, Option, codes, decimal}
+use Rattle.flow_law.specs.Flows.{Name, told}
+
+abbrev pub line_with : Name → Option ℕ → List ℕ
+line_with name value = name ++ told value ++ codes "\n"
+
+abbrev pub ends_with : ℕ → ℕ → List ℕ
+ends_with done waits = codes "done " ++ decimal done ++ codes " waits " ++ decimal waits ++ codes "\n"
