@@ -52,6 +52,7 @@ const ROWS: &[(&str, &str)] = &[
         "solve 4 2 67108864 9 7 true true true",
     ),
     ("check", "check"),
+    ("draw", "draw"),
     ("make 0 7", "make 0 7"),
     (
         "make 100000 18446744073709551615",
@@ -142,6 +143,7 @@ fn shown(alloc: Global, command: Command) -> Result<String, Fail> {
             format!(in alloc; "solve {run} {stats} {ledger}")?
         }
         Command::Check => String::from_str(alloc, "check")?,
+        Command::Draw => String::from_str(alloc, "draw")?,
         Command::Make { count, seed } => format!(in alloc; "make {count} {seed}")?,
         Command::Drill {
             count,
