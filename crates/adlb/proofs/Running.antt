@@ -1,5 +1,5 @@
 -- The programs of a run that is reported are workers that have worked.
-use Rattle.std.proofs.Common.{◌≡◌, ◌<◌, ◌≤◌, ◌^◌, ℕ, zero, suc, All, List, [], ◌∷◌, Some, length, map, option_map, refl, ◌∙◌, sym, ap, subst, arith, sum_by}
+use Rattle.std.proofs.Common.{◌≡◌, ◌<◌, ◌≤◌, ◌^◌, ℕ, zero, suc, All, List, [], ◌∷◌, None, Some, length, map, option_map, refl, ◌∙◌, sym, ap, subst, arith, sum_by}
 use Rattle.std.specs.Prelude.{slice_get}
 use Rattle.std.proofs.lemmas.List.{length-map}
 use Rattle.std.proofs.lemmas.List.Elements.{All-head, All-tail}
@@ -26,8 +26,8 @@ sum_map f [] = refl
 sum_map f (x ∷ xs) = omega (arith, sum_map f xs, sum_by-cons (λ (n : ℕ). n) (f x) (map f xs), sum_by-cons f x xs)
 
 module _ {X G : Type 0} (follows : X → Rank → List Said → G → Type 0) (ranks : ℕ) (program : X) (r : Reported G)
-    (each : IsRunOfEach follows program ranks r) (w : List ℕ → ℕ) (whole : ℕ) (sees : G → ℕ)
-    (worked : (rank : Rank) (said : List Said) (got : G) → follows program rank said got → HasWorked w (begins whole rank) ranks said (sees got))
+    (each : IsRunOfEach follows program ranks r) (w : List ℕ → List ℕ → ℕ) (whole : ℕ) (sees : G → ℕ)
+    (worked : (rank : Rank) (said : List Said) (got : G) → follows program rank said got → HasWorked w (begins whole rank) ranks None said (sees got))
   where
     pub all_have : AllHaveWorked w whole each.config r.ledger (map sees r.outcomes)
     all_have rank less =
@@ -38,7 +38,7 @@ module _ {X G : Type 0} (follows : X → Rank → List Said → G → Type 0) (r
         let had = worked rank one.2.0 one.0 (subst (λ (p : X). follows p rank one.2.0 one.0) is.2 one.2.1) in (
           sees one.0,
           got,
-          (one.2.0, subst (λ (n : ℕ). HasWorked w (begins whole rank) n one.2.0 (sees one.0)) (sym each.ranks_are) had, one.2.2),
+          (one.2.0, subst (λ (n : ℕ). HasWorked w (begins whole rank) n None one.2.0 (sees one.0)) (sym each.ranks_are) had, one.2.2),
         )
 
     pub few_of : (k : ℕ) (got : G) → slice_get r.outcomes k ≡ Some got → sees got ≤ 2 ^ 112
@@ -53,7 +53,7 @@ module _ {X G : Type 0} (follows : X → Rank → List Said → G → Type 0) (r
         let equal : is.0 ≡ sees got = cc in
         omega (arith, few, equal)
 
-    pub whole_of : ((w : List ℕ → ℕ) (whole : ℕ) (config : Config) (ledger : List Entry) (last : Bag) (outcomes : List ℕ) →
+    pub whole_of : ((w : List ℕ → List ℕ → ℕ) (whole : ℕ) (config : Config) (ledger : List Entry) (last : Bag) (outcomes : List ℕ) →
         0 < config.ranks → IsRun (start config) ledger last → length outcomes ≡ config.ranks →
         AllHaveWorked w whole config ledger outcomes → sum_by (λ n. n) outcomes ≡ whole) → sum_by sees r.outcomes ≡ whole
     whole_of law =

@@ -19,10 +19,10 @@ pub use adlb_unit::{
     ConfigFault, End, Info, NoMemory, Payload, Target, Trouble, Types, UnitNote, WorkType,
     or_no_memory,
 };
-pub use adlb_work::{Answers, Units, Work};
+pub use adlb_work::{Answers, Batch, Units, Work};
 pub use bag_ledger::Body;
 pub use faults::Fault;
 pub use rank_client::{Adlb, RankProgram};
 pub use runs::{run_each, run_each_on};
 pub use settings::Settings;
-pub use works::{gather, gather_on, run, run_on};
+pub use works::{gather, gather_batch, gather_batch_on, gather_on, run, run_on};

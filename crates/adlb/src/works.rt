@@ -1,6 +1,6 @@
 //! A run of work.
 
-ghost use Rattle.std.specs.Prelude.{◌≡◌, ◌≤◌, ◌↔◌, ◌^◌, ℕ, Bool, Err, IfOk, Some, count_by, slice_get, sum_by, length};
+ghost use Rattle.std.specs.Prelude.{◌≡◌, ◌≤◌, ◌↔◌, ◌^◌, ℕ, Bool, Err, IfErr, IfOk, Some, count_by, slice_get, sum_by, length};
 ghost use Rattle.adlb_io.specs.Outside.{Rises};
 ghost use Rattle.adlb_unit.specs.Limits.{Refuses, stamp_limit};
 
@@ -8,8 +8,8 @@ use crate::faults::Fault;
 use crate::runs::run_each_on;
 use crate::settings::Settings;
 use adlb_io::{RealThreads, Spawner};
-use adlb_unit::{ConfigFault, NoMemory, or_no_memory};
-use adlb_work::{Answers, Counting, Duty, Listing, Work, Worker, worth_laws};
+use adlb_unit::ConfigFault;
+use adlb_work::{Answers, Batch, Batching, Counting, Duty, Listing, Work, Worker, worth_laws};
 use std::alloc::Global;
 use std::sync::Wait;
 use std::thread::Threads;
@@ -87,10 +87,49 @@ where
     ensures too_long { (stamp : ℕ) → result ≡ Err (Fault.TooLong stamp) → stamp_limit ≤ stamp }
 {
     match outcomes(alloc, threads, settings, Listing { work }) {
-        Ok(lists) => match joined(alloc, lists) {
-            Ok(answers) => Ok(answers),
-            Err(_) => Err(Fault::Memory),
-        },
+        Ok(lists) => joined(alloc, lists),
+        Err(fault) => Err(fault),
+    }
+}
+
+/// As `gather`, of work whose first units share bytes.
+pub fn gather_batch<W, R: Threads + Wait + Send + Copy + 'static>(
+    alloc: Global,
+    rt: R,
+    settings: Settings,
+    work: W,
+) -> Result<Vec<W::Answer>, Fault>
+where
+    W: Batch + Copy + Send + Drop + 'static,
+    W::Answer: Send + Drop + 'static,
+    ensures answers { IfOk result (λ all. (test : W.Answer → Bool) → count_by test all.items ≡ W.whole work test) }
+    ensures settings { (fault : ConfigFault) → (result ≡ Err (Fault.Settings fault)) ↔
+        Refuses settings.ranks settings.servers settings.limit fault }
+    ensures too_long { (stamp : ℕ) → result ≡ Err (Fault.TooLong stamp) → stamp_limit ≤ stamp }
+{
+    let mut threads = RealThreads::new(rt);
+    gather_batch_on(alloc, &mut threads, settings, work)
+}
+
+/// As `gather_batch`, with threads that this spawner starts. `NoThread` comes only if a start was refused, which the count of faults
+/// shows.
+pub fn gather_batch_on<W, T: Spawner>(
+    alloc: Global,
+    threads: &mut T,
+    settings: Settings,
+    work: W,
+) -> Result<Vec<W::Answer>, Fault>
+where
+    W: Batch + Copy + Send + Drop + 'static,
+    W::Answer: Send + Drop + 'static,
+    ensures answers { IfOk result (λ all. (test : W.Answer → Bool) → count_by test all.items ≡ W.whole work test) }
+    ensures settings { (fault : ConfigFault) → (result ≡ Err (Fault.Settings fault)) ↔
+        Refuses settings.ranks settings.servers settings.limit fault }
+    ensures no_thread { result ≡ Err Fault.NoThread → Rises (T.faults threads.old) (T.faults threads.new) }
+    ensures too_long { (stamp : ℕ) → result ≡ Err (Fault.TooLong stamp) → stamp_limit ≤ stamp }
+{
+    match outcomes(alloc, threads, settings, Batching { work }) {
+        Ok(lists) => joined(alloc, lists),
         Err(fault) => Err(fault),
     }
 }
@@ -141,13 +180,16 @@ fn total(counts: &[u128]) -> u128
     total
 }
 
-// What stands in all of these lists.
-fn joined<T: Drop>(alloc: Global, lists: Vec<Vec<T>>) -> Result<Vec<T>, NoMemory>
-    ensures { IfOk result (λ all. (test : T → Bool) → count_by test all.items ≡ sum_by (λ l. count_by test l.items) lists.items) }
+// What stands in all of these lists. Its only error is `Memory`.
+fn joined<T: Drop>(alloc: Global, lists: Vec<Vec<T>>) -> Result<Vec<T>, Fault>
+    ensures all { IfOk result (λ all. (test : T → Bool) → count_by test all.items ≡ sum_by (λ l. count_by test l.items) lists.items) }
+    ensures memory { IfErr result (λ fault. fault ≡ Fault.Memory) }
 {
     let mut all = Vec::new(alloc);
     for mut list in lists {
-        or_no_memory(all.append(&mut list))?;
+        if all.append(&mut list).is_err() {
+            return Err(Fault::Memory);
+        }
     }
     Ok(all)
 }

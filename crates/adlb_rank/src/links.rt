@@ -67,6 +67,7 @@ impl<A: Adlb> Rank for A {
         }
     }
 
+    #[tactic(auto, using(crate::proofs::Lengths::one_more))]
     fn begin_batch(&mut self, common: Payload) -> Result<Reply, Trouble> {
         reply_of(Adlb::begin_batch(self, common))
     }

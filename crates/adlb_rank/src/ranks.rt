@@ -52,7 +52,8 @@ pub trait Rank {
     /// Begins a batch with a common part of at most `2^20` bytes: units that are put until it ends share it.
     fn begin_batch(&mut self, common: Payload) -> Result<Reply, Trouble>
         requires can { Can (link self.old) (Call.BeginBatch common) }
-        ensures made { Made (link self.old) (link self.new) (Call.BeginBatch common) (replied result) };
+        ensures made { Made (link self.old) (link self.new) (Call.BeginBatch common) (replied result) }
+        ensures longer { OnOk result (length (link self.old).said < length (link self.new).said) };
 
     /// Ends the batch that is going on.
     fn end_batch(&mut self) -> Result<(), Trouble>

@@ -143,27 +143,27 @@ sum_taken xs (suc n) each =
 
 -- The whole run.
 
-pub orderly : (w : List ℕ → ℕ) (whole : ℕ) (config : Config) (ledger : List Entry) (outcomes : List ℕ) →
+pub orderly : (w : List ℕ → List ℕ → ℕ) (whole : ℕ) (config : Config) (ledger : List Entry) (outcomes : List ℕ) →
     AllHaveWorked w whole config ledger outcomes → AreOrderly config ledger
 orderly w whole config ledger outcomes all rank less =
     let is = all rank less in
     subst (λ l. IsOrderly config.ranks None None l) (sym is.2.2) is.2.1.orderly
 
-kept : (w : List ℕ → ℕ) (whole : ℕ) (config : Config) (ledger : List Entry) (last : Bag) (outcomes : List ℕ) →
+kept : (w : List ℕ → List ℕ → ℕ) (whole : ℕ) (config : Config) (ledger : List Entry) (last : Bag) (outcomes : List ℕ) →
     AllHaveWorked w whole config ledger outcomes → IsBalanced config ledger last → (rank : Rank) → rank.0 < config.ranks →
-    or_none (slice_get outcomes rank.0) + sent_worth w (calls config ledger rank) ≡ begins whole rank + got_worth w (calls config ledger rank)
+    or_none (slice_get outcomes rank.0) + sent_worth w None (calls config ledger rank) ≡ begins whole rank + got_worth w (calls config ledger rank)
 kept w whole config ledger last outcomes all balanced rank less =
     let is = all rank less in
-    subst (λ l. or_none (slice_get outcomes rank.0) + sent_worth w l ≡ begins whole rank + got_worth w l) (sym is.2.2)
+    subst (λ l. or_none (slice_get outcomes rank.0) + sent_worth w None l ≡ begins whole rank + got_worth w l) (sym is.2.2)
     (omega (arith, ap or_none is.1, is.2.1.kept (subst (λ l. All (λ (s : Said). IsEndedWell s.call s.answer) l) is.2.2 (balanced.ended rank less))))
 
-pub whole_is : (w : List ℕ → ℕ) (whole : ℕ) (config : Config) (ledger : List Entry) (last : Bag) (outcomes : List ℕ) →
+pub whole_is : (w : List ℕ → List ℕ → ℕ) (whole : ℕ) (config : Config) (ledger : List Entry) (last : Bag) (outcomes : List ℕ) →
     0 < config.ranks → length outcomes ≡ config.ranks → AllHaveWorked w whole config ledger outcomes → IsBalanced config ledger last →
     sum_by (λ n. n) outcomes ≡ whole
 whole_is w whole config ledger last outcomes some long all balanced =
     let n : ℕ = config.ranks in
     let o : Rank → ℕ = λ r. or_none (slice_get outcomes r.0) in
-    let s : Rank → ℕ = λ r. sent_worth w (calls config ledger r) in
+    let s : Rank → ℕ = λ r. sent_worth w None (calls config ledger r) in
     let b : Rank → ℕ = λ r. begins whole r in
     let g : Rank → ℕ = λ r. got_worth w (calls config ledger r) in
     let flow : over_ranks n o + over_ranks n s ≡ over_ranks n b + over_ranks n g = sym (over_add n o s)
@@ -181,7 +181,7 @@ whole_is w whole config ledger last outcomes some long all balanced =
 -- The same, over the law of what every run of orderly ranks conserves.
 pub joined : ((config : Config) (ledger : List Entry) (last : Bag) → 0 < config.ranks → IsRun (start config) ledger last →
     AreOrderly config ledger → IsBalanced config ledger last) →
-    (w : List ℕ → ℕ) (whole : ℕ) (config : Config) (ledger : List Entry) (last : Bag) (outcomes : List ℕ) →
+    (w : List ℕ → List ℕ → ℕ) (whole : ℕ) (config : Config) (ledger : List Entry) (last : Bag) (outcomes : List ℕ) →
     0 < config.ranks → IsRun (start config) ledger last → length outcomes ≡ config.ranks →
     AllHaveWorked w whole config ledger outcomes → sum_by (λ n. n) outcomes ≡ whole
 joined conserves w whole config ledger last outcomes some legal long all =

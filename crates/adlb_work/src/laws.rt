@@ -11,7 +11,7 @@ use balance_law::balance_laws;
 
 /// In a legal run of workers all ranks together count what the first units are worth, for every number of ranks and of servers.
 pub fn worth_laws()
-    ensures whole { (w : List ℕ → ℕ) (whole : ℕ) (config : Config) (ledger : List Entry) (last : Bag) (outcomes : List ℕ) →
+    ensures whole { (w : List ℕ → List ℕ → ℕ) (whole : ℕ) (config : Config) (ledger : List Entry) (last : Bag) (outcomes : List ℕ) →
         0 < config.ranks → IsRun (start config) ledger last → length outcomes ≡ config.ranks →
         AllHaveWorked w whole config ledger outcomes → sum_by (λ n. n) outcomes ≡ whole }
 {

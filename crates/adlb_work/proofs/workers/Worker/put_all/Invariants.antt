@@ -1,4 +1,4 @@
-use Rattle.std.proofs.Common.{◌≡◌, ◌≤◌, ◌-◌, ◌^◌, length, sum_by}
+use Rattle.std.proofs.Common.{◌≡◌, ◌≤◌, ◌-◌, ◌^◌, None, [], length, sum_by}
 use Rattle.adlb_work.specs.Calls.{IsFree}
 use Rattle.adlb_work.specs.Worked.{IsGoing, begins}
 use Rattle.adlb_work.proofs.workers.Worker.put_all.Given as goal
@@ -6,9 +6,10 @@ use Rattle.adlb_work.proofs.workers.Worker.put_all.Given as goal
 abbrev pub invariant-units : goal.invariant-units
 invariant-units g l = record {
   going : (eye : _) → IsGoing (g.D.Duty.worth l.self.duty eye) (begins (g.D.Duty.whole l.self.duty eye) l.fn.rank) l.self.ranks
-      (g.R.Rank.link l.link).said (g.D.Duty.sees l.got eye) (sum_by (g.D.Duty.worth l.self.duty eye) l.out);
+      None (g.R.Rank.link l.link).said (g.D.Duty.sees l.got eye) (sum_by (g.D.Duty.worth l.self.duty eye []) l.out);
   free : IsFree l.self.ranks (g.R.Rank.link l.link);
   seat : (g.R.Rank.link l.link).seat ≡ (g.R.Rank.link l.fn.link).seat;
+  batch : (g.R.Rank.link l.link).batch ≡ (g.R.Rank.link l.fn.link).batch;
   longer : length (g.R.Rank.link l.fn.link).said ≤ length (g.R.Rank.link l.link).said;
 }
 

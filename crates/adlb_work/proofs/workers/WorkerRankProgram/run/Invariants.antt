@@ -1,4 +1,4 @@
-use Rattle.std.proofs.Common.{◌≡◌, ◌≤◌, ◌-◌, ◌^◌, [], length}
+use Rattle.std.proofs.Common.{◌≡◌, ◌≤◌, ◌-◌, ◌^◌, None, [], false, length}
 use Rattle.adlb_work.specs.Calls.{IsFree}
 use Rattle.adlb_work.specs.Worked.{IsGoing, begins}
 use Rattle.adlb_work.proofs.workers.WorkerRankProgram.run.Given as goal
@@ -6,9 +6,10 @@ use Rattle.adlb_work.proofs.workers.WorkerRankProgram.run.Given as goal
 abbrev pub invariant-rounds : goal.invariant-rounds
 invariant-rounds g l = record {
   going : (eye : _) → IsGoing (g.D.Duty.worth l.self.duty eye) (begins (g.D.Duty.whole l.self.duty eye) l.fn.rank) l.self.ranks
-      (g.A.Adlb.link l.link).said (g.D.Duty.sees l.got eye) 0;
+      None (g.A.Adlb.link l.link).said (g.D.Duty.sees l.got eye) 0;
   none : l.out ≡ [];
   free : IsFree l.self.ranks (g.A.Adlb.link l.link);
+  closed : (g.A.Adlb.link l.link).batch ≡ false;
   seat : (g.A.Adlb.link l.link).seat ≡ (g.A.Adlb.link l.fn.link).seat;
   longer : length (g.A.Adlb.link l.fn.link).said ≤ length (g.A.Adlb.link l.link).said;
 }
