@@ -1,0 +1,11 @@
+pub mod Best
+pub mod Calling
+pub mod Common
+pub mod Desks
+pub mod Lists
+pub mod Making
+pub mod Pairs
+pub mod Read
+pub mod StartTests
+pub mod Steps
+pub mod Ways

@@ -1,0 +1,8 @@
+use Rattle.std.proofs.Common.{ap}
+use Rattle.tour_app.proofs.Desks.{back_is}
+use Rattle.tour_app.proofs.desk.Desk.receive_last.Goals as goal
+
+pub returns-clause-waiting : goal.returns-clause-waiting
+returns-clause-waiting c =
+    back_is c.args.common.now c.args.unit c.in_ok-made.made c.args.self.now.waiting.items c.take_in.new.self.waiting.items _
+    c.in_ok-made.ensures.made (ap (λ w. w.items) c.take_in.ensures.waiting) c.in_ok-put_behind.ensures

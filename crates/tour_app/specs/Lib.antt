@@ -1,0 +1,10 @@
+pub mod Starts
+pub mod Bodies
+pub mod Works
+pub mod Calls
+pub mod Desk
+pub mod Follows
+pub mod Found
+pub mod Output
+pub mod Puts
+pub mod Working
