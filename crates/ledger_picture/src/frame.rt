@@ -142,8 +142,20 @@ pub(crate) fn put_limit(
         b"\" d=\"M~ ~H~\"><title>the limit, ~ bytes</title></path>\n",
         &[LEFT, y, columns.right(), limit],
     )?;
+    if limit > charge.top {
+        put_far_limit(text, columns.right(), y, limit)?;
+    }
     put_scale(text, charge, b"~ B")?;
     put_scale(text, free, b"~ free")
+}
+
+// Appends the number of a limit that is above the scale.
+fn put_far_limit(text: &mut Vec<u8>, x: u64, y: u64, limit: u64) -> Result<(), NoMemory> {
+    fill(
+        text,
+        b"<text class=\"s\" x=\"~\" y=\"~\">limit ~ B, above the scale</text>\n",
+        &[x, y.saturating_sub(3), limit],
+    )
 }
 
 // Appends the number that a strip's height stands for.
