@@ -47,7 +47,7 @@ fault_said words.Memory = Memory
 
 abbrev pub why_of : of_jobs.LineWhy → LineWhy
 why_of jobs.Long = Long
-why_of jobs.Length = Length
+why_of (jobs.Length got) = Length got
 why_of jobs.Character = Character
 why_of jobs.Item = Item
 why_of jobs.Number = Number

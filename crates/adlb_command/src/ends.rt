@@ -18,9 +18,9 @@ pub enum LineWhy {
     /// It has more than 2^20 bytes.
     #[error("long")]
     Long,
-    /// It is a puzzle whose text has not 16, 81 or 256 bytes.
+    /// It is a puzzle whose text has not 16, 81 or 256 bytes but `got`.
     #[error("length")]
-    Length,
+    Length { got: u64 },
     /// It is a puzzle with a byte that is no sign of a cell.
     #[error("character")]
     Character,
@@ -46,7 +46,7 @@ impl From<job_text::LineWhy> for LineWhy {
     fn from(met: job_text::LineWhy) -> LineWhy {
         match met {
             job_text::LineWhy::Long => LineWhy::Long,
-            job_text::LineWhy::Length => LineWhy::Length,
+            job_text::LineWhy::Length { got } => LineWhy::Length { got },
             job_text::LineWhy::Character => LineWhy::Character,
             job_text::LineWhy::Item => LineWhy::Item,
             job_text::LineWhy::Number => LineWhy::Number,

@@ -1,13 +1,13 @@
 //! What the program says of a fault.
 
 use crate::hints::hints;
-use adlb_command::RunFault;
+use adlb_command::{LineWhy, RunFault};
 use command_words::refusal;
 use std::alloc::Global;
 use std::fmt;
 
 /// What the program says on standard error of a fault: a line that tells it; at `Usage` a line that tells which word was refused, and
-/// why; and lines that say what would have been accepted. No clause says anything of these texts.
+/// why; and lines that say what would have been accepted, and of a puzzle's length which it is. No clause says anything of these texts.
 #[derive(Drop)]
 pub struct Complaint {
     fault: RunFault,
@@ -34,6 +34,13 @@ impl fmt::Display for Complaint {
         }
         for line in hints(&self.fault) {
             writeln!(f, "  {line}")?;
+        }
+        if let RunFault::Input {
+            why: LineWhy::Length { got },
+            ..
+        } = self.fault
+        {
+            writeln!(f, "  this one has {got}")?;
         }
         Ok(())
     }

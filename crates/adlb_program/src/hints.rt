@@ -32,7 +32,7 @@ pub(crate) fn hints(fault: &RunFault) -> &'static [&'static str] {
 fn line_hints(why: &LineWhy) -> &'static [&'static str] {
     match why {
         LineWhy::Long => &["a line has at most 2^20 bytes"],
-        LineWhy::Length => {
+        LineWhy::Length { .. } => {
             &[
                 "a puzzle has 16, 81 or 256 signs before its first space or tab, by the side 4, 9 or 16",
             ]

@@ -51,9 +51,10 @@ const LINES: &[(LineWhy, &str)] = &[
          \x20 a line has at most 2^20 bytes\n",
     ),
     (
-        LineWhy::Length,
+        LineWhy::Length { got: 80 },
         "adlbrun: line 2: length\n\
-         \x20 a puzzle has 16, 81 or 256 signs before its first space or tab, by the side 4, 9 or 16\n",
+         \x20 a puzzle has 16, 81 or 256 signs before its first space or tab, by the side 4, 9 or 16\n\
+         \x20 this one has 80\n",
     ),
     (
         LineWhy::Character,
@@ -94,7 +95,8 @@ fn says_what_a_line_can_be(rt: HostRuntime) -> Result<(), Fail> {
 }
 
 /// What is said of words that are refused: the first line, and those after the one that names the word.
-const FIRST: &str = "adlbrun: usage: adlbrun solve, make, drill, check or draw with their options\n";
+const FIRST: &str =
+    "adlbrun: usage: adlbrun solve, make, drill, check or draw with their options\n";
 
 const COMMANDS: &str = "\n\
     \x20 solve [OPTION..] [--stats] [--ledger]   solve the puzzles and work the batches of standard input\n\

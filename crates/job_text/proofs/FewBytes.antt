@@ -28,7 +28,7 @@ chosen false x y p q = q refl
 few_puzzle : (text : List ℕ) → IsFew (puzzle_kind text)
 unfolding puzzle_kind IsFew
 few_puzzle text =
-    chosen (is_size (length text)) _ (bad Length) (chosen (list_all (is_cell_sign (side_for (length text))) text) (puzzle (map digit_of text))
+    chosen (is_size (length text)) _ (bad (Length (length text))) (chosen (list_all (is_cell_sign (side_for (length text))) text) (puzzle (map digit_of text))
     (bad Character) tt (λ e. tt)) (λ e. tt)
 
 few_named : (line : List ℕ) → length line ≤ line_limit → IsFew (named_kind line)

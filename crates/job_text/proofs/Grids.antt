@@ -37,7 +37,7 @@ grid_puzzle : (text : List ℕ) → IsGridKind (puzzle_kind text)
 unfolding puzzle_kind IsGridKind
 grid_puzzle text =
     let n : ℕ = side_for (length text) in
-    chosen (is_size (length text)) _ (bad Length) (λ size.
+    chosen (is_size (length text)) _ (bad (Length (length text))) (λ size.
     chosen (list_all (is_cell_sign n) text) (puzzle (map digit_of text)) (bad Character)
     (λ all. signs_give_grid text (map digit_of text) (is_size_of (length text) size)
     (λ k within. is_sign n (get_or text k 0) (passes_at (is_cell_sign n) text all k within)) refl) tt) tt

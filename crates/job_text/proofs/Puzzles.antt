@@ -67,19 +67,19 @@ unfolding puzzle_kind
 grid_read text g r =
     let n = side_for (length text) in
     let passes = all_pass (is_cell_sign n) text (λ k lt. sign_is n (get_or text k 0) (All-get_or (IsCellSign n) text k 0 lt r.signs)) in
-    cond-true (is_size (length text)) (signed text) (bad Length) (size_is (length text) r.long)
+    cond-true (is_size (length text)) (signed text) (bad (Length (length text))) (size_is (length text) r.long)
     ∙ cond-true (list_all (is_cell_sign n) text) (puzzle (map digit_of text)) (bad Character) passes ∙ ap puzzle (sym r.cells)
 
-pub no_length : (text : List ℕ) → (IsSize (length text) → ⊥) → puzzle_kind text ≡ bad Length
+pub no_length : (text : List ℕ) → (IsSize (length text) → ⊥) → puzzle_kind text ≡ bad (Length (length text))
 unfolding puzzle_kind
 no_length text never =
-    cond-false (is_size (length text)) (signed text) (bad Length) (not_true (is_size (length text)) (λ t. never (is_size_of (length text) t)))
+    cond-false (is_size (length text)) (signed text) (bad (Length (length text))) (not_true (is_size (length text)) (λ t. never (is_size_of (length text) t)))
 
 pub no_character : (text : List ℕ) (k : ℕ) → IsFirstBad text k → puzzle_kind text ≡ bad Character
 unfolding puzzle_kind
 no_character text k is =
     let n = side_for (length text) in
     let fails = not_true (is_cell_sign n (get_or text k 0)) (λ t. is.bad (is_sign n (get_or text k 0) t)) in
-    cond-true (is_size (length text)) (signed text) (bad Length) (size_is (length text) is.long)
+    cond-true (is_size (length text)) (signed text) (bad (Length (length text))) (size_is (length text) is.long)
     ∙ cond-false (list_all (is_cell_sign n) text) (puzzle (map digit_of text)) (bad Character) (list_all_at (is_cell_sign n) text k 0
     is.within fails)

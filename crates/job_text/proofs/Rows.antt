@@ -80,7 +80,7 @@ space_first : input_refused (32 ∷ puzzle_line) ≡ Some (1, Word)
 unfolding puzzle_line first_refused kind_of short_kind named_kind
 space_first = refl
 
-no_size : input_refused (codes "ABCD") ≡ Some (1, Length)
+no_size : input_refused (codes "ABCD") ≡ Some (1, Length 4)
 unfolding first_refused kind_of short_kind puzzle_kind
 no_size = refl
 

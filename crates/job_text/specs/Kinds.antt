@@ -38,7 +38,7 @@ unfoldable pub puzzle_kind : List ℕ → Kind
 puzzle_kind text =
     if is_size (length text)
     then (if list_all (is_cell_sign (side_for (length text))) text then puzzle (map digit_of text) else bad Character)
-    else bad Length
+    else bad (Length (length text))
 
 -- a digit, a dot, or a letter from A to G
 abbrev pub begins_puzzle : ℕ → Bool

@@ -9,9 +9,9 @@ pub enum LineWhy {
     /// It has more than 2^20 bytes.
     #[error("long")]
     Long,
-    /// It is a puzzle whose text has not 16, 81 or 256 bytes.
+    /// It is a puzzle whose text has not 16, 81 or 256 bytes but `got`.
     #[error("length")]
-    Length,
+    Length { got: u64 },
     /// It is a puzzle with a byte that is no sign of a cell.
     #[error("character")]
     Character,

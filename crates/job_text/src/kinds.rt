@@ -65,7 +65,7 @@ fn puzzle(text: &[u8]) -> Line<'_>
 {
     match parse_grid(text) {
         Ok(grid) => Line::Puzzle(grid),
-        Err(GridFault::Length { .. }) => Line::Bad(LineWhy::Length),
+        Err(GridFault::Length { got }) => Line::Bad(LineWhy::Length { got }),
         Err(GridFault::Character { .. }) => Line::Bad(LineWhy::Character),
     }
 }

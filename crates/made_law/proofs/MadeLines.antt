@@ -38,7 +38,7 @@ signs_kind : (signs : List ℕ) → length signs ≡ 81 → list_all (is_cell_si
 unfolding puzzle_kind box_for
 signs_kind signs long cells =
     let grid : Kind = puzzle (map digit_of signs) in
-    ap (λ n. cond (is_size n) (cond (list_all (is_cell_sign (side_for n)) signs) grid (bad Character)) (bad Length)) long
+    ap (λ n. cond (is_size n) (cond (list_all (is_cell_sign (side_for n)) signs) grid (bad Character)) (bad (Length n))) long
     ∙ cond-true (list_all (is_cell_sign 9) signs) grid (bad Character) cells
 
 -- the line is a puzzle
