@@ -54,6 +54,7 @@ pub still_used : (m : ℕ) (g : Cells) (cell d k e : ℕ) → IsBlank g cell →
 still_used m g cell d k e blank some is =
     used_put m g cell d k e blank some ∙ or_left (used m g k e) (shares m k cell && eqb d e) is
 
+-- another cell stays blank
 pub blank_kept : (g : Cells) (cell d k : ℕ) → (k ≡ cell → ⊥) → IsBlank g k → IsBlank (set g cell d) k
 blank_kept g cell d k differs is = record {
   within = let e : length (set g cell d) ≡ length g = length-set g cell d in omega (arith, is.within);
@@ -65,6 +66,7 @@ blank_kept g cell d k differs is = record {
 abbrev one_blank : ℕ → ℕ
 one_blank d = cond (eqb d 0) 1 0
 
+-- a digit that is put leaves one blank cell less
 pub blanks_put : (g : Cells) (c d : ℕ) → IsBlank g c → 1 ≤ d → blanks (set g c d) + 1 ≡ blanks g
 blanks_put g c d is some =
     let before : one_blank (get_or g c 0) ≡ 1 = ap (λ b. cond b 1 0) (eq-eqb (get_or g c 0) 0 is.blank) in
@@ -74,6 +76,7 @@ blanks_put g c d is some =
 blanks_some : (g : Cells) (c : ℕ) → IsBlank g c → 1 ≤ blanks g
 blanks_some g c is = omega (arith, blanks_put g c 1 is (omega arith))
 
+-- no more cells are blank than there are
 pub blanks_few : (g : Cells) → blanks g ≤ length g
 blanks_few [] = omega arith
 blanks_few (d ∷ g) =
@@ -103,7 +106,8 @@ counted_from zero from p = refl
 counted_from (suc n) from p =
     let same : how_many n (λ k. p (from + 1 + k)) ≡ how_many n (λ k. p (from + suc k)) =
     how_many_same n (λ k. p (from + 1 + k)) (λ k. p (from + suc k)) (λ k. ap p (let e : from + 1 + k ≡ from + suc k = omega arith in e)) in
-    let first : ◌≡◌ {A = ℕ} (cond (p from) 1 0) (cond (p (from + 0)) 1 0) = ap (λ k. cond (p k) 1 0) (let e : from ≡ from + 0 = omega arith in e) in
+    let first : ◌≡◌ {A = ℕ} (cond (p from) 1 0) (cond (p (from + 0)) 1 0) =
+    ap (λ k. cond (p k) 1 0) (let e : from ≡ from + 0 = omega arith in e) in
     omega (
       arith,
       at_head (p from) from (filter p (count_up (from + 1) n)),
@@ -121,6 +125,7 @@ counted_from (suc n) from p =
 abbrev pub is_free : ℕ → Cells → ℕ → ℕ → Bool
 is_free m g c k = not (used m g c (k + 1))
 
+-- a cell has as many candidates as digits are free there
 pub choices_are : (m : ℕ) (g : Cells) (c : ℕ) → choices m g c ≡ how_many (side m) (λ k. is_free m g c k)
 choices_are m g c =
     counted_from (side m) 1 (λ d. not (used m g c d))
@@ -169,7 +174,8 @@ alone_choices m g c d is =
     only k within passes = elim (cases_eq (k + 1) d) [
       | inl same ↦ same
       | inr differs ↦
-          absurd (let e : true ≡ false = sym (is.others (k + 1) (omega arith) (omega arith) differs) ∙ not-true (used m g c (k + 1)) passes in
+          absurd (let e : true ≡ false =
+          sym (is.others (k + 1) (omega arith) (omega arith) differs) ∙ not-true (used m g c (k + 1)) passes in
           cc)
     ]
 
@@ -234,7 +240,8 @@ one_step m grain b g c d fine chosen is some =
     ∙ ap (λ ds. both (at_digit m (hands_out grain b 1) grain (b - 1) g c d) (rest_of m grain b 1 (b - 1) g c ds))
     (digits_skip m g c (d + 1) (side m - d) (omega arith)
     (λ j above below. is.others j (omega arith) (omega arith) (λ e. omega arith)) ∙ ap (λ i. from_digit m g c i) past)
-    ∙ ap (λ x. both (at_digit m (hands_out grain b 1) grain (b - 1) g c d) x) (digits_end m grain b 1 (b - 1) g c (side m + 1) (omega arith))
+    ∙ ap (λ x. both (at_digit m (hands_out grain b 1) grain (b - 1) g c d) x)
+    (digits_end m grain b 1 (b - 1) g c (side m + 1) (omega arith))
     ∙ both_nothing (at_digit m (hands_out grain b 1) grain (b - 1) g c d)
     ∙ sym (digit_worked m (hands_out grain b 1) grain (b - 1) g c d is.free (and_right (ltb grain b) (ltb 1 1) refl))
 

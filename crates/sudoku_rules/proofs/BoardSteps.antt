@@ -24,11 +24,13 @@ use Rattle.sudoku_rules.proofs.PlaneBits.{cell_test, has_and, has_none, has_one,
 
 -- Blank cells.
 
+-- the test of a blank cell tells one
 pub blank_is : (g : Cells) (k : ℕ) → is_blank g k ≡ true → IsBlank g k
 blank_is g k test =
     let parts = and_parts (ltb k (length g)) (eqb (get_or g k 0) 0) test in
     record { within = ltb-true k (length g) parts.0; blank = eqb-true (get_or g k 0) 0 parts.1 }
 
+-- and each is told
 pub blank_test : (g : Cells) (k : ℕ) → IsBlank g k → is_blank g k ≡ true
 blank_test g k is = and_from (ltb k (length g)) (eqb (get_or g k 0) 0) (lt-ltb k (length g) is.within) (eq-eqb (get_or g k 0) 0 is.blank)
 
@@ -51,19 +53,22 @@ blank_after g cell x k within = elim (cases_eq k cell) [
 shares_self : (m cell : ℕ) → shares m cell cell ≡ true
 shares_self m cell =
     or_left (eqb (row_of m cell) (row_of m cell) || eqb (column_of m cell) (column_of m cell)) (eqb (box_of m cell) (box_of m cell))
-    (or_left (eqb (row_of m cell) (row_of m cell)) (eqb (column_of m cell) (column_of m cell)) (eq-eqb (row_of m cell) (row_of m cell) refl))
+    (or_left (eqb (row_of m cell) (row_of m cell)) (eqb (column_of m cell) (column_of m cell))
+    (eq-eqb (row_of m cell) (row_of m cell) refl))
 
 -- a digit can stand
 pub record Stands (m : ℕ) (g : Cells) (x cell : ℕ) : Type 0 where
   pub blank : IsBlank g cell
   pub unused : used m g cell (x + 1) ≡ false
 
+-- where a plane has a cell its digit can stand there
 pub stands_is : (m : ℕ) {S C : ℕ} (w : Board S C) (x cell : ℕ) → IsBoard m w → x < side m → has (get_or w.options x 0) cell ≡ true
     → Stands m w.cells x cell
 stands_is m w x cell is digit stands =
     let parts = and_parts (is_blank w.cells cell) (not (used m w.cells cell (x + 1))) (sym (is.options x cell digit) ∙ stands) in
     record { blank = blank_is w.cells cell parts.0; unused = not-true (used m w.cells cell (x + 1)) parts.1 }
 
+-- and where a digit can stand its plane has the cell
 pub stands_test : (m : ℕ) {S C : ℕ} (w : Board S C) (x cell : ℕ) → IsBoard m w → x < side m → IsBlank w.cells cell
     → used m w.cells cell (x + 1) ≡ false → has (get_or w.options x 0) cell ≡ true
 stands_test m w x cell is digit blank unused =
@@ -89,6 +94,7 @@ near_itself w cell x alone = record {
   alone = alone;
 }
 
+-- a board where no digit can stand at the cell any more
 pub near_left : {S C : ℕ} (w almost : Board S C) (cell x : ℕ) → IsLeft w almost cell → IsNear w almost cell x
 near_left w almost cell x is = record {
   cells = is.cells;
@@ -218,6 +224,7 @@ less_more k n differs = elim (cases_lt k n) [
   | inr more ↦ le-ltb k (n + 1) (omega arith) ∙ sym (le-ltb k n more)
 ]
 
+-- before the first cell nothing is ruled out
 pub seen_none : (m : ℕ) {S : ℕ} (g : Cells) → S ≡ side m
     → AreSeen m {S = S} g 0 (record { planes = replicate S 0; blank = 0; clash = false })
 unfolding any_below
@@ -228,6 +235,7 @@ seen_none m {S} g same = record {
   clash = refl;
 }
 
+-- one more cell, which is blank
 pub seen_blank : (m : ℕ) {S : ℕ} (g : Cells) (n : ℕ) (seen : Seen S) → get_or g n 0 ≡ 0 → AreSeen m g n seen
     → AreSeen m {S = S} g (n + 1) (record { planes = seen.planes; blank = bit_or seen.blank (2 ^ n); clash = seen.clash })
 seen_blank m g n seen none is = record {
@@ -257,6 +265,7 @@ seen_blank m g n seen none is = record {
       ∙ sym (clashes_more m g n ∙ ap (λ b. b || any_below n (λ i. any_below i (λ j. clash m g i j))) (no_clash m g n none));
 }
 
+-- one more cell, which has a digit
 pub seen_digit : (m : ℕ) {S : ℕ} (g : Cells) (n x sharing : ℕ) (seen : Seen S) → get_or g n 0 ≡ x + 1 → x < side m → n < size m
     → ((k : ℕ) → has sharing k ≡ (ltb k (size m) && shares m k n)) → AreSeen m g n seen
     → AreSeen m {S = S} g (n + 1) (record {
@@ -317,14 +326,15 @@ board_of m g seen options grid is fine long left = record {
   fine = sym is.clash ∙ fine;
   long = long;
   blank = is.blank;
-  options = λ x k below. left x k below ∙ ap (λ b. b && not (has (get_or seen.planes x 0) k)) (is.blank k) ∙ elim (cases_Bool (is_blank g k)) [
-    | inl on ↦
-        ap (λ b. is_blank g k && not b)
-        (is.planes x k below (let h : k < length g = (blank_is g k on).within in omega (arith, h, grid.long)))
-    | inr off ↦
-        and_left (is_blank g k) (not (has (get_or seen.planes x 0) k)) off
-        ∙ sym (and_left (is_blank g k) (not (used m g k (x + 1))) off)
-  ];
+  options = λ x k below. left x k below ∙ ap (λ b. b && not (has (get_or seen.planes x 0) k)) (is.blank k)
+      ∙ elim (cases_Bool (is_blank g k)) [
+        | inl on ↦
+            ap (λ b. is_blank g k && not b)
+            (is.planes x k below (let h : k < length g = (blank_is g k on).within in omega (arith, h, grid.long)))
+        | inr off ↦
+            and_left (is_blank g k) (not (has (get_or seen.planes x 0) k)) off
+            ∙ sym (and_left (is_blank g k) (not (used m g k (x + 1))) off)
+      ];
 }
 
 -- The cell with the fewest candidates.
@@ -358,12 +368,14 @@ options_are m w cell options is blank small bits = record {
     turned true = refl
     turned false = refl
 
+-- a cell with the fewest candidates is blank
 pub few_blank : (m : ℕ) {S C : ℕ} (w : Board S C) (few cell : ℕ) → IsBoard m w → AreFewest w.options w.blank few → has few cell ≡ true
     → is_blank w.cells cell ≡ true
 few_blank m w few cell is are there =
     sym (is.blank cell)
     ∙ (and_parts (has w.blank cell) (leb (many w.options (length w.options) cell) are.n) (sym (are.cells cell) ∙ there)).0
 
+-- the first cell with the fewest candidates is the best choice
 pub fewest_board : (m : ℕ) {S C : ℕ} (w : Board S C) (few cell options : ℕ) → IsBoard m w → AreFewest w.options w.blank few
     → has few cell ≡ true → ((k : ℕ) → k < cell → has few k ≡ false) → AreOptions m w.cells cell options
     → IsBest m w.cells (length w.cells) (Some (record { cell = cell; options = options; count = ones options }))

@@ -27,7 +27,8 @@ pub record IsWorked (m : ℕ) {S C : ℕ} (grain budget k share : ℕ) (start : 
       ≡ both (met_of before) (walk grain (tree m budget start.cells))
 
 -- the same where the grid stays as it is
-pub record IsTried (m : ℕ) (grain budget k share : ℕ) (g : Cells) (cell : ℕ) (before : Expansion) (left : ℕ) (found : Expansion) : Type 0 where
+pub record IsTried (m : ℕ) (grain budget k share : ℕ) (g : Cells) (cell : ℕ) (before : Expansion) (left : ℕ)
+    (found : Expansion) : Type 0 where
   pub from : ℕ
   pub few : from ≤ side m
   pub rest : IsRest (side m) (λ d. can m g cell d) from left

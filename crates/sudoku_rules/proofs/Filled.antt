@@ -85,14 +85,17 @@ fill_step m old w after b left singles cell x filled single digit there stands p
     alone : IsAlone m w.cells cell (x + 1)
     alone = alone_is m w singles cell x filled.board single digit there stands
 
+-- no more digits can stand at these cells after one was put
 pub single_after : (m : ℕ) {S C : ℕ} (w after : Board S C) (singles cell x : ℕ) → AreSingle singles w.options → IsPlaced m w after cell x
     → AreSingle singles after.options
 single_after m w after singles cell x single placed k y z there first second =
     single k y z there (none_new m w after cell x y k placed first) (none_new m w after cell x z k placed second)
 
+-- at first none was filled
 pub filled_none : (m : ℕ) {S C : ℕ} (w : Board S C) (b : ℕ) → IsBoard m w → blanks w.cells < b → IsFilled m w b w b
 filled_none m w b is lasts = record { board = is; less = omega arith; lasts = lasts; same = λ grain. refl }
 
+-- cells that were filled, and then others
 pub filled_then : (m : ℕ) {S C : ℕ} (u v w : Board S C) (a b c : ℕ) → IsFilled m u a v b → IsFilled m v b w c → IsFilled m u a w c
 filled_then m u v w a b c first second = record {
   board = second.board;

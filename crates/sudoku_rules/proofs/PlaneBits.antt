@@ -28,15 +28,19 @@ other_bit zero p = refl
 other_bit (suc zero) p = refl
 other_bit (suc (suc a)) p = absurd (omega arith)
 
+-- a cell is in two planes
 pub has_and : (a b k : ℕ) → has (bit_and a b) k ≡ (has a k && has b k)
 has_and a b k = ap (λ v. eqb v 1) (bit_at_and a b k) ∙ both_bits (bit_at a k) (bit_at b k) (bit_at-lt a k) (bit_at-lt b k)
 
+-- a cell is in one of two planes
 pub has_or : (a b k : ℕ) → has (bit_or a b) k ≡ (has a k || has b k)
 has_or a b k = ap (λ v. eqb v 1) (bit_at_or a b k) ∙ either_bit (bit_at a k) (bit_at b k) (bit_at-lt a k) (bit_at-lt b k)
 
+-- no cell is in the empty plane
 pub has_none : (k : ℕ) → has 0 k ≡ false
 has_none k = ap (λ v. eqb v 1) (bit_at-zero k)
 
+-- the same of a plane that is the empty one
 pub none_has : (plane k : ℕ) → plane ≡ 0 → has plane k ≡ false
 none_has plane k none = ap (λ p. has p k) none ∙ has_none k
 
@@ -85,7 +89,8 @@ cell_test plane cell = at (bit_at plane cell) refl (bit_at-lt plane cell)
     at (suc (suc b)) is p = absurd (omega arith)
 
 -- the first cell of a plane
-pub first_has : (plane : ℕ) → 0 < plane → plane < 2 ^ 128 → (trailing_zeros w128 plane < 128) × (has plane (trailing_zeros w128 plane) ≡ true)
+pub first_has : (plane : ℕ) → 0 < plane → plane < 2 ^ 128
+    → (trailing_zeros w128 plane < 128) × (has plane (trailing_zeros w128 plane) ≡ true)
     × ((k : ℕ) → k < trailing_zeros w128 plane → has plane k ≡ false)
 first_has plane some small =
     let bits = bit_at-trailing_zeros w128 plane some small in (
@@ -96,10 +101,12 @@ first_has plane some small =
 
 -- How many planes have a cell.
 
+-- one more plane is counted if it has the cell
 pub many_more : (planes : List ℕ) (n k : ℕ) → many planes (n + 1) k ≡ many planes n k + cond (has (get_or planes n 0) k) 1 0
 unfolding how_many
 many_more planes n k = rw add-one refl
 
+-- of no planes none has the cell
 pub many_none : (planes : List ℕ) (k : ℕ) → many planes 0 k ≡ 0
 unfolding how_many
 many_none planes k = refl
@@ -113,6 +120,7 @@ unfolding how_many
 few_pass zero p = omega arith
 few_pass (suc n) p = omega (arith, few_pass n p, one_at_most (p n))
 
+-- no more planes have a cell than there are
 pub many_at_most : (planes : List ℕ) (n k : ℕ) → many planes n k ≤ n
 many_at_most planes n k = few_pass n (λ x. has (get_or planes x 0) k)
 
@@ -164,6 +172,7 @@ carried_on n h b = elim (cases_lt n h) [
   | inr more ↦ and_right (leb n h && b) (ltb n h) (le-ltb n h more) ∙ sym (and_left (leb (n + 1) h) b (lt-leb (n + 1) h (omega arith)))
 ]
 
+-- the levels with one more plane
 pub levels_with : (planes : List ℕ) (n plane : ℕ) (levels : Levels) → get_or planes n 0 ≡ plane → AreLevels planes n levels
     → AreLevels planes (n + 1) (record {
       one = bit_or levels.one plane;
@@ -192,6 +201,7 @@ levels_with planes n plane levels at are = record {
     more : (j k : ℕ) → ltb j (many planes (n + 1) k) ≡ ltb j (many planes n k + cond (has plane k) 1 0)
     more j k = ap (λ h. ltb j h) (many_more planes n k ∙ ap (λ p. many planes n k + cond (has p k) 1 0) at)
 
+-- the levels of no planes
 pub levels_none : (planes : List ℕ) → AreLevels planes 0 (record { one = 0; two = 0; three = 0 })
 levels_none planes = record {
   one = λ k. has_none k ∙ sym (none 0 k);
@@ -233,6 +243,7 @@ more_each planes n all level few is cells none k in_all =
 pub test_on : (plane cell : ℕ) → (bit_and plane (2 ^ cell) ≡ 0 → ⊥) → has plane cell ≡ true
 test_on plane cell some = sym (cell_test plane cell) ∙ ap not (ne_eqb (bit_and plane (2 ^ cell)) 0 some)
 
+-- and where it is not met
 pub test_off : (plane cell : ℕ) → bit_and plane (2 ^ cell) ≡ 0 → has plane cell ≡ false
 test_off plane cell none = sym (cell_test plane cell) ∙ ap not (eq-eqb (bit_and plane (2 ^ cell)) 0 none)
 
@@ -244,6 +255,7 @@ grows n mask small = let e : n + 1 ≡ suc n = omega arith in rw e (omega (arith
 abbrev AreBits : ℕ → (ℕ → Bool) → ℕ → Type 0
 AreBits n p mask = (x : ℕ) → x < n → bit_at mask x ≡ cond (p x) 1 0
 
+-- one more number, which passes
 pub mask_more : (n mask : ℕ) (p : ℕ → Bool) → n < 16 → mask < 2 ^ n → AreBits n p mask → p n ≡ true
     → (bit_or mask (1 * 2 ^ n % 65536) < 2 ^ (n + 1)) × AreBits (n + 1) p (bit_or mask (1 * 2 ^ n % 65536))
 mask_more n mask p few small bits passes = (
@@ -257,6 +269,7 @@ mask_more n mask p few small bits passes = (
   ],
 )
 
+-- one more number, which does not
 pub mask_kept : (n mask : ℕ) (p : ℕ → Bool) → mask < 2 ^ n → AreBits n p mask → p n ≡ false
     → (mask < 2 ^ (n + 1)) × AreBits (n + 1) p mask
 mask_kept n mask p small bits fails = (

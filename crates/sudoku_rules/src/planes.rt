@@ -148,7 +148,7 @@ impl Levels {
             two: 0,
             three: 0,
         };
-        for (count, &plane) in planes.iter().enumerate() {
+        for &plane in planes {
             levels = levels.with(plane);
         }
         levels
@@ -173,7 +173,7 @@ pub fn all_levels<const SIDE: usize>(planes: &[u128; SIDE]) -> [u128; SIDE]
     ensures { (n k : ℕ) → n < SIDE → has (slice_index result n) k ≡ nat_lt n (many planes.now SIDE k) }
 {
     let mut levels = [0; SIDE];
-    for (count, &plane) in planes.iter().enumerate() {
+    for &plane in planes {
         add_plane(&mut levels, plane);
     }
     levels

@@ -48,7 +48,8 @@ pub record IsLeft {S C : ℕ} (before after : Board S C) (cell : ℕ) : Type 0 w
 
 -- at each of these cells one digit at most can stand
 abbrev pub AreSingle : ℕ → List ℕ → Type 0
-AreSingle cells options = (k x y : ℕ) → has cells k ≡ true → has (slice_index options x) k ≡ true → has (slice_index options y) k ≡ true → x ≡ y
+AreSingle cells options =
+    (k x y : ℕ) → has cells k ≡ true → has (slice_index options x) k ≡ true → has (slice_index options y) k ≡ true → x ≡ y
 
 -- how many cells are blank
 abbrev pub blanks : Cells → ℕ

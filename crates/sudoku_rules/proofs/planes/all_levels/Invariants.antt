@@ -2,5 +2,5 @@ use Rattle.std.proofs.Common.{◌≡◌, ◌<◌, ℕ, get_or, ltb}
 use Rattle.sudoku_rules.specs.Inside.Planes.{has, many}
 use Rattle.sudoku_rules.proofs.planes.all_levels.Given as goal
 
-abbrev pub invariant-loop-count : goal.invariant-loop-count
-invariant-loop-count g l = (n k : ℕ) → n < g.row.SIDE → has (get_or l.levels n 0) k ≡ ltb n (many l.planes l.count k)
+abbrev pub invariant-loop-plane : goal.invariant-loop-plane
+invariant-loop-plane g l = (n k : ℕ) → n < g.row.SIDE → has (get_or l.levels n 0) k ≡ ltb n (many l.planes l.plane-index k)

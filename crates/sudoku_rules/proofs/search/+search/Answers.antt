@@ -66,7 +66,8 @@ keep_child-requires g t c =
     let step = c.take_lowest-x.ensures.rest (side m) (λ d. can m h c.in-Some.choice.cell d) c.loop-left.invariant.from digits
     c.loop-left.invariant.rest in
     let few : x < side m = step.0.few in
-    let grid : IsGrid m (set h c.in-Some.choice.cell (x + 1)) = set_grid m h c.in-Some.choice.cell (x + 1) c.requires.board.grid (omega arith) in
+    let grid : IsGrid m (set h c.in-Some.choice.cell (x + 1)) =
+    set_grid m h c.in-Some.choice.cell (x + 1) c.requires.board.grid (omega arith) in
     grid_sudoku m c.requires.sized.low c.requires.sized.high c.with_digit.result
     (subst (λ (cs : Cells). IsGrid m cs) (sym c.with_digit.ensures) grid)
 
