@@ -66,7 +66,7 @@ where
     }
 }
 
-// So many of this program.
+// A copy of this program for each rank.
 fn copies<P: Copy + Drop>(alloc: Global, ranks: u32, program: P) -> Result<Vec<P>, NoMemory>
     ensures len { IfOk result (λ programs. vec_len programs ≡ ranks) }
     ensures each { IfOk result (λ programs. All (λ p. p ≡ program) programs.items) }

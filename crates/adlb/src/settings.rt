@@ -14,7 +14,7 @@ pub struct Settings {
 }
 
 impl Settings {
-    /// So many ranks and servers, and a limit of `2^26` bytes.
+    /// These numbers of ranks and servers, and a limit of `2^26` bytes.
     pub fn new(ranks: u32, servers: u32) -> Settings
         ensures ranks { result.ranks ≡ ranks }
         ensures servers { result.servers ≡ servers }

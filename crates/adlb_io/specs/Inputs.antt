@@ -10,7 +10,7 @@ IsAtEnd (Some bytes) = bytes ≡ []
 abbrev pub HasMore : ℕ → Option (List ℕ) → Type 0
 HasMore limit left = (bytes : List ℕ) → left ≡ Some bytes → limit < length bytes
 
--- what is told of a source and a sink: what is left and what was taken, their counts of faults, and that all is flushed
+-- what is seen of a source and a sink: what is left and what was taken, their counts of faults, and that all is flushed
 pub record Seen : Type 0 where
   pub left : Option (List ℕ)
   pub reads : ℕ

@@ -22,7 +22,7 @@ pub trait Gate {
     /// Returns when the rank may go on.
     fn pass(&self, rank: Rank, point: GatePoint);
 
-    /// The same gate, for another rank. Its only error is `NoMemory`.
+    /// A gate like this one, for another rank. Its only error is `NoMemory`.
     fn twin(&self) -> Result<Self, NoMemory>;
 }
 

@@ -20,7 +20,7 @@ begun old new common reply made is = subst (λ (r : Reply). Made old new (BeginB
 module _ {S T : Type 0} (link : S → LinkModel) (inside : S → Result T Trouble → S → Type 0) (common : List ℕ) (old a b : S)
     (stays : (a b : S) (r : Result T Trouble) → Begins common (link old) (link a) → inside a r b → Stays (link a) (link b) r)
     (closed : (link old).batch ≡ false) (begins : Begins common (link old) (link a)) where
-  -- behind what was done the batch can be ended
+  -- after what was done the batch can be ended
   pub can_end : (done : T) → inside a (Ok done) b → Can (link b) EndBatch
   can_end done post =
       let s = stays a b (Ok done) begins post in

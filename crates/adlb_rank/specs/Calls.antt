@@ -42,7 +42,8 @@ HasTaken call old new (Err trouble) =
     ⊎ ((mid : LinkModel) × (note : UnitNote) × Made old mid call (Ok (answers.Granted note))
     × Made mid new (calls_to.Fetch note.id) (Err trouble))
 
--- by its transcript alone: a unit was granted, and fetched with as many bytes as its note says; or an end was told, or that there is none now
+-- by its transcript alone: a unit was granted, and fetched with as many bytes as its note says; or an end was told, or that there is no
+-- unit now
 abbrev pub Takes : Call → List Said → List Said → Taken → Type 0
 Takes call before after (takes.Unit note body) =
     (after ≡ (before ++ said_of call (answers.Granted note) ∷ []) ++ said_of (calls_to.Fetch note.id) (answers.Body body) ∷ [])

@@ -32,7 +32,7 @@ pub trait Rank {
         ensures longer { OnOk result (length (link self.old).said < length (link self.new).said) }
         ensures stays { Stays (link self.old) (link self.new) result };
 
-    /// Waits for a unit of these types and fetches it, or is told an end. It is never told that there is none now.
+    /// Waits for a unit of these types and fetches it, or is told an end. It is never told that there is no unit now.
     fn take(&mut self, types: &Types) -> Result<Taken, Trouble>
         requires running { has_finished (link self.old).said ≡ false }
         ensures made { HasTaken (Call.Reserve types.now) (link self.old) (link self.new) result }

@@ -17,7 +17,7 @@ pub enum Reply {
 /// What taking a unit comes to.
 #[derive(Drop)]
 pub enum Taken {
-    /// A unit, and its bytes behind those of its common part.
+    /// A unit, and its bytes after those of its common part.
     Unit(UnitNote, Body),
     /// No server has a unit for this rank now. It comes of `try_take` alone.
     NoneNow,

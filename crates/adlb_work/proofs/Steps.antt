@@ -98,7 +98,7 @@ pub last_worth : (f : List ℕ → ℕ) (all others : List (List ℕ)) (unit : L
     → sum_by f all ≡ sum_by f others + f unit
 last_worth f all others unit is = ap (λ l. sum_by f l) is ∙ sum_by_push f others unit
 
--- A transcript with one call more, and what stands behind it.
+-- A transcript with one call more, and what follows it.
 
 module _ (w : List ℕ → List ℕ → ℕ) (begin ranks : ℕ) where
   orderly_more : (said : List Said) (s : Said) (rest : List Said) → IsOrderly ranks None None (said ++ s ∷ rest)
@@ -115,7 +115,7 @@ module _ (w : List ℕ → List ℕ → ℕ) (begin ranks : ℕ) where
   few_more : (said : List Said) (s : Said) (total : ℕ) → total ≤ most said → total + 2 ^ 64 ≤ most (said ++ s ∷ [])
   few_more said s total few = let one = length_push said s in omega (arith, one)
 
-  -- A call in this batch, behind which that one goes on, and by which units of so much worth are sent and none is got; then what waits
+  -- A call in this batch, after which that one goes on, and by which units of so much worth are sent and none is got; then what waits
   -- counts as it is worked.
   step : (batch then : Option (List ℕ)) (said now : List Said) (s : Said) (sends total waiting after more : ℕ) → now ≡ said ++ s ∷ []
       → ((rest : List Said) → IsOrderly ranks None then rest → IsOrderly ranks None batch (s ∷ rest))

@@ -178,7 +178,7 @@ whole_is w whole config ledger last outcomes some long all balanced =
     let first : over_ranks n b ≡ whole = over_first n whole some in
     omega (arith, flow, through, taken, first, ap (λ l. sum_by (λ (x : ℕ). x) l) entire)
 
--- The same, over the law of what every run of orderly ranks conserves.
+-- What all ranks counted, over the law of what every run of orderly ranks conserves.
 pub joined : ((config : Config) (ledger : List Entry) (last : Bag) → 0 < config.ranks → IsRun (start config) ledger last →
     AreOrderly config ledger → IsBalanced config ledger last) →
     (w : List ℕ → List ℕ → ℕ) (whole : ℕ) (config : Config) (ledger : List Entry) (last : Bag) (outcomes : List ℕ) →

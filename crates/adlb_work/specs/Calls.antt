@@ -18,7 +18,7 @@ put_of kind prio target body = Put kind prio target None body
 abbrev pub grant : UnitNote → Said
 grant note = said_of (Reserve None) (Granted note)
 
--- a rank of so many that can put and reserve
+-- a rank below this number that can put and reserve
 pub record IsFree (ranks : ℕ) (m : LinkModel) : Type 0 where
   pub running : has_finished m.said ≡ false
   pub seat : m.seat.ranks ≡ ranks

@@ -40,8 +40,8 @@ begins whole rank = cond (rank.0 == 0) whole 0
 abbrev pub most : List Said → ℕ
 most said = 2 ^ 64 * length said
 
--- A rank of so many between its calls, in the batch of these common bytes or in none: it is orderly so far, and what it gathered, has
--- waiting and sent is worth what it began with and got.
+-- A rank below this number, between its calls, in the batch of these common bytes or in none: it is orderly so far, and what it
+-- gathered, has waiting and sent is worth what it began with and got.
 pub record IsGoing (w : List ℕ → List ℕ → ℕ) (begin ranks : ℕ) (batch : Option (List ℕ)) (said : List Said) (total waiting : ℕ) : Type 0 where
   pub orderly : (rest : List Said) → IsOrderly ranks None batch rest → IsOrderly ranks None None (said ++ rest)
   pub kept : (rest : List Said) → total + waiting + sent_worth w None (said ++ rest) + got_worth w rest

@@ -50,7 +50,7 @@ pub trait Batch {
         0
     }
 
-    /// For which of so many ranks a unit is.
+    /// For which rank a unit is, of this number of ranks.
     fn target(&self, unit: &[u8], ranks: u32) -> Target
         requires some { 0 < ranks }
         ensures aims { Aims result ranks }

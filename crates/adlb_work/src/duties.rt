@@ -61,7 +61,7 @@ pub trait Duty {
             sees got.old eye + worth self.now eye common.now unit.now + sum_by (worth self.now eye []) out.old) }
         ensures few { OnOk result ((eye : Eye) → sees got.new eye ≤ sees got.old eye + 2 ^ 64) };
 
-    /// How a unit is put, where there are so many ranks.
+    /// How a unit is put, with this number of ranks.
     fn aim(&self, unit: &[u8], ranks: u32) -> Aim
         requires some { 0 < ranks }
         ensures aims { Aims result.target ranks };

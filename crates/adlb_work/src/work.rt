@@ -36,7 +36,7 @@ pub trait Work {
         0
     }
 
-    /// For which of so many ranks a unit is.
+    /// For which rank a unit is, of this number of ranks.
     fn target(&self, unit: &[u8], ranks: u32) -> Target
         requires some { 0 < ranks }
         ensures aims { Aims result ranks }

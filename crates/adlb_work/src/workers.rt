@@ -16,7 +16,7 @@ use rank_client::{Adlb, RankProgram};
 use std::alloc::Global;
 use std::mem;
 
-/// The program of a rank of so many that works units until there are none. The first rank puts the first units.
+/// The program of a rank below this number, which works units until there are no more. The first rank puts the first units.
 #[derive(Clone, Copy)]
 pub struct Worker<D> {
     pub alloc: Global,

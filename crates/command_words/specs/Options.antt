@@ -1,4 +1,4 @@
--- What `clap` is told of each command.
+-- What `clap` is told about each command.
 use Rattle.std.specs.Prelude.{ℕ, Some, codes, true}
 use Rattle.clap.specs.Words.{App, Rule, Text, new_app, new_rule, with_rule}
 use Rattle.clap.specs.declared.builder.ArgAction.TheVariants.{Set, SetTrue}

@@ -1,8 +1,8 @@
 //! The words of a command line, read by `clap`.
 //!
-//! The first word is the command, and `clap` reads the words after it as one simple command. It stands on
-//! `adlb_unit`. `specs/Ranges.antt` is the table of the numbers, `specs/Options.antt` says what `clap` is told of each
-//! command, and `specs/Said.antt` which lists of words are accepted and what they say.
+//! The first word is the command, and `clap` reads the words after it as one simple command. It stands on `adlb_unit`.
+//! `specs/Ranges.antt` is the table of the numbers, `specs/Options.antt` says what `clap` is told about each command,
+//! and `specs/Said.antt` which lists of words are accepted and what they say.
 #![tactic(auto)]
 
 mod commands;

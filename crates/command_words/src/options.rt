@@ -1,4 +1,4 @@
-//! What `clap` is told of each command.
+//! What `clap` is told about each command.
 
 ghost use Rattle.std.specs.Prelude.{◌≡◌, IfOk, false};
 ghost use Rattle.clap.specs.Words.{app_of, rule_of, with_rule};

@@ -12,7 +12,7 @@ is_safe [] column = true
 is_safe (queen ∷ board) column =
     not (apart queen column == 0) && (not (apart queen column == length board + 1) && is_safe board column)
 
--- how many boards of this side extend the board by so many rows
+-- how many boards of this side extend the board by this number of rows
 unfoldable pub extensions : ℕ → ℕ → List ℕ → ℕ
 extensions zero side board = 1
 extensions (suc rows) side board =

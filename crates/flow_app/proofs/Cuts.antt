@@ -8,7 +8,7 @@ use Rattle.std.proofs.lemmas.List.Quantifiers.{position-Some}
 use Rattle.std.proofs.lemmas.List.Splits.{slice_split_first, slice_split_none}
 use Rattle.std.proofs.lemmas.List.Sums.{position_or_len_is, prefix_len-le-length, fails_before_first}
 
--- the place of the first element that passes, and that there is none
+-- the place of the first element that passes, and that there is no such element
 pub place_is : {X : Type 0} (p : X → Bool) (xs : List X) (d : X) (i : ℕ) → position p xs ≡ Some i → position_or_len p xs ≡ i
 place_is p xs d i e = let s = position-Some p xs i d e in position_or_len_is p xs i d (omega arith) s.2 (λ lt. s.1)
 

@@ -30,7 +30,7 @@ let_stored flow values k name v h at inside = record {
       get_or-set_other values k i (Some v) None other ∙ h.fresh i n w (omega (arith, above)) there;
 }
 
--- a rule is none
+-- a rule is no `let`
 pub rule_passed : (flow : List Definition) (values : List (Option ℕ)) (k : ℕ) (name : Name) (op : Op) (left right : Name) →
     HasLetsTo flow values k → slice_get flow k ≡ Some (Rule name op left right) → HasLetsTo flow values (k + 1)
 rule_passed flow values k name op left right h at = record {

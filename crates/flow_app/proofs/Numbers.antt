@@ -12,7 +12,7 @@ use Rattle.flow_app.specs.Kinds.{number_in}
 pub is_text : (w : List ℕ) (n : ℕ) → n < 2 ^ 64 → w ≡ decimal n → IsUtf8 w
 is_text w n lt e = subst IsUtf8 (sym e) (IsUtf8-from_ascii (decimal n) (IsAscii-decimal n lt))
 
--- the word is a number, or it is none
+-- the word is a number, or it is not
 pub number_is : (w : List ℕ) (n : ℕ) → n < 2 ^ 64 → w ≡ decimal n → number_in w ≡ Some n
 unfolding number_in
 number_is w n lt e =

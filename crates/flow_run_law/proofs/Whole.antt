@@ -274,7 +274,7 @@ module _ (F : Forms) (is : IsWork (flows (untargeted F))) (flow : Option (List D
               omega (arith, h, z)
               )
 
-  -- the move behind a fetch
+  -- the move after a fetch
   record Fetches (d : Desk) (s : Said) (next : Desk) (u : FlowUnit) : Type 0 where
     next_is : next ≡ brought flow (Some u) (record d { held = None })
 

@@ -1,4 +1,4 @@
--- What is told of an input that was read from a source, and why nothing is.
+-- What is written of an input that was read from a source, and why nothing is.
 use Rattle.std.proofs.Common.{◌≡◌, ℕ, ◌+◌, ◌<◌, ◌≤◌, Bool, true, false, List, [], length, take, drop, ltb, Option, Some, None}
 use Rattle.std.proofs.Common.{Result, Ok, Err, refl, sym, ap, ◌∙◌, subst, arith}
 use Rattle.std.specs.Prelude.{IfErr}
@@ -24,7 +24,7 @@ module _ (before after : Option (List ℕ)) (read : List ℕ) (reads : Reads bef
   read_told short config ledger is = λ all told. let same_bytes = whole all short told in
       (omega (arith, short, ap length same_bytes), subst (λ l. IsText config ledger l) same_bytes is)
 
-  -- why nothing is told of the bytes is why nothing is of the input
+  -- why nothing is written of the bytes is why nothing is of the input
   pub read_refuses : length read ≤ input_limit → (faults now : ℕ) → now ≡ faults → (fault : CheckFault) → RefusesText read fault
       → Refuses before after faults now fault
   read_refuses short faults now same (Entry line) is = (
@@ -38,7 +38,7 @@ module _ (before after : Option (List ℕ)) (read : List ℕ) (reads : Reads bef
   read_refuses short faults now same Read is = absurd is
   read_refuses short faults now same Write is = absurd is
 
--- why the text was not read is why nothing is told of it
+-- why the text was not read is why nothing is written of it
 pub text_refused : {X : Type 0} (bytes : List ℕ) (r : Result X LedgerFault) (met : LedgerFault)
     → ((line : ℕ) → r ≡ Err (refusals.Refused line) → IsFirstBad bytes line) → r ≡ Err met → RefusesText bytes (fault_in met)
 text_refused bytes r (refusals.Refused line) refused is = refused line is

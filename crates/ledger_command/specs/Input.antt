@@ -1,4 +1,4 @@
--- What is told of an input, and why it is refused.
+-- What is written of an input, and why it is refused.
 use Rattle.std.specs.Prelude.{◌≡◌, ◌≤◌, ◌^◌, ℕ, List, length, Option, Some}
 use Rattle.adlb_io.specs.Inputs.{HasMore}
 use Rattle.adlb_unit.specs.declared.configs.Config.{Config}

@@ -10,13 +10,13 @@ use Rattle.ledger_command.specs.declared.verdicts.Verdict.{Verdict}
 use Rattle.ledger_command.specs.Input.{IsRefusedAt, IsTooLong, input_limit}
 use Rattle.ledger_command.specs.Verdicts.{line_of}
 
--- why nothing is told of these bytes
+-- why nothing is written of these bytes
 abbrev pub RefusesText : List ℕ → CheckFault → Type 0
 RefusesText bytes (faults.Entry line) = IsFirstBad bytes line
 RefusesText bytes faults.Memory = Unit {0}
 RefusesText bytes fault = ⊥
 
--- why nothing is told of an input, with what its source has left and the counts of its faults, before and after
+-- why nothing is written of an input, with what its source has left and the counts of its faults, before and after
 abbrev pub Refuses : Option (List ℕ) → Option (List ℕ) → ℕ → ℕ → CheckFault → Type 0
 Refuses left left' reads reads' (faults.Entry line) = IsRefusedAt left line × IsAtEnd left' × (reads' ≡ reads)
 Refuses left left' reads reads' (faults.TooLarge taken) =

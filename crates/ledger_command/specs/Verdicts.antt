@@ -1,4 +1,4 @@
--- What is told of a ledger, and its line.
+-- What is written of a ledger, and its line.
 use Rattle.std.specs.Prelude.{◌≡◌, ℕ, List, [], ◌∷◌, ◌++◌, length, Option, Some, None, codes, decimal}
 use Rattle.adlb_unit.specs.declared.configs.Config.{Config}
 use Rattle.bag_ledger.specs.declared.entries.Entry.{Entry}
@@ -8,7 +8,7 @@ use Rattle.ledger_command.specs.declared.verdicts.Verdict.{Verdict}
 use Rattle.ledger_rules.specs.declared.complaints.Complaint.{Complaint}
 use Rattle.ledger_command.specs.declared.verdicts.Verdict.TheVariants.{Legal, Illegal}
 
--- the ledger is a legal run of this many entries; or the entries before this place are steps, and the one at it is none
+-- the ledger is a legal run of this many entries; or the entries before this place are steps, and the one at it is not
 abbrev pub IsVerdict : Config → List Entry → Verdict → Type 0
 IsVerdict config ledger (Legal entries) = IsLegal config ledger × (entries ≡ length ledger)
 IsVerdict config ledger (Illegal place) = IsFirstIllegal (start config) ledger place

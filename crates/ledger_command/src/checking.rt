@@ -19,9 +19,9 @@ use ledger_file::text_laws;
 use ledger_rules::Complaint;
 use std::alloc::Global;
 
-/// Reads the input, which is to be the text of a configuration and a ledger, and writes what is told of the ledger: a
-/// line with `legal` and the number of its entries if it is a legal run, and otherwise with `illegal` and the place of
-/// the first entry that is no step, from 0. It takes at most 2^26 + 1 bytes of the input.
+/// Reads the input, which is to be the text of a configuration and a ledger, and writes a line of it. That has `legal`
+/// and the number of its entries if it is a legal run, and otherwise `illegal` and the place of the first entry that is
+/// no step, from 0. It takes at most 2^26 + 1 bytes of the input.
 ///
 /// `ChecksTo` says of each end what was read and written and why it came. `Ok`: the input was read to its end, and the
 /// sink took exactly the line of the verdict, and flushed. `Entry`: no configuration and ledger have this text
@@ -70,7 +70,7 @@ pub fn check_ledger<S: Source, K: Sink>(
     check(alloc, input, output, complaint)
 }
 
-// Reads the input, and writes what is told of its ledger.
+// Reads the input, and writes the line of its ledger.
 fn check<S: Source, K: Sink>(
     alloc: Global,
     input: &mut S,

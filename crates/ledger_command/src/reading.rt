@@ -46,7 +46,7 @@ fn text_of(alloc: Global, bytes: &[u8]) -> Result<(Config, Ledger), CheckFault>
     Ok((config, ledger))
 }
 
-/// What is told of the ledger whose text the input is, and in `complaint` what is wrong with it, if anything is (`Suits`). Its errors
+/// The verdict on the ledger whose text the input is, and in `complaint` what is wrong with it, if anything is (`Suits`). Its errors
 /// are those of `read_text`.
 pub fn read_verdict<S: Source>(
     alloc: Global,

@@ -1,4 +1,4 @@
-//! What is told of a ledger.
+//! The verdict on a ledger.
 
 ghost use Rattle.std.specs.Prelude.{◌≡◌, ◌++◌, ◌↔◌, List, IfOk, IfSome, None, OnOk};
 ghost use Rattle.adlb_unit.specs.declared.configs.Config.{Config};
@@ -14,7 +14,7 @@ use ledger_rules::Complaint;
 use packed_ledger::Ledger;
 use std::alloc::Global;
 
-/// What is told of a ledger.
+/// The verdict on a ledger.
 #[derive(Clone, Copy, Debug, PartialEq, Eq)]
 pub enum Verdict {
     /// It is a legal run of this many entries.
@@ -24,7 +24,7 @@ pub enum Verdict {
 }
 
 impl Verdict {
-    /// What is told of this ledger (`IsVerdict`), of which this is wrong.
+    /// The verdict on this ledger (`IsVerdict`), of which this is wrong.
     pub(crate) fn of(config: &Config, ledger: &Ledger, complaint: &Option<Complaint>) -> Verdict
         requires none { (complaint.now ≡ None) ↔ IsLegal config.now ledger.now }
         requires least { IfSome complaint.now (λ c. IsFirstIllegal (start config.now) ledger.now c.place) }

@@ -1,4 +1,4 @@
--- What the text of a picture tells of its numbers.
+-- What the text of a picture says of its numbers.
 use Rattle.std.specs.Prelude.{◌≡◌, ◌+◌, ◌*◌, ℕ, zero, suc, List, [], ◌∷◌, ◌++◌, Option, Some, None, codes, decimal}
 use Rattle.ledger_picture.specs.declared.numbers.Numbers.{Numbers}
 

@@ -21,7 +21,7 @@ pub(crate) fn keeper_of(entry: &Entry) -> Option<Server> {
     }
 }
 
-/// How many units are free at that server after the entry, if so many were before.
+/// How many units are free at that server after the entry, from how many were before.
 pub(crate) fn free_after(free: u64, entry: &Entry) -> u64 {
     match entry {
         Entry::Accepted { .. } => free.saturating_add(1),

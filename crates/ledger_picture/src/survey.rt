@@ -19,7 +19,7 @@ pub(crate) struct Survey {
 }
 
 impl Survey {
-    /// Nothing is known of a ledger with so many servers. Its only error is `NoMemory`.
+    /// Nothing is known of a ledger with this number of servers. Its only error is `NoMemory`.
     pub fn new(alloc: Global, servers: u32) -> Result<Survey, NoMemory> {
         let mut now = Vec::new(alloc);
         for _ in 0..servers {

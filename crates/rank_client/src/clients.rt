@@ -147,7 +147,7 @@ pub(crate) fn write(sent: &mut Vec<u64>, stamp: u64, to: Server, message: Messag
     }
 }
 
-// The server that is so many places behind this one in ring order.
+// The server that is this number of places after this one in ring order.
 pub(crate) fn behind(config: &Config, server: Server, places: u64) -> Server
     requires server { server.0 < config.now.servers }
     requires places { places < stamp_limit }

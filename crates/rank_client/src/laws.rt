@@ -26,7 +26,7 @@ pub fn client_laws()
     ensures grants_come_first { GrantsComeFirst }
 {}
 
-/// What each step of a rank makes of its transcript, with any number of servers: it tells of the call that is begun or pending, and
+/// What each step of a rank makes of its transcript, with any number of servers: it is about the call that is begun or pending, and
 /// adds it with its answer once it has one, which is what such a call can be answered. And the rank is ready for each call that it
 /// can make (`StepsTell`).
 pub fn says_laws()

@@ -36,9 +36,9 @@ pub trait Adlb {
         requires can { Can (link self.old) (Call.Reserve types.now) }
         ensures made { Made (link self.old) (link self.new) (Call.Reserve types.now) (reserve_came result) };
 
-    /// Asks the rank's home for a free unit of these types, and then the other servers in ring order, and waits for none: it
-    /// answers `NoCurrentWork` only after each server found none in this call. A unit is granted once. After an end was told it
-    /// gives that end again.
+    /// Asks the rank's home for a free unit of these types, and then the other servers in ring order, and does not wait for a
+    /// unit. It answers `NoCurrentWork` only after each server found none in this call. A unit is granted once. After an end
+    /// was told it gives that end again.
     fn ireserve(&mut self, types: &Types) -> Result<Handle, TryFault>
         requires can { Can (link self.old) (Call.Try types.now) }
         ensures made { Made (link self.old) (link self.new) (Call.Try types.now) (try_came result) };
@@ -92,7 +92,7 @@ pub trait Adlb {
         requires can { Can (link self.old) Call.SetDone }
         ensures made { Made (link self.old) (link self.new) Call.SetDone (done_came result) };
 
-    /// Leaves the run, while no batch is going on. Behind it no call can be made.
+    /// Leaves the run, while no batch is going on. After it no call can be made.
     fn finish(&mut self) -> Result<(), Trouble>
         requires can { Can (link self.old) Call.Finish }
         ensures made { Made (link self.old) (link self.new) Call.Finish (done_came result) };

@@ -3,7 +3,7 @@
 use adlb_unit::{CommonRef, Payload, Server, Types, Unit, UnitNote, WorkType};
 
 /// The pending call. Of one that goes to one server after the other, `tried` servers, from `first` on in ring order, have refused it,
-/// found nothing or heard it, and the next is being asked. A try goes so from the home on, and so does that the problem is done.
+/// found nothing or heard it. The next is being asked. A try goes so from the home on, and so does that the problem is done.
 #[derive(Drop)]
 pub enum Pending {
     /// No call is pending.

@@ -9,15 +9,15 @@ ghost use Rattle.rank_client.specs.Calls.{has_finished, unanswered};
 use crate::links::Adlb;
 use adlb_unit::{Rank, Trouble};
 
-/// What a rank does in a run: it makes calls, and has an outcome at the end. What a program claims of them stands in three members. Each
-/// has a default that always holds, so a program that claims nothing writes none of them.
+/// What a rank does in a run: it makes calls, and has an outcome at the end. What a program claims of them is in three members. Each has
+/// a default that always holds, so a program that claims nothing leaves them out.
 pub trait RankProgram {
     type Outcome;
 
     // The program fits this number of ranks.
     ghost fits: { Self → ℕ → Type 0 } = { λ p ranks. Unit {0} };
 
-    // What the transcript of this rank can be while the program runs, and which call it can have begun behind it that is not
+    // What the transcript of this rank can be while the program runs, and which call it can have begun after it that is not
     // answered, if there is one.
     ghost so_far: { Self → Rank → List Said → Option Call → Type 0 } = { λ p rank said begun. Unit {0} };
 

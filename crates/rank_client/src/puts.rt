@@ -46,7 +46,7 @@ pub(crate) fn put_call(unit: Unit) -> Call
     }
 }
 
-// What it takes to offer these bytes to so many servers.
+// What it takes to offer these bytes to this number of servers.
 fn offers(alloc: Global, body: &Payload, servers: usize) -> Result<Vec<Offer>, NoMemory>
     ensures all { IfOk result (λ v. All (λ b. b ≡ body.now) v.items) }
     ensures len { IfOk result (λ v. vec_len v ≡ servers) }
@@ -111,7 +111,7 @@ impl ClientCore {
         })
     }
 
-    // Room to offer these bytes to the servers behind the first one, and to reject them.
+    // Room to offer these bytes to the servers after the first one, and to reject them.
     pub(crate) fn offer_room(&self, body: &Payload) -> Result<Room, NoMemory>
         ensures tries { IfOk result (λ r. vec_len r.tries + 1 ≡ self.now.config.servers) }
         ensures bodies { IfOk result (λ r. All (λ b. b ≡ body.now) r.tries.items) }

@@ -125,7 +125,8 @@ impl Errand {
         }
     }
 
-    // The server that is being asked has refused, found nothing or heard it: the next one is asked, and the call ends if there is none.
+    // The server that is being asked has refused, found nothing or heard it: the next one is asked, and the call ends if there is no
+    // further one.
     pub(crate) fn offer_next(self, place: &Place, round: Round, room: &mut Room) -> Outcome
         requires round { Starts place.now round self }
         requires room { HasRoom place.now.config room.old (pending_at round self) }

@@ -75,7 +75,7 @@ is_asked_next = refl
 is_idle_then : after_none asked_two (rank 0) None ≡ with (waits (wish 0 7) None [] ∷ [])
 is_idle_then = refl
 
--- what the server of rank 4 asks first is the one behind it
+-- the server of rank 4 asks the next one first
 from_one : others three (server 1) ≡ server 2 ∷ server 0 ∷ []
 from_one = refl
 

@@ -26,7 +26,7 @@ module _ {X : Type 0} (xs : List X) (i n : ℕ) (x : X) (at : slice_get xs i ≡
   moved_is : move_index xs i n ≡ insert (remove xs i) n x
   moved_is = rw at refl
 
-  -- from behind a front to its end
+  -- from after a front to its end
   pub front_more : n ≤ i → take (n + 1) (move_index xs i n) ≡ take n xs ++ x ∷ []
   front_more behind =
       let within : i < length xs = slice_get_within xs i x at in
@@ -43,7 +43,7 @@ module _ {X : Type 0} (xs : List X) (i n : ℕ) (x : X) (at : slice_get xs i ≡
       ∙ take-append-le (n + 1) (take n rest ++ x ∷ []) (drop n rest) (omega (arith, size))
       ∙ take_all (n + 1) (take n rest ++ x ∷ []) (omega (arith, size)) ∙ ap (λ l. l ++ x ∷ []) same
 
-  -- from within a front to behind it
+  -- from within a front to after it
   pub front_less : i ≤ n → n < length xs → take n (move_index xs i n) ≡ remove (take (n + 1) xs) i
   front_less before room =
       let within : i < length xs = slice_get_within xs i x at in
@@ -173,7 +173,7 @@ parks es new i n w behind within is =
     take-map second (n + 1) new ∙ ap (λ l. map second l) more ∙ map-append second (take n written) ((at.0, w) ∷ [])
     ∙ ap (λ l. l ++ w ∷ []) front
 
--- the entry at i is moved behind a front that is shorter by one
+-- the entry at i is moved after a front that is shorter by one
 pub leaves : (es new : Entries) (i n : ℕ) (e : ℕ × Waiting) → slice_get es i ≡ Some e → i ≤ n → n < length es
     → new ≡ move_index es i n → take n (values_of new) ≡ remove (take (n + 1) (values_of es)) i
 leaves es new i n e at before room is =
@@ -181,7 +181,7 @@ leaves es new i n e at before room is =
     take-map second n new ∙ ap (λ l. map second (take n l)) is ∙ ap (λ l. map second l) (front_less es i n e at before room)
     ∙ map_removed second (take (n + 1) es) i ∙ ap (λ l. remove l i) (sym (take-map second (n + 1) es))
 
--- who does not wait stands behind the front
+-- who does not wait follows the front
 pub is_behind : (rank : Rank) (xs : List Waiting) (i n : ℕ) (d : Waiting) → n ≤ length xs → (get_or xs i d).wish.rank.0 ≡ rank.0
     → list_any (is_of rank) (take n xs) ≡ false → n ≤ i
 is_behind rank xs i n d room is none = by_order (cases_lt i n)

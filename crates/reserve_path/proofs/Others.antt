@@ -10,7 +10,7 @@ use Rattle.adlb_unit.specs.declared.configs.Config.{Config}
 use Rattle.adlb_unit.specs.declared.names.Server.{Server}
 use Rattle.reserve_path.specs.Parked.{IsOther}
 
--- a server that is less than a whole turn behind this one is another
+-- a server that is less than a whole turn after this one is another
 other_behind : (config : Config) (me : Server) (places : ℕ) → me.0 < config.servers → 1 ≤ places → places < config.servers
     → IsOther config me (behind config me places)
 other_behind config me places there some less = by_order (cases_lt (me.0 + places) config.servers)
@@ -38,7 +38,7 @@ others_from config me from (suc n) there some less =
 pub all_others : (config : Config) (me : Server) → me.0 < config.servers → All (IsOther config me) (others config me)
 all_others config me there = others_from config me 1 (config.servers - 1) there (omega arith) (omega arith)
 
--- there are none exactly if there is one server
+-- there are no others exactly if there is one server
 pub none_others : (config : Config) (me : Server) → others config me ≡ [] → config.servers ≡ 1
 none_others config me none =
     let long : length (others config me) ≡ 0 = ap (λ (l : List Server). length l) none in

@@ -34,7 +34,7 @@ pub none_granted : (me : Server) (o : Option Placed) → None ≡ option_map (λ
 none_granted me None is = refl
 none_granted me (Some p) is = absurd (cc (is))
 
--- The rank that was found at a place is the one that is told of.
+-- The rank that was found at a place is the one that is named.
 
 pub one_now : (m : ParkedModel) (rank : Rank) (n : ℕ) (read e : Waiting) → position (is_of rank) m.parked.waiting ≡ Some n
     → slice_get m.parked.waiting n ≡ Some read → entry_of m rank ≡ Some e → read ≡ e
@@ -42,7 +42,7 @@ one_now m rank n read e there is found =
     sym (get_or_from_slice_get m.parked.waiting n read read is)
     ∙ some_same (get_or m.parked.waiting n read) e (sym (found_at (is_of rank) m.parked.waiting n read there) ∙ found)
 
--- so what was granted is what is told of it
+-- so what was granted is what is said of it
 pub note_now : (i m : ParkedModel) → i ≡ m → (q : Queue) (rank : Rank) (read e : Waiting) → read ≡ e → (given : Option UnitNote)
     → given ≡ option_map (λ p. note_of i.me p.unit) (best_for q rank read.wish.types)
     → given ≡ option_map (λ p. note_of m.me p.unit) (best_for q rank e.wish.types)

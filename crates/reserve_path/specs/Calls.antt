@@ -121,7 +121,7 @@ taker kind target waiting = or_else (find (takes_first kind target) waiting) (fi
 abbrev pub taker_of : Work → ParkedModel → Option Waiting
 taker_of unit m = taker unit.kind unit.target m.parked.waiting
 
--- a rank with its request, and with what it is told of the unit
+-- a rank with its request, and with the note of the unit
 abbrev pub call_of : Wish → Rank × ℕ
 call_of w = (w.rank, w.request)
 
@@ -169,7 +169,7 @@ abbrev pub forgotten_if : ParkedModel → Option Wish → ParkedModel
 forgotten_if m None = m
 forgotten_if m (Some w) = forgotten m w.rank
 
--- What is told of a rank that waits: its request, and the server that is unanswered; and what it wants.
+-- What is said of a rank that waits: its request, and the server that is unanswered; and what it wants.
 abbrev pub request_of : Waiting → ℕ × Option Server
 request_of e = (e.wish.request, e.asked)
 

@@ -10,7 +10,7 @@ use Rattle.work_queue.specs.Best.{best_of}
 use Rattle.work_queue.specs.Queue.{Queue, id_of, is_unit, with_pin}
 use Rattle.work_queue.specs.declared.placing.Placed.{Placed}
 
--- what a rank is told of a unit at this server
+-- the note of a unit at this server
 abbrev pub note_of : Server → Work → UnitNote
 note_of server u = record {
   id = u.id;

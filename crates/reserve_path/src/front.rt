@@ -55,7 +55,7 @@ impl Front {
         &self.by_rank.values().as_slice()[..self.count]
     }
 
-    /// This rank waits from now on, behind the others.
+    /// This rank waits from now on, after the others.
     pub fn park(&mut self, waits: Waiting)
         requires there { waits.wish.rank.0 < self.old.ranks }
         requires new { list_any (is_of waits.wish.rank) self.old.waiting ≡ false }

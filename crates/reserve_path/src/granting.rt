@@ -10,7 +10,7 @@ ghost use Rattle.reserve_path.specs.Grants.{best_for, note_of, with_grant};
 use adlb_unit::{Rank, Server, Types, UnitNote};
 use work_queue::{UnitFacts, WorkQueue};
 
-// What a rank is told of a unit at this server.
+// The note of a unit at this server.
 pub(crate) fn note(server: Server, facts: UnitFacts) -> UnitNote
     ensures { (p : Placed) → facts ≡ facts_of p → result ≡ note_of server p.unit }
 {
@@ -25,7 +25,7 @@ pub(crate) fn note(server: Server, facts: UnitFacts) -> UnitNote
     }
 }
 
-// Pins the best free unit that is permitted to the rank. It tells of the unit; `None` exactly if none is permitted.
+// Pins the best free unit that is permitted to the rank. It gives the note of the unit; `None` exactly if no unit is permitted.
 pub(crate) fn grant(
     queue: &mut WorkQueue,
     me: Server,

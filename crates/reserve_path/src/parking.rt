@@ -63,7 +63,7 @@ impl Parked {
 
     /// For some rank that waits, a server that was asked is unanswered. Besides, it tells what is so of all that wait
     /// (`IsParked`): no rank waits twice or has two wishes, each rank waits at its home, only other servers are asked,
-    /// and for an idle rank none is still to be asked.
+    /// and for an idle rank no server is still to be asked.
     pub fn unanswered(&self) -> bool
         ensures some { result ≡ list_any is_asked self.now.parked.waiting }
         ensures sound { IsParked self.now }
@@ -172,7 +172,7 @@ impl Parked {
         self.front.hear_of(place, &self.config, self.me, from)
     }
 
-    // The rank waits from now on, behind the others.
+    // The rank waits from now on, after the others.
     pub(crate) fn park(&mut self, waits: Waiting)
         requires each { IsWaiting self.old.config self.old.me waits }
         requires new { is_parked self.old waits.wish.rank ≡ false }

@@ -22,8 +22,8 @@ use work_queue::WorkQueue;
 
 impl Parked {
     /// A rank that is at home here, and does not wait, wants a unit of these types in its call of this number. The best
-    /// free unit that is permitted to it (`best_for`) is pinned to it, and told. If none is, the rank waits, behind the
-    /// others (`reserved`), and the first of the other servers is to be asked; `Idle` exactly if there is no other.
+    /// free unit that is permitted to it (`best_for`) is pinned to it, and told. If no unit is, the rank waits, after
+    /// the others (`reserved`), and the first of the other servers is to be asked; `Idle` exactly if there is no other.
     pub fn reserve(
         &mut self,
         queue: &mut WorkQueue,

@@ -63,7 +63,7 @@ impl ToAsk {
         next.0 == server.0 || self.has(next)
     }
 
-    // All servers but this one, in ring order from the one behind it on (`others`).
+    // All servers but this one, in ring order from the one after it on (`others`).
     pub(crate) fn others(config: &Config, me: Server) -> ToAsk
         requires { me.0 < config.now.servers }
         ensures { result ≡ others config.now me }
@@ -90,7 +90,7 @@ impl ToAsk {
         all
     }
 
-    // The first of them, which is taken off; none if there is none.
+    // The first of them, which is taken off; `None` if there is no such server.
     pub(crate) fn take_first(&mut self) -> Option<Server>
         ensures first { result ≡ slice_get self.old 0 }
         ensures rest { self.new ≡ drop 1 self.old }

@@ -15,7 +15,7 @@ use adlb_unit::{Config, Rank, Server, Target, Types, WorkType};
 pub struct Waiting {
     /// What it wants.
     pub wish: Wish,
-    /// The server that was asked for it and has not answered. While there is none, the rank is idle.
+    /// The server that was asked for it and has not answered. While there is no such server, the rank is idle.
     pub asked: Option<Server>,
     /// The servers that are still to be asked, in order.
     pub to_ask: ToAsk,

@@ -178,7 +178,7 @@ sum-within n f p once within =
     few : (t v : ℕ) → t ≤ 1 → t * v ≤ v
     few t v h = let m : t * v ≤ 1 * v = mul-le-mul_right v h in omega (arith, m, one-mul v)
 
--- what stands behind it does not matter where a beginning is greater already
+-- what follows it does not matter where a beginning is greater already
 then_less : (o p : Ordering) → ordering_then o p ≡ Less → (o ≡ Less) ⊎ ((o ≡ Equal) × (p ≡ Less))
 then_less Less p e = inl refl
 then_less Equal p e = inr (refl, e)

@@ -91,7 +91,7 @@ row_whole n words first i left now far past e =
     far.same ∙ ap (λ k. behind far.done (row_in k left)) count ∙ ap (λ l. behind far.done (row_in 0 l)) e in
     (far.done, is ∙ ap Some (append-nil far.done), far.now_is)
 
--- as many costs as words, none of them above a million
+-- as many costs as words, no cost above a million
 pub record AreLow (n : ℕ) (costs : List ℕ) : Type 0 where
   pub long : length costs ≡ n
   pub low : All (λ x. x ≤ 1000000) costs

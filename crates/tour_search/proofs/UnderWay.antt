@@ -18,7 +18,7 @@ use Rattle.tour_law.proofs.Orders.{good_itself, good_of_better, good_of_not, goo
 use Rattle.tour_search.specs.Cities.{CitiesModel, IsKnown, beats, costs, cuts, out_of}
 use Rattle.tour_search.specs.declared.tours.Tour.{Tour}
 
--- the cities below `city` were tried behind the beginning
+-- the cities below `city` were tried after the beginning
 pub record IsSearched (cities : CitiesModel) (beginning : Vec ℕ Global) (known : Tour) (now : Vec ℕ Global) (best : Tour) (city : ℕ) : Type 0 where
   pub kept : now.items ≡ beginning.items
   pub room : vec_capacity now ≡ vec_capacity beginning

@@ -12,7 +12,7 @@ use Rattle.tour_search.specs.Numbers.{number_to}
 pub is_text : (w : List ℕ) (n : ℕ) → n < 2 ^ 32 → w ≡ decimal n → IsUtf8 w
 is_text w n lt e = subst IsUtf8 (sym e) (IsUtf8-from_ascii (decimal n) (IsAscii-decimal n (omega arith)))
 
--- the word is a number, or it is none
+-- the word is a number, or it is not
 pub number_is : (most : ℕ) (w : List ℕ) (n : ℕ) → most < 2 ^ 32 → n ≤ most → w ≡ decimal n → number_to most w ≡ Some n
 unfolding number_to
 number_is most w n small le e =

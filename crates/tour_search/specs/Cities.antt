@@ -27,7 +27,7 @@ pub record IsKnown (cities : CitiesModel) (t : Tour) : Type 0 where
   pub tour : IsTour cities.count t.cities.items
   pub cost : t.cost ≡ cost (costs cities) t.cities.items
 
--- a beginning is cut if its bound exceeds the best known cost, and if it is as high and the beginning stands behind that of the best tour
+-- a beginning is cut if its bound exceeds the best known cost, and if it is as high and the beginning follows that of the best tour
 abbrev pub cuts : ℕ → List ℕ → ℕ → List ℕ → Bool
 cuts bound beginning best tour =
     nat_lt best bound || ((bound == best) && is_gt (slice_cmp nat_cmp beginning (take (length beginning) tour)))

@@ -28,7 +28,7 @@ count_in _ = None
 abbrev pub count_of : List ℕ → Option ℕ
 count_of line = count_in (words line)
 
--- so many numbers up to 1,000,000, one a word
+-- as many numbers up to 1,000,000 as this says, one a word
 abbrev pub before : Option ℕ → Option (List ℕ) → Option (List ℕ)
 before (Some x) (Some xs) = Some (x ∷ xs)
 before _ _ = None
@@ -50,13 +50,13 @@ Read X = Result X (ℕ × CitiesWhy)
 abbrev pub refused : {X : Type 0} → ℕ → CitiesWhy → Read X
 refused number reason = Err (number, reason)
 
--- the costs of a row, and those of the rows behind it
+-- the costs of a row, and those of the rows after it
 abbrev pub with_row : ℕ → Option (List ℕ) → Read (List ℕ) → Read (List ℕ)
 with_row number None later = refused number why.Cost
 with_row number (Some row) (Ok rows) = Ok (row ++ rows)
 with_row number (Some row) (Err fault) = Err fault
 
--- the costs of `left` rows of n, of which the first is line `number`; no line stands behind them
+-- the costs of `left` rows of n, of which the first is line `number`; no line follows them
 unfoldable pub rows_in : ℕ → ℕ → ℕ → List (List ℕ) → Read (List ℕ)
 rows_in n zero number [] = Ok []
 rows_in n zero number (line ∷ lines) = refused number (if is_long line then why.Long else why.Extra)

@@ -27,7 +27,7 @@ impl Model for Cities {
 impl Cities {
     ghost use Rattle.tour_search.specs.Cities.{AreCities};
 
-    /// So many cities, from 1 to 12, of which these are the costs by rows, each at most 1,000,000.
+    /// The cities, 1 to 12 of them, with these costs by rows, each at most 1,000,000.
     pub fn new(count: u8, costs: Vec<u32>) -> Cities
         requires { AreCities (record { count = count; rows = costs.items }) }
         ensures { result ≡ record { count = count; rows = costs.items } }

@@ -15,7 +15,7 @@ pub enum CitiesWhy {
     /// It is not a row of costs, or that row is missing.
     #[error("cost")]
     Cost,
-    /// It stands behind the rows.
+    /// It follows the rows.
     #[error("extra")]
     Extra,
 }

@@ -77,7 +77,7 @@ pub fn cost_of(cities: &Cities, tour: &[u8]) -> u64
     cost_along(cities, tour) + cities.cost(tour[count - 1], tour[0])
 }
 
-// Brings to each place the cheapest to go to of the cities that stand there and behind, the lowest number on a tie.
+// Brings to each place the cheapest to go to of the cities that stand there and after, the lowest number on a tie.
 fn go_nearest(cities: &Cities, tour: &mut [u8])
     requires { IsTour cities.now.count tour.old }
     ensures { IsTour cities.now.count tour.new }

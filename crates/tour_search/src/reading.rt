@@ -115,7 +115,7 @@ fn some_count(count: u32) -> Option<u8>
     Some(count as u8)
 }
 
-// The costs of so many rows, of which the first is line 2, behind which no line stands.
+// The costs of this number of rows, the first of which is line 2. No line follows them.
 fn read_rows(alloc: Global, lines: &mut Lines, count: u8) -> Result<Vec<u32>, CitiesFault>
     ensures rows { IfOk result (λ costs. rows_in count count 2 (lines_left lines.old) ≡ Ok costs.items) }
     ensures refused { RefusedBy (rows_in count count 2 (lines_left lines.old)) result }
@@ -137,7 +137,7 @@ fn read_rows(alloc: Global, lines: &mut Lines, count: u8) -> Result<Vec<u32>, Ci
     }
 }
 
-// Why a line behind the rows is refused.
+// Why a line after the rows is refused.
 fn extra_why(line: &[u8]) -> CitiesWhy
     ensures { result ≡ (if is_long_line line.now then CitiesWhy.Long else CitiesWhy.Extra) }
 {
@@ -169,7 +169,7 @@ fn read_line(
     Ok(())
 }
 
-// Appends the costs of a row. False: the line is none.
+// Appends the costs of a row. False: it is no such line.
 fn read_row(line: &[u8], count: u8, costs: &mut Vec<u32>) -> Result<bool, NoMemory>
     ensures { IfOk result (λ is. MatchBool is
         ((row : List ℕ) × (row_of count line.now ≡ Some row) × (costs.new.items ≡ costs.old.items ++ row))

@@ -93,7 +93,7 @@ fn draws_each_ledger(rt: HostRuntime) -> Result<(), Fail> {
     Ok(())
 }
 
-// The text of a ledger of one rank that tries to reserve so many times.
+// The text of a ledger of one rank that tries to reserve this number of times.
 fn tries(alloc: Global, count: u64) -> Result<String, Fail> {
     let mut text = String::from_str(alloc, "ledger 1 1 64\n")?;
     for call in 0..count {

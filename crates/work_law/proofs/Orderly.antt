@@ -15,7 +15,7 @@ abbrev is_end : Answer → Bool
 is_end (answers.Ended end) = true
 is_end _ = false
 
--- Behind an end.
+-- After an end.
 
 on_behind : (answer : Answer) (batch : Option (List ℕ)) (said : List Said) (on : Type 0) → is_end answer ≡ false → on →
     GoesOn answer batch said on
@@ -28,7 +28,7 @@ end_behind (answers.Ended end) batch said on is_end is = is
 end_behind _ batch said on is_end is = absurd (cc)
 
 module _ {Made : Type 0} (W : Work Made) (is : IsWork W) where
-  -- a call of the program is the next one of an orderly rank; behind an end the batch that was going on goes on
+  -- a call of the program is the next one of an orderly rank; after an end the batch that was going on goes on
   record IsOrdered (ranks : ℕ) (b : Books Made) (s : Said) (next : Books Made) : Type 0 where
     comes : IsNext ranks b.held b.on s.call
     stays : batch_after b.on s.call s.answer ≡ next.on
@@ -89,7 +89,7 @@ module _ {Made : Type 0} (W : Work Made) (is : IsWork W) where
         record { comes = refl; stays = sym on.stays; holds = on.holds; ends = λ live. on.lives; keeps = λ e. on.stays };
   }
 
-  -- behind an end a rank ends its batch and makes no other call
+  -- after an end a rank ends its batch and makes no other call
   abbrev IsLast : Books Made → Said → Books Made → Type 0
   IsLast b s next =
       b.ended ≡ true → (common : List ℕ) × (b.on ≡ Some common) × (s ≡ end_batch) × (next.on ≡ None) × (next.ended ≡ true)
@@ -109,7 +109,7 @@ module _ {Made : Type 0} (W : Work Made) (is : IsWork W) where
     at_fetched = λ came note bytes e. absurd (cc);
   }
 
-  -- the calls behind an end, and then Finish
+  -- the calls after an end, and then Finish
   behind_end : (b : Books Made) (said : List Said) (last : Books Made) → b.ended ≡ true → last.on ≡ None → Goes W b said last →
       said ++ finish ∷ [] ≡ last_calls b.on
   behind_end b [] last over none same =

@@ -88,7 +88,7 @@ pub data Moves {Made : Type 0} (W : Work Made) (b : Books Made) (s : Said) (next
   stopped_before : (common : List ℕ) (units : List Made) (rest : List (Task Made)) (came : List (Arrival Made)) (end : told_end.End) →
       b ≡ going (Begin common units ∷ rest) None came → s ≡ said_of (BeginBatch common) (Ended end) →
       next ≡ shut (put_all units ++ rest) None came → Moves W b s next
-  -- it ends the batch, each unit of which was put; or behind an end
+  -- it ends the batch, each unit of which was put; or after an end
   closed : (common : List ℕ) (rest : List (Task Made)) (came : List (Arrival Made)) →
       b ≡ going (End ∷ rest) (Some common) came → s ≡ said_of EndBatch Fine → next ≡ going rest None came → Moves W b s next
   closed_behind : (common : List ℕ) (rest : List (Task Made)) (came : List (Arrival Made)) →

@@ -9,7 +9,7 @@ use Rattle.work_queue.specs.declared.placing.Placed.{Placed}
 pub no_unit : (units : List Placed) (id : UnitId) → (HasUnit id units → ⊥) → HasNoUnit id units
 no_unit units id none k d within same = none (k, get_or units k d, within, get_or_default units k (get_or units k d) d within, same)
 
--- no promise is of the id, if none of any length is
+-- no promise is of the id, if no promise of any length is
 pub no_promise : (promises : List Promise) (id : UnitId) → ((n : ℕ) → HasRoom id n promises → ⊥) → HasNoPromise id promises
 no_promise promises id none k d within same =
     let p : Promise = get_or promises k d in

@@ -1,4 +1,4 @@
--- What the unit of an id tells of all units.
+-- What the unit of an id says of all units.
 use Rattle.std.proofs.Common.{◌≡◌, ◌↔◌, Bool, true, false, not, List, Option, Some, None, is_some, refl, sym, ap, ◌∙◌, All, Any, find, IsTrue, Bor}
 use Rattle.std.specs.Option.{option_copied}
 use Rattle.std.proofs.lemmas.Bool.{false≢true, true≢false}

@@ -43,7 +43,7 @@ stamp_stands stamps stamp n rising within point k d below is =
       | inr (inr after) ↦ absurd (let lt = rising k n d after here.0 in omega (arith, lt, read, is))
     ]
 
--- what is kept of an id in units that stand one behind the other
+-- what is kept of an id in units that stand one after the other
 stamp_append : (id : UnitId) (xs ys : List Placed) (ss ts : List ℕ) → length ss ≡ length xs → stamp_of id (xs ++ ys) (ss ++ ts) ≡ option_or (stamp_of id xs ss) (stamp_of id ys ts)
 stamp_append id [] ys [] ts long = refl
 stamp_append id [] ys (s ∷ ss) ts long = absurd (omega (arith, long))

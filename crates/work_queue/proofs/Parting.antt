@@ -1,4 +1,4 @@
--- Two lists one behind the other, and numbers that rise in them.
+-- Two lists one after the other, and numbers that rise in them.
 use Rattle.std.proofs.Common.{◌≡◌, ◌<◌, ◌≤◌, ◌+◌, ◌-◌, ◌++◌, ℕ, List, Option, None, Some, OnSome, length, get_or, sym, ap, ◌∙◌, arith, inl, inr}
 use Rattle.std.specs.List.{AllPairs}
 use Rattle.std.proofs.lemmas.Bool.{cases_lt}

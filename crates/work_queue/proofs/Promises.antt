@@ -46,7 +46,7 @@ module _ (promises : List Promise) (i : ℕ) (r : Promise) (id : UnitId) (distin
       let here : (get_or promises i r).length ≡ r.length = ap (λ (p : Promise). p.length) (sym read) in
       omega arith
 
--- what is told of the promise of an id is told of its room
+-- what is said of the promise of an id is said of its room
 pub room_told : (promises : List Promise) (id : UnitId) (n m : ℕ) → All (λ (p : Promise). p.id ≡ id → m ≡ p.length) promises → HasRoom id n promises → m ≡ n
 room_told promises id n m told has =
     let at : get_or promises has.0 has.1 ≡ has.1 = has.3 in

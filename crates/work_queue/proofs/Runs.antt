@@ -83,7 +83,7 @@ module _ (entries : List Entry) (place end : ℕ) (e : Entry) (order : IsInOrder
   }
 
 module _ (may : Entry → Bool) (outranks : Entry → Entry → Bool) (ranking : IsRanking outranks) (entries : List Entry) (place end : ℕ) (first : Entry) (below : place ≤ end) (listed : Contains entries first) (run : (k : ℕ) (d : Entry) → place ≤ k → k < end → (may (get_or entries k d) ≡ may first) × (outranks (get_or entries k d) first ≡ false)) where
-  -- none of the run passes
+  -- no entry of the run passes
   pub passed_by : (found : Option Entry) → may first ≡ false → IsLeading may outranks entries place found → IsLeading may outranks entries end found
   passed_by None fails leads = λ k d before. elim (cases_lt k place) [
     | inl early ↦ leads k d early
@@ -210,7 +210,7 @@ pub run_serves : (asked : List (Rank × Option (List WorkType))) (entries : List
     → (k : ℕ) (d : Entry) → place ≤ k → k < run.end → may_serve asked (get_or entries k d) ≡ may_serve asked run.first
 run_serves asked entries place run is k d from below = let of = is.alike k d from below in rw (of.kind, of.target) refl
 
--- none of a run is: what leads stays
+-- no entry of a run is: what leads stays
 pub run_passed : (may : Entry → Bool) (outranks : Entry → Entry → Bool) (entries : List Entry) (place end : ℕ) (found : Option Entry)
     → ((k : ℕ) (d : Entry) → place ≤ k → k < end → may (get_or entries k d) ≡ false) → IsLeading may outranks entries place found
     → IsLeading may outranks entries end found

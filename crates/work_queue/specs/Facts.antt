@@ -1,4 +1,4 @@
--- What a rank is told of a unit.
+-- The note of a unit: what a rank is told.
 use Rattle.std.specs.Prelude.{length}
 use Rattle.work_queue.specs.declared.placing.Placed.{Placed}
 use Rattle.work_queue.specs.declared.placing.UnitFacts.{UnitFacts}

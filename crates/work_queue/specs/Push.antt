@@ -17,7 +17,7 @@ IsMovable p = (p.pin ≡ None) × (p.unit.target ≡ Any)
 abbrev pub GoesBefore : ℕ → Placed → ℕ → Placed → Type 0
 GoesBefore place p other q = (p.unit.prio <ℤ q.unit.prio) ⊎ ((p.unit.prio ≡ q.unit.prio) × (other < place))
 
--- what is told of the unit that is pushed first: its id and its length
+-- what is said of the unit that is pushed first: its id and its length
 abbrev pub told : Placed → UnitId × ℕ
 told p = (id_of p, size_of p)
 
@@ -58,6 +58,6 @@ abbrev pub pick_to_push : Option Candidate → Placed → Option Candidate
 pick_to_push None p = if movable p then Some (candidate p) else None
 pick_to_push (Some first) p = if movable p then Some (lower first (candidate p)) else Some first
 
--- what is told of the first of these units
+-- what is said of the first of these units
 abbrev pub first_to_push_of : List Placed → Option (UnitId × ℕ)
 first_to_push_of units = option_map (λ (c : Candidate). (c.id, c.length)) (fold pick_to_push None units)

@@ -1,5 +1,5 @@
 //! Which entry of the index is the first that is permitted to one of several requests. Of the entries of one type and target,
-//! which stand side by side, either each is permitted or none is; so a run that is not is passed over at once.
+//! which are side by side, either each is permitted or no entry is. So a run that is not is passed over at once.
 
 ghost use Rattle.std.specs.Prelude.{◌≡◌, ◌<◌, ◌≤◌, ℕ, length, slice_index_or, true};
 ghost use Rattle.std.specs.List.{list_any};

@@ -1,4 +1,4 @@
-//! What a queue tells of its units.
+//! What a queue says of its units.
 
 ghost use Rattle.std.specs.Prelude.{◌≡◌, ◌↔◌, All, Any, IfSome, IsSome, IsTrue, Some, find, option_copied};
 ghost use Rattle.work_queue.specs.Counts.{counts_of};
@@ -44,7 +44,7 @@ impl WorkQueue {
         }
     }
 
-    /// What a rank is told of the unit of this id (`facts_of`), and its target.
+    /// The note of the unit of this id (`facts_of`), and its target.
     pub fn facts(&self, id: UnitId) -> (UnitFacts, Target)
         requires { HasUnit id self.now.units }
         ensures facts { All (λ p. id_of p ≡ id → result.0 ≡ facts_of p) self.now.units }

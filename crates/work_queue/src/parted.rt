@@ -10,7 +10,7 @@ use std::marker::Model;
 /// How many items move at most where an item goes, if it is not far from where the last ones went.
 const STEPS: usize = 64;
 
-// A list in two parts, one behind the other. Where an item goes far from where its part begins and ends, the parts come to meet
+// A list in two parts, one after the other. Where an item goes far from where its part begins and ends, the parts come to meet
 // nearer to its place. So where items go in turn, few others move, however many there are.
 #[derive(Drop)]
 pub struct Parted<T> {

@@ -1,4 +1,4 @@
-//! A unit in its place, and what is told of it.
+//! A unit in its place, and its note.
 
 ghost use Rattle.std.specs.Prelude.{◌≡◌};
 ghost use Rattle.work_queue.specs.Facts.{facts_of};
@@ -15,8 +15,7 @@ pub struct Placed {
     pub pin: Option<Rank>,
 }
 
-/// What a rank is told of a unit before it fetches the body: all but the target, and of the body the length
-/// in bytes.
+/// What a rank is told before it fetches a unit's body: all but the target, and of the body the length in bytes.
 #[derive(Clone, Copy)]
 pub struct UnitFacts {
     pub id: UnitId,
@@ -28,7 +27,7 @@ pub struct UnitFacts {
 }
 
 impl Placed {
-    // What a rank is told of the unit.
+    // The note of the unit.
     pub(crate) fn facts(&self) -> UnitFacts
         requires { IsSmall self.now }
         ensures { result ≡ facts_of self.now }

@@ -108,10 +108,9 @@ impl WorkQueue {
         self.arrivals
     }
 
-    /// Puts a free unit last (`with_unit`). Its id is new to the queue's units and promises, and its body has
-    /// at most 2^20 bytes. At a refusal the queue is as it was, and the unit comes back: with
-    /// `AddFault::Full` exactly when the body would go beyond the limit (`Overfills`), whether there is
-    /// memory or not, otherwise with `AddFault::Memory`.
+    /// Puts a free unit last (`with_unit`). Its id is new to the queue's units and promises, and its body has at most
+    /// 2^20 bytes. At a refusal the queue is as it was, and the unit comes back: with `AddFault::Full` exactly if the
+    /// body would go beyond the limit (`Overfills`), whether there is memory or not, otherwise with `AddFault::Memory`.
     pub fn add(&mut self, unit: Unit) -> Result<(), (Unit, AddFault)>
         requires new { All (λ p. id_of p ≢ unit.id) self.old.units }
         requires unpromised { All (λ (p : Promise). p.id ≢ unit.id) self.old.promises }
@@ -171,8 +170,8 @@ impl WorkQueue {
         }
     }
 
-    /// Pins the free unit of this id to a rank, and changes nothing else (`with_pin`). It gives what that
-    /// rank is told of the unit.
+    /// Pins the free unit of this id to a rank, and changes nothing else (`with_pin`). It gives the note of the unit
+    /// for that rank.
     pub fn pin(&mut self, id: UnitId, rank: Rank) -> UnitFacts
         requires { HasFree id self.old.units }
         ensures pinned { self.new ≡ with_pin self.old id rank }

@@ -24,7 +24,7 @@ pub(crate) fn seen_at(slots: &Slab<Placed>, key: usize) -> Option<(UnitId, Optio
     }
 }
 
-// Pins the unit under the key, and tells of it.
+// Pins the unit under the key, and gives its note.
 pub(crate) fn pin_at(slots: &mut Slab<Placed>, key: usize, rank: Rank) -> UnitFacts
     requires there { IsSome (get slots.old key) }
     requires small { IfSome (get slots.old key) IsSmall }
