@@ -24,7 +24,7 @@ use Rattle.core_run.specs.World.{World, actors, after_rank, after_server, client
 use Rattle.core_law.specs.Measures.{link_weight, links_weight, row_weight, weigh_at}
 use Rattle.core_law.specs.Well.{IsWell}
 use Rattle.core_law.proofs.EveryRun.{answer_heard, begins_well, call_began, inside_ranks, well_kept}
-use Rattle.core_law.proofs.Some.{OnSome, if_some, on_some}
+use Rattle.core_law.proofs.StepResults.{OnSome, if_some, on_some}
 use Rattle.core_law.proofs.Steps.{Begins, Hears, Serves, happens_does}
 use Rattle.core_law.proofs.Sums.{weigh_at-set}
 use Rattle.core_bound_law.specs.Bounds.{begun, calls_begun, is_call}

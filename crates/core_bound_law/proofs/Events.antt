@@ -23,7 +23,7 @@ use Rattle.core_law.proofs.Chains.{inside_after, pool_is}
 use Rattle.core_law.proofs.Events.{event_chain}
 use Rattle.core_law.proofs.Steps.{Serves}
 use Rattle.core_law.proofs.Sums.{place_actor, place_below, post_weight, weigh_at-set}
-use Rattle.core_law.proofs.Well.{act_well, inside_servers, own_of, tick_well}
+use Rattle.core_law.proofs.LettersAndActors.{act_well, inside_servers, own_of, tick_well}
 use Rattle.server_law.proofs.Waiters.{each_all}
 use Rattle.core_bound_law.specs.Costs.{IsDue, allowance, cost, toll, toll_of}
 use Rattle.core_bound_law.specs.Credits.{credit, if_so, letters_credit, server_credit}

@@ -31,7 +31,7 @@ use Rattle.core_law.specs.Measures.{actor, sends_weight, weigh}
 use Rattle.core_law.specs.Well.{IsShaped, IsWell}
 use Rattle.core_law.proofs.EveryRun.{answer_within, call_within}
 use Rattle.core_law.proofs.Posts.{lettered, requests_sends, requests_state, requests_weight}
-use Rattle.core_law.proofs.Some.{OnSome, if_some, mapped_some, on_some}
+use Rattle.core_law.proofs.StepResults.{OnSome, if_some, mapped_some, on_some}
 use Rattle.core_law.proofs.Steps.{Begins, Hears, taken_shaped}
 use Rattle.core_law.proofs.Sums.{AreWithin, front_goes, place_actor, place_below, post_weight, weigh_at-set}
 use Rattle.rank_client.specs.State.{start as new_client}

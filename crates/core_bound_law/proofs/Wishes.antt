@@ -28,7 +28,7 @@ use Rattle.core_law.proofs.Actors.{every_pool}
 use Rattle.core_law.proofs.EveryRun.{pool_at}
 use Rattle.core_law.proofs.Steps.{A_call, A_request, An_answer, Does, Serves}
 use Rattle.core_law.proofs.Sums.{weigh-append}
-use Rattle.core_law.proofs.Well.{inside_servers}
+use Rattle.core_law.proofs.LettersAndActors.{inside_servers}
 
 -- the wishes of the rank
 unfoldable pub wishes_of : ℕ → List Wish → ℕ

@@ -28,7 +28,7 @@ use Rattle.core_check_law.specs.OnWay.{IsOnWay, IsRinged, IsUnchanged, of_home, 
 use Rattle.core_check_law.specs.Settling.{AreUnchanged, IsOpen, IsSettledBehind, IsSettling, NoFit}
 use Rattle.core_check_law.proofs.Homes.{reach_at, reach_zeroth}
 use Rattle.core_check_law.proofs.Quiet.{AreTold, quiet_goes, quiet_rests}
-use Rattle.core_check_law.proofs.Still.{as_was, settling_stays}
+use Rattle.core_check_law.proofs.RestKept.{as_was, settling_stays}
 use Rattle.core_check_law.proofs.Turns.{onward_is, token_front, unchanged_back, zeroth_here}
 
 -- Where no free unit fits a rank of the list.

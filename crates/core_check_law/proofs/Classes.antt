@@ -15,9 +15,9 @@ use Rattle.core_law.specs.OnLinks.{Each}
 use Rattle.core_law.specs.Well.{IsShaped}
 use Rattle.core_law.proofs.Actors.{pool_beside, pool_there}
 use Rattle.core_law.proofs.Acts.{counted_kept, counted_own, others_told}
-use Rattle.core_law.proofs.Own.{counted_activity}
+use Rattle.core_law.proofs.OwnStates.{counted_activity}
 use Rattle.core_check_law.specs.OnWay.{OnToken}
-use Rattle.core_check_law.proofs.Stirred.{is_loud}
+use Rattle.core_check_law.proofs.LoudActs.{is_loud}
 
 -- Classes.
 

@@ -18,11 +18,11 @@ use Rattle.core_law.proofs.Actors.{every_pool}
 use Rattle.core_law.proofs.Balances.{weighs_none}
 use Rattle.core_law.proofs.EveryRun.{AreZero, begins_even, every_run_well, pool_at, run_config}
 use Rattle.core_law.proofs.Kept.{IsLaw}
-use Rattle.core_law.proofs.Owed.{no_sum}
+use Rattle.core_law.proofs.OwedByRanks.{no_sum}
 use Rattle.core_law.proofs.Sums.{one_adds}
-use Rattle.core_law.proofs.Well.{inside_servers, tick_balance}
+use Rattle.core_law.proofs.LettersAndActors.{inside_servers, tick_balance}
 use Rattle.core_check_law.specs.Ends.{IsToldOnce, ends, exhausts, flag_at, is_exhaust, is_exhausted, is_shut, is_shutdown, shuts}
-use Rattle.core_check_law.proofs.Along.{AreKept, answer_even, call_even, every_run_keeps}
+use Rattle.core_check_law.proofs.AlongRuns.{AreKept, answer_even, call_even, every_run_keeps}
 use Rattle.core_check_law.proofs.EndsKept.{AreEnding, IsGoing, IsOpenAtZeroth, act_ends, going_at, zeroth_owed}
 
 -- Ranks neither hear nor say it.

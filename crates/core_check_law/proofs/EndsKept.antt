@@ -20,9 +20,9 @@ use Rattle.core_law.specs.Well.{IsWell}
 use Rattle.core_law.proofs.Actors.{every_pool, pool_there}
 use Rattle.core_law.proofs.Acts.{balance_kept, counted_kept}
 use Rattle.core_law.proofs.Fifo.{front_beside}
-use Rattle.core_law.proofs.Owed.{no_sum}
+use Rattle.core_law.proofs.OwedByRanks.{no_sum}
 use Rattle.core_law.proofs.Sums.{one_adds}
-use Rattle.core_law.proofs.Well.{act_well, fit_of, inside_servers, own_of}
+use Rattle.core_law.proofs.LettersAndActors.{act_well, fit_of, inside_servers, own_of}
 use Rattle.core_check_law.specs.Ends.{end_letter, ends, exhausts, flag_at, is_exhaust, is_exhausted, is_shut, is_shutdown, shuts}
 use Rattle.core_check_law.proofs.Ending.{IsNewExhaust, IsNewShutdown, exhaust_kept, shut_kept}
 

@@ -21,22 +21,22 @@ use Rattle.core_law.proofs.Actors.{pool_there}
 use Rattle.core_law.proofs.Events.{event_chain}
 use Rattle.core_law.proofs.Steps.{Serves}
 use Rattle.core_law.proofs.UnderWay.{weaker}
-use Rattle.core_law.proofs.Well.{inside_servers, tick_well}
+use Rattle.core_law.proofs.LettersAndActors.{inside_servers, tick_well}
 use Rattle.core_check_law.specs.OnWay.{IsRinged, OnToken, reach}
 use Rattle.core_check_law.specs.Settling.{Has, IsSettledBehind, IsSettling, Settles, wished}
 use Rattle.core_check_law.proofs.Classes.{is_alone, is_turn}
 use Rattle.core_check_law.proofs.Follows.{Behind, Holds, Next, SettledFor, Suits, act_holds, follow_settles, follow_voids}
 use Rattle.core_check_law.proofs.Homes.{reach_zeroth}
-use Rattle.core_check_law.proofs.Never.{is_query}
+use Rattle.core_check_law.proofs.NeverAtRest.{is_query}
 use Rattle.core_check_law.proofs.Quiet.{AreTold}
-use Rattle.core_check_law.proofs.Still.{IsAsWas, is_still, settling_stays}
-use Rattle.core_check_law.proofs.Suited.{rests, suited}
+use Rattle.core_check_law.proofs.RestKept.{IsAsWas, is_still, settling_stays}
+use Rattle.core_check_law.proofs.FollowingActs.{rests, suited}
 use Rattle.core_check_law.proofs.Ticks.{after, tick_ringed, ticked_back}
 use Rattle.core_check_law.proofs.Tokens.{token_weaker}
 use Rattle.core_check_law.proofs.Turns.{marked_of, token_front, zeroth_here}
 use Rattle.core_check_law.proofs.Verdict.{bag_is_settled}
-use Rattle.core_check_law.proofs.Void.{Voids, void_settles}
-use Rattle.core_check_law.proofs.Walk.{goes_on, other_voids, pass_on, still_old, still_settles, turns_void}
+use Rattle.core_check_law.proofs.VoidTokens.{Voids, void_settles}
+use Rattle.core_check_law.proofs.ThroughActs.{goes_on, other_voids, pass_on, still_old, still_settles, turns_void}
 
 -- The stamp.
 

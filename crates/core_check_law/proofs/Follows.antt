@@ -17,18 +17,18 @@ use Rattle.core_law.specs.OnLinks.{Each}
 use Rattle.core_law.specs.Well.{IsWell}
 use Rattle.core_law.proofs.ActLawful.{act_lawful}
 use Rattle.core_law.proofs.Acts.{balance_kept}
-use Rattle.core_law.proofs.Well.{act_well, own_of}
+use Rattle.core_law.proofs.LettersAndActors.{act_well, own_of}
 use Rattle.core_check_law.specs.Settling.{Settles}
 use Rattle.core_check_law.specs.Tokens.{tokens}
 use Rattle.core_check_law.proofs.Classes.{is_alone, is_turn}
-use Rattle.core_check_law.proofs.Never.{is_query}
+use Rattle.core_check_law.proofs.NeverAtRest.{is_query}
 use Rattle.core_check_law.proofs.Runs.{act_other, finds, run_other, split_run}
-use Rattle.core_check_law.proofs.Still.{is_still}
-use Rattle.core_check_law.proofs.Stirred.{is_loud}
+use Rattle.core_check_law.proofs.RestKept.{is_still}
+use Rattle.core_check_law.proofs.LoudActs.{is_loud}
 use Rattle.core_check_law.proofs.Tokens.{token_kept}
 use Rattle.core_check_law.proofs.Turns.{marked_of}
-use Rattle.core_check_law.proofs.Void.{Voids, void_settles, void_stays}
-use Rattle.core_check_law.proofs.Walk.{other_old, other_voids, starts_voids, still_old, still_settles}
+use Rattle.core_check_law.proofs.VoidTokens.{Voids, void_settles, void_stays}
+use Rattle.core_check_law.proofs.ThroughActs.{other_old, other_voids, starts_voids, still_old, still_settles}
 
 -- What holds in each world between acts, with its bag.
 pub record Holds (w : World) (b : Bag) : Type 0 where

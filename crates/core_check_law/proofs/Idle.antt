@@ -32,13 +32,13 @@ use Rattle.rank_client.specs.Agreement.{in_call, own_fetched, rank_of}
 use Rattle.rank_client.specs.State.{ClientModel}
 use Rattle.rank_client.specs.declared.pendings.Pending.{Pending}
 use Rattle.rank_client.specs.declared.pendings.Pending.TheVariants as waits_for
-use Rattle.core_law.proofs.Onward.{still_exhausted}
+use Rattle.core_law.proofs.UnpushedUnits.{still_exhausted}
 use Rattle.core_law.proofs.Resting.{ranks_stay}
 use Rattle.core_law.proofs.UnderWay.{each_append, each_parts}
 use Rattle.core_check_law.specs.After.{AllOver, AreIdle, IsOver, IsTold, is_work}
-use Rattle.core_check_law.proofs.Modest.{is_open}
+use Rattle.core_check_law.proofs.ToldRanks.{is_open}
 use Rattle.core_check_law.proofs.Runs.{is_finding}
-use Rattle.core_check_law.proofs.Over.{grant_stirs, is_coming, over_stays, settled_over}
+use Rattle.core_check_law.proofs.StaysOver.{grant_stirs, is_coming, over_stays, settled_over}
 
 -- A rank that was told an end has no call pending that brings or wants something.
 

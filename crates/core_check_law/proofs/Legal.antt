@@ -19,14 +19,14 @@ use Rattle.core_law.proofs.InLine.{empty_link}
 use Rattle.core_law.proofs.Lawful.{alone_is_legal, every_run_lawful}
 use Rattle.core_law.proofs.Steps.{A_call, A_request, An_answer, Does, happens_does, same_config}
 use Rattle.core_law.proofs.Sums.{place_below}
-use Rattle.core_law.proofs.Well.{inside_servers}
+use Rattle.core_law.proofs.LettersAndActors.{inside_servers}
 use Rattle.core_check_law.specs.OnWay.{IsRinged, OnToken}
 use Rattle.core_check_law.specs.Settling.{Has, IsSettledBehind, Settles}
 use Rattle.core_check_law.proofs.Events.{event_settles}
 use Rattle.core_check_law.proofs.Follows.{Behind, Holds}
 use Rattle.core_check_law.proofs.RankSteps.{answer_settles, call_settles}
 use Rattle.core_check_law.proofs.Rings.{begins_ringed, does_ringed}
-use Rattle.core_check_law.proofs.Told.{IsTold, serve_told, told_is}
+use Rattle.core_check_law.proofs.IdleAreTold.{IsTold, serve_told, told_is}
 
 -- no idle rank has missed an end
 abbrev pub AllTold : World → Type 0

@@ -20,8 +20,8 @@ use Rattle.core_law.specs.OnLinks.{Each}
 use Rattle.core_law.specs.Own.{IsEntry}
 use Rattle.core_law.specs.Well.{IsWell}
 use Rattle.core_law.proofs.Fifo.{part_le}
-use Rattle.core_law.proofs.Nowhere.{remote_le}
-use Rattle.core_law.proofs.Owed.{letters_are, no_sum, none_wait}
+use Rattle.core_law.proofs.NotWaiting.{remote_le}
+use Rattle.core_law.proofs.OwedByRanks.{letters_are, no_sum, none_wait}
 use Rattle.core_law.proofs.Sums.{links_le}
 use Rattle.core_law.proofs.UnderWay.{each_append, each_weaker}
 use Rattle.core_check_law.specs.Turn.{AreApart}

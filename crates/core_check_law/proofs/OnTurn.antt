@@ -22,10 +22,10 @@ use Rattle.core_law.specs.Measures.{heard_weight, said_weight, weigh}
 use Rattle.core_law.specs.OnLinks.{Each, OnLinks}
 use Rattle.core_law.specs.Well.{IsSquare, IsWell}
 use Rattle.core_law.proofs.Acts.{taken_off_on}
-use Rattle.core_law.proofs.Own.{alone_is}
+use Rattle.core_law.proofs.OwnStates.{alone_is}
 use Rattle.core_law.proofs.Sums.{others_none}
 use Rattle.core_law.proofs.UnderWay.{each_append, each_weaker, weaker}
-use Rattle.core_law.proofs.Well.{own_of}
+use Rattle.core_law.proofs.LettersAndActors.{own_of}
 use Rattle.core_check_law.specs.OnWay.{IsOnWay, IsRinged, OnFailed, OnToken, last_check, reach}
 use Rattle.core_check_law.specs.Tokens.{token_letter}
 use Rattle.core_check_law.specs.Turn.{AreOnTurn, IsOnTurn}

@@ -45,7 +45,7 @@ use Rattle.server_law.specs.Step.{acts, rule, server_rule}
 use Rattle.server_law.specs.Waits.{ask_at, ask_next, asks_on, look_again, look_at, looks_again}
 use Rattle.core_law.specs.OnLinks.{Each}
 use Rattle.core_law.proofs.UnderWay.{each_append}
-use Rattle.core_check_law.proofs.Never.{is_query}
+use Rattle.core_check_law.proofs.NeverAtRest.{is_query}
 
 -- the act begins no push
 abbrev pub NoQuery : Act → Type 0

@@ -36,15 +36,15 @@ use Rattle.core_law.specs.Own.{IsEntry, IsPool}
 use Rattle.core_law.specs.Pushed.{letters_of, on_way}
 use Rattle.core_law.specs.Pushes.{promised_letter, push_letter, pushing, travels_letter}
 use Rattle.core_law.specs.Well.{IsWell}
-use Rattle.core_law.proofs.Alone.{none_named}
+use Rattle.core_law.proofs.OneServer.{none_named}
 use Rattle.core_law.proofs.Answering.{not_finished}
 use Rattle.core_law.proofs.OnLinks.{zero_from}
-use Rattle.core_law.proofs.Owed.{no_sum}
+use Rattle.core_law.proofs.OwedByRanks.{no_sum}
 use Rattle.core_law.proofs.Resting.{client_finished}
 use Rattle.core_law.proofs.UnderWay.{each_weaker, zero_on}
 use Rattle.core_check_law.specs.Settling.{Has, IsRest, IsResting, wish_of, wished}
 use Rattle.core_check_law.proofs.Homes.{each_of_all}
-use Rattle.core_check_law.proofs.Never.{AreUnpushed, itself}
+use Rattle.core_check_law.proofs.NeverAtRest.{AreUnpushed, itself}
 use Rattle.core_check_law.proofs.Lists.{each_all, each_has, has_at, has_map, home_below, wished_entry}
 
 -- no rank is idle at a server that knows that the problem is done

@@ -32,7 +32,7 @@ use Rattle.core_check_law.proofs.Ranks.{hears_never, ready_never}
 use Rattle.core_check_law.proofs.Rings.{does_ringed, said_none}
 use Rattle.core_check_law.proofs.Runs.{rank_other, run_other, split_run}
 use Rattle.core_check_law.proofs.Tokens.{token_weaker}
-use Rattle.core_check_law.proofs.Void.{IsVoid, Voids, open_before, void_settles}
+use Rattle.core_check_law.proofs.VoidTokens.{IsVoid, Voids, open_before, void_settles}
 
 -- where the rank could not make the step
 rank_voids : (w : World) (me : Rank) (links : Links) (x : Made) (b n : Bag) → me.0 < w.config.ranks → IsSquare (actors w.config) links

@@ -29,8 +29,8 @@ use Rattle.core_law.specs.Measures.{measure, weights}
 use Rattle.core_law.specs.Well.{IsWell}
 use Rattle.core_law.proofs.EveryRun.{inside_ranks}
 use Rattle.core_law.proofs.Fifo.{front_held}
-use Rattle.core_law.proofs.Nowhere.{waits_nowhere_beside}
-use Rattle.core_law.proofs.Owed.{letters_are}
+use Rattle.core_law.proofs.NotWaiting.{waits_nowhere_beside}
+use Rattle.core_law.proofs.OwedByRanks.{letters_are}
 use Rattle.core_law.proofs.RankSteps.{IsNotOf}
 use Rattle.core_check_law.specs.Settling.{AsksAs, IsResting}
 use Rattle.core_check_law.proofs.Lists.{each_has, home_below, wished_entry}

@@ -14,9 +14,9 @@ use Rattle.core_law.proofs.Actors.{pool_there}
 use Rattle.core_law.proofs.Chains.{inside_after, pool_is}
 use Rattle.core_law.proofs.Events.{IsChain, event_chain}
 use Rattle.core_law.proofs.Steps.{Serves}
-use Rattle.core_law.proofs.Well.{act_well, inside_servers, tick_well}
-use Rattle.core_check_law.proofs.Stirred.{IsStep, IsStirred}
-use Rattle.core_check_law.proofs.Stirring.{AreStirred, acts_stirred}
+use Rattle.core_law.proofs.LettersAndActors.{act_well, inside_servers, tick_well}
+use Rattle.core_check_law.proofs.LoudActs.{IsStep, IsStirred}
+use Rattle.core_check_law.proofs.StirredEvents.{AreStirred, acts_stirred}
 use Rattle.core_check_law.proofs.Ticks.{tick_stirs}
 
 -- acts one after the other, each a step

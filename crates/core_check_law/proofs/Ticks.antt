@@ -14,13 +14,13 @@ use Rattle.core_law.specs.Well.{IsWell}
 use Rattle.core_law.proofs.Actors.{pool_beside, pool_there}
 use Rattle.core_law.proofs.Acts.{counted_kept, counted_own}
 use Rattle.core_law.proofs.Checking.{tested_runs}
-use Rattle.core_law.proofs.Own.{counted_activity}
+use Rattle.core_law.proofs.OwnStates.{counted_activity}
 use Rattle.core_law.proofs.UnderWay.{weaker}
-use Rattle.core_law.proofs.Well.{inside_servers, tick_balance}
+use Rattle.core_law.proofs.LettersAndActors.{inside_servers, tick_balance}
 use Rattle.core_check_law.specs.OnWay.{IsOnWay, IsRinged, IsUnchanged, OnToken, last_check, of_home}
 use Rattle.core_check_law.specs.Tokens.{tokens}
 use Rattle.core_check_law.proofs.Classes.{marks_new, ring_of}
-use Rattle.core_check_law.proofs.Stirred.{IsStirred}
+use Rattle.core_check_law.proofs.LoudActs.{IsStirred}
 use Rattle.core_check_law.proofs.Tokens.{token_weaker}
 
 -- a server after the stamp: it keeps what it kept, and its activity is as it was or one more

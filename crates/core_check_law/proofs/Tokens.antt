@@ -21,7 +21,7 @@ use Rattle.core_law.specs.Own.{IsPool}
 use Rattle.core_law.specs.Well.{IsShaped}
 use Rattle.core_law.proofs.Acts.{taken_square, taken_weight}
 use Rattle.core_law.proofs.Checking.{tested_runs}
-use Rattle.core_law.proofs.Own.{runs_alone}
+use Rattle.core_law.proofs.OwnStates.{runs_alone}
 use Rattle.core_law.proofs.Sums.{none_adds, one_adds, others_none}
 use Rattle.core_law.proofs.UnderWay.{zero_on}
 use Rattle.core_check_law.specs.OnWay.{OnFailed, OnToken}

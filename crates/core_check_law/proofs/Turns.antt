@@ -24,16 +24,16 @@ use Rattle.core_law.specs.Own.{IsEntry}
 use Rattle.core_law.specs.Well.{IsShaped, IsWell}
 use Rattle.core_law.proofs.Acts.{balance_kept, taken_off_on}
 use Rattle.core_law.proofs.Checking.{check_ended}
-use Rattle.core_law.proofs.Own.{alone_is}
+use Rattle.core_law.proofs.OwnStates.{alone_is}
 use Rattle.core_law.proofs.UnderWay.{at_front, each_append, each_weaker, weaker}
-use Rattle.core_law.proofs.Well.{own_of}
+use Rattle.core_law.proofs.LettersAndActors.{own_of}
 use Rattle.core_check_law.specs.OnWay.{AreNumbered, IsOnWay, IsRinged, IsUnchanged, OnToken, last_check, of_home, reach}
 use Rattle.core_check_law.specs.Tokens.{tokens}
 use Rattle.core_check_law.proofs.Classes.{IsMine, IsOthers, SaysNone, marks_new, now, parked_of, ring_of, said_none, says_token}
 use Rattle.core_check_law.proofs.Homes.{each_of_all, home_is, home_other, homes_of, kept_all, kept_none, reach_at, reach_onward, reach_zeroth}
 use Rattle.core_check_law.proofs.Letters.{letters_next}
 use Rattle.core_check_law.proofs.Stays.{IsMarked, IsParkedSame, IsSteady, askers_same, numbers_stay, quiet_same, way_stays}
-use Rattle.core_check_law.proofs.Stirred.{IsStep, IsStirred, is_loud}
+use Rattle.core_check_law.proofs.LoudActs.{IsStep, IsStirred, is_loud}
 use Rattle.core_check_law.proofs.Tokens.{NoToken, none_left, none_runs, not_token, token_kept, token_weaker}
 
 abbrev IsNumber : ℕ → ℕ → Type 0

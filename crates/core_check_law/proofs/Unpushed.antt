@@ -12,10 +12,10 @@ use Rattle.server_law.specs.Sure.{Sure}
 use Rattle.core_run.specs.World.{World, pool_of}
 use Rattle.core_law.specs.Acting.{IsAct, acted, ticks}
 use Rattle.core_law.specs.Well.{IsWell}
-use Rattle.core_law.proofs.Well.{own_of}
+use Rattle.core_law.proofs.LettersAndActors.{own_of}
 use Rattle.core_check_law.proofs.Classes.{IsMine, IsOthers, is_alone, now}
 use Rattle.core_check_law.proofs.EndsKept.{no_exhaust, no_shutdown}
-use Rattle.core_check_law.proofs.Never.{AreUnpushed, is_query, itself, pushes_none}
+use Rattle.core_check_law.proofs.NeverAtRest.{AreUnpushed, is_query, itself, pushes_none}
 use Rattle.core_check_law.proofs.Ticks.{after}
 
 -- server 0 has found that all work is used up, or that no rank waits or runs any more

@@ -39,7 +39,7 @@ use Rattle.core_check_law.proofs.Homes.{each_of_all}
 use Rattle.core_check_law.proofs.Inside.{AreIn, IsFreeIn, free_in}
 use Rattle.core_check_law.proofs.Lists.{each_has, has_filter, has_map, home_below, wished_entry}
 use Rattle.core_check_law.proofs.Ranks.{client_ends}
-use Rattle.core_check_law.proofs.Still.{asked_of}
+use Rattle.core_check_law.proofs.RestKept.{asked_of}
 
 -- A weight of the units that are free and permitted.
 

@@ -13,8 +13,8 @@ use Rattle.core_bound_law.proofs.Clocks.{serve_stays}
 use Rattle.core_bound_law.proofs.Lists.{same_each}
 use Rattle.core_law.proofs.Fifo.{post_other}
 use Rattle.core_law.proofs.InLine.{every_run_in_line}
-use Rattle.core_law.proofs.Onward.{one_not}
-use Rattle.core_law.proofs.Owed.{finishes_are, letters_are, no_kinds}
+use Rattle.core_law.proofs.UnpushedUnits.{one_not}
+use Rattle.core_law.proofs.OwedByRanks.{finishes_are, letters_are, no_kinds}
 use Rattle.core_law.proofs.Steps.{happens_does, same_config}
 use Rattle.core_law.specs.Letters.{is_finish}
 use Rattle.core_law.specs.Measures.{measure, weigh}

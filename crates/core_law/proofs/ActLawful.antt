@@ -37,7 +37,7 @@ use Rattle.core_law.proofs.Events.{event_keeps}
 use Rattle.core_law.proofs.Resting.{alone_is_found, token_is_found}
 use Rattle.core_law.proofs.Seats.{IsMade}
 use Rattle.core_law.proofs.Steps.{Serves}
-use Rattle.core_law.proofs.Well.{inside_servers, own_of}
+use Rattle.core_law.proofs.LettersAndActors.{inside_servers, own_of}
 use Rattle.core_law.proofs.PushLawful.{act_pushed, arrives_needs, exhaust_needs, promises_needs, sends_needs, withdraws_needs}
 
 -- An act.

@@ -23,7 +23,7 @@ use Rattle.server_law.specs.Sure.{Sure}
 use Rattle.core_law.specs.Lawful.{IsFact}
 use Rattle.core_law.specs.OnLinks.{Each}
 use Rattle.core_law.proofs.RankSteps.{sound_after}
-use Rattle.core_law.proofs.Gone.{facts_added, facts_moved, facts_same}
+use Rattle.core_law.proofs.TakenUnits.{facts_added, facts_moved, facts_same}
 
 -- the entries that acts make
 abbrev pub is_of_act : Entry → Bool

@@ -16,7 +16,7 @@ use Rattle.core_law.specs.Letters.{one}
 use Rattle.core_law.specs.Pushed.{IsPushed, letters_of, on_way}
 use Rattle.core_law.specs.Pushes.{open_letter, open_of, promised_letter, travels_letter, travels_of}
 use Rattle.core_law.specs.Seats.{AreBrought}
-use Rattle.core_law.proofs.Apart.{promised_opens}
+use Rattle.core_law.proofs.FreeUnits.{promised_opens}
 use Rattle.core_law.proofs.PushCounts.{not_promised}
 use Rattle.core_law.proofs.Sums.{links_le}
 

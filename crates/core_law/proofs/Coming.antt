@@ -1,6 +1,6 @@
 -- What the entries of a server make of the rank whose request it handled: its answer comes back.
 use Rattle.core_law.proofs.Notes.{notes_in}
-use Rattle.core_law.proofs.Gone.{facts_added, facts_moved, facts_of, facts_same}
+use Rattle.core_law.proofs.TakenUnits.{facts_added, facts_moved, facts_of, facts_same}
 use Rattle.std.proofs.Common.{◌≡◌, ◌<◌, ℕ, ◌+◌, Bool, true, false, List, [], ◌∷◌, ◌++◌, length, Option, Some, None, refl, sym, ap, ◌∙◌, subst, find, get_or, append-nil, arith}
 use Rattle.std.specs.Prelude.{All, option_and_then, Contains}
 use Rattle.std.proofs.lemmas.Bool.{eq-eqb}

@@ -27,11 +27,11 @@ use Rattle.core_law.specs.Well.{IsWell}
 use Rattle.core_law.proofs.Actors.{every_pool}
 use Rattle.core_law.proofs.EveryRun.{begins_well, pool_at, well_kept}
 use Rattle.core_law.proofs.OnLinks.{all_zero}
-use Rattle.core_law.proofs.Owed.{no_sum}
+use Rattle.core_law.proofs.OwedByRanks.{no_sum}
 use Rattle.core_law.proofs.PushRows.{elsewhere}
 use Rattle.core_law.proofs.Sums.{one_adds}
 use Rattle.core_law.proofs.Steps.{A_call, A_request, An_answer, Does, Serves, happens_does}
-use Rattle.core_law.proofs.Well.{inside_servers}
+use Rattle.core_law.proofs.LettersAndActors.{inside_servers}
 
 -- Along a run.
 

@@ -62,7 +62,7 @@ use Rattle.core_law.proofs.ActSeats.{about}
 use Rattle.core_law.proofs.Answering.{IsCalling, IsPutHere, IsReserveHere, IsTryHere, Replies, ask_call, fetch_here, idle_here, one_self, put_here, replies, reply_passes, reserve_here, try_here, waits_so, IsKeepHere, close_here, common_here, count_here, done_here, keep_here}
 use Rattle.core_law.proofs.Coming.{Comes, IsEnded, IsGranted, Waits, accepted_comes, counted_comes, fetched_comes, granted_comes, looked_comes, over_comes, put_ended, refused_comes, reserve_ended, reserve_granted, try_ended, try_granted, fetched_shares, keep_ended, told_comes}
 use Rattle.core_law.proofs.PartComing.{closed_comes, common_comes, kept_comes, part_refused_comes, with_frees}
-use Rattle.core_law.proofs.Gone.{is_taken, taken_gone}
+use Rattle.core_law.proofs.TakenUnits.{is_taken, taken_gone}
 use Rattle.core_law.proofs.Ring.{not_tried}
 use Rattle.core_law.proofs.Seats.{IsMade}
 

@@ -28,7 +28,7 @@ use Rattle.core_law.specs.Well.{IsWell}
 use Rattle.core_law.proofs.Acts.{acts_keep}
 use Rattle.core_law.proofs.Chains.{event_is_acts, inside_after, pool_is}
 use Rattle.core_law.proofs.Steps.{Serves}
-use Rattle.core_law.proofs.Well.{act_well, inside_servers, tick_well}
+use Rattle.core_law.proofs.LettersAndActors.{act_well, inside_servers, tick_well}
 
 -- hints are of wishes that the server kept before
 hint_away : (config : Config) (me : Server) (wishes : List Wish) (a : Act) → All (IsWish config me) wishes → IsHintOf wishes a

@@ -35,7 +35,7 @@ use Rattle.core_law.proofs.RankBegins.{begins}
 use Rattle.core_law.proofs.RankHears.{hears}
 use Rattle.core_law.proofs.RankShapes.{Began, Heard, It_asks, It_leaves, It_rests, IsFarewell, Then}
 use Rattle.core_law.proofs.Steps.{A_call, A_request, An_answer, Begins, Does, Hears, happens_does, rank_shaped, same_config, taken_shaped}
-use Rattle.core_law.proofs.Some.{on_some}
+use Rattle.core_law.proofs.StepResults.{on_some}
 use Rattle.core_law.proofs.Sums.{AreWithin, front_goes}
 
 -- What a step of a rank changes.

@@ -68,9 +68,9 @@ use Rattle.core_law.proofs.Debts.{every_run_paid}
 use Rattle.core_law.proofs.EveryRun.{every_run_well}
 use Rattle.core_law.proofs.Fifo.{front_beside}
 use Rattle.core_law.proofs.Lawful.{every_run_lawful}
-use Rattle.core_law.proofs.Nowhere.{waits_nowhere_beside}
-use Rattle.core_law.proofs.Owed.{all_fit, finishes_are, letters_are}
-use Rattle.core_law.proofs.Own.{all_each, front_fits}
+use Rattle.core_law.proofs.NotWaiting.{waits_nowhere_beside}
+use Rattle.core_law.proofs.OwedByRanks.{all_fit, finishes_are, letters_are}
+use Rattle.core_law.proofs.OwnStates.{all_each, front_fits}
 use Rattle.core_law.proofs.PushRows.{IsOfPushes, push_awaited}
 use Rattle.core_law.proofs.RankShapes.{asked_busy}
 use Rattle.core_law.proofs.RankSteps.{IsNotOf}

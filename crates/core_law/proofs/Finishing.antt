@@ -18,7 +18,7 @@ use Rattle.server_law.specs.State.{ServerModel}
 use Rattle.core_law.specs.Letters.{finish_letter, finishes, is_finish, is_request, one}
 use Rattle.core_law.specs.Measures.{ActKeeps, weigh}
 use Rattle.core_law.proofs.Kept.{IsLaw, RankKeeps}
-use Rattle.core_law.proofs.Own.{IsFirst}
+use Rattle.core_law.proofs.OwnStates.{IsFirst}
 use Rattle.core_law.proofs.RankShapes.{Began, Heard, It_asks, It_leaves, It_rests, Then}
 use Rattle.core_law.proofs.Sums.{others_none}
 

@@ -33,7 +33,7 @@ use Rattle.core_law.proofs.Stamping.{RankPosts, made_posts}
 use Rattle.core_law.proofs.Steps.{A_call, A_request, An_answer, Does, Serves, happens_does, taken_shaped}
 use Rattle.core_law.proofs.Sums.{AreWithin, place_below}
 use Rattle.core_law.proofs.UnderWay.{AllLinks, posted_links, taken_links}
-use Rattle.core_law.proofs.Well.{act_well, inside_servers, own_of, tick_well}
+use Rattle.core_law.proofs.LettersAndActors.{act_well, inside_servers, own_of, tick_well}
 
 -- Lines.
 

@@ -34,7 +34,7 @@ use Rattle.core_law.specs.Well.{IsWell}
 use Rattle.core_law.proofs.ActLawful.{event_lawful}
 use Rattle.core_law.proofs.EveryRun.{begins_well, client_at, pool_at, run_config, well_kept}
 use Rattle.core_law.proofs.Moments.{answer_lawful, call_lawful, idle_said, no_letters}
-use Rattle.core_law.proofs.Owed.{letters_are}
+use Rattle.core_law.proofs.OwedByRanks.{letters_are}
 use Rattle.core_law.proofs.RunsWhere.{alone_run}
 use Rattle.core_law.proofs.RankSteps.{weighs_nothing}
 use Rattle.core_law.proofs.Steps.{A_call, A_request, An_answer, Does, happens_does}

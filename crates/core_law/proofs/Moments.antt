@@ -28,8 +28,8 @@ use Rattle.core_law.specs.Letters.{any_remote, call_letter, one_letter}
 use Rattle.core_law.specs.Measures.{Weights, links_weight, measure, weights}
 use Rattle.core_law.specs.Well.{IsShaped, IsWell}
 use Rattle.core_law.proofs.EveryRun.{answer_heard, answer_within, call_began, call_within}
-use Rattle.core_law.proofs.Nowhere.{waits_nowhere}
-use Rattle.core_law.proofs.Owed.{letters_are}
+use Rattle.core_law.proofs.NotWaiting.{waits_nowhere}
+use Rattle.core_law.proofs.OwedByRanks.{letters_are}
 use Rattle.core_law.proofs.RankSteps.{IsRankStep, rank_lawful}
 use Rattle.core_law.proofs.Steps.{Begins, Hears, taken_shaped, taken_weight}
 use Rattle.core_law.proofs.UnderWay.{at_front, taken_on, zero_on}

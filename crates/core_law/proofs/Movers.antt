@@ -19,7 +19,7 @@ use Rattle.core_law.specs.Pushed.{IsOfPush, IsPushed, letters_of, on_way, pushes
 use Rattle.core_law.specs.Pushes.{open_letter, promised_letter, travels_letter}
 use Rattle.core_law.proofs.Acts.{taken_off_on, taken_square, taken_weight}
 use Rattle.core_law.proofs.OnLinks.{links_next}
-use Rattle.core_law.proofs.Onward.{AreApart, none_pushed, of_one, run_later}
+use Rattle.core_law.proofs.UnpushedUnits.{AreApart, none_pushed, of_one, run_later}
 use Rattle.core_law.proofs.Seats.{IsMade, letters_next}
 use Rattle.core_law.proofs.Sums.{others_none}
 use Rattle.core_law.proofs.UnderWay.{both, weaker, zero_on}

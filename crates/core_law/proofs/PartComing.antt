@@ -31,7 +31,7 @@ use Rattle.rank_client.specs.Rules.{asked, begun_batch}
 use Rattle.rank_client.specs.State.{ClientModel}
 use Rattle.server_law.specs.Acts.{batch_of, frees, unit_of as unit_named}
 use Rattle.core_law.proofs.Coming.{Comes, Waits, accepted_same, no_call, one_call, rank_changed, ring_next, single}
-use Rattle.core_law.proofs.Gone.{facts_same}
+use Rattle.core_law.proofs.TakenUnits.{facts_same}
 
 -- A part is freed after the entry, if it is due then.
 

@@ -38,7 +38,7 @@ use Rattle.core_law.specs.Pushes.{promised_letter, travels_letter}
 use Rattle.core_law.proofs.Acts.{others_told}
 use Rattle.core_law.proofs.Coming.{single}
 use Rattle.core_law.proofs.Movers.{OpensNone, SaysOfPush, mover_passes, mover_stays}
-use Rattle.core_law.proofs.Onward.{run_promises}
+use Rattle.core_law.proofs.UnpushedUnits.{run_promises}
 use Rattle.core_law.proofs.PushCounts.{moved_way, named_more, promise_gone, run_way}
 use Rattle.core_law.proofs.Seats.{IsMade}
 use Rattle.core_law.proofs.Sums.{others_none}

@@ -37,12 +37,12 @@ use Rattle.core_law.specs.Found.{found_in}
 use Rattle.core_law.specs.Lawful.{IsLawful}
 use Rattle.core_law.specs.Pushed.{IsPushed, OfPush}
 use Rattle.core_law.specs.Well.{IsWell}
-use Rattle.core_law.proofs.Apart.{queries_pushed}
+use Rattle.core_law.proofs.FreeUnits.{queries_pushed}
 use Rattle.core_law.proofs.Deciding.{IsFreeAt, free_at}
 use Rattle.core_law.proofs.PushActs.{arrives_pushed, cancels_pushed, finds_pushed, plain_pushed, promises_pushed, refuses_pushed, sends_pushed, taken_of, withdraws_pushed}
 use Rattle.core_law.proofs.Pushing.{begins_push}
 use Rattle.core_law.proofs.Seats.{IsMade}
-use Rattle.core_law.proofs.Well.{fit_of}
+use Rattle.core_law.proofs.LettersAndActors.{fit_of}
 
 abbrev is_free : Bag → Server → Work → Type 0
 is_free b me unit = unit_of b unit.id ≡ Some (record { unit = unit; place = Free me })

@@ -38,7 +38,7 @@ use Rattle.core_law.specs.Pushed.{OfPush}
 use Rattle.core_law.specs.Pushes.{is_push, push_as, pushing_to}
 use Rattle.core_law.specs.Well.{IsWell}
 use Rattle.core_law.proofs.Fifo.{front_held}
-use Rattle.core_law.proofs.Owed.{no_sum}
+use Rattle.core_law.proofs.OwedByRanks.{no_sum}
 use Rattle.core_law.proofs.Remote.{one_is}
 use Rattle.core_law.proofs.Sums.{one_adds}
 

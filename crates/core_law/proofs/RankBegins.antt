@@ -40,7 +40,7 @@ use Rattle.core_law.specs.OnLinks.{Each}
 use Rattle.core_law.specs.Measures.{weigh}
 use Rattle.core_law.specs.Own.{IsAt, IsCall, IsClient, IsNote}
 use Rattle.core_run.specs.World.{server_named}
-use Rattle.core_law.proofs.Some.{OnSome, if_some, mapped_some}
+use Rattle.core_law.proofs.StepResults.{OnSome, if_some, mapped_some}
 use Rattle.core_law.proofs.Posts.{lettered, requests_each, requests_entries, requests_sends, requests_state, requests_weight}
 use Rattle.core_law.proofs.UnderWay.{each_weaker}
 use Rattle.core_law.proofs.RankShapes.{Began, ChangesRank, IsFarewell, It_asks, It_leaves, It_rests, asked_busy, asked_number, asked_request}

@@ -29,7 +29,7 @@ use Rattle.core_law.specs.OnLinks.{Each}
 use Rattle.adlb_unit.specs.Kinds.{is_to_rank}
 use Rattle.core_law.specs.Letters.{request_of}
 use Rattle.core_law.specs.Own.{IsAt, IsCall, IsClient, IsNote}
-use Rattle.core_law.proofs.Some.{OnSome, if_some, mapped_some}
+use Rattle.core_law.proofs.StepResults.{OnSome, if_some, mapped_some}
 use Rattle.bag_ledger.specs.declared.entries.Answer.{Answer}
 use Rattle.core_law.proofs.RankShapes.{ChangesRank, Heard, It_asks, It_rests}
 

@@ -29,7 +29,7 @@ use Rattle.core_law.specs.Well.{IsShaped, IsSquare}
 use Rattle.core_law.proofs.EveryRun.{begins_well}
 use Rattle.core_law.proofs.InLine.{empty_link}
 use Rattle.core_law.proofs.OnLinks.{zero_from}
-use Rattle.core_law.proofs.Onward.{none_pushed, run_later, run_promises}
+use Rattle.core_law.proofs.UnpushedUnits.{none_pushed, run_later, run_promises}
 use Rattle.core_law.proofs.PushCounts.{run_way}
 use Rattle.core_law.proofs.RankShapes.{ChangesRank}
 use Rattle.core_law.proofs.Sums.{AreWithin, front_goes, place_actor, place_below, post_weight}

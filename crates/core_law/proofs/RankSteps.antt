@@ -34,7 +34,7 @@ use Rattle.core_law.specs.Others.{teller, tells_of}
 use Rattle.core_law.specs.Own.{IsClient}
 use Rattle.core_law.specs.Well.{IsSquare, IsWell}
 use Rattle.core_law.proofs.RunsWhere.{split_where}
-use Rattle.core_law.proofs.Gone.{facts_of, facts_same}
+use Rattle.core_law.proofs.TakenUnits.{facts_of, facts_same}
 use Rattle.core_law.proofs.OtherCalls.{calls_stay}
 use Rattle.core_law.proofs.OtherRanks.{clients_stay}
 use Rattle.core_law.proofs.RankShapes.{ChangesRank, IsFarewell, It_asks, It_leaves, It_rests, Then}

@@ -15,7 +15,7 @@ use Rattle.core_law.specs.Letters.{about, if_asked, one, remotes, remotes_letter
 use Rattle.core_law.specs.Measures.{due, server_weight, weigh, weights}
 use Rattle.core_law.specs.Well.{IsWell}
 use Rattle.core_law.proofs.Fifo.{front_held}
-use Rattle.core_law.proofs.Owed.{no_sum}
+use Rattle.core_law.proofs.OwedByRanks.{no_sum}
 use Rattle.core_law.proofs.Sums.{one_adds}
 
 -- Sums.

@@ -35,13 +35,13 @@ use Rattle.core_law.specs.Letters.{finishes, one}
 use Rattle.core_law.specs.Measures.{measure, server_weight, weigh_at}
 use Rattle.core_law.specs.Own.{IsEntry}
 use Rattle.core_law.specs.Well.{IsWell}
-use Rattle.core_law.proofs.Alone.{alone_unpromised}
+use Rattle.core_law.proofs.OneServer.{alone_unpromised}
 use Rattle.core_law.proofs.Answering.{IsReserveHere, waiting_call}
 use Rattle.core_law.proofs.Deciding.{asks_now}
 use Rattle.core_law.proofs.Fifo.{part_le}
-use Rattle.core_law.proofs.Owed.{finishes_are}
+use Rattle.core_law.proofs.OwedByRanks.{finishes_are}
 use Rattle.core_law.proofs.RunsWhere.{alone_run}
-use Rattle.core_law.proofs.Well.{fit_of}
+use Rattle.core_law.proofs.LettersAndActors.{fit_of}
 
 -- a rank whose Finish letter was handled has finished
 pub client_finished : (w : World) (k : Server) (rank : Rank) → IsWell w → rank.0 < w.config.ranks → k.0 < w.config.servers

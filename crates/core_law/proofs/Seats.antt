@@ -32,7 +32,7 @@ use Rattle.core_law.proofs.Actors.{every_pool}
 use Rattle.core_law.proofs.Acts.{counted_kept, sent_each, sent_within, taken_off_on, taken_square, taken_weight}
 use Rattle.core_law.proofs.RunsWhere.{split_where}
 use Rattle.core_law.proofs.Fifo.{part_le}
-use Rattle.core_law.proofs.Owed.{letters_are, no_sum}
+use Rattle.core_law.proofs.OwedByRanks.{letters_are, no_sum}
 use Rattle.core_law.proofs.RankSteps.{AreSilent, one_is, run_silent, run_stands, weighs_nothing}
 use Rattle.core_law.proofs.Sums.{weigh_at-set}
 use Rattle.core_law.proofs.UnderWay.{posted_on, weaker, zero_on}

@@ -13,10 +13,10 @@ use Rattle.core_check_law.specs.Settling.{Has}
 use Rattle.core_law.proofs.Actors.{pool_there}
 use Rattle.core_law.proofs.Chains.{inside_after, pool_is}
 use Rattle.core_law.proofs.Events.{IsChain, event_chain}
-use Rattle.core_law.proofs.Own.{counted_activity}
+use Rattle.core_law.proofs.OwnStates.{counted_activity}
 use Rattle.core_law.proofs.Steps.{Serves}
 use Rattle.core_law.proofs.UnderWay.{each_parts}
-use Rattle.core_law.proofs.Well.{act_well, inside_servers, tick_well}
+use Rattle.core_law.proofs.LettersAndActors.{act_well, inside_servers, tick_well}
 use Rattle.core_law.specs.Acting.{AreActs, AreFront, acted, acted_all, ticks}
 use Rattle.core_law.specs.Measures.{heard_weight, measure}
 use Rattle.core_law.specs.Own.{IsEntry, IsPool, NoneOwes}

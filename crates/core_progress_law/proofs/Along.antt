@@ -14,15 +14,15 @@ use Rattle.core_check_law.proofs.Ticks.{after, tick_ringed}
 use Rattle.core_check_law.specs.Settling.{Has}
 use Rattle.core_check_law.specs.Turn.{AreOnTurn}
 use Rattle.core_law.proofs.Actors.{every_pool}
-use Rattle.core_law.proofs.Calm.{every_run_calm}
+use Rattle.core_law.proofs.CalmServers.{every_run_calm}
 use Rattle.core_law.proofs.Debts.{every_run_paid}
 use Rattle.core_law.proofs.EveryRun.{answer_heard, answer_within, begins_well, call_began, call_within, client_at, every_run_well, pool_at, run_config, well_kept}
 use Rattle.core_law.proofs.Fifo.{part_le}
-use Rattle.core_law.proofs.Owed.{no_sum}
+use Rattle.core_law.proofs.OwedByRanks.{no_sum}
 use Rattle.core_law.proofs.RankShapes.{It_asks, It_leaves, It_rests, Then}
 use Rattle.core_law.proofs.Steps.{A_call, A_request, An_answer, Begins, Does, Hears, happens_does, rank_weight, taken_shaped}
 use Rattle.core_law.proofs.Sums.{AreWithin}
-use Rattle.core_law.proofs.Well.{inside_servers, tick_well}
+use Rattle.core_law.proofs.LettersAndActors.{inside_servers, tick_well}
 use Rattle.core_law.specs.Acting.{ticks}
 use Rattle.core_law.specs.Letters.{is_request, one}
 use Rattle.core_law.specs.Measures.{measure, weigh}

@@ -8,7 +8,7 @@ use Rattle.adlb_unit.specs.declared.names.Rank.{Rank}
 use Rattle.adlb_unit.specs.declared.names.Server.{Server}
 use Rattle.core_check_law.proofs.EndsAlong.{shutdown_told}
 use Rattle.core_check_law.proofs.Rings.{every_run_ringed}
-use Rattle.core_check_law.proofs.Shut.{shut_is_right}
+use Rattle.core_check_law.proofs.ShutServers.{shut_is_right}
 use Rattle.core_check_law.proofs.Tokens.{token_count}
 use Rattle.core_check_law.specs.Ends.{end_letter, is_shutdown}
 use Rattle.core_check_law.specs.Tokens.{tokens}
@@ -16,10 +16,10 @@ use Rattle.core_law.proofs.Actors.{pool_beside, pool_there, with_pool}
 use Rattle.core_law.proofs.Debts.{every_run_paid}
 use Rattle.core_law.proofs.EveryRun.{begins_well, every_run_well, pool_at, run_config, well_kept}
 use Rattle.core_law.proofs.OnLinks.{zero_from}
-use Rattle.core_law.proofs.Owed.{finishes_are, no_sum}
+use Rattle.core_law.proofs.OwedByRanks.{finishes_are, no_sum}
 use Rattle.core_law.proofs.Steps.{A_call, A_request, An_answer, Does, happens_does, same_config}
 use Rattle.core_law.proofs.Sums.{one_adds}
-use Rattle.core_law.proofs.Well.{inside_servers}
+use Rattle.core_law.proofs.LettersAndActors.{inside_servers}
 use Rattle.core_law.specs.Letters.{finish_letter, finishes, is_finish, one}
 use Rattle.core_law.specs.Measures.{Weights, links_weight, measure, server_weight, weigh_at}
 use Rattle.core_law.specs.OnLinks.{Each}

@@ -5,7 +5,7 @@ use Rattle.adlb_unit.specs.declared.actors.Actor.{Actor}
 use Rattle.adlb_unit.specs.declared.configs.Config.{Config}
 use Rattle.adlb_unit.specs.declared.letters.Letter.{Letter}
 use Rattle.bag_ledger.proofs.Tests.{some_is}
-use Rattle.core_law.proofs.Own.{counted_activity}
+use Rattle.core_law.proofs.OwnStates.{counted_activity}
 use Rattle.exhaust_ring.specs.Ring.{may_start}
 use Rattle.server_law.proofs.Waiters.{all_done_joined, done_kept, done_named}
 use Rattle.server_law.specs.Acts.{Act, Notes_own, Notices, Starts, check_alone, does, says}

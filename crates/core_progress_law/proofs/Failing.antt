@@ -14,9 +14,9 @@ use Rattle.core_check_law.specs.OnWay.{IsOnWay, IsRinged, of_home, reach}
 use Rattle.core_check_law.specs.Settling.{Has}
 use Rattle.core_check_law.specs.Turn.{AreOnTurn, IsOnTurn}
 use Rattle.core_law.proofs.Fifo.{part_le}
-use Rattle.core_law.proofs.Owed.{no_sum, none_wait}
+use Rattle.core_law.proofs.OwedByRanks.{no_sum, none_wait}
 use Rattle.core_law.proofs.Sums.{links_le}
-use Rattle.core_law.proofs.Well.{own_of}
+use Rattle.core_law.proofs.LettersAndActors.{own_of}
 use Rattle.core_law.specs.Letters.{any_remote, any_remote_letter, any_remote_waits, one, remote_letter}
 use Rattle.core_law.specs.Measures.{due, links_weight, measure, server_weight, weights}
 use Rattle.core_law.specs.Own.{NoneOwes}

@@ -6,7 +6,7 @@ use Rattle.adlb_unit.specs.declared.messages.Message.{Message}
 use Rattle.adlb_unit.specs.declared.names.Server.{Server}
 use Rattle.core_check_law.proofs.Classes.{IsMine, IsOthers, now}
 use Rattle.core_check_law.specs.OnWay.{IsRinged, IsUnchanged, last_check}
-use Rattle.core_law.proofs.Well.{own_of}
+use Rattle.core_law.proofs.LettersAndActors.{own_of}
 use Rattle.core_law.specs.Acting.{IsAct, acted}
 use Rattle.core_law.specs.Measures.{heard_weight, said_weight}
 use Rattle.core_law.specs.Well.{IsWell}

@@ -8,9 +8,9 @@ use Rattle.core_check_law.proofs.Tokens.{token_count}
 use Rattle.core_check_law.specs.OnWay.{IsRinged, IsUnchanged, last_check}
 use Rattle.core_check_law.specs.Tokens.{tokens}
 use Rattle.core_law.proofs.OnLinks.{links_next}
-use Rattle.core_law.proofs.Owed.{no_sum}
+use Rattle.core_law.proofs.OwedByRanks.{no_sum}
 use Rattle.core_law.proofs.Sums.{links_le}
-use Rattle.core_law.proofs.Well.{own_of}
+use Rattle.core_law.proofs.LettersAndActors.{own_of}
 use Rattle.core_law.specs.Acting.{IsAct, acted}
 use Rattle.core_law.specs.Letters.{one}
 use Rattle.core_law.specs.Measures.{heard_weight, links_weight, measure, said_weight}

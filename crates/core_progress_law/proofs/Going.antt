@@ -11,10 +11,10 @@ use Rattle.core_check_law.specs.OnWay.{IsRinged}
 use Rattle.core_law.proofs.Actors.{pool_beside, pool_there}
 use Rattle.core_law.proofs.Chains.{pool_is}
 use Rattle.core_law.proofs.Events.{IsChain, event_chain}
-use Rattle.core_law.proofs.Owed.{no_sum}
-use Rattle.core_law.proofs.Own.{counted_activity}
+use Rattle.core_law.proofs.OwedByRanks.{no_sum}
+use Rattle.core_law.proofs.OwnStates.{counted_activity}
 use Rattle.core_law.proofs.Steps.{Serves}
-use Rattle.core_law.proofs.Well.{act_well, inside_servers, tick_well}
+use Rattle.core_law.proofs.LettersAndActors.{act_well, inside_servers, tick_well}
 use Rattle.core_law.specs.Acting.{IsAct, acted, acted_all, ticks}
 use Rattle.core_law.specs.Measures.{measure}
 use Rattle.core_law.specs.Own.{NoneOwes}

@@ -8,8 +8,8 @@ use Rattle.adlb_unit.specs.declared.messages.Message.{Message}
 use Rattle.adlb_unit.specs.declared.names.Rank.{Rank}
 use Rattle.adlb_unit.specs.declared.names.Server.{Server}
 use Rattle.core_law.proofs.EveryRun.{every_run_well, run_config}
-use Rattle.core_law.proofs.Owed.{all_fit}
-use Rattle.core_law.proofs.Own.{fits_is}
+use Rattle.core_law.proofs.OwedByRanks.{all_fit}
+use Rattle.core_law.proofs.OwnStates.{fits_is}
 use Rattle.core_law.proofs.UnderWay.{each_weaker}
 use Rattle.core_law.specs.Letters.{fits_between, is_finish, is_request, misfit, one}
 use Rattle.core_law.specs.Measures.{links_weight, weigh}

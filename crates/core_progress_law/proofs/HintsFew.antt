@@ -20,12 +20,12 @@ use Rattle.core_law.proofs.Events.{IsChain, event_chain}
 use Rattle.core_law.proofs.EveryRun.{answer_within, begins_well, call_within, pool_at, run_config, well_kept}
 use Rattle.core_law.proofs.Fifo.{letters_for}
 use Rattle.core_law.proofs.InLine.{empty_link}
-use Rattle.core_law.proofs.Owed.{letters_are}
+use Rattle.core_law.proofs.OwedByRanks.{letters_are}
 use Rattle.core_law.proofs.Steps.{A_call, A_request, An_answer, Does, Serves, happens_does, taken_shaped}
-use Rattle.core_law.proofs.Own.{fits_is}
+use Rattle.core_law.proofs.OwnStates.{fits_is}
 use Rattle.core_law.proofs.Sums.{AreWithin, links_le, others_none, place_below}
 use Rattle.core_law.proofs.UnderWay.{AllLinks, posted_links, taken_links, zero_on}
-use Rattle.core_law.proofs.Well.{act_well, inside_servers, own_of, tick_well}
+use Rattle.core_law.proofs.LettersAndActors.{act_well, inside_servers, own_of, tick_well}
 use Rattle.core_law.specs.Acting.{AreActs, IsAct, acted, acted_all, taken_off, ticks}
 use Rattle.core_law.specs.Letters.{any_remote_letter, call_letter, one, one_letter, remote_letter}
 use Rattle.core_law.specs.Measures.{heard_weight, measure, said_weight, weigh, weights}

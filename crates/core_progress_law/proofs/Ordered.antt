@@ -52,10 +52,10 @@ use Rattle.core_law.proofs.Events.{event_chain}
 use Rattle.core_law.proofs.EveryRun.{answer_heard, call_began, inside_ranks}
 use Rattle.core_law.proofs.Posts.{requests_entries, requests_state}
 use Rattle.core_law.proofs.RankShapes.{ChangesRank}
-use Rattle.core_law.proofs.Some.{OnSome, if_some, on_some}
+use Rattle.core_law.proofs.StepResults.{OnSome, if_some, on_some}
 use Rattle.core_law.proofs.Steps.{Begins, Hears, Serves}
 use Rattle.core_law.proofs.UnderWay.{each_weaker}
-use Rattle.core_law.proofs.Well.{act_well, inside_servers}
+use Rattle.core_law.proofs.LettersAndActors.{act_well, inside_servers}
 use Rattle.core_check_law.specs.Settling.{AsksAs, IsResting, IsSettling, Settles}
 use Rattle.core_check_law.proofs.Classes.{IsMine, IsOthers, is_alone, now}
 use Rattle.core_check_law.proofs.Events.{finds_settled, finds_settling, takes_some, tick_holds, tick_settles}
@@ -64,7 +64,7 @@ use Rattle.core_check_law.proofs.Legal.{IsChecked}
 use Rattle.core_check_law.proofs.Idle.{rank_inside}
 use Rattle.core_law.specs.Found.{found_in}
 use Rattle.core_check_law.proofs.Lists.{home_below}
-use Rattle.core_check_law.proofs.Modest.{EndAlone, IsModest, ends_alone, hear_answers}
+use Rattle.core_check_law.proofs.ToldRanks.{EndAlone, IsModest, ends_alone, hear_answers}
 use Rattle.core_check_law.proofs.Ranks.{client_asks, client_ends}
 use Rattle.core_check_law.proofs.Runs.{act_other, finds, is_finding, rank_other}
 use Rattle.core_check_law.proofs.Ticks.{after}

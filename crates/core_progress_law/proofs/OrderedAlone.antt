@@ -2,7 +2,7 @@
 use Rattle.std.proofs.Common.{ℕ, ◌≡◌, ◌<◌, ◌⊎◌, inl, inr, ◌==◌, ◌&&◌, not, Bool, true, false, cond, List, [], ◌∷◌, ◌++◌, append-nil, Option, None, Some, refl, sym, ap, ◌∙◌, subst, arith, length, ◌≢◌}
 use Rattle.std.specs.Option.{IfSome, option_map}
 use Rattle.std.proofs.lemmas.Bool.{cases_eq}
-use Rattle.core_check_law.proofs.Told.{Settles, more_told, settles_by, told_is, IsTold, act_told}
+use Rattle.core_check_law.proofs.IdleAreTold.{Settles, more_told, settles_by, told_is, IsTold, act_told}
 use Rattle.core_law.proofs.Steps.{A_call, A_request, An_answer, Does, Serves, happens_does}
 use Rattle.server_law.specs.Acts.{Act, Checks_alone, Finds, Finds_alone, Notes_own, Notices, Shuts_alone, Starts, check_alone}
 use Rattle.adlb_unit.specs.declared.actors.Actor.{Actor}
@@ -19,7 +19,7 @@ use Rattle.core_run.specs.declared.events.Event.{Event}
 use Rattle.core_check_law.specs.Settling.{Has}
 use Rattle.core_law.proofs.Events.{IsChain, event_chain}
 use Rattle.core_law.specs.Lawful.{IsLawful, IsWaiting}
-use Rattle.core_check_law.proofs.Modest.{IsModest}
+use Rattle.core_check_law.proofs.ToldRanks.{IsModest}
 use Rattle.server_law.proofs.Plans.{IsPlan}
 use Rattle.core_law.specs.Own.{IsPool}
 use Rattle.core_law.specs.Well.{IsWell}
@@ -37,7 +37,7 @@ use Rattle.reserve_path.specs.declared.waits.Waiting.{Waiting}
 use Rattle.server_law.specs.Expected.{WaitsIdle}
 use Rattle.core_run.specs.World.{World, client_of, pool_of, server_named, start}
 use Rattle.core_law.proofs.ActLawful.{act_lawful, tick_lawful}
-use Rattle.core_law.proofs.Well.{act_well, inside_servers, tick_well}
+use Rattle.core_law.proofs.LettersAndActors.{act_well, inside_servers, tick_well}
 use Rattle.server_law.specs.Step.{acts, next_stamp, raises, rule, ticked}
 use Rattle.server_law.proofs.Waiters.{all_done_joined}
 use Rattle.core_check_law.proofs.Legal.{begins_checked, run_checked, all_told}
@@ -46,7 +46,7 @@ use Rattle.server_law.specs.Endings.{checks, ends_event, finds_alone, is_noted, 
 use Rattle.core_law.proofs.Resting.{client_finished}
 use Rattle.core_progress_law.proofs.Ends.{decided_split}
 use Rattle.core_check_law.proofs.Lists.{each_has, has_at, home_below}
-use Rattle.core_check_law.proofs.After.{every_run_after}
+use Rattle.core_check_law.proofs.AfterEnds.{every_run_after}
 use Rattle.core_law.proofs.EveryRun.{every_run_well, run_config}
 use Rattle.core_check_law.proofs.Runs.{finds}
 use Rattle.adlb_unit.specs.Targets.{home}
@@ -63,7 +63,7 @@ use Rattle.adlb_unit.specs.declared.notes.End.TheVariants as ends_by
 use Rattle.bag_ledger.proofs.Tests.{some_is}
 use Rattle.bag_ledger.specs.declared.entries.Entry.TheVariants as enters
 use Rattle.rank_client.specs.declared.pendings.Pending.TheVariants as waits_for
-use Rattle.core_check_law.proofs.After.{every_run_after}
+use Rattle.core_check_law.proofs.AfterEnds.{every_run_after}
 use Rattle.server_law.proofs.Handled.{planned}
 use Rattle.core_progress_law.proofs.AloneGoes.{all_idle}
 

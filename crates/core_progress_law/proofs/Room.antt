@@ -15,8 +15,8 @@ use Rattle.core_check_law.specs.Tokens.{token_letter}
 use Rattle.core_law.proofs.Debts.{every_run_paid, letters_of_push}
 use Rattle.core_law.proofs.EveryRun.{every_run_well, run_config}
 use Rattle.core_law.proofs.OnLinks.{zero_from}
-use Rattle.core_law.proofs.Owed.{all_fit, finishes_are, letters_are}
-use Rattle.core_law.proofs.Own.{fits_is}
+use Rattle.core_law.proofs.OwedByRanks.{all_fit, finishes_are, letters_are}
+use Rattle.core_law.proofs.OwnStates.{fits_is}
 use Rattle.core_law.proofs.Sums.{links_le}
 use Rattle.core_law.proofs.UnderWay.{each_weaker, weaker}
 use Rattle.core_law.specs.Letters.{call_letter, finish_letter, fits_between, is_finish, is_request, misfit, one, one_letter, remote_letter}

@@ -27,13 +27,13 @@ use Rattle.core_law.proofs.EveryRun.{AreZero, answer_within, begins_even, begins
 use Rattle.core_law.proofs.Fifo.{front_le}
 use Rattle.core_law.proofs.Lawful.{Lawful, every_run_lawful, kept_lawful}
 use Rattle.core_law.proofs.OnLinks.{links_next}
-use Rattle.core_law.proofs.Owed.{no_sum}
+use Rattle.core_law.proofs.OwedByRanks.{no_sum}
 use Rattle.core_law.proofs.Posts.{requests_state}
-use Rattle.core_law.proofs.Some.{OnSome, if_some, on_some}
+use Rattle.core_law.proofs.StepResults.{OnSome, if_some, on_some}
 use Rattle.core_law.proofs.Steps.{A_call, A_request, An_answer, Begins, Does, Hears, Serves, happens_does, rank_weight, taken_shaped}
 use Rattle.core_law.proofs.Sums.{AreWithin, front_goes, others_none}
 use Rattle.core_law.proofs.UnderWay.{at_front}
-use Rattle.core_law.proofs.Well.{inside_servers, own_of}
+use Rattle.core_law.proofs.LettersAndActors.{inside_servers, own_of}
 use Rattle.core_law.specs.Acting.{IsAct, acted, ticks}
 use Rattle.core_law.specs.Lawful.{IsAsked, IsOfCall, IsWaiting, OfCall}
 use Rattle.core_law.specs.Letters.{no_rank, no_server, one, request_of}

@@ -12,8 +12,8 @@ use Rattle.core_check_law.proofs.Lists.{each_has, has_at}
 use Rattle.core_law.proofs.Debts.{letters_of_push}
 use Rattle.core_law.proofs.Fifo.{part_le}
 use Rattle.core_law.proofs.OnLinks.{zero_from}
-use Rattle.core_law.proofs.Owed.{all_fit, finishes_are, letters_are, no_sum}
-use Rattle.core_law.proofs.Own.{fits_is}
+use Rattle.core_law.proofs.OwedByRanks.{all_fit, finishes_are, letters_are, no_sum}
+use Rattle.core_law.proofs.OwnStates.{fits_is}
 use Rattle.core_law.proofs.Sums.{links_le, one_adds}
 use Rattle.core_law.proofs.UnderWay.{both, weaker, zero_on}
 use Rattle.core_law.specs.Letters.{call_letter, call_waits, finish_letter, finishes, if_idle, is_request, misfit, one, one_letter, remote_letter}

@@ -10,7 +10,7 @@ use Rattle.core_check_law.proofs.Homes.{each_of_all}
 use Rattle.core_check_law.proofs.Lists.{each_has, has_there}
 use Rattle.core_check_law.specs.Settling.{Has}
 use Rattle.core_law.proofs.OnLinks.{links_next}
-use Rattle.core_law.proofs.Well.{own_of}
+use Rattle.core_law.proofs.LettersAndActors.{own_of}
 use Rattle.core_law.specs.Acting.{IsAct, acted}
 use Rattle.core_law.specs.Letters.{about, no_rank, no_server}
 use Rattle.core_law.specs.Measures.{Weights, heard_weight, links_weight, said_weight}

@@ -18,17 +18,17 @@ use Rattle.core_check_law.proofs.Homes.{each_of_all}
 use Rattle.core_check_law.proofs.Lists.{each_has, has_at, has_filter}
 use Rattle.core_check_law.specs.Settling.{Has}
 use Rattle.core_law.proofs.Actors.{pool_there}
-use Rattle.core_law.proofs.Calm.{every_run_calm}
+use Rattle.core_law.proofs.CalmServers.{every_run_calm}
 use Rattle.core_law.proofs.Chains.{inside_after, pool_is}
 use Rattle.core_law.proofs.Events.{IsChain, event_chain}
 use Rattle.core_law.proofs.EveryRun.{answer_within, call_within, every_run_well, pool_at, run_config}
 use Rattle.core_law.proofs.Lawful.{Lawful, every_run_lawful}
-use Rattle.core_law.proofs.Owed.{no_sum}
+use Rattle.core_law.proofs.OwedByRanks.{no_sum}
 use Rattle.core_law.proofs.Remote.{remote_awaits}
 use Rattle.core_law.proofs.Steps.{A_call, A_request, An_answer, Does, Serves, happens_does, rank_weight, taken_shaped}
 use Rattle.core_law.proofs.Sums.{AreWithin, front_goes, links_le}
 use Rattle.core_law.proofs.UnderWay.{at_front}
-use Rattle.core_law.proofs.Well.{act_well, inside_servers, tick_well}
+use Rattle.core_law.proofs.LettersAndActors.{act_well, inside_servers, tick_well}
 use Rattle.core_law.specs.Acting.{AreActs, AreFront, IsAct, acted, acted_all, ticks}
 use Rattle.core_law.specs.Lawful.{IsOfRemote, IsWaiting, OfCall}
 use Rattle.core_law.specs.Letters.{one, remotes_letter}

@@ -6,7 +6,7 @@ use Rattle.adlb_unit.specs.declared.names.Server.{Server}
 use Rattle.core_law.proofs.Actors.{every_pool}
 use Rattle.core_law.proofs.EveryRun.{begins_well, pool_at, well_kept}
 use Rattle.core_law.proofs.Steps.{A_call, A_request, An_answer, Does, happens_does}
-use Rattle.core_law.proofs.Well.{inside_servers}
+use Rattle.core_law.proofs.LettersAndActors.{inside_servers}
 use Rattle.core_law.specs.Well.{IsWell}
 use Rattle.core_run.specs.Runs.{Runs}
 use Rattle.core_run.specs.World.{World, happens, pool_of, start}

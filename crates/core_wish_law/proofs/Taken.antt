@@ -8,7 +8,7 @@ use Rattle.core_check_law.proofs.Classes.{IsMine, IsOthers, now}
 use Rattle.core_check_law.proofs.Lists.{has_map, has_there}
 use Rattle.core_check_law.specs.Settling.{Has}
 use Rattle.core_law.proofs.Acts.{taken_weight}
-use Rattle.core_law.proofs.Well.{own_of}
+use Rattle.core_law.proofs.LettersAndActors.{own_of}
 use Rattle.core_law.specs.Acting.{IsAct, acted}
 use Rattle.core_law.specs.Letters.{about, one}
 use Rattle.core_law.specs.Measures.{heard_weight, said_weight}

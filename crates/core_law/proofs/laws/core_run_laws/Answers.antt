@@ -1,4 +1,4 @@
-use Rattle.core_law.proofs.Calm.{every_run_calm}
+use Rattle.core_law.proofs.CalmServers.{every_run_calm}
 use Rattle.core_law.proofs.Expected.{none_is_stuck}
 use Rattle.core_law.proofs.Lawful.{actors_seated, alone_is_legal, is_run, ledger_is_legal, ledger_tells, run_is, servers_agree, units_are_brought}
 use Rattle.core_law.proofs.laws.core_run_laws.Goals as goal

@@ -35,8 +35,8 @@ use Rattle.core_law.specs.OnLinks.{Each}
 use Rattle.core_law.proofs.Acts.{counted_own}
 use Rattle.core_law.proofs.UnderWay.{each_append}
 use Rattle.core_check_law.proofs.Follows.{Suits}
-use Rattle.core_check_law.proofs.Still.{is_still}
-use Rattle.core_check_law.proofs.Walk.{goes_on}
+use Rattle.core_check_law.proofs.RestKept.{is_still}
+use Rattle.core_check_law.proofs.ThroughActs.{goes_on}
 
 -- Deciders.
 

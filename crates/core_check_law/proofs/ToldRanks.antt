@@ -23,7 +23,7 @@ use Rattle.rank_client.specs.State.{ClientModel}
 use Rattle.rank_client.specs.Step.{Made, begin, call_stamp, counted, hear, letter_stamp, made, post, posted, ticked}
 use Rattle.rank_client.specs.declared.pendings.Pending.{Pending}
 use Rattle.rank_client.specs.declared.pendings.Pending.TheVariants as waits_for
-use Rattle.core_law.proofs.Some.{OnSome, if_some, mapped_some, on_some}
+use Rattle.core_law.proofs.StepResults.{OnSome, if_some, mapped_some, on_some}
 use Rattle.core_law.specs.OnLinks.{Each}
 use Rattle.core_check_law.specs.After.{AreIdle, is_work}
 

@@ -19,8 +19,8 @@ use Rattle.core_law.proofs.Actors.{every_pool}
 use Rattle.core_law.proofs.Acts.{balance_kept, shape_kept}
 use Rattle.core_law.proofs.Finishing.{finish_act}
 use Rattle.core_law.proofs.Balances.{any_even, calls_even, numbers_even, remotes_even}
-use Rattle.core_law.proofs.Owed.{all_fit}
-use Rattle.core_law.proofs.Own.{AreFit, are_fit, is_first, kinds_act, pool_kept, said_fits, said_within}
+use Rattle.core_law.proofs.OwedByRanks.{all_fit}
+use Rattle.core_law.proofs.OwnStates.{AreFit, are_fit, is_first, kinds_act, pool_kept, said_fits, said_within}
 use Rattle.core_law.proofs.Pushing.{even_push_keeps, pushing_even, pushing_to_even}
 use Rattle.core_law.proofs.Sums.{weigh_at-set}
 use Rattle.core_law.proofs.Waits.{even_keeps}

@@ -31,8 +31,8 @@ use Rattle.core_law.specs.Pushes.{of_push, open_letter, open_of, promised_letter
 use Rattle.core_law.specs.Well.{IsShaped}
 use Rattle.core_law.proofs.OnLinks.{all_zero, links_next, zero_from}
 use Rattle.core_law.proofs.Movers.{each_all, pushed_next}
-use Rattle.core_law.proofs.Onward.{AreApart, one_not}
-use Rattle.core_law.proofs.Owed.{no_sum}
+use Rattle.core_law.proofs.UnpushedUnits.{AreApart, one_not}
+use Rattle.core_law.proofs.OwedByRanks.{no_sum}
 use Rattle.core_law.proofs.PushCounts.{not_promised}
 use Rattle.core_law.proofs.Seats.{IsMade}
 use Rattle.core_law.proofs.Sums.{links_le}

@@ -20,8 +20,8 @@ use Rattle.core_law.specs.Pushed.{IsPushed, letters_of}
 use Rattle.core_law.specs.Pushes.{promised_letter}
 use Rattle.core_law.specs.Well.{IsWell}
 use Rattle.core_law.proofs.OnLinks.{zero_from}
-use Rattle.core_law.proofs.Owed.{all_fit}
-use Rattle.core_law.proofs.Own.{fits_is}
+use Rattle.core_law.proofs.OwedByRanks.{all_fit}
+use Rattle.core_law.proofs.OwnStates.{fits_is}
 use Rattle.core_law.proofs.UnderWay.{each_weaker}
 
 -- no server writes to itself

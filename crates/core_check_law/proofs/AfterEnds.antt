@@ -34,18 +34,18 @@ use Rattle.core_law.proofs.Lawful.{Lawful, every_run_lawful}
 use Rattle.core_law.proofs.Moments.{answer_lawful, call_lawful}
 use Rattle.core_law.proofs.Steps.{Begins, Hears, A_call, A_request, An_answer, Does, Serves, happens_does}
 use Rattle.core_check_law.specs.After.{AllOver, AreIdle, IsShutDown, is_work}
-use Rattle.core_check_law.proofs.Along.{AreKept, every_run_keeps}
+use Rattle.core_check_law.proofs.AlongRuns.{AreKept, every_run_keeps}
 use Rattle.core_check_law.proofs.Idle.{AllClosed, IdleAfter, IsClosed, IsX, begun_idle, client_closed, found_run, idle_after, idle_behind, idle_grows, idle_stays, rank_inside, x_run, x_step, IsUnmoved, accepts_none, is_promise, no_work}
 use Rattle.core_check_law.proofs.Legal.{every_run_legal, IsChecked, begins_checked, checked_kept}
-use Rattle.core_check_law.proofs.Modest.{IsGoodStep, IsModest, begin_good, hear_good}
+use Rattle.core_check_law.proofs.ToldRanks.{IsGoodStep, IsModest, begin_good, hear_good}
 use Rattle.core_check_law.proofs.Ranks.{stands_as}
 use Rattle.core_check_law.proofs.Runs.{is_finding}
 use Rattle.adlb_unit.specs.declared.actors.Actor.{Actor}
-use Rattle.core_check_law.proofs.Never.{AreUnpushed, is_query}
+use Rattle.core_check_law.proofs.NeverAtRest.{AreUnpushed, is_query}
 use Rattle.core_law.specs.OnLinks.{Each}
 use Rattle.core_check_law.proofs.Unpushed.{HasVerdict, IsDown, alone_unpushed, promises_none, tick_down, unpushed_stays, verdict_before}
 use Rattle.core_check_law.proofs.Follows.{Holds, Next, act_holds}
-use Rattle.core_check_law.proofs.Shut.{IsShutRight, begins_open, shut_first, shut_is_right, shuts_settling}
+use Rattle.core_check_law.proofs.ShutServers.{IsShutRight, begins_open, shut_first, shut_is_right, shuts_settling}
 use Rattle.core_check_law.proofs.Pressing.{NoQuery, is_accept, unpressed}
 use Rattle.bag_ledger.specs.declared.states.RankState.{RankState}
 use Rattle.server_law.specs.Carried.{Served}
@@ -53,7 +53,7 @@ use Rattle.core_check_law.specs.Settling.{Settles}
 use Rattle.server_law.specs.Sure.{TakeNone}
 use Rattle.adlb_unit.specs.declared.tokens.Token.{Token}
 use Rattle.adlb_unit.specs.declared.names.UnitId.{UnitId}
-use Rattle.core_law.proofs.Well.{act_well, inside_servers}
+use Rattle.core_law.proofs.LettersAndActors.{act_well, inside_servers}
 use Rattle.std.proofs.lemmas.Bool.{cases_eq}
 use Rattle.core_check_law.proofs.Classes.{is_alone}
 use Rattle.core_law.proofs.Events.{event_chain}
@@ -64,7 +64,7 @@ use Rattle.core_check_law.proofs.Quiet.{unpushed_rests}
 use Rattle.adlb_unit.specs.declared.units.Unit.{Unit as Work}
 use Rattle.bag_ledger.specs.declared.states.Status.TheVariants as is_at
 use Rattle.server_law.specs.Step.{ticked}
-use Rattle.core_check_law.proofs.Shut.{shut_kept, tick_shut}
+use Rattle.core_check_law.proofs.ShutServers.{shut_kept, tick_shut}
 use Rattle.core_check_law.proofs.Unpushed.{is_promised, is_verdict}
 use Rattle.core_check_law.proofs.Events.{takes_some}
 use Rattle.core_check_law.proofs.Follows.{alone_not}

@@ -55,7 +55,7 @@ use Rattle.core_law.specs.OnLinks.{Each}
 use Rattle.core_law.proofs.Checking.{check_ended}
 use Rattle.core_law.proofs.UnderWay.{each_append}
 use Rattle.core_check_law.proofs.Classes.{marks_new}
-use Rattle.core_check_law.proofs.Stirred.{IsStirred, is_loud}
+use Rattle.core_check_law.proofs.LoudActs.{IsStirred, is_loud}
 use Rattle.core_check_law.proofs.Ticks.{off_stirs, stirred_stays}
 
 -- Acts one after the other.

@@ -30,7 +30,7 @@ use Rattle.core_law.proofs.Events.{event_chain}
 use Rattle.core_law.proofs.EveryRun.{answer_heard, call_began, every_run_well, pool_at, run_config}
 use Rattle.core_law.proofs.Resting.{client_finished}
 use Rattle.core_law.proofs.Steps.{A_call, A_request, An_answer, Begins, Does, Hears, Serves, happens_does}
-use Rattle.core_law.proofs.Well.{act_well, inside_servers, own_of}
+use Rattle.core_law.proofs.LettersAndActors.{act_well, inside_servers, own_of}
 use Rattle.core_check_law.specs.Settling.{AsksAs, Has, IsResting, IsSettledBehind, IsSettling, Settles, asker, wished}
 use Rattle.core_check_law.proofs.Classes.{IsMine, IsOthers, now}
 use Rattle.core_check_law.proofs.EndsKept.{no_shutdown}
@@ -41,7 +41,7 @@ use Rattle.core_check_law.proofs.Homes.{reach_zeroth}
 use Rattle.core_check_law.proofs.Legal.{IsChecked, begins_checked, checked_kept}
 use Rattle.core_check_law.proofs.Lists.{has_filter, has_map, home_below}
 use Rattle.core_check_law.proofs.Ranks.{client_ended}
-use Rattle.core_check_law.proofs.Still.{asked_of}
+use Rattle.core_check_law.proofs.RestKept.{asked_of}
 use Rattle.core_check_law.proofs.Ticks.{after}
 use Rattle.core_check_law.proofs.Turns.{token_front, zeroth_here}
 use Rattle.core_check_law.specs.OnWay.{of_home}

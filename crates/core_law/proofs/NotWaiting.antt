@@ -15,7 +15,7 @@ use Rattle.core_law.specs.Letters.{any_remote, any_remote_letter, any_remote_wai
 use Rattle.core_law.specs.Measures.{due, measure, server_weight, weigh, weights}
 use Rattle.core_law.specs.Well.{IsWell}
 use Rattle.core_law.proofs.Fifo.{part_le}
-use Rattle.core_law.proofs.Owed.{no_sum, none_wait}
+use Rattle.core_law.proofs.OwedByRanks.{no_sum, none_wait}
 use Rattle.core_law.proofs.RankSteps.{IsNotOf, one_is}
 use Rattle.core_law.proofs.Steps.{taken_weight}
 use Rattle.core_law.proofs.Sums.{links_le}

@@ -41,15 +41,15 @@ use Rattle.core_law.specs.Well.{IsWell}
 use Rattle.core_law.proofs.ActSeats.{front_is, gone_is}
 use Rattle.core_law.proofs.Answering.{ask_call, entry_here}
 use Rattle.core_law.proofs.Fifo.{front_held}
-use Rattle.core_law.proofs.Owed.{no_sum}
+use Rattle.core_law.proofs.OwedByRanks.{no_sum}
 use Rattle.core_law.proofs.Sums.{one_adds}
-use Rattle.core_law.proofs.Well.{inside_servers}
+use Rattle.core_law.proofs.LettersAndActors.{inside_servers}
 use Rattle.core_check_law.specs.OnWay.{of_home}
 use Rattle.core_check_law.specs.Settling.{AreUnchanged, AsksAs, Has, IsOpen, IsResting, IsSettling, NoFit, asker, wish_of, wished}
 use Rattle.core_check_law.proofs.Classes.{is_alone, is_turn}
 use Rattle.core_check_law.proofs.Lists.{each_has, has_filter, has_map, has_there, home_below}
 use Rattle.core_check_law.proofs.Ranks.{asks_never, client_asks, client_ends}
-use Rattle.core_check_law.proofs.Still.{asked_of, is_still}
+use Rattle.core_check_law.proofs.RestKept.{asked_of, is_still}
 
 -- a push begins
 abbrev pub is_query : Act → Bool

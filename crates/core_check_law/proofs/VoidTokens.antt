@@ -12,10 +12,10 @@ use Rattle.core_run.specs.World.{World, pool_of}
 use Rattle.core_law.specs.Acting.{IsAct, acted}
 use Rattle.core_law.specs.Well.{IsWell}
 use Rattle.core_law.proofs.Acts.{taken_off_on}
-use Rattle.core_law.proofs.Onward.{still_exhausted}
+use Rattle.core_law.proofs.UnpushedUnits.{still_exhausted}
 use Rattle.core_law.specs.OnLinks.{OnLinks}
 use Rattle.core_law.proofs.UnderWay.{weaker}
-use Rattle.core_law.proofs.Well.{own_of}
+use Rattle.core_law.proofs.LettersAndActors.{own_of}
 use Rattle.core_check_law.specs.OnWay.{OnToken, reach}
 use Rattle.core_check_law.specs.Settling.{AreUnchanged, IsOpen, IsSettledBehind, Settles}
 use Rattle.core_check_law.proofs.Classes.{marks_new, said_none, says_token}

@@ -17,7 +17,7 @@ use Rattle.core_law.specs.Well.{IsWell}
 use Rattle.core_law.proofs.Actors.{every_pool}
 use Rattle.core_law.proofs.EveryRun.{begins_well, pool_at, run_config, well_kept}
 use Rattle.core_law.proofs.Steps.{A_call, A_request, An_answer, Does, Serves, happens_does}
-use Rattle.core_law.proofs.Well.{inside_servers}
+use Rattle.core_law.proofs.LettersAndActors.{inside_servers}
 
 abbrev IsOnceCalm : ServerModel → Type 0
 IsOnceCalm s = WaitOnce s × IsCalm s

@@ -17,19 +17,19 @@ use Rattle.core_law.specs.OnLinks.{Each, OnLinks}
 use Rattle.core_law.specs.Well.{IsWell}
 use Rattle.core_law.proofs.Acts.{taken_off_on}
 use Rattle.core_law.proofs.UnderWay.{weaker}
-use Rattle.core_law.proofs.Well.{own_of}
+use Rattle.core_law.proofs.LettersAndActors.{own_of}
 use Rattle.core_check_law.specs.OnWay.{IsRinged, OnToken, reach}
 use Rattle.core_check_law.specs.Settling.{AreUnchanged, IsOpen, IsSettledBehind, IsSettling, Settles}
 use Rattle.core_check_law.specs.Tokens.{token_letter, tokens}
 use Rattle.core_check_law.proofs.Begins.{pass_settles}
 use Rattle.core_check_law.proofs.Classes.{is_alone, is_turn, marks_new, said_none, says_token}
 use Rattle.core_check_law.proofs.Letters.{letters_next}
-use Rattle.core_check_law.proofs.Never.{is_query, never}
+use Rattle.core_check_law.proofs.NeverAtRest.{is_query, never}
 use Rattle.core_check_law.proofs.Quiet.{AreTold}
-use Rattle.core_check_law.proofs.Still.{as_was, is_still, settling_stays, still, still_enters}
+use Rattle.core_check_law.proofs.RestKept.{as_was, is_still, settling_stays, still, still_enters}
 use Rattle.core_check_law.proofs.Tokens.{NoToken, none_left, none_runs, not_token}
 use Rattle.core_check_law.proofs.Turns.{token_front, unchanged_back, zeroth_here}
-use Rattle.core_check_law.proofs.Void.{IsVoid, Voids, open_before, tokens_next}
+use Rattle.core_check_law.proofs.VoidTokens.{IsVoid, Voids, open_before, tokens_next}
 
 -- the token goes on in wave 2
 abbrev pub goes_on : Act → Bool
