@@ -1,5 +1,6 @@
 -- The programs of a run that is reported are workers that have worked.
-use Rattle.std.proofs.Common.{◌≡◌, ◌<◌, ◌≤◌, ◌^◌, ℕ, zero, suc, All, List, [], ◌∷◌, None, Some, length, map, option_map, refl, ◌∙◌, sym, ap, subst, arith, sum_by}
+use Rattle.std.proofs.Common.{◌≡◌, ◌<◌, ◌≤◌, ◌^◌, ℕ, zero, suc, All, List, [], ◌∷◌, None, Some, length, map, option_map, refl, ◌∙◌, sym, ap}
+use Rattle.std.proofs.Common.{subst, arith, sum_by}
 use Rattle.std.specs.Prelude.{slice_get}
 use Rattle.std.proofs.lemmas.List.{length-map}
 use Rattle.std.proofs.lemmas.List.Elements.{All-head, All-tail}
@@ -27,7 +28,8 @@ sum_map f (x ∷ xs) = omega (arith, sum_map f xs, sum_by-cons (λ (n : ℕ). n)
 
 module _ {X G : Type 0} (follows : X → Rank → List Said → G → Type 0) (ranks : ℕ) (program : X) (r : Reported G)
     (each : IsRunOfEach follows program ranks r) (w : List ℕ → List ℕ → ℕ) (whole : ℕ) (sees : G → ℕ)
-    (worked : (rank : Rank) (said : List Said) (got : G) → follows program rank said got → HasWorked w (begins whole rank) ranks None said (sees got))
+    (worked : (rank : Rank) (said : List Said) (got : G) → follows program rank said got
+    → HasWorked w (begins whole rank) ranks None said (sees got))
   where
     pub all_have : AllHaveWorked w whole each.config r.ledger (map sees r.outcomes)
     all_have rank less =

@@ -7,7 +7,8 @@ use Rattle.adlb_threads.specs.Reports.{Reported}
 use Rattle.adlb_threads.specs.Runs.{IsRunOf}
 
 -- it is a run of this number of programs, of which each is this one
-pub record IsRunOfEach {P O : Type 0} (follows : P → Rank → List Said → O → Type 0) (program : P) (ranks : ℕ) (r : Reported O) : Type 0 where
+pub record IsRunOfEach {P O : Type 0} (follows : P → Rank → List Said → O → Type 0) (program : P) (ranks : ℕ)
+    (r : Reported O) : Type 0 where
   pub config : Config
   pub programs : List P
   pub ranks_are : config.ranks ≡ ranks

@@ -49,7 +49,8 @@ module _ (before after : Scene) (fault : Option RunFault) (kept : Option AnyKept
   pub bad_checked : RefusesNone → ((a b : ℕ) → IsFirstBad bytes a → IsFirstBad bytes b → a ≡ b) → (line : ℕ) →
       length bytes ≤ input_limit → IsFirstBad bytes line → (fault ≡ Some (Input line Entry)) ⊎ (fault ≡ Some Memory)
   bad_checked none one line short bad =
-      either_is fault (fault_told ends.checked) (Some (Input line Entry)) (Some Memory) ends.fault_is (either_told ends.checked (checks.Entry line)
+      either_is fault (fault_told ends.checked) (Some (Input line Entry)) (Some Memory) ends.fault_is
+      (either_told ends.checked (checks.Entry line)
       (refused_there (seen_in before) (seen_in after) bytes told no_read none one line short bad ends.checked ends.ends))
 
   -- one that is too long is told as such

@@ -55,7 +55,8 @@ module _ (here : Scene) where
     own = None;
     fault_is = refl;
     kept_is = refl;
-    ended = solved_early (settings_of w.options) (IsConfigOf w.options.sizes w.options.inline) w.options.inline here here refl starts_none (behind (extras_of w));
+    ended = solved_early (settings_of w.options) (IsConfigOf w.options.sizes w.options.inline) w.options.inline here here refl starts_none
+        (behind (extras_of w));
   }
   out_of_memory (Some Check) = record {
     checked = Err checks.Memory;
@@ -84,11 +85,13 @@ module _ (here : Scene) where
     own = None;
     fault_is = refl;
     kept_is = refl;
-    ended = drilled_early (settings_of options) (IsConfigOf options.sizes options.inline) options.inline here here refl starts_none count seed reads_nothing;
+    ended = drilled_early (settings_of options) (IsConfigOf options.sizes options.inline) options.inline here here refl starts_none count
+        seed reads_nothing;
   }
 
   -- the words were not read
-  unread_as : (said : Option Command) (met : WordsFault) → (met ≡ words.Usage → said ≡ None) → EndsAs said here here (Some (fault_said met)) None
+  unread_as : (said : Option Command) (met : WordsFault) → (met ≡ words.Usage → said ≡ None)
+      → EndsAs said here here (Some (fault_said met)) None
   unread_as said words.Usage none = subst (λ s. EndsAs s here here (Some Usage) None) (sym (none refl)) (unsaid (Some Usage) (inl refl))
   unread_as said words.Memory none = out_of_memory said
 
@@ -102,16 +105,21 @@ module _ (here : Scene) where
 
 module _ (before after : Scene) (met : Option (Fault of_jobs.LineWhy)) (own : Option (Kept Outcome)) (settings : Settings) (config : Config)
   where
-    pub solved_said : (w : SolveWords) (extras : Extras) → settings ≡ settings_of w.options → extras ≡ extras_of w → IsConfigOf w.options.sizes w.options.inline config →
+    pub solved_said : (w : SolveWords) (extras : Extras) → settings ≡ settings_of w.options → extras ≡ extras_of w
+        → IsConfigOf w.options.sizes w.options.inline config →
         Solves settings (behind extras) (λ x. x ≡ config) w.options.inline before after met own → SolvesAs w before after met own
     solved_said w extras set extra is solved =
         let IsOf : Config → Type 0 = λ x. x ≡ config in
         let here : Solves (settings_of w.options) (behind (extras_of w)) IsOf w.options.inline before after met own =
         subst (λ (s : Settings). Solves s (behind (extras_of w)) IsOf w.options.inline before after met own) set
         (subst (λ (e : Extras). Solves settings (behind e) IsOf w.options.inline before after met own) extra solved) in
-        record { ends = here.ends; run = ran_as config before after (IsConfigOf w.options.sizes w.options.inline) is w.options.inline own here.run }
+        record {
+          ends = here.ends;
+          run = ran_as config before after (IsConfigOf w.options.sizes w.options.inline) is w.options.inline own here.run;
+        }
 
-    pub drilled_said : (count seed : ℕ) (options : RunOptions) → settings ≡ settings_of options → IsConfigOf options.sizes options.inline config →
+    pub drilled_said : (count seed : ℕ) (options : RunOptions) → settings ≡ settings_of options
+        → IsConfigOf options.sizes options.inline config →
         Drills count seed settings (λ x. x ≡ config) options.inline before after met own → DrillsAs count seed options before after met own
     drilled_said count seed options set is drilled =
         let IsOf : Config → Type 0 = λ x. x ≡ config in

@@ -32,5 +32,6 @@ either_is fault told same (inr e) = inr (same ∙ e)
 pub made_whole : (count seed : ℕ) (before after : Scene) (fault : Option RunFault) (kept : Option AnyKept) →
     EndsAsMade count seed before after fault kept → (Rises before.writes after.writes → ⊥) → (fault ≡ None) ⊎ (fault ≡ Some Memory)
 made_whole count seed before after fault kept ends no_write =
-    either_is fault (fault_made ends.made) ends.fault_is (fine_or (made_text count seed) (sink_seen before.taken before.writes before.flushed)
+    either_is fault (fault_made ends.made) ends.fault_is
+    (fine_or (made_text count seed) (sink_seen before.taken before.writes before.flushed)
     (sink_seen after.taken after.writes after.flushed) ends.made ends.ends no_write)

@@ -13,7 +13,8 @@ use Rattle.adlb_rank.specs.declared.replies.Reply.TheVariants.{Accepted}
 use Rattle.adlb_rank.specs.Calls.{Begins, HasBatched, Stays, answer_of}
 
 -- an accepted beginning
-pub begun : (old new : LinkModel) (common : List ℕ) (reply : Reply) → Made old new (BeginBatch common) (Ok (answer_of reply)) → reply ≡ Accepted
+pub begun : (old new : LinkModel) (common : List ℕ) (reply : Reply) → Made old new (BeginBatch common) (Ok (answer_of reply))
+    → reply ≡ Accepted
     → Begins common old new
 begun old new common reply made is = subst (λ (r : Reply). Made old new (BeginBatch common) (Ok (answer_of r))) is made
 

@@ -60,7 +60,8 @@ Begins common old new = Made old new (calls_to.BeginBatch common) (Ok answers.Fi
 abbrev pub HasBatched : {S T : Type 0} → (S → LinkModel) → (S → Result T Trouble → S → Type 0) → List ℕ → S → S
     → Result (Batched T) Trouble → Type 0
 HasBatched link inside common old new (Ok (batches.Done done)) =
-    (a : _) × (b : _) × Begins common (link old) (link a) × inside a (Ok done) b × Made (link b) (link new) calls_to.EndBatch (Ok answers.Fine)
+    (a : _) × (b : _) × Begins common (link old) (link a) × inside a (Ok done) b
+    × Made (link b) (link new) calls_to.EndBatch (Ok answers.Fine)
 HasBatched link inside common old new (Ok batches.Rejected) = Made (link old) (link new) (calls_to.BeginBatch common) (Ok answers.Rejected)
 HasBatched link inside common old new (Ok (batches.Ended end)) =
     Made (link old) (link new) (calls_to.BeginBatch common) (Ok (answers.Ended end))

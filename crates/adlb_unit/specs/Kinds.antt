@@ -1,7 +1,10 @@
 -- Between which kinds of actors a message goes.
 use Rattle.std.specs.Prelude.{Bool, true, false}
 use Rattle.adlb_unit.specs.declared.messages.Message.{Message}
-use Rattle.adlb_unit.specs.declared.messages.Message.TheVariants.{Put, Reserve, Try, Fetch, FetchCommon, KeepCommon, CloseBatch, Count, Done, Finish, Gone, Accepted, Full, Ended, Grant, Nothing, Bytes, Closed, Counted, DoneHeard, Broken, Ask, AskGrant, AskNone, Hint, PushUnit, Token, Failed}
+use Rattle.adlb_unit.specs.declared.messages.Message.TheVariants.{Put, Reserve, Try, Fetch, FetchCommon, KeepCommon, CloseBatch, Count}
+use Rattle.adlb_unit.specs.declared.messages.Message.TheVariants.{Done, Finish, Gone, Accepted, Full, Ended, Grant, Nothing, Bytes, Closed}
+use Rattle.adlb_unit.specs.declared.messages.Message.TheVariants.{Counted, DoneHeard, Broken, Ask, AskGrant, AskNone, Hint, PushUnit, Token}
+use Rattle.adlb_unit.specs.declared.messages.Message.TheVariants.{Failed}
 
 -- a rank says it to a server
 abbrev pub is_of_rank : Message → Bool

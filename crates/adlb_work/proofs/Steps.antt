@@ -1,6 +1,7 @@
 -- What each call makes of a rank that works.
 use Rattle.std.specs.Prelude.{ℤ}
-use Rattle.std.proofs.Common.{length, ◌<◌, ◌≤◌, ◌≡◌, ◌+◌, ◌^◌, ℕ, List, [], ◌∷◌, ◌++◌, All, Option, Some, None, refl, sym, ap, subst, arith, append_assoc, IsSome, sum_by, ◌∙◌}
+use Rattle.std.proofs.Common.{length, ◌<◌, ◌≤◌, ◌≡◌, ◌+◌, ◌^◌, ℕ, List, [], ◌∷◌, ◌++◌, All, Option, Some, None, refl, sym, ap, subst, arith}
+use Rattle.std.proofs.Common.{append_assoc, IsSome, sum_by, ◌∙◌}
 use Rattle.std.proofs.lemmas.List.{length_push}
 use Rattle.std.proofs.lemmas.List.Sums.{sum_by-cons, sum_by_push}
 use Rattle.std.proofs.lemmas.List.Elements.{All-contains, Contains-append_left, Contains-push}
@@ -133,13 +134,15 @@ module _ (w : List ℕ → List ℕ → ℕ) (begin ranks : ℕ) where
 
   -- A put.
 
-  orderly_put : (batch : Option (List ℕ)) (kind : WorkType) (prio : ℤ) (target : Target) (body : List ℕ) (rest : List Said) → Aims target ranks
+  orderly_put : (batch : Option (List ℕ)) (kind : WorkType) (prio : ℤ) (target : Target) (body : List ℕ) (rest : List Said)
+      → Aims target ranks
       → IsOrderly ranks None batch rest → IsOrderly ranks None batch (said_of (put_of kind prio target body) answers.Fine ∷ rest)
   unfolding IsOrderly
   orderly_put batch kind prio target body rest aims o = (aimed target ranks aims, o)
 
   sent_put : (batch : Option (List ℕ)) (kind : WorkType) (prio : ℤ) (target : Target) (body : List ℕ) (rest : List Said)
-      → sent_worth w batch (said_of (put_of kind prio target body) answers.Fine ∷ rest) ≡ w (shared_bytes batch) body + sent_worth w batch rest
+      → sent_worth w batch (said_of (put_of kind prio target body) answers.Fine ∷ rest) ≡ w (shared_bytes batch) body
+      + sent_worth w batch rest
   unfolding sent
   sent_put batch kind prio target body rest =
       let p : Parcel = record { kind = kind; prio = prio; answer = None; common = batch; long = length body; own = body } in
@@ -186,7 +189,8 @@ module _ (w : List ℕ → List ℕ → ℕ) (begin ranks : ℕ) where
         → IsGoing w begin ranks batch said total (waiting + w (shared_bytes batch) body)
         → after + more ≡ total + w (shared_bytes batch) body + waiting → after ≤ total + 2 ^ 64 → IsGoing w begin ranks batch now after more
     worked_here after waiting more is going counts few =
-        step batch batch said now (said_of (put_of kind prio target body) answers.Rejected) 0 total (waiting + w (shared_bytes batch) body) after
+        step batch batch said now (said_of (put_of kind prio target body) answers.Rejected) 0 total
+        (waiting + w (shared_bytes batch) body) after
         more is (λ rest o. orderly_rejected batch kind prio target body rest aims o)
         (λ rest. omega (arith, sent_rejected batch kind prio target body rest)) (λ rest. got_rejected kind prio target body rest) going
         (omega (arith, counts)) few
@@ -215,7 +219,8 @@ module _ (w : List ℕ → List ℕ → ℕ) (begin ranks : ℕ) where
   unfolding sent
   sent_begun common rest = refl
 
-  got_begun : (common : List ℕ) (rest : List Said) → got_worth w (said_of (calls_to.BeginBatch common) answers.Fine ∷ rest) ≡ got_worth w rest
+  got_begun : (common : List ℕ) (rest : List Said) → got_worth w (said_of (calls_to.BeginBatch common) answers.Fine ∷ rest)
+      ≡ got_worth w rest
   unfolding got
   got_begun common rest = refl
 
@@ -259,7 +264,8 @@ module _ (w : List ℕ → List ℕ → ℕ) (begin ranks : ℕ) where
   begun None said now total waiting some is going = absurd (cc)
   begun (Some common) said now total waiting some is going =
       step None (Some common) said now (said_of (calls_to.BeginBatch common) answers.Fine) 0 total waiting total waiting is
-      (λ rest o. orderly_begun common rest o) (λ rest. omega (arith, sent_begun common rest)) (λ rest. got_begun common rest) going (omega arith)
+      (λ rest o. orderly_begun common rest o) (λ rest. omega (arith, sent_begun common rest)) (λ rest. got_begun common rest)
+      going (omega arith)
       (omega arith)
 
   -- each server refused it, and something was worked

@@ -1,6 +1,7 @@
 -- What all ranks counted is what the first units are worth.
 use Rattle.std.specs.Prelude.{slice_get}
-use Rattle.std.proofs.Common.{◌≡◌, ◌+◌, ◌<◌, ◌≤◌, ℕ, zero, suc, Bool, true, false, cond, List, [], ◌∷◌, ◌++◌, All, Option, None, Some, length, take, refl, sym, ap, ◌∙◌, subst, arith, count_by, sum_by}
+use Rattle.std.proofs.Common.{◌≡◌, ◌+◌, ◌<◌, ◌≤◌, ℕ, zero, suc, Bool, true, false, cond, List, [], ◌∷◌, ◌++◌, All, Option, None, Some}
+use Rattle.std.proofs.Common.{length, take, refl, sym, ap, ◌∙◌, subst, arith, count_by, sum_by}
 use Rattle.std.proofs.Math.Dec.{ltb}
 use Rattle.std.proofs.lemmas.Bool.{lt-ltb, ltb-false, ltb-true, ne_eqb}
 use Rattle.std.proofs.lemmas.List.{take_all}
@@ -151,11 +152,16 @@ orderly w whole config ledger outcomes all rank less =
 
 kept : (w : List ℕ → List ℕ → ℕ) (whole : ℕ) (config : Config) (ledger : List Entry) (last : Bag) (outcomes : List ℕ) →
     AllHaveWorked w whole config ledger outcomes → IsBalanced config ledger last → (rank : Rank) → rank.0 < config.ranks →
-    or_none (slice_get outcomes rank.0) + sent_worth w None (calls config ledger rank) ≡ begins whole rank + got_worth w (calls config ledger rank)
+    or_none (slice_get outcomes rank.0) + sent_worth w None (calls config ledger rank)
+    ≡ begins whole rank + got_worth w (calls config ledger rank)
 kept w whole config ledger last outcomes all balanced rank less =
     let is = all rank less in
     subst (λ l. or_none (slice_get outcomes rank.0) + sent_worth w None l ≡ begins whole rank + got_worth w l) (sym is.2.2)
-    (omega (arith, ap or_none is.1, is.2.1.kept (subst (λ l. All (λ (s : Said). IsEndedWell s.call s.answer) l) is.2.2 (balanced.ended rank less))))
+    (omega (
+      arith,
+      ap or_none is.1,
+      is.2.1.kept (subst (λ l. All (λ (s : Said). IsEndedWell s.call s.answer) l) is.2.2 (balanced.ended rank less)),
+    ))
 
 pub whole_is : (w : List ℕ → List ℕ → ℕ) (whole : ℕ) (config : Config) (ledger : List Entry) (last : Bag) (outcomes : List ℕ) →
     0 < config.ranks → length outcomes ≡ config.ranks → AllHaveWorked w whole config ledger outcomes → IsBalanced config ledger last →

@@ -1,5 +1,6 @@
 -- What is known of the calls of a rank that works.
-use Rattle.std.specs.Prelude.{ℕ, ◌≡◌, ◌==◌, ◌+◌, ◌*◌, ◌^◌, ◌<◌, ◌≤◌, Option, Some, None, slice_get, List, [], ◌++◌, All, cond, length, sum_by}
+use Rattle.std.specs.Prelude.{ℕ, ◌≡◌, ◌==◌, ◌+◌, ◌*◌, ◌^◌, ◌<◌, ◌≤◌, Option, Some, None, slice_get, List, [], ◌++◌, All, cond, length}
+use Rattle.std.specs.Prelude.{sum_by}
 use Rattle.adlb_unit.specs.declared.configs.Config.{Config}
 use Rattle.adlb_unit.specs.declared.names.Rank.{Rank}
 use Rattle.bag_ledger.specs.declared.entries.Answer.TheVariants as answers
@@ -42,7 +43,8 @@ most said = 2 ^ 64 * length said
 
 -- A rank below this number, between its calls, in the batch of these common bytes or in none: it is orderly so far, and what it
 -- gathered, has waiting and sent is worth what it began with and got.
-pub record IsGoing (w : List ℕ → List ℕ → ℕ) (begin ranks : ℕ) (batch : Option (List ℕ)) (said : List Said) (total waiting : ℕ) : Type 0 where
+pub record IsGoing (w : List ℕ → List ℕ → ℕ) (begin ranks : ℕ) (batch : Option (List ℕ)) (said : List Said)
+    (total waiting : ℕ) : Type 0 where
   pub orderly : (rest : List Said) → IsOrderly ranks None batch rest → IsOrderly ranks None None (said ++ rest)
   pub kept : (rest : List Said) → total + waiting + sent_worth w None (said ++ rest) + got_worth w rest
       ≡ begin + got_worth w (said ++ rest) + sent_worth w batch rest

@@ -1,5 +1,6 @@
 -- Parts count: what was accepted was fetched, is not yet spent, or is owed to a rank.
-use Rattle.std.proofs.Common.{◌≡◌, ℕ, ◌+◌, ◌⊎◌, inl, inr, Bool, true, false, List, [], ◌∷◌, ◌++◌, find, Option, Some, None, refl, sym, ap, ◌∙◌, subst, arith, slice_get}
+use Rattle.std.proofs.Common.{◌≡◌, ℕ, ◌+◌, ◌⊎◌, inl, inr, Bool, true, false, List, [], ◌∷◌, ◌++◌, find, Option, Some, None, refl, sym, ap}
+use Rattle.std.proofs.Common.{◌∙◌, subst, arith, slice_get}
 use Rattle.std.specs.Prelude.{option_and_then}
 use Rattle.std.proofs.lemmas.List.Sums.{sum_by_push}
 use Rattle.adlb_unit.specs.declared.names.Rank.{Rank}
@@ -10,7 +11,8 @@ use Rattle.adlb_unit.specs.declared.names.CommonRef.{CommonRef}
 use Rattle.adlb_unit.specs.Ids.{same_batch, same_unit}
 use Rattle.adlb_unit.proofs.Same.{same_batch_is}
 use Rattle.bag_ledger.specs.declared.entries.Entry.{Entry}
-use Rattle.bag_ledger.specs.declared.entries.Entry.TheVariants.{Putting, Accepted, Keeping, Kept, Closed, Freed, Granted, Fetching, Fetched, CommonFetched, Promised, Left, Arrived, Withdrawn, Exhausted}
+use Rattle.bag_ledger.specs.declared.entries.Entry.TheVariants.{Putting, Accepted, Keeping, Kept, Closed, Freed, Granted, Fetching, Fetched}
+use Rattle.bag_ledger.specs.declared.entries.Entry.TheVariants.{CommonFetched, Promised, Left, Arrived, Withdrawn, Exhausted}
 use Rattle.bag_ledger.specs.declared.states.RankState.{RankState}
 use Rattle.bag_ledger.specs.declared.states.Placed.{Placed}
 use Rattle.bag_ledger.specs.declared.states.Part.{Part}
@@ -26,7 +28,8 @@ use Rattle.bag_law.specs.Counts.{accepted_of, common_in, fetched_of, if_so, is_s
 use Rattle.bag_law.specs.Sound.{BatchesAreOpen, FetchesAreReady, IsFetchOf, PartsCount}
 use Rattle.bag_law.proofs.Batches.{put_is_open}
 use Rattle.bag_law.proofs.Turn.{found_passes, sum_kept, sum_same, sum_turned}
-use Rattle.bag_law.proofs.Plain.{IsAccepted, IsCalm, IsPlain, accepted_is, is_bare, is_fetch, is_special, kept_is, lodged, shared_parts, plain_or_special, wish_bare}
+use Rattle.bag_law.proofs.Plain.{IsAccepted, IsCalm, IsPlain, accepted_is, is_bare, is_fetch, is_special, kept_is, lodged, shared_parts}
+use Rattle.bag_law.proofs.Plain.{plain_or_special, wish_bare}
 
 -- Ranks.
 

@@ -1,5 +1,6 @@
 -- What a sound bag gives.
-use Rattle.std.proofs.Common.{◌≡◌, ℕ, zero, suc, ◌+◌, ◌≤◌, ◌<◌, ◌==◌, ◌⊎◌, inl, inr, Bool, true, false, List, [], ◌∷◌, find, length, sum_by, Option, Some, None, refl, sym, ap, ◌∙◌, arith, slice_get}
+use Rattle.std.proofs.Common.{◌≡◌, ℕ, zero, suc, ◌+◌, ◌≤◌, ◌<◌, ◌==◌, ◌⊎◌, inl, inr, Bool, true, false, List, [], ◌∷◌, find, length, sum_by}
+use Rattle.std.proofs.Common.{Option, Some, None, refl, sym, ap, ◌∙◌, arith, slice_get}
 use Rattle.std.specs.Prelude.{Contains, nat_lt}
 use Rattle.std.proofs.lemmas.Bool.{ltb-true}
 use Rattle.std.proofs.lemmas.List.Sums.{sum_by-cons}
@@ -19,7 +20,8 @@ use Rattle.bag_ledger.specs.declared.states.Status.TheVariants as does
 use Rattle.bag_ledger.specs.Bag.{Bag, part_of, unit_of}
 use Rattle.bag_ledger.specs.Steps.{Is}
 use Rattle.bag_ledger.proofs.Tests.{same_rank_is, same_number, some_is}
-use Rattle.bag_law.specs.Counts.{accepted_of, common_in, fetched_of, if_so, if_there, is_spent, one, owes, owing, units_named, unspent, used}
+use Rattle.bag_law.specs.Counts.{accepted_of, common_in, fetched_of, if_so, if_there, is_spent, one, owes, owing, units_named, unspent}
+use Rattle.bag_law.specs.Counts.{used}
 use Rattle.bag_law.specs.Sound.{AreFound, AreUsed, HasPart, IsBroughtBy, IsFetchOf, IsKept, IsOpenBatch, IsSoundBag}
 use Rattle.bag_law.proofs.Ids.{put_unit_is_new}
 use Rattle.bag_law.proofs.Turn.{found_passes, none_found, one_le, sum_at, sum_found}

@@ -1,5 +1,6 @@
 -- The entries by which one rank has a turn and nothing else happens, and the others.
-use Rattle.std.proofs.Common.{◌≡◌, ℕ, ◌+◌, ◌≤◌, ◌⊎◌, inl, inr, Bool, true, false, List, [], ◌∷◌, ◌++◌, Option, Some, None, refl, sym, ap, subst, arith, slice_get}
+use Rattle.std.proofs.Common.{◌≡◌, ℕ, ◌+◌, ◌≤◌, ◌⊎◌, inl, inr, Bool, true, false, List, [], ◌∷◌, ◌++◌, Option, Some, None, refl, sym, ap}
+use Rattle.std.proofs.Common.{subst, arith, slice_get}
 use Rattle.std.specs.Prelude.{option_and_then}
 use Rattle.adlb_unit.specs.declared.names.Server.{Server}
 use Rattle.adlb_unit.specs.declared.names.UnitId.{UnitId}
@@ -17,12 +18,14 @@ use Rattle.adlb_unit.specs.declared.names.Rank.{Rank}
 use Rattle.bag_ledger.proofs.Tests.{some_is}
 use Rattle.adlb_unit.specs.declared.names.WorkType.{WorkType}
 use Rattle.bag_ledger.specs.declared.entries.Entry.{Entry}
-use Rattle.bag_ledger.specs.declared.entries.Entry.TheVariants.{Refused, Accepted, Rejected, Kept, Closing, Asked, Tried, Looked, NoCurrent, Counting, Counted, Done, Over, Finished}
+use Rattle.bag_ledger.specs.declared.entries.Entry.TheVariants.{Refused, Accepted, Rejected, Kept, Closing, Asked, Tried, Looked, NoCurrent}
+use Rattle.bag_ledger.specs.declared.entries.Entry.TheVariants.{Counting, Counted, Done, Over, Finished}
 use Rattle.bag_ledger.specs.declared.states.RankState.{RankState}
 use Rattle.bag_ledger.specs.declared.states.Status.{Status}
 use Rattle.bag_ledger.specs.declared.states.Status.TheVariants as does
 use Rattle.bag_ledger.specs.Bag.{Bag, keeping, offer, open_call, putting, rank_at, wish}
-use Rattle.bag_ledger.specs.Steps.{Legal, LegalWhere, after, begun, change_at, change_first, declined_by, ended, has_cause, kept, taken, with_rank}
+use Rattle.bag_ledger.specs.Steps.{Legal, LegalWhere, after, begun, change_at, change_first, declined_by, ended, has_cause, kept, taken}
+use Rattle.bag_ledger.specs.Steps.{with_rank}
 
 -- a fetch; nothing that brings or fetches
 abbrev pub is_fetch : Status → Bool

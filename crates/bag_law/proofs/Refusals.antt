@@ -1,5 +1,6 @@
 -- No server refuses a call twice: a refusal takes from the call that it is open to the server, and only its beginning gives that.
-use Rattle.std.proofs.Common.{◌≡◌, ℕ, ◌+◌, ◌≤◌, ◌==◌, ◌&&◌, ◌||◌, inl, inr, not, Bool, true, false, List, [], ◌∷◌, count_by, cond, Option, Some, None, refl, sym, ap, ◌∙◌, arith, slice_get, replicate}
+use Rattle.std.proofs.Common.{◌≡◌, ℕ, ◌+◌, ◌≤◌, ◌==◌, ◌&&◌, ◌||◌, inl, inr, not, Bool, true, false, List, [], ◌∷◌, count_by, cond, Option}
+use Rattle.std.proofs.Common.{Some, None, refl, sym, ap, ◌∙◌, arith, slice_get, replicate}
 use Rattle.std.specs.Prelude.{nat_lt}
 use Rattle.std.proofs.lemmas.Bool.{eqb-true}
 use Rattle.std.proofs.lemmas.List.Folds.{list_any-append}
@@ -11,7 +12,9 @@ use Rattle.adlb_unit.specs.declared.names.Server.{Server}
 use Rattle.adlb_unit.specs.declared.names.UnitId.{UnitId}
 use Rattle.adlb_unit.specs.Ids.{same_unit}
 use Rattle.bag_ledger.specs.declared.entries.Entry.{Entry}
-use Rattle.bag_ledger.specs.declared.entries.Entry.TheVariants.{Putting, Refused, Accepted, Rejected, Keeping, Kept, Closing, Closed, Asked, Tried, Granted, Looked, NoCurrent, Fetching, Fetched, CommonFetched, Counting, Counted, Done, Over, Finished}
+use Rattle.bag_ledger.specs.declared.entries.Entry.TheVariants.{Putting, Refused, Accepted, Rejected, Keeping, Kept, Closing, Closed, Asked}
+use Rattle.bag_ledger.specs.declared.entries.Entry.TheVariants.{Tried, Granted, Looked, NoCurrent, Fetching, Fetched, CommonFetched}
+use Rattle.bag_ledger.specs.declared.entries.Entry.TheVariants.{Counting, Counted, Done, Over, Finished}
 use Rattle.bag_ledger.specs.declared.states.RankState.{RankState}
 use Rattle.bag_ledger.specs.declared.states.Status.{Status}
 use Rattle.bag_ledger.specs.declared.states.Status.TheVariants as does
@@ -94,7 +97,8 @@ begins_opens server id ranks place call f r there number next few =
 
 -- A server declines.
 
-declined_more : (by server : Server) (r : RankState) → has_declined (declined_by by r) server ≡ has_declined r server || ((by.0 == server.0) || false)
+declined_more : (by server : Server) (r : RankState) → has_declined (declined_by by r) server ≡ has_declined r server
+    || ((by.0 == server.0) || false)
 declined_more by server r = list_any-append (λ (s : Server). s.0 == server.0) r.declined (by ∷ [])
 
 offer_brings : (s : Status) (m n k : ℕ) → offer s ≡ Some (m, n) → brings k s ≡ one (m == k)
@@ -154,28 +158,38 @@ entry_falls found server rank call b (Keeping r q common) l =
     begins_opens server (call_id rank call) b.ranks r.0 q _ l.0 l.1.0 l.1.2 refl (λ n. omega arith)
 entry_falls found server rank call b (Kept by batch) l =
     rw (kept_is b by batch l) (ends_opens server (call_id rank call) b.ranks batch.rank.0 _ l.0 l.2 (λ n. refl) refl)
-entry_falls found server rank call b (Closing r q) l = begins_opens server (call_id rank call) b.ranks r.0 q _ l.0 l.2.0 l.2.2 refl (λ n. omega arith)
-entry_falls found server rank call b (Closed by batch) l = ends_opens server (call_id rank call) b.ranks batch.rank.0 _ l.0 l.4 (λ n. refl) refl
-entry_falls found server rank call b (Asked r q types) l = begins_opens server (call_id rank call) b.ranks r.0 q _ l.0 l.1.0 l.1.2 refl (λ n. omega arith)
-entry_falls found server rank call b (Tried r q types) l = begins_opens server (call_id rank call) b.ranks r.0 q _ l.0 l.1.0 l.1.2 refl (λ n. omega arith)
+entry_falls found server rank call b (Closing r q) l =
+    begins_opens server (call_id rank call) b.ranks r.0 q _ l.0 l.2.0 l.2.2 refl (λ n. omega arith)
+entry_falls found server rank call b (Closed by batch) l =
+    ends_opens server (call_id rank call) b.ranks batch.rank.0 _ l.0 l.4 (λ n. refl) refl
+entry_falls found server rank call b (Asked r q types) l =
+    begins_opens server (call_id rank call) b.ranks r.0 q _ l.0 l.1.0 l.1.2 refl (λ n. omega arith)
+entry_falls found server rank call b (Tried r q types) l =
+    begins_opens server (call_id rank call) b.ranks r.0 q _ l.0 l.1.0 l.1.2 refl (λ n. omega arith)
 entry_falls found server rank call b (Granted by r q x) l = ends_opens server (call_id rank call) b.ranks r.0 ended l.0 l.3 (λ n. refl) refl
 entry_falls found server rank call b (Looked by r q) l =
     ends_opens server (call_id rank call) b.ranks r.0 (declined_by by) l.0 l.2 (λ n. rw l.3 refl) refl
 entry_falls found server rank call b (NoCurrent r q) l = ends_opens server (call_id rank call) b.ranks r.0 ended l.0 l.2 (λ n. refl) refl
-entry_falls found server rank call b (Fetching r q x) l = begins_opens server (call_id rank call) b.ranks r.0 q _ l.0 l.3.0 l.3.2 refl (λ n. omega arith)
+entry_falls found server rank call b (Fetching r q x) l =
+    begins_opens server (call_id rank call) b.ranks r.0 q _ l.0 l.3.0 l.3.2 refl (λ n. omega arith)
 entry_falls found server rank call b (Fetched by r x) l = by_common _
   where
     by_common : (o : Option CommonRef) → Falls server (call_id rank call) false b.ranks (change_at (own_fetched o) r.0 b.ranks)
     by_common None = ends_opens server (call_id rank call) b.ranks r.0 ended l.0 l.3 (λ n. refl) refl
     by_common (Some c) =
         ends_opens server (call_id rank call) b.ranks r.0 (own_fetched (Some c)) l.0 l.3 (λ n. rw l.4 refl) refl
-entry_falls found server rank call b (CommonFetched by r batch) l = ends_opens server (call_id rank call) b.ranks r.0 ended l.0 l.6 (λ n. refl) refl
-entry_falls found server rank call b (Counting r q kind) l = begins_opens server (call_id rank call) b.ranks r.0 q _ l.0 l.1.0 l.1.2 refl (λ n. omega arith)
-entry_falls found server rank call b (Counted by r q info) l = ends_opens server (call_id rank call) b.ranks r.0 ended l.0 l.2 (λ n. refl) refl
-entry_falls found server rank call b (Done r q) l = begins_opens server (call_id rank call) b.ranks r.0 q _ l.0 l.1.0 l.1.2 refl (λ n. omega arith)
+entry_falls found server rank call b (CommonFetched by r batch) l =
+    ends_opens server (call_id rank call) b.ranks r.0 ended l.0 l.6 (λ n. refl) refl
+entry_falls found server rank call b (Counting r q kind) l =
+    begins_opens server (call_id rank call) b.ranks r.0 q _ l.0 l.1.0 l.1.2 refl (λ n. omega arith)
+entry_falls found server rank call b (Counted by r q info) l =
+    ends_opens server (call_id rank call) b.ranks r.0 ended l.0 l.2 (λ n. refl) refl
+entry_falls found server rank call b (Done r q) l =
+    begins_opens server (call_id rank call) b.ranks r.0 q _ l.0 l.1.0 l.1.2 refl (λ n. omega arith)
 entry_falls found server rank call b (Over r q end) l =
     ends_opens server (call_id rank call) b.ranks r.0 (λ (x : RankState). ended (record x { end = Some end })) l.0 l.1 (λ n. refl) refl
-entry_falls found server rank call b (Finished r q) l = begins_opens server (call_id rank call) b.ranks r.0 q _ l.0 l.1.0 l.1.2 refl (λ n. omega arith)
+entry_falls found server rank call b (Finished r q) l =
+    begins_opens server (call_id rank call) b.ranks r.0 q _ l.0 l.1.0 l.1.2 refl (λ n. omega arith)
 entry_falls found server rank call b _ l = omega arith
 
 -- A run.

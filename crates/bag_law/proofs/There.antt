@@ -32,7 +32,8 @@ there_changed ps servers batch g same stays is = record { each = λ x p found. b
 
 there_shared : (b : Bag) (common : Option CommonRef) → AreThere b → AreThere (shared common b)
 there_shared b None is = is
-there_shared b (Some c) is = there_changed b.parts b.servers c.batch (λ p. record p { accepted = p.accepted + 1 }) (λ p. refl) (λ p. refl) is
+there_shared b (Some c) is =
+    there_changed b.parts b.servers c.batch (λ p. record p { accepted = p.accepted + 1 }) (λ p. refl) (λ p. refl) is
 
 -- a legal entry keeps parts at servers of the run
 pub there_stays : (found : Bag → Bool) (b : Bag) (e : Entry) → LegalWhere found b e → AreThere b → AreThere (after b e)
@@ -42,14 +43,18 @@ there_stays found b (Accepted server id) l is =
     let more : Bag = record b { units = b.units ++ record { unit = l.1; place = Free server } ∷ [] } in
     subst (λ o. AreThere (with_rank id.rank ended (taken server o b))) (sym put) (there_shared more l.1.common is)
 there_stays found b (Kept server batch) l is =
-    subst AreThere (sym (kept_is b server batch l)) (record { each = λ x p at. by_place x p (find_appended (λ q. same_batch q.batch x) b.parts (new_part server batch l.1) p at) })
+    subst AreThere (sym (kept_is b server batch l))
+    (record { each = λ x p at. by_place x p (find_appended (λ q. same_batch q.batch x) b.parts (new_part server batch l.1) p at) })
   where
     by_place : (x : BatchId) (p : Part)
-        → (part_in b.parts x ≡ Some p) ⊎ ((same_batch (new_part server batch l.1).batch x ≡ true) × (new_part server batch l.1 ≡ p)) → p.server.0 < b.servers
+        → (part_in b.parts x ≡ Some p) ⊎ ((same_batch (new_part server batch l.1).batch x ≡ true) × (new_part server batch l.1 ≡ p))
+        → p.server.0 < b.servers
     by_place x p (inl before) = is.each x p before
     by_place x p (inr last) = rw (← last.1) l.4
-there_stays found b (Closed server batch) l is = there_changed b.parts b.servers batch (λ p. record p { closed = true }) (λ p. refl) (λ p. refl) is
-there_stays found b (Freed server batch) l is = there_changed b.parts b.servers batch (λ p. record p { freed = true }) (λ p. refl) (λ p. refl) is
+there_stays found b (Closed server batch) l is =
+    there_changed b.parts b.servers batch (λ p. record p { closed = true }) (λ p. refl) (λ p. refl) is
+there_stays found b (Freed server batch) l is =
+    there_changed b.parts b.servers batch (λ p. record p { freed = true }) (λ p. refl) (λ p. refl) is
 there_stays found b (CommonFetched server rank batch) l is =
     there_changed b.parts b.servers batch (λ p. record p { fetched = p.fetched + 1 }) (λ p. refl) (λ p. refl) is
 there_stays found b _ l is = is

@@ -7,7 +7,8 @@ use Rattle.adlb_unit.specs.declared.names.UnitId.{UnitId}
 use Rattle.adlb_unit.specs.declared.names.BatchId.{BatchId}
 use Rattle.adlb_unit.specs.declared.names.Target.TheVariants.{Any}
 use Rattle.bag_ledger.specs.declared.entries.Entry.{Entry}
-use Rattle.bag_ledger.specs.declared.entries.Entry.TheVariants.{Putting, Accepted, Keeping, Kept, Closing, Closed, Freed, Asked, Granted, Fetching, Fetched, CommonFetched, Promised, Refused, Tried, Looked}
+use Rattle.bag_ledger.specs.declared.entries.Entry.TheVariants.{Putting, Accepted, Keeping, Kept, Closing, Closed, Freed, Asked, Granted}
+use Rattle.bag_ledger.specs.declared.entries.Entry.TheVariants.{Fetching, Fetched, CommonFetched, Promised, Refused, Tried, Looked}
 use Rattle.bag_ledger.specs.declared.states.Part.{Part}
 use Rattle.bag_ledger.specs.declared.states.Placed.{Placed}
 use Rattle.bag_ledger.specs.declared.states.Promise.{Promise}

@@ -17,7 +17,8 @@ use Rattle.bag_ledger.specs.declared.states.Status.TheVariants as does
 use Rattle.bag_ledger.specs.Bag.{Bag, is_placed_at, unit_of, part_of, promise_of}
 use Rattle.bag_ledger.specs.Steps.{Is, has_cause}
 use Rattle.bag_ledger.specs.Words.{IsTracked}
-use Rattle.bag_law.specs.Counts.{accepted_of, brought, fetched_of, if_there, owes, part_in, parts_named, promises_named, unit_in, units_named, unspent, used}
+use Rattle.bag_law.specs.Counts.{accepted_of, brought, fetched_of, if_there, owes, part_in, parts_named, promises_named, unit_in}
+use Rattle.bag_law.specs.Counts.{units_named, unspent, used}
 
 -- of each id there is one unit, part or pending put or batch beginning at most, and none before its rank has used the number
 pub record IdsAreNew (ranks : List RankState) (units : List Placed) (parts : List Part) : Type 0 where

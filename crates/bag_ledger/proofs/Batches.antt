@@ -8,7 +8,8 @@ use Rattle.adlb_unit.specs.declared.names.BatchId.{BatchId}
 use Rattle.bag_ledger.specs.declared.entries.Entry.TheVariants.{Keeping, Kept, Closing, Closed, Freed}
 use Rattle.bag_ledger.specs.declared.states.Status.TheVariants as does
 use Rattle.bag_ledger.specs.Bag.{Bag, charge, is_due}
-use Rattle.bag_ledger.proofs.Tests.{IsTest, has_is, four, same_number, none_is, some_there, keeping_is, closing_is, is_of_is, is_of_from, begins_is, begins_from, server_is, server_from, keeps_is, keeps_from}
+use Rattle.bag_ledger.proofs.Tests.{IsTest, has_is, four, same_number, none_is, some_there, keeping_is, closing_is, is_of_is, is_of_from}
+use Rattle.bag_ledger.proofs.Tests.{begins_is, begins_from, server_is, server_from, keeps_is, keeps_from}
 
 pub keeping_test : (b : Bag) (rank : Rank) (call : ℕ) (common : List ℕ) → IsTest b (Keeping rank call common)
 keeping_test b rank call common = (

@@ -11,19 +11,33 @@ use Rattle.bag_ledger.specs.declared.entries.Entry.TheVariants.{Counting, Counte
 use Rattle.bag_ledger.specs.declared.states.Status.TheVariants as does
 use Rattle.bag_ledger.specs.Bag.{Bag, info_of, settled}
 use Rattle.bag_ledger.specs.Step.{anything}
-use Rattle.bag_ledger.proofs.Tests.{IsTest, has_is, four, same_number, none_is, counting_is, same_info_is, same_info_from, begins_is, begins_from, server_is, server_from}
+use Rattle.bag_ledger.proofs.Tests.{IsTest, has_is, four, same_number, none_is, counting_is, same_info_is, same_info_from, begins_is}
+use Rattle.bag_ledger.proofs.Tests.{begins_from, server_is, server_from}
 
 pub counting_test : (b : Bag) (rank : Rank) (call : ℕ) (kind : WorkType) → IsTest b (Counting rank call kind)
-counting_test b rank call kind = (λ e. let s = begins_is b rank call anything e in (s.0, s.1), λ s. begins_from b rank call anything s.0 s.1 refl)
+counting_test b rank call kind =
+    (λ e. let s = begins_is b rank call anything e in (s.0, s.1), λ s. begins_from b rank call anything s.0 s.1 refl)
 
 pub counted_test : (b : Bag) (server : Server) (rank : Rank) (call : ℕ) (info : Info) → IsTest b (Counted server rank call info)
 counted_test b server rank call info = (
   λ e. let s = has_is _ _ e in
       let c = has_is _ _ s.2 in
       let t = four _ _ _ _ c.2 in
-      let status = counting_is s.0.status c.0 c.1 ∙ ap (λ (n : ℕ). does.Counting n c.0.1) (eqb-true c.0.0 call t.0) in
-      (s.0, c.0.1, s.1, status, (server_is b server t.1, eqb-true server.0 (rank.0 % b.servers) t.2), same_info_is info (info_of b server c.0.1) t.3),
-  λ s. rw (s.2, s.3, same_number call, server_from b server s.4.0, eq-eqb server.0 (rank.0 % b.servers) s.4.1) (same_info_from info (info_of b server s.1) s.5),
+      let status = counting_is s.0.status c.0 c.1 ∙ ap (λ (n : ℕ). does.Counting n c.0.1) (eqb-true c.0.0 call t.0) in (
+        s.0,
+        c.0.1,
+        s.1,
+        status,
+        (server_is b server t.1, eqb-true server.0 (rank.0 % b.servers) t.2),
+        same_info_is info (info_of b server c.0.1) t.3,
+      ),
+  λ s. rw (
+    s.2,
+    s.3,
+    same_number call,
+    server_from b server s.4.0,
+    eq-eqb server.0 (rank.0 % b.servers) s.4.1,
+  ) (same_info_from info (info_of b server s.1) s.5),
 )
 
 pub done_test : (b : Bag) (rank : Rank) (call : ℕ) → IsTest b (Done rank call)

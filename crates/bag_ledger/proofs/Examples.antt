@@ -9,7 +9,10 @@ use Rattle.adlb_unit.specs.declared.names.Target.TheVariants.{Any}
 use Rattle.adlb_unit.specs.declared.notes.Info.{Info}
 use Rattle.adlb_unit.specs.declared.notes.End.TheVariants as ends_by
 use Rattle.bag_ledger.specs.declared.entries.Entry.{Entry}
-use Rattle.bag_ledger.specs.declared.entries.Entry.TheVariants.{Putting, Refused, Accepted, Rejected, Keeping, Kept, Closing, Closed, Freed, Asked, Tried, Granted, Looked, NoCurrent, Fetching, Fetched, CommonFetched, Promised, Left, Arrived, Withdrawn, Counting, Counted, Done, Exhausted, Over, Finished}
+use Rattle.bag_ledger.specs.declared.entries.Entry.TheVariants.{Putting, Refused, Accepted, Rejected, Keeping, Kept, Closing, Closed, Freed}
+use Rattle.bag_ledger.specs.declared.entries.Entry.TheVariants.{Asked, Tried, Granted, Looked, NoCurrent, Fetching, Fetched, CommonFetched}
+use Rattle.bag_ledger.specs.declared.entries.Entry.TheVariants.{Promised, Left, Arrived, Withdrawn, Counting, Counted, Done, Exhausted}
+use Rattle.bag_ledger.specs.declared.entries.Entry.TheVariants.{Over, Finished}
 
 abbrev pub rank : ℕ → Rank
 rank n = record { 0 = n }

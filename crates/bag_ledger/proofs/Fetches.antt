@@ -10,7 +10,8 @@ use Rattle.bag_ledger.specs.declared.entries.Entry.TheVariants.{Fetching, Fetche
 use Rattle.bag_ledger.specs.declared.states.Status.TheVariants as does
 use Rattle.bag_ledger.specs.Bag.{Bag}
 use Rattle.bag_ledger.specs.Step.{anything}
-use Rattle.bag_ledger.proofs.Tests.{IsTest, has_is, three, same_number, pinned_is, pinned_to_is, fetching_is, is_of_is, is_of_from, begins_is, begins_from, server_is, server_from, keeps_is, keeps_from}
+use Rattle.bag_ledger.proofs.Tests.{IsTest, has_is, three, same_number, pinned_is, pinned_to_is, fetching_is, is_of_is, is_of_from}
+use Rattle.bag_ledger.proofs.Tests.{begins_is, begins_from, server_is, server_from, keeps_is, keeps_from}
 
 pub fetching_test : (b : Bag) (rank : Rank) (call : ℕ) (id : UnitId) → IsTest b (Fetching rank call id)
 fetching_test b rank call id = (

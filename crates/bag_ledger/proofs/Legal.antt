@@ -13,7 +13,8 @@ pub run_from : (b : Bag) (place : ℕ) (es : List Entry) → first_illegal b pla
 run_from b place [] e = (b, refl)
 run_from b place (x ∷ es) e = by_step (λ next. run_from next (place + 1) es) (step b x) refl e
   where
-    by_step : ((next : Bag) → first_illegal next (place + 1) es ≡ None → (last : Bag) × IsRun next es last) → (o : Option Bag) → step b x ≡ o → first_after (λ next. first_illegal next (place + 1) es) place o ≡ None → (last : Bag) × IsRun b (x ∷ es) last
+    by_step : ((next : Bag) → first_illegal next (place + 1) es ≡ None → (last : Bag) × IsRun next es last) → (o : Option Bag)
+        → step b x ≡ o → first_after (λ next. first_illegal next (place + 1) es) place o ≡ None → (last : Bag) × IsRun b (x ∷ es) last
     by_step rest None is none = absurd (cc)
     by_step rest (Some next) is none = let run = rest next none in (run.0, (next, is_row b next x is, run.1))
 
@@ -33,11 +34,14 @@ not_made b x none = by_step (step b x) refl
     by_step (Some next) is = absurd (none next (is_row b next x is))
 
 -- what is found is the first entry that is no step
-pub found_is : (b : Bag) (from place : ℕ) (es : List Entry) → first_illegal b from es ≡ Some place → (k : ℕ) × (place ≡ from + k) × IsFirstIllegal b es k
+pub found_is : (b : Bag) (from place : ℕ) (es : List Entry) → first_illegal b from es ≡ Some place
+    → (k : ℕ) × (place ≡ from + k) × IsFirstIllegal b es k
 found_is b from place [] e = absurd (cc)
 found_is b from place (x ∷ es) e = by_step (λ next. found_is next (from + 1) place es) (step b x) refl e
   where
-    by_step : ((next : Bag) → first_illegal next (from + 1) es ≡ Some place → (k : ℕ) × (place ≡ (from + 1) + k) × IsFirstIllegal next es k) → (o : Option Bag) → step b x ≡ o → first_after (λ next. first_illegal next (from + 1) es) from o ≡ Some place → (k : ℕ) × (place ≡ from + k) × IsFirstIllegal b (x ∷ es) k
+    by_step : ((next : Bag) → first_illegal next (from + 1) es ≡ Some place → (k : ℕ) × (place ≡ (from + 1) + k) × IsFirstIllegal next es k)
+        → (o : Option Bag) → step b x ≡ o → first_after (λ next. first_illegal next (from + 1) es) from o ≡ Some place
+        → (k : ℕ) × (place ≡ from + k) × IsFirstIllegal b (x ∷ es) k
     by_step rest None is here =
         let same : from ≡ place = some_is here in
         (zero, omega arith, (b, x, refl, refl, no_step b x is))
@@ -58,13 +62,15 @@ is_found b from (suc k) (x ∷ es) s =
     rw (row_is b s.2.0 x s.2.1) (later ∙ ap Some place)
 
 -- a run of a list in two parts is a run of each
-pub run_split : (found : Bag → Bool) (b last : Bag) (xs ys : List Entry) → IsRunWhere found b (xs ++ ys) last → (middle : Bag) × IsRunWhere found b xs middle × IsRunWhere found middle ys last
+pub run_split : (found : Bag → Bool) (b last : Bag) (xs ys : List Entry) → IsRunWhere found b (xs ++ ys) last
+    → (middle : Bag) × IsRunWhere found b xs middle × IsRunWhere found middle ys last
 run_split found b last [] ys run = (b, refl, run)
 run_split found b last (x ∷ xs) ys run =
     let s = run_split found run.0 last xs ys run.2 in
     (s.0, (run.0, run.1, s.1), s.2)
 
-pub joined_where : (found : Bag → Bool) (b middle last : Bag) (xs ys : List Entry) → IsRunWhere found b xs middle → IsRunWhere found middle ys last → IsRunWhere found b (xs ++ ys) last
+pub joined_where : (found : Bag → Bool) (b middle last : Bag) (xs ys : List Entry) → IsRunWhere found b xs middle
+    → IsRunWhere found middle ys last → IsRunWhere found b (xs ++ ys) last
 joined_where found b middle last [] ys first then = rw first then
 joined_where found b middle last (x ∷ xs) ys first then = (first.0, first.1, joined_where found first.0 middle last xs ys first.2 then)
 

@@ -15,15 +15,19 @@ use Rattle.bag_ledger.proofs.Lookups.{find_changed, find_other, find_filtered, f
 pub apart : (id other : UnitId) → same_unit id other ≡ false → (x : UnitId) → same_unit x id ≡ true → same_unit x other ≡ false
 apart id other differ x is = rw (same_unit_is x id is) differ
 
-pub moved_here : (b : Bag) (id : UnitId) (place : UnitPlace) (u : Placed) → unit_of b id ≡ Some u → unit_of (moved id place b) id ≡ Some (record u { place = place })
+pub moved_here : (b : Bag) (id : UnitId) (place : UnitPlace) (u : Placed) → unit_of b id ≡ Some u
+    → unit_of (moved id place b) id ≡ Some (record u { place = place })
 moved_here b id place u e = find_changed (λ u. record u { place = place }) (λ u. same_unit u.unit.id id) (λ u. refl) b.units u e
 
-pub moved_other : (b : Bag) (id other : UnitId) (place : UnitPlace) → same_unit id other ≡ false → unit_of (moved id place b) other ≡ unit_of b other
+pub moved_other : (b : Bag) (id other : UnitId) (place : UnitPlace) → same_unit id other ≡ false
+    → unit_of (moved id place b) other ≡ unit_of b other
 moved_other b id other place differ =
-    find_other (λ u. record u { place = place }) (λ u. same_unit u.unit.id id) (λ u. same_unit u.unit.id other) (λ u. refl) (λ u is. apart id other differ u.unit.id is) b.units
+    find_other (λ u. record u { place = place }) (λ u. same_unit u.unit.id id) (λ u. same_unit u.unit.id other) (λ u. refl)
+    (λ u is. apart id other differ u.unit.id is) b.units
 
 -- a unit that was there is there, perhaps at another place
-pub moved_keeps : (b : Bag) (id x : UnitId) (place : UnitPlace) (u : Placed) → unit_of b x ≡ Some u → (v : Placed) × (unit_of (moved id place b) x ≡ Some v) × (v.unit ≡ u.unit)
+pub moved_keeps : (b : Bag) (id x : UnitId) (place : UnitPlace) (u : Placed) → unit_of b x ≡ Some u
+    → (v : Placed) × (unit_of (moved id place b) x ≡ Some v) × (v.unit ≡ u.unit)
 moved_keeps b id x place u there = by_test (same_unit id x) refl
   where
     by_test : (t : Bool) → same_unit id x ≡ t → (v : Placed) × (unit_of (moved id place b) x ≡ Some v) × (v.unit ≡ u.unit)
@@ -34,10 +38,12 @@ moved_keeps b id x place u there = by_test (same_unit id x) refl
     by_test false is = (u, moved_other b id x place is ∙ there, refl)
 
 -- a unit that is there is the moved one, or stood there before
-pub moved_is : (b : Bag) (id x : UnitId) (place : UnitPlace) (u v : Placed) → unit_of b id ≡ Some u → unit_of (moved id place b) x ≡ Some v → ((x ≡ id) × (v ≡ record u { place = place })) ⊎ ((same_unit id x ≡ false) × (unit_of b x ≡ Some v))
+pub moved_is : (b : Bag) (id x : UnitId) (place : UnitPlace) (u v : Placed) → unit_of b id ≡ Some u → unit_of (moved id place b) x ≡ Some v
+    → ((x ≡ id) × (v ≡ record u { place = place })) ⊎ ((same_unit id x ≡ false) × (unit_of b x ≡ Some v))
 moved_is b id x place u v there now = by_test (same_unit id x) refl
   where
-    by_test : (t : Bool) → same_unit id x ≡ t → ((x ≡ id) × (v ≡ record u { place = place })) ⊎ ((same_unit id x ≡ false) × (unit_of b x ≡ Some v))
+    by_test : (t : Bool) → same_unit id x ≡ t → ((x ≡ id) × (v ≡ record u { place = place }))
+        ⊎ ((same_unit id x ≡ false) × (unit_of b x ≡ Some v))
     by_test true is =
         let same : x ≡ id = sym (same_unit_is id x is) in
         let found : unit_of (moved id place b) id ≡ Some v = rw same at now in

@@ -3,13 +3,16 @@ use Rattle.std.proofs.Common.{◌≡◌, pos, ◌∷◌, [], Some, None, refl, s
 use Rattle.std.specs.Prelude.{insert, remove}
 use Rattle.adlb_unit.specs.declared.names.Target.TheVariants.{Only}
 use Rattle.adlb_unit.specs.declared.notes.End.TheVariants as ends_by
-use Rattle.bag_ledger.specs.declared.entries.Entry.TheVariants.{Putting, Refused, Accepted, Freed, Asked, Tried, Granted, Looked, Fetching, CommonFetched, Promised, Withdrawn, Counted, Over, Finished}
+use Rattle.bag_ledger.specs.declared.entries.Entry.TheVariants.{Putting, Refused, Accepted, Freed, Asked, Tried, Granted, Looked, Fetching}
+use Rattle.bag_ledger.specs.declared.entries.Entry.TheVariants.{CommonFetched, Promised, Withdrawn, Counted, Over, Finished}
 use Rattle.bag_ledger.specs.Bag.{empty}
 use Rattle.bag_ledger.specs.Runs.{first_illegal}
-use Rattle.bag_ledger.proofs.Examples.{rank, server, kind, unit, batch, bytes, put, full_servers, got_elsewhere, pushed, tries, granted_once, batch_of_two, cancelled_push}
+use Rattle.bag_ledger.proofs.Examples.{rank, server, kind, unit, batch, bytes, put, full_servers, got_elsewhere, pushed, tries}
+use Rattle.bag_ledger.proofs.Examples.{granted_once, batch_of_two, cancelled_push}
 use Rattle.bag_ledger.proofs.Worked.{roomy}
 
-target_of_another_rank : first_illegal (roomy 2 2) 0 (set got_elsewhere 1 (Putting (rank 0) 0 (kind 1) (pos 0) (Only (rank 0)) None [])) ≡ Some 3
+target_of_another_rank : first_illegal (roomy 2 2) 0
+    (set got_elsewhere 1 (Putting (rank 0) 0 (kind 1) (pos 0) (Only (rank 0)) None [])) ≡ Some 3
 target_of_another_rank = refl
 
 unwanted_type : first_illegal (roomy 2 2) 0 (set got_elsewhere 0 (Asked (rank 1) 0 (Some (kind 2 ∷ [])))) ≡ Some 3
@@ -63,7 +66,8 @@ common_bytes_first = refl
 common_bytes_elsewhere : first_illegal (roomy 1 2) 0 (set batch_of_two 14 (CommonFetched (server 1) (rank 0) (batch 0 0))) ≡ Some 14
 common_bytes_elsewhere = refl
 
-counted_with_a_wrong_top : first_illegal (roomy 1 1) 0 (set batch_of_two 7 (Counted (server 0) (rank 0) 3 (record { free = 2; top = Some (pos 1); at_top = 2 }))) ≡ Some 7
+counted_with_a_wrong_top : first_illegal (roomy 1 1) 0
+    (set batch_of_two 7 (Counted (server 0) (rank 0) 3 (record { free = 2; top = Some (pos 1); at_top = 2 }))) ≡ Some 7
 counted_with_a_wrong_top = refl
 
 finished_within_a_batch : first_illegal (roomy 1 1) 0 (set batch_of_two 8 (Finished (rank 0) 4)) ≡ Some 8

@@ -5,14 +5,23 @@ use Rattle.adlb_unit.specs.declared.names.Server.{Server}
 use Rattle.adlb_unit.specs.declared.names.UnitId.{UnitId}
 use Rattle.bag_ledger.specs.declared.entries.Entry.TheVariants.{Promised, Left, Arrived, Withdrawn}
 use Rattle.bag_ledger.specs.Bag.{Bag, charge, promise_of}
-use Rattle.bag_ledger.proofs.Tests.{IsTest, has_is, three, four, same_number, same_server_is, same_server_from, none_is, free_is, travelling_is, server_is, server_from}
+use Rattle.bag_ledger.proofs.Tests.{IsTest, has_is, three, four, same_number, same_server_is, same_server_from, none_is, free_is}
+use Rattle.bag_ledger.proofs.Tests.{travelling_is, server_is, server_from}
 
 pub promised_test : (b : Bag) (server : Server) (id : UnitId) (n : ℕ) → IsTest b (Promised server id n)
 promised_test b server id n = (
   λ e. let u = has_is _ _ e in
       let t = three _ _ _ u.2 in
-      let v = four _ _ _ _ t.0 in
-      (u.0, u.1, eqb-true (length u.0.unit.body) n v.0, server_is b server v.1, not-true _ v.2, not-true _ v.3, none_is (promise_of b id) t.1, leb-true (charge b server + n) b.limit t.2),
+      let v = four _ _ _ _ t.0 in (
+        u.0,
+        u.1,
+        eqb-true (length u.0.unit.body) n v.0,
+        server_is b server v.1,
+        not-true _ v.2,
+        not-true _ v.3,
+        none_is (promise_of b id) t.1,
+        leb-true (charge b server + n) b.limit t.2,
+      ),
   λ s. rw (s.1, eq-eqb (length s.0.unit.body) n s.2, server_from b server s.3, s.4, s.5, s.6) (le-leb (charge b server + n) b.limit s.7),
 )
 

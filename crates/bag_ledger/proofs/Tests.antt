@@ -21,7 +21,8 @@ use Rattle.bag_ledger.specs.declared.states.Status.{Status}
 use Rattle.bag_ledger.specs.declared.states.Status.TheVariants as does
 use Rattle.bag_ledger.specs.Bag.{Bag, rank_at, part_of, is_free_at, putting, keeping}
 use Rattle.bag_ledger.specs.Steps.{Begins, IsServer, Keeps, Legal}
-use Rattle.bag_ledger.specs.Step.{has, is_running, is_closing, trying, fetching, counting, is_pinned_to, is_pinned, is_travelling_to, same_top, same_info, begins, is_server, keeps, is_of, legal}
+use Rattle.bag_ledger.specs.Step.{has, is_running, is_closing, trying, fetching, counting, is_pinned_to, is_pinned, is_travelling_to}
+use Rattle.bag_ledger.specs.Step.{same_top, same_info, begins, is_server, keeps, is_of, legal}
 
 -- the test says where the entry is legal
 abbrev pub IsTest : Bag → Entry → Type 0
@@ -71,11 +72,13 @@ same_server_is a b e = let is : a.0 ≡ b.0 = eqb-true a.0 b.0 e in rw (← is) 
 pub same_server_from : (a b : Server) → a ≡ b → (a.0 == b.0) ≡ true
 same_server_from a b e = eq-eqb a.0 b.0 (ap (λ (s : Server). s.0) e)
 
-pub is_of_is : (batch : BatchId) (common : Option CommonRef) → is_of batch common ≡ true → (c : CommonRef) × (common ≡ Some c) × (c.batch ≡ batch)
+pub is_of_is : (batch : BatchId) (common : Option CommonRef) → is_of batch common ≡ true → (c : CommonRef) × (common ≡ Some c)
+    × (c.batch ≡ batch)
 is_of_is batch None e = absurd (cc)
 is_of_is batch (Some c) e = (c, refl, same_batch_is c.batch batch e)
 
-pub is_of_from : (batch : BatchId) (common : Option CommonRef) (c : CommonRef) → common ≡ Some c → c.batch ≡ batch → is_of batch common ≡ true
+pub is_of_from : (batch : BatchId) (common : Option CommonRef) (c : CommonRef) → common ≡ Some c → c.batch ≡ batch
+    → is_of batch common ≡ true
 is_of_from batch common c is e = rw is (same_batch_from c.batch batch e)
 
 -- Statuses.
@@ -97,11 +100,13 @@ keeping_is (does.Keeping call common) k e = let same : (call, common) ≡ k = so
 keeping_is _ k e = absurd (cc)
 
 pub trying_is : (s : Status) (w : ℕ × Option (List WorkType)) → trying s ≡ Some w → s ≡ does.Trying w.0 w.1
-trying_is (does.Trying call types) w e = let same : (call, types) ≡ w = some_is e in ap (λ (p : ℕ × Option (List WorkType)). does.Trying p.0 p.1) same
+trying_is (does.Trying call types) w e = let same : (call, types) ≡ w = some_is e in
+    ap (λ (p : ℕ × Option (List WorkType)). does.Trying p.0 p.1) same
 trying_is _ w e = absurd (cc)
 
 pub fetching_is : (s : Status) (f : UnitId × Bool) → fetching s ≡ Some f → (call : ℕ) × (s ≡ does.Fetching call f.0 f.1)
-fetching_is (does.Fetching call id own) f e = let same : (id, own) ≡ f = some_is e in (call, ap (λ (p : UnitId × Bool). does.Fetching call p.0 p.1) same)
+fetching_is (does.Fetching call id own) f e = let same : (id, own) ≡ f = some_is e in
+    (call, ap (λ (p : UnitId × Bool). does.Fetching call p.0 p.1) same)
 fetching_is _ f e = absurd (cc)
 
 pub counting_is : (s : Status) (c : ℕ × WorkType) → counting s ≡ Some c → s ≡ does.Counting c.0 c.1
@@ -153,13 +158,15 @@ same_info_from a b e = rw (e, same_number b.free, same_top_from b.top, same_numb
 
 -- Beginnings, servers and parts.
 
-pub begins_is : (b : Bag) (rank : Rank) (call : ℕ) (test : RankState → Bool) → begins b rank call test ≡ true → (r : RankState) × Begins b rank call r × (test r ≡ true)
+pub begins_is : (b : Bag) (rank : Rank) (call : ℕ) (test : RankState → Bool) → begins b rank call test ≡ true
+    → (r : RankState) × Begins b rank call r × (test r ≡ true)
 begins_is b rank call test e =
     let s = has_is (λ r. is_running r.status && (r.next == call) && test r) (rank_at b rank) e in
     let t = three (is_running s.0.status) (s.0.next == call) (test s.0) s.2 in
     (s.0, (s.1, running_is s.0.status t.0, eqb-true s.0.next call t.1), t.2)
 
-pub begins_from : (b : Bag) (rank : Rank) (call : ℕ) (test : RankState → Bool) (r : RankState) → Begins b rank call r → test r ≡ true → begins b rank call test ≡ true
+pub begins_from : (b : Bag) (rank : Rank) (call : ℕ) (test : RankState → Bool) (r : RankState) → Begins b rank call r → test r ≡ true
+    → begins b rank call test ≡ true
 begins_from b rank call test r s e =
     let runs : is_running r.status ≡ true = rw s.1 refl in
     let next : (r.next == call) ≡ true = eq-eqb r.next call s.2 in
@@ -171,15 +178,18 @@ server_is b server e = ltb-true server.0 b.servers e
 pub server_from : (b : Bag) (server : Server) → IsServer b server → is_server b server ≡ true
 server_from b server s = lt-ltb server.0 b.servers s
 
-pub keeps_is : (b : Bag) (server : Server) (batch : BatchId) (test : Part → Bool) → keeps b server batch test ≡ true → (p : Part) × Keeps b server batch p × (test p ≡ true)
+pub keeps_is : (b : Bag) (server : Server) (batch : BatchId) (test : Part → Bool) → keeps b server batch test ≡ true
+    → (p : Part) × Keeps b server batch p × (test p ≡ true)
 keeps_is b server batch test e =
     let s = and_parts (is_server b server) (has (part_of b batch) (λ p. (p.server.0 == server.0) && not p.freed && test p)) e in
     let t = has_is (λ p. (p.server.0 == server.0) && not p.freed && test p) (part_of b batch) s.1 in
     let u = three (t.0.server.0 == server.0) (not t.0.freed) (test t.0) t.2 in
     (t.0, (server_is b server s.0, t.1, same_server_is t.0.server server u.0, not-true t.0.freed u.1), u.2)
 
-pub keeps_from : (b : Bag) (server : Server) (batch : BatchId) (test : Part → Bool) (p : Part) → Keeps b server batch p → test p ≡ true → keeps b server batch test ≡ true
+pub keeps_from : (b : Bag) (server : Server) (batch : BatchId) (test : Part → Bool) (p : Part) → Keeps b server batch p → test p ≡ true
+    → keeps b server batch test ≡ true
 keeps_from b server batch test p s e =
     let here : (p.server.0 == server.0) ≡ true = same_server_from p.server server s.2 in
-    let there = has_from (λ p. (p.server.0 == server.0) && not p.freed && test p) (part_of b batch) p s.1 (three_from here (not_from_false p.freed s.3) e) in
+    let there = has_from (λ p. (p.server.0 == server.0) && not p.freed && test p) (part_of b batch) p s.1
+    (three_from here (not_from_false p.freed s.3) e) in
     rw (server_from b server s.0) there

@@ -11,7 +11,9 @@ use Rattle.bag_ledger.specs.declared.entries.Answer.TheVariants as answers
 use Rattle.bag_ledger.specs.declared.entries.Said.{Said}
 use Rattle.bag_ledger.specs.Bag.{Bag, empty}
 use Rattle.bag_ledger.specs.Runs.{first_illegal, calls_from}
-use Rattle.bag_ledger.proofs.Examples.{rank, server, kind, unit, batch, bytes, two_free, full_servers, got_elsewhere, pushed, tries, granted_once, batch_of_two, done_called, cancelled_push, refused_batch, empty_batch, full_at_first, several_priorities, worked_alone}
+use Rattle.bag_ledger.proofs.Examples.{rank, server, kind, unit, batch, bytes, two_free, full_servers, got_elsewhere, pushed, tries}
+use Rattle.bag_ledger.proofs.Examples.{granted_once, batch_of_two, done_called, cancelled_push, refused_batch, empty_batch, full_at_first}
+use Rattle.bag_ledger.proofs.Examples.{several_priorities, worked_alone}
 
 -- ranks and servers with so much room that the limit does not matter
 abbrev pub roomy : ℕ → ℕ → Bag
@@ -61,7 +63,17 @@ says call answer = record { call = call; answer = answer }
 
 -- a reserve of any type that was granted the unit, of one byte, of the batch
 abbrev got : ℕ → ℕ → Said
-got r call = says (calls_to.Reserve None) (answers.Granted (record { id = unit r call; kind = kind 1; prio = pos 0; answer = None; server = server 0; common = Some (record { batch = batch 0 0; server = server 0; length = 2 }); length = 1 }))
+got r call =
+    says (calls_to.Reserve None)
+    (answers.Granted (record {
+      id = unit r call;
+      kind = kind 1;
+      prio = pos 0;
+      answer = None;
+      server = server 0;
+      common = Some (record { batch = batch 0 0; server = server 0; length = 2 });
+      length = 1;
+    }))
 
 abbrev puts : List ℕ → Answer → Said
 puts body answer = says (calls_to.Put (kind 1) (pos 0) Any None body) answer
@@ -78,7 +90,9 @@ calls_of_a_put_and_a_try : calls_from (roomy 2 2) got_elsewhere (rank 0) ≡
 calls_of_a_put_and_a_try = refl
 
 calls_of_a_grant_elsewhere : calls_from (roomy 2 2) got_elsewhere (rank 1) ≡
-    says (calls_to.Reserve None) (answers.Granted (record { id = unit 0 0; kind = kind 1; prio = pos 0; answer = None; server = server 0; common = None; length = 5 })) ∷ []
+    says (calls_to.Reserve None)
+    (answers.Granted (record { id = unit 0 0; kind = kind 1; prio = pos 0; answer = None; server = server 0; common = None; length = 5 }))
+    ∷ []
 calls_of_a_grant_elsewhere = refl
 
 calls_after_done : calls_from (roomy 1 3) tries (rank 0) ≡
@@ -120,11 +134,13 @@ calls_of_an_empty_batch : calls_from (roomy 1 1) empty_batch (rank 0) ≡
     says (calls_to.BeginBatch (120 ∷ 121 ∷ [])) answers.Fine ∷ says calls_to.EndBatch answers.Fine ∷ []
 calls_of_an_empty_batch = refl
 
-calls_of_a_put_at_the_next : calls_from (empty 1 2 64) full_at_first (rank 0) ≡ puts (bytes 56) answers.Fine ∷ puts (bytes 9) answers.Fine ∷ []
+calls_of_a_put_at_the_next : calls_from (empty 1 2 64) full_at_first (rank 0) ≡ puts (bytes 56) answers.Fine
+    ∷ puts (bytes 9) answers.Fine ∷ []
 calls_of_a_put_at_the_next = refl
 
 calls_of_a_fetch_and_a_finish : calls_from (roomy 1 1) worked_alone (rank 0) ≡
     puts (97 ∷ 98 ∷ []) answers.Fine
-    ∷ says (calls_to.Reserve None) (answers.Granted (record { id = unit 0 0; kind = kind 1; prio = pos 0; answer = None; server = server 0; common = None; length = 2 }))
+    ∷ says (calls_to.Reserve None)
+    (answers.Granted (record { id = unit 0 0; kind = kind 1; prio = pos 0; answer = None; server = server 0; common = None; length = 2 }))
     ∷ says (calls_to.Fetch (unit 0 0)) (answers.Body (97 ∷ 98 ∷ [])) ∷ says calls_to.Finish answers.Fine ∷ []
 calls_of_a_fetch_and_a_finish = refl

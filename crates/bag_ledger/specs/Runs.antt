@@ -1,5 +1,6 @@
 -- Legal runs, and the calls of a rank in them.
-use Rattle.std.specs.Prelude.{ℕ, Bool, ◌+◌, ◌≡◌, ◌==◌, List, [], ◌∷◌, ◌++◌, length, take, Option, Some, None, if◌then◌else◌, slice_get, option_and_then, option_map}
+use Rattle.std.specs.Prelude.{ℕ, Bool, ◌+◌, ◌≡◌, ◌==◌, List, [], ◌∷◌, ◌++◌, length, take, Option, Some, None, if◌then◌else◌, slice_get}
+use Rattle.std.specs.Prelude.{option_and_then, option_map}
 use Rattle.adlb_unit.specs.declared.configs.Config.{Config}
 use Rattle.adlb_unit.specs.declared.names.Rank.{Rank}
 use Rattle.adlb_unit.specs.declared.names.Server.{Server}
@@ -8,7 +9,8 @@ use Rattle.adlb_unit.specs.declared.names.CommonRef.{CommonRef}
 use Rattle.adlb_unit.specs.declared.notes.UnitNote.{UnitNote}
 use Rattle.adlb_unit.specs.declared.units.Unit.{Unit}
 use Rattle.bag_ledger.specs.declared.entries.Entry.{Entry}
-use Rattle.bag_ledger.specs.declared.entries.Entry.TheVariants.{Accepted, Rejected, Kept, Closed, Granted, NoCurrent, Fetched, CommonFetched, Counted, Done, Over, Finished}
+use Rattle.bag_ledger.specs.declared.entries.Entry.TheVariants.{Accepted, Rejected, Kept, Closed, Granted, NoCurrent, Fetched}
+use Rattle.bag_ledger.specs.declared.entries.Entry.TheVariants.{CommonFetched, Counted, Done, Over, Finished}
 use Rattle.bag_ledger.specs.declared.entries.Call.{Call}
 use Rattle.bag_ledger.specs.declared.entries.Call.TheVariants as calls_to
 use Rattle.bag_ledger.specs.declared.entries.Answer.{Answer}

@@ -1,5 +1,6 @@
 -- One step of the bag as a function, which computes: `legal` is `Legal` as a test, row for row.
-use Rattle.std.specs.Prelude.{ℕ, ◌+◌, ◌==◌, nat_le, nat_lt, ℤ, Bool, true, false, ◌&&◌, not, List, length, Option, Some, None, is_none, if◌then◌else◌}
+use Rattle.std.specs.Prelude.{ℕ, ◌+◌, ◌==◌, nat_le, nat_lt, ℤ, Bool, true, false, ◌&&◌, not, List, length, Option, Some, None, is_none}
+use Rattle.std.specs.Prelude.{if◌then◌else◌}
 use Rattle.std.specs.Ordering.{int_eq}
 use Rattle.adlb_unit.specs.declared.names.Rank.{Rank}
 use Rattle.adlb_unit.specs.declared.names.Server.{Server}
@@ -12,14 +13,18 @@ use Rattle.adlb_unit.specs.Permit.{permitted}
 use Rattle.adlb_unit.specs.Targets.{home_of}
 use Rattle.adlb_unit.specs.Ids.{same_batch, same_unit}
 use Rattle.bag_ledger.specs.declared.entries.Entry.{Entry}
-use Rattle.bag_ledger.specs.declared.entries.Entry.TheVariants.{Putting, Refused, Accepted, Rejected, Keeping, Kept, Closing, Closed, Freed, Asked, Tried, Granted, Looked, NoCurrent, Fetching, Fetched, CommonFetched, Promised, Left, Arrived, Withdrawn, Counting, Counted, Done, Exhausted, Over, Finished}
+use Rattle.bag_ledger.specs.declared.entries.Entry.TheVariants.{Putting, Refused, Accepted, Rejected, Keeping, Kept, Closing, Closed, Freed}
+use Rattle.bag_ledger.specs.declared.entries.Entry.TheVariants.{Asked, Tried, Granted, Looked, NoCurrent, Fetching, Fetched, CommonFetched}
+use Rattle.bag_ledger.specs.declared.entries.Entry.TheVariants.{Promised, Left, Arrived, Withdrawn, Counting, Counted, Done, Exhausted}
+use Rattle.bag_ledger.specs.declared.entries.Entry.TheVariants.{Over, Finished}
 use Rattle.bag_ledger.specs.declared.states.RankState.{RankState}
 use Rattle.bag_ledger.specs.declared.states.Part.{Part}
 use Rattle.bag_ledger.specs.declared.states.UnitPlace.{UnitPlace}
 use Rattle.bag_ledger.specs.declared.states.UnitPlace.TheVariants.{Pinned, Travelling}
 use Rattle.bag_ledger.specs.declared.states.Status.{Status}
 use Rattle.bag_ledger.specs.declared.states.Status.TheVariants as does
-use Rattle.bag_ledger.specs.Bag.{Bag, rank_at, unit_of, part_of, promise_of, is_free_at, is_placed_at, is_travelling, charge, putting, keeping, offer, wish, open_call, has_declined, all_declined, is_due, has_fit_at, settled, info_of}
+use Rattle.bag_ledger.specs.Bag.{Bag, rank_at, unit_of, part_of, promise_of, is_free_at, is_placed_at, is_travelling, charge, putting}
+use Rattle.bag_ledger.specs.Bag.{keeping, offer, wish, open_call, has_declined, all_declined, is_due, has_fit_at, settled, info_of}
 use Rattle.bag_ledger.specs.Steps.{has_cause, in_turn, after}
 
 -- the value is there and passes the test

@@ -1,5 +1,6 @@
 -- One step of the bag: where each entry is legal, and what it changes.
-use Rattle.std.specs.Prelude.{ℕ, zero, suc, ◌+◌, ◌<◌, ◌≤◌, ◌≡◌, Bool, true, false, ◌||◌, not, List, [], ◌∷◌, ◌++◌, length, filter, Option, Some, None, IsTrue, IsFalse, option_and_then, if◌then◌else◌}
+use Rattle.std.specs.Prelude.{ℕ, zero, suc, ◌+◌, ◌<◌, ◌≤◌, ◌≡◌, Bool, true, false, ◌||◌, not, List, [], ◌∷◌, ◌++◌, length, filter, Option}
+use Rattle.std.specs.Prelude.{Some, None, IsTrue, IsFalse, option_and_then, if◌then◌else◌}
 use Rattle.adlb_unit.specs.declared.names.Rank.{Rank}
 use Rattle.adlb_unit.specs.declared.names.Server.{Server}
 use Rattle.adlb_unit.specs.declared.names.WorkType.{WorkType}
@@ -13,7 +14,10 @@ use Rattle.adlb_unit.specs.Permit.{permitted}
 use Rattle.adlb_unit.specs.Targets.{home_of}
 use Rattle.adlb_unit.specs.Ids.{same_batch, same_unit}
 use Rattle.bag_ledger.specs.declared.entries.Entry.{Entry}
-use Rattle.bag_ledger.specs.declared.entries.Entry.TheVariants.{Putting, Refused, Accepted, Rejected, Keeping, Kept, Closing, Closed, Freed, Asked, Tried, Granted, Looked, NoCurrent, Fetching, Fetched, CommonFetched, Promised, Left, Arrived, Withdrawn, Counting, Counted, Done, Exhausted, Over, Finished}
+use Rattle.bag_ledger.specs.declared.entries.Entry.TheVariants.{Putting, Refused, Accepted, Rejected, Keeping, Kept, Closing, Closed, Freed}
+use Rattle.bag_ledger.specs.declared.entries.Entry.TheVariants.{Asked, Tried, Granted, Looked, NoCurrent, Fetching, Fetched, CommonFetched}
+use Rattle.bag_ledger.specs.declared.entries.Entry.TheVariants.{Promised, Left, Arrived, Withdrawn, Counting, Counted, Done, Exhausted}
+use Rattle.bag_ledger.specs.declared.entries.Entry.TheVariants.{Over, Finished}
 use Rattle.bag_ledger.specs.declared.states.RankState.{RankState}
 use Rattle.bag_ledger.specs.declared.states.Placed.{Placed}
 use Rattle.bag_ledger.specs.declared.states.Part.{Part}
@@ -22,7 +26,8 @@ use Rattle.bag_ledger.specs.declared.states.UnitPlace.{UnitPlace}
 use Rattle.bag_ledger.specs.declared.states.UnitPlace.TheVariants.{Free, Travelling, Pinned, Spent}
 use Rattle.bag_ledger.specs.declared.states.Status.{Status}
 use Rattle.bag_ledger.specs.declared.states.Status.TheVariants as does
-use Rattle.bag_ledger.specs.Bag.{Bag, rank_at, unit_of, part_of, promise_of, is_placed_at, is_travelling, charge, putting, keeping, offer, wish, open_call, has_declined, all_declined, is_due, has_due, has_fit_at, settled, info_of}
+use Rattle.bag_ledger.specs.Bag.{Bag, rank_at, unit_of, part_of, promise_of, is_placed_at, is_travelling, charge, putting, keeping, offer}
+use Rattle.bag_ledger.specs.Bag.{wish, open_call, has_declined, all_declined, is_due, has_due, has_fit_at, settled, info_of}
 
 -- Words of the conditions.
 
@@ -224,7 +229,15 @@ own_fetched (Some common) r = record r { status = own_came r.status }
 abbrev pub after : Bag → Entry → Bag
 after b (Putting rank call kind prio target answer body) =
     let unit : Option CommonRef → Unit =
-    λ common. record { id = record { rank = rank; number = call }; kind = kind; prio = prio; target = target; answer = answer; common = common; body = body } in
+    λ common. record {
+      id = record { rank = rank; number = call };
+      kind = kind;
+      prio = prio;
+      target = target;
+      answer = answer;
+      common = common;
+      body = body;
+    } in
     with_rank rank (λ r. begun (does.Putting (unit r.batch)) r) b
 after b (Refused server id used) = with_rank id.rank (declined_by server) b
 after b (Accepted server id) =

@@ -58,5 +58,7 @@ IsSettled b =
 
 -- each promise is of a unit of that length, and each unit that travels is promised where it goes
 pub record IsTracked (b : Bag) : Type 0 where
-  pub measured : (id : UnitId) (p : Promise) → promise_of b id ≡ Some p → (u : Placed) × (unit_of b id ≡ Some u) × (length u.unit.body ≡ p.length)
-  pub promised : (id : UnitId) (u : Placed) (to : Server) → Stands b id u (Travelling to) → (p : Promise) × (promise_of b id ≡ Some p) × (p.server ≡ to)
+  pub measured : (id : UnitId) (p : Promise) → promise_of b id ≡ Some p → (u : Placed) × (unit_of b id ≡ Some u)
+      × (length u.unit.body ≡ p.length)
+  pub promised : (id : UnitId) (u : Placed) (to : Server) → Stands b id u (Travelling to) → (p : Promise) × (promise_of b id ≡ Some p)
+      × (p.server ≡ to)

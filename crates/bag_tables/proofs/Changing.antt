@@ -3,7 +3,8 @@ use Rattle.std.proofs.Common.{◌≡◌, ℕ, zero, suc, ◌<◌, ◌≤◌, Lis
 use Rattle.std.specs.Prelude.{Result, Ok, Err, OnOk}
 use Rattle.bag_ledger.specs.Steps.{change_at}
 
-pub set_changes : {X : Type 0} (xs : List X) (place : ℕ) (f : X → X) (d : X) → place < length xs → slice_set xs place (f (slice_index_or xs place d)) ≡ change_at f place xs
+pub set_changes : {X : Type 0} (xs : List X) (place : ℕ) (f : X → X) (d : X) → place < length xs
+    → slice_set xs place (f (slice_index_or xs place d)) ≡ change_at f place xs
 set_changes [] place f d inside = absurd (omega (arith, inside))
 set_changes (x ∷ xs) zero f d inside = refl
 set_changes (x ∷ xs) (suc place) f d inside = ap (λ l. x ∷ l) (set_changes xs place f d (omega (arith, inside)))

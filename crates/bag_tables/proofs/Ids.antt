@@ -13,13 +13,15 @@ pub at_id : (a b r n : ℕ) → is_at (by_id (a, b)) (r, n) ≡ ((a == r) && (b 
 at_id a b r n = grind (arith, nat_tests)
 
 -- an id that is there keeps its place
-pub stays_noted : (place : ℕ) (here : Bool) (at query : Option ℕ) → is_some at ≡ true → (here ≡ true → query ≡ at) → query ≡ option_or query (if here then Some place else None)
+pub stays_noted : (place : ℕ) (here : Bool) (at query : Option ℕ) → is_some at ≡ true → (here ≡ true → query ≡ at)
+    → query ≡ option_or query (if here then Some place else None)
 stays_noted place here at (Some p) there same = refl
 stays_noted place true at None there same = let e = same refl in absurd (cc)
 stays_noted place false at None there same = refl
 
 -- one that is not takes this one
-pub now_noted : (place : ℕ) (here : Bool) (at query : Option ℕ) → is_some at ≡ false → (here ≡ true → query ≡ at) → cond here (Some place) query ≡ option_or query (if here then Some place else None)
+pub now_noted : (place : ℕ) (here : Bool) (at query : Option ℕ) → is_some at ≡ false → (here ≡ true → query ≡ at)
+    → cond here (Some place) query ≡ option_or query (if here then Some place else None)
 now_noted place true at (Some p) absent same = let e = same refl in absurd (cc)
 now_noted place true at None absent same = refl
 now_noted place false at (Some p) absent same = refl

@@ -1,5 +1,6 @@
 -- What the counts tell is what a count of the units tells.
-use Rattle.std.proofs.Common.{◌≡◌, ◌∙◌, sym, ◌==◌, ◌&&◌, ◌+◌, ◌<◌, ℕ, ℤ, Bool, true, false, List, [], ◌∷◌, length, map, filter, fold, Option, Some, None, All, Contains, ◌⊎◌, inl, inr, add-one, ◌≤ℤ◌, refl, ap, arith, sum_by, count_by}
+use Rattle.std.proofs.Common.{◌≡◌, ◌∙◌, sym, ◌==◌, ◌&&◌, ◌+◌, ◌<◌, ℕ, ℤ, Bool, true, false, List, [], ◌∷◌, length, map, filter, fold}
+use Rattle.std.proofs.Common.{Option, Some, None, All, Contains, ◌⊎◌, inl, inr, add-one, ◌≤ℤ◌, refl, ap, arith, sum_by, count_by}
 use Rattle.std.specs.Prelude.{MatchOption, int_le, if◌then◌else◌}
 use Rattle.std.specs.Int.{int_max}
 use Rattle.std.specs.Ordering.{int_cmp, int_eq, is_eq, nat_cmp, ordering_then}
@@ -29,11 +30,13 @@ sum_same : {X : Type 0} (f g : X → ℕ) → ((x : X) → f x ≡ g x) → (xs 
 sum_same f g same [] = refl
 sum_same f g same (x ∷ xs) = rw (sum_by-cons f x xs, sum_by-cons g x xs, same x, sum_same f g same xs) refl
 
-sum_part : {X Y : Type 0} (test : X → Bool) (g : X → Y) (f : Y → ℕ) (xs : List X) → sum_by f (map g (filter test xs)) ≡ sum_by (λ x. if test x then f (g x) else 0) xs
+sum_part : {X Y : Type 0} (test : X → Bool) (g : X → Y) (f : Y → ℕ) (xs : List X)
+    → sum_by f (map g (filter test xs)) ≡ sum_by (λ x. if test x then f (g x) else 0) xs
 sum_part test g f [] = refl
 sum_part test g f (x ∷ xs) = rw (sum_by-cons (λ y. if test y then f (g y) else 0) x xs, ← sum_part test g f xs) (by_test (test x) refl)
   where
-    by_test : (b : Bool) → test x ≡ b → sum_by f (map g (filter test (x ∷ xs))) ≡ (if test x then f (g x) else 0) + sum_by f (map g (filter test xs))
+    by_test : (b : Bool) → test x ≡ b
+        → sum_by f (map g (filter test (x ∷ xs))) ≡ (if test x then f (g x) else 0) + sum_by f (map g (filter test xs))
     by_test true is = rw is (sum_by-cons f (g x) (map g (filter test xs)))
     by_test false is = rw is (omega arith)
 
@@ -49,40 +52,51 @@ of_kind server kind u = is_free_at server u.place && (u.unit.kind.0 == kind.0)
 abbrev prios_of : Server → WorkType → List Placed → List ℤ
 prios_of server kind units = map (λ u. u.unit.prio) (filter (of_kind server kind) units)
 
-one_kind : (server : Server) (kind : WorkType) (u : Placed) → one_at by_kind (free_key kind_of u) (server.0, kind.0) ≡ (if of_kind server kind u then 1 else 0)
+one_kind : (server : Server) (kind : WorkType) (u : Placed)
+    → one_at by_kind (free_key kind_of u) (server.0, kind.0) ≡ (if of_kind server kind u then 1 else 0)
 one_kind server kind u = by_place u.place refl
   where
-    by_place : (place : UnitPlace) → u.place ≡ place → one_at by_kind (free_key kind_of u) (server.0, kind.0) ≡ (if of_kind server kind u then 1 else 0)
+    by_place : (place : UnitPlace) → u.place ≡ place
+        → one_at by_kind (free_key kind_of u) (server.0, kind.0) ≡ (if of_kind server kind u then 1 else 0)
     by_place (Free at) is = rw is (grind (arith, nat_tests))
     by_place (Travelling at) is = rw is refl
     by_place (Pinned at to) is = rw is refl
     by_place Spent is = rw is refl
 
-same_prio : (a s b k : ℕ) (o : Ordering) → ◌≡◌ {A = ℕ} (if is_eq (ordering_then (ordering_then (nat_cmp a s) (nat_cmp b k)) o) then 1 else 0) (if (a == s) && (b == k) then (if is_eq o then 1 else 0) else 0)
+same_prio : (a s b k : ℕ) (o : Ordering)
+    → ◌≡◌ {A = ℕ} (if is_eq (ordering_then (ordering_then (nat_cmp a s) (nat_cmp b k)) o) then 1 else 0)
+    (if (a == s) && (b == k) then (if is_eq o then 1 else 0) else 0)
 same_prio a s b k Less = grind (arith, nat_tests)
 same_prio a s b k Equal = grind (arith, nat_tests)
 same_prio a s b k Greater = grind (arith, nat_tests)
 
-one_prio : (server : Server) (kind : WorkType) (prio : ℤ) (u : Placed) → one_at by_prio (free_key prio_of u) (server.0, kind.0, Some (record { 0 = prio })) ≡ (if of_kind server kind u then (if int_eq prio u.unit.prio then 1 else 0) else 0)
+one_prio : (server : Server) (kind : WorkType) (prio : ℤ) (u : Placed)
+    → one_at by_prio (free_key prio_of u) (server.0, kind.0, Some (record { 0 = prio }))
+    ≡ (if of_kind server kind u then (if int_eq prio u.unit.prio then 1 else 0) else 0)
 one_prio server kind prio u = by_place u.place refl
   where
-    by_place : (place : UnitPlace) → u.place ≡ place → one_at by_prio (free_key prio_of u) (server.0, kind.0, Some (record { 0 = prio })) ≡ (if of_kind server kind u then (if int_eq prio u.unit.prio then 1 else 0) else 0)
+    by_place : (place : UnitPlace) → u.place ≡ place → one_at by_prio (free_key prio_of u) (server.0, kind.0, Some (record { 0 = prio }))
+        ≡ (if of_kind server kind u then (if int_eq prio u.unit.prio then 1 else 0) else 0)
     by_place (Free at) is = rw is (same_prio at.0 server.0 u.unit.kind.0 kind.0 (int_cmp prio u.unit.prio))
     by_place (Travelling at) is = rw is refl
     by_place (Pinned at to) is = rw is refl
     by_place Spent is = rw is refl
 
-free_count : (free : FreeCounts) (units : List Placed) → IsCounted free units → (server : Server) (kind : WorkType) → count_of by_kind free.kinds (server.0, kind.0) ≡ length (prios_of server kind units)
+free_count : (free : FreeCounts) (units : List Placed) → IsCounted free units → (server : Server) (kind : WorkType)
+    → count_of by_kind free.kinds (server.0, kind.0) ≡ length (prios_of server kind units)
 free_count free units is server kind =
     is.kinds.counts (server.0, kind.0)
-    ∙ sum_same (λ u. one_at by_kind (free_key kind_of u) (server.0, kind.0)) (λ u. if of_kind server kind u then 1 else 0) (one_kind server kind) units
+    ∙ sum_same (λ u. one_at by_kind (free_key kind_of u) (server.0, kind.0)) (λ u. if of_kind server kind u then 1 else 0)
+    (one_kind server kind) units
     ∙ sym (sum_part (of_kind server kind) (λ u. u.unit.prio) (λ x. 1) units)
     ∙ ones (prios_of server kind units)
 
-prio_counted : (free : FreeCounts) (units : List Placed) → IsCounted free units → (server : Server) (kind : WorkType) (prio : ℤ) → prio_count free server kind prio ≡ count_by (int_eq prio) (prios_of server kind units)
+prio_counted : (free : FreeCounts) (units : List Placed) → IsCounted free units → (server : Server) (kind : WorkType) (prio : ℤ)
+    → prio_count free server kind prio ≡ count_by (int_eq prio) (prios_of server kind units)
 prio_counted free units is server kind prio =
     is.prios.counts (server.0, kind.0, Some (record { 0 = prio }))
-    ∙ sum_same (λ u. one_at by_prio (free_key prio_of u) (server.0, kind.0, Some (record { 0 = prio }))) (λ u. if of_kind server kind u then (if int_eq prio u.unit.prio then 1 else 0) else 0) (one_prio server kind prio) units
+    ∙ sum_same (λ u. one_at by_prio (free_key prio_of u) (server.0, kind.0, Some (record { 0 = prio })))
+    (λ u. if of_kind server kind u then (if int_eq prio u.unit.prio then 1 else 0) else 0) (one_prio server kind prio) units
     ∙ sym (sum_part (of_kind server kind) (λ u. u.unit.prio) (λ x. if int_eq prio x then 1 else 0) units)
 
 -- The highest of a list of priorities.
@@ -111,12 +125,18 @@ counted_low m prio (x ∷ xs) low some = by_test (counted_low m prio xs (All-tai
 at_most : (m : ℤ) (prios : List ℤ) → All (λ x. x ≤ℤ m) prios → count_by (int_le m) prios ≡ count_by (int_eq m) prios
 at_most m [] low = refl
 at_most m (x ∷ xs) low =
-    rw (sum_by-cons (λ y. if int_le m y then 1 else 0) x xs, sum_by-cons (λ y. if int_eq m y then 1 else 0) x xs, at_most m xs (All-tail (λ y. y ≤ℤ m) x xs low), here (All-head (λ y. y ≤ℤ m) x xs low)) refl
+    rw (
+      sum_by-cons (λ y. if int_le m y then 1 else 0) x xs,
+      sum_by-cons (λ y. if int_eq m y then 1 else 0) x xs,
+      at_most m xs (All-tail (λ y. y ≤ℤ m) x xs low),
+      here (All-head (λ y. y ≤ℤ m) x xs low),
+    ) refl
   where
     here : x ≤ℤ m → int_le m x ≡ int_eq m x
     here is = grind (arith, ints)
 
-info_is : (info : Info) (n : ℕ) (top : Option ℤ) (m : ℕ) → info.free ≡ n → info.top ≡ top → info.at_top ≡ m → info ≡ record { free = n; top = top; at_top = m }
+info_is : (info : Info) (n : ℕ) (top : Option ℤ) (m : ℕ) → info.free ≡ n → info.top ≡ top → info.at_top ≡ m
+    → info ≡ record { free = n; top = top; at_top = m }
 info_is info n top m free is also = rw (← free, ← is, ← also) refl
 
 -- the top of a list of priorities, as counts show it
@@ -125,7 +145,9 @@ record IsTopOf (prios : List ℤ) (top : ℤ) (n : ℕ) : Type 0 where
   some : 0 < n
   highest : (prio : ℤ) → 0 < count_by (int_eq prio) prios → prio ≤ℤ top
 
-told_of : (info : Info) (prios : List ℤ) (top : Option ℤ) → info.top ≡ top → info.free ≡ length prios → MatchOption top ((info.at_top ≡ 0) × ((prio : ℤ) → count_by (int_eq prio) prios ≡ 0)) (λ prio. IsTopOf prios prio info.at_top) → info ≡ info_of_prios prios
+told_of : (info : Info) (prios : List ℤ) (top : Option ℤ) → info.top ≡ top → info.free ≡ length prios
+    → MatchOption top ((info.at_top ≡ 0) × ((prio : ℤ) → count_by (int_eq prio) prios ≡ 0)) (λ prio. IsTopOf prios prio info.at_top)
+    → info ≡ info_of_prios prios
 told_of info [] None is free told = info_is info 0 None 0 free is told.0
 told_of info [] (Some top) is free told = absurd (let count = told.count in let some = told.some in omega (arith, count, some))
 told_of info (p ∷ ps) None is free told =
@@ -138,17 +160,23 @@ told_of info (p ∷ ps) (Some top) is free told =
     let up = told.highest m (reached (fold-int_max_reached p ps m refl)) in
     let down = counted_low m top (p ∷ ps) low (rw (← told.count) at told.some) in
     let same : top ≡ m = omega (arith, ints, up, down) in
-    info_is info (length (p ∷ ps)) (Some m) (count_by (int_le m) (p ∷ ps)) free (is ∙ ap Some same) (sym told.count ∙ ap (λ t. count_by (int_eq t) (p ∷ ps)) same ∙ sym (at_most m (p ∷ ps) low))
+    info_is info (length (p ∷ ps)) (Some m) (count_by (int_le m) (p ∷ ps)) free (is ∙ ap Some same)
+    (sym told.count ∙ ap (λ t. count_by (int_eq t) (p ∷ ps)) same ∙ sym (at_most m (p ∷ ps) low))
   where
     reached : {m : ℤ} → (m ≡ p) ⊎ Contains ps m → 0 < count_by (int_eq m) (p ∷ ps)
     reached (inl is) = counted_here _ (p ∷ ps) (0, omega arith, sym is)
     reached (inr at) = counted_here _ (p ∷ ps) (at.0 + 1, omega (arith, at.1), rw add-one at.2)
 
-pub info_told : (free : FreeCounts) (units : List Placed) → IsCounted free units → (server : Server) (kind : WorkType) (info : Info) → IsTold free server kind info → info ≡ info_of_prios (map (λ u. u.unit.prio) (filter (λ u. is_free_at server u.place && (u.unit.kind.0 == kind.0)) units))
+pub info_told : (free : FreeCounts) (units : List Placed) → IsCounted free units → (server : Server) (kind : WorkType) (info : Info)
+    → IsTold free server kind info
+    → info ≡ info_of_prios (map (λ u. u.unit.prio) (filter (λ u. is_free_at server u.place && (u.unit.kind.0 == kind.0)) units))
 info_told free units is server kind info told =
     told_of info (prios_of server kind units) info.top refl (told.units ∙ free_count free units is server kind) (by_top info.top told.top)
   where
-    by_top : (top : Option ℤ) → MatchOption top ((info.at_top ≡ 0) × ((prio : ℤ) → prio_count free server kind prio ≡ 0)) (λ prio. IsTop free server kind (prio, info.at_top)) → MatchOption top ((info.at_top ≡ 0) × ((prio : ℤ) → count_by (int_eq prio) (prios_of server kind units) ≡ 0)) (λ prio. IsTopOf (prios_of server kind units) prio info.at_top)
+    by_top : (top : Option ℤ) → MatchOption top ((info.at_top ≡ 0) × ((prio : ℤ) → prio_count free server kind prio ≡ 0))
+        (λ prio. IsTop free server kind (prio, info.at_top)) → MatchOption top
+        ((info.at_top ≡ 0) × ((prio : ℤ) → count_by (int_eq prio) (prios_of server kind units) ≡ 0))
+        (λ prio. IsTopOf (prios_of server kind units) prio info.at_top)
     by_top None none = (none.0, λ prio. sym (prio_counted free units is server kind prio) ∙ none.1 prio)
     by_top (Some top) at = record {
       count = sym (prio_counted free units is server kind top) ∙ at.count;

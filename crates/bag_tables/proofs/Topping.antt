@@ -22,13 +22,16 @@ after_none : (s k : ℕ) (prio : ℤ) → IsLtBy by_prio (s, k, None) (s, k, Som
 after_none s k prio = rw (tied s, tied k) refl
 
 -- what stands after the one and not after the other has the parts that are the same in both
-same_parts : (s k a o : ℕ) (x y : Ordering) → ordering_then (ordering_then (nat_cmp s a) (nat_cmp k o)) x ≡ Less → is_gt (ordering_then (ordering_then (nat_cmp a s) (nat_cmp o k)) y) ≡ false → (a ≡ s) × (o ≡ k)
+same_parts : (s k a o : ℕ) (x y : Ordering) → ordering_then (ordering_then (nat_cmp s a) (nat_cmp k o)) x ≡ Less
+    → is_gt (ordering_then (ordering_then (nat_cmp a s) (nat_cmp o k)) y) ≡ false → (a ≡ s) × (o ≡ k)
 same_parts s k a o x y after upto = (grind (arith, nat_tests), grind (arith, nat_tests))
 
-pub none_after : (free : FreeCounts) (server : Server) (kind : WorkType) → IsNoneAfter by_prio free.prios (server.0, kind.0, None) → HasNoTop free server kind
+pub none_after : (free : FreeCounts) (server : Server) (kind : WorkType) → IsNoneAfter by_prio free.prios (server.0, kind.0, None)
+    → HasNoTop free server kind
 none_after free server kind none = λ prio. none (server.0, kind.0, Some (record { 0 = prio })) (after_none server.0 kind.0 prio)
 
-pub none_here : (free : FreeCounts) (server : Server) (kind : WorkType) (a o : ℕ) (t : Option (Reverse ℤ)) (n : ℕ) → IsFirstAfter by_prio free.prios (server.0, kind.0, None) ((a, o, t), n) → (a ≡ server.0 → o ≡ kind.0 → ⊥) → HasNoTop free server kind
+pub none_here : (free : FreeCounts) (server : Server) (kind : WorkType) (a o : ℕ) (t : Option (Reverse ℤ)) (n : ℕ)
+    → IsFirstAfter by_prio free.prios (server.0, kind.0, None) ((a, o, t), n) → (a ≡ server.0 → o ≡ kind.0 → ⊥) → HasNoTop free server kind
 none_here free server kind a o t n first apart = λ prio.
     by_count prio (prio_count free server kind prio) refl
   where
@@ -39,7 +42,9 @@ none_here free server kind a o t n first apart = λ prio.
         let same = same_parts server.0 kind.0 a o _ _ first.after least in
         absurd (apart same.0 same.1)
 
-pub top_here : (free : FreeCounts) (server : Server) (kind : WorkType) (a o : ℕ) (top : ℤ) (n : ℕ) → IsFirstAfter by_prio free.prios (server.0, kind.0, None) ((a, o, Some (record { 0 = top })), n) → a ≡ server.0 → o ≡ kind.0 → IsTop free server kind (top, n)
+pub top_here : (free : FreeCounts) (server : Server) (kind : WorkType) (a o : ℕ) (top : ℤ) (n : ℕ)
+    → IsFirstAfter by_prio free.prios (server.0, kind.0, None) ((a, o, Some (record { 0 = top })), n) → a ≡ server.0 → o ≡ kind.0
+    → IsTop free server kind (top, n)
 top_here free server kind a o top n first at of = record {
   count = rw (at, of) at first.count;
   some = first.some;

@@ -45,14 +45,16 @@ pub record AreHeld (free : FreeCounts) (from : Option Server) (unit : Unit) : Ty
 -- the unit is counted at one server no longer, and at the other from now on, where they are named
 pub record AreShifted (old new : FreeCounts) (from to : Option Server) (unit : Unit) : Type 0 where
   pub shelves : IsShifted by_shelf old.shelves new.shelves (option_map (λ s. shelf_of s unit) from) (option_map (λ s. shelf_of s unit) to)
-  pub targets : IsShifted by_target old.targets new.targets (option_map (λ s. target_of s unit) from) (option_map (λ s. target_of s unit) to)
+  pub targets : IsShifted by_target old.targets new.targets (option_map (λ s. target_of s unit) from)
+      (option_map (λ s. target_of s unit) to)
   pub kinds : IsShifted by_kind old.kinds new.kinds (option_map (λ s. kind_of s unit) from) (option_map (λ s. kind_of s unit) to)
   pub prios : IsShifted by_prio old.prios new.prios (option_map (λ s. prio_of s unit) from) (option_map (λ s. prio_of s unit) to)
 
 -- a unit of the type is counted at the server that is for any rank or for this one
 abbrev pub shows_fit_of : FreeCounts → Server → Rank → WorkType → Bool
 shows_fit_of free server rank kind =
-    nat_lt 0 (count_of by_shelf free.shelves (server.0, kind.0, None)) || nat_lt 0 (count_of by_shelf free.shelves (server.0, kind.0, Some rank.0))
+    nat_lt 0 (count_of by_shelf free.shelves (server.0, kind.0, None))
+    || nat_lt 0 (count_of by_shelf free.shelves (server.0, kind.0, Some rank.0))
 
 -- a unit of any type, or of one that is listed, is counted at the server that is for any rank or for this one
 abbrev pub shows_fit : FreeCounts → Server → Rank → Option (List WorkType) → Bool

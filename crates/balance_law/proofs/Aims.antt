@@ -1,5 +1,6 @@
 -- Units of a work type whose every put is for one rank alone are got by that rank alone.
-use Rattle.std.proofs.Common.{◌≡◌, ℕ, ◌<◌, ◌==◌, ◌&&◌, Bool, true, false, cond, List, [], ◌∷◌, ◌++◌, length, All, Option, Some, None, refl, sym, ap, ◌∙◌, subst, arith}
+use Rattle.std.proofs.Common.{◌≡◌, ℕ, ◌<◌, ◌==◌, ◌&&◌, Bool, true, false, cond, List, [], ◌∷◌, ◌++◌, length, All, Option, Some, None, refl}
+use Rattle.std.proofs.Common.{sym, ap, ◌∙◌, subst, arith}
 use Rattle.std.specs.Prelude.{find}
 use Rattle.std.proofs.lemmas.Bool.{eqb-true}
 use Rattle.std.proofs.lemmas.List.Elements.{All-nil, All-cons, All-head, All-tail, All-append, All-push, All-map}
@@ -48,7 +49,8 @@ module _ (k : ℕ) (q : Rank) where
     pub held : u.unit.kind.0 ≡ k → (server : Server) (rank : Rank) → u.place ≡ Pinned server rank → rank.0 ≡ q.0
 
   -- the unit that is moved
-  all_moved : (f : Placed → Placed) (test : Placed → Bool) (xs : List Placed) (u : Placed) → find test xs ≡ Some u → IsFor (f u) → All IsFor xs →
+  all_moved : (f : Placed → Placed) (test : Placed → Bool) (xs : List Placed) (u : Placed) → find test xs ≡ Some u → IsFor (f u)
+      → All IsFor xs →
       All IsFor (change_first f test xs)
   all_moved f test [] u found new all = All-nil IsFor
   all_moved f test (x ∷ xs) u found new all = at (test x) refl (λ later. all_moved f test xs u later new (All-tail IsFor x xs all))
@@ -68,7 +70,8 @@ module _ (k : ℕ) (q : Rank) where
       at false e on = on (rw e at found)
 
   -- one that is granted is permitted
-  permits_only : (rank : Rank) (types : Option (List WorkType)) (kind : WorkType) (target : Target) → permitted rank types kind target ≡ true →
+  permits_only : (rank : Rank) (types : Option (List WorkType)) (kind : WorkType) (target : Target)
+      → permitted rank types kind target ≡ true →
       target ≡ Only q → rank.0 ≡ q.0
   permits_only rank types kind target may only =
       let e : (is_for (Only q) rank && has_kind types kind) ≡ true = rw only at may in
@@ -94,7 +97,8 @@ module _ (k : ℕ) (q : Rank) where
   put_said : Unit → Said
   put_said u = record { call = calls_to.Put u.kind u.prio u.target u.answer u.body; answer = answers.Fine }
 
-  accepted_said : (b : Bag) (e : Entry) (rank : Rank) (u : Unit) → Legal b e → accepted b e ≡ Some (rank, u) → says b e ≡ Some (rank, put_said u)
+  accepted_said : (b : Bag) (e : Entry) (rank : Rank) (u : Unit) → Legal b e → accepted b e ≡ Some (rank, u)
+      → says b e ≡ Some (rank, put_said u)
   unfolding put_said
   accepted_said b (Accepted server id) rank u l accepts =
       let there : accepted b (Accepted server id) ≡ Some (id.rank, l.1) = rw (l.2, l.3) refl in
@@ -108,7 +112,8 @@ module _ (k : ℕ) (q : Rank) where
   accepted_said b _ rank u l accepts = absurd (cc)
 
   moved_for : (b : Bag) (e : Entry) (id : UnitId) (u : Placed) (from to : UnitPlace) → IsMove b e id u from to →
-      (u.unit.kind.0 ≡ k → (server : Server) (rank : Rank) → to ≡ Pinned server rank → rank.0 ≡ q.0) → All IsFor b.units → All IsFor (after b e).units
+      (u.unit.kind.0 ≡ k → (server : Server) (rank : Rank) → to ≡ Pinned server rank → rank.0 ≡ q.0) → All IsFor b.units
+      → All IsFor (after b e).units
   moved_for b e id u from to m held all =
       let was = found_is (λ x. same_unit x.unit.id id) b.units u m.there all in
       rw m.moves (all_moved (λ x. record x { place = to }) (λ x. same_unit x.unit.id id) b.units u m.there
@@ -123,8 +128,10 @@ module _ (k : ℕ) (q : Rank) where
   aims_next n b e long l puts (adds rank r u server there status units accepts grants gives) all =
       let said = accepted_said b e rank u l accepts in
       let mine = of_mine rank (says b e) (put_said u) said in
-      let its : IsPutFor k q (put_said u).call = All-head (λ (s : Said). IsPutFor k q s.call) (put_said u) [] (subst (All (λ (s : Said). IsPutFor k q s.call)) mine (puts rank (omega (arith, place_within b.ranks rank.0 r there, long)))) in
-      rw units (All-push IsFor b.units (record { unit = u; place = Free server }) all (record { aimed = its; held = λ kind s to free. absurd (cc) }))
+      let its : IsPutFor k q (put_said u).call = All-head (λ (s : Said). IsPutFor k q s.call) (put_said u) []
+      (subst (All (λ (s : Said). IsPutFor k q s.call)) mine (puts rank (omega (arith, place_within b.ranks rank.0 r there, long)))) in
+      rw units
+      (All-push IsFor b.units (record { unit = u; place = Free server }) all (record { aimed = its; held = λ kind s to free. absurd (cc) }))
   aims_next n b e long l puts (pins id u server rank m accepts grants gives) all =
       let was = found_is (λ x. same_unit x.unit.id id) b.units u m.there all in
       moved_for b e id u (Free server) (Pinned server rank) m (λ kind s to pinned.
@@ -142,16 +149,19 @@ module _ (k : ℕ) (q : Rank) where
   gives_for : (b : Bag) (e : Entry) (rank : Rank) → (rank.0 ≡ q.0 → ⊥) → Shift b e → All IsFor b.units →
       All (λ (u : Unit). u.kind.0 ≡ k → ⊥) (of_rank rank (fetched b e))
   gives_for b e rank other (stays same idle) all = rw idle.2 (All-nil (λ (u : Unit). u.kind.0 ≡ k → ⊥))
-  gives_for b e rank other (adds by r u server there status units accepts grants gives) all = rw gives (All-nil (λ (u : Unit). u.kind.0 ≡ k → ⊥))
+  gives_for b e rank other (adds by r u server there status units accepts grants gives) all =
+      rw gives (All-nil (λ (u : Unit). u.kind.0 ≡ k → ⊥))
   gives_for b e rank other (pins id u server by m accepts grants gives) all = rw gives (All-nil (λ (u : Unit). u.kind.0 ≡ k → ⊥))
   gives_for b e rank other (spends id u server by m accepts grants gives) all =
       let was = found_is (λ x. same_unit x.unit.id id) b.units u m.there all in
       rw gives (at (by.0 == rank.0) refl (λ kind. was.held kind server by m.stood))
     where
-      at : (t : Bool) → t ≡ (by.0 == rank.0) → (u.unit.kind.0 ≡ k → by.0 ≡ q.0) → All (λ (x : Unit). x.kind.0 ≡ k → ⊥) (cond t (u.unit ∷ []) [])
+      at : (t : Bool) → t ≡ (by.0 == rank.0) → (u.unit.kind.0 ≡ k → by.0 ≡ q.0)
+          → All (λ (x : Unit). x.kind.0 ≡ k → ⊥) (cond t (u.unit ∷ []) [])
       at true e held =
           let same : by.0 ≡ rank.0 = eqb-true by.0 rank.0 (sym e) in
-          All-cons (λ (x : Unit). x.kind.0 ≡ k → ⊥) u.unit [] (λ kind. other (sym same ∙ held kind)) (All-nil (λ (x : Unit). x.kind.0 ≡ k → ⊥))
+          All-cons (λ (x : Unit). x.kind.0 ≡ k → ⊥) u.unit [] (λ kind. other (sym same ∙ held kind))
+          (All-nil (λ (x : Unit). x.kind.0 ≡ k → ⊥))
       at false e held = All-nil (λ (x : Unit). x.kind.0 ≡ k → ⊥)
   gives_for b e rank other (leaves id u server to m idle) all = rw idle.2 (All-nil (λ (u : Unit). u.kind.0 ≡ k → ⊥))
   gives_for b e rank other (arrives id u server m idle) all = rw idle.2 (All-nil (λ (u : Unit). u.kind.0 ≡ k → ⊥))
@@ -162,8 +172,10 @@ module _ (k : ℕ) (q : Rank) where
       let rest = All-split P xs ys (All-tail P x (xs ++ ys) all) in
       (All-cons P x xs (All-head P x (xs ++ ys) all) rest.0, rest.1)
 
-  along_for : (n : ℕ) (b last : Bag) (es : List Entry) (rank : Rank) → length b.ranks ≡ n → (rank.0 ≡ q.0 → ⊥) → IsPath b es last → All IsFor b.units →
-      ((by : Rank) → by.0 < n → All (λ (s : Said). IsPutFor k q s.call) (along says b es by)) → All (λ (u : Unit). u.kind.0 ≡ k → ⊥) (along fetched b es rank)
+  along_for : (n : ℕ) (b last : Bag) (es : List Entry) (rank : Rank) → length b.ranks ≡ n → (rank.0 ≡ q.0 → ⊥) → IsPath b es last
+      → All IsFor b.units →
+      ((by : Rank) → by.0 < n → All (λ (s : Said). IsPutFor k q s.call) (along says b es by))
+      → All (λ (u : Unit). u.kind.0 ≡ k → ⊥) (along fetched b es rank)
   along_for n b last [] rank long other path all puts = All-nil (λ (u : Unit). u.kind.0 ≡ k → ⊥)
   along_for n b last (e ∷ es) rank long other path all puts =
       let P : Said → Type 0 = λ s. IsPutFor k q s.call in
@@ -177,11 +189,13 @@ module _ (k : ℕ) (q : Rank) where
       (along_for n (after b e) last es rank (ranks_stay b e path.0 ∙ long) other path.1 (aims_next n b e long path.0 here s all) later)
 
 -- In a run of orderly ranks in which each put of the type is for one rank alone, no other rank gets a unit of it.
-pub aimed : (config : Config) (ledger : List Entry) (last : Bag) → 0 < config.ranks → IsRun (start config) ledger last → AreOrderly config ledger →
+pub aimed : (config : Config) (ledger : List Entry) (last : Bag) → 0 < config.ranks → IsRun (start config) ledger last
+    → AreOrderly config ledger →
     (k : ℕ) (q : Rank) → AreAimed config ledger k q → IsGotBy config ledger k q
 aimed config ledger last some legal orderly k q puts rank below other =
     let path = path_of (start config) last ledger legal in
-    let w = (gone config.ranks (start config) last ledger (λ r. empty) some path (start_going config last ledger legal orderly)).counted rank below in
+    let w = (gone config.ranks (start config) last ledger (λ r. empty) some path (start_going config last ledger legal orderly)).counted
+    rank below in
     let fetches = along_for k q config.ranks (start config) last ledger rank (start_long config) other path (All-nil (IsFor k q))
     (λ by within. subst (All (λ (s : Said). IsPutFor k q s.call)) (calls_along (start config) ledger by) (puts by within)) in
     subst (λ l. All (λ (p : Parcel). p.kind.0 ≡ k → ⊥) (got None l)) (sym (calls_along (start config) ledger rank))

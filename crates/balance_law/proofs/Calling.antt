@@ -33,10 +33,12 @@ use Rattle.balance_law.specs.Orderly.{IsNext, IsOrderly, Goes, end_batch, finish
 use Rattle.balance_law.specs.Parcels.{batch_after, granted_note}
 use Rattle.balance_law.proofs.Paths.{IsPath, of_rank, along}
 use Rattle.balance_law.proofs.Commons.{batch_kept, batch_told, bytes_are, bytes_in}
-use Rattle.balance_law.proofs.Deeds.{BatchGoes, Comes, Deed, IsComing, IsIdle, accepted, awaits, begins, calls_done, end_after, fetched, finishes, granted, hears, waits}
+use Rattle.balance_law.proofs.Deeds.{BatchGoes, Comes, Deed, IsComing, IsIdle, accepted, awaits, begins, calls_done, end_after, fetched}
+use Rattle.balance_law.proofs.Deeds.{finishes, granted, hears, waits}
 use Rattle.balance_law.proofs.Seen.{IsAway, of_none, of_mine, first_said}
 use Rattle.balance_law.proofs.Shifts.{is_loose, lies, standing, pinned_stays, spent_stays}
-use Rattle.balance_law.proofs.Tallies.{Hand, Holds, IsAnswering, IsHeld, IsTally, IsNotEnd, call_adds, close_adds, coming_held, ended_well, finish_adds, hand_after, next_done, next_fetch, next_finish, tally_coming, tally_none}
+use Rattle.balance_law.proofs.Tallies.{Hand, Holds, IsAnswering, IsHeld, IsTally, IsNotEnd, call_adds, close_adds, coming_held, ended_well}
+use Rattle.balance_law.proofs.Tallies.{finish_adds, hand_after, next_done, next_fetch, next_finish, tally_coming, tally_none}
 
 -- the rank has finished
 abbrev pub is_finished : Status → Bool
@@ -302,7 +304,8 @@ answering n b last e es rank was h call entered there pends batch = record {
 -- A rank that was told no end has its turn.
 
 -- the own bytes come of a unit with a common part
-coming_turn : (n : ℕ) (b last : Bag) (e : Entry) (es : List Entry) (rank : Rank) (was now : RankState) (h : Hand) (id : UnitId) (unit : Placed)
+coming_turn : (n : ℕ) (b last : Bag) (e : Entry) (es : List Entry) (rank : Rank) (was now : RankState) (h : Hand) (id : UnitId)
+    (unit : Placed)
     → IsEntered n b last e es → Is b rank was → h.batch ≡ bytes_in last was.batch
     → IsUntold n b rank was h (along says b (e ∷ es) rank) → says b e ≡ None → IsComing b e rank was now id unit
     → call_of now.status ≡ call_of was.status → accepted b e ≡ None → granted b e ≡ None → fetched b e ≡ Some (rank, unit.unit)

@@ -1,5 +1,6 @@
 -- In each front of a legal run of orderly ranks, what was got was sent in that front.
-use Rattle.std.proofs.Common.{◌≡◌, ℕ, zero, suc, ◌+◌, ◌<◌, ◌≤◌, ◌==◌, Bool, true, false, cond, List, [], ◌∷◌, ◌++◌, map, count_by, Option, Some, None, refl, sym, ap, ◌∙◌, arith, append_assoc}
+use Rattle.std.proofs.Common.{◌≡◌, ℕ, zero, suc, ◌+◌, ◌<◌, ◌≤◌, ◌==◌, Bool, true, false, cond, List, [], ◌∷◌, ◌++◌, map, count_by, Option}
+use Rattle.std.proofs.Common.{Some, None, refl, sym, ap, ◌∙◌, arith, append_assoc}
 use Rattle.std.specs.Prelude.{sum_by}
 use Rattle.std.proofs.lemmas.List.Sums.{sum_by-append}
 use Rattle.adlb_unit.specs.declared.configs.Config.{Config}
@@ -57,7 +58,8 @@ held_one rank None h [] more = refl
 held_one rank None h (u ∷ given) more = refl
 held_one rank (Some (by, s)) h given more = at (by.0 == rank.0) given
   where
-    at : (b : Bool) (given : List Unit) → held_after (hand_after h (cond b (s ∷ []) []) given).held more ≡ held_after h.held (cond b (s ∷ []) [] ++ more)
+    at : (b : Bool) (given : List Unit) → held_after (hand_after h (cond b (s ∷ []) []) given).held more
+        ≡ held_after h.held (cond b (s ∷ []) [] ++ more)
     at true given = refl
     at false [] = refl
     at false (u ∷ given) = refl
@@ -69,7 +71,8 @@ batch_one rank None h [] more = refl
 batch_one rank None h (u ∷ given) more = refl
 batch_one rank (Some (by, s)) h given more = at (by.0 == rank.0) given
   where
-    at : (b : Bool) (given : List Unit) → batch_behind (hand_after h (cond b (s ∷ []) []) given).batch more ≡ batch_behind h.batch (cond b (s ∷ []) [] ++ more)
+    at : (b : Bool) (given : List Unit) → batch_behind (hand_after h (cond b (s ∷ []) []) given).batch more
+        ≡ batch_behind h.batch (cond b (s ∷ []) [] ++ more)
     at true given = refl
     at false [] = refl
     at false (u ∷ given) = refl
@@ -113,7 +116,8 @@ front_of n b last (e ∷ front) back hands some path going =
       rest = r.rest;
       going = r.going;
       held = λ rank. r.held rank ∙ held_one rank (says b e) (hands rank) (of_rank rank (fetched b e)) (along says (after b e) front rank);
-      batch = λ rank. r.batch rank ∙ batch_one rank (says b e) (hands rank) (of_rank rank (fetched b e)) (along says (after b e) front rank);
+      batch = λ rank. r.batch rank
+          ∙ batch_one rank (says b e) (hands rank) (of_rank rank (fetched b e)) (along says (after b e) front rank);
       says_split = λ rank. ap (λ l. of_rank rank (says b e) ++ l) (r.says_split rank)
           ∙ sym (append_assoc (of_rank rank (says b e)) (along says (after b e) front rank) (along says r.mid back rank));
       accepted_split = λ rank. ap (λ l. of_rank rank (accepted b e) ++ l) (r.accepted_split rank)
@@ -157,13 +161,15 @@ module _ (config : Config) (front back : List Entry) (last : Bag) (some : 0 < co
           let more = along says front_is.mid back rank in
           let here : got None (said ++ more) ≡ got None said ++ got (front_is.later rank).held more =
           got-append None said more ∙ ap (λ h. got None said ++ got h more) (sym (front_is.held rank)) in
-          let all : got None (said ++ more) ≡ map (parcel_of last) (along fetched (start config) front rank ++ along fetched front_is.mid back rank) =
+          let all : got None (said ++ more)
+          ≡ map (parcel_of last) (along fetched (start config) front rank ++ along fetched front_is.mid back rank) =
           ap (got None) (sym (front_is.says_split rank)) ∙ w.gets ∙ ap (map (parcel_of last)) (front_is.fetched_split rank) in
           let sums : sum_by f (got None said) + sum_by f (got (front_is.later rank).held more)
           ≡ sum_by g (along fetched (start config) front rank ++ along fetched front_is.mid back rank) =
           sym (sum_by-append f (got None said) (got (front_is.later rank).held more)) ∙ ap (sum_by f) (sym here ∙ all)
           ∙ sum_mapped f (parcel_of last) (along fetched (start config) front rank ++ along fetched front_is.mid back rank) in
-          let back_sum : sum_by f (got (front_is.later rank).held more) ≡ sum_by g ((front_is.later rank).owed ++ along fetched front_is.mid back rank) =
+          let back_sum : sum_by f (got (front_is.later rank).held more)
+          ≡ sum_by g ((front_is.later rank).owed ++ along fetched front_is.mid back rank) =
           ap (sum_by f) x.gets ∙ sum_mapped f (parcel_of last) ((front_is.later rank).owed ++ along fetched front_is.mid back rank) in
           let same : count_by test (got None (calls config front rank)) ≡ sum_by f (got None said) =
           ap (λ l. sum_by f (got None l)) (calls_along (start config) front rank) in
@@ -186,7 +192,8 @@ module _ (config : Config) (front back : List Entry) (last : Bag) (some : 0 < co
           let more = along says front_is.mid back rank in
           let here : sent None (said ++ more) ≡ sent None said ++ sent (front_is.later rank).batch more =
           sent-append None said more ∙ ap (λ h. sent None said ++ sent h more) (sym (front_is.batch rank)) in
-          let all : sent None (said ++ more) ≡ map (parcel_of last) (along accepted (start config) front rank ++ along accepted front_is.mid back rank) =
+          let all : sent None (said ++ more)
+          ≡ map (parcel_of last) (along accepted (start config) front rank ++ along accepted front_is.mid back rank) =
           ap (sent None) (sym (front_is.says_split rank)) ∙ w.sends ∙ ap (map (parcel_of last)) (front_is.accepted_split rank) in
           let sums : sum_by f (sent None said) + sum_by f (sent (front_is.later rank).batch more)
           ≡ sum_by g (along accepted (start config) front rank ++ along accepted front_is.mid back rank) =

@@ -1,5 +1,6 @@
 -- What an entry does to the one rank that it speaks of, what is said by it, and which units it accepts, grants and gives.
-use Rattle.std.proofs.Common.{◌≡◌, ℕ, ◌⊎◌, inl, inr, Bool, true, false, List, [], ◌∷◌, ◌++◌, length, find, Option, Some, None, refl, ap, ◌∙◌, arith}
+use Rattle.std.proofs.Common.{◌≡◌, ℕ, ◌⊎◌, inl, inr, Bool, true, false, List, [], ◌∷◌, ◌++◌, length, find, Option, Some, None, refl, ap}
+use Rattle.std.proofs.Common.{◌∙◌, arith}
 use Rattle.std.specs.Prelude.{Contains, option_and_then, option_map}
 use Rattle.std.proofs.lemmas.List.Elements.{Contains-append_right}
 use Rattle.adlb_unit.specs.declared.names.Rank.{Rank}
@@ -13,7 +14,9 @@ use Rattle.adlb_unit.specs.declared.units.Unit.{Unit}
 use Rattle.adlb_unit.specs.Ids.{same_unit}
 use Rattle.adlb_unit.proofs.Same.{same_unit_is}
 use Rattle.bag_ledger.specs.declared.entries.Entry.{Entry}
-use Rattle.bag_ledger.specs.declared.entries.Entry.TheVariants.{Putting, Refused, Accepted, Rejected, Keeping, Kept, Closing, Closed, Asked, Tried, Granted, Looked, NoCurrent, Fetching, Fetched, CommonFetched, Counting, Counted, Done, Over, Finished}
+use Rattle.bag_ledger.specs.declared.entries.Entry.TheVariants.{Putting, Refused, Accepted, Rejected, Keeping, Kept, Closing, Closed, Asked}
+use Rattle.bag_ledger.specs.declared.entries.Entry.TheVariants.{Tried, Granted, Looked, NoCurrent, Fetching, Fetched, CommonFetched}
+use Rattle.bag_ledger.specs.declared.entries.Entry.TheVariants.{Counting, Counted, Done, Over, Finished}
 use Rattle.bag_ledger.specs.declared.entries.Call.{Call}
 use Rattle.bag_ledger.specs.declared.entries.Call.TheVariants as calls_to
 use Rattle.bag_ledger.specs.declared.entries.Answer.{Answer}

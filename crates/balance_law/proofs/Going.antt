@@ -1,5 +1,6 @@
 -- What holds of a run of orderly ranks while it goes on, entry by entry.
-use Rattle.std.proofs.Common.{◌≡◌, ℕ, zero, suc, ◌<◌, ◌⊎◌, inl, inr, Bool, true, false, ◌&&◌, List, [], ◌∷◌, ◌++◌, length, All, Option, Some, None, refl, sym, ap, ◌∙◌, subst, arith, slice_get}
+use Rattle.std.proofs.Common.{◌≡◌, ℕ, zero, suc, ◌<◌, ◌⊎◌, inl, inr, Bool, true, false, ◌&&◌, List, [], ◌∷◌, ◌++◌, length, All, Option}
+use Rattle.std.proofs.Common.{Some, None, refl, sym, ap, ◌∙◌, subst, arith, slice_get}
 use Rattle.std.specs.Prelude.{sum_by, option_and_then}
 use Rattle.std.specs.List.{list_any}
 use Rattle.std.proofs.lemmas.Bool.{or_parts, eq-eqb}
@@ -42,9 +43,11 @@ use Rattle.balance_law.proofs.Paths.{IsPath, of_rank, along, weight}
 use Rattle.balance_law.proofs.Commons.{bytes_in}
 use Rattle.balance_law.proofs.Deeds.{accepted, granted, fetched}
 use Rattle.balance_law.proofs.Seen.{IsAway, IsTurn, seen, of_mine, ranks_stay}
-use Rattle.balance_law.proofs.Shifts.{is_loose, lies, standing, IsMove, Shift, stays, adds, pins, spends, leaves, arrives, shift_of, loose_stands}
+use Rattle.balance_law.proofs.Shifts.{is_loose, lies, standing, IsMove, Shift, stays, adds, pins, spends, leaves, arrives, shift_of}
+use Rattle.balance_law.proofs.Shifts.{loose_stands}
 use Rattle.balance_law.proofs.Tallies.{AreAimed, Hand, Holds, IsTally, next_done, tally_none}
-use Rattle.balance_law.proofs.Calling.{Leaves, closes, each, gone, hand_then, is_finished, leaves_never_done, orderly_next, pending_next, runs, away_kept, turn_kept, IsCalling, IsEntered, IsKept}
+use Rattle.balance_law.proofs.Calling.{Leaves, closes, each, gone, hand_then, is_finished, leaves_never_done, orderly_next, pending_next}
+use Rattle.balance_law.proofs.Calling.{runs, away_kept, turn_kept, IsCalling, IsEntered, IsKept}
 
 -- what holds before these entries, where each rank has this in hand
 pub record IsGoing (n : ℕ) (b last : Bag) (es : List Entry) (hands : Rank → Hand) : Type 0 where

@@ -1,5 +1,6 @@
 -- What an entry is to one rank: it passes by, or the rank has its turn.
-use Rattle.std.proofs.Common.{◌≡◌, ℕ, zero, suc, ◌<◌, ◌==◌, ◌⊎◌, inl, inr, Bool, true, false, List, [], ◌∷◌, length, Option, Some, None, refl, sym, ap, ◌∙◌, subst, arith, slice_get}
+use Rattle.std.proofs.Common.{◌≡◌, ℕ, zero, suc, ◌<◌, ◌==◌, ◌⊎◌, inl, inr, Bool, true, false, List, [], ◌∷◌, length, Option, Some, None}
+use Rattle.std.proofs.Common.{refl, sym, ap, ◌∙◌, subst, arith, slice_get}
 use Rattle.std.specs.Prelude.{option_map}
 use Rattle.std.proofs.lemmas.Bool.Decides.{nat_tests}
 use Rattle.adlb_unit.specs.declared.names.Rank.{Rank}
@@ -18,7 +19,8 @@ use Rattle.bag_ledger.specs.Runs.{says, call_of}
 use Rattle.bag_ledger.proofs.Tests.{some_is, same_number, same_rank_is}
 use Rattle.bag_ledger.proofs.Turns.{changed_here}
 use Rattle.balance_law.proofs.Paths.{IsPath, IsWithin, of_rank, along}
-use Rattle.balance_law.proofs.Deeds.{IsActed, IsQuiet, IsIdle, IsOf, Comes, Deed, waits, begins, hears, awaits, calls_done, finishes, accepted, granted, fetched, put_by, acted}
+use Rattle.balance_law.proofs.Deeds.{IsActed, IsQuiet, IsIdle, IsOf, Comes, Deed, waits, begins, hears, awaits, calls_done, finishes}
+use Rattle.balance_law.proofs.Deeds.{accepted, granted, fetched, put_by, acted}
 
 -- what the entry says, accepts, grants and gives is of this rank
 pub record IsOwned (b : Bag) (e : Entry) (rank : Rank) : Type 0 where

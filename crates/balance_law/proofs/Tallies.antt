@@ -1,5 +1,6 @@
 -- What one answered call adds to the parcels that a rank sent and got.
-use Rattle.std.proofs.Common.{◌≡◌, ℕ, ◌+◌, ◌⊎◌, inl, inr, false, List, [], ◌∷◌, ◌++◌, length, map, take, drop, All, Option, Some, None, refl, sym, ap, ◌∙◌, arith, append_assoc}
+use Rattle.std.proofs.Common.{◌≡◌, ℕ, ◌+◌, ◌⊎◌, inl, inr, false, List, [], ◌∷◌, ◌++◌, length, map, take, drop, All, Option, Some, None}
+use Rattle.std.proofs.Common.{refl, sym, ap, ◌∙◌, arith, append_assoc}
 use Rattle.std.proofs.Math.Seq.{take-append_seam, drop-append_seam}
 use Rattle.std.proofs.lemmas.List.{map-append}
 use Rattle.std.proofs.lemmas.List.Elements.{All-nil, All-cons}
@@ -32,7 +33,8 @@ use Rattle.balance_law.specs.Orderly.{IsAimed, IsNext, end_batch, finish}
 use Rattle.balance_law.specs.Parcels.{Parcel, batch_after, parcel_read, parcel_sent, parcel_got, granted_note, sent, got}
 use Rattle.balance_law.proofs.Paths.{of_rank}
 use Rattle.balance_law.proofs.Commons.{bytes_in, parcel_of}
-use Rattle.balance_law.proofs.Deeds.{put_by, is_fetch, IsIdle, IsNotFine, Bytes, own, all, IsGift, IsComing, Comes, accepted, granted, fetched}
+use Rattle.balance_law.proofs.Deeds.{put_by, is_fetch, IsIdle, IsNotFine, Bytes, own, all, IsGift, IsComing, Comes, accepted, granted}
+use Rattle.balance_law.proofs.Deeds.{fetched}
 use Rattle.balance_law.proofs.Seen.{of_none, of_mine}
 
 -- what a rank has in hand: the note that it holds, the common bytes of the batch that is going on, and the unit whose own bytes have

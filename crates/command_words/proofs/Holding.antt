@@ -1,5 +1,6 @@
 -- A parse that succeeds gives numbers within the limits of its command.
-use Rattle.std.proofs.Common.{◌≡◌, ◌∙◌, ◌<◌, ◌==◌, ◌&&◌, ◌||◌, not, ap, sym, subst, refl, arith, inl, inr, zero, suc, ℕ, Bool, true, false, List, [], ◌∷◌, map, length, Option, Some, None, codes}
+use Rattle.std.proofs.Common.{◌≡◌, ◌∙◌, ◌<◌, ◌==◌, ◌&&◌, ◌||◌, not, ap, sym, subst, refl, arith, inl, inr, zero, suc, ℕ, Bool, true, false}
+use Rattle.std.proofs.Common.{List, [], ◌∷◌, map, length, Option, Some, None, codes}
 use Rattle.std.specs.List.{All, slice_index_or, list_all}
 use Rattle.std.specs.Prelude.{option_map, slice_get, unwrap_or}
 use Rattle.std.specs.Str.{bytes_eq}

@@ -15,12 +15,20 @@ unfolding clap_on_literals
 defaults = refl
 
 each_option : command_of (codes "solve" ∷ codes "--limit" ∷ codes "64" ∷ codes "--grain=1" ∷ codes "--stats" ∷ codes "--inline" ∷ [])
-    ≡ Some (Solve (record { options = record default_run { sizes = record default_run.sizes { limit = 64 }; grain = 1; inline = true }; stats = true; ledger = false }))
+    ≡ Some (Solve (record {
+      options = record default_run { sizes = record default_run.sizes { limit = 64 }; grain = 1; inline = true };
+      stats = true;
+      ledger = false;
+    }))
 unfolding clap_on_literals
 each_option = refl
 
 one_rank : command_of (codes "solve" ∷ codes "--ranks" ∷ codes "1" ∷ codes "--servers=1" ∷ [])
-    ≡ Some (Solve (record { options = record default_run { sizes = record default_run.sizes { ranks = 1; servers = 1 } }; stats = false; ledger = false }))
+    ≡ Some (Solve (record {
+      options = record default_run { sizes = record default_run.sizes { ranks = 1; servers = 1 } };
+      stats = false;
+      ledger = false;
+    }))
 unfolding clap_on_literals
 one_rank = refl
 
@@ -29,7 +37,11 @@ unfolding clap_on_literals
 many_ranks = refl
 
 eight_servers : command_of (codes "solve" ∷ codes "--servers=8" ∷ [])
-    ≡ Some (Solve (record { options = record default_run { sizes = record default_run.sizes { servers = 8 } }; stats = false; ledger = false }))
+    ≡ Some (Solve (record {
+      options = record default_run { sizes = record default_run.sizes { servers = 8 } };
+      stats = false;
+      ledger = false;
+    }))
 unfolding clap_on_literals
 eight_servers = refl
 

@@ -79,7 +79,8 @@ pub number_is : {E : Type 0} (G : Text → Result ℕ E → Type 0) (name : Text
     → unwrap_or o default ≡ number_of name default rows
 number_is {E} G name low high default rows o holds absent reads parses = go (one_of name rows) refl
   where
-    read : (t : Text) → IsUnsignedIn low high t → (q : Option ℕ) → ReadsOne G t q → unwrap_or q default ≡ digits_value 10 (without_leading_plus t)
+    read : (t : Text) → IsUnsignedIn low high t → (q : Option ℕ) → ReadsOne G t q
+        → unwrap_or q default ≡ digits_value 10 (without_leading_plus t)
     read t h (Some n) gives = (parses t (Ok n) gives).1
     read t h None gives = absurd (parses t (Err gives.0) gives.1 (h.0, h.1))
 

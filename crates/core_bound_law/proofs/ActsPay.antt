@@ -1,5 +1,6 @@
 -- What each act takes pays for what it says and changes.
-use Rattle.std.proofs.Common.{◌≡◌, ◌≢◌, ◌≤◌, ◌<◌, ◌⊎◌, inl, inr, ℕ, ◌+◌, ◌*◌, ◌-◌, ◌%◌, ◌==◌, Bool, true, false, cond, List, [], ◌∷◌, Option, None, Some, refl, sym, ap, ◌∙◌, arith}
+use Rattle.std.proofs.Common.{◌≡◌, ◌≢◌, ◌≤◌, ◌<◌, ◌⊎◌, inl, inr, ℕ, ◌+◌, ◌*◌, ◌-◌, ◌%◌, ◌==◌, Bool, true, false, cond, List, [], ◌∷◌}
+use Rattle.std.proofs.Common.{Option, None, Some, refl, sym, ap, ◌∙◌, arith}
 use Rattle.std.proofs.lemmas.Bool.{cases_lt, eq-eqb}
 use Rattle.std.proofs.lemmas.Nat.{mod-mul-add}
 use Rattle.std.proofs.Math.Nat.{mod-eq_of_lt}
@@ -11,7 +12,8 @@ use Rattle.exhaust_ring.specs.Ring.{Asker, Ring, RingModel, begun, with_ring, wi
 use Rattle.exhaust_ring.specs.Tests.{first_failing}
 use Rattle.exhaust_ring.specs.Visits.{first_token, found_of, judged, judged_alone}
 use Rattle.adlb_unit.specs.declared.messages.Message.TheVariants as tells
-use Rattle.server_law.specs.Acts.{Act, Parks, Is_hinted, Finds, Shuts, Notices, Notes_own, Wants, Starts, Marks, Passes, Fails, Gives_up, Finds_alone, Shuts_alone, Checks_alone, Hears_exhaust, Acks, askers, check_alone, fit_among, tested_in}
+use Rattle.server_law.specs.Acts.{Act, Parks, Is_hinted, Finds, Shuts, Notices, Notes_own, Wants, Starts, Marks, Passes, Fails, Gives_up}
+use Rattle.server_law.specs.Acts.{Finds_alone, Shuts_alone, Checks_alone, Hears_exhaust, Acks, askers, check_alone, fit_among, tested_in}
 use Rattle.server_law.specs.State.{ServerModel, ring_at}
 use Rattle.server_law.specs.Sure.{SitsIn, Sure}
 use Rattle.core_law.proofs.Waits.{waits}

@@ -1,5 +1,6 @@
 -- How many events a run has.
-use Rattle.std.proofs.Common.{◌≡◌, ◌≤◌, ◌<◌, ℕ, zero, suc, ◌+◌, ◌*◌, Bool, true, false, cond, List, [], ◌∷◌, map, replicate, length, Option, None, Some, refl, ap, arith, ◌==◌, ◌&&◌}
+use Rattle.std.proofs.Common.{◌≡◌, ◌≤◌, ◌<◌, ℕ, zero, suc, ◌+◌, ◌*◌, Bool, true, false, cond, List, [], ◌∷◌, map, replicate, length, Option}
+use Rattle.std.proofs.Common.{None, Some, refl, ap, arith, ◌==◌, ◌&&◌}
 use Rattle.std.specs.List.{range_with_len}
 use Rattle.std.specs.Option.{option_map}
 use Rattle.std.specs.Prelude.{nat_lt}
@@ -20,7 +21,8 @@ use Rattle.server_law.specs.Step.{serve}
 use Rattle.core_run.specs.declared.events.Event.{Event}
 use Rattle.core_run.specs.declared.events.Event.TheVariants as occurs
 use Rattle.core_run.specs.Runs.{Runs}
-use Rattle.core_run.specs.World.{World, actors, after_rank, after_server, client_of, handle, happens, has_ended, link, pool_of, rank_named, server_named, start, taken}
+use Rattle.core_run.specs.World.{World, actors, after_rank, after_server, client_of, handle, happens, has_ended, link, pool_of, rank_named}
+use Rattle.core_run.specs.World.{server_named, start, taken}
 use Rattle.core_law.specs.Measures.{link_weight, links_weight, row_weight, weigh_at}
 use Rattle.core_law.specs.Well.{IsWell}
 use Rattle.core_law.proofs.EveryRun.{answer_heard, begins_well, call_began, inside_ranks, well_kept}

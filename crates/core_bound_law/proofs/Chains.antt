@@ -1,6 +1,7 @@
 -- What the acts of an event cost that follow the first: nothing, but the hints and the push that follow a unit which becomes free. For
 -- these the first act leaves enough.
-use Rattle.std.proofs.Common.{◌≡◌, ◌≤◌, ℕ, ◌+◌, ◌==◌, Bool, true, false, cond, not, ◌&&◌, List, [], ◌∷◌, ◌++◌, Option, None, Some, refl, arith}
+use Rattle.std.proofs.Common.{◌≡◌, ◌≤◌, ℕ, ◌+◌, ◌==◌, Bool, true, false, cond, not, ◌&&◌, List, [], ◌∷◌, ◌++◌, Option, None, Some, refl}
+use Rattle.std.proofs.Common.{arith}
 use Rattle.std.proofs.lemmas.Bool.{and_parts, not-true}
 use Rattle.adlb_unit.specs.declared.names.Rank.{Rank}
 use Rattle.adlb_unit.specs.declared.names.Server.{Server}
@@ -15,7 +16,8 @@ use Rattle.reserve_path.specs.declared.waits.Waiting.{Waiting}
 use Rattle.reserve_path.specs.declared.wishes.Wish.{Wish}
 use Rattle.server_law.specs.Acts.{Act, Around, Starts, check_alone}
 use Rattle.server_law.specs.Carried.{all_done, done}
-use Rattle.server_law.specs.Endings.{checks, ends_event, finds_alone, is_noted, is_quiet, notice, notices, starts, tells_all, tells_idle, tells_one}
+use Rattle.server_law.specs.Endings.{checks, ends_event, finds_alone, is_noted, is_quiet, notice, notices, starts, tells_all, tells_idle}
+use Rattle.server_law.specs.Endings.{tells_one}
 use Rattle.server_law.specs.Finding.{Place, best_for, place_in}
 use Rattle.server_law.specs.Plan.{Decider, decided}
 use Rattle.server_law.specs.Pushes.{acks, acks_if}

@@ -1,5 +1,6 @@
 -- A step of a rank: a letter that it hears pays for what it sends, and a call that it begins brings 5109.
-use Rattle.std.proofs.Common.{◌≡◌, ◌≤◌, ◌<◌, ℕ, zero, suc, ◌+◌, ◌*◌, ◌-◌, ◌==◌, Bool, true, false, not, ◌&&◌, List, [], map, length, Option, None, Some, refl, ap, ◌∙◌, arith}
+use Rattle.std.proofs.Common.{◌≡◌, ◌≤◌, ◌<◌, ℕ, zero, suc, ◌+◌, ◌*◌, ◌-◌, ◌==◌, Bool, true, false, not, ◌&&◌, List, [], map, length, Option}
+use Rattle.std.proofs.Common.{None, Some, refl, ap, ◌∙◌, arith}
 use Rattle.std.specs.Prelude.{nat_lt, nat_le, is_none}
 use Rattle.std.specs.List.{range_with_len}
 use Rattle.std.proofs.lemmas.Bool.{ltb-true, lt-ltb}
@@ -23,7 +24,10 @@ use Rattle.bag_ledger.specs.declared.entries.Call.{Call}
 use Rattle.bag_ledger.specs.declared.entries.Call.TheVariants as calls_to
 use Rattle.rank_client.specs.declared.pendings.Pending.{Pending}
 use Rattle.rank_client.specs.declared.pendings.Pending.TheVariants as waits_for
-use Rattle.rank_client.specs.Rules.{ClientResponse, ClientSaying, answer_call, asked, close, expects_note, farewell, fetch, finish, hear_close, hear_common, hear_count, hear_done, hear_fetch, hear_keep, hear_look, hear_put, hear_reserve, held, is_for, is_free, keep, look, looked, looks_at, open_call, own_came, part_refused, put, refused, reserve, told_done, unit_put}
+use Rattle.rank_client.specs.Rules.{ClientResponse, ClientSaying, answer_call, asked, close, expects_note, farewell, fetch, finish}
+use Rattle.rank_client.specs.Rules.{hear_close, hear_common, hear_count, hear_done, hear_fetch, hear_keep, hear_look, hear_put}
+use Rattle.rank_client.specs.Rules.{hear_reserve, held, is_for, is_free, keep, look, looked, looks_at, open_call, own_came, part_refused}
+use Rattle.rank_client.specs.Rules.{put, refused, reserve, told_done, unit_put}
 use Rattle.rank_client.specs.State.{ClientModel}
 use Rattle.rank_client.specs.Step.{Made, begin, call_stamp, hear, letter_stamp, made, ticked}
 use Rattle.core_run.specs.World.{World, after_rank, client_of, taken}

@@ -1,6 +1,7 @@
 -- The first act of each rule leaves enough for those that follow it: the hints and the push that follow a unit which becomes free. All
 -- others cost nothing.
-use Rattle.std.proofs.Common.{◌≡◌, ◌≤◌, ℕ, ◌+◌, ◌*◌, ◌==◌, Bool, true, false, cond, not, ◌&&◌, List, [], ◌∷◌, ◌++◌, find, length, Option, None, Some, refl, ap, ◌∙◌, subst, arith}
+use Rattle.std.proofs.Common.{◌≡◌, ◌≤◌, ℕ, ◌+◌, ◌*◌, ◌==◌, Bool, true, false, cond, not, ◌&&◌, List, [], ◌∷◌, ◌++◌, find, length, Option}
+use Rattle.std.proofs.Common.{None, Some, refl, ap, ◌∙◌, subst, arith}
 use Rattle.std.specs.Option.{IfSome, option_map}
 use Rattle.std.proofs.lemmas.Bool.{and_parts, not-true, or_parts}
 use Rattle.adlb_unit.specs.declared.actors.Actor.{Actor}
@@ -44,7 +45,8 @@ use Rattle.core_law.specs.Letters.{one}
 use Rattle.core_law.specs.Measures.{weigh}
 use Rattle.core_law.proofs.Sums.{weigh-append}
 use Rattle.core_bound_law.specs.Costs.{allowance, cost}
-use Rattle.core_bound_law.proofs.Chains.{AllFree, AreDue, Costs, acks_free, all_free, asks_on_free, cost_joined, costs, due_joined, ends_free, free_cost, looks_again_free, tells_idle_free}
+use Rattle.core_bound_law.proofs.Chains.{AllFree, AreDue, Costs, acks_free, all_free, asks_on_free, cost_joined, costs, due_joined}
+use Rattle.core_bound_law.proofs.Chains.{ends_free, free_cost, looks_again_free, tells_idle_free}
 use Rattle.server_law.proofs.Waiters.{done_kept}
 use Rattle.work_queue.specs.Queue.{id_of}
 use Rattle.adlb_unit.specs.Ids.{same_unit}

@@ -1,5 +1,6 @@
 -- Stamps are at most as many as events so far.
-use Rattle.std.proofs.Common.{◌≡◌, ◌≤◌, ℕ, zero, suc, ◌+◌, true, List, [], ◌∷◌, ◌++◌, length, map, get_or, set, Some, refl, sym, subst, arith}
+use Rattle.std.proofs.Common.{◌≡◌, ◌≤◌, ℕ, zero, suc, ◌+◌, true, List, [], ◌∷◌, ◌++◌, length, map, get_or, set, Some, refl, sym, subst}
+use Rattle.std.proofs.Common.{arith}
 use Rattle.std.specs.List.{range_with_len}
 use Rattle.std.proofs.lemmas.Bool.{lt-ltb}
 use Rattle.adlb_unit.specs.Links.{is_within, place_of}
@@ -15,7 +16,8 @@ use Rattle.server_law.specs.Carried.{Served}
 use Rattle.server_law.specs.State.{ServerModel, start as new_pool}
 use Rattle.core_run.specs.declared.events.Event.{Event}
 use Rattle.core_run.specs.Runs.{Runs}
-use Rattle.core_run.specs.World.{Links, World, after_rank, after_server, client_of, happens, link, pool_of, rank_named, server_named, start, taken}
+use Rattle.core_run.specs.World.{Links, World, after_rank, after_server, client_of, happens, link, pool_of, rank_named, server_named, start}
+use Rattle.core_run.specs.World.{taken}
 use Rattle.core_law.specs.Lines.{AreStamped, IsInLine, clock_of}
 use Rattle.core_law.proofs.InLine.{every_run_in_line}
 use Rattle.core_bound_law.proofs.Bound.{IsEventLaw, by_event}

@@ -1,5 +1,6 @@
 -- Once an end was found it is over, and no work is brought, wanted or moved: in every run.
-use Rattle.std.proofs.Common.{◌≡◌, ◌<◌, inr, Bool, true, false, List, [], ◌∷◌, ◌++◌, None, Some, refl, sym, ap, ◌∙◌, subst, arith, inl, ℕ, ◌≢◌, ◌⊎◌}
+use Rattle.std.proofs.Common.{◌≡◌, ◌<◌, inr, Bool, true, false, List, [], ◌∷◌, ◌++◌, None, Some, refl, sym, ap, ◌∙◌, subst, arith, inl, ℕ}
+use Rattle.std.proofs.Common.{◌≢◌, ◌⊎◌}
 use Rattle.std.specs.List.{list_any}
 use Rattle.adlb_unit.specs.declared.configs.Config.{Config}
 use Rattle.adlb_unit.specs.declared.actors.Actor.TheVariants as by
@@ -35,7 +36,8 @@ use Rattle.core_law.proofs.Moments.{answer_lawful, call_lawful}
 use Rattle.core_law.proofs.Steps.{Begins, Hears, A_call, A_request, An_answer, Does, Serves, happens_does}
 use Rattle.core_check_law.specs.After.{AllOver, AreIdle, IsShutDown, is_work}
 use Rattle.core_check_law.proofs.AlongRuns.{AreKept, every_run_keeps}
-use Rattle.core_check_law.proofs.Idle.{AllClosed, IdleAfter, IsClosed, IsX, begun_idle, client_closed, found_run, idle_after, idle_behind, idle_grows, idle_stays, rank_inside, x_run, x_step, IsUnmoved, accepts_none, is_promise, no_work}
+use Rattle.core_check_law.proofs.Idle.{AllClosed, IdleAfter, IsClosed, IsX, begun_idle, client_closed, found_run, idle_after, idle_behind}
+use Rattle.core_check_law.proofs.Idle.{idle_grows, idle_stays, rank_inside, x_run, x_step, IsUnmoved, accepts_none, is_promise, no_work}
 use Rattle.core_check_law.proofs.Legal.{every_run_legal, IsChecked, begins_checked, checked_kept}
 use Rattle.core_check_law.proofs.ToldRanks.{IsGoodStep, IsModest, begin_good, hear_good}
 use Rattle.core_check_law.proofs.Ranks.{stands_as}
@@ -225,7 +227,8 @@ alone_kept = record {
 -- An event of several servers.
 
 abbrev WhichAct : Act → Type 0
-WhichAct a = (is_verdict a ≡ false) ⊎ ((from : Server) × (t : Token) × (a ≡ Finds from t)) ⊎ ((from : Server) × (t : Token) × (a ≡ Shuts from t))
+WhichAct a = (is_verdict a ≡ false) ⊎ ((from : Server) × (t : Token) × (a ≡ Finds from t))
+    ⊎ ((from : Server) × (t : Token) × (a ≡ Shuts from t))
 
 which_act : (a : Act) → WhichAct a
 which_act (Finds from t) = inr (inl (from, t, refl))

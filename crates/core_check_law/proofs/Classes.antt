@@ -6,7 +6,12 @@ use Rattle.adlb_unit.specs.declared.messages.Message.TheVariants as tells
 use Rattle.adlb_unit.specs.declared.names.Server.{Server}
 use Rattle.adlb_unit.specs.declared.tokens.Token.{Token}
 use Rattle.exhaust_ring.specs.Ring.{Ring}
-use Rattle.server_law.specs.Acts.{Accepts, Acks, Act, Answers, Asks_on, Cancels, Checks_alone, Closes, Counts, Declines, Ends_keep, Ends_put, Ends_reserve, Ends_try, Fails, Fetches, Fetches_part, Finds, Finds_alone, Gives, Gives_up, Grants, Grants_try, Hears_done, Hears_failed, Hears_shutdown, Hints, Keeps, Looks, Marks, Notes_own, Notices, Passes, Passes_on, Promises, Queries, Refuses, Refuses_part, Refuses_push, Sends_unit, ServerSaying, Shuts, Shuts_alone, Starts, Tells, Wants, Withdraws, does, finished_after, ring_after, says, tested_in, turned, turns, waiting_after}
+use Rattle.server_law.specs.Acts.{Accepts, Acks, Act, Answers, Asks_on, Cancels, Checks_alone, Closes, Counts, Declines, Ends_keep}
+use Rattle.server_law.specs.Acts.{Ends_put, Ends_reserve, Ends_try, Fails, Fetches, Fetches_part, Finds, Finds_alone, Gives, Gives_up}
+use Rattle.server_law.specs.Acts.{Grants, Grants_try, Hears_done, Hears_failed, Hears_shutdown, Hints, Keeps, Looks, Marks, Notes_own}
+use Rattle.server_law.specs.Acts.{Notices, Passes, Passes_on, Promises, Queries, Refuses, Refuses_part, Refuses_push, Sends_unit}
+use Rattle.server_law.specs.Acts.{ServerSaying, Shuts, Shuts_alone, Starts, Tells, Wants, Withdraws, does, finished_after, ring_after, says}
+use Rattle.server_law.specs.Acts.{tested_in, turned, turns, waiting_after}
 use Rattle.server_law.specs.Carried.{done}
 use Rattle.server_law.specs.State.{ServerModel}
 use Rattle.core_run.specs.World.{World, pool_of, server_named}

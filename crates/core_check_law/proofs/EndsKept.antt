@@ -1,5 +1,6 @@
 -- Server 0 tells each other server of an end once: in each world between acts.
-use Rattle.std.proofs.Common.{◌≡◌, ◌≢◌, ◌<◌, ◌≤◌, inl, inr, ◌==◌, Bool, true, false, cond, not, List, [], ◌∷◌, length, refl, sym, ap, ◌∙◌, subst, arith}
+use Rattle.std.proofs.Common.{◌≡◌, ◌≢◌, ◌<◌, ◌≤◌, inl, inr, ◌==◌, Bool, true, false, cond, not, List, [], ◌∷◌, length, refl, sym, ap, ◌∙◌}
+use Rattle.std.proofs.Common.{subst, arith}
 use Rattle.std.proofs.lemmas.Bool.{and_parts, eq-eqb, eqb-true, false_from_ne_true, lt-ltb}
 use Rattle.adlb_unit.specs.declared.actors.Actor.TheVariants as by
 use Rattle.adlb_unit.specs.declared.configs.Config.{Config}
@@ -8,7 +9,8 @@ use Rattle.adlb_unit.specs.declared.messages.Message.TheVariants as tells
 use Rattle.adlb_unit.specs.declared.names.Server.{Server}
 use Rattle.adlb_unit.specs.declared.messages.Why.{Why}
 use Rattle.adlb_unit.specs.declared.tokens.Token.{Token}
-use Rattle.server_law.specs.Acts.{Act, Checks_alone, Fails, Finds, Finds_alone, Gives_up, Hears_exhaust, Hears_failed, Hears_shutdown, Heard, Shuts, Shuts_alone, Starts, does, of_server, ring_after, says, shut_after, takes, zeroth}
+use Rattle.server_law.specs.Acts.{Act, Checks_alone, Fails, Finds, Finds_alone, Gives_up, Hears_exhaust, Hears_failed, Hears_shutdown}
+use Rattle.server_law.specs.Acts.{Heard, Shuts, Shuts_alone, Starts, does, of_server, ring_after, says, shut_after, takes, zeroth}
 use Rattle.server_law.specs.Carried.{done}
 use Rattle.server_law.specs.State.{Kept, ServerModel, start as new_pool}
 use Rattle.server_law.specs.Sure.{IsFailing, Sure}

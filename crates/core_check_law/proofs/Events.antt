@@ -7,7 +7,8 @@ use Rattle.adlb_unit.specs.declared.names.Server.{Server}
 use Rattle.adlb_unit.specs.declared.tokens.Token.{Token}
 use Rattle.bag_ledger.specs.Bag.{Bag, settled}
 use Rattle.exhaust_ring.specs.Ring.{Asker}
-use Rattle.server_law.specs.Acts.{Act, Checks_alone, Fails, Finds, Finds_alone, Gives_up, Heard, Hears_failed, Hears_shutdown, Marks, Passes, Queries, Shuts, Shuts_alone, Wants, takes}
+use Rattle.server_law.specs.Acts.{Act, Checks_alone, Fails, Finds, Finds_alone, Gives_up, Heard, Hears_failed, Hears_shutdown, Marks}
+use Rattle.server_law.specs.Acts.{Passes, Queries, Shuts, Shuts_alone, Wants, takes}
 use Rattle.server_law.specs.Carried.{Served}
 use Rattle.server_law.specs.State.{Kept, ServerModel}
 use Rattle.server_law.specs.Step.{next_stamp, raises, ticked}
@@ -105,7 +106,8 @@ finds_settling w b k from t h on is =
             absurd (cc)
 
 -- where server 0 finds that all work is used up, the bag is settled
-pub finds_settled : (w : World) (b : Bag) (k from : Server) (t : Token) → Holds w b → Settles w b → IsAct w k (Finds from t) → settled b ≡ true
+pub finds_settled : (w : World) (b : Bag) (k from : Server) (t : Token) → Holds w b → Settles w b → IsAct w k (Finds from t)
+    → settled b ≡ true
 finds_settled w b k from t h on is = by_list t.asked refl
   where
     by_list : (xs : List Asker) → t.asked ≡ xs → settled b ≡ true

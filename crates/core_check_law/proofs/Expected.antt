@@ -1,5 +1,6 @@
 -- In every run the front letter of each list can be handled: tokens too are expected.
-use Rattle.std.proofs.Common.{◌≡◌, ◌≢◌, ◌<◌, ◌≤◌, ◌⊎◌, inl, inr, Bool, true, false, cond, ◌||◌, ◌==◌, not, List, ◌∷◌, None, Some, refl, sym, ap, ◌∙◌, subst, arith}
+use Rattle.std.proofs.Common.{◌≡◌, ◌≢◌, ◌<◌, ◌≤◌, ◌⊎◌, inl, inr, Bool, true, false, cond, ◌||◌, ◌==◌, not, List, ◌∷◌, None, Some, refl, sym}
+use Rattle.std.proofs.Common.{ap, ◌∙◌, subst, arith}
 use Rattle.std.specs.Option.{option_map}
 use Rattle.std.proofs.lemmas.Bool.{and_from, and_parts, cases_eq, eqb-true, ltb-true, lt-ltb}
 use Rattle.adlb_unit.specs.Kinds.{is_to_rank}
@@ -69,7 +70,8 @@ module _ (w : World) (from me : Server) (letter : Letter) (rest : List Letter) (
       → OnLinks (λ from to l. P from to l.message) w.config w.links → P (by.Server from) (by.Server me) m
   said_of P m is on =
       subst (P (by.Server from) (by.Server me)) is
-      (at_front (λ from to l. P from to l.message) w.config w.links (by.Server from) (by.Server me) letter rest on within_from within_me front)
+      (at_front (λ from to l. P from to l.message) w.config w.links (by.Server from) (by.Server me) letter rest on within_from
+      within_me front)
 
   -- a check runs at server 0
   check_runs : (m : Message) → letter.message ≡ m → token_letter (by.Server from) (by.Server me) m ≡ 1
@@ -153,7 +155,8 @@ module _ (w : World) (from me : Server) (letter : Letter) (rest : List Letter) (
         ) in
         (before, row_at (cases_eq me.0 0) on.wave)
 
-  check_awaited : (m : Message) → letter.message ≡ m → is_of_check m ≡ true → fits_between w.config from me m ≡ true → IsAwaitedFrom s from m
+  check_awaited : (m : Message) → letter.message ≡ m → is_of_check m ≡ true → fits_between w.config from me m ≡ true
+      → IsAwaitedFrom s from m
   check_awaited (tells.Token t) is of kind = token_awaited t is kind
   check_awaited (tells.Failed t why) is of kind = failed_awaited t why is kind
   check_awaited _ is of kind = absurd (cc)

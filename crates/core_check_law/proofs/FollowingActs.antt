@@ -1,6 +1,7 @@
 -- What follows the first act of an event that leaves all that rests as it is, or by which the token goes on: no push begins, and where the
 -- letter does not raise the activity, only acts of the ring.
-use Rattle.std.proofs.Common.{◌≡◌, ◌≢◌, ◌==◌, ◌&&◌, ◌||◌, not, Bool, true, false, cond, List, [], ◌∷◌, ◌++◌, Option, None, Some, refl, sym, ap, ◌∙◌, subst}
+use Rattle.std.proofs.Common.{◌≡◌, ◌≢◌, ◌==◌, ◌&&◌, ◌||◌, not, Bool, true, false, cond, List, [], ◌∷◌, ◌++◌, Option, None, Some, refl, sym}
+use Rattle.std.proofs.Common.{ap, ◌∙◌, subst}
 use Rattle.std.specs.Option.{option_map}
 use Rattle.std.proofs.lemmas.Bool.{eqb-true}
 use Rattle.adlb_unit.specs.declared.actors.Actor.{Actor}
@@ -20,7 +21,8 @@ use Rattle.reserve_path.specs.Calls.{is_since}
 use Rattle.reserve_path.specs.Parked.{is_idle, is_of}
 use Rattle.reserve_path.specs.declared.waits.Waiting.{Waiting}
 use Rattle.reserve_path.specs.declared.wishes.Wish.{Wish}
-use Rattle.server_law.specs.Acts.{Acks, Act, Around, Asks_on, Hints, Notes_own, Notices, Declines, Drops_hint, Heard, Hears_exhaust, Hears_shutdown, Is_hinted, Notes_finish, Passes, Wakes, Wants, says, takes}
+use Rattle.server_law.specs.Acts.{Acks, Act, Around, Asks_on, Hints, Notes_own, Notices, Declines, Drops_hint, Heard, Hears_exhaust}
+use Rattle.server_law.specs.Acts.{Hears_shutdown, Is_hinted, Notes_finish, Passes, Wakes, Wants, says, takes}
 use Rattle.server_law.specs.Asks.{expects_ask, none_rule, wake, wake_at}
 use Rattle.server_law.specs.Carried.{all_done, done}
 use Rattle.server_law.specs.Checks.{token_rule, verdict, visit, visit_other, visit_zeroth}

@@ -5,7 +5,8 @@ use Rattle.adlb_unit.specs.declared.names.Server.{Server}
 use Rattle.bag_ledger.specs.Bag.{Bag, settled, start as empty_bag}
 use Rattle.bag_ledger.specs.Runs.{IsRun, IsRunWhere}
 use Rattle.bag_ledger.proofs.Legal.{joined_where}
-use Rattle.server_law.specs.Acts.{Act, Checks_alone, Fails, Finds, Finds_alone, Gives_up, Hears_failed, Marks, Passes, Shuts, Shuts_alone, Starts, entries, takes}
+use Rattle.server_law.specs.Acts.{Act, Checks_alone, Fails, Finds, Finds_alone, Gives_up, Hears_failed, Marks, Passes, Shuts, Shuts_alone}
+use Rattle.server_law.specs.Acts.{Starts, entries, takes}
 use Rattle.server_law.specs.State.{ServerModel}
 use Rattle.server_law.specs.Sure.{Sure, TakeNone}
 use Rattle.core_run.specs.World.{World, pool_of}
@@ -196,12 +197,14 @@ module _ (k : Server) where
           let was = more raised in
           omega arith
 
-      by_still : ((n : Bag) → Holds (acted w k a) n → (up ≡ true → IsPast (acted w k a)) → Settles (acted w k a) n → Last) → is_turn a ≡ false → (t : Bool) → is_still a ≡ t → Last
+      by_still : ((n : Bag) → Holds (acted w k a) n → (up ≡ true → IsPast (acted w k a)) → Settles (acted w k a) n → Last)
+          → is_turn a ≡ false → (t : Bool) → is_still a ≡ t → Last
       by_still later turn true quiet = later x.bag x.holds (still_more quiet) (still_settles w b x.bag k h.well a is x.run quiet on)
       by_still later turn false stirs =
           from_void (other_voids w b x.bag k h.well a is h.lawful x.run stirs turn alone suits.0.0 (more (is_up up refl stirs turn)) on)
 
-      by_start : ((n : Bag) → Holds (acted w k a) n → (up ≡ true → IsPast (acted w k a)) → Settles (acted w k a) n → Last) → (t : Bool) → is_start a ≡ t → Last
+      by_start : ((n : Bag) → Holds (acted w k a) n → (up ≡ true → IsPast (acted w k a)) → Settles (acted w k a) n → Last) → (t : Bool)
+          → is_start a ≡ t → Last
       by_start later true starts =
           let it = start_is a starts in
           from_void (subst (λ (c : Act). Voids (acted w k c) x.bag) (sym it)

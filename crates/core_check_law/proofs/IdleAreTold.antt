@@ -1,5 +1,6 @@
 -- Between events no rank is idle at a server that knows that the problem is done: it was told.
-use Rattle.std.proofs.Common.{◌≡◌, ◌≤◌, ◌⊎◌, inl, inr, ℕ, ◌==◌, ◌&&◌, Bool, true, false, cond, List, [], ◌∷◌, ◌++◌, Option, None, Some, refl, sym, ap, ◌∙◌, subst, arith, append_assoc}
+use Rattle.std.proofs.Common.{◌≡◌, ◌≤◌, ◌⊎◌, inl, inr, ℕ, ◌==◌, ◌&&◌, Bool, true, false, cond, List, [], ◌∷◌, ◌++◌, Option, None, Some}
+use Rattle.std.proofs.Common.{refl, sym, ap, ◌∙◌, subst, arith, append_assoc}
 use Rattle.std.specs.Option.{option_map}
 use Rattle.std.specs.Prelude.{IfSome, nat_lt}
 use Rattle.std.proofs.lemmas.Bool.{eq-eqb}
@@ -19,7 +20,8 @@ use Rattle.work_queue.specs.declared.placing.Placed.{Placed}
 use Rattle.reserve_path.specs.Parked.{is_idle, is_of}
 use Rattle.reserve_path.specs.declared.waits.Waiting.{Waiting}
 use Rattle.reserve_path.specs.declared.wishes.Wish.{Wish}
-use Rattle.server_law.specs.Acts.{Act, Around, Heard, Hears_done, Parks, Tells, Wakes, comes, does, done_after, goes, says, takes, waiting_after}
+use Rattle.server_law.specs.Acts.{Act, Around, Heard, Hears_done, Parks, Tells, Wakes, comes, does, done_after, goes, says, takes}
+use Rattle.server_law.specs.Acts.{waiting_after}
 use Rattle.server_law.specs.Asks.{wake, wake_at}
 use Rattle.server_law.specs.Carried.{Served, all_done, carried, done}
 use Rattle.server_law.specs.Endings.{ends_event, tells_all, tells_one}

@@ -1,5 +1,6 @@
 -- What is in a list, and the ranks that wait.
-use Rattle.std.proofs.Common.{◌≡◌, ◌<◌, ◌⊎◌, inl, inr, ℕ, zero, suc, Bool, true, false, cond, List, [], ◌∷◌, ◌++◌, filter, map, length, get_or, refl, ap, subst, arith}
+use Rattle.std.proofs.Common.{◌≡◌, ◌<◌, ◌⊎◌, inl, inr, ℕ, zero, suc, Bool, true, false, cond, List, [], ◌∷◌, ◌++◌, filter, map, length}
+use Rattle.std.proofs.Common.{get_or, refl, ap, subst, arith}
 use Rattle.std.proofs.lemmas.Nat.{mod_below}
 use Rattle.adlb_unit.specs.Targets.{home}
 use Rattle.adlb_unit.specs.declared.configs.Config.{Config}

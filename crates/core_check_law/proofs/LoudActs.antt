@@ -1,7 +1,8 @@
 -- Acts that may change what is free or who waits, and where a server has changed since its mark.
 use Rattle.std.proofs.Common.{◌≡◌, ◌<◌, ◌⊎◌, Bool, true, false}
 use Rattle.adlb_unit.specs.declared.names.Server.{Server}
-use Rattle.server_law.specs.Acts.{Act, Checks_alone, Fails, Finds, Finds_alone, Gives_up, Hears_failed, Hears_shutdown, Marks, Notes_own, Notices, Passes, Shuts, Shuts_alone, Starts, Wants}
+use Rattle.server_law.specs.Acts.{Act, Checks_alone, Fails, Finds, Finds_alone, Gives_up, Hears_failed, Hears_shutdown, Marks, Notes_own}
+use Rattle.server_law.specs.Acts.{Notices, Passes, Shuts, Shuts_alone, Starts, Wants}
 use Rattle.server_law.specs.State.{ServerModel}
 use Rattle.core_run.specs.World.{World, pool_of}
 use Rattle.core_law.specs.Acting.{IsAct}

@@ -1,5 +1,6 @@
 -- Acts that cannot be where all is settled: what else a server could do, and why it does not.
-use Rattle.std.proofs.Common.{◌≡◌, ◌<◌, ◌≤◌, ◌⊎◌, inl, inr, ℕ, ◌==◌, Bool, true, false, List, [], ◌∷◌, ◌++◌, find, Option, Some, None, refl, sym, ap, ◌∙◌, subst, arith}
+use Rattle.std.proofs.Common.{◌≡◌, ◌<◌, ◌≤◌, ◌⊎◌, inl, inr, ℕ, ◌==◌, Bool, true, false, List, [], ◌∷◌, ◌++◌, find, Option, Some, None, refl}
+use Rattle.std.proofs.Common.{sym, ap, ◌∙◌, subst, arith}
 use Rattle.std.specs.Prelude.{is_none, nat_lt}
 use Rattle.std.proofs.lemmas.Bool.{and_from, and_parts, cases_lt, eq-eqb, eqb-true, false_from_ne_true, lt-ltb, ltb-true}
 use Rattle.adlb_unit.specs.Ids.{same_unit}
@@ -27,7 +28,10 @@ use Rattle.work_queue.specs.Queue.{id_of}
 use Rattle.work_queue.specs.declared.placing.Placed.{Placed}
 use Rattle.put_path.specs.Pushes.{asks_room, has_sent}
 use Rattle.put_path.specs.declared.standing.StandingPush.{StandingPush}
-use Rattle.server_law.specs.Acts.{Accepts, Act, Answers, Around, Arrives, Cancels, Closes, Counts, Ends_keep, Ends_push, Ends_put, Ends_reserve, Ends_try, Fetches, Fetches_part, Gives, Grants, Grants_try, Heard, Hears_done, Keeps, Looks, Parks, Passes_on, Promises, Queries, Refuses, Refuses_part, Refuses_push, Sends_unit, Stops_push, Tells, Withdraws, of_rank, of_server, takes}
+use Rattle.server_law.specs.Acts.{Accepts, Act, Answers, Around, Arrives, Cancels, Closes, Counts, Ends_keep, Ends_push, Ends_put}
+use Rattle.server_law.specs.Acts.{Ends_reserve, Ends_try, Fetches, Fetches_part, Gives, Grants, Grants_try, Heard, Hears_done, Keeps, Looks}
+use Rattle.server_law.specs.Acts.{Parks, Passes_on, Promises, Queries, Refuses, Refuses_part, Refuses_push, Sends_unit, Stops_push, Tells}
+use Rattle.server_law.specs.Acts.{Withdraws, of_rank, of_server, takes}
 use Rattle.server_law.specs.Finding.{best_for, is_free_as}
 use Rattle.server_law.specs.State.{Kept, ServerModel, awaiting, idle, is_home, start as new_pool}
 use Rattle.server_law.specs.Sure.{HasCause, IsFound, IsFreeFor}

@@ -1,5 +1,6 @@
 -- Each token under way is on turn, through each act, each stamp and each step of a rank.
-use Rattle.std.proofs.Common.{◌≡◌, ◌≢◌, ◌<◌, ◌≤◌, ◌⊎◌, inl, inr, ℕ, ◌+◌, Bool, true, false, List, [], ◌∷◌, ◌++◌, refl, sym, ap, ◌∙◌, subst, arith}
+use Rattle.std.proofs.Common.{◌≡◌, ◌≢◌, ◌<◌, ◌≤◌, ◌⊎◌, inl, inr, ℕ, ◌+◌, Bool, true, false, List, [], ◌∷◌, ◌++◌, refl, sym, ap, ◌∙◌, subst}
+use Rattle.std.proofs.Common.{arith}
 use Rattle.adlb_unit.specs.Targets.{home}
 use Rattle.adlb_unit.specs.declared.actors.Actor.{Actor}
 use Rattle.adlb_unit.specs.declared.actors.Actor.TheVariants as by
@@ -14,7 +15,8 @@ use Rattle.bag_ledger.specs.declared.entries.Entry.{Entry}
 use Rattle.exhaust_ring.specs.Expected.{HasComeBack, IsToTest}
 use Rattle.exhaust_ring.specs.Ring.{Asker, Ring, token}
 use Rattle.rank_client.specs.State.{ClientModel}
-use Rattle.server_law.specs.Acts.{Act, Checks_alone, Fails, Finds, Finds_alone, Marks, Passes, ServerSaying, Shuts, Shuts_alone, Starts, askers, onward, ring_after, says, takes, zeroth}
+use Rattle.server_law.specs.Acts.{Act, Checks_alone, Fails, Finds, Finds_alone, Marks, Passes, ServerSaying, Shuts, Shuts_alone, Starts}
+use Rattle.server_law.specs.Acts.{askers, onward, ring_after, says, takes, zeroth}
 use Rattle.server_law.specs.State.{Kept, ServerModel, is_home, ring_at}
 use Rattle.core_run.specs.World.{Links, World, actors, pool_of}
 use Rattle.core_law.specs.Acting.{IsAct, acted, taken_off}
@@ -347,7 +349,8 @@ module _ (w : World) (k : Server) (well : IsWell w) (ring : IsRinged w) (turn : 
 
   -- A test fails.
 
-  fail_check : (from : Server) (t : Token) (why : Why) (is : IsAct w k (Fails from t why)) → t.check ≡ last_check (acted w k (Fails from t why))
+  fail_check : (from : Server) (t : Token) (why : Why) (is : IsAct w k (Fails from t why))
+      → t.check ≡ last_check (acted w k (Fails from t why))
   fail_check from t why is =
       let was = token_front (IsOnWay w) w k from t (Fails from t why) is refl ring.on in
       was.number ∙ sym (marked_of w k well (Fails from t why) is refl zeroth (some (Fails from t why) is)).check

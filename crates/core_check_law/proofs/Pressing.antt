@@ -1,5 +1,6 @@
 -- A push begins only after a put that was accepted, in the same event.
-use Rattle.std.proofs.Common.{◌≡◌, ℕ, ◌==◌, ◌&&◌, not, Bool, true, false, cond, List, [], ◌∷◌, ◌++◌, find, Option, None, Some, ap, ◌∙◌, refl, subst}
+use Rattle.std.proofs.Common.{◌≡◌, ℕ, ◌==◌, ◌&&◌, not, Bool, true, false, cond, List, [], ◌∷◌, ◌++◌, find, Option, None, Some, ap, ◌∙◌}
+use Rattle.std.proofs.Common.{refl, subst}
 use Rattle.std.specs.Option.{IfSome, option_map}
 use Rattle.adlb_unit.specs.declared.actors.Actor.{Actor}
 use Rattle.adlb_unit.specs.declared.actors.Actor.TheVariants as by
@@ -32,7 +33,8 @@ use Rattle.server_law.specs.Asks.{pass_at, pass_on, wake, wake_at}
 use Rattle.server_law.specs.Batches.{can_close, can_fetch, close, part_if, share}
 use Rattle.server_law.specs.Carried.{all_done, done}
 use Rattle.server_law.specs.Checks.{marks, tests_now, token_rule, verdict, visit, visit_other, visit_zeroth}
-use Rattle.server_law.specs.Endings.{checks, ends_event, finds_alone, is_noted, is_quiet, notice, notices, starts, tells_all, tells_idle, tells_one}
+use Rattle.server_law.specs.Endings.{checks, ends_event, finds_alone, is_noted, is_quiet, notice, notices, starts, tells_all, tells_idle}
+use Rattle.server_law.specs.Endings.{tells_one}
 use Rattle.server_law.specs.Fetches.{fetch}
 use Rattle.server_law.specs.Finding.{Place, best_for, has_asked, is_free_as, is_pinned_as, place_in, taker}
 use Rattle.server_law.specs.Hints.{expects_hint, hint_at, hints_if, is_first_for, is_later_for}
@@ -131,7 +133,8 @@ hints_none : (test : Wish → Bool) (wishes : List Wish) → Each NoQuery (hints
 hints_none test [] = tt
 hints_none test (w ∷ wishes) = by_test (test w) (hints_none test wishes)
   where
-    by_test : (t : Bool) → Each NoQuery (hints_if test wishes) → Each NoQuery (cond t (Hints w ∷ hints_if test wishes) (hints_if test wishes))
+    by_test : (t : Bool) → Each NoQuery (hints_if test wishes)
+        → Each NoQuery (cond t (Hints w ∷ hints_if test wishes) (hints_if test wishes))
     by_test true later = (refl, later)
     by_test false later = later
 

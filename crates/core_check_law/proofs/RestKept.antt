@@ -1,5 +1,6 @@
 -- Acts that leave all that rests as it is.
-use Rattle.std.proofs.Common.{◌≡◌, ◌<◌, ◌⊎◌, inl, inr, ℕ, Bool, true, false, List, [], ◌∷◌, ◌++◌, map, Option, None, Some, refl, sym, ap, ◌∙◌, subst}
+use Rattle.std.proofs.Common.{◌≡◌, ◌<◌, ◌⊎◌, inl, inr, ℕ, Bool, true, false, List, [], ◌∷◌, ◌++◌, map, Option, None, Some, refl, sym, ap}
+use Rattle.std.proofs.Common.{◌∙◌, subst}
 use Rattle.std.proofs.lemmas.List.{map-append}
 use Rattle.adlb_unit.specs.Targets.{home}
 use Rattle.adlb_unit.specs.declared.names.Rank.{Rank}
@@ -14,7 +15,9 @@ use Rattle.reserve_path.specs.Calls.{wants}
 use Rattle.reserve_path.specs.declared.waits.Waiting.{Waiting}
 use Rattle.reserve_path.specs.declared.wishes.Wish.{Wish}
 use Rattle.rank_client.specs.State.{ClientModel}
-use Rattle.server_law.specs.Acts.{Acks, Act, Around, Asks_on, Declines, Drops_hint, Hears_exhaust, Hears_shutdown, Hints, Is_hinted, Notes_finish, Notes_own, Notices, Wakes, Wants, around, comes, done_after, entries, goes, queue_after, turned, turns, waiting_with}
+use Rattle.server_law.specs.Acts.{Acks, Act, Around, Asks_on, Declines, Drops_hint, Hears_exhaust, Hears_shutdown, Hints, Is_hinted}
+use Rattle.server_law.specs.Acts.{Notes_finish, Notes_own, Notices, Wakes, Wants, around, comes, done_after, entries, goes, queue_after}
+use Rattle.server_law.specs.Acts.{turned, turns, waiting_with}
 use Rattle.server_law.specs.State.{Kept, ServerModel}
 use Rattle.server_law.specs.Sure.{Sits}
 use Rattle.core_run.specs.World.{Links, World, pool_of}

@@ -234,7 +234,8 @@ every_run_shut config events w run = by_number (cases_eq config.servers 1)
         run_shut (start config) w events (begins_checked config (omega arith)) run (begins_open config)
 
 -- a server is told by server 0
-pub shut_first : (config : Config) (events : List Event) (w : World) (server : Server) → server.0 < config.servers → Runs (start config) events w
+pub shut_first : (config : Config) (events : List Event) (w : World) (server : Server) → server.0 < config.servers
+    → Runs (start config) events w
     → (pool_of w server).kept.shut ≡ true → (pool_of w zeroth).kept.shut ≡ true
 shut_first config events w server there run shut = by_place (cases_eq server.0 0)
   where

@@ -1,5 +1,6 @@
 -- Where each rank has finished, or asks in vain, or was told an end, this stays so through each entry but the coming of a unit.
-use Rattle.std.proofs.Common.{◌≡◌, ◌⊎◌, inl, inr, ℕ, Bool, true, false, ◌&&◌, ◌||◌, List, [], ◌∷◌, find, Option, None, Some, refl, sym, ap, ◌∙◌, subst, slice_get}
+use Rattle.std.proofs.Common.{◌≡◌, ◌⊎◌, inl, inr, ℕ, Bool, true, false, ◌&&◌, ◌||◌, List, [], ◌∷◌, find, Option, None, Some, refl, sym, ap}
+use Rattle.std.proofs.Common.{◌∙◌, subst, slice_get}
 use Rattle.std.specs.Prelude.{option_and_then}
 use Rattle.std.specs.List.{list_any}
 use Rattle.adlb_unit.specs.Ids.{same_unit}

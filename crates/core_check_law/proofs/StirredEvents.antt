@@ -1,6 +1,7 @@
 -- Each act that may change what is free or who waits is of an event that raises the activity, or tells an end where no check runs. It is
 -- carried out where the server is stirred.
-use Rattle.std.proofs.Common.{◌≡◌, ◌==◌, ◌⊎◌, inl, inr, ℕ, Bool, true, false, cond, ◌&&◌, not, List, [], ◌∷◌, ◌++◌, find, Option, None, Some, refl, sym, ap, ◌∙◌, subst}
+use Rattle.std.proofs.Common.{◌≡◌, ◌==◌, ◌⊎◌, inl, inr, ℕ, Bool, true, false, cond, ◌&&◌, not, List, [], ◌∷◌, ◌++◌, find, Option, None}
+use Rattle.std.proofs.Common.{Some, refl, sym, ap, ◌∙◌, subst}
 use Rattle.std.specs.Option.{IfSome, option_map}
 use Rattle.std.proofs.lemmas.Bool.{eqb-true}
 use Rattle.adlb_unit.specs.declared.actors.Actor.{Actor}
@@ -31,12 +32,14 @@ use Rattle.reserve_path.specs.Calls.{is_since}
 use Rattle.reserve_path.specs.Parked.{is_idle, is_of}
 use Rattle.reserve_path.specs.declared.waits.Waiting.{Waiting}
 use Rattle.reserve_path.specs.declared.wishes.Wish.{Wish}
-use Rattle.server_law.specs.Acts.{Act, Around, Checks_alone, Fails, Finds, Finds_alone, Gives_up, Heard, Hears_failed, Hears_shutdown, Marks, Notes_own, Notices, Passes, Shuts, Shuts_alone, Starts, Wants, check_alone, takes}
+use Rattle.server_law.specs.Acts.{Act, Around, Checks_alone, Fails, Finds, Finds_alone, Gives_up, Heard, Hears_failed, Hears_shutdown}
+use Rattle.server_law.specs.Acts.{Marks, Notes_own, Notices, Passes, Shuts, Shuts_alone, Starts, Wants, check_alone, takes}
 use Rattle.server_law.specs.Asks.{expects_ask, pass_at, pass_on, wake, wake_at}
 use Rattle.server_law.specs.Batches.{can_close, can_fetch, close, expects_keep, part_if, share}
 use Rattle.server_law.specs.Carried.{all_done, done}
 use Rattle.server_law.specs.Checks.{marks, tests_now, token_rule, verdict, visit, visit_other, visit_zeroth}
-use Rattle.server_law.specs.Endings.{checks, ends_event, finds_alone, is_noted, is_quiet, notice, notices, starts, tells_all, tells_idle, tells_one}
+use Rattle.server_law.specs.Endings.{checks, ends_event, finds_alone, is_noted, is_quiet, notice, notices, starts, tells_all, tells_idle}
+use Rattle.server_law.specs.Endings.{tells_one}
 use Rattle.server_law.specs.Fetches.{fetch}
 use Rattle.server_law.specs.Finding.{Place, best_for, has_asked, has_promise, is_free_as, is_pinned_as, place_in, taker}
 use Rattle.server_law.specs.Hints.{expects_hint, hint_at, hints_if, is_first_for, is_later_for}
@@ -176,7 +179,8 @@ notices_stirred s = by_test (is_quiet s && not (is_noted s.kept.noted s.activity
     by_test false zeroth = tt
 
 -- where a server that is alone finds that all work is used up, it tells so where no check runs
-alone_stirred : (s : ServerModel) → s.config.servers ≡ 1 → s.me.0 ≡ 0 → (step : RingStep) → AreStirred (finds_alone step s.kept.parked.waiting) s
+alone_stirred : (s : ServerModel) → s.config.servers ≡ 1 → s.me.0 ≡ 0 → (step : RingStep)
+    → AreStirred (finds_alone step s.kept.parked.waiting) s
 alone_stirred s alone zero_here Exhausted =
     let stirred = off_stirs Finds_alone s zero_here (check_ended s alone zero_here).ended in (
       λ loud. absurd (cc),
@@ -242,7 +246,8 @@ share_stirring : (from : Rank) (request : ℕ) (batch : BatchId) (o : Option Par
 share_stirring from request batch None = tt
 share_stirring from request batch (Some p) = alone_first refl
 
-pass_stirring : (rank : Rank) (request : ℕ) (note : UnitNote) (o : Option Place) → OfRule (tells.AskGrant rank request note) (pass_at o note)
+pass_stirring : (rank : Rank) (request : ℕ) (note : UnitNote) (o : Option Place)
+    → OfRule (tells.AskGrant rank request note) (pass_at o note)
 pass_stirring rank request note None = tt
 pass_stirring rank request note (Some p) = by_asked p.here.asked
   where
@@ -307,7 +312,8 @@ token_stirring s from t = by_expected (expects (ring_at s) from t)
 -- Each rule.
 
 server_stirring : (s : ServerModel) (from : Server) (message : Message) → OfRule message (server_rule s from message)
-server_stirring s from (tells.Ask rank request types) = if_stirring (tells.Ask rank request types) (expects_ask s from rank) _ (alone_first refl)
+server_stirring s from (tells.Ask rank request types) =
+    if_stirring (tells.Ask rank request types) (expects_ask s from rank) _ (alone_first refl)
 server_stirring s from (tells.AskGrant rank request note) =
     pass_stirring rank request note (place_in (has_asked from rank request) s.kept.parked.waiting)
 server_stirring s from (tells.AskNone rank request) =
@@ -414,7 +420,8 @@ plan_stirred s from message p is stirring stirred = by_raised (raises message) r
         let its : Sure (Finds from t) s = subst (λ (a : Act). Sure a s) same sure in
         subst (λ (a : Act). IsStirred (done a s)) (sym same) (off_stirs (Finds from t) s its.0.running.zeroth refl)
 
-    by_few : (p.follow ≡ []) ⊎ ((from : Server) × (t : Token) × (p.first ≡ Finds from t)) → AreStirred (decided (p.follow ++ ends_event) t) t
+    by_few : (p.follow ≡ []) ⊎ ((from : Server) × (t : Token) × (p.first ≡ Finds from t))
+        → AreStirred (decided (p.follow ++ ends_event) t) t
     by_few (inl nothing) = subst (λ ds. AreStirred (decided (ds ++ ends_event) t) t) (sym nothing) (ends_stirred t)
     by_few (inr finds) = decided_stirred p.follow t stirring.none (finds_zeroth p.first finds.0 finds.1 finds.2 is.sure)
 

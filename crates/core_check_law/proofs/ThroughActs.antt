@@ -6,7 +6,8 @@ use Rattle.adlb_unit.specs.declared.tokens.Token.{Token}
 use Rattle.bag_ledger.specs.Bag.{Bag}
 use Rattle.bag_ledger.specs.Runs.{IsRunWhere}
 use Rattle.exhaust_ring.specs.Ring.{token}
-use Rattle.server_law.specs.Acts.{Act, Checks_alone, Fails, Finds, Finds_alone, Gives_up, Hears_failed, Marks, Passes, ServerSaying, Shuts, Shuts_alone, Starts, entries, onward, says, takes}
+use Rattle.server_law.specs.Acts.{Act, Checks_alone, Fails, Finds, Finds_alone, Gives_up, Hears_failed, Marks, Passes, ServerSaying, Shuts}
+use Rattle.server_law.specs.Acts.{Shuts_alone, Starts, entries, onward, says, takes}
 use Rattle.server_law.specs.State.{ServerModel}
 use Rattle.core_run.specs.World.{World, pool_of}
 use Rattle.core_law.specs.Acting.{IsAct, acted, taken_off}

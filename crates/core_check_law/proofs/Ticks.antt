@@ -3,7 +3,8 @@ use Rattle.std.proofs.Common.{◌≡◌, ◌≢◌, ◌<◌, ◌≤◌, ◌⊎�
 use Rattle.std.proofs.lemmas.Bool.{cases_eq}
 use Rattle.adlb_unit.specs.declared.names.Server.{Server}
 use Rattle.adlb_unit.specs.declared.tokens.Token.{Token}
-use Rattle.server_law.specs.Acts.{Act, Checks_alone, Fails, Finds, Finds_alone, Gives_up, Hears_failed, Marks, Shuts, Shuts_alone, Starts, askers, does, ring_after, says, zeroth}
+use Rattle.server_law.specs.Acts.{Act, Checks_alone, Fails, Finds, Finds_alone, Gives_up, Hears_failed, Marks, Shuts, Shuts_alone, Starts}
+use Rattle.server_law.specs.Acts.{askers, does, ring_after, says, zeroth}
 use Rattle.server_law.specs.Carried.{done}
 use Rattle.server_law.specs.Endings.{is_quiet}
 use Rattle.server_law.specs.State.{Kept, ServerModel}

@@ -9,7 +9,8 @@ use Rattle.adlb_unit.specs.declared.messages.Message.{Message}
 use Rattle.adlb_unit.specs.declared.messages.Message.TheVariants as tells
 use Rattle.adlb_unit.specs.declared.names.Server.{Server}
 use Rattle.adlb_unit.specs.declared.tokens.Token.{Token}
-use Rattle.server_law.specs.Acts.{Act, Checks_alone, Fails, Finds, Finds_alone, Gives_up, Hears_failed, Shuts, Shuts_alone, Starts, does, says, takes, zeroth}
+use Rattle.server_law.specs.Acts.{Act, Checks_alone, Fails, Finds, Finds_alone, Gives_up, Hears_failed, Shuts, Shuts_alone, Starts, does}
+use Rattle.server_law.specs.Acts.{says, takes, zeroth}
 use Rattle.server_law.specs.State.{ServerModel, start as new_pool}
 use Rattle.server_law.specs.Sure.{Sure}
 use Rattle.core_run.specs.World.{World, pool_of}
@@ -47,7 +48,8 @@ alone_kept config me a s here own sure one_server took said =
     same_runs a s took said (after ∙ sym (own.alone alone))
 
 -- each act keeps that tokens under way are as many as checks run
-pub token_kept : (config : Config) (me : Server) (a : Act) (s : ServerModel) → me.0 < config.servers → IsPool config me s → Sure a s → Keeps a s
+pub token_kept : (config : Config) (me : Server) (a : Act) (s : ServerModel) → me.0 < config.servers → IsPool config me s
+    → Sure a s → Keeps a s
 token_kept config me Starts s here own sure = rw (sure.0.zeroth, sure.0.alone) refl
 token_kept config me (Fails from t why) s here own sure =
     let same = tested_runs t.wave s.kept.ring in

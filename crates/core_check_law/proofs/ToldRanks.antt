@@ -18,7 +18,10 @@ use Rattle.bag_ledger.specs.declared.entries.Call.{Call}
 use Rattle.bag_ledger.specs.declared.entries.Entry.{Entry}
 use Rattle.bag_ledger.specs.declared.entries.Entry.TheVariants as enters
 use Rattle.bag_ledger.specs.declared.entries.Call.TheVariants as calls_to
-use Rattle.rank_client.specs.Rules.{ClientResponse, ClientSaying, answer_call, asked, close, expects_note, fetch, finish, hear_close, hear_common, hear_count, hear_done, hear_fetch, hear_keep, hear_look, hear_put, hear_reserve, held, is_for, is_free, keep, look, looked, looks_at, open_call, own_came, part_refused, put, refused, reserve, told_done, unit_put}
+use Rattle.rank_client.specs.Rules.{ClientResponse, ClientSaying, answer_call, asked, close, expects_note, fetch, finish, hear_close}
+use Rattle.rank_client.specs.Rules.{hear_common, hear_count, hear_done, hear_fetch, hear_keep, hear_look, hear_put, hear_reserve, held}
+use Rattle.rank_client.specs.Rules.{is_for, is_free, keep, look, looked, looks_at, open_call, own_came, part_refused, put, refused, reserve}
+use Rattle.rank_client.specs.Rules.{told_done, unit_put}
 use Rattle.rank_client.specs.State.{ClientModel}
 use Rattle.rank_client.specs.Step.{Made, begin, call_stamp, counted, hear, letter_stamp, made, post, posted, ticked}
 use Rattle.rank_client.specs.declared.pendings.Pending.{Pending}
@@ -155,7 +158,8 @@ look_heard : (s : ClientModel) (request : ℕ) (types : Option (List WorkType)) 
 look_heard s request types tried from (tells.Grant to note) none =
     if_some IsAnswered (is_for request (looks_at s tried) from to && expects_note s note) _ (λ t. (λ e told. refl, tt))
 look_heard s request types tried from (tells.Nothing to) none =
-    if_some IsAnswered (is_for request (looks_at s tried) from to) (Some (looked s request types tried (nat_lt (tried + 1) s.config.servers)))
+    if_some IsAnswered (is_for request (looks_at s tried) from to)
+    (Some (looked s request types tried (nat_lt (tried + 1) s.config.servers)))
     (λ t. looked_good s request types tried (nat_lt (tried + 1) s.config.servers) none)
 look_heard s request types tried from (tells.Ended to end) none =
     if_some IsAnswered (is_for request (looks_at s tried) from to) _ (λ t. (λ e told. refl, tt))
@@ -164,7 +168,8 @@ look_heard s request types tried from _ none = tt
 fetch_heard : (s : ClientModel) (request : ℕ) (note : UnitNote) (from : Server) (m : Message)
     → OnSome (hear_fetch s request note from m) IsAnswered
 fetch_heard s request note from (tells.Bytes to body) =
-    if_some IsAnswered (is_for request note.server from to && (length body == note.length)) (Some (own_came s request note body note.common))
+    if_some IsAnswered (is_for request note.server from to && (length body == note.length))
+    (Some (own_came s request note body note.common))
     (λ t. own_came_good s request note body note.common)
 fetch_heard s request note from _ = tt
 

@@ -1,5 +1,6 @@
 -- The marks, and what a token says of the servers, through each act.
-use Rattle.std.proofs.Common.{◌≡◌, ◌≢◌, ◌<◌, ◌≤◌, ◌⊎◌, inl, inr, ℕ, ◌+◌, Bool, true, false, [], ◌∷◌, ◌++◌, filter, refl, sym, ap, ◌∙◌, subst, arith, append-nil}
+use Rattle.std.proofs.Common.{◌≡◌, ◌≢◌, ◌<◌, ◌≤◌, ◌⊎◌, inl, inr, ℕ, ◌+◌, Bool, true, false, [], ◌∷◌, ◌++◌, filter, refl, sym, ap, ◌∙◌}
+use Rattle.std.proofs.Common.{subst, arith, append-nil}
 use Rattle.std.proofs.lemmas.Bool.{lt-ltb}
 use Rattle.std.proofs.lemmas.List.Elements.{filter-append}
 use Rattle.adlb_unit.specs.Ring.{behind}
@@ -13,7 +14,8 @@ use Rattle.adlb_unit.specs.declared.names.Server.{Server}
 use Rattle.adlb_unit.specs.declared.tokens.Token.{Token}
 use Rattle.exhaust_ring.specs.Expected.{HasComeBack, IsToTest}
 use Rattle.exhaust_ring.specs.Ring.{Asker, token}
-use Rattle.server_law.specs.Acts.{Act, Checks_alone, Finds_alone, Marks, Passes, Shuts_alone, Starts, askers, check_alone, does, of_server, onward, takes, zeroth}
+use Rattle.server_law.specs.Acts.{Act, Checks_alone, Finds_alone, Marks, Passes, Shuts_alone, Starts, askers, check_alone, does, of_server}
+use Rattle.server_law.specs.Acts.{onward, takes, zeroth}
 use Rattle.server_law.specs.Endings.{is_quiet}
 use Rattle.server_law.specs.State.{Kept, ServerModel, is_home, ring_at}
 use Rattle.core_run.specs.World.{World, pool_of, server_named}
@@ -30,7 +32,8 @@ use Rattle.core_law.proofs.LettersAndActors.{own_of}
 use Rattle.core_check_law.specs.OnWay.{AreNumbered, IsOnWay, IsRinged, IsUnchanged, OnToken, last_check, of_home, reach}
 use Rattle.core_check_law.specs.Tokens.{tokens}
 use Rattle.core_check_law.proofs.Classes.{IsMine, IsOthers, SaysNone, marks_new, now, parked_of, ring_of, said_none, says_token}
-use Rattle.core_check_law.proofs.Homes.{each_of_all, home_is, home_other, homes_of, kept_all, kept_none, reach_at, reach_onward, reach_zeroth}
+use Rattle.core_check_law.proofs.Homes.{each_of_all, home_is, home_other, homes_of, kept_all, kept_none, reach_at, reach_onward}
+use Rattle.core_check_law.proofs.Homes.{reach_zeroth}
 use Rattle.core_check_law.proofs.Letters.{letters_next}
 use Rattle.core_check_law.proofs.Stays.{IsMarked, IsParkedSame, IsSteady, askers_same, numbers_stay, quiet_same, way_stays}
 use Rattle.core_check_law.proofs.LoudActs.{IsStep, IsStirred, is_loud}
@@ -188,7 +191,8 @@ module _ (w : World) (k : Server) (well : IsWell w) where
         by_stirred (inl more) = by_steady (stirred_of a is.act more)
         by_stirred (inr still) =
             let it = zeroth_here (is.act).here still.0 in
-            let none = none_runs w shape (some a is.act) ring.tokens (subst (λ (c : Server). (pool_of w c).kept.ring.runs ≡ false) it still.1) in
+            let none =
+            none_runs w shape (some a is.act) ring.tokens (subst (λ (c : Server). (pool_of w c).kept.ring.runs ≡ false) it still.1) in
             off (weaker NoToken (λ from to l. P v from to l.message) w.config w.links
             (λ from to l z. not_token (IsOnWay v) from to l.message z) none)
 

@@ -13,7 +13,12 @@ use Rattle.bag_ledger.proofs.Legal.{joined_where}
 use Rattle.bag_ledger.proofs.Tests.{some_is}
 use Rattle.bag_law.proofs.Sound.{run_is_sound}
 use Rattle.rank_client.specs.Agreement.{holds}
-use Rattle.server_law.specs.Acts.{Accepts, Act, Checks_alone, Fails, Finds_alone, Gives_up, Hears_done, Hears_exhaust, Hears_failed, Hears_shutdown, Marks, Notes_own, Notices, Passes, Shuts_alone, Starts, Wants, Answers, Asks_on, Closes, Counts, Declines, Drops_hint, Ends_keep, Ends_put, Ends_reserve, Ends_try, Fetches, Fetches_part, Finds, Gives, Grants, Grants_try, Hints, Is_hinted, Keeps, Looks, Notes_finish, Parks, Passes_on, Refuses, Refuses_part, Shuts, Tells, Wakes, entries, Queries, Promises, Refuses_push, Sends_unit, Cancels, Stops_push, Ends_push, Arrives, Acks, Withdraws}
+use Rattle.server_law.specs.Acts.{Accepts, Act, Checks_alone, Fails, Finds_alone, Gives_up, Hears_done, Hears_exhaust, Hears_failed}
+use Rattle.server_law.specs.Acts.{Hears_shutdown, Marks, Notes_own, Notices, Passes, Shuts_alone, Starts, Wants, Answers, Asks_on, Closes}
+use Rattle.server_law.specs.Acts.{Counts, Declines, Drops_hint, Ends_keep, Ends_put, Ends_reserve, Ends_try, Fetches, Fetches_part, Finds}
+use Rattle.server_law.specs.Acts.{Gives, Grants, Grants_try, Hints, Is_hinted, Keeps, Looks, Notes_finish, Parks, Passes_on, Refuses}
+use Rattle.server_law.specs.Acts.{Refuses_part, Shuts, Tells, Wakes, entries, Queries, Promises, Refuses_push, Sends_unit, Cancels}
+use Rattle.server_law.specs.Acts.{Stops_push, Ends_push, Arrives, Acks, Withdraws}
 use Rattle.server_law.specs.Agreement.{ServerAgrees}
 use Rattle.server_law.specs.Carried.{Served, done}
 use Rattle.server_law.specs.Legal.{Needs}
@@ -29,10 +34,14 @@ use Rattle.core_law.specs.OnLinks.{Each}
 use Rattle.core_law.specs.Others.{tells_of}
 use Rattle.core_law.specs.Well.{IsWell}
 use Rattle.core_law.proofs.Actors.{every_pool}
-use Rattle.core_law.proofs.ActSeats.{about, asks_stays, declines_stays, finish_stays, hinted_stays, other_stays, parks_stays, passes_stays, wakes_stays}
+use Rattle.core_law.proofs.ActSeats.{about, asks_stays, declines_stays, finish_stays, hinted_stays, other_stays, parks_stays, passes_stays}
+use Rattle.core_law.proofs.ActSeats.{wakes_stays}
 use Rattle.core_law.proofs.Answering.{entry_here, home_here}
 use Rattle.core_law.proofs.Bags.{not_kept, of_act, run_facts, run_servers}
-use Rattle.core_law.proofs.Deciding.{IsDone, Succeeds, accepts_succeeds, answers_succeeds, ends_put_succeeds, ends_reserve_succeeds, fetches_succeeds, gives_succeeds, grants_succeeds, hears_done_succeeds, refuses_succeeds, tells_succeeds, closes_succeeds, counts_succeeds, ends_keep_succeeds, ends_try_succeeds, fetches_part_succeeds, grants_try_succeeds, keeps_succeeds, looks_succeeds, refuses_part_succeeds}
+use Rattle.core_law.proofs.Deciding.{IsDone, Succeeds, accepts_succeeds, answers_succeeds, ends_put_succeeds, ends_reserve_succeeds}
+use Rattle.core_law.proofs.Deciding.{fetches_succeeds, gives_succeeds, grants_succeeds, hears_done_succeeds, refuses_succeeds}
+use Rattle.core_law.proofs.Deciding.{tells_succeeds, closes_succeeds, counts_succeeds, ends_keep_succeeds, ends_try_succeeds}
+use Rattle.core_law.proofs.Deciding.{fetches_part_succeeds, grants_try_succeeds, keeps_succeeds, looks_succeeds, refuses_part_succeeds}
 use Rattle.core_law.proofs.Events.{event_keeps}
 use Rattle.core_law.proofs.Resting.{alone_is_found, token_is_found}
 use Rattle.core_law.proofs.Seats.{IsMade}

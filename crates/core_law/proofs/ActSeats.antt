@@ -22,7 +22,13 @@ use Rattle.adlb_unit.specs.declared.names.BatchId.{BatchId}
 use Rattle.bag_ledger.specs.declared.entries.Entry.TheVariants as enters
 use Rattle.batch_store.specs.Store.{closed, fetched, is_due}
 use Rattle.batch_store.specs.declared.parts.Part.{Part}
-use Rattle.server_law.specs.Acts.{Act, Accepts, Checks_alone, Fails, Finds_alone, Gives_up, Hears_done, Hears_exhaust, Hears_failed, Hears_shutdown, Marks, Notes_own, Notices, Passes, Shuts_alone, Starts, Wants, Answers, Around, Asks_on, Closes, Counts, Declines, Drops_hint, Ends_keep, Ends_put, Ends_reserve, Ends_try, Fetches, Fetches_part, Finds, Gives, Grants, Grants_try, Heard, Hints, Is_hinted, Keeps, Looks, Notes_finish, Parks, Passes_on, Refuses, Refuses_part, ServerSaying, Shuts, Tells, Wakes, comes, entries, frees, of_rank, of_server, says, takes, Queries, Promises, Refuses_push, Sends_unit, Cancels, Stops_push, Ends_push, Arrives, Acks, Withdraws}
+use Rattle.server_law.specs.Acts.{Act, Accepts, Checks_alone, Fails, Finds_alone, Gives_up, Hears_done, Hears_exhaust, Hears_failed}
+use Rattle.server_law.specs.Acts.{Hears_shutdown, Marks, Notes_own, Notices, Passes, Shuts_alone, Starts, Wants, Answers, Around, Asks_on}
+use Rattle.server_law.specs.Acts.{Closes, Counts, Declines, Drops_hint, Ends_keep, Ends_put, Ends_reserve, Ends_try, Fetches, Fetches_part}
+use Rattle.server_law.specs.Acts.{Finds, Gives, Grants, Grants_try, Heard, Hints, Is_hinted, Keeps, Looks, Notes_finish, Parks, Passes_on}
+use Rattle.server_law.specs.Acts.{Refuses, Refuses_part, ServerSaying, Shuts, Tells, Wakes, comes, entries, frees, of_rank, of_server, says}
+use Rattle.server_law.specs.Acts.{takes, Queries, Promises, Refuses_push, Sends_unit, Cancels, Stops_push, Ends_push, Arrives, Acks}
+use Rattle.server_law.specs.Acts.{Withdraws}
 use Rattle.core_run.specs.World.{World, client_of, pool_of}
 use Rattle.core_law.specs.Acting.{AreFront, IsAct, acted}
 use Rattle.core_law.specs.Lawful.{IsAsked, IsFact, IsOfCall, IsSeat, IsWaiting, OfCall}

@@ -17,7 +17,8 @@ use Rattle.server_law.specs.State.{ServerModel, start as new_pool}
 use Rattle.core_run.specs.World.{Links, World, actors, link, pool_of, put_link}
 use Rattle.core_law.specs.Acting.{AreActs, AreFront, AreSaid, IsAct, IsOwn, acted, acted_all, behind_front, taken_off}
 use Rattle.core_law.specs.OnLinks.{Each, OnLinks}
-use Rattle.core_law.specs.Measures.{ActKeeps, IsBalanced, Weights, actor, due, heard_weight, links_weight, measure, said_weight, sends_weight, server_weight}
+use Rattle.core_law.specs.Measures.{ActKeeps, IsBalanced, Weights, actor, due, heard_weight, links_weight, measure, said_weight}
+use Rattle.core_law.specs.Measures.{sends_weight, server_weight}
 use Rattle.core_law.specs.Well.{IsShaped, IsSquare}
 use Rattle.core_law.proofs.Sums.{AreWithin, front_goes, place_actor, place_below, post_weight, square_post, square_put, weigh_at-set}
 use Rattle.core_law.proofs.UnderWay.{AllLinks, taken_links}

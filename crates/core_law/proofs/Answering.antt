@@ -1,5 +1,6 @@
 -- An act that answers a rank's pending call, and the seat of this rank.
-use Rattle.std.proofs.Common.{◌≡◌, ◌<◌, ◌+◌, ◌==◌, true, false, List, [], ◌∷◌, ◌++◌, length, Option, None, Some, refl, sym, ap, ◌∙◌, subst, ℕ, arith}
+use Rattle.std.proofs.Common.{◌≡◌, ◌<◌, ◌+◌, ◌==◌, true, false, List, [], ◌∷◌, ◌++◌, length, Option, None, Some, refl, sym, ap, ◌∙◌, subst}
+use Rattle.std.proofs.Common.{ℕ, arith}
 use Rattle.std.specs.Prelude.{All}
 use Rattle.std.proofs.lemmas.Bool.{eq-eqb, eqb-true, false_from_ne_true, ltb-true}
 use Rattle.std.proofs.lemmas.List.{get_or_at, length-append}
@@ -136,7 +137,8 @@ fetch_asked c (waits_for.Close to batch) k request id is = absurd (cc is.0)
 fetch_asked c (waits_for.Fetch to note) k request id is = let e = is.0 in (note, cc, cc, is.1)
 fetch_asked c (waits_for.SetDone to tried) k request id is = absurd (cc is.0)
 
-common_asked : (c : ClientModel) (p : Pending) (k : Server) (request : ℕ) (batch : BatchId) → IsAsked c p k (tells.FetchCommon request batch)
+common_asked : (c : ClientModel) (p : Pending) (k : Server) (request : ℕ) (batch : BatchId)
+    → IsAsked c p k (tells.FetchCommon request batch)
     → (note : UnitNote) × (common : CommonRef) × (own : List ℕ) × (p ≡ waits_for.Common request note common own) × (common.batch ≡ batch)
     × (k ≡ common.server)
 common_asked c waits_for.Nothing k request batch is = absurd is
@@ -362,7 +364,13 @@ pub close_here : (w : World) (k : Server) (a : Act) (b : Bag) (request : ℕ) (b
 close_here w k a b request batch accepted l is takes_it =
     let its = asked_call w k a b batch.rank (tells.CloseBatch request batch accepted) l is takes_it refl in
     let of = close_asked (client_of w batch.rank) (client_of w batch.rank).pending k request batch accepted its.2 in
-    record { common = of.0; calling = record { within = its.0; call = of.1; busy = refl; seat = its.1 }; named = of.2; count = of.3; here = of.4 }
+    record {
+      common = of.0;
+      calling = record { within = its.0; call = of.1; busy = refl; seat = its.1 };
+      named = of.2;
+      count = of.3;
+      here = of.4;
+    }
 
 -- a fetch of a common part that is here
 pub record IsCommonHere (w : World) (k : Server) (b : Bag) (rank : Rank) (request : ℕ) (batch : BatchId) : Type 0 where
@@ -379,7 +387,14 @@ pub common_here : (w : World) (k : Server) (a : Act) (b : Bag) (rank : Rank) (re
 common_here w k a b rank request batch l is takes_it =
     let its = asked_call w k a b rank (tells.FetchCommon request batch) l is takes_it refl in
     let of = common_asked (client_of w rank) (client_of w rank).pending k request batch its.2 in
-    record { note = of.0; common = of.1; own = of.2; calling = record { within = its.0; call = of.3; busy = refl; seat = its.1 }; named = of.4; here = of.5 }
+    record {
+      note = of.0;
+      common = of.1;
+      own = of.2;
+      calling = record { within = its.0; call = of.3; busy = refl; seat = its.1 };
+      named = of.4;
+      here = of.5;
+    }
 
 -- Counts.
 

@@ -15,7 +15,11 @@ use Rattle.bag_law.specs.Sound.{IsSoundBag}
 use Rattle.adlb_unit.specs.declared.names.BatchId.{BatchId}
 use Rattle.batch_store.specs.Store.{closed, fetched, is_due}
 use Rattle.batch_store.specs.declared.parts.Part.{Part}
-use Rattle.server_law.specs.Acts.{Act, Accepts, Answers, Asks_on, Closes, Declines, Drops_hint, Checks_alone, Fails, Fetches, Fetches_part, Finds, Finds_alone, Gives, Gives_up, Grants, Grants_try, Hears_done, Hears_exhaust, Hears_failed, Hears_shutdown, Hints, Is_hinted, Keeps, Marks, Notes_finish, Notes_own, Notices, Parks, Passes, Passes_on, Shuts, Shuts_alone, Starts, Wakes, Wants, entries, frees, Queries, Promises, Refuses_push, Sends_unit, Cancels, Stops_push, Ends_push, Arrives, Acks, Withdraws}
+use Rattle.server_law.specs.Acts.{Act, Accepts, Answers, Asks_on, Closes, Declines, Drops_hint, Checks_alone, Fails, Fetches, Fetches_part}
+use Rattle.server_law.specs.Acts.{Finds, Finds_alone, Gives, Gives_up, Grants, Grants_try, Hears_done, Hears_exhaust, Hears_failed}
+use Rattle.server_law.specs.Acts.{Hears_shutdown, Hints, Is_hinted, Keeps, Marks, Notes_finish, Notes_own, Notices, Parks, Passes}
+use Rattle.server_law.specs.Acts.{Passes_on, Shuts, Shuts_alone, Starts, Wakes, Wants, entries, frees, Queries, Promises, Refuses_push}
+use Rattle.server_law.specs.Acts.{Sends_unit, Cancels, Stops_push, Ends_push, Arrives, Acks, Withdraws}
 use Rattle.server_law.specs.Agreement.{ServerAgrees}
 use Rattle.server_law.specs.Legal.{ServersStay, keeper}
 use Rattle.server_law.specs.State.{ServerModel}
@@ -176,9 +180,11 @@ facts_after found b n (enters.Fetched server rank id) notes is step facts =
 facts_after found b n (enters.Kept server batch) notes is step facts =
     facts_same b n notes (ap (λ (x : Bag). x.units) (step.2 ∙ kept_is b server batch step.1)) facts
 facts_after found b n (enters.Closed server batch) notes is step facts = facts_same b n notes (ap (λ (x : Bag). x.units) step.2) facts
-facts_after found b n (enters.CommonFetched server rank batch) notes is step facts = facts_same b n notes (ap (λ (x : Bag). x.units) step.2) facts
+facts_after found b n (enters.CommonFetched server rank batch) notes is step facts =
+    facts_same b n notes (ap (λ (x : Bag). x.units) step.2) facts
 facts_after found b n (enters.Freed server batch) notes is step facts = facts_same b n notes (ap (λ (x : Bag). x.units) step.2) facts
-facts_after found b n (enters.Counted server rank call info) notes is step facts = facts_same b n notes (ap (λ (x : Bag). x.units) step.2) facts
+facts_after found b n (enters.Counted server rank call info) notes is step facts =
+    facts_same b n notes (ap (λ (x : Bag). x.units) step.2) facts
 facts_after found b n enters.Exhausted notes is step facts = facts_same b n notes (ap (λ (x : Bag). x.units) step.2) facts
 facts_after found b n (enters.Over rank call end) notes is step facts = facts_same b n notes (ap (λ (x : Bag). x.units) step.2) facts
 facts_after found b n (enters.Promised server id length) notes is step facts = facts_same b n notes (ap (λ (x : Bag). x.units) step.2) facts

@@ -15,7 +15,8 @@ use Rattle.rank_client.specs.Step.{Made}
 use Rattle.server_law.specs.Acts.{Act, Finds, Shuts}
 use Rattle.server_law.specs.State.{ServerModel}
 use Rattle.core_run.specs.World.{server_named}
-use Rattle.core_law.specs.Letters.{any_remote, any_remote_letter, call_letter, kinds, misfit, numbered, numbered_letter, one, one_letter, remotes, remotes_letter}
+use Rattle.core_law.specs.Letters.{any_remote, any_remote_letter, call_letter, kinds, misfit, numbered, numbered_letter, one, one_letter}
+use Rattle.core_law.specs.Letters.{remotes, remotes_letter}
 use Rattle.core_law.specs.Measures.{IsEven, weigh, weights}
 use Rattle.core_law.proofs.Kept.{IsLaw, RankKeeps}
 use Rattle.core_law.proofs.RankShapes.{Began, Heard, It_asks, It_leaves, It_rests, Then}
@@ -31,8 +32,10 @@ calls_even rank _ s = omega arith
 
 -- so it is of letters with the number of the call
 pub numbers_even : (rank : Rank) (next : ℕ) (a : Act) (s : ServerModel) → IsEven (numbered rank next) a s
-numbers_even rank next (Finds from t) s = let none = others_none (numbered_letter rank next) s.me s tells.Exhaust (λ to. refl) in omega arith
-numbers_even rank next (Shuts from t) s = let none = others_none (numbered_letter rank next) s.me s tells.Shutdown (λ to. refl) in omega arith
+numbers_even rank next (Finds from t) s =
+    let none = others_none (numbered_letter rank next) s.me s tells.Exhaust (λ to. refl) in omega arith
+numbers_even rank next (Shuts from t) s =
+    let none = others_none (numbered_letter rank next) s.me s tells.Shutdown (λ to. refl) in omega arith
 numbers_even rank next _ s = omega arith
 
 -- so it is of letters between a home and another server about a rank
@@ -64,7 +67,8 @@ kinds_heard config me s from m x h (It_rests r) = rw (r.sends, h.kind) refl
 kinds_heard config me s from m x h (It_asks a) = rw (a.sends, h.kind, a.request) refl
 kinds_heard config me s from m x h (It_leaves l) = absurd (cc (l.finished, h.stays))
 
-kinds_begun : (config : Config) (me : Rank) (s : ClientModel) (x : Made) → Began config me s x → Then s x → RankKeeps (kinds config) me s 0 x
+kinds_begun : (config : Config) (me : Rank) (s : ClientModel) (x : Made) → Began config me s x → Then s x
+    → RankKeeps (kinds config) me s 0 x
 kinds_begun config me s x b (It_rests r) = rw r.sends refl
 kinds_begun config me s x b (It_asks a) = rw (a.sends, a.request) refl
 kinds_begun config me s x b (It_leaves l) =

@@ -31,7 +31,8 @@ way_some id (v ∷ units) u found there = by_test (way_some id units u) (same_un
     count = sum_by-cons (λ (x : Lodged). one (is_travelling x.place && same_unit x.unit.id id)) v units
 
     by_test : (find (λ (x : Lodged). same_unit x.unit.id id) units ≡ Some u → is_travelling u.place ≡ true → 0 < on_way id units)
-        → (t : Bool) → same_unit v.unit.id id ≡ t → find (λ (x : Lodged). same_unit x.unit.id id) (v ∷ units) ≡ Some u → 0 < on_way id (v ∷ units)
+        → (t : Bool) → same_unit v.unit.id id ≡ t → find (λ (x : Lodged). same_unit x.unit.id id) (v ∷ units) ≡ Some u
+        → 0 < on_way id (v ∷ units)
     by_test rest true is found =
         let it : v ≡ u = some_is (rw is at found) in
         let travels : is_travelling v.place ≡ true = ap (λ (x : Lodged). is_travelling x.place) it ∙ there in

@@ -10,7 +10,8 @@ use Rattle.core_run.specs.declared.events.Event.{Event}
 use Rattle.core_run.specs.declared.events.Event.TheVariants as occurs
 use Rattle.core_run.specs.Runs.{run, transcript}
 use Rattle.core_run.specs.World.{World, post, start}
-use Rattle.core_law.proofs.Examples.{asked_in_vain, asks, brings, finishes, hears, illegal_from, ledger_after, rank, reserves, two_and_two, waiting_after}
+use Rattle.core_law.proofs.Examples.{asked_in_vain, asks, brings, finishes, hears, illegal_from, ledger_after, rank, reserves, two_and_two}
+use Rattle.core_law.proofs.Examples.{waiting_after}
 
 -- Rank 1 waits at its home, server 1. Rank 0 says that the problem is done: its home hears it, and then server 1, which tells rank 1. The
 -- call has its answer after both have heard it.

@@ -1,6 +1,7 @@
 -- What acts make of a server's ring and notices, of its stamps of activity, and of a server that is alone: no check runs there, and it is
 -- shut only where each rank has finished.
-use Rattle.std.proofs.Common.{◌≡◌, ◌≢◌, ◌≤◌, ◌<◌, ℕ, Bool, true, false, not, ◌||◌, List, [], ◌∷◌, length, Option, None, Some, refl, sym, ap, ◌∙◌, arith, eqb, zero-add}
+use Rattle.std.proofs.Common.{◌≡◌, ◌≢◌, ◌≤◌, ◌<◌, ℕ, Bool, true, false, not, ◌||◌, List, [], ◌∷◌, length, Option, None, Some, refl, sym, ap}
+use Rattle.std.proofs.Common.{◌∙◌, arith, eqb, zero-add}
 use Rattle.std.specs.Prelude.{All, IfSome, is_none}
 use Rattle.std.specs.List.{list_all, range_with_len}
 use Rattle.std.proofs.Math.Nat.{mod-one}
@@ -14,7 +15,9 @@ use Rattle.adlb_unit.specs.declared.tokens.Token.{Token}
 use Rattle.exhaust_ring.specs.Ring.{Asker, Ring, RingModel, begun, with_ring, with_tests}
 use Rattle.exhaust_ring.specs.Tests.{first_failing}
 use Rattle.exhaust_ring.specs.Visits.{Outcome, first_token, found_of, judged, judged_alone, started}
-use Rattle.server_law.specs.Acts.{Act, Checks_alone, Fails, Finds, Finds_alone, Gives_up, Hears_failed, Hears_shutdown, Marks, Notes_finish, Notes_own, Notices, Passes, Shuts, Shuts_alone, Starts, Wants, askers, check_alone, fit_among, finished_after, noted_after, ring_after, shut_after, tested_in}
+use Rattle.server_law.specs.Acts.{Act, Checks_alone, Fails, Finds, Finds_alone, Gives_up, Hears_failed, Hears_shutdown, Marks, Notes_finish}
+use Rattle.server_law.specs.Acts.{Notes_own, Notices, Passes, Shuts, Shuts_alone, Starts, Wants, askers, check_alone, fit_among}
+use Rattle.server_law.specs.Acts.{finished_after, noted_after, ring_after, shut_after, tested_in}
 use Rattle.server_law.specs.Endings.{is_quiet, rests}
 use Rattle.server_law.specs.State.{ServerModel, is_finished, is_home, ring_at}
 use Rattle.server_law.specs.Sure.{Sure}

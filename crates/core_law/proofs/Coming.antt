@@ -1,7 +1,8 @@
 -- What the entries of a server make of the rank whose request it handled: its answer comes back.
 use Rattle.core_law.proofs.Notes.{notes_in}
 use Rattle.core_law.proofs.TakenUnits.{facts_added, facts_moved, facts_of, facts_same}
-use Rattle.std.proofs.Common.{◌≡◌, ◌<◌, ℕ, ◌+◌, Bool, true, false, List, [], ◌∷◌, ◌++◌, length, Option, Some, None, refl, sym, ap, ◌∙◌, subst, find, get_or, append-nil, arith}
+use Rattle.std.proofs.Common.{◌≡◌, ◌<◌, ℕ, ◌+◌, Bool, true, false, List, [], ◌∷◌, ◌++◌, length, Option, Some, None, refl, sym, ap, ◌∙◌}
+use Rattle.std.proofs.Common.{subst, find, get_or, append-nil, arith}
 use Rattle.std.specs.Prelude.{All, option_and_then, Contains}
 use Rattle.std.proofs.lemmas.Bool.{eq-eqb}
 use Rattle.std.proofs.lemmas.List.Elements.{All-push, All-same, All-weaker, All-contains, Contains-push}
@@ -45,7 +46,8 @@ use Rattle.bag_ledger.proofs.Tests.{some_is}
 use Rattle.bag_ledger.proofs.Turns.{changed_here}
 use Rattle.rank_client.specs.declared.pendings.Pending.{Pending}
 use Rattle.rank_client.specs.declared.pendings.Pending.TheVariants as waits_for
-use Rattle.rank_client.specs.Agreement.{ClientAgrees, IsCaused, IsHeld, holds, in_call, note_coming, putting as rank_putting, ring_from, running, said, trying as rank_trying, HasAccepted, IsOwedIn, accepted_by}
+use Rattle.rank_client.specs.Agreement.{ClientAgrees, IsCaused, IsHeld, holds, in_call, note_coming, putting as rank_putting, ring_from}
+use Rattle.rank_client.specs.Agreement.{running, said, trying as rank_trying, HasAccepted, IsOwedIn, accepted_by}
 use Rattle.rank_client.specs.Rules.{asked, call_of, looks_at}
 use Rattle.rank_client.specs.State.{ClientModel}
 use Rattle.adlb_unit.specs.Ring.{behind}
@@ -111,8 +113,18 @@ pub decided_of : (c : ClientModel) (p : Pending) (a : Message) (b next : Bag) (e
 decided_of c p a b next es is going comes = of_pending (subst (λ (q : Pending). Comes c q a b next es) (sym is) comes)
   where
     of_pending : Comes c c.pending a b next es → Decided c a b next es
-    of_pending k =
-        (record { rank = rw going k.rank; servers = k.servers; caused = rw going k.caused; held = k.held; owed = k.owed; accepted = rw going k.accepted }, k.said, k.facts)
+    of_pending k = (
+      record {
+        rank = rw going k.rank;
+        servers = k.servers;
+        caused = rw going k.caused;
+        held = k.held;
+        owed = k.owed;
+        accepted = rw going k.accepted;
+      },
+      k.said,
+      k.facts,
+    )
 
 -- One entry.
 
@@ -169,7 +181,10 @@ over_comes c p b next request end w e run =
       said = e.said ∙ ap (λ l. c.transcript ++ l) (sym (one_call b e' c.me (record { call = e.call; answer = answers.Ended end }) told))
           ∙ ap (λ l. l ++ calls_from b (e' ∷ []) c.me) (sym e.before);
       owed = e.owed (with_rank c.me (overs end) b);
-      accepted = rw (e.batch, e.accepted) (accepted_same b (with_rank c.me (overs end) b) (in_call c p None).batch (accepted_by c p None) refl w.accepted);
+      accepted = rw (
+        e.batch,
+        e.accepted,
+      ) (accepted_same b (with_rank c.me (overs end) b) (in_call c p None).batch (accepted_by c p None) refl w.accepted);
       facts = rw e.notes (facts_same b (with_rank c.me (overs end) b) (c.handles ++ note_coming p None) refl w.facts);
     })
 
@@ -285,12 +300,14 @@ shared_is : (b : Bag) (o : Option CommonRef) → shared o b ≡ record b { parts
 shared_is b None = refl
 shared_is b (Some c) = refl
 
-one_more : (b : Bag) (n : Bag) (o : Option CommonRef) (k : ℕ) → n.parts ≡ shared_parts o b.parts → HasAccepted b o k → HasAccepted n o (k + 1)
+one_more : (b : Bag) (n : Bag) (o : Option CommonRef) (k : ℕ) → n.parts ≡ shared_parts o b.parts → HasAccepted b o k
+    → HasAccepted n o (k + 1)
 one_more b n None k same has = tt
 one_more b n (Some c) k same has = (
   record has.0 { accepted = has.0.accepted + 1 },
   ap (find (λ (p : Part). same_batch p.batch c.batch)) same
-      ∙ find_changed (λ (p : Part). record p { accepted = p.accepted + 1 }) (λ (p : Part). same_batch p.batch c.batch) (λ p. refl) b.parts has.0 has.1,
+      ∙ find_changed (λ (p : Part). record p { accepted = p.accepted + 1 }) (λ (p : Part). same_batch p.batch c.batch) (λ p. refl)
+      b.parts has.0 has.1,
   ap (λ m. m + 1) has.2,
 )
 

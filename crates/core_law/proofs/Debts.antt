@@ -1,5 +1,6 @@
 -- Between events no server owes an acknowledgement; so of each push that stands exactly one letter is under way.
-use Rattle.std.proofs.Common.{◌≡◌, ◌≢◌, ◌<◌, ℕ, ◌==◌, ◌&&◌, Bool, true, false, List, [], ◌∷◌, length, get_or, Option, None, Some, refl, sym, ap, ◌∙◌, subst, arith}
+use Rattle.std.proofs.Common.{◌≡◌, ◌≢◌, ◌<◌, ℕ, ◌==◌, ◌&&◌, Bool, true, false, List, [], ◌∷◌, length, get_or, Option, None, Some, refl, sym}
+use Rattle.std.proofs.Common.{ap, ◌∙◌, subst, arith}
 use Rattle.std.specs.Prelude.{is_some}
 use Rattle.std.proofs.lemmas.Bool.{eq-eqb, eqb-true, false_from_ne_true}
 use Rattle.std.proofs.lemmas.List.{get_or_default}
@@ -93,7 +94,8 @@ in_turn false true false = refl
 in_turn false false u = refl
 
 of_this : (a t : Server) (id : UnitId) (sent : Bool) (o : Option StandingPush)
-    → weight (λ (p : StandingPush). one (is_sent sent p.sent && is_push a t id a.0 p.to.0 p.id)) o ≡ one (some_push (is_push_as t id sent) o)
+    → weight (λ (p : StandingPush). one (is_sent sent p.sent && is_push a t id a.0 p.to.0 p.id)) o
+    ≡ one (some_push (is_push_as t id sent) o)
 of_this a t id sent None = refl
 of_this a t id sent (Some p) = rw (eq-eqb a.0 a.0 refl) (in_turn (is_sent sent p.sent) (p.to.0 == t.0) (same_unit p.id id))
 

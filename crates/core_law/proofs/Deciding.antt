@@ -1,5 +1,6 @@
 -- Each act that decides a rank's pending call: what it needs of the bag is so, and what it makes of the bag and of the rank.
-use Rattle.std.proofs.Common.{◌≡◌, ◌<◌, ℕ, Bool, true, false, ◌||◌, ◌⊎◌, inl, inr, List, [], ◌∷◌, length, Option, None, Some, refl, sym, ap, ◌∙◌, subst, arith}
+use Rattle.std.proofs.Common.{◌≡◌, ◌<◌, ℕ, Bool, true, false, ◌||◌, ◌⊎◌, inl, inr, List, [], ◌∷◌, length, Option, None, Some, refl, sym, ap}
+use Rattle.std.proofs.Common.{◌∙◌, subst, arith}
 use Rattle.std.specs.Prelude.{All, nat_lt}
 use Rattle.std.proofs.lemmas.Bool.{and_parts, false_from_ne_true, ltb-true}
 use Rattle.adlb_unit.specs.Targets.{home}
@@ -35,7 +36,9 @@ use Rattle.rank_client.specs.Agreement.{HasAccepted as HasAcceptedOf, in_call, s
 use Rattle.rank_client.specs.Expected.{IsAtServer, IsAwaited, IsNewNote}
 use Rattle.reserve_path.specs.declared.wishes.Wish.{Wish}
 use Rattle.server_law.specs.State.{ServerModel, is_home}
-use Rattle.server_law.specs.Acts.{Act, Accepts, Answers, Around, Closes, Counts, Ends_keep, Ends_put, Ends_reserve, Ends_try, Fetches, Fetches_part, Gives, Grants, Grants_try, Hears_done, Keeps, Looks, Refuses, Refuses_part, Tells, batch_of, entries, frees, unit_of as unit_named}
+use Rattle.server_law.specs.Acts.{Act, Accepts, Answers, Around, Closes, Counts, Ends_keep, Ends_put, Ends_reserve, Ends_try, Fetches}
+use Rattle.server_law.specs.Acts.{Fetches_part, Gives, Grants, Grants_try, Hears_done, Keeps, Looks, Refuses, Refuses_part, Tells, batch_of}
+use Rattle.server_law.specs.Acts.{entries, frees, unit_of as unit_named}
 use Rattle.server_law.specs.Agreement.{ServerAgrees}
 use Rattle.reserve_path.specs.Grants.{unit_with}
 use Rattle.server_law.specs.Finding.{best_for}
@@ -59,8 +62,12 @@ use Rattle.core_law.specs.Found.{found_in}
 use Rattle.core_law.specs.Lawful.{IsLawful, IsSeat}
 use Rattle.core_law.specs.Well.{IsWell}
 use Rattle.core_law.proofs.ActSeats.{about}
-use Rattle.core_law.proofs.Answering.{IsCalling, IsPutHere, IsReserveHere, IsTryHere, Replies, ask_call, fetch_here, idle_here, one_self, put_here, replies, reply_passes, reserve_here, try_here, waits_so, IsKeepHere, close_here, common_here, count_here, done_here, keep_here}
-use Rattle.core_law.proofs.Coming.{Comes, IsEnded, IsGranted, Waits, accepted_comes, counted_comes, fetched_comes, granted_comes, looked_comes, over_comes, put_ended, refused_comes, reserve_ended, reserve_granted, try_ended, try_granted, fetched_shares, keep_ended, told_comes}
+use Rattle.core_law.proofs.Answering.{IsCalling, IsPutHere, IsReserveHere, IsTryHere, Replies, ask_call, fetch_here, idle_here, one_self}
+use Rattle.core_law.proofs.Answering.{put_here, replies, reply_passes, reserve_here, try_here, waits_so, IsKeepHere, close_here}
+use Rattle.core_law.proofs.Answering.{common_here, count_here, done_here, keep_here}
+use Rattle.core_law.proofs.Coming.{Comes, IsEnded, IsGranted, Waits, accepted_comes, counted_comes, fetched_comes, granted_comes}
+use Rattle.core_law.proofs.Coming.{looked_comes, over_comes, put_ended, refused_comes, reserve_ended, reserve_granted, try_ended}
+use Rattle.core_law.proofs.Coming.{try_granted, fetched_shares, keep_ended, told_comes}
 use Rattle.core_law.proofs.PartComing.{closed_comes, common_comes, kept_comes, part_refused_comes, with_frees}
 use Rattle.core_law.proofs.TakenUnits.{is_taken, taken_gone}
 use Rattle.core_law.proofs.Ring.{not_tried}
@@ -289,7 +296,8 @@ module _ (w : World) (k : Server) (b : Bag) (well : IsWell w) (l : IsLawful w b)
       let c = client_of w wish.rank in
       let now = grant wish unit in
       let waits = waits_so w b wish.rank p well l calling in
-      decides_from from a wish.rank p now tells_of_it calling r (awaited (note_is_new wish.rank p unit granted.before calling u)) needs (λ n.
+      decides_from from a wish.rank p now tells_of_it calling r
+      (awaited (note_is_new wish.rank p unit granted.before calling u)) needs (λ n.
       subst (λ (es : List Entry). AreSteps es n → Comes c p now b n es) (sym entered)
       (renamed wish.rank p now n (λ x. enters.Granted me x wish.request unit.id ∷ []) calling
       (granted_comes c p wish.request me unit u.0 b n granted waits u.1 u.2 u.3)))
@@ -302,7 +310,8 @@ module _ (w : World) (k : Server) (b : Bag) (well : IsWell w) (l : IsLawful w b)
       → IsFreeAt b (pool_of w k).me unit → Replies w k a wish.rank (grant wish unit) from → HasNeeds a → Succeeds w k a b
   grants_wish from a wish unit tells_of_it entered calling at_home u r needs =
       grants from a wish unit (waits_for.Reserve wish.request wish.types) tells_of_it entered calling
-      (reserve_granted (client_of w wish.rank) wish.request wish.types wish.request (note_here unit)) (λ new. ((refl, at_home), new)) u r needs
+      (reserve_granted (client_of w wish.rank) wish.request wish.types wish.request (note_here unit))
+      (λ new. ((refl, at_home), new)) u r needs
 
   -- the best unit is free in the bag
   best_at : (wish : Wish) (unit : Work) → IsFound (best_for (pool_of w k).kept wish) unit → IsFreeAt b (pool_of w k).me unit
@@ -466,7 +475,8 @@ module _ (w : World) (k : Server) (b : Bag) (well : IsWell w) (l : IsLawful w b)
       (_, rank_is rank p h.calling, refl)
 
   -- this number of units of the batch that ends was accepted
-  accepted_now : (c : ClientModel) (common : CommonRef) (batch : BatchId) (accepted : ℕ) → HasAcceptedOf b c.batch c.accepted → c.batch ≡ Some common
+  accepted_now : (c : ClientModel) (common : CommonRef) (batch : BatchId) (accepted : ℕ) → HasAcceptedOf b c.batch c.accepted
+      → c.batch ≡ Some common
       → common.batch ≡ batch → accepted ≡ c.accepted → HasAccepted b batch accepted
   accepted_now c common batch accepted has is named count = λ p there.
       let its = subst (λ (o : Option CommonRef). HasAcceptedOf b o c.accepted) is has in

@@ -1,5 +1,6 @@
 -- What holds of letters and of each actor alone, at every moment of every run.
-use Rattle.std.proofs.Common.{◌≡◌, ◌<◌, ℕ, zero, suc, ◌+◌, Bool, true, false, cond, List, [], ◌∷◌, map, get_or, length, replicate, refl, sym, ap, ◌∙◌, subst, arith, eqb}
+use Rattle.std.proofs.Common.{◌≡◌, ◌<◌, ℕ, zero, suc, ◌+◌, Bool, true, false, cond, List, [], ◌∷◌, map, get_or, length, replicate, refl}
+use Rattle.std.proofs.Common.{sym, ap, ◌∙◌, subst, arith, eqb}
 use Rattle.std.specs.List.{range_with_len}
 use Rattle.std.proofs.lemmas.Bool.{lt-ltb}
 use Rattle.std.proofs.lemmas.List.{get_or-replicate, length-replicate}
@@ -21,7 +22,8 @@ use Rattle.core_run.specs.Runs.{Runs}
 use Rattle.core_run.specs.World.{Links, World, actors, after_rank, client_of, pool_of, rank_named, server_named, start, taken}
 use Rattle.core_law.specs.OnLinks.{Each}
 use Rattle.core_law.specs.Letters.{any_remote, finishes, kinds, numbered, one, one_letter, remotes}
-use Rattle.core_law.specs.Measures.{IsBalanced, Weights, due, link_weight, measure, push_weights, row_weight, server_weight, weigh_at, weights}
+use Rattle.core_law.specs.Measures.{IsBalanced, Weights, due, link_weight, measure, push_weights, row_weight, server_weight, weigh_at}
+use Rattle.core_law.specs.Measures.{weights}
 use Rattle.core_law.specs.Own.{AreOwn, IsClient, IsEntry, IsNote, IsWish}
 use Rattle.core_law.specs.Pushes.{pushing, pushing_to}
 use Rattle.core_law.specs.Well.{IsShaped, IsWell}

@@ -1,5 +1,6 @@
 -- Small runs, by computation.
-use Rattle.std.proofs.Common.{◌≡◌, ◌≤◌, ◌<◌, ℕ, ◌+◌, ◌-◌, ◌^◌, pos, Bool, true, false, List, map, [], ◌∷◌, ◌++◌, Option, Some, None, refl, replicate, length, arith}
+use Rattle.std.proofs.Common.{◌≡◌, ◌≤◌, ◌<◌, ℕ, ◌+◌, ◌-◌, ◌^◌, pos, Bool, true, false, List, map, [], ◌∷◌, ◌++◌, Option, Some, None, refl}
+use Rattle.std.proofs.Common.{replicate, length, arith}
 use Rattle.std.specs.Prelude.{option_and_then, take}
 use Rattle.std.specs.List.{range_with_len}
 use Rattle.std.specs.Option.{option_map}

@@ -1,5 +1,6 @@
 -- Each letter that is under way is expected.
-use Rattle.std.proofs.Common.{◌≡◌, ◌≢◌, ◌<◌, ◌≤◌, inl, inr, ℕ, ◌==◌, Bool, true, false, ◌&&◌, not, cond, List, [], ◌∷◌, ◌++◌, length, Option, Some, None, refl, sym, ap, ◌∙◌, subst, arith}
+use Rattle.std.proofs.Common.{◌≡◌, ◌≢◌, ◌<◌, ◌≤◌, inl, inr, ℕ, ◌==◌, Bool, true, false, ◌&&◌, not, cond, List, [], ◌∷◌, ◌++◌, length}
+use Rattle.std.proofs.Common.{Option, Some, None, refl, sym, ap, ◌∙◌, subst, arith}
 use Rattle.std.specs.Prelude.{All, IsSome, nat_lt, option_and_then}
 use Rattle.std.specs.Option.{option_map}
 use Rattle.std.proofs.lemmas.Bool.{and_from, and_parts, eq-eqb, eqb-true, false_from_ne_true, lt-ltb, ltb-true, or_cases}
@@ -58,7 +59,8 @@ use Rattle.core_run.specs.Runs.{NoneIsStuck, Runs, is_of_check, is_over}
 use Rattle.core_run.specs.World.{World, after_rank, after_server, client_of, handle, has_ended, link, pool_of, rank_named, start, taken}
 use Rattle.core_law.specs.Found.{found_in}
 use Rattle.core_law.specs.Lawful.{IsAsked, IsFact, IsLawful, OfCall}
-use Rattle.core_law.specs.Letters.{about, call_letter, finish_handled, finish_letter, finishes, fits_between, fits_link, is_finish, is_request, one, one_letter, remotes_letter}
+use Rattle.core_law.specs.Letters.{about, call_letter, finish_handled, finish_letter, finishes, fits_between, fits_link, is_finish}
+use Rattle.core_law.specs.Letters.{is_request, one, one_letter, remotes_letter}
 use Rattle.core_law.specs.Measures.{measure, weights}
 use Rattle.core_law.specs.Own.{IsOffer, NoneOwes}
 use Rattle.core_law.specs.Pushed.{IsOfPush, OfPush}
@@ -205,7 +207,8 @@ request_awaited c (waits_for.Fetch request note) b s m w sound a same asked runs
 request_awaited c (waits_for.Common request note common own) b s m w sound a same asked runs =
     subst (IsAwaitedHere s c.me) (sym asked.0) (common_awaited c request note common own b s w sound a asked.1)
 request_awaited c (waits_for.Keep request common first tried) b s m w sound a same asked runs =
-    let new = begun_is_new b sound (batch_of c.me request) (in_call c (waits_for.Keep request common first tried) None) common w.rank refl in
+    let new =
+    begun_is_new b sound (batch_of c.me request) (in_call c (waits_for.Keep request common first tried) None) common w.rank refl in
     let none : part_in s.kept.parts (batch_of c.me request) ≡ None =
     a.parts (batch_of c.me request) ∙ ap (λ o. option_and_then (part_at s.me) o) new in
     subst (IsAwaitedHere s c.me) (sym asked.0) (none, w.call.2)
@@ -303,7 +306,8 @@ to_server w b from me letter rest well l inside here small still front =
           let agrees = l.pools me here in
           let same = pool.config ∙ sym own.config in
           let done : one c.finished ≡ 0 = ap one going in
-          from_runner w from me letter rest well inside here small front (omega arith) still (flag_off (is_finished s.kept from) (omega arith))
+          from_runner w from me letter rest well inside here small front (omega arith) still
+          (flag_off (is_finished s.kept from) (omega arith))
           (subst (λ (r : Rank). RunsHere s r → IsAwaitedHere s r m) seat.named
           (request_awaited c c.pending b s m waits sound agrees same asked))
       | inr leaves ↦
@@ -315,7 +319,8 @@ to_server w b from me letter rest well l inside here small still front =
           let none : one (not (is_idle c.pending)) ≡ 0 = ap (λ p. one (not (is_idle p))) (own.rests gone) in
           let weighs_no_call : call_letter from (by.Rank from) (by.Server me) m ≡ 0 =
           ap (λ (x : Message). call_letter from (by.Rank from) (by.Server me) x) is in
-          from_runner w from me letter rest well inside here small front (omega arith) still (flag_off (is_finished s.kept from) (omega arith))
+          from_runner w from me letter rest well inside here small front (omega arith) still
+          (flag_off (is_finished s.kept from) (omega arith))
           (λ runs. subst (IsAwaitedHere s from) (sym is) runs)
     ]
   where
@@ -457,7 +462,8 @@ handled_here : (w : World) (b : Bag) (from to : Actor) (letter : Letter) (rest :
 handled_here w b (by.Rank from) (by.Rank to) letter rest well l paid f t small going plain front =
     let kind : false ≡ true = fits w (by.Rank from) (by.Rank to) letter rest well f t front in absurd (cc)
 handled_here w b (by.Server from) (by.Server to) letter rest well l paid f t small going plain front =
-    between w b from to letter rest well l paid (ltb-true from.0 w.config.servers f) (ltb-true to.0 w.config.servers t) small going plain front
+    between w b from to letter rest well l paid (ltb-true from.0 w.config.servers f) (ltb-true to.0 w.config.servers t) small
+    going plain front
 handled_here w b (by.Rank from) (by.Server to) letter rest well l paid f t small going plain front =
     to_server w b from to letter rest well l (ltb-true from.0 w.config.ranks f) (ltb-true to.0 w.config.servers t) small going front
 handled_here w b (by.Server from) (by.Rank to) letter rest well l paid f t small going plain front =

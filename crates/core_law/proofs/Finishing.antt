@@ -1,5 +1,6 @@
 -- A rank's Finish letter to a server, or that the server handled it, is as often there as the rank has finished.
-use Rattle.std.proofs.Common.{◌≡◌, ◌≤◌, ◌<◌, ℕ, zero, suc, ◌+◌, Bool, true, false, cond, ◌&&◌, List, map, set, get_or, length, refl, sym, ap, arith, eqb, inl, inr, ◌⊎◌, ◌≢◌}
+use Rattle.std.proofs.Common.{◌≡◌, ◌≤◌, ◌<◌, ℕ, zero, suc, ◌+◌, Bool, true, false, cond, ◌&&◌, List, map, set, get_or, length, refl, sym}
+use Rattle.std.proofs.Common.{ap, arith, eqb, inl, inr, ◌⊎◌, ◌≢◌}
 use Rattle.std.specs.List.{range_with_len}
 use Rattle.std.proofs.lemmas.Bool.{cases_eq, eq-eqb, eqb-true, false_from_ne_true}
 use Rattle.std.proofs.lemmas.Bool.Decides.{nat_tests}

@@ -1,5 +1,6 @@
 -- In every run the letters on each link stand in line.
-use Rattle.std.proofs.Common.{◌≡◌, ◌≢◌, ◌≤◌, ◌<◌, ℕ, ◌+◌, max, Bool, true, List, [], ◌∷◌, ◌++◌, length, get_or, replicate, refl, sym, ap, ◌∙◌, subst, arith}
+use Rattle.std.proofs.Common.{◌≡◌, ◌≢◌, ◌≤◌, ◌<◌, ℕ, ◌+◌, max, Bool, true, List, [], ◌∷◌, ◌++◌, length, get_or, replicate, refl, sym, ap}
+use Rattle.std.proofs.Common.{◌∙◌, subst, arith}
 use Rattle.std.proofs.lemmas.Bool.{lt-ltb, ltb-true}
 use Rattle.std.proofs.lemmas.List.{get_or-replicate, length-replicate, length-set}
 use Rattle.adlb_unit.specs.Links.{is_within, place_of}
@@ -26,7 +27,8 @@ use Rattle.core_law.proofs.Actors.{client_beside, client_there, every_client, ev
 use Rattle.core_law.proofs.Acts.{acts_keep, sent_within, taken_off_links, taken_square}
 use Rattle.core_law.proofs.Chains.{pool_is}
 use Rattle.core_law.proofs.Events.{event_chain}
-use Rattle.core_law.proofs.EveryRun.{answer_heard, answer_within, begins_well, call_began, call_within, client_at, inside_ranks, pool_at, same_always, well_kept}
+use Rattle.core_law.proofs.EveryRun.{answer_heard, answer_within, begins_well, call_began, call_within, client_at, inside_ranks, pool_at}
+use Rattle.core_law.proofs.EveryRun.{same_always, well_kept}
 use Rattle.core_law.proofs.Fifo.{letters_for}
 use Rattle.core_law.proofs.Posting.{IsPosted, joined_places, joined_stamps, none_posted, sayings_posted}
 use Rattle.core_law.proofs.Stamping.{RankPosts, made_posts}

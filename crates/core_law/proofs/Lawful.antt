@@ -1,5 +1,6 @@
 -- In every run the ledger is a legal run of the bag, in which each rank has its seat and with which each server agrees.
-use Rattle.std.proofs.Common.{◌≡◌, ◌<◌, ℕ, zero, suc, List, [], ◌∷◌, Option, Some, None, refl, sym, ap, ◌∙◌, subst, arith, append-nil, slice_get, replicate}
+use Rattle.std.proofs.Common.{◌≡◌, ◌<◌, ℕ, zero, suc, List, [], ◌∷◌, Option, Some, None, refl, sym, ap, ◌∙◌, subst, arith, append-nil}
+use Rattle.std.proofs.Common.{slice_get, replicate}
 use Rattle.std.specs.Prelude.{option_and_then}
 use Rattle.std.proofs.lemmas.List.Elements.{All-nil}
 use Rattle.adlb_unit.specs.declared.configs.Config.{Config}
@@ -116,7 +117,8 @@ every_run_lawful config events w run =
 abbrev IsLedger : Config → World → Bag → Type 0
 IsLedger config w b = IsRunWhere (found_in config) (empty_bag config) w.ledger b
 
-ledger_is : (config : Config) (events : List Event) (w : World) (b : Bag) → Runs (start config) events w → IsLawful w b → IsLedger config w b
+ledger_is : (config : Config) (events : List Event) (w : World) (b : Bag) → Runs (start config) events w → IsLawful w b
+    → IsLedger config w b
 ledger_is config events w b run l = subst (λ (k : Config). IsLedger k w b) (run_config (start config) w events run) l.run
 
 -- in every run the ledger leads to a bag

@@ -11,7 +11,8 @@ use Rattle.server_law.specs.Step.{raised, ticked}
 use Rattle.core_run.specs.World.{World, pool_of}
 use Rattle.core_law.specs.Acting.{IsAct, IsOwn, acted, ticks}
 use Rattle.core_law.specs.Letters.{any_remote, finishes, kinds, numbered, one_letter, remotes}
-use Rattle.core_law.specs.Measures.{Balance, IsBalanced, IsEven, IsEvenPush, PushBalance, Weights, due, measure, push_weights, server_weight, weigh_at, weights}
+use Rattle.core_law.specs.Measures.{Balance, IsBalanced, IsEven, IsEvenPush, PushBalance, Weights, due, measure, push_weights}
+use Rattle.core_law.specs.Measures.{server_weight, weigh_at, weights}
 use Rattle.core_law.specs.Own.{IsPool}
 use Rattle.core_law.specs.Pushes.{pushing, pushing_to}
 use Rattle.core_law.specs.Well.{IsWell}
@@ -106,7 +107,8 @@ if_noted_later : (noted : Option ℕ) (before now : ℕ) → before ≤ now → 
 if_noted_later None before now later was = tt
 if_noted_later (Some n) before now later was = omega arith
 
-tick_pool : (config : Config) (me : Server) (s : ServerModel) (stamp : ℕ) (up : Bool) → IsPool config me s → IsPool config me (ticked s stamp up)
+tick_pool : (config : Config) (me : Server) (s : ServerModel) (stamp : ℕ) (up : Bool) → IsPool config me s
+    → IsPool config me (ticked s stamp up)
 tick_pool config me s stamp up own = record {
   config = own.config;
   me = own.me;

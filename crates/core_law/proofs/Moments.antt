@@ -46,7 +46,8 @@ idle_rank : (c : ClientModel) (coming : Option Message) (f : _) → c.pending �
 idle_rank c coming true idle = refl
 idle_rank c coming false idle = ap (λ p. in_call c p coming) idle ∙ sym (ap (λ p. in_call c p None) idle)
 
-idle_accepted : (c : ClientModel) (coming : Option Message) → c.pending ≡ waits_for.Nothing → accepted_by c c.pending coming ≡ accepted_by c c.pending None
+idle_accepted : (c : ClientModel) (coming : Option Message) → c.pending ≡ waits_for.Nothing
+    → accepted_by c c.pending coming ≡ accepted_by c c.pending None
 idle_accepted c coming idle = ap (λ p. accepted_by c p coming) idle ∙ sym (ap (λ p. accepted_by c p None) idle)
 
 idle_stands : (c : ClientModel) (coming : Option Message) (b : Bag) → c.pending ≡ waits_for.Nothing → ClientAgrees c coming b

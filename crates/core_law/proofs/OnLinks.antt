@@ -11,7 +11,8 @@ use Rattle.server_law.specs.Acts.{Act, does, says, takes}
 use Rattle.server_law.specs.Carried.{sends}
 use Rattle.core_run.specs.World.{Links, World, actors, link, pool_of, row}
 use Rattle.core_law.specs.Acting.{IsAct, IsOwn, acted, taken_off}
-use Rattle.core_law.specs.Measures.{Weights, actor, heard_weight, link_weight, links_weight, row_weight, said_weight, sends_weight, weigh, weigh_at}
+use Rattle.core_law.specs.Measures.{Weights, actor, heard_weight, link_weight, links_weight, row_weight, said_weight, sends_weight, weigh}
+use Rattle.core_law.specs.Measures.{weigh_at}
 use Rattle.core_law.specs.OnLinks.{Each, OnLinks}
 use Rattle.core_law.specs.Well.{IsShaped, IsSquare}
 use Rattle.core_law.proofs.Acts.{sent_weight, sent_within, taken_square, taken_weight}

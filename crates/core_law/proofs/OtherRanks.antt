@@ -1,5 +1,6 @@
 -- A client stands for its rank after a step that is about another.
-use Rattle.std.proofs.Common.{◌≡◌, ◌≢◌, ℕ, zero, suc, ◌+◌, ◌==◌, find, inl, inr, Bool, true, false, List, [], ◌∷◌, ◌++◌, Option, Some, None, refl, sym, ap, ◌∙◌, subst, slice_get}
+use Rattle.std.proofs.Common.{◌≡◌, ◌≢◌, ℕ, zero, suc, ◌+◌, ◌==◌, find, inl, inr, Bool, true, false, List, [], ◌∷◌, ◌++◌, Option, Some, None}
+use Rattle.std.proofs.Common.{refl, sym, ap, ◌∙◌, subst, slice_get}
 use Rattle.std.specs.Prelude.{option_and_then}
 use Rattle.std.proofs.lemmas.Bool.{eq-eqb}
 use Rattle.std.proofs.lemmas.List.Elements.{All-weaker}
@@ -63,7 +64,8 @@ record KeepsUnits (me : Rank) (b next : Bag) : Type 0 where
   part : (batch : BatchId) (p : Part) → batch.rank.0 ≡ me.0 → part_of b batch ≡ Some p
       → (q : Part) × (part_of next batch ≡ Some q) × (q.accepted ≡ p.accepted)
 
-still_owed : (me : Rank) (b next : Bag) (note : UnitNote) (common : CommonRef) (own : List ℕ) → KeepsUnits me b next → IsOwed b note common own
+still_owed : (me : Rank) (b next : Bag) (note : UnitNote) (common : CommonRef) (own : List ℕ) → KeepsUnits me b next
+    → IsOwed b note common own
     → IsOwed next note common own
 still_owed me b next note common own k is =
     let v = k.unit note.id is.0 is.1 in
@@ -85,7 +87,8 @@ owed_after me b next (waits_for.Close request batch) coming k done is = tt
 owed_after me b next (waits_for.Count request kind) coming k done is = tt
 owed_after me b next (waits_for.SetDone request tried) coming k done is = done is
 
-accepted_after : (me : Rank) (b next : Bag) (o : Option CommonRef) (n : ℕ) → ((c : CommonRef) → o ≡ Some c → c.batch.rank.0 ≡ me.0) → KeepsUnits me b next
+accepted_after : (me : Rank) (b next : Bag) (o : Option CommonRef) (n : ℕ) → ((c : CommonRef) → o ≡ Some c → c.batch.rank.0 ≡ me.0)
+    → KeepsUnits me b next
     → HasAccepted b o n → HasAccepted next o n
 accepted_after me b next None n own k is = tt
 accepted_after me b next (Some c) n own k is = let q = k.part c.batch is.0 (own c refl) is.1 in (q.0, q.1, q.2 ∙ is.2)
@@ -188,7 +191,8 @@ apart me other is e = let yes_is : (other.0 == me.0) ≡ true = eq-eqb other.0 m
 
 entry_leaves : (found : Bag → Bool) (me : Rank) (b : Bag) (e : Entry) → StepsWhere found b e (after b e)
     → tells_of me (teller e) ≡ false → Leaves me b (after b e)
-entry_leaves found me b (enters.Putting rank call kind prio target answer body) s is = then_rank me rank _ b b (apart me rank is) (same me b)
+entry_leaves found me b (enters.Putting rank call kind prio target answer body) s is =
+    then_rank me rank _ b b (apart me rank is) (same me b)
 entry_leaves found me b (enters.Refused server id used) s is = then_rank me id.rank _ b b (apart me id.rank is) (same me b)
 entry_leaves found me b (enters.Accepted server id) s is =
     then_rank me id.rank _ b _ (apart me id.rank is)
@@ -238,7 +242,8 @@ unit_kept : (found : Bag → Bool) (b : Bag) (e : Entry) (id : UnitId) (u : Lodg
 unit_kept found b (enters.Accepted server x) id u l there =
     let a = accepted_is b server x l in (
       u,
-      ap (find (λ (v : Lodged). same_unit v.unit.id id)) a.units ∙ find_before (λ (v : Lodged). same_unit v.unit.id id) b.units (record { unit = a.u; place = Free server } ∷ []) u there,
+      ap (find (λ (v : Lodged). same_unit v.unit.id id)) a.units
+          ∙ find_before (λ (v : Lodged). same_unit v.unit.id id) b.units (record { unit = a.u; place = Free server } ∷ []) u there,
       refl,
     )
 unit_kept found b (enters.Kept server batch) id u l there = (u, ap (λ (n : Bag). unit_of n id) (kept_is b server batch l) ∙ there, refl)
@@ -249,7 +254,8 @@ unit_kept found b (enters.Arrived server x) id u l there = moved_keeps b x id (F
 unit_kept found b _ id u l there = (u, there, refl)
 
 -- a change that leaves the count
-count_kept : (b : Bag) (batch x : BatchId) (g : Part → Part) → ((p : Part) → (g p).batch ≡ p.batch) → ((p : Part) → (g p).accepted ≡ p.accepted)
+count_kept : (b : Bag) (batch x : BatchId) (g : Part → Part) → ((p : Part) → (g p).batch ≡ p.batch)
+    → ((p : Part) → (g p).accepted ≡ p.accepted)
     → (p : Part) → part_of b x ≡ Some p → (q : Part) × (part_of (with_part batch g b) x ≡ Some q) × (q.accepted ≡ p.accepted)
 count_kept b batch x g same counts p there = by_is (part_is g same batch x b.parts p there)
   where
@@ -265,7 +271,8 @@ part_counted found me b (enters.Accepted server id) batch p sound l is own there
   where
     by_common : (a : IsAccepted b (after b (enters.Accepted server id)) server id) → (o : Option CommonRef) → a.u.common ≡ o
         → (q : Part) × (part_of (after b (enters.Accepted server id)) batch ≡ Some q) × (q.accepted ≡ p.accepted)
-    by_common a None shares = (p, ap (find (λ (x : Part). same_batch x.batch batch)) (a.parts ∙ ap (λ o. shared_parts o b.parts) shares) ∙ there, refl)
+    by_common a None shares =
+        (p, ap (find (λ (x : Part). same_batch x.batch batch)) (a.parts ∙ ap (λ o. shared_parts o b.parts) shares) ∙ there, refl)
     by_common a (Some c) shares =
         let g : Part → Part = λ x. record x { accepted = x.accepted + 1 } in
         let named = sound.batches.brought id.rank.0 a.r a.there in
@@ -283,7 +290,8 @@ part_counted found me b (enters.Accepted server id) batch p sound l is own there
         )
 part_counted found me b (enters.Kept server x) batch p sound l is own there = (
   p,
-  ap (λ (n : Bag). part_of n batch) (kept_is b server x l) ∙ find_before (λ (q : Part). same_batch q.batch batch) b.parts (new_part server x l.1 ∷ []) p there,
+  ap (λ (n : Bag). part_of n batch) (kept_is b server x l)
+      ∙ find_before (λ (q : Part). same_batch q.batch batch) b.parts (new_part server x l.1 ∷ []) p there,
   refl,
 )
 part_counted found me b (enters.Closed server x) batch p sound l is own there =

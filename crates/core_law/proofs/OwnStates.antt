@@ -1,5 +1,6 @@
 -- A server's own state through an act, and that what the act takes and says is of a kind that goes there.
-use Rattle.std.proofs.Common.{◌≡◌, ◌≢◌, ◌≤◌, ◌<◌, ◌+◌, ◌-◌, ℕ, ◌==◌, inl, inr, Bool, true, false, not, ◌&&◌, ◌||◌, List, [], ◌∷◌, ◌++◌, length, map, refl, sym, ap, ◌∙◌, subst, arith}
+use Rattle.std.proofs.Common.{◌≡◌, ◌≢◌, ◌≤◌, ◌<◌, ◌+◌, ◌-◌, ℕ, ◌==◌, inl, inr, Bool, true, false, not, ◌&&◌, ◌||◌, List, [], ◌∷◌, ◌++◌}
+use Rattle.std.proofs.Common.{length, map, refl, sym, ap, ◌∙◌, subst, arith}
 use Rattle.std.specs.Prelude.{All, IfSome, Option, nat_lt}
 use Rattle.std.proofs.lemmas.Bool.{and_from, and_parts, eq-eqb, eqb-true, false_from_ne_true, lt-ltb, ltb-true, not-true}
 use Rattle.std.proofs.lemmas.List.{length-set}
@@ -27,7 +28,13 @@ use Rattle.reserve_path.specs.Calls.{has_server}
 use Rattle.reserve_path.specs.Parked.{IsOther, is_by}
 use Rattle.reserve_path.specs.declared.wishes.Wish.{Wish}
 use Rattle.reserve_path.proofs.Others.{all_others}
-use Rattle.server_law.specs.Acts.{Accepts, Acks, Act, Answers, Arrives, Asks_on, Cancels, Closes, Counts, Declines, Ends_keep, Ends_push, Ends_put, Ends_reserve, Ends_try, Fails, Fetches, Fetches_part, Finds, Gives, Grants, Grants_try, Heard, Hears_done, Hears_shutdown, Hints, Is_hinted, Keeps, Looks, Marks, Notes_finish, Notices, Parks, Passes, Passes_on, Promises, Queries, Refuses, Refuses_part, Refuses_push, Sends_unit, ServerSaying, Shuts, Starts, Stops_push, Tells, Wakes, Withdraws, askers, comes, debts, does, finished_after, goes, onward, ring_after, says, shut_after, takes, to_others, to_server, zeroth, turned, turns, unwished, waiting_after, wishes_after}
+use Rattle.server_law.specs.Acts.{Accepts, Acks, Act, Answers, Arrives, Asks_on, Cancels, Closes, Counts, Declines, Ends_keep, Ends_push}
+use Rattle.server_law.specs.Acts.{Ends_put, Ends_reserve, Ends_try, Fails, Fetches, Fetches_part, Finds, Gives, Grants, Grants_try, Heard}
+use Rattle.server_law.specs.Acts.{Hears_done, Hears_shutdown, Hints, Is_hinted, Keeps, Looks, Marks, Notes_finish, Notices, Parks, Passes}
+use Rattle.server_law.specs.Acts.{Passes_on, Promises, Queries, Refuses, Refuses_part, Refuses_push, Sends_unit, ServerSaying, Shuts}
+use Rattle.server_law.specs.Acts.{Starts, Stops_push, Tells, Wakes, Withdraws, askers, comes, debts, does, finished_after, goes, onward}
+use Rattle.server_law.specs.Acts.{ring_after, says, shut_after, takes, to_others, to_server, zeroth, turned, turns, unwished, waiting_after}
+use Rattle.server_law.specs.Acts.{wishes_after}
 use Rattle.server_law.specs.Carried.{all_counted, counted, done}
 use Rattle.server_law.specs.State.{Debt, Kept, ServerModel, is_finished, is_home, is_waiting, ring_at, runs}
 use Rattle.server_law.specs.Sure.{IsFailing, SitsIn, Sure}
@@ -440,8 +447,10 @@ said_fits config me Notices s here own fit sits sure hints = (zeroth_fits config
 said_fits config me Starts s here own fit sits sure hints =
     let several : config.servers ≢ 1 = λ alone. sure.1 (ap (λ (c : Config). c.servers) own.config ∙ alone) in
     (onward_fits config me s (token (s.kept.ring.check + 1) 1 (askers s.kept)) here own several, tt)
-said_fits config me (Marks from t) s here own fit sits sure hints =
-    (onward_fits config me s (token t.check t.wave (t.asked ++ askers s.kept)) here own (not_alone config me from _ here fit.0.0 fit.0.1), tt)
+said_fits config me (Marks from t) s here own fit sits sure hints = (
+  onward_fits config me s (token t.check t.wave (t.asked ++ askers s.kept)) here own (not_alone config me from _ here fit.0.0 fit.0.1),
+  tt,
+)
 said_fits config me (Passes from t) s here own fit sits sure hints =
     (onward_fits config me s (token t.check 2 t.asked) here own (not_alone config me from _ here fit.0.0 fit.0.1), tt)
 said_fits config me (Fails from t why) s here own fit sits sure hints =

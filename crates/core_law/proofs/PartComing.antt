@@ -1,5 +1,6 @@
 -- What the entries of a server make of the rank whose batch begins or ends, or that fetches common bytes.
-use Rattle.std.proofs.Common.{◌≡◌, inl, inr, ◌+◌, ℕ, Bool, true, false, cond, List, [], ◌∷◌, ◌++◌, length, Option, Some, None, refl, sym, ap, ◌∙◌, find, append-nil}
+use Rattle.std.proofs.Common.{◌≡◌, inl, inr, ◌+◌, ℕ, Bool, true, false, cond, List, [], ◌∷◌, ◌++◌, length, Option, Some, None, refl, sym}
+use Rattle.std.proofs.Common.{ap, ◌∙◌, find, append-nil}
 use Rattle.std.specs.Prelude.{option_and_then}
 use Rattle.adlb_unit.specs.Ids.{same_batch, same_unit}
 use Rattle.bag_ledger.specs.declared.states.Placed.{Placed as Lodged}
@@ -36,15 +37,21 @@ use Rattle.core_law.proofs.TakenUnits.{facts_same}
 -- A part is freed after the entry, if it is due then.
 
 -- the counts of a rank's batch, where a part is changed and its count is not
-accepted_turned : (b : Bag) (batch : BatchId) (g : Lot → Lot) → ((p : Lot) → (g p).batch ≡ p.batch) → ((p : Lot) → (g p).accepted ≡ p.accepted)
+accepted_turned : (b : Bag) (batch : BatchId) (g : Lot → Lot) → ((p : Lot) → (g p).batch ≡ p.batch)
+    → ((p : Lot) → (g p).accepted ≡ p.accepted)
     → (o : Option CommonRef) (n : ℕ) → HasAccepted b o n → HasAccepted (with_part batch g b) o n
 accepted_turned b batch g same counts None n has = tt
 accepted_turned b batch g same counts (Some c) n has = by_is (part_is g same batch c.batch b.parts has.0 has.1)
   where
     by_is : PartIs g batch c.batch b.parts has.0 → HasAccepted (with_part batch g b) (Some c) n
-    by_is w = (w.0, w.1, elim w.2 [ inl is ↦ ap (λ (x : Lot). x.accepted) is ∙ has.2 | inr is ↦ ap (λ (x : Lot). x.accepted) is.1 ∙ counts has.0 ∙ has.2 ])
+    by_is w = (
+      w.0,
+      w.1,
+      elim w.2 [ inl is ↦ ap (λ (x : Lot). x.accepted) is ∙ has.2 | inr is ↦ ap (λ (x : Lot). x.accepted) is.1 ∙ counts has.0 ∙ has.2 ],
+    )
 
-owed_same : (b n : Bag) (p : Pending) (coming : Option Message) → n.units ≡ b.units → n.done ≡ b.done → IsOwedIn b p coming → IsOwedIn n p coming
+owed_same : (b n : Bag) (p : Pending) (coming : Option Message) → n.units ≡ b.units → n.done ≡ b.done → IsOwedIn b p coming
+    → IsOwedIn n p coming
 owed_same b n (waits_for.Fetch request note) (Some (tells.Bytes to own)) same alike is = λ common shares. let o = is common shares in
     (o.0, ap (λ units. find (λ (u : Lodged). same_unit u.unit.id note.id) units) same ∙ o.1, o.2, o.3)
 owed_same b n (waits_for.Common request note common own) coming same alike is =
@@ -106,7 +113,8 @@ kept_comes c request common first tried me b next w is new run =
     let s = single b next e run in
     let lot = new_part me batch common in
     let more : Bag = record b { parts = b.parts ++ lot ∷ [] } in
-    let begins : RankState → RankState = λ r. ended (record r { batch = Some (record { batch = batch; server = me; length = length common }) }) in
+    let begins : RankState → RankState =
+    λ r. ended (record r { batch = Some (record { batch = batch; server = me; length = length common }) }) in
     let d : Bag = with_rank c.me begins more in
     let brought : option_and_then (λ (r : RankState). kept_call r.status) (rank_at b c.me) ≡ Some (request, common) = rw w.rank refl in
     let now : next ≡ d = s.1 ∙ ap (λ o. kept me batch o b) brought in
@@ -125,10 +133,12 @@ kept_comes c request common first tried me b next w is new run =
     })
 
 -- the beginning of a batch whose part is refused
-pub part_refused_comes : (c : ClientModel) (request : ℕ) (common : List ℕ) (first : Server) (tried : ℕ) (me : Server) (b next : Bag) (used : ℕ)
+pub part_refused_comes : (c : ClientModel) (request : ℕ) (common : List ℕ) (first : Server) (tried : ℕ) (me : Server)
+    (b next : Bag) (used : ℕ)
     → Waits c (waits_for.Keep request common first tried) b → me ≡ asked c first tried
     → IsRun b (enters.Refused me (unit_named c.me request) used ∷ []) next
-    → Comes c (waits_for.Keep request common first tried) (tells.Full request used) b next (enters.Refused me (unit_named c.me request) used ∷ [])
+    → Comes c (waits_for.Keep request common first tried) (tells.Full request used) b next
+    (enters.Refused me (unit_named c.me request) used ∷ [])
 part_refused_comes c request common first tried me b next used w is run =
     let e = enters.Refused me (unit_named c.me request) used in
     let s = single b next e run in
@@ -136,7 +146,8 @@ part_refused_comes c request common first tried me b next used w is run =
     let none : says b e ≡ None = refl in
     rw (s.1) (record {
       rank = rank_changed b c.me (declined_by me) (rank_keeping c request common first tried) w.rank
-          ∙ ap (λ l. Some (record (running c) { status = does.Keeping request common; declined = l })) (ring_next c.config first tried me is);
+          ∙ ap (λ l. Some (record (running c) { status = does.Keeping request common; declined = l }))
+          (ring_next c.config first tried me is);
       servers = w.servers;
       caused = w.caused;
       held = w.held;
@@ -176,7 +187,8 @@ closed_comes c request common batch me b next w own run =
 -- Common bytes come.
 
 -- the common bytes of a fetch
-pub common_comes : (c : ClientModel) (request : ℕ) (note : UnitNote) (common : CommonRef) (own : List ℕ) (batch : BatchId) (lot : Lot) (me : Server)
+pub common_comes : (c : ClientModel) (request : ℕ) (note : UnitNote) (common : CommonRef) (own : List ℕ) (batch : BatchId)
+    (lot : Lot) (me : Server)
     (b next : Bag)
     → Waits c (waits_for.Common request note common own) b → part_of b batch ≡ Some lot
     → IsRun b (enters.CommonFetched me c.me batch ∷ []) next

@@ -24,7 +24,11 @@ use Rattle.bag_law.specs.Counts.{promises_named}
 use Rattle.bag_law.specs.Sound.{PromisesAreSingle}
 use Rattle.batch_store.specs.Store.{closed, fetched, is_due}
 use Rattle.batch_store.specs.declared.parts.Part.{Part}
-use Rattle.server_law.specs.Acts.{Accepts, Act, Answers, Arrives, Cancels, Closes, Counts, Drops_hint, Ends_keep, Ends_push, Ends_put, Ends_reserve, Ends_try, Fetches, Fetches_part, Checks_alone, Finds, Finds_alone, Gives, Gives_up, Hears_exhaust, Hears_failed, Hears_shutdown, Notes_own, Shuts_alone, Wants, Grants, Grants_try, Heard, Is_hinted, Keeps, Looks, Notes_finish, Parks, Promises, Queries, Refuses, Refuses_part, Refuses_push, Sends_unit, Shuts, Stops_push, Tells, Wakes, Withdraws, entries, frees, of_server, says, takes}
+use Rattle.server_law.specs.Acts.{Accepts, Act, Answers, Arrives, Cancels, Closes, Counts, Drops_hint, Ends_keep, Ends_push, Ends_put}
+use Rattle.server_law.specs.Acts.{Ends_reserve, Ends_try, Fetches, Fetches_part, Checks_alone, Finds, Finds_alone, Gives, Gives_up}
+use Rattle.server_law.specs.Acts.{Hears_exhaust, Hears_failed, Hears_shutdown, Notes_own, Shuts_alone, Wants, Grants, Grants_try, Heard}
+use Rattle.server_law.specs.Acts.{Is_hinted, Keeps, Looks, Notes_finish, Parks, Promises, Queries, Refuses, Refuses_part, Refuses_push}
+use Rattle.server_law.specs.Acts.{Sends_unit, Shuts, Stops_push, Tells, Wakes, Withdraws, entries, frees, of_server, says, takes}
 use Rattle.server_law.specs.Moving.{IsHeldAt}
 use Rattle.server_law.specs.State.{ServerModel}
 use Rattle.core_run.specs.World.{World, pool_of}

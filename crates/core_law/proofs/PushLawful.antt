@@ -2,7 +2,8 @@
 -- Every other act leaves it.
 use Rattle.std.specs.Option.{option_map}
 use Rattle.std.specs.Prelude.{Contains, fold}
-use Rattle.std.proofs.Common.{Bool, None, Option, Some, [], ap, arith, cond, false, length, not, refl, subst, sym, true, ℕ, ◌<◌, ◌==◌, ◌∙◌, ◌∷◌, ◌≡◌}
+use Rattle.std.proofs.Common.{Bool, None, Option, Some, [], ap, arith, cond, false, length, not, refl, subst, sym, true, ℕ, ◌<◌, ◌==◌, ◌∙◌}
+use Rattle.std.proofs.Common.{◌∷◌, ◌≡◌}
 use Rattle.std.proofs.lemmas.Bool.{and_parts, eq-eqb, ltb-true}
 use Rattle.std.proofs.lemmas.Option.{get_or_from_slice_get, slice_get_within}
 use Rattle.adlb_unit.specs.declared.configs.Config.{Config}
@@ -26,7 +27,8 @@ use Rattle.work_queue.proofs.Pushes.{first_is}
 use Rattle.reserve_path.specs.Grants.{unit_with}
 use Rattle.put_path.specs.Pushes.{Pushing, may_push, query_of, query_to}
 use Rattle.put_path.specs.declared.pushing.PushQuery.{PushQuery}
-use Rattle.server_law.specs.Acts.{Act, Arrives, Cancels, Finds, Hears_exhaust, Promises, Queries, Refuses_push, Sends_unit, Withdraws, entries, of_server, takes}
+use Rattle.server_law.specs.Acts.{Act, Arrives, Cancels, Finds, Hears_exhaust, Promises, Queries, Refuses_push, Sends_unit, Withdraws}
+use Rattle.server_law.specs.Acts.{entries, of_server, takes}
 use Rattle.server_law.specs.Agreement.{ServerAgrees}
 use Rattle.server_law.specs.Legal.{Needs}
 use Rattle.server_law.specs.State.{ServerModel}
@@ -39,7 +41,8 @@ use Rattle.core_law.specs.Pushed.{IsPushed, OfPush}
 use Rattle.core_law.specs.Well.{IsWell}
 use Rattle.core_law.proofs.FreeUnits.{queries_pushed}
 use Rattle.core_law.proofs.Deciding.{IsFreeAt, free_at}
-use Rattle.core_law.proofs.PushActs.{arrives_pushed, cancels_pushed, finds_pushed, plain_pushed, promises_pushed, refuses_pushed, sends_pushed, taken_of, withdraws_pushed}
+use Rattle.core_law.proofs.PushActs.{arrives_pushed, cancels_pushed, finds_pushed, plain_pushed, promises_pushed, refuses_pushed}
+use Rattle.core_law.proofs.PushActs.{sends_pushed, taken_of, withdraws_pushed}
 use Rattle.core_law.proofs.Pushing.{begins_push}
 use Rattle.core_law.proofs.Seats.{IsMade}
 use Rattle.core_law.proofs.LettersAndActors.{fit_of}
@@ -147,7 +150,8 @@ module _ (w : World) (k : Server) (b : Bag) (well : IsWell w) (l : IsLawful w b)
       let servers = agrees.servers in
       (omega arith, of.1)
 
-  pub arrives_needs : (from : Server) (unit : Work) → IsAct w k (Arrives from unit) → Needs (found_in w.config) (Arrives from unit) b (pool_of w k).me
+  pub arrives_needs : (from : Server) (unit : Work) → IsAct w k (Arrives from unit)
+      → Needs (found_in w.config) (Arrives from unit) b (pool_of w k).me
   arrives_needs from unit is =
       let of = letter_is (Arrives from unit) from (tells.PushUnit unit) is refl in
       (of ∙ ap (λ (x : Server). Some (record { unit = unit; place = Travelling x })) (sym (named is.here)), singles)

@@ -1,6 +1,7 @@
 -- Letters of pushes, with the push that stands at a server and the acknowledgement that it owes, through each act of a server and each
 -- step of a rank; and to whom a push goes.
-use Rattle.std.proofs.Common.{◌≡◌, ◌<◌, ℕ, zero, suc, ◌+◌, ◌-◌, ◌%◌, Bool, true, false, cond, not, ◌&&◌, length, map, Option, None, Some, refl, sym, ap, subst, arith}
+use Rattle.std.proofs.Common.{◌≡◌, ◌<◌, ℕ, zero, suc, ◌+◌, ◌-◌, ◌%◌, Bool, true, false, cond, not, ◌&&◌, length, map, Option, None, Some}
+use Rattle.std.proofs.Common.{refl, sym, ap, subst, arith}
 use Rattle.std.specs.Prelude.{is_none, nat_lt}
 use Rattle.std.specs.List.{list_any, range_with_len}
 use Rattle.std.specs.Option.{option_map}
@@ -16,7 +17,8 @@ use Rattle.put_path.specs.Pushes.{IsOther, Pushing, is_pressed, may_push, next_t
 use Rattle.put_path.specs.declared.pushing.PushQuery.{PushQuery}
 use Rattle.work_queue.specs.Push.{first_to_push_of}
 use Rattle.work_queue.specs.Queue.{Queue}
-use Rattle.server_law.specs.Acts.{Act, Acks, Arrives, Cancels, Ends_push, Finds, Queries, Sends_unit, Shuts, Stops_push, debts, turned, turns}
+use Rattle.server_law.specs.Acts.{Act, Acks, Arrives, Cancels, Ends_push, Finds, Queries, Sends_unit, Shuts, Stops_push, debts, turned}
+use Rattle.server_law.specs.Acts.{turns}
 use Rattle.server_law.specs.Finding.{has_unit}
 use Rattle.server_law.specs.Pushes.{is_room_for}
 use Rattle.server_law.specs.State.{ServerModel}

@@ -2,7 +2,8 @@
 use Rattle.core_law.proofs.Notes.{notes_same}
 use Rattle.rank_client.proofs.Begins.{found_is}
 use Rattle.rank_client.specs.Agreement.{holds}
-use Rattle.std.proofs.Common.{◌≡◌, ◌≤◌, ◌<◌, ℕ, zero, suc, ◌+◌, ◌^◌, ◌%◌, Bool, true, false, ◌&&◌, not, List, [], length, map, filter, Option, Some, None, refl, sym, ap, ◌∙◌, subst, arith, ℤ}
+use Rattle.std.proofs.Common.{◌≡◌, ◌≤◌, ◌<◌, ℕ, zero, suc, ◌+◌, ◌^◌, ◌%◌, Bool, true, false, ◌&&◌, not, List, [], length, map, filter}
+use Rattle.std.proofs.Common.{Option, Some, None, refl, sym, ap, ◌∙◌, subst, arith, ℤ}
 use Rattle.std.specs.Prelude.{All, is_none, nat_le, Contains}
 use Rattle.std.specs.List.{range_with_len}
 use Rattle.std.proofs.lemmas.Bool.{and_parts, leb-true, not-true}
@@ -31,7 +32,8 @@ use Rattle.bag_ledger.specs.declared.entries.Call.TheVariants as calls_to
 use Rattle.bag_ledger.specs.declared.entries.Entry.{Entry}
 use Rattle.rank_client.specs.declared.pendings.Pending.{Pending}
 use Rattle.rank_client.specs.declared.pendings.Pending.TheVariants as waits_for
-use Rattle.rank_client.specs.Rules.{ClientResponse, ClientSaying, asked, asks, close, count, farewell, fetch, finish, first_server, held, is_free, is_idle, keep, look, looks_at, open_call, over, put, reserve, set_done, unit_put}
+use Rattle.rank_client.specs.Rules.{ClientResponse, ClientSaying, asked, asks, close, count, farewell, fetch, finish, first_server, held}
+use Rattle.rank_client.specs.Rules.{is_free, is_idle, keep, look, looks_at, open_call, over, put, reserve, set_done, unit_put}
 use Rattle.rank_client.specs.State.{ClientModel}
 use Rattle.adlb_unit.specs.Ring.{behind}
 use Rattle.rank_client.specs.Step.{Made, begin, call_stamp, made, ticked}
@@ -43,7 +45,8 @@ use Rattle.core_run.specs.World.{server_named}
 use Rattle.core_law.proofs.StepResults.{OnSome, if_some, mapped_some}
 use Rattle.core_law.proofs.Posts.{lettered, requests_each, requests_entries, requests_sends, requests_state, requests_weight}
 use Rattle.core_law.proofs.UnderWay.{each_weaker}
-use Rattle.core_law.proofs.RankShapes.{Began, ChangesRank, IsFarewell, It_asks, It_leaves, It_rests, asked_busy, asked_number, asked_request}
+use Rattle.core_law.proofs.RankShapes.{Began, ChangesRank, IsFarewell, It_asks, It_leaves, It_rests, asked_busy, asked_number}
+use Rattle.core_law.proofs.RankShapes.{asked_request}
 
 idle_is : (p : Pending) → is_idle p ≡ true → p ≡ waits_for.Nothing
 idle_is waits_for.Nothing e = refl

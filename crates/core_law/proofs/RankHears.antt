@@ -1,7 +1,8 @@
 -- What a rank does with a letter that it hears.
 use Rattle.core_law.proofs.Notes.{notes_in}
 use Rattle.rank_client.specs.Agreement.{note_coming}
-use Rattle.std.proofs.Common.{max, ◌≡◌, ◌<◌, ℕ, ◌+◌, ◌^◌, Bool, true, false, ◌&&◌, not, List, [], ◌∷◌, ◌++◌, length, Option, Some, None, refl, ap, ◌∙◌, subst, arith, append-nil}
+use Rattle.std.proofs.Common.{max, ◌≡◌, ◌<◌, ℕ, ◌+◌, ◌^◌, Bool, true, false, ◌&&◌, not, List, [], ◌∷◌, ◌++◌, length, Option, Some, None}
+use Rattle.std.proofs.Common.{refl, ap, ◌∙◌, subst, arith, append-nil}
 use Rattle.std.specs.Prelude.{◌==◌, All, nat_lt, Contains}
 use Rattle.std.proofs.lemmas.Bool.{and_parts, eqb-true, ltb-true, not-true}
 use Rattle.std.proofs.lemmas.List.Elements.{All-push, All-contains_itself, All-same}
@@ -22,7 +23,9 @@ use Rattle.bag_ledger.specs.declared.entries.Call.{Call}
 use Rattle.bag_ledger.specs.declared.entries.Entry.{Entry}
 use Rattle.rank_client.specs.declared.pendings.Pending.{Pending}
 use Rattle.rank_client.specs.declared.pendings.Pending.TheVariants as waits_for
-use Rattle.rank_client.specs.Rules.{ClientResponse, answer_call, asked, begun_batch, ends, expects_note, hear_close, hear_common, hear_count, hear_done, hear_fetch, hear_keep, hear_look, hear_put, hear_reserve, is_at_server, is_for, is_idle, looked, looks_at, own_came, part_refused, refused, told_done}
+use Rattle.rank_client.specs.Rules.{ClientResponse, answer_call, asked, begun_batch, ends, expects_note, hear_close, hear_common}
+use Rattle.rank_client.specs.Rules.{hear_count, hear_done, hear_fetch, hear_keep, hear_look, hear_put, hear_reserve, is_at_server, is_for}
+use Rattle.rank_client.specs.Rules.{is_idle, looked, looks_at, own_came, part_refused, refused, told_done}
 use Rattle.rank_client.specs.State.{ClientModel}
 use Rattle.rank_client.specs.Step.{hear, letter_stamp, made, ticked}
 use Rattle.core_law.specs.OnLinks.{Each}
@@ -57,7 +60,8 @@ module _ (run : Config) (me : Rank) (s : ClientModel) (own : IsClient run me s) 
     call_is p is = subst (IsCall s) is own.call
 
     -- it has ended, with this end, batch, count of accepted units and notes
-    ended : (p : Pending) (m : Message) (end : Option End) (batch : Option CommonRef) (accepted : ℕ) (handles : List UnitNote) (es : List Entry)
+    ended : (p : Pending) (m : Message) (end : Option End) (batch : Option CommonRef) (accepted : ℕ) (handles : List UnitNote)
+        (es : List Entry)
         (call : Call) (answer : Answer)
         → s.pending ≡ p → is_to_rank m ≡ true → is_idle p ≡ false → request_of m + 1 ≡ s.next → Each (ChangesRank s.me) es
         → IsAt s.config batch → All (IsNote s.config) handles → All (Contains (s.handles ++ note_coming p (Some m))) handles
@@ -134,7 +138,8 @@ module _ (run : Config) (me : Rank) (s : ClientModel) (own : IsClient run me s) 
     put_heard unit first tried from (tells.Accepted to) is =
         if_some (λ z. Heard run me s (tells.Accepted to) (made z)) (is_for unit.id.number (asked s first tried) from to) _
         (λ for. ended (waits_for.Put unit first tried) (tells.Accepted to) s.end s.batch (s.accepted + 1) s.handles [] _ _ is refl refl
-        (number unit.id.number (asked s first tried) from to for (call_is (waits_for.Put unit first tried) is).0.call) tt own.batch own.notes
+        (number unit.id.number (asked s first tried) from to for (call_is (waits_for.Put unit first tried) is).0.call) tt
+        own.batch own.notes
         (notes_in s.handles []))
     put_heard unit first tried from (tells.Full to charge) is =
         if_some (λ z. Heard run me s (tells.Full to charge) (made z)) (is_for unit.id.number (asked s first tried) from to) _
@@ -143,7 +148,8 @@ module _ (run : Config) (me : Rank) (s : ClientModel) (own : IsClient run me s) 
     put_heard unit first tried from (tells.Ended to end) is =
         if_some (λ z. Heard run me s (tells.Ended to end) (made z)) (is_for unit.id.number (asked s first tried) from to) _
         (λ for. ended (waits_for.Put unit first tried) (tells.Ended to end) (Some end) s.batch s.accepted s.handles [] _ _ is refl refl
-        (number unit.id.number (asked s first tried) from to for (call_is (waits_for.Put unit first tried) is).0.call) tt own.batch own.notes
+        (number unit.id.number (asked s first tried) from to for (call_is (waits_for.Put unit first tried) is).0.call) tt
+        own.batch own.notes
         (notes_in s.handles []))
     put_heard unit first tried from _ is = tt
 
@@ -208,7 +214,8 @@ module _ (run : Config) (me : Rank) (s : ClientModel) (own : IsClient run me s) 
     look_heard request types tried from (tells.Grant to note) is =
         if_some (λ z. Heard run me s (tells.Grant to note) (made z)) (is_for request (looks_at s tried) from to && expects_note now note) _
         (λ for. let parts = and_parts (is_for request (looks_at s tried) from to) (expects_note now note) for in
-        ended (waits_for.Try request types tried) (tells.Grant to note) s.end s.batch s.accepted (s.handles ++ note ∷ []) [] _ _ is refl refl
+        ended (waits_for.Try request types tried) (tells.Grant to note) s.end s.batch s.accepted (s.handles ++ note ∷ []) [] _
+        _ is refl refl
         (number request (looks_at s tried) from to parts.0 (call_is (waits_for.Try request types tried) is).0) tt own.batch
         (All-push (IsNote s.config) s.handles note own.notes (known note parts.1)) (All-contains_itself (s.handles ++ note ∷ [])))
     look_heard request types tried from (tells.Nothing to) is =
@@ -226,7 +233,8 @@ module _ (run : Config) (me : Rank) (s : ClientModel) (own : IsClient run me s) 
         → s.pending ≡ waits_for.Fetch request note → to + 1 ≡ s.next
         → Heard run me s (tells.Bytes to own_bytes) (made (own_came now request note own_bytes o))
     own_heard request to note own_bytes None alone is number =
-        ended (waits_for.Fetch request note) (tells.Bytes to own_bytes) s.end s.batch s.accepted s.handles [] _ _ is refl refl number tt own.batch
+        ended (waits_for.Fetch request note) (tells.Bytes to own_bytes) s.end s.batch s.accepted s.handles [] _ _ is refl refl
+        number tt own.batch
         own.notes (notes_in s.handles [])
     own_heard request to note own_bytes (Some common) shares is number =
         let was = call_is (waits_for.Fetch request note) is in
@@ -274,15 +282,18 @@ module _ (run : Config) (me : Rank) (s : ClientModel) (own : IsClient run me s) 
     common_heard : (request : ℕ) (note : UnitNote) (common : CommonRef) (own_bytes : List ℕ) (from : Server) (m : Message)
         → s.pending ≡ waits_for.Common request note common own_bytes → Hears m (hear_common now request note common own_bytes from m)
     common_heard request note common own_bytes from (tells.Bytes to body) is =
-        if_some (λ z. Heard run me s (tells.Bytes to body) (made z)) (is_for request common.server from to && (length body == common.length)) _
-        (λ for. ended (waits_for.Common request note common own_bytes) (tells.Bytes to body) s.end s.batch s.accepted s.handles [] _ _ is refl refl
+        if_some (λ z. Heard run me s (tells.Bytes to body) (made z))
+        (is_for request common.server from to && (length body == common.length)) _
+        (λ for. ended (waits_for.Common request note common own_bytes) (tells.Bytes to body) s.end s.batch s.accepted s.handles [] _
+        _ is refl refl
         (number request common.server from to (and_parts (is_for request common.server from to) (length body == common.length) for).0
         (call_is (waits_for.Common request note common own_bytes) is).0) tt own.batch own.notes (notes_in s.handles []))
     common_heard request note common own_bytes from _ is = tt
 
     -- Batches.
 
-    part_refused_heard : (request : ℕ) (common : List ℕ) (first : Server) (tried to charge : ℕ) (t : Bool) → nat_lt (tried + 1) s.config.servers ≡ t
+    part_refused_heard : (request : ℕ) (common : List ℕ) (first : Server) (tried to charge : ℕ) (t : Bool)
+        → nat_lt (tried + 1) s.config.servers ≡ t
         → s.pending ≡ waits_for.Keep request common first tried → to + 1 ≡ s.next
         → Heard run me s (tells.Full to charge) (made (part_refused now request common first tried t))
     part_refused_heard request common first tried to charge true more is number =
@@ -319,7 +330,8 @@ module _ (run : Config) (me : Rank) (s : ClientModel) (own : IsClient run me s) 
           stays = going;
         }
     part_refused_heard request common first tried to charge false more is number =
-        ended (waits_for.Keep request common first tried) (tells.Full to charge) s.end s.batch s.accepted s.handles _ _ _ is refl refl number
+        ended (waits_for.Keep request common first tried) (tells.Full to charge) s.end s.batch s.accepted s.handles _ _ _ is
+        refl refl number
         ((refl, λ b. (_, _, refl, λ is. is)), tt) own.batch own.notes (notes_in s.handles [])
 
     keep_heard : (request : ℕ) (common : List ℕ) (first : Server) (tried : ℕ) (from : Server) (m : Message)
@@ -327,7 +339,8 @@ module _ (run : Config) (me : Rank) (s : ClientModel) (own : IsClient run me s) 
     keep_heard request common first tried from (tells.Accepted to) is =
         if_some (λ z. Heard run me s (tells.Accepted to) (made z)) (is_for request (asked s first tried) from to) _
         (λ for. let some : 0 < s.config.servers = s.config.servers_within.0 in
-        ended (waits_for.Keep request common first tried) (tells.Accepted to) s.end (Some (begun_batch now request common (asked s first tried))) 0
+        ended (waits_for.Keep request common first tried) (tells.Accepted to) s.end
+        (Some (begun_batch now request common (asked s first tried))) 0
         s.handles [] _ _ is refl refl
         (number request (asked s first tried) from to for (call_is (waits_for.Keep request common first tried) is).0) tt
         (mod_below (first.0 + tried) s.config.servers some) own.notes (notes_in s.handles []))
@@ -337,7 +350,8 @@ module _ (run : Config) (me : Rank) (s : ClientModel) (own : IsClient run me s) 
         (number request (asked s first tried) from to for (call_is (waits_for.Keep request common first tried) is).0))
     keep_heard request common first tried from (tells.Ended to end) is =
         if_some (λ z. Heard run me s (tells.Ended to end) (made z)) (is_for request (asked s first tried) from to) _
-        (λ for. ended (waits_for.Keep request common first tried) (tells.Ended to end) (Some end) s.batch s.accepted s.handles [] _ _ is refl refl
+        (λ for. ended (waits_for.Keep request common first tried) (tells.Ended to end) (Some end) s.batch s.accepted s.handles [] _
+        _ is refl refl
         (number request (asked s first tried) from to for (call_is (waits_for.Keep request common first tried) is).0) tt own.batch own.notes
         (notes_in s.handles []))
     keep_heard request common first tried from _ is = tt

@@ -1,5 +1,6 @@
 -- Where the only server finds that all work is used up, the bag is settled; and a token comes only where there are several.
-use Rattle.std.proofs.Common.{◌≡◌, ◌<◌, ◌≤◌, ◌⊎◌, inl, inr, ℕ, zero, suc, ◌%◌, ◌==◌, Bool, true, false, cond, not, List, [], ◌∷◌, length, get_or, Option, None, Some, refl, sym, ap, ◌∙◌, subst, arith}
+use Rattle.std.proofs.Common.{◌≡◌, ◌<◌, ◌≤◌, ◌⊎◌, inl, inr, ℕ, zero, suc, ◌%◌, ◌==◌, Bool, true, false, cond, not, List, [], ◌∷◌, length}
+use Rattle.std.proofs.Common.{get_or, Option, None, Some, refl, sym, ap, ◌∙◌, subst, arith}
 use Rattle.std.specs.Prelude.{IfSome}
 use Rattle.std.proofs.lemmas.Bool.{and_parts, eq-eqb, eqb-true, ltb-true}
 use Rattle.std.proofs.lemmas.List.{length-replicate}
@@ -153,7 +154,8 @@ module _ (w : World) (k : Server) (b : Bag) (well : IsWell w) (l : IsLawful w b)
       let first_here = waits_at 0 sure.first some first_waits idle in
       record {
         agrees = l.pools k is.here;
-        all = one_has_all w.config w.ledger b (pool_of w k).me alone zeroth (alone_run w.config (empty_bag w.config) b w.ledger alone l.run);
+        all = one_has_all w.config w.ledger b (pool_of w k).me alone zeroth
+            (alone_run w.config (empty_bag w.config) b w.ledger alone l.run);
         unpromised = alone_unpromised w b well alone l.pushed;
         ranks = λ rank r there.
             let within = within_run rank r there in

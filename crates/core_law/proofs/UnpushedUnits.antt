@@ -1,7 +1,8 @@
 -- What a step of the bag leaves of a unit that it does not push, and of what is known of its push letters.
 use Rattle.std.specs.Option.{option_or}
 use Rattle.std.specs.Prelude.{option_and_then}
-use Rattle.std.proofs.Common.{Bool, List, None, Option, Some, [], ap, arith, cond, false, find, inl, inr, length, refl, subst, sym, true, ℕ, ◌++◌, ◌∙◌, ◌∷◌, ◌≡◌, ◌⊎◌}
+use Rattle.std.proofs.Common.{Bool, List, None, Option, Some, [], ap, arith, cond, false, find, inl, inr, length, refl, subst, sym, true, ℕ}
+use Rattle.std.proofs.Common.{◌++◌, ◌∙◌, ◌∷◌, ◌≡◌, ◌⊎◌}
 use Rattle.std.proofs.lemmas.Bool.{false_from_ne_true}
 use Rattle.std.proofs.lemmas.List.Folds.{find-append}
 use Rattle.adlb_unit.specs.Ids.{same_unit}

@@ -20,7 +20,9 @@ behind_front (l ∷ rest) = rest
 abbrev pub taken_off : Config → Server → Links → List Heard → Links
 taken_off config me links [] = links
 taken_off config me links (h ∷ more) =
-    taken_off config me (put_link links (place_of config h.from) (place_of config (by.Server me)) (behind_front (link links (place_of config h.from) (place_of config (by.Server me))))) more
+    taken_off config me
+    (put_link links (place_of config h.from) (place_of config (by.Server me))
+    (behind_front (link links (place_of config h.from) (place_of config (by.Server me))))) more
 
 -- the act takes its letter off, if it takes one, and the server carries it out
 abbrev pub acted : World → Server → Act → World

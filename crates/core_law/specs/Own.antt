@@ -44,7 +44,8 @@ IsCall s waits_for.Nothing = Prim.Unit {0}
 IsCall s (waits_for.Put unit first tried) = IsOffer s unit × (tried < s.config.servers)
 IsCall s (waits_for.Reserve request types) = request + 1 ≡ s.next
 IsCall s (waits_for.Try request types tried) = (request + 1 ≡ s.next) × (tried < s.config.servers)
-IsCall s (waits_for.Fetch request note) = (request + 1 ≡ s.next) × IsNote s.config note × All (λ n. same_unit n.id note.id ≡ false) s.handles
+IsCall s (waits_for.Fetch request note) = (request + 1 ≡ s.next) × IsNote s.config note
+    × All (λ n. same_unit n.id note.id ≡ false) s.handles
 IsCall s (waits_for.Common request note common own) = (request + 1 ≡ s.next) × (common.server.0 < s.config.servers)
 IsCall s (waits_for.Keep request common first tried) =
     (request + 1 ≡ s.next) × (s.batch ≡ None) × (length common ≤ body_limit) × (tried < s.config.servers)

@@ -13,12 +13,14 @@ use Rattle.reserve_path.specs.declared.waits.Waiting.{Waiting}
 use Rattle.server_law.proofs.Endings.{checks_start, ends_unquiet, notices_quiet, starts_alone, tells_first}
 use Rattle.server_law.proofs.Starting.{exhausted_alone}
 use Rattle.server_law.proofs.Waiters.{done_kept, done_named}
-use Rattle.server_law.specs.Acts.{Act, Checks_alone, Finds_alone, Hears_shutdown, Notes_own, Shuts, Shuts_alone, askers, check_alone, does, fit_among, shut_after}
+use Rattle.server_law.specs.Acts.{Act, Checks_alone, Finds_alone, Hears_shutdown, Notes_own, Shuts, Shuts_alone, askers, check_alone, does}
+use Rattle.server_law.specs.Acts.{fit_among, shut_after}
 use Rattle.server_law.specs.Carried.{all_done, done}
 use Rattle.server_law.specs.Endings.{checks, ends_event, finds_alone, is_noted, is_quiet, notice, tells_all}
 use Rattle.server_law.specs.Plan.{decided}
 use Rattle.server_law.specs.State.{Kept, ServerModel, ring_at}
-use Rattle.std.proofs.Common.{Bool, List, None, Option, Some, [], ap, append-nil, false, inl, inr, map, refl, subst, sym, true, ◌++◌, ◌==◌, ◌∙◌, ◌∷◌, ◌≡◌, ◌⊎◌}
+use Rattle.std.proofs.Common.{Bool, List, None, Option, Some, [], ap, append-nil, false, inl, inr, map, refl, subst, sym, true, ◌++◌, ◌==◌}
+use Rattle.std.proofs.Common.{◌∙◌, ◌∷◌, ◌≡◌, ◌⊎◌}
 use Rattle.std.proofs.lemmas.Bool.{eq-eqb}
 use Rattle.adlb_unit.specs.declared.notes.End.TheVariants as ends_by
 

@@ -16,7 +16,8 @@ use Rattle.core_check_law.specs.Turn.{AreOnTurn}
 use Rattle.core_law.proofs.Actors.{every_pool}
 use Rattle.core_law.proofs.CalmServers.{every_run_calm}
 use Rattle.core_law.proofs.Debts.{every_run_paid}
-use Rattle.core_law.proofs.EveryRun.{answer_heard, answer_within, begins_well, call_began, call_within, client_at, every_run_well, pool_at, run_config, well_kept}
+use Rattle.core_law.proofs.EveryRun.{answer_heard, answer_within, begins_well, call_began, call_within, client_at, every_run_well, pool_at}
+use Rattle.core_law.proofs.EveryRun.{run_config, well_kept}
 use Rattle.core_law.proofs.Fifo.{part_le}
 use Rattle.core_law.proofs.OwedByRanks.{no_sum}
 use Rattle.core_law.proofs.RankShapes.{It_asks, It_leaves, It_rests, Then}
@@ -47,7 +48,8 @@ use Rattle.reserve_path.specs.declared.waits.Waiting.{Waiting}
 use Rattle.server_law.specs.Acts.{does, zeroth}
 use Rattle.server_law.specs.State.{Kept}
 use Rattle.server_law.specs.Step.{next_stamp, raises}
-use Rattle.std.proofs.Common.{Bool, List, None, Some, [], ap, arith, false, inl, inr, map, refl, subst, suc, sym, true, zero, ℕ, ◌++◌, ◌+◌, ◌<◌, ◌∙◌, ◌∷◌, ◌≡◌, ◌≢◌, ◌⊎◌}
+use Rattle.std.proofs.Common.{Bool, List, None, Some, [], ap, arith, false, inl, inr, map, refl, subst, suc, sym, true, zero, ℕ, ◌++◌, ◌+◌}
+use Rattle.std.proofs.Common.{◌<◌, ◌∙◌, ◌∷◌, ◌≡◌, ◌≢◌, ◌⊎◌}
 use Rattle.std.proofs.lemmas.Bool.{cases_eq, lt-ltb}
 use Rattle.std.specs.List.{range_with_len}
 use Rattle.std.specs.Prelude.{All}

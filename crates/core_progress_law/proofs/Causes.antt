@@ -14,7 +14,8 @@ use Rattle.server_law.specs.Endings.{ends_event, is_quiet}
 use Rattle.server_law.specs.Plan.{Plan, decided, in_order, plan}
 use Rattle.server_law.specs.State.{ServerModel, ring_at}
 use Rattle.server_law.specs.Step.{acts, rule}
-use Rattle.std.proofs.Common.{Bool, List, None, Option, Some, [], ap, cond, false, inl, inr, refl, sym, true, ◌++◌, ◌==◌, ◌∙◌, ◌∷◌, ◌≡◌, ◌⊎◌}
+use Rattle.std.proofs.Common.{Bool, List, None, Option, Some, [], ap, cond, false, inl, inr, refl, sym, true, ◌++◌, ◌==◌, ◌∙◌, ◌∷◌, ◌≡◌}
+use Rattle.std.proofs.Common.{◌⊎◌}
 use Rattle.std.proofs.lemmas.Bool.{eq-eqb, eqb-true}
 use Rattle.std.specs.Option.{IfSome, option_map}
 use Rattle.adlb_unit.specs.declared.actors.Actor.TheVariants as by

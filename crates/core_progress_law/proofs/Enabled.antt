@@ -17,7 +17,8 @@ use Rattle.core_run.specs.World.{World, actors, after_rank, client_of, handle, h
 use Rattle.core_run.specs.declared.events.Event.{Event}
 use Rattle.rank_client.specs.Rules.{is_free}
 use Rattle.rank_client.specs.Step.{Made, begin}
-use Rattle.std.proofs.Common.{Bool, List, None, Option, Some, [], ap, arith, cond, false, inl, inr, refl, suc, sym, true, zero, ℕ, ◌&&◌, ◌<◌, ◌^◌, ◌∙◌, ◌∷◌, ◌≡◌, ◌≢◌, ◌≤◌, ◌⊎◌}
+use Rattle.std.proofs.Common.{Bool, List, None, Option, Some, [], ap, arith, cond, false, inl, inr, refl, suc, sym, true, zero, ℕ, ◌&&◌}
+use Rattle.std.proofs.Common.{◌<◌, ◌^◌, ◌∙◌, ◌∷◌, ◌≡◌, ◌≢◌, ◌≤◌, ◌⊎◌}
 use Rattle.std.proofs.lemmas.Bool.{and_parts, cases_eq, lt-ltb}
 use Rattle.std.specs.Option.{option_map}
 use Rattle.std.specs.Prelude.{is_some}

@@ -39,7 +39,8 @@ use Rattle.rank_client.specs.State.{start as new_client}
 use Rattle.server_law.specs.Acts.{does, zeroth}
 use Rattle.server_law.specs.Endings.{is_quiet}
 use Rattle.server_law.specs.State.{ServerModel, is_finished, start as new_pool}
-use Rattle.std.proofs.Common.{Bool, List, [], ap, arith, cond, false, get_or, inl, inr, length, refl, subst, suc, sym, true, zero, ℕ, ◌&&◌, ◌<◌, ◌==◌, ◌∙◌, ◌∷◌, ◌≡◌, ◌≢◌, ◌⊎◌}
+use Rattle.std.proofs.Common.{Bool, List, [], ap, arith, cond, false, get_or, inl, inr, length, refl, subst, suc, sym, true, zero, ℕ, ◌&&◌}
+use Rattle.std.proofs.Common.{◌<◌, ◌==◌, ◌∙◌, ◌∷◌, ◌≡◌, ◌≢◌, ◌⊎◌}
 use Rattle.std.proofs.lemmas.Bool.{cases_eq, eq-eqb, eqb-true, false_from_ne_true, ltb-true}
 use Rattle.std.specs.List.{list_all}
 use Rattle.adlb_unit.specs.declared.actors.Actor.TheVariants as by

@@ -40,7 +40,8 @@ use Rattle.server_law.specs.Calm.{IsCalm}
 use Rattle.server_law.specs.Endings.{is_quiet}
 use Rattle.server_law.specs.State.{ServerModel, start as new_pool}
 use Rattle.server_law.specs.Step.{acts}
-use Rattle.std.proofs.Common.{Bool, List, None, Option, Some, [], ap, arith, false, inl, inr, refl, subst, sym, true, ◌<◌, ◌==◌, ◌∙◌, ◌∷◌, ◌≡◌, ◌≢◌, ◌≤◌, ◌⊎◌}
+use Rattle.std.proofs.Common.{Bool, List, None, Option, Some, [], ap, arith, false, inl, inr, refl, subst, sym, true, ◌<◌, ◌==◌, ◌∙◌, ◌∷◌}
+use Rattle.std.proofs.Common.{◌≡◌, ◌≢◌, ◌≤◌, ◌⊎◌}
 use Rattle.std.proofs.lemmas.Bool.{cases_eq, eq-eqb}
 use Rattle.work_queue.specs.Best.{offered}
 use Rattle.work_queue.specs.declared.placing.Placed.{Placed}

@@ -14,10 +14,12 @@ use Rattle.core_progress_law.proofs.Follows.{failures_next, news_next, zero_is, 
 use Rattle.core_wish_law.specs.News.{news}
 use Rattle.core_progress_law.specs.Going.{Goes, IsLive, IsTurning, failures}
 use Rattle.core_run.specs.World.{World, pool_of}
-use Rattle.server_law.specs.Acts.{Act, Fails, Finds, Gives_up, Heard, Hears_failed, Hears_shutdown, Marks, Passes, Shuts, Wants, does, says, takes, tested_in, to_others, to_server, zeroth}
+use Rattle.server_law.specs.Acts.{Act, Fails, Finds, Gives_up, Heard, Hears_failed, Hears_shutdown, Marks, Passes, Shuts, Wants, does, says}
+use Rattle.server_law.specs.Acts.{takes, tested_in, to_others, to_server, zeroth}
 use Rattle.server_law.specs.State.{Kept, ServerModel}
 use Rattle.server_law.specs.Step.{raises}
-use Rattle.std.proofs.Common.{Bool, List, [], ap, arith, false, inl, inr, length, map, refl, sym, true, ℕ, ◌-◌, ◌<◌, ◌==◌, ◌∙◌, ◌∷◌, ◌≡◌, ◌⊎◌}
+use Rattle.std.proofs.Common.{Bool, List, [], ap, arith, false, inl, inr, length, map, refl, sym, true, ℕ, ◌-◌, ◌<◌, ◌==◌, ◌∙◌, ◌∷◌, ◌≡◌}
+use Rattle.std.proofs.Common.{◌⊎◌}
 use Rattle.std.proofs.lemmas.List.FromFn.{length-range_with_len}
 use Rattle.std.specs.List.{range_with_len}
 use Rattle.adlb_unit.specs.declared.actors.Actor.TheVariants as by

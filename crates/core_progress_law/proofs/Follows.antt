@@ -18,7 +18,8 @@ use Rattle.core_law.specs.Well.{IsWell}
 use Rattle.core_wish_law.specs.News.{news}
 use Rattle.core_progress_law.specs.Going.{Goes, IsTurning, failures}
 use Rattle.core_run.specs.World.{World, pool_of, server_named}
-use Rattle.server_law.specs.Acts.{Acks, Act, Asks_on, Checks_alone, Finds_alone, Gives, Hints, Notes_own, Notices, Queries, Shuts_alone, Starts, Tells, does, says, takes, zeroth}
+use Rattle.server_law.specs.Acts.{Acks, Act, Asks_on, Checks_alone, Finds_alone, Gives, Hints, Notes_own, Notices, Queries, Shuts_alone}
+use Rattle.server_law.specs.Acts.{Starts, Tells, does, says, takes, zeroth}
 use Rattle.server_law.specs.State.{Kept, ServerModel}
 use Rattle.std.proofs.Common.{[], ap, arith, false, inl, inr, length, refl, sym, true, ◌+◌, ◌<◌, ◌∙◌, ◌≡◌, ◌≢◌, ◌≤◌, ◌⊎◌}
 use Rattle.adlb_unit.specs.declared.actors.Actor.TheVariants as by

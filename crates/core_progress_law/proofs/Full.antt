@@ -30,7 +30,8 @@ use Rattle.server_law.proofs.Handled.{planned}
 use Rattle.server_law.proofs.Once.{follow_rest}
 use Rattle.server_law.proofs.Plans.{IsPlan}
 use Rattle.server_law.proofs.Waiters.{all_done_joined, done_named}
-use Rattle.server_law.specs.Acts.{Act, Around, Finds, Finds_alone, Gives, Heard, Hears_exhaust, Parks, Tells, Wakes, comes, does, exhausted_after, fit_among, goes, says, takes, waiting_after}
+use Rattle.server_law.specs.Acts.{Act, Around, Finds, Finds_alone, Gives, Heard, Hears_exhaust, Parks, Tells, Wakes, comes, does}
+use Rattle.server_law.specs.Acts.{exhausted_after, fit_among, goes, says, takes, waiting_after}
 use Rattle.server_law.specs.Asks.{wake, wake_at}
 use Rattle.server_law.specs.Carried.{Served, all_done, carried, done}
 use Rattle.server_law.specs.Checks.{marks, tests, tests_now, verdict, visit, visit_other, visit_zeroth}
@@ -42,7 +43,8 @@ use Rattle.server_law.specs.State.{Kept, ServerModel, idle, ring_at, runs_at_hom
 use Rattle.server_law.specs.Step.{acts, at_event, rule, serve}
 use Rattle.server_law.specs.Sure.{AreSure, SitsIn, Sure, TakeNone}
 use Rattle.server_law.specs.Waits.{look_again, look_at, looks_again}
-use Rattle.std.proofs.Common.{Bool, List, None, Option, Some, [], ap, append_assoc, arith, cond, false, inl, inr, refl, subst, sym, true, ℕ, ◌&&◌, ◌++◌, ◌==◌, ◌∙◌, ◌∷◌, ◌≡◌, ◌≢◌, ◌≤◌, ◌⊎◌}
+use Rattle.std.proofs.Common.{Bool, List, None, Option, Some, [], ap, append_assoc, arith, cond, false, inl, inr, refl, subst, sym, true, ℕ}
+use Rattle.std.proofs.Common.{◌&&◌, ◌++◌, ◌==◌, ◌∙◌, ◌∷◌, ◌≡◌, ◌≢◌, ◌≤◌, ◌⊎◌}
 use Rattle.std.proofs.lemmas.Bool.{eq-eqb}
 use Rattle.std.specs.Option.{option_map}
 use Rattle.std.specs.Prelude.{IfSome, nat_lt}

@@ -18,7 +18,8 @@ use Rattle.server_law.proofs.Carrying.{carried_state}
 use Rattle.server_law.proofs.Handled.{planned}
 use Rattle.server_law.proofs.Plans.{IsPlan}
 use Rattle.server_law.proofs.Waiters.{all_done_joined}
-use Rattle.server_law.specs.Acts.{Act, Checks_alone, Ends_reserve, Finds, Finds_alone, Grants, Hears_exhaust, Notes_own, Notices, Parks, Shuts_alone, Starts, Wakes, check_alone}
+use Rattle.server_law.specs.Acts.{Act, Checks_alone, Ends_reserve, Finds, Finds_alone, Grants, Hears_exhaust, Notes_own, Notices, Parks}
+use Rattle.server_law.specs.Acts.{Shuts_alone, Starts, Wakes, check_alone}
 use Rattle.server_law.specs.Carried.{Served, all_done, carried, done}
 use Rattle.server_law.specs.Endings.{checks, ends_event, finds_alone, is_noted, is_quiet, notice, notices, starts}
 use Rattle.server_law.specs.Finding.{best_for}
@@ -27,7 +28,8 @@ use Rattle.server_law.specs.Reserves.{reserve}
 use Rattle.server_law.specs.State.{ServerModel, ring_at, runs_at_home}
 use Rattle.server_law.specs.Step.{acts, at_event, rule, serve, server_rule}
 use Rattle.server_law.specs.Sure.{AreSure}
-use Rattle.std.proofs.Common.{Bool, List, None, Option, Some, [], ap, append-nil, arith, cond, false, not, refl, subst, sym, true, ◌&&◌, ◌++◌, ◌==◌, ◌∙◌, ◌∷◌, ◌≡◌}
+use Rattle.std.proofs.Common.{Bool, List, None, Option, Some, [], ap, append-nil, arith, cond, false, not, refl, subst, sym, true, ◌&&◌}
+use Rattle.std.proofs.Common.{◌++◌, ◌==◌, ◌∙◌, ◌∷◌, ◌≡◌}
 use Rattle.std.proofs.lemmas.Bool.{and_parts, eq-eqb, ltb-true}
 use Rattle.std.specs.Option.{IfSome, option_map}
 use Rattle.std.specs.Prelude.{nat_lt}

@@ -24,7 +24,8 @@ use Rattle.core_run.specs.Runs.{Runs}
 use Rattle.core_run.specs.World.{World, link, rank_named, server_named, start}
 use Rattle.core_run.specs.declared.events.Event.{Event}
 use Rattle.server_law.specs.State.{is_home}
-use Rattle.std.proofs.Common.{Bool, List, [], ap, arith, cond, false, inl, inr, not, refl, suc, sym, true, zero, ℕ, ◌&&◌, ◌*◌, ◌+◌, ◌-◌, ◌<◌, ◌==◌, ◌||◌, ◌∙◌, ◌∷◌, ◌≡◌, ◌≢◌, ◌≤◌, ◌⊎◌}
+use Rattle.std.proofs.Common.{Bool, List, [], ap, arith, cond, false, inl, inr, not, refl, suc, sym, true, zero, ℕ, ◌&&◌, ◌*◌, ◌+◌, ◌-◌}
+use Rattle.std.proofs.Common.{◌<◌, ◌==◌, ◌||◌, ◌∙◌, ◌∷◌, ◌≡◌, ◌≢◌, ◌≤◌, ◌⊎◌}
 use Rattle.std.proofs.lemmas.Bool.{and_parts, cases_eq, eq-eqb, eqb-true, false_from_ne_true, lt-ltb, ltb-true, not-true}
 use Rattle.std.specs.Prelude.{nat_lt}
 use Rattle.adlb_unit.specs.declared.actors.Actor.TheVariants as by

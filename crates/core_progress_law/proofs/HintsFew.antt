@@ -10,7 +10,8 @@ use Rattle.adlb_unit.specs.declared.names.Rank.{Rank}
 use Rattle.adlb_unit.specs.declared.names.Server.{Server}
 use Rattle.adlb_unit.specs.declared.units.Unit.{Unit as Work}
 use Rattle.bag_ledger.specs.Runs.{note_of}
-use Rattle.core_bound_law.proofs.Wishes.{AreSingle, KeepSingle, begins_single, few_wishes, fewer, off, single_kept, wishes_of, wishes_single}
+use Rattle.core_bound_law.proofs.Wishes.{AreSingle, KeepSingle, begins_single, few_wishes, fewer, off, single_kept, wishes_of}
+use Rattle.core_bound_law.proofs.Wishes.{wishes_single}
 use Rattle.core_check_law.proofs.Homes.{each_of_all}
 use Rattle.core_check_law.proofs.Ticks.{after}
 use Rattle.core_law.proofs.Actors.{pool_beside, pool_there}
@@ -33,7 +34,8 @@ use Rattle.core_law.specs.OnLinks.{Each}
 use Rattle.core_law.specs.Own.{IsWish}
 use Rattle.core_law.specs.Pushed.{letters_of}
 use Rattle.core_law.specs.Well.{IsSquare, IsWell}
-use Rattle.core_progress_law.proofs.HintLines.{Split, answered, hint_weight, is_plain, next_split, none_early, none_yet, other_wishes, own_wish, plain_for, plain_split, rest_less, split, split_append, split_sum}
+use Rattle.core_progress_law.proofs.HintLines.{Split, answered, hint_weight, is_plain, next_split, none_early, none_yet, other_wishes}
+use Rattle.core_progress_law.proofs.HintLines.{own_wish, plain_for, plain_split, rest_less, split, split_append, split_sum}
 use Rattle.core_progress_law.proofs.HintsOnce.{few_hints, hints_of}
 use Rattle.core_progress_law.proofs.Room.{at_most_one}
 use Rattle.core_run.specs.Runs.{Runs}
@@ -44,13 +46,15 @@ use Rattle.rank_client.specs.Step.{Made}
 use Rattle.reserve_path.specs.Parked.{is_by}
 use Rattle.reserve_path.specs.declared.wishes.Wish.{Wish}
 use Rattle.server_law.proofs.Waiters.{done_kept}
-use Rattle.server_law.specs.Acts.{Act, Answers, Declines, Finds, Heard, Hints, ServerSaying, Shuts, does, says, takes, to_server, unwished, wishes_after}
+use Rattle.server_law.specs.Acts.{Act, Answers, Declines, Finds, Heard, Hints, ServerSaying, Shuts, does, says, takes, to_server, unwished}
+use Rattle.server_law.specs.Acts.{wishes_after}
 use Rattle.server_law.specs.Carried.{Served, done, posted, sends}
 use Rattle.server_law.specs.Asks.{expects_ask}
 use Rattle.server_law.specs.State.{Kept, ServerModel, is_home}
 use Rattle.server_law.specs.Step.{next_stamp, raises, ticked}
 use Rattle.server_law.specs.Sure.{TakeNone}
-use Rattle.std.proofs.Common.{Bool, List, Some, [], ap, arith, cond, eqb, false, length, not, refl, subst, sym, true, ℕ, ◌++◌, ◌+◌, ◌<◌, ◌==◌, ◌∙◌, ◌∷◌, ◌≡◌, ◌≤◌}
+use Rattle.std.proofs.Common.{Bool, List, Some, [], ap, arith, cond, eqb, false, length, not, refl, subst, sym, true, ℕ, ◌++◌, ◌+◌, ◌<◌}
+use Rattle.std.proofs.Common.{◌==◌, ◌∙◌, ◌∷◌, ◌≡◌, ◌≤◌}
 use Rattle.std.proofs.lemmas.Bool.{and_parts, eq-eqb, eqb-true, lt-ltb, ltb-true}
 use Rattle.std.proofs.lemmas.List.{length-set}
 use Rattle.std.specs.Prelude.{nat_lt}

@@ -12,7 +12,8 @@ use Rattle.core_law.specs.Letters.{one}
 use Rattle.core_law.specs.Measures.{weigh}
 use Rattle.reserve_path.specs.Calls.{is_soft_for}
 use Rattle.reserve_path.specs.declared.wishes.Wish.{Wish}
-use Rattle.server_law.proofs.Decided.{EachHintsNone, acks_hints_none, decided_hints_none, each_none_joined, ends_event_hints_none, presses_hints_none}
+use Rattle.server_law.proofs.Decided.{EachHintsNone, acks_hints_none, decided_hints_none, each_none_joined, ends_event_hints_none}
+use Rattle.server_law.proofs.Decided.{presses_hints_none}
 use Rattle.server_law.proofs.Handled.{acts_handle}
 use Rattle.server_law.specs.Acts.{Accepts, Act, Arrives, Heard, Hints, takes}
 use Rattle.server_law.specs.Carried.{all_done, done}
@@ -26,7 +27,8 @@ use Rattle.server_law.specs.Puts.{expects_put, gives, is_taken, put_now, settles
 use Rattle.server_law.specs.State.{ServerModel}
 use Rattle.server_law.specs.Step.{acts}
 use Rattle.server_law.specs.Sure.{AreHintsOf, IsHintOf}
-use Rattle.std.proofs.Common.{Bool, List, None, Option, Some, [], ap, arith, cond, false, find, length, not, refl, subst, sym, true, ℕ, ◌&&◌, ◌++◌, ◌+◌, ◌==◌, ◌∙◌, ◌∷◌, ◌≡◌, ◌≤◌}
+use Rattle.std.proofs.Common.{Bool, List, None, Option, Some, [], ap, arith, cond, false, find, length, not, refl, subst, sym, true, ℕ}
+use Rattle.std.proofs.Common.{◌&&◌, ◌++◌, ◌+◌, ◌==◌, ◌∙◌, ◌∷◌, ◌≡◌, ◌≤◌}
 use Rattle.std.specs.Option.{option_map}
 use Rattle.work_queue.specs.declared.placing.Placed.{Placed}
 use Rattle.adlb_unit.specs.declared.actors.Actor.TheVariants as by

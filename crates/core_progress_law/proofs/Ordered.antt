@@ -1,5 +1,6 @@
 -- That the problem is done stands in no ledger before that all work was found used up: several servers.
-use Rattle.std.proofs.Common.{◌≡◌, ◌≢◌, ◌<◌, ◌⊎◌, inl, inr, ℕ, ◌||◌, ◌&&◌, Bool, true, false, cond, List, [], ◌∷◌, ◌++◌, length, Option, None, Some, refl, sym, ap, ◌∙◌, subst, arith}
+use Rattle.std.proofs.Common.{◌≡◌, ◌≢◌, ◌<◌, ◌⊎◌, inl, inr, ℕ, ◌||◌, ◌&&◌, Bool, true, false, cond, List, [], ◌∷◌, ◌++◌, length, Option}
+use Rattle.std.proofs.Common.{None, Some, refl, sym, ap, ◌∙◌, subst, arith}
 use Rattle.std.specs.List.{list_any}
 use Rattle.std.specs.Option.{option_map}
 use Rattle.std.specs.Prelude.{IsTrue, is_none, nat_le}
@@ -420,7 +421,8 @@ found_undone w b k from t h on is told was = by_flag (has_done w.ledger) refl
     by_flag false e = e
     by_flag true e = absurd (by_heard (was.heard e))
 
-tick_told : (w : World) (me : Server) (stamp : ℕ) (up : Bool) → IsWell w → me.0 < w.config.servers → AreTold w → AreTold (ticks w me stamp up)
+tick_told : (w : World) (me : Server) (stamp : ℕ) (up : Bool) → IsWell w → me.0 < w.config.servers → AreTold w
+    → AreTold (ticks w me stamp up)
 tick_told w me stamp up well here told t there knows =
     by_told (told t there (ap (λ (x : Kept). x.done) (sym (after w me stamp up well here t).kept) ∙ knows))
   where

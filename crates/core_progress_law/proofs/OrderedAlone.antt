@@ -1,5 +1,6 @@
 -- That the problem is done stands in no ledger before that all work was found used up: one server, and every run.
-use Rattle.std.proofs.Common.{ℕ, ◌≡◌, ◌<◌, ◌⊎◌, inl, inr, ◌==◌, ◌&&◌, not, Bool, true, false, cond, List, [], ◌∷◌, ◌++◌, append-nil, Option, None, Some, refl, sym, ap, ◌∙◌, subst, arith, length, ◌≢◌}
+use Rattle.std.proofs.Common.{ℕ, ◌≡◌, ◌<◌, ◌⊎◌, inl, inr, ◌==◌, ◌&&◌, not, Bool, true, false, cond, List, [], ◌∷◌, ◌++◌, append-nil, Option}
+use Rattle.std.proofs.Common.{None, Some, refl, sym, ap, ◌∙◌, subst, arith, length, ◌≢◌}
 use Rattle.std.specs.Option.{IfSome, option_map}
 use Rattle.std.proofs.lemmas.Bool.{cases_eq}
 use Rattle.core_check_law.proofs.IdleAreTold.{Settles, more_told, settles_by, told_is, IsTold, act_told}
@@ -8,7 +9,8 @@ use Rattle.server_law.specs.Acts.{Act, Checks_alone, Finds, Finds_alone, Notes_o
 use Rattle.adlb_unit.specs.declared.actors.Actor.{Actor}
 use Rattle.core_progress_law.proofs.Following.{AllBring, EachBrings, FollowsBring, brings, decided_brings, rank_follows, told_bring}
 use Rattle.core_law.specs.Acting.{AreActs, AreFront, IsAct, acted, acted_all, ticks}
-use Rattle.core_progress_law.proofs.Ordered.{AreOrdered, IsOrdered, SomeKnows, act_ordered, answer_ordered, call_ordered, event_ordered, has_done, order_first, tick_ordered}
+use Rattle.core_progress_law.proofs.Ordered.{AreOrdered, IsOrdered, SomeKnows, act_ordered, answer_ordered, call_ordered, event_ordered}
+use Rattle.core_progress_law.proofs.Ordered.{has_done, order_first, tick_ordered}
 use Rattle.server_law.specs.Sure.{AreSure, TakeNone}
 use Rattle.core_wish_law.proofs.Agreed.{AreTelling, SomePending, done_at, every_run_telling}
 use Rattle.bag_ledger.specs.Bag.{Bag}
@@ -348,7 +350,8 @@ usual config events w run = record {
 }
 
 rank_next : (w next : World) → IsUsual w → Does w next
-    → ((from : Actor) (me : Server) (letter : Letter) (rest : List Letter) (x : Served) → Serves w from me letter rest x next → IsOrdered next)
+    → ((from : Actor) (me : Server) (letter : Letter) (rest : List Letter) (x : Served) → Serves w from me letter rest x next
+    → IsOrdered next)
     → IsOrdered w → IsOrdered next
 rank_next w next is (A_call {me = me} {call = call} {x = x} does) served was =
     subst IsOrdered (sym does.is) (call_ordered w next me call x is.well does was)
@@ -358,9 +361,11 @@ rank_next w next is (An_answer {from = from} {me = me} {letter = letter} {rest =
 rank_next w next is (A_request {from = from} {me = me} {letter = letter} {rest = rest} {x = x} does) served was =
     served from me letter rest x does
 
-event_next : (config : Config) (events : List Event) (w next : World) → Runs (start config) events w → Does w next → IsOrdered w → IsOrdered next
+event_next : (config : Config) (events : List Event) (w next : World) → Runs (start config) events w → Does w next → IsOrdered w
+    → IsOrdered next
 event_next config events w next run does was =
-    rank_next w next (usual config events w run) does (λ from me letter rest x serves. by_number from me letter rest x serves (cases_eq config.servers 1)) was
+    rank_next w next (usual config events w run) does
+    (λ from me letter rest x serves. by_number from me letter rest x serves (cases_eq config.servers 1)) was
   where
     same : w.config ≡ config
     same = run_config (start config) w events run

@@ -26,13 +26,15 @@ use Rattle.core_law.specs.Pushed.{letters_of}
 use Rattle.core_law.specs.Pushes.{push_letter}
 use Rattle.core_law.specs.Well.{IsWell}
 use Rattle.core_progress_law.proofs.Totals.{Weighing, both_weigh, links_below, links_both, links_total, ones, part_of_total, total}
-use Rattle.core_progress_law.specs.Room.{hints_to, is_hint, is_notice, kind_letter, notices_to, rank_letter, server_letter, to_rank, to_server}
+use Rattle.core_progress_law.specs.Room.{hints_to, is_hint, is_notice, kind_letter, notices_to, rank_letter, server_letter, to_rank}
+use Rattle.core_progress_law.specs.Room.{to_server}
 use Rattle.core_run.specs.Runs.{Runs}
 use Rattle.core_run.specs.World.{World, client_of, link, pool_of, rank_named, server_named, start}
 use Rattle.core_run.specs.declared.events.Event.{Event}
 use Rattle.rank_client.specs.Rules.{is_idle}
 use Rattle.server_law.specs.Acts.{zeroth}
-use Rattle.std.proofs.Common.{Bool, List, ap, arith, false, inl, inr, not, refl, sym, true, ℕ, ◌&&◌, ◌+◌, ◌<◌, ◌==◌, ◌||◌, ◌∙◌, ◌≡◌, ◌≢◌, ◌≤◌, ◌⊎◌}
+use Rattle.std.proofs.Common.{Bool, List, ap, arith, false, inl, inr, not, refl, sym, true, ℕ, ◌&&◌, ◌+◌, ◌<◌, ◌==◌, ◌||◌, ◌∙◌, ◌≡◌, ◌≢◌}
+use Rattle.std.proofs.Common.{◌≤◌, ◌⊎◌}
 use Rattle.std.proofs.lemmas.Bool.{and_parts, cases_eq, eq-eqb, eqb-true, false_from_ne_true, ltb-true}
 use Rattle.std.specs.Prelude.{is_some, nat_lt}
 use Rattle.adlb_unit.specs.declared.actors.Actor.TheVariants as by

@@ -1,5 +1,6 @@
 -- A world: every actor's state, the letters that are under way, and the ledger; and what happens in it.
-use Rattle.std.specs.Prelude.{ℕ, ◌+◌, nat_lt, Bool, ◌&&◌, List, [], ◌∷◌, ◌++◌, map, replicate, slice_index_or, slice_set, Option, None, if◌then◌else◌}
+use Rattle.std.specs.Prelude.{ℕ, ◌+◌, nat_lt, Bool, ◌&&◌, List, [], ◌∷◌, ◌++◌, map, replicate, slice_index_or, slice_set, Option, None}
+use Rattle.std.specs.Prelude.{if◌then◌else◌}
 use Rattle.std.specs.List.{list_all, range_with_len}
 use Rattle.std.specs.Option.{option_map}
 use Rattle.adlb_unit.specs.Links.{is_within, place_of}

@@ -23,7 +23,8 @@ use Rattle.core_check_law.proofs.Ticks.{after}
 use Rattle.core_law.proofs.Actors.{client_beside, client_there, pool_beside, pool_there}
 use Rattle.core_law.proofs.Debts.{every_run_paid}
 use Rattle.core_law.proofs.Events.{event_keeps}
-use Rattle.core_law.proofs.EveryRun.{AreZero, answer_within, begins_even, begins_well, call_began, call_within, client_at, every_run_well, inside_ranks, pool_at, well_kept}
+use Rattle.core_law.proofs.EveryRun.{AreZero, answer_within, begins_even, begins_well, call_began, call_within, client_at, every_run_well}
+use Rattle.core_law.proofs.EveryRun.{inside_ranks, pool_at, well_kept}
 use Rattle.core_law.proofs.Fifo.{front_le}
 use Rattle.core_law.proofs.Lawful.{Lawful, every_run_lawful, kept_lawful}
 use Rattle.core_law.proofs.OnLinks.{links_next}
@@ -44,7 +45,10 @@ use Rattle.core_wish_law.specs.News.{IsAgreed}
 use Rattle.core_run.specs.Runs.{Runs}
 use Rattle.core_run.specs.World.{Links, World, after_rank, after_server, client_of, link, pool_of, rank_named, server_named, start, taken}
 use Rattle.core_run.specs.declared.events.Event.{Event}
-use Rattle.rank_client.specs.Rules.{ClientResponse, answer_call, asked, close, expects_note, fetch, hear_close, hear_common, hear_count, hear_done, hear_fetch, hear_keep, hear_look, hear_put, hear_reserve, held, is_for, is_free, is_idle, keep, look, looked, looks_at, open_call, own_came, part_refused, put, refused, reserve, told_done, unit_put}
+use Rattle.rank_client.specs.Rules.{ClientResponse, answer_call, asked, close, expects_note, fetch, hear_close, hear_common, hear_count}
+use Rattle.rank_client.specs.Rules.{hear_done, hear_fetch, hear_keep, hear_look, hear_put, hear_reserve, held, is_for, is_free, is_idle}
+use Rattle.rank_client.specs.Rules.{keep, look, looked, looks_at, open_call, own_came, part_refused, put, refused, reserve, told_done}
+use Rattle.rank_client.specs.Rules.{unit_put}
 use Rattle.rank_client.specs.State.{ClientModel}
 use Rattle.rank_client.specs.Step.{Made, begin, call_stamp, hear, letter_stamp, made, ticked}
 use Rattle.rank_client.specs.declared.pendings.Pending.{Pending}
@@ -58,7 +62,8 @@ use Rattle.server_law.specs.Carried.{Served, all_done, done}
 use Rattle.server_law.specs.State.{Kept, ServerModel}
 use Rattle.server_law.specs.Step.{at_event, serve}
 use Rattle.server_law.specs.Sure.{TakeNone}
-use Rattle.std.proofs.Common.{Bool, List, None, Option, Some, [], ap, arith, false, inl, inr, length, not, refl, subst, sym, true, ℕ, ◌%◌, ◌&&◌, ◌*◌, ◌+◌, ◌-◌, ◌<◌, ◌==◌, ◌∙◌, ◌∷◌, ◌≡◌, ◌≢◌, ◌≤◌, ◌⊎◌}
+use Rattle.std.proofs.Common.{Bool, List, None, Option, Some, [], ap, arith, false, inl, inr, length, not, refl, subst, sym, true, ℕ, ◌%◌}
+use Rattle.std.proofs.Common.{◌&&◌, ◌*◌, ◌+◌, ◌-◌, ◌<◌, ◌==◌, ◌∙◌, ◌∷◌, ◌≡◌, ◌≢◌, ◌≤◌, ◌⊎◌}
 use Rattle.std.proofs.Math.Nat.{mod-eq_of_lt}
 use Rattle.std.proofs.lemmas.Bool.{and_parts, cases_eq, cases_lt, eq-eqb, eqb-true, false_from_ne_true, lt-ltb, ltb-false, ltb-true}
 use Rattle.std.proofs.lemmas.Nat.{mod-mul-add}

@@ -14,7 +14,8 @@ use Rattle.server_law.proofs.Carrying.{carried_state}
 use Rattle.server_law.proofs.Decided.{Follow}
 use Rattle.server_law.proofs.Once.{Handles, act_once, acts_once, follow_rest, plan_handles, step_acts}
 use Rattle.server_law.proofs.Places.{IsPlace, none_found, place_found}
-use Rattle.server_law.proofs.Waiters.{Each, all_done_joined, done_kept, each_after, each_all, each_append, each_parts, each_weaker, none_of, one}
+use Rattle.server_law.proofs.Waiters.{Each, all_done_joined, done_kept, each_after, each_all, each_append, each_parts, each_weaker, none_of}
+use Rattle.server_law.proofs.Waiters.{one}
 use Rattle.server_law.specs.Acts.{Act, Asks_on, Heard, Is_hinted, Parks, Wakes, comes, takes, waiting_after}
 use Rattle.server_law.specs.Asks.{none_rule, wake, wake_at}
 use Rattle.server_law.specs.Calm.{WaitOnce}
@@ -28,7 +29,8 @@ use Rattle.server_law.specs.State.{Kept, ServerModel, awaiting, runs_at_home}
 use Rattle.server_law.specs.Step.{acts, at_event, rule, serve}
 use Rattle.server_law.specs.Sure.{SitsIn}
 use Rattle.server_law.specs.Waits.{ask_at, ask_next, asks_on, looks_again}
-use Rattle.std.proofs.Common.{Bool, List, None, Option, Some, [], ap, arith, cond, false, inl, inr, refl, subst, sym, true, ℕ, ◌++◌, ◌==◌, ◌∙◌, ◌∷◌, ◌≡◌, ◌≤◌, ◌⊎◌}
+use Rattle.std.proofs.Common.{Bool, List, None, Option, Some, [], ap, arith, cond, false, inl, inr, refl, subst, sym, true, ℕ, ◌++◌, ◌==◌}
+use Rattle.std.proofs.Common.{◌∙◌, ◌∷◌, ◌≡◌, ◌≤◌, ◌⊎◌}
 use Rattle.std.proofs.lemmas.Bool.{both_ways, eq-eqb}
 use Rattle.std.proofs.lemmas.List.Sums.{sum_by-append, sum_by-cons}
 use Rattle.std.specs.Option.{IfSome, option_map}

@@ -16,7 +16,8 @@ use Rattle.core_law.proofs.OwedByRanks.{all_fit, finishes_are, letters_are, no_s
 use Rattle.core_law.proofs.OwnStates.{fits_is}
 use Rattle.core_law.proofs.Sums.{links_le, one_adds}
 use Rattle.core_law.proofs.UnderWay.{both, weaker, zero_on}
-use Rattle.core_law.specs.Letters.{call_letter, call_waits, finish_letter, finishes, if_idle, is_request, misfit, one, one_letter, remote_letter}
+use Rattle.core_law.specs.Letters.{call_letter, call_waits, finish_letter, finishes, if_idle, is_request, misfit, one, one_letter}
+use Rattle.core_law.specs.Letters.{remote_letter}
 use Rattle.core_law.specs.Measures.{links_weight, measure, server_weight, weigh, weigh_at, weights}
 use Rattle.core_law.specs.Own.{IsEntry, NoneOwes}
 use Rattle.core_law.specs.Pushed.{letters_of}
@@ -32,7 +33,8 @@ use Rattle.server_law.proofs.Tests.{quiet_is_tested}
 use Rattle.server_law.specs.Endings.{is_quiet}
 use Rattle.server_law.specs.Expected.{IsHome, WaitsIdle}
 use Rattle.server_law.specs.State.{ServerModel, is_finished, start as new_pool}
-use Rattle.std.proofs.Common.{Bool, List, None, Option, Some, [], ap, arith, cond, false, get_or, inl, inr, length, not, refl, subst, suc, sym, true, zero, ℕ, ◌<◌, ◌==◌, ◌∙◌, ◌∷◌, ◌≡◌, ◌≢◌, ◌≤◌, ◌⊎◌}
+use Rattle.std.proofs.Common.{Bool, List, None, Option, Some, [], ap, arith, cond, false, get_or, inl, inr, length, not, refl, subst, suc}
+use Rattle.std.proofs.Common.{sym, true, zero, ℕ, ◌<◌, ◌==◌, ◌∙◌, ◌∷◌, ◌≡◌, ◌≢◌, ◌≤◌, ◌⊎◌}
 use Rattle.std.proofs.lemmas.Bool.{cases_eq, eq-eqb, eqb-true, false_from_ne_true}
 use Rattle.std.specs.Prelude.{Any, is_some}
 use Rattle.adlb_unit.specs.declared.actors.Actor.TheVariants as by

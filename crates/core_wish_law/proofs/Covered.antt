@@ -21,10 +21,12 @@ use Rattle.core_run.specs.World.{World, pool_of, server_named}
 use Rattle.reserve_path.specs.Parked.{is_by}
 use Rattle.reserve_path.specs.declared.waits.Waiting.{Waiting}
 use Rattle.reserve_path.specs.declared.wishes.Wish.{Wish}
-use Rattle.server_law.specs.Acts.{Acks, Act, Around, Asks_on, Checks_alone, Finds_alone, Gives, Hints, Notes_own, Notices, Queries, Shuts_alone, Starts, Tells, around, comes, goes, says, takes, waiting_after, waiting_with, wishes_after}
+use Rattle.server_law.specs.Acts.{Acks, Act, Around, Asks_on, Checks_alone, Finds_alone, Gives, Hints, Notes_own, Notices, Queries}
+use Rattle.server_law.specs.Acts.{Shuts_alone, Starts, Tells, around, comes, goes, says, takes, waiting_after, waiting_with, wishes_after}
 use Rattle.server_law.specs.State.{Kept, ServerModel, awaiting, idle}
 use Rattle.server_law.specs.Sure.{Sits, SitsIn}
-use Rattle.std.proofs.Common.{Bool, List, None, Option, Some, [], ap, arith, false, inl, inr, length, not, refl, subst, sym, true, ℕ, ◌++◌, ◌+◌, ◌<◌, ◌∙◌, ◌∷◌, ◌≡◌, ◌≢◌, ◌⊎◌}
+use Rattle.std.proofs.Common.{Bool, List, None, Option, Some, [], ap, arith, false, inl, inr, length, not, refl, subst, sym, true, ℕ, ◌++◌}
+use Rattle.std.proofs.Common.{◌+◌, ◌<◌, ◌∙◌, ◌∷◌, ◌≡◌, ◌≢◌, ◌⊎◌}
 use Rattle.std.proofs.lemmas.Bool.{cases_eq, eq-eqb, eqb-true}
 use Rattle.adlb_unit.specs.declared.actors.Actor.TheVariants as by
 use Rattle.adlb_unit.specs.declared.messages.Message.TheVariants as tells

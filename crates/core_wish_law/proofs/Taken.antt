@@ -15,7 +15,8 @@ use Rattle.core_law.specs.Measures.{heard_weight, said_weight}
 use Rattle.core_law.specs.OnLinks.{Each}
 use Rattle.core_law.specs.Well.{IsWell}
 use Rattle.core_wish_law.proofs.Agreed.{reached}
-use Rattle.core_wish_law.proofs.Covered.{AllCovered, Covers, about_self, cover_letter, covers, has_gone, has_left, has_parts, has_right, letters_next, old_covered, plain_covered, turned_covered, waits_at, wishes_at}
+use Rattle.core_wish_law.proofs.Covered.{AllCovered, Covers, about_self, cover_letter, covers, has_gone, has_left, has_parts, has_right}
+use Rattle.core_wish_law.proofs.Covered.{letters_next, old_covered, plain_covered, turned_covered, waits_at, wishes_at}
 use Rattle.core_wish_law.proofs.Having.{filter_has}
 use Rattle.core_run.specs.World.{World, pool_of, server_named}
 use Rattle.reserve_path.specs.Calls.{has_server, is_since, with_server}
@@ -23,10 +24,12 @@ use Rattle.reserve_path.specs.Parked.{is_by, is_of}
 use Rattle.reserve_path.specs.declared.waits.Waiting.{Waiting}
 use Rattle.reserve_path.specs.declared.wishes.Wish.{Wish}
 use Rattle.server_law.proofs.Waiters.{none_of, one as weighed}
-use Rattle.server_law.specs.Acts.{Act, Answers, Around, Asks_on, Declines, Drops_hint, Heard, Hints, Is_hinted, Parks, Passes_on, Wakes, around, comes, hinted, of_server, says, takes, unwished, waiting_after, wishes_after}
+use Rattle.server_law.specs.Acts.{Act, Answers, Around, Asks_on, Declines, Drops_hint, Heard, Hints, Is_hinted, Parks, Passes_on, Wakes}
+use Rattle.server_law.specs.Acts.{around, comes, hinted, of_server, says, takes, unwished, waiting_after, wishes_after}
 use Rattle.server_law.specs.Calm.{WaitOnce}
 use Rattle.server_law.specs.State.{Kept, ServerModel, awaiting, idle}
-use Rattle.std.proofs.Common.{Bool, List, Some, [], ap, arith, false, inl, inr, not, refl, subst, suc, sym, true, zero, ℕ, ◌%◌, ◌&&◌, ◌++◌, ◌+◌, ◌-◌, ◌<◌, ◌==◌, ◌||◌, ◌∙◌, ◌∷◌, ◌≡◌, ◌≢◌, ◌≤◌, ◌⊎◌}
+use Rattle.std.proofs.Common.{Bool, List, Some, [], ap, arith, false, inl, inr, not, refl, subst, suc, sym, true, zero, ℕ, ◌%◌, ◌&&◌, ◌++◌}
+use Rattle.std.proofs.Common.{◌+◌, ◌-◌, ◌<◌, ◌==◌, ◌||◌, ◌∙◌, ◌∷◌, ◌≡◌, ◌≢◌, ◌≤◌, ◌⊎◌}
 use Rattle.std.proofs.Math.Nat.{mod-eq_of_lt}
 use Rattle.std.proofs.lemmas.Bool.{cases_eq, eq-eqb, eqb-true, false_from_ne_true}
 use Rattle.std.proofs.lemmas.List.Sums.{sum_by-append, sum_by-cons}

@@ -25,7 +25,8 @@ use Rattle.server_law.proofs.Once.{Handles, follow_rest, plan_handles, step_acts
 use Rattle.server_law.proofs.Settling.{free, settles_new}
 use Rattle.server_law.proofs.Tests.{expects_put_says, unit_comes_says}
 use Rattle.server_law.proofs.Waiters.{Each, all_done_joined, done_kept, each_append, each_weaker}
-use Rattle.server_law.specs.Acts.{Accepts, Act, Answers, Arrives, Closes, Declines, Fetches, Fetches_part, Gives, Grants, Grants_try, Heard, Hears_done, Hints, Sends_unit, does, done_after, given_back, queue_after, takes, unwished, wishes_after}
+use Rattle.server_law.specs.Acts.{Accepts, Act, Answers, Arrives, Closes, Declines, Fetches, Fetches_part, Gives, Grants, Grants_try, Heard}
+use Rattle.server_law.specs.Acts.{Hears_done, Hints, Sends_unit, does, done_after, given_back, queue_after, takes, unwished, wishes_after}
 use Rattle.server_law.specs.Carried.{Served, all_done, done}
 use Rattle.server_law.specs.Endings.{ends_event}
 use Rattle.server_law.specs.Finding.{Place, best_for, permits, taker}
@@ -37,7 +38,8 @@ use Rattle.server_law.specs.Puts.{expects_put, gives, is_over, is_taken, put, pu
 use Rattle.server_law.specs.State.{Kept, ServerModel}
 use Rattle.server_law.specs.Step.{acts, at_event, rule, serve}
 use Rattle.server_law.specs.Sure.{Sure}
-use Rattle.std.proofs.Common.{Any, Bool, List, None, Option, Some, [], ap, cond, false, filter, inl, inr, length, map, not, refl, subst, sym, true, ◌&&◌, ◌++◌, ◌==◌, ◌∙◌, ◌∷◌, ◌≡◌, ◌⊎◌}
+use Rattle.std.proofs.Common.{Any, Bool, List, None, Option, Some, [], ap, cond, false, filter, inl, inr, length, map, not, refl, subst}
+use Rattle.std.proofs.Common.{sym, true, ◌&&◌, ◌++◌, ◌==◌, ◌∙◌, ◌∷◌, ◌≡◌, ◌⊎◌}
 use Rattle.std.proofs.lemmas.Bool.{both_ways, eq-eqb}
 use Rattle.std.proofs.lemmas.List.Elements.{All-map, All-push, All-weaker}
 use Rattle.std.specs.Option.{IfSome, option_map}

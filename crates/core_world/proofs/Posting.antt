@@ -12,7 +12,8 @@ unfolding post
 post_none config links from = refl
 
 pub post_one : (config : Config) (links : Links) (from : ℕ) (x : Sending) (sends : List Sending)
-    → post config links from (x ∷ sends) ≡ post config (put_link links from (place_of config x.to) (link links from (place_of config x.to) ++ x.letter ∷ [])) from sends
+    → post config links from (x ∷ sends)
+    ≡ post config (put_link links from (place_of config x.to) (link links from (place_of config x.to) ++ x.letter ∷ [])) from sends
 unfolding post
 post_one config links from x sends = refl
 
@@ -25,7 +26,8 @@ pub between_none : (before entries : List Entry) → IsBetween before before (be
 between_none before entries = record { entered = []; rest = entries; now_is = sym (append-nil before); after_is = refl }
 
 -- a front was entered
-pub between_front : (before now entries front rest : List Entry) → entries ≡ front ++ rest → now ≡ before ++ front → IsBetween before now (before ++ entries)
+pub between_front : (before now entries front rest : List Entry) → entries ≡ front ++ rest → now ≡ before ++ front
+    → IsBetween before now (before ++ entries)
 between_front before now entries front rest all is =
     record { entered = front; rest = rest; now_is = is; after_is = rw (all, is) (sym (append_assoc before front rest)) }
 

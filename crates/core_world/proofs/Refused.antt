@@ -149,7 +149,8 @@ enabled_says i now e given answer view enabled other =
     subst (λ (s : Seen). Says s e answer given) view
     (λ said. absurd (other said), λ parts. absurd (none_some _ (none_happens i.stage e parts.1) enabled))
 
-pub done_is_none : (answer : Answered) (told : Option Answer) (given : Event) → answer ≡ Ok told → answer ≡ Err (faults.NotEnabled given) → ⊥
+pub done_is_none : (answer : Answered) (told : Option Answer) (given : Event) → answer ≡ Ok told
+    → answer ≡ Err (faults.NotEnabled given) → ⊥
 done_is_none answer told given is said = absurd (cc)
 
 pub trouble_is_none : (answer : Answered) (trouble : Trouble) (given : Event) → answer ≡ Err (fault_of trouble)

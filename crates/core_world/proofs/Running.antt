@@ -15,7 +15,8 @@ by_step : (mid next : World) (front : List Event) (e : Event) → ((v : World) �
 by_step mid next front e more None ran = absurd (cc)
 by_step mid next front e more (Some v) ran = more v ran
 
-pub run_more : (w mid next : World) (front : List Event) (e : Event) → run w front ≡ Some mid → happens mid e ≡ Some next → run w (front ++ e ∷ []) ≡ Some next
+pub run_more : (w mid next : World) (front : List Event) (e : Event) → run w front ≡ Some mid → happens mid e ≡ Some next
+    → run w (front ++ e ∷ []) ≡ Some next
 run_more w mid next [] e ran h = let same : w ≡ mid = cc in rw (same, h) refl
 run_more w mid next (x ∷ front) e ran h = by_step mid next front e (λ v more. run_more v mid next front e more h) (happens w x) ran
 
@@ -29,7 +30,8 @@ at_seam : (front rest : List Event) (e : Event) → slice_get (front ++ e ∷ re
 at_seam [] rest e = refl
 at_seam (x ∷ front) rest e = at_seam front rest e
 
-pub stops_at : (old before new : Seen) (events front rest : List Event) (e : Event) (number : ℕ) (fault : ApplyFault) → events ≡ front ++ e ∷ rest
+pub stops_at : (old before new : Seen) (events front rest : List Event) (e : Event) (number : ℕ) (fault : ApplyFault)
+    → events ≡ front ++ e ∷ rest
     → number ≡ length front → run old.world front ≡ Some before.world → before.trouble ≡ old.trouble → Refuses before e fault new
     → StopsAt old events number fault new
 stops_at old before new events front rest e number fault all is ran going refused = record {

@@ -1,5 +1,6 @@
 -- What makes an actor fail in an event, by the stamp of the event.
-use Rattle.std.proofs.Common.{◌≡◌, ◌<◌, ◌≤◌, ◌^◌, ◌↔◌, ℕ, Bool, true, false, ◌&&◌, cond, length, get_or, Option, Some, None, Result, Ok, Err, inl, inr, ◌⊎◌, refl, sym, ap, ◌∙◌, subst, arith}
+use Rattle.std.proofs.Common.{◌≡◌, ◌<◌, ◌≤◌, ◌^◌, ◌↔◌, ℕ, Bool, true, false, ◌&&◌, cond, length, get_or, Option, Some, None, Result, Ok}
+use Rattle.std.proofs.Common.{Err, inl, inr, ◌⊎◌, refl, sym, ap, ◌∙◌, subst, arith}
 use Rattle.std.specs.Prelude.{IsSome, IfErr, OnOk, nat_le, nat_lt, not}
 use Rattle.std.specs.Option.{option_map}
 use Rattle.std.proofs.lemmas.Bool.{leb-false, leb-true}
@@ -25,14 +26,16 @@ use Rattle.core_world.specs.Stage.{IsFull, world_of}
 
 -- What is found in the fields is what is found in the world.
 
-pub found_client : (i : Inside) (w : World) (rank : Rank) (client : ClientModel) → world_of i ≡ w → IsFull (world_of i) → rank.0 < w.config.ranks
+pub found_client : (i : Inside) (w : World) (rank : Rank) (client : ClientModel) → world_of i ≡ w → IsFull (world_of i)
+    → rank.0 < w.config.ranks
     → client ≡ get_or i.ranks.items rank.0 client → client ≡ client_of w rank
 found_client i w rank client view full there is =
     let ranks : i.config.ranks ≡ w.config.ranks = ap (λ (v : World). v.config.ranks) view in
     let within : rank.0 < length i.ranks.items = let e = full.ranks in omega arith in
     is ∙ get_or_default i.ranks.items rank.0 client (new_client i.config rank) within ∙ ap (λ (v : World). client_of v rank) view
 
-pub found_pool : (i : Inside) (w : World) (server : Server) (pool : ServerModel) → world_of i ≡ w → IsFull (world_of i) → server.0 < w.config.servers
+pub found_pool : (i : Inside) (w : World) (server : Server) (pool : ServerModel) → world_of i ≡ w → IsFull (world_of i)
+    → server.0 < w.config.servers
     → pool ≡ get_or i.servers.items server.0 pool → pool ≡ pool_of w server
 found_pool i w server pool view full there is =
     let servers : i.config.servers ≡ w.config.servers = ap (λ (v : World). v.config.servers) view in
@@ -55,7 +58,8 @@ first_none (Some t) b none = absurd (cc)
 pub on_time : (s : ClientModel) (letter : Letter) → letter_trouble s letter ≡ None → letter_stamp s letter < 2 ^ 48
 on_time s letter none =
     late_none (letter_stamp s letter)
-    (first_none (told_trouble letter.message) (late (letter_stamp s letter)) (first_none s.trouble (first_trouble (told_trouble letter.message) (late (letter_stamp s letter))) none))
+    (first_none (told_trouble letter.message) (late (letter_stamp s letter))
+    (first_none s.trouble (first_trouble (told_trouble letter.message) (late (letter_stamp s letter))) none))
 
 -- A stamp that is not.
 
@@ -69,7 +73,8 @@ late_causes stamp trouble is = by_test (nat_le (2 ^ 48) stamp) refl is
         subst (Causes stamp) same there
     by_test false is some = absurd (cc)
 
-told_none : (s : ClientModel) (pending : Pending) (from : Server) (message : Message) → IsSome (answer_call s pending from message) → told_trouble message ≡ None
+told_none : (s : ClientModel) (pending : Pending) (from : Server) (message : Message) → IsSome (answer_call s pending from message)
+    → told_trouble message ≡ None
 told_none s waits_for.Nothing from (tells.Broken trouble) some = absurd (cc)
 told_none s (waits_for.Put unit first tried) from (tells.Broken trouble) some = absurd (cc)
 told_none s (waits_for.Reserve request types) from (tells.Broken trouble) some = absurd (cc)
@@ -89,7 +94,9 @@ unmapped f (Some x) some = refl
 heard_told_none : (s : ClientModel) (from : Server) (letter : Letter) → IsSome (hear s from letter) → told_trouble letter.message ≡ None
 heard_told_none s from letter some = by_test (not s.finished && nat_lt letter.stamp (2 ^ 48)) some
   where
-    by_test : (b : Bool) → IsSome (cond b (option_map made (answer_call (ticked s (letter_stamp s letter)) s.pending from letter.message)) None) → told_trouble letter.message ≡ None
+    by_test : (b : Bool)
+        → IsSome (cond b (option_map made (answer_call (ticked s (letter_stamp s letter)) s.pending from letter.message)) None)
+        → told_trouble letter.message ≡ None
     by_test true some = told_none (ticked s (letter_stamp s letter)) s.pending from letter.message (unmapped made _ some)
     by_test false some = absurd (cc)
 

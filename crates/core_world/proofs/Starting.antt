@@ -17,17 +17,23 @@ start_full config = record {
 
 pub start_whole : (config : Config) → IsWhole (start config)
 start_whole config = record {
-  ranks = All-map (λ (c : ClientModel). c.trouble ≡ None) (λ n. new_client config (rank_named n)) (range_with_len 0 config.ranks) (λ k d within. refl);
-  servers = All-map (λ (s : ServerModel). s.trouble ≡ None) (λ n. new_pool config (server_named n)) (range_with_len 0 config.servers) (λ k d within. refl);
+  ranks = All-map (λ (c : ClientModel). c.trouble ≡ None) (λ n. new_client config (rank_named n)) (range_with_len 0 config.ranks)
+      (λ k d within. refl);
+  servers = All-map (λ (s : ServerModel). s.trouble ≡ None) (λ n. new_pool config (server_named n)) (range_with_len 0 config.servers)
+      (λ k d within. refl);
 }
 
 -- one actor more
-pub one_more_client : (config : Config) (before now : List ClientModel) (client : ClientModel) (n : ℕ) → before ≡ map (λ k. new_client config (rank_named k)) (range_with_len 0 n)
-    → client ≡ new_client config (rank_named n) → now ≡ before ++ client ∷ [] → now ≡ map (λ k. new_client config (rank_named k)) (range_with_len 0 (n + 1))
+pub one_more_client : (config : Config) (before now : List ClientModel) (client : ClientModel) (n : ℕ)
+    → before ≡ map (λ k. new_client config (rank_named k)) (range_with_len 0 n)
+    → client ≡ new_client config (rank_named n) → now ≡ before ++ client ∷ []
+    → now ≡ map (λ k. new_client config (rank_named k)) (range_with_len 0 (n + 1))
 one_more_client config before now client n was is pushed =
     rw (map-range_with_len_more (λ k. new_client config (rank_named k)) 0 n n (zero-add n), pushed, was, is) refl
 
-pub one_more_server : (config : Config) (before now : List ServerModel) (server : ServerModel) (n : ℕ) → before ≡ map (λ k. new_pool config (server_named k)) (range_with_len 0 n)
-    → server ≡ new_pool config (server_named n) → now ≡ before ++ server ∷ [] → now ≡ map (λ k. new_pool config (server_named k)) (range_with_len 0 (n + 1))
+pub one_more_server : (config : Config) (before now : List ServerModel) (server : ServerModel) (n : ℕ)
+    → before ≡ map (λ k. new_pool config (server_named k)) (range_with_len 0 n)
+    → server ≡ new_pool config (server_named n) → now ≡ before ++ server ∷ []
+    → now ≡ map (λ k. new_pool config (server_named k)) (range_with_len 0 (n + 1))
 one_more_server config before now server n was is pushed =
     rw (map-range_with_len_more (λ k. new_pool config (server_named k)) 0 n n (zero-add n), pushed, was, is) refl

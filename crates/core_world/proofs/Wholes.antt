@@ -14,10 +14,12 @@ all_at P (x ∷ xs) zero d all default = All-head P x xs all
 all_at P (x ∷ xs) (suc i) d all default = all_at P xs i d (All-tail P x xs all) default
 
 pub whole_rank : (w : World) (rank : Rank) → IsWhole w → (client_of w rank).trouble ≡ None
-whole_rank w rank whole = let P : ClientModel → Type 0 = λ c. c.trouble ≡ None in all_at P w.ranks rank.0 (new_client w.config rank) whole.ranks refl
+whole_rank w rank whole = let P : ClientModel → Type 0 = λ c. c.trouble ≡ None in
+    all_at P w.ranks rank.0 (new_client w.config rank) whole.ranks refl
 
 pub whole_pool : (w : World) (server : Server) → IsWhole w → (pool_of w server).trouble ≡ None
-whole_pool w server whole = let P : ServerModel → Type 0 = λ s. s.trouble ≡ None in all_at P w.servers server.0 (new_pool w.config server) whole.servers refl
+whole_pool w server whole = let P : ServerModel → Type 0 = λ s. s.trouble ≡ None in
+    all_at P w.servers server.0 (new_pool w.config server) whole.servers refl
 
 pub whole_taken : (w now : World) (links : Links) → IsWhole w → now ≡ record w { links = links } → IsWhole now
 whole_taken w now links whole is =

@@ -1,5 +1,6 @@
 -- How boards are counted.
-use Rattle.std.proofs.Common.{◌≡◌, ◌+◌, ◌^◌, ◌-◌, ◌<◌, ◌≤◌, ℕ, zero, suc, Bool, true, false, cond, List, [], ◌∷◌, ◌++◌, All, length, take, get_or, length-append, refl, sym, ap, ◌∙◌, arith, sum_by}
+use Rattle.std.proofs.Common.{◌≡◌, ◌+◌, ◌^◌, ◌-◌, ◌<◌, ◌≤◌, ℕ, zero, suc, Bool, true, false, cond, List, [], ◌∷◌, ◌++◌, All, length, take}
+use Rattle.std.proofs.Common.{get_or, length-append, refl, sym, ap, ◌∙◌, arith, sum_by}
 use Rattle.std.specs.List.{range_with_len}
 use Rattle.std.proofs.Math.Nat.{mul-le-mul_right, pow-le-pow_right, pow-succ'}
 use Rattle.std.proofs.lemmas.List.{take_all}
@@ -22,11 +23,13 @@ unfolding extensions
 full side board less = let none : side - length board ≡ 0 = omega arith in ap (λ n. extensions n side board) none
 
 -- otherwise it counts what its children count
-split_by : (side : ℕ) (board : List ℕ) → extensions (suc (side - length board - 1)) side board ≡ sum_by (by_column side board) (range_with_len 0 side)
+split_by : (side : ℕ) (board : List ℕ)
+    → extensions (suc (side - length board - 1)) side board ≡ sum_by (by_column side board) (range_with_len 0 side)
 unfolding extensions
 split_by side board = refl
 
-whole_row : (side : ℕ) (board : List ℕ) → length board < side → placements side board ≡ sum_by (by_column side board) (range_with_len 0 side)
+whole_row : (side : ℕ) (board : List ℕ) → length board < side
+    → placements side board ≡ sum_by (by_column side board) (range_with_len 0 side)
 whole_row side board less =
     let is : side - length board ≡ suc (side - length board - 1) = omega arith in
     ap (λ n. extensions n side board) is ∙ split_by side board

@@ -1,5 +1,6 @@
 -- The tests of the tokens that are expected, and what they say.
-use Rattle.std.proofs.Common.{◌≡◌, ◌≢◌, ◌<◌, ◌+◌, ◌==◌, ◌&&◌, ◌||◌, ◌⊎◌, ◌↔◌, inl, inr, ℕ, zero, suc, Bool, true, false, not, ltb, List, [], ◌∷◌, length, get_or, None, All, refl, sym, ap, ◌∙◌, arith}
+use Rattle.std.proofs.Common.{◌≡◌, ◌≢◌, ◌<◌, ◌+◌, ◌==◌, ◌&&◌, ◌||◌, ◌⊎◌, ◌↔◌, inl, inr, ℕ, zero, suc, Bool, true, false, not, ltb, List, []}
+use Rattle.std.proofs.Common.{◌∷◌, length, get_or, None, All, refl, sym, ap, ◌∙◌, arith}
 use Rattle.std.specs.Prelude.{IsTrue}
 use Rattle.std.specs.List.{AllPairs, list_all, list_any}
 use Rattle.std.proofs.lemmas.Bool.{and_parts, eq-eqb, eqb-false, eqb-true, lt-ltb, ltb-true, ne_eqb}
@@ -12,7 +13,9 @@ use Rattle.adlb_unit.specs.declared.configs.Config.{Config}
 use Rattle.adlb_unit.specs.declared.names.Rank.{Rank}
 use Rattle.adlb_unit.specs.declared.names.Server.{Server}
 use Rattle.adlb_unit.specs.declared.tokens.Token.{Token}
-use Rattle.exhaust_ring.specs.Expected.{AreAway, AreNamed, Expects, HasComeBack, IsBefore, IsRunning, IsToJudge, IsToMark, IsToTest, are_away, are_inside, are_named, expects, has_come_back, is_before, is_each_once, is_named, is_running, is_to_judge, is_to_mark, is_to_test}
+use Rattle.exhaust_ring.specs.Expected.{AreAway, AreNamed, Expects, HasComeBack, IsBefore, IsRunning, IsToJudge, IsToMark, IsToTest}
+use Rattle.exhaust_ring.specs.Expected.{are_away, are_inside, are_named, expects, has_come_back, is_before, is_each_once, is_named}
+use Rattle.exhaust_ring.specs.Expected.{is_running, is_to_judge, is_to_mark, is_to_test}
 use Rattle.exhaust_ring.specs.Ring.{Asker, RingModel}
 
 abbrev IsApart : Asker → Asker → Type 0
@@ -57,7 +60,10 @@ once_is (a ∷ asked) e =
 once_tested : (asked : List Asker) → AllPairs IsApart asked → is_each_once asked ≡ true
 once_tested [] once = refl
 once_tested (a ∷ asked) once =
-    rw (unnamed (is_named a.0 asked) refl, once_tested asked (λ i j d before within. once (suc i) (suc j) d (omega arith) (omega arith))) refl
+    rw (
+      unnamed (is_named a.0 asked) refl,
+      once_tested asked (λ i j d before within. once (suc i) (suc j) d (omega arith) (omega arith)),
+    ) refl
   where
     unnamed : (t : Bool) → is_named a.0 asked ≡ t → is_named a.0 asked ≡ false
     unnamed false e = e
@@ -76,7 +82,8 @@ named_is config asked e =
 
 named_tested : (config : Config) (asked : List Asker) → AreNamed config asked → are_named config asked ≡ true
 named_tested config asked named =
-    let inside = all_pass (λ a. ltb a.0.0 config.ranks) (λ (a : Asker). a.0.0 < config.ranks) (λ a. lt-ltb a.0.0 config.ranks) asked named.inside in
+    let inside =
+    all_pass (λ a. ltb a.0.0 config.ranks) (λ (a : Asker). a.0.0 < config.ranks) (λ a. lt-ltb a.0.0 config.ranks) asked named.inside in
     rw (inside, once_tested asked named.once) refl
 
 module _ (config : Config) (me : Server) where
@@ -109,8 +116,10 @@ module _ (m : RingModel) (t : Token) where
 
   pub mark_is : is_to_mark m t ≡ true → IsToMark m t
   mark_is e =
-      let a = and_parts (not (m.me.0 == 0)) ((t.wave == 1) && (are_named m.config t.asked && (not (m.ring.number == t.check) && are_away m.config m.me t.asked))) e in
-      let b = and_parts (t.wave == 1) (are_named m.config t.asked && (not (m.ring.number == t.check) && are_away m.config m.me t.asked)) a.1 in
+      let a = and_parts (not (m.me.0 == 0))
+      ((t.wave == 1) && (are_named m.config t.asked && (not (m.ring.number == t.check) && are_away m.config m.me t.asked))) e in
+      let b = and_parts (t.wave == 1)
+      (are_named m.config t.asked && (not (m.ring.number == t.check) && are_away m.config m.me t.asked)) a.1 in
       let c = and_parts (are_named m.config t.asked) (not (m.ring.number == t.check) && are_away m.config m.me t.asked) b.1 in
       let d = and_parts (not (m.ring.number == t.check)) (are_away m.config m.me t.asked) c.1 in
       record {
@@ -123,7 +132,13 @@ module _ (m : RingModel) (t : Token) where
 
   mark_tested : IsToMark m t → is_to_mark m t ≡ true
   mark_tested r =
-      rw (ne_eqb m.me.0 0 r.other, eq-eqb t.wave 1 r.wave, named_tested m.config t.asked r.named, ne_eqb m.ring.number t.check r.fresh, away_tested m.config m.me t.asked r.away) refl
+      rw (
+        ne_eqb m.me.0 0 r.other,
+        eq-eqb t.wave 1 r.wave,
+        named_tested m.config t.asked r.named,
+        ne_eqb m.ring.number t.check r.fresh,
+        away_tested m.config m.me t.asked r.away,
+      ) refl
 
   back_is : has_come_back m t ≡ true → HasComeBack m t
   back_is e =
@@ -139,7 +154,12 @@ module _ (m : RingModel) (t : Token) where
       let a = and_parts (not (m.me.0 == 0)) ((t.wave == 2) && ((m.ring.number == t.check) && not m.ring.tested)) e in
       let b = and_parts (t.wave == 2) ((m.ring.number == t.check) && not m.ring.tested) a.1 in
       let c = and_parts (m.ring.number == t.check) (not m.ring.tested) b.1 in
-      record { other = other_is a.0; wave = eqb-true t.wave 2 b.0; marked = eqb-true m.ring.number t.check c.0; untested = not_true m.ring.tested c.1 }
+      record {
+        other = other_is a.0;
+        wave = eqb-true t.wave 2 b.0;
+        marked = eqb-true m.ring.number t.check c.0;
+        untested = not_true m.ring.tested c.1;
+      }
 
   test_tested : IsToTest m t → is_to_test m t ≡ true
   test_tested r = rw (ne_eqb m.me.0 0 r.other, eq-eqb t.wave 2 r.wave, eq-eqb m.ring.number t.check r.marked, r.untested) refl
@@ -189,18 +209,21 @@ module _ (m : RingModel) (from : Server) (t : Token) where
       by_next (inl e) = inl (back_is m t e)
       by_next (inr e) = inr (by_last (either (is_to_test m t) (is_to_judge m t) e))
 
-      by_row : (is_to_mark m t ≡ true) ⊎ (has_come_back m t || (is_to_test m t || is_to_judge m t) ≡ true) → IsToMark m t ⊎ HasComeBack m t ⊎ IsToTest m t ⊎ IsToJudge m t
+      by_row : (is_to_mark m t ≡ true) ⊎ (has_come_back m t || (is_to_test m t || is_to_judge m t) ≡ true)
+          → IsToMark m t ⊎ HasComeBack m t ⊎ IsToTest m t ⊎ IsToJudge m t
       by_row (inl e) = inl (mark_is m t e)
       by_row (inr e) = inr (by_next (either (has_come_back m t) (is_to_test m t || is_to_judge m t) e))
 
   pub expects_tested : Expects m from t → expects m from t ≡ true
   expects_tested r = rw (before_tested r.0, by_row r.1) refl
     where
-      by_row : IsToMark m t ⊎ HasComeBack m t ⊎ IsToTest m t ⊎ IsToJudge m t → is_to_mark m t || (has_come_back m t || (is_to_test m t || is_to_judge m t)) ≡ true
+      by_row : IsToMark m t ⊎ HasComeBack m t ⊎ IsToTest m t ⊎ IsToJudge m t
+          → is_to_mark m t || (has_come_back m t || (is_to_test m t || is_to_judge m t)) ≡ true
       by_row (inl r) = rw (mark_tested m t r) refl
       by_row (inr (inl r)) = right (is_to_mark m t) (has_come_back m t || (is_to_test m t || is_to_judge m t)) (rw (back_tested m t r) refl)
       by_row (inr (inr (inl r))) =
-          right (is_to_mark m t) (has_come_back m t || (is_to_test m t || is_to_judge m t)) (right (has_come_back m t) (is_to_test m t || is_to_judge m t) (rw (test_tested m t r) refl))
+          right (is_to_mark m t) (has_come_back m t || (is_to_test m t || is_to_judge m t))
+          (right (has_come_back m t) (is_to_test m t || is_to_judge m t) (rw (test_tested m t r) refl))
       by_row (inr (inr (inr r))) =
           right (is_to_mark m t) (has_come_back m t || (is_to_test m t || is_to_judge m t))
           (right (has_come_back m t) (is_to_test m t || is_to_judge m t) (right (is_to_test m t) (is_to_judge m t) (judge_tested m t r)))

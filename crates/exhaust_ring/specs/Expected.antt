@@ -92,7 +92,8 @@ abbrev pub is_running : RingModel → Token → Bool
 is_running m t = (m.me.0 == 0) && (m.ring.runs && (t.check == m.ring.check))
 
 abbrev pub is_to_mark : RingModel → Token → Bool
-is_to_mark m t = not (m.me.0 == 0) && ((t.wave == 1) && (are_named m.config t.asked && (not (m.ring.number == t.check) && are_away m.config m.me t.asked)))
+is_to_mark m t = not (m.me.0 == 0)
+    && ((t.wave == 1) && (are_named m.config t.asked && (not (m.ring.number == t.check) && are_away m.config m.me t.asked)))
 
 abbrev pub has_come_back : RingModel → Token → Bool
 has_come_back m t = is_running m t && ((t.wave == 1) && are_named m.config t.asked)

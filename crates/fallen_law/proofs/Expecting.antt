@@ -21,7 +21,8 @@ use Rattle.rank_client.specs.Step.{hear}
 use Rattle.server_law.specs.Carried.{Served}
 use Rattle.server_law.specs.State.{ServerModel}
 use Rattle.server_law.specs.Step.{serve}
-use Rattle.std.proofs.Common.{Bool, List, None, Option, Some, ap, arith, cond, false, length, map, not, refl, subst, sym, true, ◌&&◌, ◌*◌, ◌+◌, ◌<◌, ◌∙◌, ◌∷◌, ◌≡◌, ◌≤◌}
+use Rattle.std.proofs.Common.{Bool, List, None, Option, Some, ap, arith, cond, false, length, map, not, refl, subst, sym, true, ◌&&◌, ◌*◌}
+use Rattle.std.proofs.Common.{◌+◌, ◌<◌, ◌∙◌, ◌∷◌, ◌≡◌, ◌≤◌}
 use Rattle.std.proofs.lemmas.Bool.{ltb-true}
 use Rattle.std.proofs.lemmas.List.{append_cancel_left, length-map}
 use Rattle.std.specs.Option.{option_map}

@@ -1,5 +1,6 @@
 -- One definition more: why it is refused, and what it leaves.
-use Rattle.std.proofs.Common.{◌≡◌, ◌<◌, ◌≤◌, ◌+◌, ◌==◌, ◌||◌, ◌⊎◌, inl, inr, ℕ, Bool, true, false, cond, ltb, List, [], ◌∷◌, ◌++◌, length, not, count_by, Option, Some, None, refl, sym, ap, ◌∙◌, subst, arith}
+use Rattle.std.proofs.Common.{◌≡◌, ◌<◌, ◌≤◌, ◌+◌, ◌==◌, ◌||◌, ◌⊎◌, inl, inr, ℕ, Bool, true, false, cond, ltb, List, [], ◌∷◌, ◌++◌, length}
+use Rattle.std.proofs.Common.{not, count_by, Option, Some, None, refl, sym, ap, ◌∙◌, subst, arith}
 use Rattle.std.specs.Prelude.{is_some, nat_le}
 use Rattle.std.specs.List.{list_any, position_or_len, slice_get}
 use Rattle.std.specs.Str.{bytes_eq}
@@ -80,7 +81,8 @@ no_count name [] e = refl
 no_count name (x ∷ ds) e = count_none name x ds (named name x) refl (no_count name ds) e
 
 -- with a new definition the names are distinct
-pub distinct_more : (ds : List Definition) (d : Definition) → AreDistinct ds → list_any (named (name_of d)) ds ≡ false → AreDistinct (ds ++ d ∷ [])
+pub distinct_more : (ds : List Definition) (d : Definition) → AreDistinct ds → list_any (named (name_of d)) ds ≡ false
+    → AreDistinct (ds ++ d ∷ [])
 distinct_more ds d distinct new name = at (named name d) refl
   where
     sums : count_by (named name) (ds ++ d ∷ []) ≡ count_by (named name) ds + count_by (named name) (d ∷ [])
@@ -106,7 +108,8 @@ pass : (n m : ℕ) → m ≤ n → cond (ltb n m) (Some n) None ≡ None
 pass n m le = ap (λ b. cond b (Some n) None) (le-ltb n m le)
 
 -- a definition of another name leaves the number of a name
-same_number : (ds : List Definition) (d : Definition) (name : Name) → named name d ≡ false → number_of (ds ++ d ∷ []) name ≡ number_of ds name
+same_number : (ds : List Definition) (d : Definition) (name : Name) → named name d ≡ false
+    → number_of (ds ++ d ∷ []) name ≡ number_of ds name
 same_number ds d name isnt = at (cases_lt (position_or_len (named name) ds) (length ds))
   where
     pushed : position_or_len (named name) (ds ++ d ∷ []) ≡
@@ -129,7 +132,12 @@ same_number ds d name isnt = at (cases_lt (position_or_len (named name) ds) (len
         let new : position_or_len (named name) (ds ++ d ∷ []) ≡ length ds + cond (named name d) 0 1 =
         pushed ∙ ap (λ b. cond b (length ds + cond (named name d) 0 1) (position_or_len (named name) ds)) test in
         let one : cond {A = ℕ} (named name d) 0 1 ≡ 1 = ap (λ b. cond {A = ℕ} b 0 1) isnt in
-        let past : length (ds ++ d ∷ []) ≤ position_or_len (named name) (ds ++ d ∷ []) = omega (arith, new, one, length-append ds (d ∷ [])) in
+        let past : length (ds ++ d ∷ []) ≤ position_or_len (named name) (ds ++ d ∷ []) = omega (
+          arith,
+          new,
+          one,
+          length-append ds (d ∷ []),
+        ) in
         pass (position_or_len (named name) (ds ++ d ∷ [])) (length (ds ++ d ∷ [])) past
         ∙ sym (pass (position_or_len (named name) ds) (length ds) le)
 

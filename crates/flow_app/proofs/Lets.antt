@@ -1,5 +1,6 @@
 -- The value of each `let` is stored, one after the other.
-use Rattle.std.proofs.Common.{◌≡◌, ◌≢◌, ◌<◌, ◌≤◌, ◌+◌, inl, inr, ℕ, Bool, true, false, List, [], length, Option, Some, None, refl, sym, ap, ◌∙◌, arith}
+use Rattle.std.proofs.Common.{◌≡◌, ◌≢◌, ◌<◌, ◌≤◌, ◌+◌, inl, inr, ℕ, Bool, true, false, List, [], length, Option, Some, None, refl, sym, ap}
+use Rattle.std.proofs.Common.{◌∙◌, arith}
 use Rattle.std.specs.Prelude.{is_some, slice_set}
 use Rattle.std.specs.List.{slice_get}
 use Rattle.std.proofs.lemmas.Bool.{cases_eq}
@@ -60,7 +61,8 @@ lets_stay flow values place v none lets i name w at = elim (cases_eq i place) [
   | inr other ↦ get_or-set_other values place i (Some v) None other ∙ lets i name w at
 ]
 
-nothing : (flow : List Definition) (values : List (Option ℕ)) → ((i : ℕ) → value_at values i ≡ None) → (name : Name) (op : Op) (left right : Name) →
+nothing : (flow : List Definition) (values : List (Option ℕ)) → ((i : ℕ) → value_at values i ≡ None)
+    → (name : Name) (op : Op) (left right : Name) →
     is_some (gives (worth_in flow values) (Rule name op left right)) ≡ false
 nothing flow values none name op left right =
     ap (λ o. is_some (joined op o (worth_in flow values right))) (at (number_of flow left))
@@ -70,7 +72,8 @@ nothing flow values none name op left right =
     at (Some i) = none i
 
 -- a store in which nothing is known
-pub none_stored : (flow : List Definition) (values : List (Option ℕ)) (noted : List Bool) (ready : List ℕ) (next : ℕ) → length values ≡ length flow →
+pub none_stored : (flow : List Definition) (values : List (Option ℕ)) (noted : List Bool) (ready : List ℕ) (next : ℕ)
+    → length values ≡ length flow →
     length noted ≡ length flow → ((i : ℕ) → value_at values i ≡ None) → ((i : ℕ) → is_noted noted i ≡ false) → ready ≡ [] → next ≡ 0 →
     IsStored flow values noted ready next []
 none_stored flow values noted ready next long marks none unmarked empty first = record {

@@ -1,5 +1,6 @@
 -- Definitions by the numbers of their names.
-use Rattle.std.proofs.Common.{◌≡◌, ◌<◌, ◌≤◌, ◌||◌, ◌+◌, inl, inr, ℕ, Bool, true, false, List, [], ◌∷◌, length, map, Option, Some, refl, sym, ap, ◌∙◌, subst, arith}
+use Rattle.std.proofs.Common.{◌≡◌, ◌<◌, ◌≤◌, ◌||◌, ◌+◌, inl, inr, ℕ, Bool, true, false, List, [], ◌∷◌, length, map, Option, Some, refl, sym}
+use Rattle.std.proofs.Common.{ap, ◌∙◌, subst, arith}
 use Rattle.std.specs.Prelude.{option_map}
 use Rattle.std.specs.List.{slice_get}
 use Rattle.std.specs.Global.{Vec}
@@ -39,7 +40,8 @@ inside_of flow (Rule name op left right) = record {
 
 inside_from : (flow ds : List Definition) → AreInside (length flow) (map (inputs_of flow) ds)
 inside_from flow [] = All-nil (IsInside (length flow))
-inside_from flow (d ∷ ds) = All-cons (IsInside (length flow)) (inputs_of flow d) (map (inputs_of flow) ds) (inside_of flow d) (inside_from flow ds)
+inside_from flow (d ∷ ds) =
+    All-cons (IsInside (length flow)) (inputs_of flow d) (map (inputs_of flow) ds) (inside_of flow d) (inside_from flow ds)
 
 pub are_inside : (flow : List Definition) (inputs : List Inputs) → inputs ≡ map (inputs_of flow) flow → AreInside (length inputs) inputs
 are_inside flow inputs is =

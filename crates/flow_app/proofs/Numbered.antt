@@ -1,5 +1,6 @@
 -- The numbers of names.
-use Rattle.std.proofs.Common.{◌≡◌, ◌<◌, ℕ, zero, suc, Bool, true, false, cond, ltb, List, [], ◌∷◌, length, get_or, Some, None, Contains, refl, sym, ap, ◌∙◌, arith}
+use Rattle.std.proofs.Common.{◌≡◌, ◌<◌, ℕ, zero, suc, Bool, true, false, cond, ltb, List, [], ◌∷◌, length, get_or, Some, None, Contains}
+use Rattle.std.proofs.Common.{refl, sym, ap, ◌∙◌, arith}
 use Rattle.std.specs.List.{position_or_len, slice_get}
 use Rattle.std.proofs.lemmas.Bool.{cond-true, lt-ltb}
 use Rattle.std.proofs.lemmas.List.Quantifiers.{position-Some}
@@ -48,7 +49,8 @@ number_here flow distinct i d e =
 pub number_inside : (flow : List Definition) (name : Name) (i : ℕ) → number_of flow name ≡ Some i → i < length flow
 number_inside flow name i e = (position-Some (named name) flow i (Let [] 0) e).0
 
-pub number_named : (flow : List Definition) (name : Name) (i : ℕ) (d : Definition) → number_of flow name ≡ Some i → slice_get flow i ≡ Some d →
+pub number_named : (flow : List Definition) (name : Name) (i : ℕ) (d : Definition) → number_of flow name ≡ Some i
+    → slice_get flow i ≡ Some d →
     name_of d ≡ name
 number_named flow name i d e at =
     let same : get_or flow i d ≡ d = get_or_from_slice_get flow i d d at in

@@ -1,5 +1,6 @@
 -- What was read so far, line by line.
-use Rattle.std.proofs.Common.{◌≡◌, ◌<◌, ◌≤◌, ◌+◌, ℕ, List, [], ◌∷◌, ◌++◌, length, map, Option, Some, None, sym, ap, ◌∙◌, arith, append_assoc}
+use Rattle.std.proofs.Common.{◌≡◌, ◌<◌, ◌≤◌, ◌+◌, ℕ, List, [], ◌∷◌, ◌++◌, length, map, Option, Some, None, sym, ap, ◌∙◌, arith}
+use Rattle.std.proofs.Common.{append_assoc}
 use Rattle.std.specs.Str.Lines.{strip_carriage_return}
 use Rattle.std.proofs.lemmas.List.{append-nil}
 use Rattle.flow_law.specs.declared.Definition.{Definition}
@@ -27,7 +28,8 @@ pub at_start : (bytes : List ℕ) (r : Reading) (left : Parts) → IsRead r → 
     parts_left left ≡ slice_split (is_mark 10) bytes → room_left left ≡ length bytes + 1 → IsReadTo bytes r left 0
 at_start bytes r left read none parts room = record {
   read = read;
-  flow = ap (λ l. all_defined (kinds_of l)) (sym parts) ∙ ap (λ (l : List Definition). l ++ all_defined (kinds_of (parts_left left))) (sym none);
+  flow = ap (λ l. all_defined (kinds_of l)) (sym parts)
+      ∙ ap (λ (l : List Definition). l ++ all_defined (kinds_of (parts_left left))) (sym none);
   refused = ap (λ l. first_refused [] 1 (kinds_of l)) (sym parts)
       ∙ ap (λ (l : List Definition). first_refused l 1 (kinds_of (parts_left left))) (sym none);
   room = omega (arith, room);

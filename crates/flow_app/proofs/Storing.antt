@@ -1,5 +1,7 @@
 -- What a store holds stays true as values come.
-use Rattle.std.proofs.Common.{◌≡◌, ◌≢◌, ◌<◌, ◌≤◌, ◌==◌, ◌+◌, ◌||◌, ◌&&◌, ◌⊎◌, inl, inr, ℕ, zero, suc, Bool, true, false, cond, not, List, [], ◌∷◌, ◌++◌, length, get_or, drop, drop-cons, count_by, Option, Some, None, refl, sym, ap, ◌∙◌, subst, arith}
+use Rattle.std.proofs.Common.{◌≡◌, ◌≢◌, ◌<◌, ◌≤◌, ◌==◌, ◌+◌, ◌||◌, ◌&&◌, ◌⊎◌, inl, inr, ℕ, zero, suc, Bool, true, false, cond, not, List}
+use Rattle.std.proofs.Common.{[], ◌∷◌, ◌++◌, length, get_or, drop, drop-cons, count_by, Option, Some, None, refl, sym, ap, ◌∙◌, subst}
+use Rattle.std.proofs.Common.{arith}
 use Rattle.std.specs.Prelude.{is_none, is_some, nat_lt, slice_set}
 use Rattle.std.specs.List.{slice_get}
 use Rattle.std.proofs.lemmas.Bool.{and_parts, cases_eq, eq-eqb, eqb-true, lt-ltb, ltb-true}
@@ -25,7 +27,8 @@ value_stays values place v i w none is = elim (cases_eq i place) [
 ]
 
 -- a value that is there then is the one that came, or was there
-pub value_was : (values : List (Option ℕ)) (place v i w : ℕ) → place < length values → value_at (slice_set values place (Some v)) i ≡ Some w →
+pub value_was : (values : List (Option ℕ)) (place v i w : ℕ) → place < length values
+    → value_at (slice_set values place (Some v)) i ≡ Some w →
     ((i ≡ place) × (w ≡ v)) ⊎ (value_at values i ≡ Some w)
 value_was values place v i w inside is = elim (cases_eq i place) [
   | inl same ↦
@@ -57,12 +60,14 @@ gives_stays : (flow : List Definition) (values : List (Option ℕ)) (place v : �
     is_some (gives (worth_in flow values) d) ≡ true → is_some (gives (worth_in flow (slice_set values place (Some v))) d) ≡ true
 gives_stays flow values place v d none some =
     let s = some_of (gives (worth_in flow values) d) some in
-    ap is_some (gives_more (worth_in flow values) (worth_in flow (slice_set values place (Some v))) (worth_more flow values place v none) d s.0 s.1)
+    ap is_some
+    (gives_more (worth_in flow values) (worth_in flow (slice_set values place (Some v))) (worth_more flow values place v none) d s.0 s.1)
 
 -- a rule that becomes ready asks for the value that came
 gives_was : (flow : List Definition) (values : List (Option ℕ)) (place v : ℕ) (name : Name) (op : Op) (left right : Name) →
     is_some (gives (worth_in flow (slice_set values place (Some v))) (Rule name op left right)) ≡ true →
-    (is_some (gives (worth_in flow values) (Rule name op left right)) ≡ true) ⊎ (asks (inputs_of flow (Rule name op left right)) place ≡ true)
+    (is_some (gives (worth_in flow values) (Rule name op left right)) ≡ true)
+    ⊎ (asks (inputs_of flow (Rule name op left right)) place ≡ true)
 gives_was flow values place v name op left right some =
     by_left (is_number (number_of flow left) place) refl (is_number (number_of flow right) place) refl
   where
@@ -73,12 +78,15 @@ gives_was flow values place v name op left right some =
     V n = worth_in flow (slice_set values place (Some v)) n
 
     by_left : (b : Bool) → is_number (number_of flow left) place ≡ b → (c : Bool) → is_number (number_of flow right) place ≡ c →
-        (is_some (gives (worth_in flow values) (Rule name op left right)) ≡ true) ⊎ (asks (inputs_of flow (Rule name op left right)) place ≡ true)
+        (is_some (gives (worth_in flow values) (Rule name op left right)) ≡ true)
+        ⊎ (asks (inputs_of flow (Rule name op left right)) place ≡ true)
     by_left true is c also = inr (ap (λ b. b || is_number (number_of flow right) place) is)
     by_left false is true also = inr (ap (λ b. b || is_number (number_of flow right) place) is ∙ also)
     by_left false is false also =
-        let l : worth_in flow (slice_set values place (Some v)) left ≡ worth_in flow values left = not_number (number_of flow left) values place v is in
-        let r : worth_in flow (slice_set values place (Some v)) right ≡ worth_in flow values right = not_number (number_of flow right) values place v also in
+        let l : worth_in flow (slice_set values place (Some v)) left ≡ worth_in flow values left =
+        not_number (number_of flow left) values place v is in
+        let r : worth_in flow (slice_set values place (Some v)) right ≡ worth_in flow values right =
+        not_number (number_of flow right) values place v also in
         inl (ap (λ o. is_some (joined op o (worth_in flow values right))) (sym l)
         ∙ ap (λ o. is_some (joined op (worth_in flow (slice_set values place (Some v)) left) o)) (sym r) ∙ some)
 
@@ -114,7 +122,10 @@ has_push_cases xs x i e = at (has xs i) refl (sym (list_any-append (λ y. y == i
   where
     at : (b : Bool) → has xs i ≡ b → (has xs i || has (x ∷ []) i) ≡ true → (has xs i ≡ true) ⊎ (x ≡ i)
     at true is e = inl is
-    at false is e = elim (has_cases x [] i (ap (λ b. b || has (x ∷ []) i) (sym is) ∙ e)) [ inl same ↦ inr same | inr not_there ↦ absurd (has_none i not_there) ]
+    at false is e = elim (has_cases x [] i (ap (λ b. b || has (x ∷ []) i) (sym is) ∙ e)) [
+      | inl same ↦ inr same
+      | inr not_there ↦ absurd (has_none i not_there)
+    ]
 
 pub both : (b c : Bool) → b ≡ true → c ≡ true → (b && (c && true)) ≡ true
 both true true e f = refl
@@ -129,7 +140,8 @@ below_at n (x ∷ xs) (suc i) d e inside = below_at n xs i d (and_parts (nat_lt 
 -- Steps of a store.
 
 -- a value came; the rules that ask for it are to be noted
-pub value_came : (flow : List Definition) (values : List (Option ℕ)) (noted : List Bool) (ready : List ℕ) (next : ℕ) (users : List ℕ) (place v : ℕ) →
+pub value_came : (flow : List Definition) (values : List (Option ℕ)) (noted : List Bool) (ready : List ℕ) (next : ℕ) (users : List ℕ)
+    (place v : ℕ) →
     IsStored flow values noted ready next [] → place < length flow → value_at values place ≡ None →
     ((d : Definition) → slice_get flow place ≡ Some d → HasValue flow (name_of d) v) →
     ((q : ℕ) (d : Definition) → slice_get flow q ≡ Some d → asks (inputs_of flow d) place ≡ true → has users q ≡ true) →
@@ -175,7 +187,8 @@ need_not flow values noted ready next rule rest s is_in = record {
     | inl noted ↦ inl noted
     | inr there ↦ elim (has_cases rule rest i there) [
       | inl same ↦
-          let here : slice_get flow rule ≡ Some (Rule name op left r) = subst (λ k. slice_get flow k ≡ Some (Rule name op left r)) (sym same) at in
+          let here : slice_get flow rule ≡ Some (Rule name op left r) =
+          subst (λ k. slice_get flow k ≡ Some (Rule name op left r)) (sym same) at in
           inl (subst (λ k. is_noted noted k ≡ true) same (is_in name op left r here some))
       | inr later ↦ inr later
     ]
@@ -186,7 +199,8 @@ need_not flow values noted ready next rule rest s is_in = record {
 }
 
 -- a mark that is set
-mark_stays : (noted : List Bool) (rule i : ℕ) → rule < length noted → is_noted noted i ≡ true → is_noted (slice_set noted rule true) i ≡ true
+mark_stays : (noted : List Bool) (rule i : ℕ) → rule < length noted → is_noted noted i ≡ true
+    → is_noted (slice_set noted rule true) i ≡ true
 mark_stays noted rule i inside is = elim (cases_eq i rule) [
   | inl same ↦ ap (is_noted (slice_set noted rule true)) same ∙ get_or-set_same noted rule true false inside
   | inr other ↦ get_or-set_other noted rule i true false other ∙ is
@@ -287,7 +301,8 @@ was_taken flow values noted ready next d s more some = record {
 }
 
 -- the next of the rules that are to be noted
-pub rest_next : (flow : List Definition) (values : List (Option ℕ)) (noted : List Bool) (ready : List ℕ) (next : ℕ) (items : List ℕ) (k : ℕ) →
+pub rest_next : (flow : List Definition) (values : List (Option ℕ)) (noted : List Bool) (ready : List ℕ) (next : ℕ)
+    (items : List ℕ) (k : ℕ) →
     k < length items → IsStored flow values noted ready next (drop k items) →
     IsStored flow values noted ready next (get_or items k 0 ∷ drop (k + 1) items)
 rest_next flow values noted ready next items k inside s =

@@ -1,5 +1,6 @@
 -- The output, line by line, and the counts.
-use Rattle.std.proofs.Common.{◌≡◌, ◌<◌, ◌≤◌, ◌+◌, ◌-◌, ℕ, zero, suc, cond, List, [], ◌∷◌, ◌++◌, length, get_or, take, count_by, Option, Some, None, refl, sym, ap, ◌∙◌, arith, append_assoc}
+use Rattle.std.proofs.Common.{◌≡◌, ◌<◌, ◌≤◌, ◌+◌, ◌-◌, ℕ, zero, suc, cond, List, [], ◌∷◌, ◌++◌, length, get_or, take, count_by, Option}
+use Rattle.std.proofs.Common.{Some, None, refl, sym, ap, ◌∙◌, arith, append_assoc}
 use Rattle.std.specs.Prelude.{codes, decimal, is_some, is_none, flat_map}
 use Rattle.std.specs.List.{slice_get}
 use Rattle.std.proofs.lemmas.List.{append-nil, take_all}
@@ -19,7 +20,8 @@ lines_more f (x ∷ ds) (suc i) d inside =
     ∙ sym (append_assoc (f x) (flat_map f (take i ds)) (f (get_or ds i d)))
 
 -- one line more
-pub line_more : (flow : List Definition) (text : List ℕ) (place : ℕ) (d : Definition) (name : Name) (v : Option ℕ) → slice_get flow place ≡ Some d →
+pub line_more : (flow : List Definition) (text : List ℕ) (place : ℕ) (d : Definition) (name : Name) (v : Option ℕ)
+    → slice_get flow place ≡ Some d →
     name ≡ name_of d → v ≡ value flow (name_of d) → text ≡ flat_map (line_of flow) (take place flow) →
     text ++ line_with name v ≡ flat_map (line_of flow) (take (place + 1) flow)
 line_more flow text place d name v there named is before =
@@ -89,7 +91,8 @@ module _ (flow : List Definition) (values : List (Option ℕ)) (long : length va
       ap (λ (t : List ℕ). t ++ ends_with done waits) (lines ∙ ap (flat_map (line_of flow)) (take_all place flow past))
       ∙ ap (λ n. flat_map (line_of flow) flow ++ ends_with n waits) done_same
       ∙ ap (λ n. flat_map (line_of flow) flow ++ ends_with (done_in flow) n) waits_same
-      ∙ grouped (flat_map (line_of flow) flow) (codes "done ") (decimal (done_in flow)) (codes " waits ") (decimal (waits_in flow)) (codes "\n")
+      ∙ grouped (flat_map (line_of flow) flow) (codes "done ") (decimal (done_in flow)) (codes " waits ")
+      (decimal (waits_in flow)) (codes "\n")
     where
       grouped : (a b c d e f : List ℕ) → a ++ ((((b ++ c) ++ d) ++ e) ++ f) ≡ ((((a ++ b) ++ c) ++ d) ++ e) ++ f
       grouped a b c d e f = simp append_assoc

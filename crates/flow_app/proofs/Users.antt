@@ -1,5 +1,6 @@
 -- One more rule that asks for a number.
-use Rattle.std.proofs.Common.{◌≡◌, ◌≢◌, ◌<◌, inl, inr, ℕ, zero, suc, true, List, [], ◌∷◌, ◌++◌, length, get_or, Some, refl, sym, ap, ◌∙◌, subst, arith}
+use Rattle.std.proofs.Common.{◌≡◌, ◌≢◌, ◌<◌, inl, inr, ℕ, zero, suc, true, List, [], ◌∷◌, ◌++◌, length, get_or, Some, refl, sym, ap, ◌∙◌}
+use Rattle.std.proofs.Common.{subst, arith}
 use Rattle.std.specs.Prelude.{nat_lt, slice_set}
 use Rattle.std.specs.Global.{Vec}
 use Rattle.std.proofs.lemmas.Bool.{cases_eq, eqb-true, lt-ltb}
@@ -50,7 +51,8 @@ module _ (users : List (Vec ℕ)) (n rule : ℕ) (v : Vec ℕ) (inside : n < len
   ]
 
 -- one empty list more
-pub none_more : (users : List (Vec ℕ)) (v : Vec ℕ) → v.items ≡ [] → ((i : ℕ) → users_at users i ≡ []) → (i : ℕ) → users_at (users ++ v ∷ []) i ≡ []
+pub none_more : (users : List (Vec ℕ)) (v : Vec ℕ) → v.items ≡ [] → ((i : ℕ) → users_at users i ≡ []) → (i : ℕ)
+    → users_at (users ++ v ∷ []) i ≡ []
 none_more [] v empty none zero = empty
 none_more [] v empty none (suc i) = refl
 none_more (x ∷ users) v empty none zero = none zero

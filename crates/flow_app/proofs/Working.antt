@@ -1,5 +1,6 @@
 -- What a definition gives, as the store works it.
-use Rattle.std.proofs.Common.{◌≡◌, ◌<◌, ◌≤◌, ◌+◌, ℕ, zero, suc, Bool, true, false, List, [], ◌∷◌, ◌++◌, length, get_or, Option, Some, None, Contains, refl, sym, ap, ◌∙◌, subst, arith, append-nil, append_assoc}
+use Rattle.std.proofs.Common.{◌≡◌, ◌<◌, ◌≤◌, ◌+◌, ℕ, zero, suc, Bool, true, false, List, [], ◌∷◌, ◌++◌, length, get_or, Option, Some, None}
+use Rattle.std.proofs.Common.{Contains, refl, sym, ap, ◌∙◌, subst, arith, append-nil, append_assoc}
 use Rattle.std.specs.Prelude.{is_some, slice_set}
 use Rattle.std.specs.List.{slice_get}
 use Rattle.std.proofs.lemmas.List.{length-append}
@@ -16,7 +17,8 @@ use Rattle.flow_app.proofs.Linking.{inside_of}
 use Rattle.flow_app.proofs.Numbered.{definition_at, there_at}
 use Rattle.flow_app.proofs.Whole.{worth_has}
 
-same_definition : (flow : List Definition) (place : ℕ) (d e : Definition) → slice_get flow place ≡ Some e → slice_get flow place ≡ Some d → e ≡ d
+same_definition : (flow : List Definition) (place : ℕ) (d e : Definition) → slice_get flow place ≡ Some e
+    → slice_get flow place ≡ Some d → e ≡ d
 same_definition flow place d e there at = let h : Some e ≡ Some d = sym there ∙ at in let same : e ≡ d = cc in same
 
 by_inputs : (flow : List Definition) (values : List (Option ℕ)) (d : Definition) →
@@ -24,7 +26,8 @@ by_inputs : (flow : List Definition) (values : List (Option ℕ)) (d : Definitio
 by_inputs flow values (Let name v) = refl
 by_inputs flow values (Rule name op left right) = refl
 
-pub worth_is : (flow : List Definition) (values : List (Option ℕ)) (place : ℕ) (e : Definition) (asked : Inputs) → slice_get flow place ≡ Some e →
+pub worth_is : (flow : List Definition) (values : List (Option ℕ)) (place : ℕ) (e : Definition) (asked : Inputs)
+    → slice_get flow place ≡ Some e →
     ((d : Definition) → slice_get flow place ≡ Some d → asked ≡ inputs_of flow d) → (d : Definition) → slice_get flow place ≡ Some d →
     given_by values asked e ≡ gives (worth_in flow values) d
 worth_is flow values place e asked there is d at =
@@ -47,7 +50,8 @@ let_right flow place e v there own d at =
         given name v (subst (λ z. let c : Definition = Let name z in Contains flow c) same (there_at flow place (Let name w) there))
     by_case (Rule name op left right) there own = absurd (cc)
 
-pub lets_after : (flow : List Definition) (values new : List (Option ℕ)) (place : ℕ) (e : Definition) (v : ℕ) → HasLetsTo flow values place →
+pub lets_after : (flow : List Definition) (values new : List (Option ℕ)) (place : ℕ) (e : Definition) (v : ℕ)
+    → HasLetsTo flow values place →
     place < length values → slice_get flow place ≡ Some e → own_value e ≡ Some v → new ≡ slice_set values place (Some v) →
     HasLetsTo flow new (place + 1)
 lets_after flow values new place (Let name w) v lets inside there own set =
@@ -69,7 +73,8 @@ none_yet flow values place (Rule name op left right) v lets there own = absurd (
 
 -- what a definition gives by the store's values is a value of its name
 pub given_right : (flow : List Definition) (values : List (Option ℕ)) (noted : List Bool) (ready : List ℕ) (next place v : ℕ) →
-    IsStored flow values noted ready next [] → ((d : Definition) → slice_get flow place ≡ Some d → Some v ≡ gives (worth_in flow values) d) →
+    IsStored flow values noted ready next []
+    → ((d : Definition) → slice_get flow place ≡ Some d → Some v ≡ gives (worth_in flow values) d) →
     (d : Definition) → slice_get flow place ≡ Some d → HasValue flow (name_of d) v
 given_right flow values noted ready next place v s is d at =
     gives_has flow (worth_in flow values) (worth_has flow values noted ready next s) d v (there_at flow place d at) (sym (is d at))

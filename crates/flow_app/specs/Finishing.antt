@@ -8,7 +8,8 @@ use Rattle.flow_app.specs.declared.finishing.FlowOutcome.{FlowOutcome}
 
 -- if this is the number of a rule, this is its value
 abbrev pub IsItsValue : List Definition → ℕ × ℕ → Type 0
-IsItsValue flow (i, v) = (name : Name) (op : Op) (left right : Name) → slice_get flow i ≡ Some (Rule name op left right) → HasValue flow name v
+IsItsValue flow (i, v) = (name : Name) (op : Op) (left right : Name) → slice_get flow i ≡ Some (Rule name op left right)
+    → HasValue flow name v
 
 -- all that the ranks bring are values of the flow
 abbrev pub AreValues : List Definition → List FlowOutcome → Type 0

@@ -1,5 +1,6 @@
 -- Every name that has a value has it after as many turns as there are definitions.
-use Rattle.std.proofs.Common.{◌≡◌, ◌<◌, ◌≤◌, ◌+◌, ◌-◌, ◌⊎◌, ◌↔◌, ℕ, zero, suc, inl, inr, Bool, true, false, cond, List, [], ◌∷◌, length, get_or, Option, Some, None, Contains, All, count_by, refl, sym, ap, ◌∙◌, subst, arith}
+use Rattle.std.proofs.Common.{◌≡◌, ◌<◌, ◌≤◌, ◌+◌, ◌-◌, ◌⊎◌, ◌↔◌, ℕ, zero, suc, inl, inr, Bool, true, false, cond, List, [], ◌∷◌, length}
+use Rattle.std.proofs.Common.{get_or, Option, Some, None, Contains, All, count_by, refl, sym, ap, ◌∙◌, subst, arith}
 use Rattle.std.specs.Prelude.{is_some}
 use Rattle.std.specs.Str.{bytes_eq}
 use Rattle.std.proofs.lemmas.Bool.{cases_lt}
@@ -41,7 +42,8 @@ gives_more less more knows (Rule name op left right) v e =
     ∙ ap Some (sym i.is)
 
 -- by whether a definition is of the name
-by_name : (b : Bool) (x y z w : Option ℕ) (v : ℕ) → (x ≡ Some v → z ≡ Some v) → (y ≡ Some v → w ≡ Some v) → cond b x y ≡ Some v → cond b z w ≡ Some v
+by_name : (b : Bool) (x y z w : Option ℕ) (v : ℕ) → (x ≡ Some v → z ≡ Some v) → (y ≡ Some v → w ≡ Some v) → cond b x y ≡ Some v
+    → cond b z w ≡ Some v
 by_name true x y z w v first later e = first e
 by_name false x y z w v first later e = later e
 
@@ -133,7 +135,8 @@ same-one true c e t = refl
 same-one false true e t = absurd (omega arith)
 same-one false false e t = t
 
-count-same : (p q : Definition → Bool) → ((d : Definition) → p d ≡ true → q d ≡ true) → (ds : List Definition) → count_by p ds ≡ count_by q ds →
+count-same : (p q : Definition → Bool) → ((d : Definition) → p d ≡ true → q d ≡ true) → (ds : List Definition)
+    → count_by p ds ≡ count_by q ds →
     All (λ d. q d ≡ true → p d ≡ true) ds
 count-same p q more [] e = λ k d below. absurd (omega arith)
 count-same p q more (d ∷ ds) e =
@@ -172,7 +175,8 @@ module _ (flow : List Definition) where
   unfolding turn
   still_at k same name v e =
       let is = defined_by (turn flow k) flow name v e in
-      let all = count-same (known (turn flow k)) (known (turn flow (suc k))) (is_more_known (turn flow k) (turn flow (suc k)) (turn_more flow k))
+      let all =
+      count-same (known (turn flow k)) (known (turn flow (suc k))) (is_more_known (turn flow k) (turn flow (suc k)) (turn_more flow k))
       flow same in
       let later : known (turn flow (suc k)) is.d ≡ true = ap (λ n. is_some (turn flow (suc k) n)) is.named ∙ ap is_some e in
       let now : known (turn flow k) is.d ≡ true =
@@ -277,7 +281,8 @@ at_turn flow distinct _ _ (ruled name op left right a b there l r) =
     let x = at_turn flow distinct left a l in
     let y = at_turn flow distinct right b r in
     let both : ℕ = x.k + y.k in
-    let of_left : turn flow both left ≡ Some a = subst (λ m. turn flow m left ≡ Some a) (swap y.k x.k) (turn_later flow x.k y.k left a x.is) in
+    let of_left : turn flow both left ≡ Some a =
+    subst (λ m. turn flow m left ≡ Some a) (swap y.k x.k) (turn_later flow x.k y.k left a x.is) in
     let of_right : turn flow both right ≡ Some b = turn_later flow y.k x.k right b y.is in
     record {
       k = suc both;

@@ -1,5 +1,6 @@
 -- What the names of a flow are worth.
-use Rattle.std.specs.Prelude.{◌≤◌, ℕ, zero, suc, ◌+◌, ◌*◌, ◌%◌, ◌^◌, min, max, bit_xor, List, [], ◌∷◌, ◌++◌, length, flat_map, count_by, Option, Some, None, if◌then◌else◌, Contains, codes, decimal, is_some, is_none, bytes_eq}
+use Rattle.std.specs.Prelude.{◌≤◌, ℕ, zero, suc, ◌+◌, ◌*◌, ◌%◌, ◌^◌, min, max, bit_xor, List, [], ◌∷◌, ◌++◌, length, flat_map, count_by}
+use Rattle.std.specs.Prelude.{Option, Some, None, if◌then◌else◌, Contains, codes, decimal, is_some, is_none, bytes_eq}
 use Rattle.flow_law.specs.declared.Definition.{Definition}
 use Rattle.flow_law.specs.declared.Definition.TheVariants.{Let, Rule}
 use Rattle.flow_law.specs.declared.Op.{Op}

@@ -1,5 +1,6 @@
 -- Where no answer of another rank than 0 was rejected, rank 0 puts and stores each rule that has a value.
-use Rattle.std.proofs.Common.{◌≡◌, ◌<◌, ◌≤◌, ℕ, zero, suc, Bool, true, false, cond, List, [], ◌∷◌, ◌++◌, length, get_or, slice_get, Contains, All, count_by, Option, Some, None, refl, sym, ap, ◌∙◌, subst, arith, inl, inr}
+use Rattle.std.proofs.Common.{◌≡◌, ◌<◌, ◌≤◌, ℕ, zero, suc, Bool, true, false, cond, List, [], ◌∷◌, ◌++◌, length, get_or, slice_get}
+use Rattle.std.proofs.Common.{Contains, All, count_by, Option, Some, None, refl, sym, ap, ◌∙◌, subst, arith, inl, inr}
 use Rattle.std.proofs.Math.Bridge.{le_prop}
 use Rattle.std.proofs.lemmas.Bool.{cases_eq, ne_eqb}
 use Rattle.std.proofs.lemmas.List.Elements.{All-nil, All-cons, All-append, All-head, All-tail}
@@ -29,7 +30,9 @@ use Rattle.work_law.specs.Work.{IsWork, common_bytes, fetched_unit, own_bytes, p
 use Rattle.work_law.specs.Books.{said_of}
 use Rattle.work_law.proofs.Flow.{got_finish, passes, reads, sent_finish}
 use Rattle.flow_run_law.specs.Units.{Answer, FlowUnit, Forms, HasTypes, IsRule, Rule, flows, untargeted, AimsAt}
-use Rattle.flow_run_law.specs.Desk.{Desk, Goes, Knows, MayReserve, Moves, again_refused, again_stopped, again_taken, answer_refused, answer_stopped, answer_taken, at_start, brought, fetched, given, granted, refused, rule_refused, rule_stopped, rule_taken, stored_is, told, unit_of}
+use Rattle.flow_run_law.specs.Desk.{Desk, Goes, Knows, MayReserve, Moves, again_refused, again_stopped, again_taken, answer_refused}
+use Rattle.flow_run_law.specs.Desk.{answer_stopped, answer_taken, at_start, brought, fetched, given, granted, refused, rule_refused}
+use Rattle.flow_run_law.specs.Desk.{rule_stopped, rule_taken, stored_is, told, unit_of}
 use Rattle.flow_run_law.specs.Run.{IsFlowRank, flow_of}
 use Rattle.flow_run_law.proofs.Good.{exact_unit, is_unit, same_unit}
 use Rattle.flow_run_law.proofs.Order.{ordered}
@@ -192,7 +195,8 @@ module _ (F : Forms) (is : IsWork (flows (untargeted F))) (flow : Option (List D
       (goes_for types goes.0 said last goes.2)
 
 -- a parcel that is read as an answer is of work type 1
-read_types : (F : Forms) (is : IsWork (flows (untargeted F))) → HasTypes F → (i v : ℕ) (ps : List Parcel) → All (λ (p : Parcel). p.kind.0 ≡ 1 → ⊥) ps →
+read_types : (F : Forms) (is : IsWork (flows (untargeted F))) → HasTypes F → (i v : ℕ) (ps : List Parcel)
+    → All (λ (p : Parcel). p.kind.0 ≡ 1 → ⊥) ps →
     1 ≤ count_by (reads (flows (untargeted F)) is (is_unit (Answer i v))) ps → ⊥
 read_types F is types i v [] none some = omega (arith, some)
 read_types F is types i v (p ∷ ps) none some =
@@ -206,9 +210,11 @@ read_types F is types i v (p ∷ ps) none some =
   where
     at : (o : Option FlowUnit) → o ≡ F.read p.kind p.answer (own_bytes p.long (bytes_of p.common p.own)) → (p.kind.0 ≡ 1 → ⊥) →
         reads (flows (untargeted F)) is (is_unit (Answer i v)) p ≡ false
-    at None e other = ap (λ o. passes (flows (untargeted F)) is (is_unit (Answer i v)) (common_bytes p.long (bytes_of p.common p.own)) o) (sym e)
+    at None e other =
+        ap (λ o. passes (flows (untargeted F)) is (is_unit (Answer i v)) (common_bytes p.long (bytes_of p.common p.own)) o) (sym e)
     at (Some w) e other =
-        ap (λ o. passes (flows (untargeted F)) is (is_unit (Answer i v)) (common_bytes p.long (bytes_of p.common p.own)) o) (sym e) ∙ by_test
+        ap (λ o. passes (flows (untargeted F)) is (is_unit (Answer i v)) (common_bytes p.long (bytes_of p.common p.own)) o)
+        (sym e) ∙ by_test
         (same_unit (Answer i v) w) refl
       where
         by_test : (b : Bool) → b ≡ same_unit (Answer i v) w → same_unit (Answer i v) w ≡ false
@@ -255,20 +261,24 @@ module _ (F : Forms) (is : IsWork (flows (untargeted F))) (types : HasTypes F) (
         1 ≤ count_by (reads (flows (untargeted F)) is (is_unit u)) (sent None (each rank below).said) →
         Found config.ranks (λ r. count_by (reads (flows (untargeted F)) is (is_unit u)) (got None (calls config ledger r)))
     got_by u rank below counts =
-        let e : count_by (reads (flows (untargeted F)) is (is_unit u)) (sent None (calls config ledger rank)) ≡ count_by (reads (flows (untargeted F)) is (is_unit u))
+        let e : count_by (reads (flows (untargeted F)) is (is_unit u)) (sent None (calls config ledger rank))
+        ≡ count_by (reads (flows (untargeted F)) is (is_unit u))
         (sent None (each rank below).said) =
         ap (λ l. count_by (reads (flows (untargeted F)) is (is_unit u)) (sent None l)) (each rank below).calls_are
         ∙ ap (count_by (reads (flows (untargeted F)) is (is_unit u))) (sent_finish None (each rank below).said) in
-        let o = over_one config.ranks (λ r. count_by (reads (flows (untargeted F)) is (is_unit u)) (sent None (calls config ledger r))) rank below
+        let o = over_one config.ranks
+        (λ r. count_by (reads (flows (untargeted F)) is (is_unit u)) (sent None (calls config ledger r))) rank below
         (omega (arith, e, counts)) in
         let same = all.same (reads (flows (untargeted F)) is (is_unit u)) in
-        over_found config.ranks (λ r. count_by (reads (flows (untargeted F)) is (is_unit u)) (got None (calls config ledger r))) (omega (arith, o, same))
+        over_found config.ranks (λ r. count_by (reads (flows (untargeted F)) is (is_unit u)) (got None (calls config ledger r)))
+        (omega (arith, o, same))
 
     got_said : (u : FlowUnit) (rank : Rank) (below : rank.0 < config.ranks) →
         1 ≤ count_by (reads (flows (untargeted F)) is (is_unit u)) (got None (calls config ledger rank)) →
         1 ≤ count_by (reads (flows (untargeted F)) is (is_unit u)) (got None (each rank below).said)
     got_said u rank below counts =
-        let e : count_by (reads (flows (untargeted F)) is (is_unit u)) (got None (calls config ledger rank)) ≡ count_by (reads (flows (untargeted F)) is (is_unit u))
+        let e : count_by (reads (flows (untargeted F)) is (is_unit u)) (got None (calls config ledger rank))
+        ≡ count_by (reads (flows (untargeted F)) is (is_unit u))
         (got None (each rank below).said) =
         ap (λ l. count_by (reads (flows (untargeted F)) is (is_unit u)) (got None l)) (each rank below).calls_are
         ∙ ap (count_by (reads (flows (untargeted F)) is (is_unit u))) (got_finish None (each rank below).said) in
@@ -288,12 +298,15 @@ module _ (F : Forms) (is : IsWork (flows (untargeted F))) (types : HasTypes F) (
         HasStored (each (record { 0 = 0 }) some).last.stored i
     answer_comes i v rank below counts = at (got_by (Answer i v) rank below counts)
       where
-        at : Found config.ranks (λ r. count_by (reads (flows (untargeted F)) is (is_unit (Answer i v))) (got None (calls config ledger r))) →
+        at : Found config.ranks
+            (λ r. count_by (reads (flows (untargeted F)) is (is_unit (Answer i v))) (got None (calls config ledger r))) →
             HasStored (each (record { 0 = 0 }) some).last.stored i
         at q = elim (cases_eq q.rank.0 0) [
           | inl same ↦
-              let here : 1 ≤ count_by (reads (flows (untargeted F)) is (is_unit (Answer i v))) (got None (calls config ledger (record { 0 = 0 }))) =
-              subst (λ k. 1 ≤ count_by (reads (flows (untargeted F)) is (is_unit (Answer i v))) (got None (calls config ledger (record { 0 = k })))) same
+              let here : 1 ≤ count_by (reads (flows (untargeted F)) is (is_unit (Answer i v)))
+              (got None (calls config ledger (record { 0 = 0 }))) =
+              subst (λ k. 1 ≤ count_by (reads (flows (untargeted F)) is (is_unit (Answer i v)))
+              (got None (calls config ledger (record { 0 = k })))) same
               q.some in
               answer_stored F is (Some f) config.ranks aims f refl i v at_start (each (record { 0 = 0 }) some).said
               (each (record { 0 = 0 }) some).last
@@ -326,7 +339,8 @@ module _ (F : Forms) (is : IsWork (flows (untargeted F))) (types : HasTypes F) (
         ]
       where
         at : (r : IsSentRule F is (Some f) i (each (record { 0 = 0 }) some).said) →
-            Found config.ranks (λ q. count_by (reads (flows (untargeted F)) is (is_unit (Rule i r.op r.a r.b))) (got None (calls config ledger q))) →
+            Found config.ranks
+            (λ q. count_by (reads (flows (untargeted F)) is (is_unit (Rule i r.op r.a r.b))) (got None (calls config ledger q))) →
             HasStored (each (record { 0 = 0 }) some).last.stored i
         at r q = elim (rule_ends F is (flow_of f q.rank) config.ranks aims i r.op r.a r.b at_start (each q.rank q.below).said
             (each q.rank q.below).last

@@ -1,5 +1,6 @@
 -- Where a rank gets right values, it stores, keeps and puts right values.
-use Rattle.std.proofs.Common.{◌≡◌, ◌≤◌, ◌==◌, ◌&&◌, ℕ, zero, suc, Bool, true, false, cond, List, [], ◌∷◌, ◌++◌, slice_get, Contains, All, count_by, Option, Some, None, refl, sym, ap, ◌∙◌, subst, arith, inl, inr}
+use Rattle.std.proofs.Common.{◌≡◌, ◌≤◌, ◌==◌, ◌&&◌, ℕ, zero, suc, Bool, true, false, cond, List, [], ◌∷◌, ◌++◌, slice_get, Contains, All}
+use Rattle.std.proofs.Common.{count_by, Option, Some, None, refl, sym, ap, ◌∙◌, subst, arith, inl, inr}
 use Rattle.std.specs.List.{list_any}
 use Rattle.std.proofs.lemmas.Bool.{cases_lt, eqb-true, eq-eqb}
 use Rattle.std.proofs.lemmas.List.Elements.{All-nil, All-cons, All-head, All-tail, All-append, All-contains}
@@ -19,7 +20,9 @@ use Rattle.work_law.specs.Books.{said_of}
 use Rattle.work_law.proofs.Flow.{got_counts, passes, put_counts, reads}
 use Rattle.work_law.proofs.Pieces.{Test, one_if}
 use Rattle.flow_run_law.specs.Units.{Answer, FlowUnit, Forms, IsGood, IsGoodAnswer, IsGoodRule, Rule, flows, untargeted}
-use Rattle.flow_run_law.specs.Desk.{Desk, Goes, IsReady, Knows, Moves, add, again_refused, again_stopped, again_taken, answer_refused, answer_stopped, answer_taken, brought, fetched, given, granted, refused, rule_refused, rule_stopped, rule_taken, stored_is, told, unit_of}
+use Rattle.flow_run_law.specs.Desk.{Desk, Goes, IsReady, Knows, Moves, add, again_refused, again_stopped, again_taken, answer_refused}
+use Rattle.flow_run_law.specs.Desk.{answer_stopped, answer_taken, brought, fetched, given, granted, refused, rule_refused, rule_stopped}
+use Rattle.flow_run_law.specs.Desk.{rule_taken, stored_is, told, unit_of}
 use Rattle.flow_run_law.specs.Puts.{IsRightDesk}
 
 -- Units are told apart.
@@ -299,10 +302,13 @@ module _ (F : Forms) (is : IsWork (flows (untargeted F))) (f : List Definition) 
     stays_right d s next right gets (fetched note bytes holds none live said left) =
         let u : Option FlowUnit = fetched_unit (flows F) note bytes in
         let good : (v : FlowUnit) → u ≡ Some v → IsGood f v = λ v e.
-        let its : count_by (reads (flows (untargeted F)) is (is_unit v)) (parcel_got (Some note) (calls_to.Fetch note.id) (answers.Body bytes))
-        ≡ cond (passes (flows (untargeted F)) is (is_unit v) (common_bytes note.length bytes) u) 1 0 = got_counts (flows (untargeted F)) is (is_unit v) note bytes in
+        let its : count_by (reads (flows (untargeted F)) is (is_unit v))
+        (parcel_got (Some note) (calls_to.Fetch note.id) (answers.Body bytes))
+        ≡ cond (passes (flows (untargeted F)) is (is_unit v) (common_bytes note.length bytes) u) 1 0 =
+        got_counts (flows (untargeted F)) is (is_unit v) note bytes in
         let yes : cond {A = ℕ} (passes (flows (untargeted F)) is (is_unit v) (common_bytes note.length bytes) u) 1 0 ≡ 1 =
-        ap (λ o. cond {A = ℕ} (passes (flows (untargeted F)) is (is_unit v) (common_bytes note.length bytes) o) 1 0) e ∙ ap (λ b. cond {A = ℕ} b 1 0)
+        ap (λ o. cond {A = ℕ} (passes (flows (untargeted F)) is (is_unit v) (common_bytes note.length bytes) o) 1 0) e
+        ∙ ap (λ b. cond {A = ℕ} b 1 0)
         (itself v) in
         let here : counts_got v d.held s ≡ count_by (reads (flows (untargeted F)) is (is_unit v))
         (parcel_got (Some note) (calls_to.Fetch note.id) (answers.Body bytes)) =
@@ -324,7 +330,8 @@ module _ (F : Forms) (is : IsWork (flows (untargeted F))) (f : List Definition) 
       pub puts : (u : FlowUnit) → 1 ≤ count_by (reads (flows (untargeted F)) is (is_unit u)) (sent None said) → IsGood f u
 
     pub all_right : (d : Desk) (said : List Said) (last : Desk) → IsRightDesk f d →
-        ((u : FlowUnit) → 1 ≤ count_by (reads (flows (untargeted F)) is (is_unit u)) (got d.held said) → IsGood f u) → Goes F flow d said last →
+        ((u : FlowUnit) → 1 ≤ count_by (reads (flows (untargeted F)) is (is_unit u)) (got d.held said) → IsGood f u)
+        → Goes F flow d said last →
         AllRight said last
     unfolding sent got
     all_right d [] last right gets same = record { right = subst (IsRightDesk f) same right; puts = none_sent }

@@ -1,7 +1,9 @@
 -- Each input of a rule that rank 0 puts was known to it before.
-use Rattle.std.proofs.Common.{◌≡◌, ◌==◌, ℕ, Bool, true, false, cond, List, [], ◌∷◌, ◌++◌, Contains, All, Option, Some, None, refl, sym, ap, ◌∙◌, subst, append-nil, append_assoc}
+use Rattle.std.proofs.Common.{◌≡◌, ◌==◌, ℕ, Bool, true, false, cond, List, [], ◌∷◌, ◌++◌, Contains, All, Option, Some, None, refl, sym, ap}
+use Rattle.std.proofs.Common.{◌∙◌, subst, append-nil, append_assoc}
 use Rattle.std.specs.List.{list_any}
-use Rattle.std.proofs.lemmas.List.Elements.{All-nil, All-cons, All-head, All-tail, All-append, All-contains, All-weaker, Contains-append_left, Contains-append_right}
+use Rattle.std.proofs.lemmas.List.Elements.{All-nil, All-cons, All-head, All-tail, All-append, All-contains, All-weaker}
+use Rattle.std.proofs.lemmas.List.Elements.{Contains-append_left, Contains-append_right}
 use Rattle.bag_ledger.specs.declared.entries.Answer.{Answer as Reply}
 use Rattle.bag_ledger.specs.declared.entries.Answer.TheVariants as answers
 use Rattle.bag_ledger.specs.declared.entries.Call.TheVariants as calls_to
@@ -12,7 +14,9 @@ use Rattle.flow_law.specs.declared.Op.{Op}
 use Rattle.work_law.specs.Work.{IsWork, fetched_unit, put_of}
 use Rattle.work_law.specs.Books.{said_of}
 use Rattle.flow_run_law.specs.Units.{Answer, FlowUnit, Forms, Rule, flows, untargeted}
-use Rattle.flow_run_law.specs.Desk.{Desk, Goes, IsReady, Knows, Moves, add, again_refused, again_stopped, again_taken, answer_refused, answer_stopped, answer_taken, at_start, brought, fetched, given, granted, rule_refused, rule_stopped, rule_taken, stored_is, told, unit_of}
+use Rattle.flow_run_law.specs.Desk.{Desk, Goes, IsReady, Knows, Moves, add, again_refused, again_stopped, again_taken, answer_refused}
+use Rattle.flow_run_law.specs.Desk.{answer_stopped, answer_taken, at_start, brought, fetched, given, granted, rule_refused, rule_stopped}
+use Rattle.flow_run_law.specs.Desk.{rule_taken, stored_is, told, unit_of}
 use Rattle.flow_run_law.specs.Learned.{HasFetched, HasLearned, WasKnown, by_answer, by_rule, by_work, let_is, rule_is}
 use Rattle.flow_run_law.specs.Puts.{IsOfKnown}
 use Rattle.flow_run_law.proofs.Whole.{Contains-head}

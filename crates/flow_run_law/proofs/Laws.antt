@@ -1,5 +1,6 @@
 -- The laws of a run of flow programs, from what the other files show of ranks and calls.
-use Rattle.std.proofs.Common.{◌≡◌, ◌<◌, ◌≤◌, inl, inr, ℕ, true, List, [], ◌∷◌, ◌++◌, All, Contains, count_by, Option, Some, None, refl, sym, ap, ◌∙◌, subst, arith, append_assoc}
+use Rattle.std.proofs.Common.{◌≡◌, ◌<◌, ◌≤◌, inl, inr, ℕ, true, List, [], ◌∷◌, ◌++◌, All, Contains, count_by, Option, Some, None, refl, sym}
+use Rattle.std.proofs.Common.{ap, ◌∙◌, subst, arith, append_assoc}
 use Rattle.std.proofs.lemmas.List.Elements.{All-nil, All-cons, All-head, All-tail}
 use Rattle.std.proofs.lemmas.List.Sums.{sum_by-append}
 use Rattle.adlb_unit.specs.declared.configs.Config.{Config}
@@ -77,7 +78,8 @@ split_at F flow d (t ∷ front) s back last goes =
     let r = split_at F flow goes.0 front s back last goes.2 in
     record { mid = r.mid; next = r.next; before = (goes.0, goes.1, r.before); moves = r.moves }
 
-module _ (F : Forms) (config : Config) (ledger : List Entry) (some : 0 < config.ranks) (forms : AreForms config.ranks F) (flow : List Definition)
+module _ (F : Forms) (config : Config) (ledger : List Entry) (some : 0 < config.ranks) (forms : AreForms config.ranks F)
+    (flow : List Definition)
     (each : IsFlowRun F config ledger flow)
   where
     is : IsWork (flows (untargeted F))
@@ -143,7 +145,8 @@ module _ (F : Forms) (config : Config) (ledger : List Entry) (some : 0 < config.
       front_right front back split u counts =
           let all : got None (calls config ledger (record { 0 = 0 })) ≡ got None front ++ got (held_after None front) back =
           ap (got None) split ∙ got-append None front back in
-          let sums = sum_by-append (one_if (reads (flows (untargeted F)) is (is_unit u))) (got None front) (got (held_after None front) back) in
+          let sums =
+          sum_by-append (one_if (reads (flows (untargeted F)) is (is_unit u))) (got None front) (got (held_after None front) back) in
           let more : count_by (reads (flows (untargeted F)) is (is_unit u)) (got None (calls config ledger (record { 0 = 0 })))
           ≡ count_by (reads (flows (untargeted F)) is (is_unit u)) (got None front ++ got (held_after None front) back) =
           ap (count_by (reads (flows (untargeted F)) is (is_unit u))) all in

@@ -1,5 +1,6 @@
 -- Each rule is put at most once.
-use Rattle.std.proofs.Common.{◌≡◌, ◌==◌, ℕ, suc, true, cond, List, [], ◌∷◌, ◌++◌, Contains, All, count_by, Option, Some, None, refl, sym, ap, ◌∙◌, subst, arith, inl, inr, append-nil, append_assoc}
+use Rattle.std.proofs.Common.{◌≡◌, ◌==◌, ℕ, suc, true, cond, List, [], ◌∷◌, ◌++◌, Contains, All, count_by, Option, Some, None, refl, sym}
+use Rattle.std.proofs.Common.{ap, ◌∙◌, subst, arith, inl, inr, append-nil, append_assoc}
 use Rattle.std.proofs.lemmas.Bool.{cases_eq, eq-eqb, ne_eqb}
 use Rattle.std.proofs.lemmas.List.Elements.{All-head, All-tail}
 use Rattle.std.proofs.lemmas.List.Sums.{sum_by-append, sum_by-cons}
@@ -10,7 +11,8 @@ use Rattle.flow_law.specs.declared.Definition.{Definition}
 use Rattle.work_law.specs.Work.{IsWork, fetched_unit, put_of}
 use Rattle.work_law.specs.Books.{said_of}
 use Rattle.flow_run_law.specs.Units.{FlowUnit, Forms, Rule, flows, untargeted}
-use Rattle.flow_run_law.specs.Desk.{Desk, Goes, Moves, again_refused, again_stopped, again_taken, answer_refused, answer_stopped, answer_taken, fetched, granted, rule_refused, rule_stopped, rule_taken, told, unit_of}
+use Rattle.flow_run_law.specs.Desk.{Desk, Goes, Moves, again_refused, again_stopped, again_taken, answer_refused, answer_stopped}
+use Rattle.flow_run_law.specs.Desk.{answer_taken, fetched, granted, rule_refused, rule_stopped, rule_taken, told, unit_of}
 use Rattle.flow_run_law.specs.Puts.{IsOnce, rule_of, rules_in, rules_of}
 use Rattle.flow_run_law.proofs.Whole.{brought_put, refused_put}
 

@@ -11,7 +11,8 @@ use Rattle.balance_law.specs.Parcels.{batch_after, granted_note}
 use Rattle.flow_law.specs.declared.Definition.{Definition}
 use Rattle.work_law.specs.Work.{IsWork, fetched_unit, put_of}
 use Rattle.flow_run_law.specs.Units.{Answer as Told, FlowUnit, Forms, Rule, flows, untargeted, AimsAt}
-use Rattle.flow_run_law.specs.Desk.{Desk, Goes, Moves, again_refused, again_stopped, again_taken, answer_refused, answer_stopped, answer_taken, brought, fetched, granted, refused, rule_refused, rule_stopped, rule_taken, told, unit_of}
+use Rattle.flow_run_law.specs.Desk.{Desk, Goes, Moves, again_refused, again_stopped, again_taken, answer_refused, answer_stopped}
+use Rattle.flow_run_law.specs.Desk.{answer_taken, brought, fetched, granted, refused, rule_refused, rule_stopped, rule_taken, told, unit_of}
 
 abbrev pub is_end : Answer → Bool
 is_end (answers.Ended end) = true
@@ -48,7 +49,8 @@ module _ (F : Forms) (is : IsWork (flows (untargeted F))) (flow : Option (List D
   brought_stays None (Some (Told i v)) d = (refl, refl)
 
   -- a put, where nothing is held
-  put_next : (ranks : ℕ) (u : FlowUnit) (held : Option UnitNote) → AimsAt F ranks → held ≡ None → IsNext ranks held None (put_of (flows F) u)
+  put_next : (ranks : ℕ) (u : FlowUnit) (held : Option UnitNote) → AimsAt F ranks → held ≡ None
+      → IsNext ranks held None (put_of (flows F) u)
   put_next ranks u held aims none =
       let free : IsNext ranks None None (put_of (flows F) u) = aims u in
       subst (λ h. IsNext ranks h None (put_of (flows F) u)) (sym none) free

@@ -1,5 +1,6 @@
 -- In a run of flow programs, all values that are put and got are right.
-use Rattle.std.proofs.Common.{◌≡◌, ◌<◌, ◌≤◌, ◌+◌, ◌==◌, ℕ, zero, suc, Bool, true, false, cond, List, [], ◌∷◌, ◌++◌, count_by, Option, Some, None, refl, sym, ap, ◌∙◌, subst, arith, inl, inr, ◌⊎◌, append-nil, append_assoc}
+use Rattle.std.proofs.Common.{◌≡◌, ◌<◌, ◌≤◌, ◌+◌, ◌==◌, ℕ, zero, suc, Bool, true, false, cond, List, [], ◌∷◌, ◌++◌, count_by, Option, Some}
+use Rattle.std.proofs.Common.{None, refl, sym, ap, ◌∙◌, subst, arith, inl, inr, ◌⊎◌, append-nil, append_assoc}
 use Rattle.std.proofs.lemmas.Bool.{cases_lt}
 use Rattle.std.proofs.lemmas.List.Elements.{All-nil}
 use Rattle.std.proofs.lemmas.List.Sums.{sum_by-append}
@@ -125,19 +126,23 @@ sent_same test ys q by s none = at (by.0 == q.0)
     at false = ap (λ l. count_by test (sent None l)) (append-nil ys)
 
 -- a rank said one thing more: if it got a right unit there, some rank had sent it before
-new_said : (F : Forms) (is : IsWork (flows (untargeted F))) (config : Config) (f : List Definition) (u : FlowUnit) (front : List Entry) (e : Entry)
+new_said : (F : Forms) (is : IsWork (flows (untargeted F))) (config : Config) (f : List Definition) (u : FlowUnit)
+    (front : List Entry) (e : Entry)
     (rank : Rank) →
     rank.0 < config.ranks → (by : Rank) (s : Said) (held : Option UnitNote) →
-    ((r : Rank) → r.0 < config.ranks → (v : FlowUnit) → 1 ≤ count_by (reads (flows (untargeted F)) is (is_unit v)) (got None (calls config front r)) →
+    ((r : Rank) → r.0 < config.ranks → (v : FlowUnit)
+    → 1 ≤ count_by (reads (flows (untargeted F)) is (is_unit v)) (got None (calls config front r)) →
     IsGood f v) →
     (n : ℕ) → 1 ≤ n →
-    n ≡ count_by (reads (flows (untargeted F)) is (is_unit u)) (got None (calls config front rank)) + count_by (reads (flows (untargeted F)) is (is_unit u))
+    n ≡ count_by (reads (flows (untargeted F)) is (is_unit u)) (got None (calls config front rank))
+    + count_by (reads (flows (untargeted F)) is (is_unit u))
     (parcel_got held s.call s.answer) →
     ((q : Rank) → count_by (reads (flows (untargeted F)) is (is_unit u)) (sent None (calls config (front ++ e ∷ []) q))
     ≡ count_by (reads (flows (untargeted F)) is (is_unit u)) (sent None (calls config front q ++ said_by q (Some (by, s))))) →
     over_ranks config.ranks (λ r. count_by (reads (flows (untargeted F)) is (is_unit u)) (got None (calls config (front ++ e ∷ []) r)))
     ≤ over_ranks config.ranks (λ r. count_by (reads (flows (untargeted F)) is (is_unit u)) (sent None (calls config (front ++ e ∷ []) r))) →
-    ((q : Rank) → q.0 < config.ranks → (v : FlowUnit) → 1 ≤ count_by (reads (flows (untargeted F)) is (is_unit v)) (sent None (calls config front q)) →
+    ((q : Rank) → q.0 < config.ranks → (v : FlowUnit)
+    → 1 ≤ count_by (reads (flows (untargeted F)) is (is_unit v)) (sent None (calls config front q)) →
     IsGood f v) →
     n ≡ count_by (reads (flows (untargeted F)) is (is_unit u)) (got None (calls config (front ++ e ∷ []) rank)) → IsGood f u
 new_said F is config f u front e rank below by s held right n counts split sends causes puts its =
@@ -145,12 +150,18 @@ new_said F is config f u front e rank below by s held right n counts split sends
       | inl before ↦ right rank below u (omega (arith, before))
       | inr none ↦
           let fetch = fetches_send (reads (flows (untargeted F)) is (is_unit u)) held in
-          let here : 1 ≤ count_by (reads (flows (untargeted F)) is (is_unit u)) (parcel_got held s.call s.answer) = omega (arith, none, split, counts) in
+          let here : 1 ≤ count_by (reads (flows (untargeted F)) is (is_unit u)) (parcel_got held s.call s.answer) = omega (
+            arith,
+            none,
+            split,
+            counts,
+          ) in
           let nothing : (batch : Option (List ℕ)) → parcel_sent batch s.call s.answer ≡ [] = λ batch. fetch batch s.call s.answer here in
           let got_some = over_one config.ranks (λ r. count_by (reads (flows (untargeted F)) is (is_unit u))
           (got None (calls config (front ++ e ∷ []) r))) rank below
           (omega (arith, counts, its)) in
-          let q = over_found config.ranks (λ r. count_by (reads (flows (untargeted F)) is (is_unit u)) (sent None (calls config (front ++ e ∷ []) r)))
+          let q = over_found config.ranks
+          (λ r. count_by (reads (flows (untargeted F)) is (is_unit u)) (sent None (calls config (front ++ e ∷ []) r)))
           (omega (arith, got_some, causes)) in
           let same = sent_same (reads (flows (untargeted F)) is (is_unit u)) (calls config front q.rank) q.rank by s nothing in
           let at_q = sends q.rank in
@@ -160,7 +171,8 @@ new_said F is config f u front e rank below by s held right n counts split sends
 
 -- The law.
 
-module _ (F : Forms) (is : IsWork (flows (untargeted F))) (config : Config) (ledger : List Entry) (last : Bag) (some : 0 < config.ranks) (aims : AimsAt F config.ranks)
+module _ (F : Forms) (is : IsWork (flows (untargeted F))) (config : Config) (ledger : List Entry) (last : Bag) (some : 0 < config.ranks)
+    (aims : AimsAt F config.ranks)
     (legal : IsRun (start config) ledger last) (f : List Definition)
     (each : (rank : Rank) → rank.0 < config.ranks → IsFlowRank F config ledger f rank)
   where
@@ -241,8 +253,10 @@ module _ (F : Forms) (is : IsWork (flows (untargeted F))) (config : Config) (led
         split_one : ledger ≡ (front ++ e ∷ []) ++ back
         split_one = split ∙ sym (append_assoc front (e ∷ []) back)
 
-        causes : over_ranks config.ranks (λ r. count_by (reads (flows (untargeted F)) is (is_unit u)) (got None (calls config (front ++ e ∷ []) r)))
-            ≤ over_ranks config.ranks (λ r. count_by (reads (flows (untargeted F)) is (is_unit u)) (sent None (calls config (front ++ e ∷ []) r)))
+        causes : over_ranks config.ranks
+            (λ r. count_by (reads (flows (untargeted F)) is (is_unit u)) (got None (calls config (front ++ e ∷ []) r)))
+            ≤ over_ranks config.ranks
+            (λ r. count_by (reads (flows (untargeted F)) is (is_unit u)) (sent None (calls config (front ++ e ∷ []) r)))
         causes =
             caused config (front ++ e ∷ []) back last some (subst (λ l. IsRun (start config) l last) split_one legal)
             (subst (λ l. AreOrderly config l) split_one orderly) (reads (flows (untargeted F)) is (is_unit u))
@@ -270,7 +284,8 @@ module _ (F : Forms) (is : IsWork (flows (untargeted F))) (config : Config) (led
                 ap (λ k. calls config front rank ++ k) l in
                 new_said F is config f u front e rank below by s (held_after None (calls config front rank)) right
                 (count_by (reads (flows (untargeted F)) is (is_unit u)) (got None (calls config (front ++ e ∷ []) rank))) counts
-                (ap (λ k. count_by (reads (flows (untargeted F)) is (is_unit u)) (got None k)) n ∙ got_one (reads (flows (untargeted F)) is (is_unit u))
+                (ap (λ k. count_by (reads (flows (untargeted F)) is (is_unit u)) (got None k)) n
+                ∙ got_one (reads (flows (untargeted F)) is (is_unit u))
                 (calls config front rank) s)
                 (λ q. ap (λ k. count_by (reads (flows (untargeted F)) is (is_unit u)) (sent None k))
                 (longer q ∙ ap (λ o. calls config front q ++ said_by q o) (sym eq)))
@@ -295,9 +310,11 @@ module _ (F : Forms) (is : IsWork (flows (untargeted F))) (config : Config) (led
     ends_right rank below =
         let w = each rank below in
         let g : (v : FlowUnit) → 1 ≤ count_by (reads (flows (untargeted F)) is (is_unit v)) (got None w.said) → IsGood f v = λ v c.
-        let e : count_by (reads (flows (untargeted F)) is (is_unit v)) (got None (calls config ledger rank)) ≡ count_by (reads (flows (untargeted F)) is (is_unit v))
+        let e : count_by (reads (flows (untargeted F)) is (is_unit v)) (got None (calls config ledger rank))
+        ≡ count_by (reads (flows (untargeted F)) is (is_unit v))
         (got None w.said) =
-        ap (λ l. count_by (reads (flows (untargeted F)) is (is_unit v)) (got None l)) w.calls_are ∙ ap (count_by (reads (flows (untargeted F)) is (is_unit v)))
+        ap (λ l. count_by (reads (flows (untargeted F)) is (is_unit v)) (got None l)) w.calls_are
+        ∙ ap (count_by (reads (flows (untargeted F)) is (is_unit v)))
         (got_finish None w.said) in
         got_right rank below v (omega (arith, c, e)) in
         (all_right F is f (flow_of f rank) (its_flow rank) at_start w.said w.last start_right g w.goes).right

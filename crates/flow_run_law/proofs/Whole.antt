@@ -1,5 +1,6 @@
 -- Each rule that has a value is put, where no answer of another rank was rejected.
-use Rattle.std.proofs.Common.{◌≡◌, ◌<◌, ◌≤◌, ◌==◌, ℕ, zero, suc, Bool, true, false, cond, List, [], ◌∷◌, ◌++◌, length, get_or, Contains, All, count_by, Option, Some, None, refl, sym, ap, ◌∙◌, subst, arith, inl, inr, ◌⊎◌}
+use Rattle.std.proofs.Common.{◌≡◌, ◌<◌, ◌≤◌, ◌==◌, ℕ, zero, suc, Bool, true, false, cond, List, [], ◌∷◌, ◌++◌, length, get_or, Contains}
+use Rattle.std.proofs.Common.{All, count_by, Option, Some, None, refl, sym, ap, ◌∙◌, subst, arith, inl, inr, ◌⊎◌}
 use Rattle.std.specs.List.{list_any}
 use Rattle.std.proofs.lemmas.Bool.{cases_lt, eqb-true}
 use Rattle.std.proofs.lemmas.List.Elements.{All-head, All-tail, Contains-append_cases, Contains-append_left, Contains-append_right}
@@ -21,7 +22,8 @@ use Rattle.work_law.specs.Books.{said_of}
 use Rattle.work_law.proofs.Flow.{got_counts, passes, put_counts, reads}
 use Rattle.work_law.proofs.Pieces.{one_if}
 use Rattle.flow_run_law.specs.Units.{Answer, FlowUnit, Forms, Rule, flows, untargeted, AimsAt}
-use Rattle.flow_run_law.specs.Desk.{Desk, Goes, Moves, add, again_refused, again_stopped, again_taken, answer_refused, answer_stopped, answer_taken, brought, fetched, granted, refused, rule_refused, rule_stopped, rule_taken, told, unit_of}
+use Rattle.flow_run_law.specs.Desk.{Desk, Goes, Moves, add, again_refused, again_stopped, again_taken, answer_refused, answer_stopped}
+use Rattle.flow_run_law.specs.Desk.{answer_taken, brought, fetched, granted, refused, rule_refused, rule_stopped, rule_taken, told, unit_of}
 use Rattle.flow_run_law.proofs.Good.{exact_unit, is_unit, itself, same_unit}
 use Rattle.flow_run_law.proofs.Order.{ordered}
 
@@ -260,8 +262,10 @@ module _ (F : Forms) (is : IsWork (flows (untargeted F))) (flow : Option (List D
       at : (o : Option FlowUnit) → o ≡ fetched_unit (flows F) note bytes →
           1 ≤ cond (passes (flows (untargeted F)) is (is_unit u) (common_bytes note.length bytes) (fetched_unit (flows F) note bytes)) 1 0 →
           fetched_unit (flows F) note bytes ≡ Some u
-      at None e some = absurd (let h : 1 ≤ cond {A = ℕ} (passes (flows (untargeted F)) is (is_unit u) (common_bytes note.length bytes) None) 1 0 =
-          subst (λ o. 1 ≤ cond {A = ℕ} (passes (flows (untargeted F)) is (is_unit u) (common_bytes note.length bytes) o) 1 0) (sym e) some in omega
+      at None e some =
+          absurd (let h : 1 ≤ cond {A = ℕ} (passes (flows (untargeted F)) is (is_unit u) (common_bytes note.length bytes) None) 1 0 =
+          subst (λ o. 1 ≤ cond {A = ℕ} (passes (flows (untargeted F)) is (is_unit u) (common_bytes note.length bytes) o) 1 0)
+          (sym e) some in omega
           (arith, h))
       at (Some v) e some = by_test (same_unit u v) refl
         where
@@ -269,7 +273,8 @@ module _ (F : Forms) (is : IsWork (flows (untargeted F))) (flow : Option (List D
           by_test true t = sym e ∙ ap Some (sym (exact_unit u v (sym t)))
           by_test false t = absurd (
               let h : 1 ≤ cond {A = ℕ} (same_unit u v) 1 0 =
-              subst (λ o. 1 ≤ cond {A = ℕ} (passes (flows (untargeted F)) is (is_unit u) (common_bytes note.length bytes) o) 1 0) (sym e) some in
+              subst (λ o. 1 ≤ cond {A = ℕ} (passes (flows (untargeted F)) is (is_unit u) (common_bytes note.length bytes) o) 1 0)
+              (sym e) some in
               let z : cond {A = ℕ} (same_unit u v) 1 0 ≡ 0 = ap (λ b. cond {A = ℕ} b 1 0) (sym t) in
               omega (arith, h, z)
               )
@@ -392,7 +397,8 @@ module _ (F : Forms) (is : IsWork (flows (untargeted F))) (flow : Option (List D
     | inr last ↦ elim (head_cases y x [] last) [ inl same ↦ inr same | inr none ↦ absurd (none_there x none) ]
   ]
 
-  pub put_ends : (some : ℕ) → AimsAt F some → (i : ℕ) (d : Desk) (said : List Said) (last : Desk) → AreEndedWell said → Goes F flow d said last →
+  pub put_ends : (some : ℕ) → AimsAt F some → (i : ℕ) (d : Desk) (said : List Said) (last : Desk) → AreEndedWell said
+      → Goes F flow d said last →
       Contains last.put i → Contains d.put i ⊎ PutEnds i said last
   put_ends some pos i d [] last well same there = inl (subst (λ (z : Desk). Contains z.put i) (sym same) there)
   put_ends some pos i d (s ∷ said) last well goes there =
@@ -415,7 +421,8 @@ module _ (F : Forms) (is : IsWork (flows (untargeted F))) (flow : Option (List D
               b = b;
               counts = sent_here (Rule i op a b) s said (subst (λ (t : Said). 1 ≤ count_by (R (Rule i op a b))
                   (parcel_sent None t.call t.answer)) (sym said')
-                  (subst (λ z. 1 ≤ count_by (R (Rule i op a b)) (parcel_sent None (put_of (flows F) (Rule z op a b)) answers.Fine)) (sym same)
+                  (subst (λ z. 1 ≤ count_by (R (Rule i op a b)) (parcel_sent None (put_of (flows F) (Rule z op a b)) answers.Fine))
+                  (sym same)
                   (put_sent (Rule i op a b) (subst (λ z. F.fits (Rule z op a b) ≡ true) same fits))));
             }))
           ]

@@ -1,5 +1,6 @@
 -- Each unit is read back of its body, and the two kinds are told apart.
-use Rattle.std.proofs.Common.{◌≡◌, ◌<◌, ◌==◌, ◌&&◌, ◌^◌, ℕ, Bool, true, false, cond, List, length, take, drop, Option, Some, None, refl, ap, ◌∙◌, arith}
+use Rattle.std.proofs.Common.{◌≡◌, ◌<◌, ◌==◌, ◌&&◌, ◌^◌, ℕ, Bool, true, false, cond, List, length, take, drop, Option, Some, None, refl, ap}
+use Rattle.std.proofs.Common.{◌∙◌, arith}
 use Rattle.std.specs.Prelude.{is_none, nat_lt, slice_index}
 use Rattle.std.specs.Int.{to_be_bytes, from_be_bytes, w32, w64}
 use Rattle.std.proofs.lemmas.Bool.{and_parts, eqb-true, ltb-true}
@@ -10,7 +11,8 @@ use Rattle.balance_law.specs.Orderly.{IsAimed}
 use Rattle.flow_law.specs.declared.Op.{Op}
 use Rattle.flow_law.specs.declared.Op.TheVariants.{Add, Mul, Min, Max, Xor}
 use Rattle.flow_run_law.specs.Units.{Answer, AreForms, FlowUnit, HasTypes, Rule}
-use Rattle.flow_units.specs.Bodies.{answer_body, answer_in, forms, is_rank_0, op_byte, op_in, rule_body, rule_in, rule_with, unit_fits, unit_in}
+use Rattle.flow_units.specs.Bodies.{answer_body, answer_in, forms, is_rank_0, op_byte, op_in, rule_body, rule_in, rule_with, unit_fits}
+use Rattle.flow_units.specs.Bodies.{unit_in}
 
 op_back : (op : Op) → op_in (op_byte op) ≡ Some op
 op_back Add = refl
@@ -72,9 +74,11 @@ answer_kind : (kind : WorkType) (rank : Option Rank) (body : List ℕ) (i v : �
 answer_kind kind rank body i v e =
     at ((kind.0 == 0) && is_rank_0 rank) ((kind.0 == 1) && is_none rank) refl e
   where
-    at : (t s : Bool) → ((kind.0 == 1) && is_none rank) ≡ s → cond t (rule_in body) (cond s (answer_in body) None) ≡ Some (Answer i v) → kind.0 ≡ 1
+    at : (t s : Bool) → ((kind.0 == 1) && is_none rank) ≡ s
+        → cond t (rule_in body) (cond s (answer_in body) None) ≡ Some (Answer i v) → kind.0 ≡ 1
     at true s is e =
-        absurd (rule_reads (length body == 21) (from_be_bytes w32 (take 4 body)) (op_in (slice_index body 4)) (from_be_bytes w64 (take 8 (drop 5 body)))
+        absurd (rule_reads (length body == 21) (from_be_bytes w32 (take 4 body)) (op_in (slice_index body 4))
+        (from_be_bytes w64 (take 8 (drop 5 body)))
         (from_be_bytes w64 (take 8 (drop 13 body))) i v e)
     at false true is e = eqb-true kind.0 1 (and_parts (kind.0 == 1) (is_none rank) is).0
     at false false is e = absurd (cc)

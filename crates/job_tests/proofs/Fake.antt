@@ -1,5 +1,6 @@
 -- What the fake link is asked, and what it answers.
-use Rattle.std.proofs.Common.{◌≡◌, ◌==◌, ◌&&◌, ◌∙◌, ℕ, Bool, true, false, not, List, Option, Some, None, Result, Ok, Err, IfOk, IfErr, OnOk, OnErr, [], ◌∷◌, ◌++◌, get_or, ap, refl, sym, subst, inl, inr}
+use Rattle.std.proofs.Common.{◌≡◌, ◌==◌, ◌&&◌, ◌∙◌, ℕ, Bool, true, false, not, List, Option, Some, None, Result, Ok, Err, IfOk, IfErr, OnOk}
+use Rattle.std.proofs.Common.{OnErr, [], ◌∷◌, ◌++◌, get_or, ap, refl, sym, subst, inl, inr}
 use Rattle.std.specs.List.{list_any}
 use Rattle.std.proofs.lemmas.Bool.{cases_eq, eq-eqb, ne_eqb}
 use Rattle.std.proofs.lemmas.List.Folds.{list_any_at}
@@ -21,7 +22,8 @@ use Rattle.bag_ledger.specs.declared.entries.Said.{Said}
 use Rattle.job_tests.specs.Fake.{IsShort, fake_link, misfits}
 
 -- a body that can be put is short
-pub short_of : (said : List Said) (going : Bool) (failed : Option Trouble) (call : Call) → Can (fake_link said going failed) call → IsShort call
+pub short_of : (said : List Said) (going : Bool) (failed : Option Trouble) (call : Call) → Can (fake_link said going failed) call
+    → IsShort call
 short_of said going failed (calls_to.Put kind prio target answer body) can = can.suits.0
 short_of said going failed _ can = tt
 

@@ -1,5 +1,6 @@
 -- Lists that are cut at their first element that passes a test.
-use Rattle.std.proofs.Common.{◌≡◌, ◌<◌, ◌≤◌, ℕ, Bool, true, false, cond, List, [], ◌∷◌, length, map, not, refl, sym, ap, ◌∙◌, Some, None, arith}
+use Rattle.std.proofs.Common.{◌≡◌, ◌<◌, ◌≤◌, ℕ, Bool, true, false, cond, List, [], ◌∷◌, length, map, not, refl, sym, ap, ◌∙◌, Some, None}
+use Rattle.std.proofs.Common.{arith}
 use Rattle.std.specs.List.{position, position_or_len, before_first, after_first}
 use Rattle.std.specs.Str.Lines.{strip_carriage_return}
 use Rattle.std.proofs.lemmas.Bool.{ltb-false}
@@ -32,5 +33,6 @@ pub first_line : (text line rest : List ℕ) → position_or_len is_line_feed te
 first_line text line rest lt p q = ap (map strip_carriage_return) (slice_split_first is_line_feed text 0 lt) ∙ rw (p, q) refl
 
 pub last_line : (text : List ℕ) → position_or_len is_line_feed text ≡ length text → lines text ≡ strip_carriage_return text ∷ []
-last_line text at = ap (map strip_carriage_return) (slice_split_none is_line_feed text (All-from_get_or (λ x. is_line_feed x ≡ false) text 0 (λ k lt.
+last_line text at =
+    ap (map strip_carriage_return) (slice_split_none is_line_feed text (All-from_get_or (λ x. is_line_feed x ≡ false) text 0 (λ k lt.
     let before : k < position_or_len is_line_feed text = omega arith in fails_before_first is_line_feed text k 0 before)))

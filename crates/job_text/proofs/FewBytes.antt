@@ -11,7 +11,8 @@ use Rattle.sudoku_rules.specs.Reading.{digit_of}
 use Rattle.job_text.specs.declared.faults.LineWhy.TheVariants.{Long, Length, Character, Word}
 use Rattle.job_text.specs.declared.jobs.Job.TheVariants.{Puzzle, Batch}
 use Rattle.job_text.specs.Words.{is_blank, is_space, first_word, behind_word}
-use Rattle.job_text.specs.Kinds.{Kind, skipped, puzzle, batch, item, bad, line_limit, is_size, is_cell_sign, begins_puzzle, is_item_name, item_of, puzzle_kind, named_kind, short_kind, kind_of}
+use Rattle.job_text.specs.Kinds.{Kind, skipped, puzzle, batch, item, bad, line_limit, is_size, is_cell_sign, begins_puzzle, is_item_name}
+use Rattle.job_text.specs.Kinds.{item_of, puzzle_kind, named_kind, short_kind, kind_of}
 use Rattle.job_text.specs.Jobs.{HasFewBytes, jobs_of, items_of}
 
 IsFew : Kind → Type 0
@@ -28,7 +29,8 @@ chosen false x y p q = q refl
 few_puzzle : (text : List ℕ) → IsFew (puzzle_kind text)
 unfolding puzzle_kind IsFew
 few_puzzle text =
-    chosen (is_size (length text)) _ (bad (Length (length text))) (chosen (list_all (is_cell_sign (side_for (length text))) text) (puzzle (map digit_of text))
+    chosen (is_size (length text)) _ (bad (Length (length text)))
+    (chosen (list_all (is_cell_sign (side_for (length text))) text) (puzzle (map digit_of text))
     (bad Character) tt (λ e. tt)) (λ e. tt)
 
 few_named : (line : List ℕ) → length line ≤ line_limit → IsFew (named_kind line)

@@ -11,7 +11,8 @@ use Rattle.sudoku_rules.proofs.Reading.{signs_give_grid}
 use Rattle.job_text.specs.declared.faults.LineWhy.TheVariants.{Long, Length, Character, Word}
 use Rattle.job_text.specs.declared.jobs.Job.TheVariants.{Puzzle, Batch}
 use Rattle.job_text.specs.Words.{is_blank, first_word, behind_word}
-use Rattle.job_text.specs.Kinds.{Kind, skipped, puzzle, batch, item, bad, line_limit, is_size, is_cell_sign, begins_puzzle, is_item_name, item_of, puzzle_kind, named_kind, short_kind, kind_of}
+use Rattle.job_text.specs.Kinds.{Kind, skipped, puzzle, batch, item, bad, line_limit, is_size, is_cell_sign, begins_puzzle, is_item_name}
+use Rattle.job_text.specs.Kinds.{item_of, puzzle_kind, named_kind, short_kind, kind_of}
 use Rattle.job_text.specs.Jobs.{HasGrid, jobs_of, items_of}
 use Rattle.job_text.proofs.Puzzles.{is_sign, is_size_of}
 

@@ -1,5 +1,6 @@
 -- What a puzzle line is, from what its text was read as.
-use Rattle.std.proofs.Common.{◌≡◌, ◌<◌, ◌≤◌, ℕ, suc, Bool, true, false, cond, eqb, leb, List, [], ◌∷◌, length, get_or, map, refl, sym, ap, ◌∙◌, inl, inr, ◌⊎◌, ◌&&◌, ◌||◌, arith}
+use Rattle.std.proofs.Common.{◌≡◌, ◌<◌, ◌≤◌, ℕ, suc, Bool, true, false, cond, eqb, leb, List, [], ◌∷◌, length, get_or, map, refl, sym, ap}
+use Rattle.std.proofs.Common.{◌∙◌, inl, inr, ◌⊎◌, ◌&&◌, ◌||◌, arith}
 use Rattle.std.specs.List.{list_all}
 use Rattle.std.proofs.lemmas.Bool.{and_parts, and_from, cond-true, cond-false, eqb-true, eq-eqb, leb-true, le-leb}
 use Rattle.std.proofs.lemmas.List.Elements.{All-get_or}
@@ -30,7 +31,8 @@ sign_is n b (inl dot) = ap (λ t. t || (leb (digit_of b) n && eqb (sign (digit_o
 sign_is n b (inr (d, few, is)) =
     let e : digit_of b ≡ d = ap digit_of is ∙ sign_reads d in
     let le : digit_of b ≤ n = omega arith in
-    or_from (eqb b 46) _ (and_from (leb (digit_of b) n) (eqb (sign (digit_of b)) b) (le-leb (digit_of b) n le) (eq-eqb (sign (digit_of b)) b (ap
+    or_from (eqb b 46) _
+    (and_from (leb (digit_of b) n) (eqb (sign (digit_of b)) b) (le-leb (digit_of b) n le) (eq-eqb (sign (digit_of b)) b (ap
     sign e ∙ sym is)))
 
 -- a byte that passes is a sign of a cell
@@ -73,7 +75,8 @@ grid_read text g r =
 pub no_length : (text : List ℕ) → (IsSize (length text) → ⊥) → puzzle_kind text ≡ bad (Length (length text))
 unfolding puzzle_kind
 no_length text never =
-    cond-false (is_size (length text)) (signed text) (bad (Length (length text))) (not_true (is_size (length text)) (λ t. never (is_size_of (length text) t)))
+    cond-false (is_size (length text)) (signed text) (bad (Length (length text)))
+    (not_true (is_size (length text)) (λ t. never (is_size_of (length text) t)))
 
 pub no_character : (text : List ℕ) (k : ℕ) → IsFirstBad text k → puzzle_kind text ≡ bad Character
 unfolding puzzle_kind

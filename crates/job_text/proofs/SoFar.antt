@@ -1,5 +1,6 @@
 -- What was read, with one line more.
-use Rattle.std.proofs.Common.{◌≡◌, ◌≤◌, ℕ, ◌+◌, List, [], ◌∷◌, ◌++◌, length, refl, sym, ap, subst, ◌∙◌, Option, Some, None, append_assoc, arith}
+use Rattle.std.proofs.Common.{◌≡◌, ◌≤◌, ℕ, ◌+◌, List, [], ◌∷◌, ◌++◌, length, refl, sym, ap, subst, ◌∙◌, Option, Some, None, append_assoc}
+use Rattle.std.proofs.Common.{arith}
 use Rattle.std.proofs.lemmas.List.{append-nil, length-append}
 use Rattle.sudoku_law.specs.Grid.{Cells}
 use Rattle.job_text.specs.declared.items.Item.{Item}
@@ -45,7 +46,8 @@ ends : (old : Reading) (jobs : List Job) (kinds : List Kind) → jobs ≡ jobs_w
     → jobs_with old kinds ≡ jobs ++ jobs_of kinds
 ends old jobs kinds before none =
     ap (λ (l : List Job). old.jobs.items ++ l) (ends_behind old.current kinds none)
-    ∙ sym (append_assoc old.jobs.items (jobs_behind old.current []) (jobs_of kinds)) ∙ ap (λ (l : List Job). l ++ jobs_of kinds) (sym before)
+    ∙ sym (append_assoc old.jobs.items (jobs_behind old.current []) (jobs_of kinds))
+    ∙ ap (λ (l : List Job). l ++ jobs_of kinds) (sym before)
 
 -- what comes is after the jobs of what was read
 joined : (new : Reading) (jobs more : List Job) (kinds : List Kind) (c : Option OpenBatch) → new.jobs.items ≡ jobs → new.current ≡ c

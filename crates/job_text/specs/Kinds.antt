@@ -1,5 +1,6 @@
 -- What a line is: the cases are tried in their order.
-use Rattle.std.specs.Prelude.{ℕ, ◌==◌, ◌^◌, nat_lt, nat_le, Bool, ◌&&◌, ◌||◌, List, Option, Some, None, codes, length, map, slice_index, if◌then◌else◌}
+use Rattle.std.specs.Prelude.{ℕ, ◌==◌, ◌^◌, nat_lt, nat_le, Bool, ◌&&◌, ◌||◌, List, Option, Some, None, codes, length, map, slice_index}
+use Rattle.std.specs.Prelude.{if◌then◌else◌}
 use Rattle.std.specs.List.{before_first, list_all}
 use Rattle.std.specs.Str.{bytes_eq}
 use Rattle.sudoku_law.specs.Grid.{Cells}

@@ -1,5 +1,6 @@
 -- The unit of a fetch: its own bytes are the last, and what is read has the form of a unit.
-use Rattle.std.proofs.Common.{◌≡◌, ℕ, ◌-◌, ◌&&◌, ◌==◌, Bool, true, false, cond, List, ◌++◌, length, take, drop, Option, Some, None, refl, ap, ◌∙◌, subst, arith, length-append}
+use Rattle.std.proofs.Common.{◌≡◌, ℕ, ◌-◌, ◌&&◌, ◌==◌, Bool, true, false, cond, List, ◌++◌, length, take, drop, Option, Some, None, refl}
+use Rattle.std.proofs.Common.{ap, ◌∙◌, subst, arith, length-append}
 use Rattle.std.specs.Prelude.{ℤ, is_none, option_map}
 use Rattle.std.proofs.Math.Seq.{drop-append_seam, take-append_seam}
 use Rattle.adlb_unit.specs.declared.names.Rank.{Rank}
@@ -9,7 +10,8 @@ use Rattle.adlb_unit.specs.declared.notes.UnitNote.{UnitNote}
 use Rattle.bag_ledger.specs.declared.entries.Call.TheVariants.{Put}
 use Rattle.job_units.specs.Forms.{IsUnit}
 use Rattle.job_units.specs.Puts.{kind_of, put_of}
-use Rattle.job_units.specs.Reading.{answer_of_body, board_of_body, common_bytes, fetched, is_answer_rank, job_of_body, own_bytes, solution_of_body, unit_of}
+use Rattle.job_units.specs.Reading.{answer_of_body, board_of_body, common_bytes, fetched, is_answer_rank, job_of_body, own_bytes}
+use Rattle.job_units.specs.Reading.{solution_of_body, unit_of}
 use Rattle.job_units.specs.declared.answers.Answer.{Answer}
 use Rattle.job_units.specs.declared.boards.Board.{Board}
 use Rattle.job_units.specs.declared.jobs.Job.{Job}

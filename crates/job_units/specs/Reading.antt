@@ -1,5 +1,6 @@
 -- The unit of a body, and of a fetch.
-use Rattle.std.specs.Prelude.{ℕ, ◌-◌, ◌==◌, ◌&&◌, Bool, true, false, is_none, List, length, map, take, drop, slice_index, Option, Some, None, option_map, if◌then◌else◌}
+use Rattle.std.specs.Prelude.{ℕ, ◌-◌, ◌==◌, ◌&&◌, Bool, true, false, is_none, List, length, map, take, drop, slice_index, Option, Some}
+use Rattle.std.specs.Prelude.{None, option_map, if◌then◌else◌}
 use Rattle.std.specs.Int.{from_be_bytes, w32, w64}
 use Rattle.std.specs.Str.{bytes_eq}
 use Rattle.adlb_unit.specs.declared.names.Rank.{Rank}

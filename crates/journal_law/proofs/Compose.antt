@@ -40,7 +40,8 @@ each_from_actors P n (x ∷ xs) within h =
     rest_of false a k = k
 
 -- a link after its front was taken and what was sent was added
-link_after : {X : Type 0} (link link' front sends rest later later' gets gets' left : List X) → link ++ later ≡ gets ++ left → later ≡ sends ++ later'
+link_after : {X : Type 0} (link link' front sends rest later later' gets gets' left : List X) → link ++ later ≡ gets ++ left
+    → later ≡ sends ++ later'
     → gets ≡ front ++ gets' → link ≡ front ++ rest → link' ≡ rest ++ sends → link' ++ later' ≡ gets' ++ left
 link_after link link' front sends rest later later' gets gets' left e a b c d =
     let p : front ++ (link' ++ later') ≡ link ++ later = rw (a, c, d) (simp append_assoc) in
@@ -51,17 +52,23 @@ module _ {S L E : Type 0} (m : Machine S L E) where
   -- what the first event of a history sends on a link comes first of all that is sent there; likewise what it gets
   sent_first : (from to : ℕ) (x : ℕ × E) (xs : List (ℕ × E))
       → sent m to (of_actor from (x ∷ xs)) ≡ added m x.0 x.1 from to ++ sent m to (of_actor from xs)
-  sent_first from to x xs = elim (eqb x.0 from) as (λ b. sent m to (cond b (x.1 ∷ of_actor from xs) (of_actor from xs)) ≡ cond b (of_actor to (m.sends x.1)) [] ++ sent m to (of_actor from xs)) [
-    | true ↦ refl
-    | false ↦ refl
-  ]
+  sent_first from to x xs =
+      elim (eqb x.0 from) as
+      (λ b. sent m to (cond b (x.1 ∷ of_actor from xs) (of_actor from xs)) ≡ cond b (of_actor to (m.sends x.1)) []
+      ++ sent m to (of_actor from xs)) [
+        | true ↦ refl
+        | false ↦ refl
+      ]
 
   got_first : (from to : ℕ) (x : ℕ × E) (xs : List (ℕ × E))
       → got m from (of_actor to (x ∷ xs)) ≡ taken m x.0 x.1 from to ++ got m from (of_actor to xs)
-  got_first from to x xs = elim (eqb x.0 to) as (λ b. got m from (cond b (x.1 ∷ of_actor to xs) (of_actor to xs)) ≡ cond b (of_actor from (option_to_list (m.cause x.1))) [] ++ got m from (of_actor to xs)) [
-    | true ↦ refl
-    | false ↦ refl
-  ]
+  got_first from to x xs =
+      elim (eqb x.0 to) as
+      (λ b. got m from (cond b (x.1 ∷ of_actor to xs) (of_actor to xs)) ≡ cond b (of_actor from (option_to_list (m.cause x.1))) []
+      ++ got m from (of_actor to xs)) [
+        | true ↦ refl
+        | false ↦ refl
+      ]
 
   abbrev IsFrom : ℕ → L → Type 0
   IsFrom n l = n ≤ m.letter_stamp l
@@ -99,10 +106,11 @@ module _ {S L E : Type 0} (m : Machine S L E) where
       (r.0, ap₂ (λ y ys. y ∷ ys) head r.1)
 
   early_one : (a : ℕ) (e : E) (from to : ℕ) → IsStamped m e → Each (λ l. m.letter_stamp l < m.stamp e) (taken m a e from to)
-  early_one a e from to stamped = elim (eqb a to) as (λ b. Each (λ l. m.letter_stamp l < m.stamp e) (cond b (of_actor from (option_to_list (m.cause e))) [])) [
-    | true ↦ each_of_actor (λ l. m.letter_stamp l < m.stamp e) from (option_to_list (m.cause e)) stamped.above
-    | false ↦ tt
-  ]
+  early_one a e from to stamped =
+      elim (eqb a to) as (λ b. Each (λ l. m.letter_stamp l < m.stamp e) (cond b (of_actor from (option_to_list (m.cause e))) [])) [
+        | true ↦ each_of_actor (λ l. m.letter_stamp l < m.stamp e) from (option_to_list (m.cause e)) stamped.above
+        | false ↦ tt
+      ]
 
   module _ {W : Type 0} (world : World S L E W) (goes_on : GoesOn m world) (final : ℕ → S) (left : ℕ → ℕ → List L) where
     -- a world in which the rest of the events may still happen
@@ -120,12 +128,15 @@ module _ {S L E : Type 0} (m : Machine S L E) where
         let n : ℕ = m.stamp x.1 in
         let all : Each (λ y. n ≤ m.stamp y.1) (x ∷ xs) = (
           omega arith,
-          each_weaker (IsBefore m.stamp x) (λ y. n ≤ m.stamp y.1) (λ y h. elim h [ inl k ↦ omega arith | inr k ↦ omega arith ]) xs ahead.in_order.0,
+          each_weaker (IsBefore m.stamp x) (λ y. n ≤ m.stamp y.1) (λ y h. elim h [ inl k ↦ omega arith | inr k ↦ omega arith ]) xs
+              ahead.in_order.0,
         ) in
-        let e : world.link w from to ++ sent m to (of_actor from (x ∷ xs)) ≡ taken m x.0 x.1 from to ++ (got m from (of_actor to xs) ++ left from to) =
+        let e : world.link w from to ++ sent m to (of_actor from (x ∷ xs)) ≡ taken m x.0 x.1 from to
+        ++ (got m from (of_actor to xs) ++ left from to) =
         ahead.links from to f t ∙ ap (λ ls. ls ++ left from to) (got_first from to x xs)
         ∙ append_assoc (taken m x.0 x.1 from to) (got m from (of_actor to xs)) (left from to) in
-        front n (world.link w from to) (sent m to (of_actor from (x ∷ xs))) (taken m x.0 x.1 from to) (got m from (of_actor to xs) ++ left from to) e
+        front n (world.link w from to) (sent m to (of_actor from (x ∷ xs))) (taken m x.0 x.1 from to)
+        (got m from (of_actor to xs) ++ left from to) e
         (late_all n from to (x ∷ xs) all ahead.stamped)
         (early_one x.0 x.1 from to ahead.stamped.0)
 
@@ -135,7 +146,8 @@ module _ {S L E : Type 0} (m : Machine S L E) where
     walks_on w v x xs next ahead event at here b below = elim (cases_eq b x.0) [
       | inl same ↦ rw (same, at) here
       | inr differs ↦
-          let was : Walks m b (world.state w b) (of_actor b xs) (final b) = rw (ne_eqb x.0 b (λ q. differs (sym q))) at (ahead.walks b below) in
+          let was : Walks m b (world.state w b) (of_actor b xs) (final b) =
+          rw (ne_eqb x.0 b (λ q. differs (sym q))) at (ahead.walks b below) in
           rw (event.others b differs) was
     ]
 
@@ -149,7 +161,8 @@ module _ {S L E : Type 0} (m : Machine S L E) where
       links = λ from to f t.
           let l = event.links from to f t in
           link_after (world.link w from to) (world.link v from to) (taken m x.0 x.1 from to) (added m x.0 x.1 from to) l.0
-          (sent m to (of_actor from (x ∷ xs))) (sent m to (of_actor from xs)) (got m from (of_actor to (x ∷ xs))) (got m from (of_actor to xs))
+          (sent m to (of_actor from (x ∷ xs))) (sent m to (of_actor from xs)) (got m from (of_actor to (x ∷ xs)))
+          (got m from (of_actor to xs))
           (left from to) (ahead.links from to f t) (sent_first from to x xs) (got_first from to x xs) l.1 l.2;
       stamped = ahead.stamped.1;
       in_order = ahead.in_order.1;
@@ -172,7 +185,8 @@ module _ {S L E : Type 0} (m : Machine S L E) where
       link = λ from to f t. sym (append-nil (world.link w from to)) ∙ ahead.links from to f t;
     }
     go_through w (x ∷ xs) ahead =
-        let here : Walks m x.0 (world.state w x.0) (x.1 ∷ of_actor x.0 xs) (final x.0) = rw (eq-eqb x.0 x.0 refl) at (ahead.walks x.0 ahead.within.0) in
+        let here : Walks m x.0 (world.state w x.0) (x.1 ∷ of_actor x.0 xs) (final x.0) =
+        rw (eq-eqb x.0 x.0 refl) at (ahead.walks x.0 ahead.within.0) in
         let next = goes_on w x.0 x.1 here.0 ahead.within.0 ahead.good here.1 (fronts w x xs ahead) in
         let rest = go_through next.0 xs (ahead_on w next.0 x xs here.0 ahead next.2 next.3 next.4 here.2) in
         record {
@@ -195,7 +209,8 @@ module _ {S L E : Type 0} (m : Machine S L E) where
       sym p.1 ∙ ap (λ l. gets ++ l) (sym left)
 
   -- the law
-  pub events_are_a_run : {W : Type 0} (world : World S L E W) → GoesOn m world → (journal : ℕ → List E) (final : ℕ → S) (events : List (ℕ × E)) (w : W)
+  pub events_are_a_run : {W : Type 0} (world : World S L E W) → GoesOn m world
+      → (journal : ℕ → List E) (final : ℕ → S) (events : List (ℕ × E)) (w : W)
       → Compose m journal final → IsMerged m.stamp m.actors journal events → IsStart m world w → HasRun m world w events journal final
   events_are_a_run {W} world goes_on journal final events w compose merged start =
       let left : ℕ → ℕ → List L = left_of journal in
@@ -205,7 +220,8 @@ module _ {S L E : Type 0} (m : Machine S L E) where
         walks = λ a below. rw (start.state a below, merged.each a below) (compose.own a below).walks;
         links = λ from to f t.
             rw (start.link from to f t, merged.each from f, merged.each to t) (sent_is journal from to (compose.links from to f t));
-        stamped = each_from_actors (IsStamped m) m.actors events merged.within (λ a below. rw (merged.each a below) (compose.own a below).stamped);
+        stamped = each_from_actors (IsStamped m) m.actors events merged.within
+            (λ a below. rw (merged.each a below) (compose.own a below).stamped);
         in_order = merged.in_order;
       }) in
       record {
@@ -213,5 +229,6 @@ module _ {S L E : Type 0} (m : Machine S L E) where
         runs = through.runs;
         good = through.good;
         state = through.state;
-        link = λ from to f t. sent_is journal from to (compose.links from to f t) ∙ ap (λ l. got m from (journal to) ++ l) (sym (through.link from to f t));
+        link = λ from to f t. sent_is journal from to (compose.links from to f t)
+            ∙ ap (λ l. got m from (journal to) ++ l) (sym (through.link from to f t));
       }

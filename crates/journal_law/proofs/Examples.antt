@@ -63,7 +63,8 @@ own zero below = record {
 
     low : 2 < 3
     low = omega arith
-own (suc zero) below = record { walks = (1, refl, refl); rises = (tt, tt); stamped = (record { bears = (refl, tt); above = (low, tt) }, tt) }
+own (suc zero) below =
+    record { walks = (1, refl, refl); rises = (tt, tt); stamped = (record { bears = (refl, tt); above = (low, tt) }, tt) }
   where
     low : 1 < 2
     low = omega arith

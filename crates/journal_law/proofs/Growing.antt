@@ -24,18 +24,22 @@ module _ {S L E : Type 0} (m : Machine S L E) where
   pub so_far_start : (a last : ℕ) → IsSoFar a [] (m.start a) last
   so_far_start a last = record { own = record { walks = refl; rises = tt; stamped = tt }; below = tt }
 
-  pub so_far_more : (a : ℕ) (journal : List E) (s : S) (last : ℕ) (e : E) (t : S) → IsSoFar a journal s last → m.Steps a s e t → IsStamped m e → last < m.stamp e → IsSoFar a (journal ++ e ∷ []) t (m.stamp e)
+  pub so_far_more : (a : ℕ) (journal : List E) (s : S) (last : ℕ) (e : E) (t : S) → IsSoFar a journal s last → m.Steps a s e t
+      → IsStamped m e → last < m.stamp e → IsSoFar a (journal ++ e ∷ []) t (m.stamp e)
   so_far_more a journal s last e t so step stamped later = record {
     own = record {
       walks = walks_push a (m.start a) journal s e t so.own.walks step;
-      rises = rises_push journal e so.own.rises (each_weaker (λ d. m.stamp d ≤ last) (λ d. m.stamp d < m.stamp e) (λ d h. omega arith) journal so.below);
+      rises = rises_push journal e so.own.rises
+          (each_weaker (λ d. m.stamp d ≤ last) (λ d. m.stamp d < m.stamp e) (λ d h. omega arith) journal so.below);
       stamped = each_append (IsStamped m) journal (e ∷ []) so.own.stamped (stamped, tt);
     };
-    below = each_append (λ d. m.stamp d ≤ m.stamp e) journal (e ∷ []) (each_weaker (λ d. m.stamp d ≤ last) (λ d. m.stamp d ≤ m.stamp e) (λ d h. omega arith) journal so.below) (omega arith, tt);
+    below = each_append (λ d. m.stamp d ≤ m.stamp e) journal (e ∷ [])
+        (each_weaker (λ d. m.stamp d ≤ last) (λ d. m.stamp d ≤ m.stamp e) (λ d h. omega arith) journal so.below) (omega arith, tt);
   }
 
 module _ {S L E W : Type 0} (m : Machine S L E) (world : World S L E W) where
   -- an induction along a run
-  pub run_keeps : (P : W → Type 0) → ((w : W) (a : ℕ) (e : E) (v : W) → world.Happens w a e v → P w → P v) → (w : W) (events : List (ℕ × E)) (v : W) → Runs m world w events v → P w → P v
+  pub run_keeps : (P : W → Type 0) → ((w : W) (a : ℕ) (e : E) (v : W) → world.Happens w a e v → P w → P v)
+      → (w : W) (events : List (ℕ × E)) (v : W) → Runs m world w events v → P w → P v
   run_keeps P step w [] v runs p = rw (← runs) p
   run_keeps P step w (x ∷ xs) v runs p = run_keeps P step runs.0 xs v runs.2 (step w x.0 x.1 runs.0 runs.1 p)

@@ -1,15 +1,18 @@
 -- There is one merge.
-use Rattle.std.proofs.Common.{◌≡◌, ◌<◌, ◌⊎◌, ℕ, Bool, true, false, cond, eqb, List, [], ◌∷◌, refl, sym, ap, ap₂, ◌∙◌, subst, inl, inr, arith, eq-eqb, eqb-true}
+use Rattle.std.proofs.Common.{◌≡◌, ◌<◌, ◌⊎◌, ℕ, Bool, true, false, cond, eqb, List, [], ◌∷◌, refl, sym, ap, ap₂, ◌∙◌, subst, inl, inr}
+use Rattle.std.proofs.Common.{arith, eq-eqb, eqb-true}
 use Rattle.std.specs.List.{AllByRecursion as Each}
 use Rattle.journal_law.specs.Orders.{of_actor, IsBefore, IsInOrder, IsMerged}
 use Rattle.journal_law.proofs.Compose.{each_weaker}
 
 -- what holds of each element holds of one actor's first
-holds_of_first : {E : Type 0} (P : ℕ × E → Type 0) (a : ℕ) (e : E) (rest : List E) (ys : List (ℕ × E)) → of_actor a ys ≡ e ∷ rest → Each P ys → P (a, e)
+holds_of_first : {E : Type 0} (P : ℕ × E → Type 0) (a : ℕ) (e : E) (rest : List E) (ys : List (ℕ × E)) → of_actor a ys ≡ e ∷ rest
+    → Each P ys → P (a, e)
 holds_of_first P a e rest [] is h = absurd (cc)
 holds_of_first {E} P a e rest (y ∷ ys) is h = at (eqb y.0 a) refl is (λ k. holds_of_first P a e rest ys k h.1)
   where
-    at : (b : Bool) → eqb y.0 a ≡ b → cond b (y.1 ∷ of_actor a ys) (of_actor a ys) ≡ e ∷ rest → (of_actor a ys ≡ e ∷ rest → P (a, e)) → P (a, e)
+    at : (b : Bool) → eqb y.0 a ≡ b → cond b (y.1 ∷ of_actor a ys) (of_actor a ys) ≡ e ∷ rest
+        → (of_actor a ys ≡ e ∷ rest → P (a, e)) → P (a, e)
     at true same k later =
         let here : y.0 ≡ a = eqb-true y.0 a same in
         let there : y.1 ≡ e = cc in
@@ -18,19 +21,25 @@ holds_of_first {E} P a e rest (y ∷ ys) is h = at (eqb y.0 a) refl is (λ k. ho
     at false same k later = later k
 
 -- the rest is the same where the first is
-same_rest : {E : Type 0} (x : ℕ × E) (xs ys : List (ℕ × E)) (a : ℕ) → of_actor a (x ∷ xs) ≡ of_actor a (x ∷ ys) → of_actor a xs ≡ of_actor a ys
+same_rest : {E : Type 0} (x : ℕ × E) (xs ys : List (ℕ × E)) (a : ℕ) → of_actor a (x ∷ xs) ≡ of_actor a (x ∷ ys)
+    → of_actor a xs ≡ of_actor a ys
 same_rest x xs ys a = at (eqb x.0 a)
   where
-    at : (b : Bool) → cond b (x.1 ∷ of_actor a xs) (of_actor a xs) ≡ cond b (x.1 ∷ of_actor a ys) (of_actor a ys) → of_actor a xs ≡ of_actor a ys
+    at : (b : Bool) → cond b (x.1 ∷ of_actor a xs) (of_actor a xs) ≡ cond b (x.1 ∷ of_actor a ys) (of_actor a ys)
+        → of_actor a xs ≡ of_actor a ys
     at true e = cc
     at false e = e
 
 module _ {E : Type 0} (stamp : E → ℕ) where
   -- the first of one list is the first of the other, or comes after it
-  first_or_after : (x y : ℕ × E) (xs ys : List (ℕ × E)) → IsInOrder stamp (y ∷ ys) → of_actor x.0 (x ∷ xs) ≡ of_actor x.0 (y ∷ ys) → (x ≡ y) ⊎ IsBefore stamp y x
+  first_or_after : (x y : ℕ × E) (xs ys : List (ℕ × E)) → IsInOrder stamp (y ∷ ys) → of_actor x.0 (x ∷ xs) ≡ of_actor x.0 (y ∷ ys)
+      → (x ≡ y) ⊎ IsBefore stamp y x
   first_or_after x y xs ys order e =
       let is : x.1 ∷ of_actor x.0 xs ≡ of_actor x.0 (y ∷ ys) = rw (eq-eqb x.0 x.0 refl) at e in
-      holds_of_first (λ z. (z ≡ y) ⊎ IsBefore stamp y z) x.0 x.1 (of_actor x.0 xs) (y ∷ ys) (sym is) (inl refl, each_weaker (IsBefore stamp y) (λ z. (z ≡ y) ⊎ IsBefore stamp y z) (λ z k. inr k) ys order.0)
+      holds_of_first (λ z. (z ≡ y) ⊎ IsBefore stamp y z) x.0 x.1 (of_actor x.0 xs) (y ∷ ys) (sym is) (
+        inl refl,
+        each_weaker (IsBefore stamp y) (λ z. (z ≡ y) ⊎ IsBefore stamp y z) (λ z k. inr k) ys order.0,
+      )
 
   not_both : (x y : ℕ × E) → IsBefore stamp x y → IsBefore stamp y x → ⊥
   not_both x y h k = elim h [
@@ -62,6 +71,7 @@ module _ {E : Type 0} (stamp : E → ℕ) where
       ap₂ (λ z zs. z ∷ zs) first rest
 
   -- two merges of the same journals are one
-  pub merged_once : (n : ℕ) (journal : ℕ → List E) (xs ys : List (ℕ × E)) → IsMerged stamp n journal xs → IsMerged stamp n journal ys → xs ≡ ys
+  pub merged_once : (n : ℕ) (journal : ℕ → List E) (xs ys : List (ℕ × E)) → IsMerged stamp n journal xs
+      → IsMerged stamp n journal ys → xs ≡ ys
   merged_once n journal xs ys left right =
       same_events n xs ys left.within right.within left.in_order right.in_order (λ a below. left.each a below ∙ sym (right.each a below))

@@ -47,4 +47,5 @@ pub record World (State Letter Event W : Type 0) : Type 1 where
 abbrev pub GoesOn : {S L E W : Type 0} → Machine S L E → World S L E W → Type 0
 GoesOn {S} {L} {E} {W} m world =
     (w : W) (a : ℕ) (e : E) (t : S) → a < m.actors → world.IsGood w → m.Steps a (world.state w a) e t → AreInFront m a e (world.link w)
-    → (v : W) × world.Happens w a e v × world.IsGood v × IsEvent m a e (world.state w) (world.link w) (world.state v) (world.link v) × (world.state v a ≡ t)
+    → (v : W) × world.Happens w a e v × world.IsGood v × IsEvent m a e (world.state w) (world.link w) (world.state v) (world.link v)
+    × (world.state v a ≡ t)

@@ -22,4 +22,5 @@ module _ {S L E W : Type 0} (m : Machine S L E) (world : World S L E W) where
     pub runs : Runs w events last
     pub good : world.IsGood last
     pub state : (a : ℕ) → a < m.actors → world.state last a ≡ final a
-    pub link : (from to : ℕ) → from < m.actors → to < m.actors → sent m to (journal from) ≡ got m from (journal to) ++ world.link last from to
+    pub link : (from to : ℕ) → from < m.actors → to < m.actors
+        → sent m to (journal from) ≡ got m from (journal to) ++ world.link last from to

@@ -1,5 +1,6 @@
 -- The greatest of lists that are joined, and of lanes.
-use Rattle.std.proofs.Common.{◌≡◌, ◌≤◌, ◌+◌, ◌<◌, ℕ, max, List, [], ◌∷◌, ◌++◌, length, cond, map, nat_lt, take, drop, slice_range, get_or, arith, refl, ap, ◌∙◌, sym, w8}
+use Rattle.std.proofs.Common.{◌≡◌, ◌≤◌, ◌+◌, ◌<◌, ℕ, max, List, [], ◌∷◌, ◌++◌, length, cond, map, nat_lt, take, drop, slice_range, get_or}
+use Rattle.std.proofs.Common.{arith, refl, ap, ◌∙◌, sym, w8}
 use Rattle.std.proofs.lemmas.Bool.Decides.{nat_tests}
 use Rattle.std.proofs.Math.Nat.{zero-max, max-zero}
 use Rattle.std.proofs.Math.Seq.{take-add}
@@ -17,15 +18,18 @@ greatest_of_both [] ys = sym (zero-max (greatest ys))
 greatest_of_both (x ∷ xs) ys = ap (max x) (greatest_of_both xs ys) ∙ sym (max_assoc x (greatest xs) (greatest ys))
 
 -- one element more, whatever the least answer is
-pub one_more : (least : ℕ) (xs : List ℕ) (i : ℕ) → i < length xs → max least (greatest (take (i + 1) xs)) ≡ max (max least (greatest (take i xs))) (get_or xs i 0)
+pub one_more : (least : ℕ) (xs : List ℕ) (i : ℕ) → i < length xs
+    → max least (greatest (take (i + 1) xs)) ≡ max (max least (greatest (take i xs))) (get_or xs i 0)
 one_more least xs i lt =
-    ap (λ l. max least (greatest l)) (take_more xs i 0 lt) ∙ ap (max least) (greatest_of_both (take i xs) (get_or xs i 0 ∷ []) ∙ ap (max (greatest (take i xs))) (max-zero (get_or xs i 0)))
+    ap (λ l. max least (greatest l)) (take_more xs i 0 lt)
+    ∙ ap (max least) (greatest_of_both (take i xs) (get_or xs i 0 ∷ []) ∙ ap (max (greatest (take i xs))) (max-zero (get_or xs i 0)))
     ∙ sym (max_assoc least (greatest (take i xs)) (get_or xs i 0))
 
 -- the rest makes it whole
 pub greatest_with_rest : (xs : List ℕ) (from : ℕ) → max (greatest (take from xs)) (greatest (slice_range xs from (length xs))) ≡ greatest xs
 greatest_with_rest xs from =
-    ap (λ l. max (greatest (take from xs)) (greatest l)) (range_is_rest xs from) ∙ sym (greatest_of_both (take from xs) (drop from xs)) ∙ ap greatest (take-append-drop from xs)
+    ap (λ l. max (greatest (take from xs)) (greatest l)) (range_is_rest xs from) ∙ sym (greatest_of_both (take from xs) (drop from xs))
+    ∙ ap greatest (take-append-drop from xs)
 
 -- the lanes that `simd_max` gives
 abbrev greater : List ℕ → List ℕ → List ℕ
@@ -42,12 +46,15 @@ chosen (x ∷ xs) (y ∷ ys) long = ap (max (cond (nat_lt x y) y x)) (chosen xs 
 
 -- lanes that have the greatest before a place, and those from there on
 pub lanes_more : (most xs : List ℕ) (from : ℕ) → length most ≡ 32 → from + 32 ≤ length xs → greatest most ≡ greatest (take from xs)
-    → (length (greater most (take 32 (drop from xs))) ≡ 32) × (greatest (greater most (take 32 (drop from xs))) ≡ greatest (take (from + 32) xs))
+    → (length (greater most (take 32 (drop from xs))) ≡ 32)
+    × (greatest (greater most (take 32 (drop from xs))) ≡ greatest (take (from + 32) xs))
 lanes_more most xs from long room same =
     let part = take 32 (drop from xs) in
     let alike : length most ≡ length part = long ∙ sym (length-chunk from 32 xs room) in
-    let is : greater most part ≡ sel_l (zip2 nat_lt most part) part most = ap (λ ms. sel_l ms part most) (tops_compared w8 nat_lt most part) in
+    let is : greater most part ≡ sel_l (zip2 nat_lt most part) part most =
+    ap (λ ms. sel_l ms part most) (tops_compared w8 nat_lt most part) in
     let few = length-zip2 nat_lt most part alike in (
       ap length is ∙ length-sel_l (zip2 nat_lt most part) part most (few ∙ alike) few ∙ few ∙ long,
-      ap greatest is ∙ chosen most part alike ∙ ap (λ m. max m (greatest part)) same ∙ sym (greatest_of_both (take from xs) part) ∙ ap greatest (sym (take-add from 32 xs)),
+      ap greatest is ∙ chosen most part alike ∙ ap (λ m. max m (greatest part)) same ∙ sym (greatest_of_both (take from xs) part)
+          ∙ ap greatest (sym (take-add from 32 xs)),
     )

@@ -1,5 +1,6 @@
 -- Sums over the bytes before a place, over those of a part from there on, and over the rest.
-use Rattle.std.proofs.Common.{◌≡◌, ◌≤◌, ◌+◌, ◌*◌, ℕ, zero, suc, List, [], ◌∷◌, length, Bool, true, false, cond, map, sum, sum_by, take, drop, slice_range, get_or, arith, refl, ap, ◌∙◌, sym, lit≤, Fits, w8, length-drop}
+use Rattle.std.proofs.Common.{◌≡◌, ◌≤◌, ◌+◌, ◌*◌, ℕ, zero, suc, List, [], ◌∷◌, length, Bool, true, false, cond, map, sum, sum_by, take}
+use Rattle.std.proofs.Common.{drop, slice_range, get_or, arith, refl, ap, ◌∙◌, sym, lit≤, Fits, w8, length-drop}
 use Rattle.std.proofs.lemmas.List.Sums.{sum_by-cons, sum_by-append, sum_by-take-drop, length-filter}
 use Rattle.std.proofs.Math.Seq.{take-add}
 use lib.Lanes.{sum_l}
@@ -29,13 +30,15 @@ module _ (f : ℕ → ℕ) where
   sum_of_map (x ∷ xs) = omega (arith, sum_of_map xs, sum_by-cons f x xs)
 
   -- one part more
-  pub part_adds : (xs : List ℕ) (from n : ℕ) → sum_by f (take (from + n) xs) ≡ sum_by f (take from xs) + sum_by f (slice_range xs from (from + n))
+  pub part_adds : (xs : List ℕ) (from n : ℕ)
+      → sum_by f (take (from + n) xs) ≡ sum_by f (take from xs) + sum_by f (slice_range xs from (from + n))
   part_adds xs from n =
       ap (sum_by f) (take-add from n xs) ∙ sum_by-append f (take from xs) (take n (drop from xs))
       ∙ ap (λ part. sum_by f (take from xs) + sum_by f part) (sym (range_is_part xs from n))
 
   -- the lanes of one part more
-  pub lanes_add : (xs : List ℕ) (from n : ℕ) → sum_by f (take (from + n) xs) ≡ sum_by f (take from xs) + sum_l (map f (take n (drop from xs)))
+  pub lanes_add : (xs : List ℕ) (from n : ℕ)
+      → sum_by f (take (from + n) xs) ≡ sum_by f (take from xs) + sum_l (map f (take n (drop from xs)))
   lanes_add xs from n =
       ap (sum_by f) (take-add from n xs) ∙ sum_by-append f (take from xs) (take n (drop from xs))
       ∙ ap (λ s. sum_by f (take from xs) + s) (sym (sum_of_map (take n (drop from xs))))
@@ -66,4 +69,5 @@ bytes_at_most xs fit = sum_at_most (λ x. x) 255 xs (λ i. byte_at_most (get_or 
 pub sums_at_most : (xs : List ℕ) → ((i : ℕ) → Fits w8 (get_or xs i 0)) → (n : ℕ) → sum (take n xs) ≤ 255 * n
 sums_at_most xs fit zero = grind arith
 sums_at_most [] fit (suc n) = grind arith
-sums_at_most (x ∷ xs) fit (suc n) = omega (arith, sums_at_most xs (λ i. fit (suc i)) n, byte_at_most x (fit 0), sum_by-cons (λ y. y) x (take n xs))
+sums_at_most (x ∷ xs) fit (suc n) =
+    omega (arith, sums_at_most xs (λ i. fit (suc i)) n, byte_at_most x (fit 0), sum_by-cons (λ y. y) x (take n xs))

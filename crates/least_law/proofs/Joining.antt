@@ -27,7 +27,8 @@ run_balanced : Conserves → (config : Config) (ledger : List Entry) (last : Bag
     0 < config.ranks → IsRun (start config) ledger last → IsTourRun config ledger s outcomes → IsBalanced config ledger last
 run_balanced conserves config ledger last s outcomes some legal run =
     conserves config ledger last some legal
-    (workers_orderly tours is_work config ledger some (first_at s) (came config ledger s outcomes run) (worker config ledger s outcomes run))
+    (workers_orderly tours is_work config ledger some (first_at s) (came config ledger s outcomes run)
+    (worker config ledger s outcomes run))
 
 pub joined_least : Conserves → (config : Config) (ledger : List Entry) (last : Bag) (s : StartModel) (outcomes : List TourOutcome) →
     0 < config.ranks → IsRun (start config) ledger last → StartsWell s → IsTourRun config ledger s outcomes →

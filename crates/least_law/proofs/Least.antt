@@ -1,10 +1,13 @@
 -- What all ranks of a run of tour programs found together holds a least tour.
-use Rattle.std.proofs.Common.{◌≡◌, ◌<◌, ◌≤◌, ◌+◌, ◌-◌, ◌==◌, ◌&&◌, ℕ, zero, suc, Bool, true, false, cond, not, List, [], ◌∷◌, ◌++◌, map, length, get_or, Contains, All, count_by, Option, Some, None, refl, sym, ap, ◌∙◌, subst, arith, inl, inr, ◌⊎◌, append-nil}
+use Rattle.std.proofs.Common.{◌≡◌, ◌<◌, ◌≤◌, ◌+◌, ◌-◌, ◌==◌, ◌&&◌, ℕ, zero, suc, Bool, true, false, cond, not, List, [], ◌∷◌, ◌++◌, map}
+use Rattle.std.proofs.Common.{length, get_or, Contains, All, count_by, Option, Some, None, refl, sym, ap, ◌∙◌, subst, arith, inl, inr, ◌⊎◌}
+use Rattle.std.proofs.Common.{append-nil}
 use Rattle.std.specs.List.{flat_map, range_with_len}
 use Rattle.std.specs.Prelude.{filter, nat_le, nat_lt, option_to_list}
 use Rattle.std.specs.Str.{bytes_eq}
 use Rattle.std.proofs.lemmas.Bool.{and_from, eqb-true, eq-eqb, le-leb, le-ltb, lt-ltb, ne_eqb, cases_lt}
-use Rattle.std.proofs.lemmas.List.Elements.{Contains-append_cases, Contains-append_left, Contains-append_right, All-cons, All-nil, All-head, All-tail, All-contains, All-weaker}
+use Rattle.std.proofs.lemmas.List.Elements.{Contains-append_cases, Contains-append_left, Contains-append_right, All-cons, All-nil, All-head}
+use Rattle.std.proofs.lemmas.List.Elements.{All-tail, All-contains, All-weaker}
 use Rattle.std.proofs.lemmas.List.FromFn.{get_or-range_with_len, length-range_with_len}
 use Rattle.std.proofs.lemmas.Slice.Eq.{bytes_eq-Decides}
 use Rattle.adlb_unit.specs.declared.names.Rank.{Rank}
@@ -12,7 +15,8 @@ use Rattle.tour_law.specs.Tours.{Costs, IsLeast, IsTour, cost}
 use Rattle.tour_law.specs.Search.{IsAsGood, is_better}
 use Rattle.tour_law.specs.Beginnings.{Continues}
 use Rattle.tour_law.proofs.Enumerated.{pair_good, pair_tour}
-use Rattle.tour_law.proofs.Members.{Among, Contains-flat, Contains-head, Contains-later, Contains-map, From, All-there, flat_from, head_cases, map_from, none_there, same_members}
+use Rattle.tour_law.proofs.Members.{Among, Contains-flat, Contains-head, Contains-later, Contains-map, From, All-there, flat_from}
+use Rattle.tour_law.proofs.Members.{head_cases, map_from, none_there, same_members}
 use Rattle.tour_law.proofs.Once.{times, times-same, times-other, times-more, tour-long, tour-once}
 use Rattle.tour_law.proofs.Orders.{good_itself, good_of_better, good_of_not, good_on, least_of_good}
 use Rattle.work_law.specs.Work.{Arrival, arrival, made_by}
@@ -21,7 +25,8 @@ use Rattle.work_law.specs.Together.{all_by, all_first, waits}
 use Rattle.tour_app.specs.Bodies.{common_part, shared}
 use Rattle.tour_app.specs.Found.{HoldLeast}
 use Rattle.tour_app.specs.Starts.{StartModel, costs}
-use Rattle.tour_app.specs.Works.{answer_of, answer_over, cities, found, found_in, is_pair, made_of, makes, over, pairs, pairs_with, tasks, tours}
+use Rattle.tour_app.specs.Works.{answer_of, answer_over, cities, found, found_in, is_pair, made_of, makes, over, pairs, pairs_with, tasks}
+use Rattle.tour_app.specs.Works.{tours}
 use Rattle.tour_app.specs.Works.{pair_tour as best_tour}
 use Rattle.tour_app.specs.declared.units.TourUnit.{TourUnit}
 use Rattle.tour_app.specs.declared.units.TourUnit.TheVariants.{Pair, Answer}
@@ -95,7 +100,8 @@ Contains-filter p [] x there passes = absurd (none_there x there)
 Contains-filter p (y ∷ xs) x there passes = elim (head_cases y x xs there) [
   | inl e ↦
       let t : p y ≡ true = ap p e ∙ passes in
-      subst (λ b. Contains (cond b (y ∷ filter p xs) (filter p xs)) x) (sym t) (subst (λ z. Contains (z ∷ filter p xs) x) (sym e) (Contains-head x (filter p xs)))
+      subst (λ b. Contains (cond b (y ∷ filter p xs) (filter p xs)) x) (sym t)
+      (subst (λ z. Contains (z ∷ filter p xs) x) (sym e) (Contains-head x (filter p xs)))
   | inr later ↦ kept (p y) (Contains-filter p xs x later passes)
 ]
   where
@@ -241,13 +247,15 @@ module _ (s : StartModel) where
       Contains (waits tours None (Begin (common_part s) (pairs s.cities.count) ∷ [])) (arrival tours (common_part s) u)
   unfolding waits
   begins_there u there =
-      subst (λ l. Contains l (arrival tours (common_part s) u)) (sym (append-nil (map (arrival tours (common_part s)) (pairs s.cities.count))))
+      subst (λ l. Contains l (arrival tours (common_part s) u))
+      (sym (append-nil (map (arrival tours (common_part s)) (pairs s.cities.count))))
       (Contains-map (arrival tours (common_part s)) (pairs s.cities.count) u there)
 
   first_there : (u : TourUnit) → 4 ≤ s.cities.count → Contains (pairs s.cities.count) u →
       Contains (firsts (record { 0 = 0 })) (arrival tours (common_part s) u)
   first_there u many there =
-      subst (λ b. Contains (waits tours None (cond b [] (Begin (common_part s) (pairs s.cities.count) ∷ []))) (arrival tours (common_part s) u))
+      subst (λ b. Contains (waits tours None (cond b [] (Begin (common_part s) (pairs s.cities.count) ∷ [])))
+      (arrival tours (common_part s) u))
       (sym (le-ltb s.cities.count 4 many)) (begins_there u there)
 
   in_first : (k : ℕ) (u : TourUnit) → 0 < k → 4 ≤ s.cities.count → Contains (pairs s.cities.count) u →
@@ -340,7 +348,8 @@ module _ (s : StartModel) (starts : StartsWell s) (ranks : ℕ) (some : 0 < rank
     -- what came to the ranks is what was put first and what work made
     to : (x : Arrival TourUnit) → Contains all x → Contains first_all x ⊎ Contains (all_by tours all) x
     to x there =
-        Contains-append_cases first_all (all_by tours all) x (same_members same exact same_itself all (first_all ++ all_by tours all) same_all x there)
+        Contains-append_cases first_all (all_by tours all) x
+        (same_members same exact same_itself all (first_all ++ all_by tours all) same_all x there)
 
     back : (x : Arrival TourUnit) → Contains (first_all ++ all_by tours all) x → Contains all x
     back x there = same_members same exact same_itself (first_all ++ all_by tours all) all (λ p. sym (same_all p)) x there
@@ -354,7 +363,11 @@ module _ (s : StartModel) (starts : StartsWell s) (ranks : ℕ) (some : 0 < rank
     made_at x there =
         let m = map_from (arrival tours []) (flat_map (made_by tours) all) x there in
         let a = flat_from (made_by tours) all m.x m.there in
-        record { by = a.x; there = a.there; unit = subst (λ u. Contains (makes a.x.common a.x.unit) u) (ap (λ (y : Arrival TourUnit). y.unit) m.is) a.is }
+        record {
+          by = a.x;
+          there = a.there;
+          unit = subst (λ u. Contains (makes a.x.common a.x.unit) u) (ap (λ (y : Arrival TourUnit). y.unit) m.is) a.is;
+        }
 
     -- each pair that came is over the common part
     pair_over : (x : Arrival TourUnit) (a b : ℕ) → Contains all x → x.unit ≡ Pair a b → x.common ≡ common_part s
@@ -367,7 +380,8 @@ module _ (s : StartModel) (starts : StartsWell s) (ranks : ℕ) (some : 0 < rank
       | inr made ↦
           let m = made_at x made in
           let k = made_cases m.by.common m.by.unit x.unit m.unit in
-          absurd (let e : Pair a b ≡ Answer (cost (costs k.its) (best_tour k.its k.a k.b)) (best_tour k.its k.a k.b) = sym pair ∙ k.answer in cc)
+          absurd (let e : Pair a b ≡ Answer (cost (costs k.its) (best_tour k.its k.a k.b)) (best_tour k.its k.a k.b) =
+          sym pair ∙ k.answer in cc)
     ]
 
     -- each answer that came is a tour with its cost

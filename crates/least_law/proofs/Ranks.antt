@@ -1,5 +1,6 @@
 -- The ranks of a run of tour programs as workers, and what their outcomes hold.
-use Rattle.std.proofs.Common.{◌≡◌, ◌<◌, ◌≤◌, ◌+◌, ◌==◌, ℕ, zero, suc, Bool, true, false, cond, List, [], ◌∷◌, ◌++◌, length, take, All, Option, Some, None, slice_get, refl, sym, ap, ◌∙◌, subst, arith, append_assoc, append-nil}
+use Rattle.std.proofs.Common.{◌≡◌, ◌<◌, ◌≤◌, ◌+◌, ◌==◌, ℕ, zero, suc, Bool, true, false, cond, List, [], ◌∷◌, ◌++◌, length, take, All}
+use Rattle.std.proofs.Common.{Option, Some, None, slice_get, refl, sym, ap, ◌∙◌, subst, arith, append_assoc, append-nil}
 use Rattle.std.specs.Prelude.{nat_lt, flat_map}
 use Rattle.std.proofs.lemmas.Bool.{ltb-true, lt-ltb, ne_eqb}
 use Rattle.std.proofs.lemmas.List.{take_all}
@@ -29,7 +30,8 @@ use Rattle.least_law.specs.Joined.{IsRankRun, IsTourRun, start_at}
 abbrev pub first_at : StartModel → Rank → List (Task TourUnit)
 first_at s rank = tasks (start_at s rank)
 
-module _ (config : Config) (ledger : List Entry) (s : StartModel) (outcomes : List TourOutcome) (run : IsTourRun config ledger s outcomes) where
+module _ (config : Config) (ledger : List Entry) (s : StartModel) (outcomes : List TourOutcome)
+    (run : IsTourRun config ledger s outcomes) where
   -- what came to a rank; nothing to one that is not in the run
   abbrev came_at : (rank : Rank) (b : Bool) → b ≡ nat_lt rank.0 config.ranks → List (Arrival TourUnit)
   came_at rank true e = (run.each rank (ltb-true rank.0 config.ranks (sym e))).follows.came
@@ -67,7 +69,8 @@ module _ (config : Config) (ledger : List Entry) (s : StartModel) (outcomes : Li
     found_of rank below r =
         let well : AreEndedWell (r.said ++ finish ∷ []) = subst AreEndedWell r.calls_are (balanced.ended rank below) in
         let front : AreEndedWell r.said = All-front (λ (x : Said). IsEndedWell x.call x.answer) r.said (finish ∷ []) well in
-        let none : r.follows.left ≡ [] = none_left tours (tasks r.program.start) r.said r.follows.left r.follows.came front r.follows.goes in
+        let none : r.follows.left ≡ [] =
+        none_left tours (tasks r.program.start) r.said r.follows.left r.follows.came front r.follows.goes in
         record {
           outcome = r.outcome;
           there = r.there;
@@ -112,7 +115,8 @@ module _ (config : Config) (ledger : List Entry) (s : StartModel) (outcomes : Li
     found_below zero within =
         let rank : Rank = record { 0 = 0 } in
         let f = has_found rank (omega arith) in
-        flat_one 0 f.outcome f.there ∙ f.found_are ∙ ap (λ l. home ∷ l) (ap (λ l. l ++ found (came rank)) (sym came_none) ∙ sym (came_more 0))
+        flat_one 0 f.outcome f.there ∙ f.found_are
+        ∙ ap (λ l. home ∷ l) (ap (λ l. l ++ found (came rank)) (sym came_none) ∙ sym (came_more 0))
     found_below (suc k) within =
         let rank : Rank = record { 0 = suc k } in
         let f = has_found rank (omega arith) in

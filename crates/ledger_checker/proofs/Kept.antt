@@ -10,7 +10,8 @@ use Rattle.bag_ledger.proofs.Bridge.{legal_test}
 use Rattle.bag_ledger.proofs.Charge.{unit_put}
 use Rattle.bag_ledger.proofs.Tests.{some_is}
 
-pub kept_fits : (b : Bag) (server : Server) (batch : BatchId) (call : ℕ) (common : List ℕ) → legal b (Kept server batch) ≡ true → option_and_then (λ r. keeping r.status) (rank_at b batch.rank) ≡ Some (call, common) → length common ≤ b.limit
+pub kept_fits : (b : Bag) (server : Server) (batch : BatchId) (call : ℕ) (common : List ℕ) → legal b (Kept server batch) ≡ true
+    → option_and_then (λ r. keeping r.status) (rank_at b batch.rank) ≡ Some (call, common) → length common ≤ b.limit
 kept_fits b server batch call common is brings =
     let l = (legal_test b (Kept server batch)).0 is in
     let put = unit_put (λ r. keeping r.status) (rank_at b batch.rank) l.0 (batch.number, l.1) l.2 (rw l.3 refl) in

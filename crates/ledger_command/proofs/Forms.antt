@@ -20,7 +20,8 @@ module _ (before after : Option (List ℕ)) (read : List ℕ) (reads : Reads bef
   whole all short told = read_whole input_limit before after read reads all short told
 
   -- a text that the bytes are is that of the input
-  pub read_told : length read ≤ input_limit → (config : Config) (ledger : List of.Entry) → IsText config ledger read → IsTextOn before config ledger
+  pub read_told : length read ≤ input_limit → (config : Config) (ledger : List of.Entry) → IsText config ledger read
+      → IsTextOn before config ledger
   read_told short config ledger is = λ all told. let same_bytes = whole all short told in
       (omega (arith, short, ap length same_bytes), subst (λ l. IsText config ledger l) same_bytes is)
 

@@ -1,5 +1,6 @@
 -- Texts of configurations and ledgers: what two of them that begin alike have in common.
-use Rattle.std.proofs.Common.{◌≡◌, ◌≢◌, ℕ, ◌+◌, ◌<◌, ◌^◌, true, List, [], ◌∷◌, ◌++◌, length, map, Some, None, refl, sym, ap, subst, ◌∙◌, append_assoc, arith}
+use Rattle.std.proofs.Common.{◌≡◌, ◌≢◌, ℕ, ◌+◌, ◌<◌, ◌^◌, true, List, [], ◌∷◌, ◌++◌, length, map, Some, None, refl, sym, ap, subst, ◌∙◌}
+use Rattle.std.proofs.Common.{append_assoc, arith}
 use Rattle.std.specs.List.{AllByRecursion, join_with_byte}
 use Rattle.std.proofs.lemmas.Bool.{lt-ltb}
 use Rattle.std.proofs.lemmas.List.{append_cancel_left, append-nil}
@@ -10,7 +11,8 @@ use Rattle.adlb_unit.specs.declared.configs.Config.{Config}
 use Rattle.bag_ledger.specs.declared.entries.Entry.{Entry}
 use Rattle.bag_ledger.specs.declared.entries.Entry.TheVariants as of
 use Rattle.ledger_file.specs.Fields.{Field, word, IsWithin}
-use Rattle.ledger_file.specs.Lines.{row, words, line, first_row, last_row, lines, open_text, text, IsEntry, AreEntries, IsText, BeginsWithEntry, BeginsWithEnd, IsFirstBad, no_first, no_next, behind}
+use Rattle.ledger_file.specs.Lines.{row, words, line, first_row, last_row, lines, open_text, text, IsEntry, AreEntries, IsText}
+use Rattle.ledger_file.specs.Lines.{BeginsWithEntry, BeginsWithEnd, IsFirstBad, no_first, no_next, behind}
 use Rattle.ledger_file.specs.Inside.Names.{name_of}
 use Rattle.ledger_file.specs.Inside.Reading.{free, parts_of}
 use Rattle.ledger_file.specs.Inside.Rows.{read_entry, read_sizes}

@@ -1,5 +1,6 @@
 -- The reader of entries reads exactly the words of entries.
-use Rattle.std.proofs.Common.{◌≡◌, ℕ, List, [], ◌∷◌, ◌++◌, refl, sym, ap, subst, ◌∙◌, Some, None, Option, append_assoc, Bool, true, false, cond}
+use Rattle.std.proofs.Common.{◌≡◌, ℕ, List, [], ◌∷◌, ◌++◌, refl, sym, ap, subst, ◌∙◌, Some, None, Option, append_assoc, Bool, true, false}
+use Rattle.std.proofs.Common.{cond}
 use Rattle.std.proofs.lemmas.List.{append-nil}
 use Rattle.std.specs.Prelude.{codes}
 use Rattle.std.specs.List.{AllByRecursion}
@@ -12,10 +13,12 @@ use Rattle.ledger_file.specs.Fields.{Field, u32, u64, word, IsWithin}
 use Rattle.ledger_file.specs.Lines.{row, words, IsEntry}
 use Rattle.ledger_file.specs.Inside.Names.{name_word, all_names, name_in, name_of}
 use Rattle.adlb_unit.specs.declared.names.Rank.{Rank}
-use Rattle.ledger_file.specs.Inside.Reading.{onward, next, first, with_rest, value, whole, with_call, call_in, length_in, number_in, rank_of, server_of, kind_of, unit_of, batch_of}
+use Rattle.ledger_file.specs.Inside.Reading.{onward, next, first, with_rest, value, whole, with_call, call_in, length_in, number_in}
+use Rattle.ledger_file.specs.Inside.Reading.{rank_of, server_of, kind_of, unit_of, batch_of}
 use Rattle.ledger_file.specs.Inside.Rows.{read_row, named, read_entry, read_numbers, read_sizes}
 use Rattle.ledger_file.proofs.Bytes.{same_bytes}
-use Rattle.ledger_file.proofs.Readers.{Reads, length_reads, number_reads, prio_reads, pair_reads, target_reads, answer_reads, top_reads, types_reads, bytes_reads, end_reads}
+use Rattle.ledger_file.proofs.Readers.{Reads, length_reads, number_reads, prio_reads, pair_reads, target_reads, answer_reads, top_reads}
+use Rattle.ledger_file.proofs.Readers.{types_reads, bytes_reads, end_reads}
 
 -- what reads on after the words of the front, and then gives a value, gives the value of these words and those that it has read
 pub record Goes {E : Type 0} (spelt : E → List ℕ × List Field) (front : List (List ℕ))

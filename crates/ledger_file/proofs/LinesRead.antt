@@ -1,5 +1,6 @@
 -- The lines of a text, as far as they were read.
-use Rattle.std.proofs.Common.{◌≡◌, ◌≢◌, ℕ, ◌+◌, ◌<◌, true, List, [], ◌∷◌, ◌++◌, length, Some, None, Result, Err, refl, sym, ap, subst, ◌∙◌, append_assoc, arith}
+use Rattle.std.proofs.Common.{◌≡◌, ◌≢◌, ℕ, ◌+◌, ◌<◌, true, List, [], ◌∷◌, ◌++◌, length, Some, None, Result, Err, refl, sym, ap, subst, ◌∙◌}
+use Rattle.std.proofs.Common.{append_assoc, arith}
 use Rattle.std.proofs.lemmas.List.{append-nil, length-append}
 use Rattle.adlb_unit.specs.Limits.{InRanks, InServers, InLimit, Refuses}
 use Rattle.adlb_unit.specs.declared.configs.Config.{Config}
@@ -13,12 +14,14 @@ use Rattle.ledger_file.specs.declared.faults.LedgerFault.TheVariants as ledger_f
 use Rattle.ledger_file.specs.declared.reading.Line.{Line}
 use Rattle.ledger_file.specs.declared.reading.Line.TheVariants as next
 use Rattle.ledger_file.specs.Fields.{Field}
-use Rattle.ledger_file.specs.Lines.{row, words, line, first_row, last_row, lines, open_text, text, IsEntry, AreEntries, IsText, IsFirstBad, no_first, no_next, behind}
+use Rattle.ledger_file.specs.Lines.{row, words, line, first_row, last_row, lines, open_text, text, IsEntry, AreEntries, IsText, IsFirstBad}
+use Rattle.ledger_file.specs.Lines.{no_first, no_next, behind}
 use Rattle.ledger_file.specs.Inside.Next.{IsLine, IsNoLine, HasRead, IsRest, IsBadAfter, none_next, too_much}
 use Rattle.ledger_file.specs.Inside.Reading.{IsCut, free, parts_of, Fails}
 use Rattle.ledger_file.specs.Inside.Rows.{read_entry, read_sizes}
 use Rattle.ledger_file.proofs.Bytes.{AllAbove, cut_somewhere, same_front}
-use Rattle.ledger_file.proofs.Beginnings.{joined, entry_plain, first_plain, last_plain, no_feed, words_back, joined_back, line_then, config_within, no_text}
+use Rattle.ledger_file.proofs.Beginnings.{joined, entry_plain, first_plain, last_plain, no_feed, words_back, joined_back, line_then}
+use Rattle.ledger_file.proofs.Beginnings.{config_within, no_text}
 use Rattle.ledger_file.proofs.Entries.{entry_again, entry_sound, sizes_row, sizes_again, sizes_sound}
 
 some_is : {A : Type 0} {x y : A} → Some x ≡ Some y → x ≡ y

@@ -1,5 +1,6 @@
 -- The fields of a line: the values of each kind, and how they are written.
-use Rattle.std.specs.Prelude.{ℕ, ◌^◌, ◌/◌, ◌%◌, ℤ, Bool, true, false, ◌&&◌, List, [], ◌∷◌, ◌++◌, Option, Some, None, length, map, codes, decimal, nat_lt, nat_le, pos, negsuc, IsTrue}
+use Rattle.std.specs.Prelude.{ℕ, ◌^◌, ◌/◌, ◌%◌, ℤ, Bool, true, false, ◌&&◌, List, [], ◌∷◌, ◌++◌, Option, Some, None, length, map, codes}
+use Rattle.std.specs.Prelude.{decimal, nat_lt, nat_le, pos, negsuc, IsTrue}
 use Rattle.std.specs.Fmt.{signed_decimal, digit_glyph}
 use Rattle.std.specs.List.{flat_map, join_with_byte, list_all}
 use Rattle.adlb_unit.specs.Limits.{type_limit}

@@ -1,5 +1,6 @@
 -- The rule that is found is broken, and where none is found the entry is a step; and what the stop of a ledger says.
-use Rattle.std.proofs.Common.{◌≡◌, ◌∙◌, ℕ, zero, suc, ◌+◌, Bool, true, false, ◌&&◌, not, cond, List, [], ◌∷◌, take, Option, Some, None, refl, ap, sym, subst, arith}
+use Rattle.std.proofs.Common.{◌≡◌, ◌∙◌, ℕ, zero, suc, ◌+◌, Bool, true, false, ◌&&◌, not, cond, List, [], ◌∷◌, take, Option, Some, None}
+use Rattle.std.proofs.Common.{refl, ap, sym, subst, arith}
 use Rattle.std.specs.Prelude.{slice_get, if◌then◌else◌}
 use Rattle.std.specs.Option.{option_map}
 use Rattle.std.specs.List.{list_all}
@@ -26,7 +27,8 @@ all_met : (b : Bag) (rules : List Rule) → broken b rules ≡ None → list_all
 all_met b [] none = refl
 all_met b (r ∷ rs) none = by_test (λ rest. all_met b rs rest) (meets b r) refl none
   where
-    by_test : (broken b rs ≡ None → list_all (meets b) rs ≡ true) → (t : Bool) → meets b r ≡ t → cond (not t) (Some r) (broken b rs) ≡ None → list_all (meets b) (r ∷ rs) ≡ true
+    by_test : (broken b rs ≡ None → list_all (meets b) rs ≡ true) → (t : Bool) → meets b r ≡ t → cond (not t) (Some r) (broken b rs) ≡ None
+        → list_all (meets b) (r ∷ rs) ≡ true
     by_test rest true is none = rw is (rest none)
     by_test rest false is none = absurd (cc)
 
@@ -34,7 +36,8 @@ none_broken : (b : Bag) (rules : List Rule) → list_all (meets b) rules ≡ tru
 none_broken b [] all = refl
 none_broken b (r ∷ rs) all = by_test (λ rest. none_broken b rs rest) (meets b r) refl all
   where
-    by_test : (list_all (meets b) rs ≡ true → broken b rs ≡ None) → (t : Bool) → meets b r ≡ t → (t && list_all (meets b) rs) ≡ true → broken b (r ∷ rs) ≡ None
+    by_test : (list_all (meets b) rs ≡ true → broken b rs ≡ None) → (t : Bool) → meets b r ≡ t → (t && list_all (meets b) rs) ≡ true
+        → broken b (r ∷ rs) ≡ None
     by_test rest true is all = rw is (rest all)
     by_test rest false is all = absurd (cc)
 
@@ -48,22 +51,32 @@ broken_from b e stops none = let goes = step_from b e none in cc
 pub none_from : (b next : Bag) (e : Entry) → step b e ≡ Some next → broken b (rules_of e) ≡ None
 none_from b next e goes = by_test (in_turn b e && legal b e) refl goes
   where
-    by_test : (t : Bool) → (in_turn b e && legal b e) ≡ t → (if t then Some (after b e) else None) ≡ Some next → broken b (rules_of e) ≡ None
+    by_test : (t : Bool) → (in_turn b e && legal b e) ≡ t → (if t then Some (after b e) else None) ≡ Some next
+        → broken b (rules_of e) ≡ None
     by_test true is goes = none_broken b (rules_of e) (sym (obeyed b e) ∙ is)
     by_test false is goes = absurd (cc)
 
 -- what the stop says
-pub stop_is : (b : Bag) (from place : ℕ) (e : Entry) (before : Bag) (es : List Entry) → first_stop b from es ≡ Some (place, e, before) → (k : ℕ) × (place ≡ from + k) × IsRun b (take k es) before × (slice_get es k ≡ Some e) × (step before e ≡ None)
+pub stop_is : (b : Bag) (from place : ℕ) (e : Entry) (before : Bag) (es : List Entry) → first_stop b from es ≡ Some (place, e, before)
+    → (k : ℕ) × (place ≡ from + k) × IsRun b (take k es) before × (slice_get es k ≡ Some e) × (step before e ≡ None)
 stop_is b from place e before [] found = absurd (cc)
 stop_is b from place e before (x ∷ es) found = by_step (λ next. stop_is next (from + 1) place e before es) (step b x) refl found
   where
-    by_step : ((next : Bag) → first_stop next (from + 1) es ≡ Some (place, e, before) → (k : ℕ) × (place ≡ (from + 1) + k) × IsRun next (take k es) before × (slice_get es k ≡ Some e) × (step before e ≡ None)) → (o : Option Bag) → step b x ≡ o → stop_or (λ next. first_stop next (from + 1) es) from x b o ≡ Some (place, e, before) → (k : ℕ) × (place ≡ from + k) × IsRun b (take k (x ∷ es)) before × (slice_get (x ∷ es) k ≡ Some e) × (step before e ≡ None)
+    by_step : ((next : Bag) → first_stop next (from + 1) es ≡ Some (place, e, before) → (k : ℕ) × (place ≡ (from + 1) + k)
+        × IsRun next (take k es) before × (slice_get es k ≡ Some e) × (step before e ≡ None)) → (o : Option Bag) → step b x ≡ o
+        → stop_or (λ next. first_stop next (from + 1) es) from x b o ≡ Some (place, e, before)
+        → (k : ℕ) × (place ≡ from + k) × IsRun b (take k (x ∷ es)) before × (slice_get (x ∷ es) k ≡ Some e) × (step before e ≡ None)
     by_step rest None is here =
         let same : (from, x, b) ≡ (place, e, before) = some_is {X = ℕ × Entry × Bag} here in
         let at : from ≡ place = ap (λ (s : ℕ × Entry × Bag). s.0) same in
         let entry : x ≡ e = ap (λ (s : ℕ × Entry × Bag). s.1) same in
-        let bag : b ≡ before = ap (λ (s : ℕ × Entry × Bag). s.2) same in
-        (zero, omega (arith, at), bag, ap Some entry, subst (λ (b : Bag). step b e ≡ None) bag (subst (λ (x : Entry). step b x ≡ None) entry is))
+        let bag : b ≡ before = ap (λ (s : ℕ × Entry × Bag). s.2) same in (
+          zero,
+          omega (arith, at),
+          bag,
+          ap Some entry,
+          subst (λ (b : Bag). step b e ≡ None) bag (subst (λ (x : Entry). step b x ≡ None) entry is),
+        )
     by_step rest (Some next) is later =
         let s = rest next later in
         (suc s.0, omega (arith, s.1), (next, is_row b next x is, s.2), s.3, s.4)
@@ -98,13 +111,15 @@ module _ (config : Config) (ledger : List Entry) (b last : Bag) (starts : b ≡ 
         subst (λ (k : ℕ). IsFirstIllegal (start config) ledger k) same first.2
 
     -- what is complained of there
-    pub complained : (c : Complaint) → c.place ≡ stop.place → c.entry ≡ stop.entry → broken last (rules_of stop.entry) ≡ Some c.rule → IsComplaint config ledger c
+    pub complained : (c : Complaint) → c.place ≡ stop.place → c.entry ≡ stop.entry → broken last (rules_of stop.entry) ≡ Some c.rule
+        → IsComplaint config ledger c
     complained c place entry breaks =
         let s = stop_is b 0 stop.place stop.entry last ledger stops_at in
         let at : s.0 ≡ c.place = omega (arith, s.1, place) in
         record {
           before = last;
-          steps = subst (λ (k : ℕ). IsRun (start config) (take k ledger) last) at (subst (λ (x : Bag). IsRun x (take s.0 ledger) last) starts s.2);
+          steps = subst (λ (k : ℕ). IsRun (start config) (take k ledger) last) at
+              (subst (λ (x : Bag). IsRun x (take s.0 ledger) last) starts s.2);
           here = subst (λ (k : ℕ). slice_get ledger k ≡ Some c.entry) at (s.3 ∙ ap Some (sym entry));
           breaks = ap (λ (e : Entry). broken last (rules_of e)) entry ∙ breaks;
         }

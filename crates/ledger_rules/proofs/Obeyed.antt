@@ -6,15 +6,23 @@ use Rattle.adlb_unit.specs.Ids.{same_unit}
 use Rattle.adlb_unit.specs.Permit.{permitted}
 use Rattle.adlb_unit.specs.Targets.{home_of}
 use Rattle.bag_ledger.specs.declared.entries.Entry.{Entry}
-use Rattle.bag_ledger.specs.declared.entries.Entry.TheVariants.{Putting, Refused, Accepted, Rejected, Keeping, Kept, Closing, Closed, Freed, Asked, Tried, Granted, Looked, NoCurrent, Fetching, Fetched, CommonFetched, Promised, Left, Arrived, Withdrawn, Counting, Counted, Done, Exhausted, Over, Finished}
-use Rattle.bag_ledger.specs.Bag.{Bag, rank_at, unit_of, part_of, promise_of, putting, keeping, offer, wish, open_call, has_declined, all_declined, charge, has_due, has_fit_at, is_due, is_free_at, is_placed_at, is_travelling, info_of, settled}
-use Rattle.bag_ledger.specs.Step.{has, fits, is_closing, is_of, is_pinned, is_pinned_to, is_running, is_server, is_travelling_to, legal, trying, counting, fetching, same_info}
+use Rattle.bag_ledger.specs.declared.entries.Entry.TheVariants.{Putting, Refused, Accepted, Rejected, Keeping, Kept, Closing, Closed, Freed}
+use Rattle.bag_ledger.specs.declared.entries.Entry.TheVariants.{Asked, Tried, Granted, Looked, NoCurrent, Fetching, Fetched, CommonFetched}
+use Rattle.bag_ledger.specs.declared.entries.Entry.TheVariants.{Promised, Left, Arrived, Withdrawn, Counting, Counted, Done, Exhausted}
+use Rattle.bag_ledger.specs.declared.entries.Entry.TheVariants.{Over, Finished}
+use Rattle.bag_ledger.specs.Bag.{Bag, rank_at, unit_of, part_of, promise_of, putting, keeping, offer, wish, open_call, has_declined}
+use Rattle.bag_ledger.specs.Bag.{all_declined, charge, has_due, has_fit_at, is_due, is_free_at, is_placed_at, is_travelling, info_of}
+use Rattle.bag_ledger.specs.Bag.{settled}
+use Rattle.bag_ledger.specs.Step.{has, fits, is_closing, is_of, is_pinned, is_pinned_to, is_running, is_server, is_travelling_to, legal}
+use Rattle.bag_ledger.specs.Step.{trying, counting, fetching, same_info}
 use Rattle.bag_ledger.specs.Steps.{has_cause, in_turn}
 use Rattle.ledger_rules.specs.Table.{meets, rules_of}
-use Rattle.ledger_rules.proofs.Shapes.{two, three, four, begun_and, begun_as, begun_with, brought, closed_as, counted_as, fetched_as, freed_as, granted_as, looked_as, pending_all, pending_and, promised_as, refused_as}
+use Rattle.ledger_rules.proofs.Shapes.{two, three, four, begun_and, begun_as, begun_with, brought, closed_as, counted_as, fetched_as}
+use Rattle.ledger_rules.proofs.Shapes.{freed_as, granted_as, looked_as, pending_all, pending_and, promised_as, refused_as}
 
 pub obeyed : (b : Bag) (e : Entry) → (in_turn b e && legal b e) ≡ list_all (meets b) (rules_of e)
-obeyed b (Putting rank call kind prio target answer body) = begun_as (not (has_due b)) (rank_at b rank) (λ r. is_running r.status) (λ r. r.next == call)
+obeyed b (Putting rank call kind prio target answer body) =
+    begun_as (not (has_due b)) (rank_at b rank) (λ r. is_running r.status) (λ r. r.next == call)
 obeyed b (Refused server id used) =
     refused_as (not (has_due b)) (rank_at b id.rank) (λ r. offer r.status) (λ o. o.0 == id.number) (is_server b server)
     (λ r. not (has_declined r server)) (used == charge b server) (λ o. nat_lt b.limit (used + o.1))
@@ -44,12 +52,14 @@ obeyed b (Looked server rank call) =
     (λ w. not (has_fit_at b server rank w.1))
 obeyed b (NoCurrent rank call) = pending_all (not (has_due b)) (rank_at b rank) (λ r. trying r.status) (λ w. w.0 == call) (all_declined b)
 obeyed b (Fetching rank call id) =
-    begun_and (not (has_due b)) (rank_at b rank) (λ r. is_running r.status) (λ r. r.next == call) (has (unit_of b id) (λ u. is_pinned_to rank u.place))
+    begun_and (not (has_due b)) (rank_at b rank) (λ r. is_running r.status) (λ r. r.next == call)
+    (has (unit_of b id) (λ u. is_pinned_to rank u.place))
 obeyed b (Fetched server rank id) =
     fetched_as (not (has_due b)) (rank_at b rank) (λ r. has (fetching r.status) (λ f. same_unit f.0 id && not f.1)) (is_server b server)
     (has (unit_of b id) (λ u. is_pinned server rank u.place))
 obeyed b (CommonFetched server rank batch) =
-    closed_as (not (has_due b)) (rank_at b rank) (λ r. has (fetching r.status) (λ f. f.1 && has (unit_of b f.0) (λ u. is_of batch u.unit.common)))
+    closed_as (not (has_due b)) (rank_at b rank)
+    (λ r. has (fetching r.status) (λ f. f.1 && has (unit_of b f.0) (λ u. is_of batch u.unit.common)))
     (is_server b server) (part_of b batch) (λ p. (p.server.0 == server.0) && not p.freed)
 obeyed b (Promised server id n) =
     promised_as (not (has_due b)) (unit_of b id) (λ u. length u.unit.body == n) (is_server b server) (λ u. not (is_travelling u.place))

@@ -9,8 +9,11 @@ use Rattle.bag_ledger.specs.declared.entries.Entry.{Entry}
 use Rattle.bag_ledger.specs.declared.entries.Entry.TheVariants as of
 use Rattle.bag_ledger.specs.declared.states.RankState.{RankState}
 use Rattle.bag_ledger.specs.declared.states.Placed.{Placed}
-use Rattle.bag_ledger.specs.Bag.{Bag, rank_at, unit_of, part_of, promise_of, putting, keeping, offer, wish, open_call, has_declined, all_declined, charge, has_due, has_fit_at, is_due, is_free_at, is_placed_at, is_travelling, info_of, settled}
-use Rattle.bag_ledger.specs.Step.{has, fits, is_closing, is_of, is_pinned, is_pinned_to, is_running, is_server, is_travelling_to, trying, counting, fetching, same_info}
+use Rattle.bag_ledger.specs.Bag.{Bag, rank_at, unit_of, part_of, promise_of, putting, keeping, offer, wish, open_call, has_declined}
+use Rattle.bag_ledger.specs.Bag.{all_declined, charge, has_due, has_fit_at, is_due, is_free_at, is_placed_at, is_travelling, info_of}
+use Rattle.bag_ledger.specs.Bag.{settled}
+use Rattle.bag_ledger.specs.Step.{has, fits, is_closing, is_of, is_pinned, is_pinned_to, is_running, is_server, is_travelling_to, trying}
+use Rattle.bag_ledger.specs.Step.{counting, fetching, same_info}
 use Rattle.bag_ledger.specs.Steps.{has_cause}
 use Rattle.ledger_rules.specs.declared.rules.Rule.{Rule}
 use Rattle.ledger_rules.specs.declared.rules.Rule.TheVariants as rule
@@ -86,10 +89,12 @@ meets b (rule.Undeclined rank server) = rank_passes b rank (λ r. not (has_decli
 meets b (rule.Charged server used) = is_server b server && (used == charge b server)
 meets b (rule.TooMuch rank used) = rank_passes b rank (λ r. has (offer r.status) (λ o. nat_lt b.limit (used + o.1)))
 meets b (rule.Puts id) = rank_passes b id.rank (λ r. has (putting r.status) (λ u. same_unit u.id id))
-meets b (rule.TakesUnit server id) = rank_passes b id.rank (λ r. has (putting r.status) (λ u. is_server b server && fits b server (length u.body)))
+meets b (rule.TakesUnit server id) =
+    rank_passes b id.rank (λ r. has (putting r.status) (λ u. is_server b server && fits b server (length u.body)))
 meets b (rule.AllDeclined rank) = rank_passes b rank (all_declined b)
 meets b (rule.Begins batch) = rank_passes b batch.rank (λ r. has (keeping r.status) (λ k. k.0 == batch.number))
-meets b (rule.TakesCommon server batch) = rank_passes b batch.rank (λ r. has (keeping r.status) (λ k. is_server b server && fits b server (length k.1)))
+meets b (rule.TakesCommon server batch) =
+    rank_passes b batch.rank (λ r. has (keeping r.status) (λ k. is_server b server && fits b server (length k.1)))
 meets b (rule.Ends batch) = rank_passes b batch.rank (λ r. is_closing r.status && is_of batch r.batch)
 meets b (rule.Keeps server batch) = has (part_of b batch) (λ p. (p.server.0 == server.0) && not p.freed)
 meets b (rule.Due batch) = has (part_of b batch) is_due

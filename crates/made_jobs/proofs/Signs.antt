@@ -1,5 +1,6 @@
 -- The signs of a made puzzle are dots and digits.
-use Rattle.std.proofs.Common.{◌≡◌, ◌∙◌, inl, inr, ℕ, zero, suc, ◌+◌, ◌-◌, ◌%◌, ◌<◌, ◌≤◌, ◌==◌, Bool, true, false, cond, not, ap, List, [], ◌∷◌, get_or, length, set, refl, sym, subst, arith, length-set}
+use Rattle.std.proofs.Common.{◌≡◌, ◌∙◌, inl, inr, ℕ, zero, suc, ◌+◌, ◌-◌, ◌%◌, ◌<◌, ◌≤◌, ◌==◌, Bool, true, false, cond, not, ap, List, []}
+use Rattle.std.proofs.Common.{◌∷◌, get_or, length, set, refl, sym, subst, arith, length-set}
 use Rattle.std.specs.Prelude.{All, codes, swap}
 use Rattle.std.proofs.lemmas.Bool.{cases_lt, eqb-true, false_from_ne_true}
 use Rattle.std.proofs.lemmas.List.{get_or_past}
@@ -108,7 +109,8 @@ digits_filled [] all = refl
 digits_filled (sign ∷ signs) all =
     let digit = All-head IsDigit sign signs all in
     let here = sum_by-cons is_filled sign signs in
-    let no_dot : (sign == 46) ≡ false = false_from_ne_true (sign == 46) (λ e. let same = eqb-true sign 46 e in omega (arith, same, digit.0)) in
+    let no_dot : (sign == 46) ≡ false =
+    false_from_ne_true (sign == 46) (λ e. let same = eqb-true sign 46 e in omega (arith, same, digit.0)) in
     let counts : is_filled sign ≡ 1 = ap (λ (t : Bool). cond (not t) 1 0) no_dot in
     let later = digits_filled signs (All-tail IsDigit sign signs all) in
     omega arith

@@ -1,5 +1,6 @@
 -- A made text is a front with its jobs.
-use Rattle.std.proofs.Common.{◌≡◌, ◌∙◌, ℕ, zero, suc, ◌+◌, ◌%◌, Bool, true, false, cond, eqb, List, [], ◌∷◌, ◌++◌, codes, map, refl, ap, append_assoc}
+use Rattle.std.proofs.Common.{◌≡◌, ◌∙◌, ℕ, zero, suc, ◌+◌, ◌%◌, Bool, true, false, cond, eqb, List, [], ◌∷◌, ◌++◌, codes, map, refl, ap}
+use Rattle.std.proofs.Common.{append_assoc}
 use Rattle.rand_pcg.specs.Lcg.{Lcg}
 use Rattle.sudoku_rules.specs.Reading.{digit_of}
 use Rattle.job_text.specs.declared.items.Item.{Item}

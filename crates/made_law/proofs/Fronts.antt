@@ -1,5 +1,6 @@
 -- A front of a text that ends with a line: which jobs it has before what follows, and that no line of it is refused.
-use Rattle.std.proofs.Common.{◌≡◌, ◌∙◌, ℕ, ◌-◌, Bool, true, false, eqb, not, ◌==◌, ◌&&◌, List, [], ◌∷◌, ◌++◌, get_or, length, map, refl, sym, ap, None, append_assoc, append-nil, arith}
+use Rattle.std.proofs.Common.{◌≡◌, ◌∙◌, ℕ, ◌-◌, Bool, true, false, eqb, not, ◌==◌, ◌&&◌, List, [], ◌∷◌, ◌++◌, get_or, length, map, refl}
+use Rattle.std.proofs.Common.{sym, ap, None, append_assoc, append-nil, arith}
 use Rattle.std.specs.List.{AllPass, list_all}
 use Rattle.std.specs.Str.Lines.{strip_carriage_return}
 use Rattle.std.proofs.lemmas.Bool.{and_parts, cond-false, not-true}

@@ -1,5 +1,6 @@
 -- The kinds of the lines of a made puzzle, and of the batch after it.
-use Rattle.std.proofs.Common.{◌≡◌, ◌∙◌, ℕ, ◌+◌, Bool, true, false, cond, eqb, ltb, not, ◌&&◌, ◌||◌, List, [], ◌∷◌, ◌++◌, codes, get_or, length, map, take, refl, ap, Some, append_assoc, length-append, one-add, arith}
+use Rattle.std.proofs.Common.{◌≡◌, ◌∙◌, ℕ, ◌+◌, Bool, true, false, cond, eqb, ltb, not, ◌&&◌, ◌||◌, List, [], ◌∷◌, ◌++◌, codes, get_or}
+use Rattle.std.proofs.Common.{length, map, take, refl, ap, Some, append_assoc, length-append, one-add, arith}
 use Rattle.std.specs.Fmt.{digits}
 use Rattle.std.specs.List.{before_first, list_all, prefix_len}
 use Rattle.std.proofs.lemmas.Bool.{and_parts, cond-false, cond-true, not-true, or_from}
@@ -9,7 +10,8 @@ use Rattle.sudoku_rules.specs.Sides.{box_for, side_for}
 use Rattle.job_text.specs.declared.faults.LineWhy.TheVariants.{Character, Length, Long}
 use Rattle.job_text.specs.declared.items.Item.TheVariants.{Count, Max, Sum}
 use Rattle.job_text.specs.Words.{byte_number, is_blank}
-use Rattle.job_text.specs.Kinds.{Kind, bad, batch, begins_puzzle, is_cell_sign, is_size, item, item_of, kind_of, line_limit, named_kind, puzzle, puzzle_kind, short_kind, skipped}
+use Rattle.job_text.specs.Kinds.{Kind, bad, batch, begins_puzzle, is_cell_sign, is_size, item, item_of, kind_of, line_limit, named_kind}
+use Rattle.job_text.specs.Kinds.{puzzle, puzzle_kind, short_kind, skipped}
 use Rattle.job_text.specs.Jobs.{kinds}
 use Rattle.made_jobs.specs.Made.{batch_of}
 use Rattle.made_jobs.specs.Signs.{IsPuzzle}

@@ -1,5 +1,6 @@
 -- A run of the machine is a run of the world.
-use Rattle.std.proofs.Common.{◌≡◌, ◌<◌, ◌+◌, inl, inr, ℕ, Bool, true, false, cond, eqb, ltb, ◌&&◌, not, List, [], ◌∷◌, ◌++◌, length, drop, map, get_or, set, Option, Some, None, option_to_list}
+use Rattle.std.proofs.Common.{◌≡◌, ◌<◌, ◌+◌, inl, inr, ℕ, Bool, true, false, cond, eqb, ltb, ◌&&◌, not, List, [], ◌∷◌, ◌++◌, length, drop}
+use Rattle.std.proofs.Common.{map, get_or, set, Option, Some, None, option_to_list}
 use Rattle.std.proofs.Common.{refl, sym, ap, ◌∙◌, subst, arith, eq-eqb, lt-ltb, ltb-true, length-set, append_assoc, append-nil}
 use Rattle.std.specs.List.{AllByRecursion as Each}
 use Rattle.std.specs.Option.{option_map}
@@ -18,7 +19,8 @@ use Rattle.server_law.specs.State.{ServerModel, start as new_pool}
 use Rattle.server_law.specs.Carried.{Served}
 use Rattle.server_law.specs.Step.{serve}
 use Rattle.core_run.specs.Runs.{Runs}
-use Rattle.core_run.specs.World.{World, Links, actors, after_rank, after_server, client_of, handle, happens, has_ended, link, pool_of, post, put_link, rank_named, taken}
+use Rattle.core_run.specs.World.{World, Links, actors, after_rank, after_server, client_of, handle, happens, has_ended, link, pool_of, post}
+use Rattle.core_run.specs.World.{put_link, rank_named, taken}
 use Rattle.journal_law.specs.Lists.{Lists, Happens, lists, send_all, set_link, state_of, take_front}
 use Rattle.journal_law.specs.Orders.{of_actor}
 use Rattle.journal_law.specs.Runs.{Runs as RunsOf}
@@ -52,7 +54,8 @@ passed_by true o x f e = absurd cc
 passed_by false o x f e = e
 
 -- what is sent in the world is what is sent in the machine
-post_is : (config : Config) (links : Links) (from : ℕ) (sends : List Sending) → send_all from (sends_of config sends) links ≡ post config links from sends
+post_is : (config : Config) (links : Links) (from : ℕ) (sends : List Sending)
+    → send_all from (sends_of config sends) links ≡ post config links from sends
 unfolding post
 post_is config links from [] = refl
 post_is config links from (y ∷ ys) =
@@ -107,9 +110,11 @@ module _ (w : World) (sized : IsSized w) where
   abbrev Fronts : ℕ → Cause → Type 0
   Fronts a cause =
       (from to : ℕ) → from < actors w.config → to < actors w.config
-      → (rest : List Letter) × (link w.links from to ≡ cond (eqb a to) (of_actor from (option_to_list (cause_of w.config cause))) [] ++ rest)
+      → (rest : List Letter)
+      × (link w.links from to ≡ cond (eqb a to) (of_actor from (option_to_list (cause_of w.config cause))) [] ++ rest)
 
-  front : (a : ℕ) (of : Actor) (letter : Letter) → a < actors w.config → place_of w.config of < actors w.config → Fronts a (causes.Got of letter)
+  front : (a : ℕ) (of : Actor) (letter : Letter) → a < actors w.config → place_of w.config of < actors w.config
+      → Fronts a (causes.Got of letter)
       → (rest : List Letter) × (link w.links (place_of w.config of) a ≡ letter ∷ rest)
   front a of letter inside within fronts =
       let p : ℕ = place_of w.config of in
@@ -122,7 +127,8 @@ module _ (w : World) (sized : IsSized w) where
   IsFront a cause links = take_front a (cause_of w.config cause) w.links ≡ links
 
   rank_occurs : (rank : Rank) (cause : Cause) (x : Made) → rank.0 < w.config.ranks → client_step w.config (client_of w rank) cause ≡ Some x
-      → Fronts rank.0 cause → (links : Links) × (happens w (occurrence (by.Rank rank) cause) ≡ Some (after_rank w rank links x)) × IsFront rank.0 cause links
+      → Fronts rank.0 cause → (links : Links) × (happens w (occurrence (by.Rank rank) cause) ≡ Some (after_rank w rank links x))
+      × IsFront rank.0 cause links
   rank_occurs rank (causes.Called call) x below step fronts = (w.links, rw (lt-ltb rank.0 w.config.ranks below, step) refl, refl)
   rank_occurs rank (causes.Got (by.Rank from) letter) x below step fronts = absurd cc
   rank_occurs rank (causes.Got (by.Server from) letter) x below step fronts =
@@ -132,17 +138,20 @@ module _ (w : World) (sized : IsSized w) where
       let p : ℕ = place_of w.config (by.Server from) in (
         put_link w.links p rank.0 there.0,
         taken_both (ltb from.0 w.config.servers) (ltb rank.0 w.config.ranks) _ _ hears.0 (lt-ltb rank.0 w.config.ranks below)
-            (ap (handle w (by.Server from) (by.Rank rank)) there.1 ∙ ap (option_map (after_rank w rank (put_link w.links p rank.0 there.0))) hears.1),
+            (ap (handle w (by.Server from) (by.Rank rank)) there.1
+            ∙ ap (option_map (after_rank w rank (put_link w.links p rank.0 there.0))) hears.1),
         ap (λ l. set_link w.links p rank.0 (drop 1 l)) there.1,
       )
 
   handles : (of : Actor) (server : Server) (letter : Letter) (rest : List Letter)
       → handle w of (by.Server server) (letter ∷ rest)
-      ≡ cond (has_ended (pool_of w server)) None (option_map (after_server w server (taken w of (by.Server server) rest)) (serve (pool_of w server) of letter))
+      ≡ cond (has_ended (pool_of w server)) None
+      (option_map (after_server w server (taken w of (by.Server server) rest)) (serve (pool_of w server) of letter))
   handles (by.Rank from) server letter rest = refl
   handles (by.Server from) server letter rest = refl
 
-  server_occurs : (server : Server) (cause : Cause) (x : Served) → server.0 < w.config.servers → pool_step w.config (pool_of w server) cause ≡ Some x
+  server_occurs : (server : Server) (cause : Cause) (x : Served) → server.0 < w.config.servers
+      → pool_step w.config (pool_of w server) cause ≡ Some x
       → Fronts (w.config.ranks + server.0) cause
       → (links : Links) × (happens w (occurrence (by.Server server) cause) ≡ Some (after_server w server links x))
       × IsFront (w.config.ranks + server.0) cause links
@@ -158,7 +167,8 @@ module _ (w : World) (sized : IsSized w) where
         taken_both (is_within w.config of) (ltb server.0 w.config.servers) _ _ may.0 (lt-ltb server.0 w.config.servers below)
             (
             ap (handle w of (by.Server server)) there.1 ∙ handles of server letter there.0
-            ∙ passed_by (has_ended (pool_of w server)) _ _ goes (ap (option_map (after_server w server (put_link w.links (place_of w.config of) a there.0))) serves.1)
+            ∙ passed_by (has_ended (pool_of w server)) _ _ goes
+            (ap (option_map (after_server w server (put_link w.links (place_of w.config of) a there.0))) serves.1)
             ),
         ap (λ l. set_link w.links (place_of w.config of) a (drop 1 l)) there.1,
       )
@@ -182,7 +192,8 @@ module _ (w : World) (sized : IsSized w) where
       let at = rank_occurs rank e.cause st.x below st.step h.fronts in
       let now : set (states w) rank.0 t ≡ map inl (set w.ranks rank.0 st.x.state) ++ map inr w.servers =
       ap (set (states w) rank.0) st.is ∙ rank_set rank st.x.state below in
-      let links : send_all rank.0 (sends_of config e.sends) (take_front rank.0 (cause_of config e.cause) w.links) ≡ post config at.0 rank.0 st.x.sends =
+      let links : send_all rank.0 (sends_of config e.sends) (take_front rank.0 (cause_of config e.cause) w.links)
+      ≡ post config at.0 rank.0 st.x.sends =
       (λ i. send_all rank.0 (sends_of config (st.sends i)) (at.2 i)) ∙ post_is config at.0 rank.0 st.x.sends in
       record {
         next = after_rank w rank at.0 st.x;

@@ -13,9 +13,11 @@ pub record IsGoing (initial left : List (List Stamped)) (ledger : List Entry) : 
   pub merging : IsMerging stamp_at initial left merged
   pub entries : ledger ≡ map (λ x. x.1.entry) merged
 
-pub going_start : (initial left : List (List Stamped)) (ledger : List Entry) → left ≡ initial → ledger ≡ [] → ((a : ℕ) → Climbs stamp_at (get_or initial a []))
+pub going_start : (initial left : List (List Stamped)) (ledger : List Entry) → left ≡ initial → ledger ≡ []
+    → ((a : ℕ) → Climbs stamp_at (get_or initial a []))
     → IsGoing initial left ledger
-going_start initial left ledger same none climbs = rw (same, none) (record { merged = []; merging = merging_start stamp_at initial climbs; entries = refl })
+going_start initial left ledger same none climbs =
+    rw (same, none) (record { merged = []; merging = merging_start stamp_at initial climbs; entries = refl })
 
 pub going_on : (initial left : List (List Stamped)) (ledger : List Entry) (at : ℕ) (first : Stamped) (rest : List Stamped)
     → IsGoing initial left ledger → IsLeast stamp_at left (Some at) → get_or left at [] ≡ first ∷ rest

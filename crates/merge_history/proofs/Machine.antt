@@ -1,5 +1,6 @@
 -- All actors as one machine, and what its words mean here.
-use Rattle.std.proofs.Common.{◌≡◌, ◌<◌, ◌-◌, ◌⊎◌, inl, inr, ℕ, true, false, cond, eqb, ltb, List, [], ◌∷◌, ◌++◌, map, filter, Option, Some, None, option_to_list, refl, ap, ap₂}
+use Rattle.std.proofs.Common.{◌≡◌, ◌<◌, ◌-◌, ◌⊎◌, inl, inr, ℕ, true, false, cond, eqb, ltb, List, [], ◌∷◌, ◌++◌, map, filter, Option, Some}
+use Rattle.std.proofs.Common.{None, option_to_list, refl, ap, ap₂}
 use Rattle.std.specs.List.{AllByRecursion as Each}
 use Rattle.std.proofs.lemmas.List.Elements.{recursion_from_All}
 use Rattle.adlb_unit.specs.declared.configs.Config.{Config}
@@ -68,7 +69,8 @@ machine config = record {
 }
 
 module _ (config : Config) where
-  pub client_walks : (a : ℕ) (s : ClientModel) (es : List Event) (last : ClientModel) → ClientWalks config s es last → Walks_of (machine config) a (inl s) es (inl last)
+  pub client_walks : (a : ℕ) (s : ClientModel) (es : List Event) (last : ClientModel) → ClientWalks config s es last
+      → Walks_of (machine config) a (inl s) es (inl last)
   client_walks a s [] last w = ap (λ t. inl t) w
   client_walks a s (e ∷ es) last w = (
     inl w.0.state,
@@ -76,7 +78,8 @@ module _ (config : Config) where
     client_walks a w.0.state es last w.5,
   )
 
-  pub pool_walks : (a : ℕ) (s : ServerModel) (es : List Event) (last : ServerModel) → PoolWalks config s es last → Walks_of (machine config) a (inr s) es (inr last)
+  pub pool_walks : (a : ℕ) (s : ServerModel) (es : List Event) (last : ServerModel) → PoolWalks config s es last
+      → Walks_of (machine config) a (inr s) es (inr last)
   pool_walks a s [] last w = ap (λ t. inr t) w
   pool_walks a s (e ∷ es) last w = (
     inr w.0.state,
@@ -86,10 +89,13 @@ module _ (config : Config) where
 
   letters_same : (to : ℕ) (sends : List Sending) → of_actor to (sends_of config sends) ≡ letters_to config to sends
   letters_same to [] = refl
-  letters_same to (y ∷ ys) = elim (eqb (place_of config y.to) to) as (λ b. cond b (y.letter ∷ of_actor to (sends_of config ys)) (of_actor to (sends_of config ys)) ≡ map (λ (z : Sending). z.letter) (cond b (y ∷ filter (λ z. eqb (place_of config z.to) to) ys) (filter (λ z. eqb (place_of config z.to) to) ys))) [
-    | true ↦ ap (λ l. y.letter ∷ l) (letters_same to ys)
-    | false ↦ letters_same to ys
-  ]
+  letters_same to (y ∷ ys) = elim (eqb (place_of config y.to) to) as
+      (λ b. cond b (y.letter ∷ of_actor to (sends_of config ys)) (of_actor to (sends_of config ys))
+      ≡ map (λ (z : Sending). z.letter)
+      (cond b (y ∷ filter (λ z. eqb (place_of config z.to) to) ys) (filter (λ z. eqb (place_of config z.to) to) ys))) [
+        | true ↦ ap (λ l. y.letter ∷ l) (letters_same to ys)
+        | false ↦ letters_same to ys
+      ]
 
   letter_same : (from : ℕ) (cause : Cause) → of_actor from (option_to_list (cause_of config cause)) ≡ letter_from config from cause
   letter_same from (causes.Called call) = refl
@@ -103,7 +109,8 @@ module _ (config : Config) where
   got_same from [] = refl
   got_same from (e ∷ es) = ap₂ (λ xs ys. xs ++ ys) (letter_same from e.cause) (got_same from es)
 
-  bears : (stamp : ℕ) (sends : List Sending) → Each (λ y. y.letter.stamp ≡ stamp) sends → Each (λ x. x.1.stamp ≡ stamp) (sends_of config sends)
+  bears : (stamp : ℕ) (sends : List Sending) → Each (λ y. y.letter.stamp ≡ stamp) sends
+      → Each (λ x. x.1.stamp ≡ stamp) (sends_of config sends)
   bears stamp [] h = tt
   bears stamp (y ∷ ys) h = (h.0, bears stamp ys h.1)
 

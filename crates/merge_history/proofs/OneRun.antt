@@ -1,5 +1,6 @@
 -- Journals that compose, merged, are one run of all actors.
-use Rattle.std.proofs.Common.{◌≡◌, ◌<◌, ◌≤◌, ◌+◌, ◌-◌, inl, inr, ℕ, zero, suc, true, ltb, ◌&&◌, not, List, [], ◌∷◌, ◌++◌, length, map, get_or, replicate, slice_get, Some, option_to_list}
+use Rattle.std.proofs.Common.{◌≡◌, ◌<◌, ◌≤◌, ◌+◌, ◌-◌, inl, inr, ℕ, zero, suc, true, ltb, ◌&&◌, not, List, [], ◌∷◌, ◌++◌, length, map}
+use Rattle.std.proofs.Common.{get_or, replicate, slice_get, Some, option_to_list}
 use Rattle.std.proofs.Common.{refl, sym, ap, ap₂, ◌∙◌, subst, arith, lt-ltb, le-ltb, length-append}
 use Rattle.std.specs.List.{AllByRecursion as Each, range_with_len}
 use Rattle.std.proofs.lemmas.Bool.{cases_lt}
@@ -29,8 +30,10 @@ use Rattle.merge_history.specs.declared.causes.Cause.TheVariants as causes
 use Rattle.merge_history.specs.Events.{Event, OfActor}
 use Rattle.merge_history.specs.Merging.{CanMerge, IsMergeOf, actors_of, journal_at, numbered, stamp_of}
 use Rattle.merge_history.specs.Own.{Compose, Finals, IsCoreRun, IsOwnRun, IsTimed, Walks, client_step, pool_step}
-use Rattle.merge_history.proofs.Bridge.{HasPassed, IsSized, as_lists, cond_some, both_true, first_of, place_below, rank_state, run_is, server_state, states}
-use Rattle.merge_history.proofs.Machine.{Being, all_stamped, at_place, begins, cause_of, client_walks, got_same, machine, pool_walks, sent_same}
+use Rattle.merge_history.proofs.Bridge.{HasPassed, IsSized, as_lists, cond_some, both_true, first_of, place_below, rank_state, run_is}
+use Rattle.merge_history.proofs.Bridge.{server_state, states}
+use Rattle.merge_history.proofs.Machine.{Being, all_stamped, at_place, begins, cause_of, client_walks, got_same, machine, pool_walks}
+use Rattle.merge_history.proofs.Machine.{sent_same}
 use Rattle.merge_history.proofs.Places.{actors_long, place_is}
 
 -- What is got is of one of the actors.
@@ -74,8 +77,10 @@ starts : (config : Config) → IsStart (machine config) (lists (machine config) 
 starts config =
     let w : World = start config in let n : ℕ = actors config in
     let none : List Letter = [] in let row : List (List Letter) = replicate n none in
-    let clients : length (map {A = ClientModel} {B = Being} inl w.ranks) ≡ config.ranks = length-map w.ranks inl ∙ (at_start config).ranks in
-    let pools : length (map {A = ServerModel} {B = Being} inr w.servers) ≡ config.servers = length-map w.servers inr ∙ (at_start config).servers in
+    let clients : length (map {A = ClientModel} {B = Being} inl w.ranks) ≡ config.ranks =
+    length-map w.ranks inl ∙ (at_start config).ranks in
+    let pools : length (map {A = ServerModel} {B = Being} inr w.servers) ≡ config.servers = length-map w.servers inr
+    ∙ (at_start config).servers in
     record {
       good = record {
         states = length-append (map {A = ClientModel} {B = Being} inl w.ranks) (map inr w.servers) ∙ ap₂ (λ x y. x + y) clients pools;
@@ -85,13 +90,16 @@ starts config =
       state = λ a below. elim (cases_lt a config.ranks) [
         | inl low ↦
             rw (lt-ltb a config.ranks low) (rank_state w (at_start config) (rank_named a) low
-            ∙ ap inl (range_at (λ k. new_client config (rank_named k)) 0 config.ranks a (new_client config (rank_named a)) low ∙ ap (λ k. new_client config (rank_named k)) (zero_more a)))
+            ∙ ap inl (range_at (λ k. new_client config (rank_named k)) 0 config.ranks a (new_client config (rank_named a)) low
+            ∙ ap (λ k. new_client config (rank_named k)) (zero_more a)))
         | inr high ↦
             let j : ℕ = a - config.ranks in
             let in_servers : j < config.servers = omega (arith, below, high) in
             let there : config.ranks + j ≡ a = omega (arith, high) in
-            rw (le-ltb a config.ranks high) (ap (λ k. get_or (states w) k (first_of config)) (sym there) ∙ server_state w (at_start config) (server_named j) in_servers
-            ∙ ap inr (range_at (λ k. new_pool config (server_named k)) 0 config.servers j (new_pool config (server_named j)) in_servers ∙ ap (λ k. new_pool config (server_named k)) (zero_more j)))
+            rw (le-ltb a config.ranks high)
+            (ap (λ k. get_or (states w) k (first_of config)) (sym there) ∙ server_state w (at_start config) (server_named j) in_servers
+            ∙ ap inr (range_at (λ k. new_pool config (server_named k)) 0 config.servers j (new_pool config (server_named j)) in_servers
+            ∙ ap (λ k. new_pool config (server_named k)) (zero_more j)))
       ];
       link = λ from to f t. ap (λ r. get_or r to []) (get_or-replicate n from row [] f) ∙ get_or-replicate n to none [] t;
     }
@@ -107,7 +115,8 @@ inr_same s t e = cc
 
 -- The journals.
 
-module _ (config : Config) (finals : Finals) (journals : List OfActor) (can : CanMerge config journals) (compose : Compose config finals journals) where
+module _ (config : Config) (finals : Finals) (journals : List OfActor) (can : CanMerge config journals)
+    (compose : Compose config finals journals) where
   abbrev final : ℕ → Being
   final a = at_place config (λ n. inl (finals.client (rank_named n))) (λ n. inr (finals.pool (server_named n))) a
 
@@ -138,7 +147,8 @@ module _ (config : Config) (finals : Finals) (journals : List OfActor) (can : Ca
       let rises : Rises stamp_of j.0.events =
       subst (λ (x : OfActor). Rises stamp_of x.events) at (can.rises a j.0 (slice_get_within journals a j.0 j.1)) in
       let walks : Walks_of (machine config) a (begins config a) j.0.events (final a) =
-      subst (λ k. Walks_of (machine config) k (begins config k) j.0.events (final k)) place.0 (walks_at j.0.actor j.0.events place.1 own.walks) in
+      subst (λ k. Walks_of (machine config) k (begins config k) j.0.events (final k)) place.0
+      (walks_at j.0.actor j.0.events place.1 own.walks) in
       rw events (record {
         walks = walks;
         rises = rises;
@@ -154,18 +164,23 @@ module _ (config : Config) (finals : Finals) (journals : List OfActor) (can : Ca
   composes = record {
     own = own_at;
     links = λ from to f t.
-        let p = compose.links from to f t in
-        (p.0, ap (λ l. l ++ p.0) (got_same config from (journal_at journals to)) ∙ p.1 ∙ sym (sent_same config to (journal_at journals from)));
+        let p = compose.links from to f t in (
+          p.0,
+          ap (λ l. l ++ p.0) (got_same config from (journal_at journals to)) ∙ p.1 ∙ sym (sent_same config to (journal_at journals from)),
+        );
   }
 
   pub one_run : (events : List (Actor × Event)) → IsMergeOf config journals events → IsCoreRun config finals journals events
   one_run events merge =
       let first : Being = first_of config in
-      let run : HasRun (machine config) (lists (machine config) first) (as_lists (start config)) (numbered config events) (journal_at journals) final =
-      Law.events_are_a_run (machine config) (lists (machine config) first) (lists_go_on (machine config) first (got_among config)) (journal_at journals)
+      let run : HasRun (machine config) (lists (machine config) first) (as_lists (start config)) (numbered config events)
+      (journal_at journals) final =
+      Law.events_are_a_run (machine config) (lists (machine config) first) (lists_go_on (machine config) first (got_among config))
+      (journal_at journals)
       final (numbered config events) (as_lists (start config)) composes merge.merged (starts config) in
       let passed : HasPassed (start config) events run.last =
-      run_is (start config) events run.last (at_start config) (recursion_from_All (λ x. is_within config x.0 ≡ true) events merge.within) run.runs in
+      run_is (start config) events run.last (at_start config)
+      (recursion_from_All (λ x. is_within config x.0 ≡ true) events merge.within) run.runs in
       let last : World = passed.last in
       let same : (k : ℕ) → get_or (states last) k (first_of last.config) ≡ get_or (run.last).states k first =
       λ k i. get_or ((passed.is i).states) k (first_of (passed.config i)) in
@@ -183,7 +198,8 @@ module _ (config : Config) (finals : Finals) (journals : List OfActor) (can : Ca
             let above : config.ranks ≤ a = omega arith in
             let back : a - config.ranks ≡ server.0 = omega arith in
             let at : get_or (states last) a (first_of last.config) ≡ inr (pool_of last server) =
-            ap (λ (c : Config). get_or (states last) (c.ranks + server.0) (first_of last.config)) (sym passed.config) ∙ server_state last passed.sized server (rw passed.config below) in
+            ap (λ (c : Config). get_or (states last) (c.ranks + server.0) (first_of last.config)) (sym passed.config)
+            ∙ server_state last passed.sized server (rw passed.config below) in
             let here : inr (pool_of last server) ≡ final a = sym at ∙ same a ∙ run.state a (omega (arith, below)) in
             let is : final a ≡ inr (finals.pool server) = rw (le-ltb a config.ranks above, back) refl in
             inr_same (pool_of last server) (finals.pool server) (here ∙ is);

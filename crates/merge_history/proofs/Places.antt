@@ -1,5 +1,6 @@
 -- The actors of a run and their places.
-use Rattle.std.proofs.Common.{◌≡◌, ◌≤◌, ◌<◌, ◌+◌, ◌-◌, ℕ, zero, suc, true, List, [], ◌∷◌, ◌++◌, length, map, Some, slice_get, refl, sym, ap, ◌∙◌}
+use Rattle.std.proofs.Common.{◌≡◌, ◌≤◌, ◌<◌, ◌+◌, ◌-◌, ℕ, zero, suc, true, List, [], ◌∷◌, ◌++◌, length, map, Some, slice_get, refl, sym, ap}
+use Rattle.std.proofs.Common.{◌∙◌}
 use Rattle.std.proofs.Common.{inl, inr, arith, lt-ltb, length-append}
 use Rattle.std.proofs.lemmas.Bool.{cases_lt}
 use Rattle.std.specs.List.{range_with_len}
@@ -21,7 +22,8 @@ get_right (x ∷ xs) ys zero j h = absurd (omega (arith, h))
 get_right (x ∷ xs) ys (suc k) j h = get_right xs ys k j (omega (arith, h))
 
 -- the element at a place of a range under a function
-of_range : {T : Type 0} (f : ℕ → T) (from n k : ℕ) (t : T) → slice_get (map f (range_with_len from n)) k ≡ Some t → (k < n) × (t ≡ f (from + k))
+of_range : {T : Type 0} (f : ℕ → T) (from n k : ℕ) (t : T) → slice_get (map f (range_with_len from n)) k ≡ Some t
+    → (k < n) × (t ≡ f (from + k))
 of_range f from zero k t at = absurd cc
 of_range f from (suc n) zero t at = let is : t ≡ f from = cc in (omega arith, is ∙ ap f (omega arith))
 of_range f from (suc n) (suc k) t at =
@@ -44,7 +46,8 @@ actors_long config =
     length-append ranks servers ∙ (λ i. long_range rank_at 0 config.ranks i + long_range server_at 0 config.servers i)
 
 -- the actor at a place is the one of that place
-pub place_is : (config : Config) (k : ℕ) (a : Actor) → slice_get (actors_of config) k ≡ Some a → (place_of config a ≡ k) × (is_within config a ≡ true)
+pub place_is : (config : Config) (k : ℕ) (a : Actor) → slice_get (actors_of config) k ≡ Some a
+    → (place_of config a ≡ k) × (is_within config a ≡ true)
 place_is config k a at =
     let ranks : List Actor = map rank_at (range_with_len 0 config.ranks) in
     let servers : List Actor = map server_at (range_with_len 0 config.servers) in
@@ -75,10 +78,12 @@ rank_there config k below =
     get_left ranks servers k (omega (arith, below, long_range rank_at 0 config.ranks)) ∙ in_range rank_at 0 config.ranks k below
     ∙ ap (λ j. Some (rank_at j)) (omega arith)
 
-pub server_there : (config : Config) (k : ℕ) → config.ranks ≤ k → k < actors config → slice_get (actors_of config) k ≡ Some (server_at (k - config.ranks))
+pub server_there : (config : Config) (k : ℕ) → config.ranks ≤ k → k < actors config
+    → slice_get (actors_of config) k ≡ Some (server_at (k - config.ranks))
 server_there config k above below =
     let ranks : List Actor = map rank_at (range_with_len 0 config.ranks) in
     let servers : List Actor = map server_at (range_with_len 0 config.servers) in
     let j : ℕ = k - config.ranks in
-    get_right ranks servers k j (omega (arith, above, long_range rank_at 0 config.ranks)) ∙ in_range server_at 0 config.servers j (omega (arith, above, below))
+    get_right ranks servers k j (omega (arith, above, long_range rank_at 0 config.ranks))
+    ∙ in_range server_at 0 config.servers j (omega (arith, above, below))
     ∙ ap (λ i. Some (server_at i)) (omega arith)

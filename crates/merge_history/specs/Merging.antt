@@ -19,7 +19,8 @@ stamp_of e = e.stamp
 -- the actors of a run, by place
 abbrev pub actors_of : Config → List Actor
 actors_of config =
-    map (λ n. by.Rank (rank_named n)) (range_with_len 0 config.ranks) ++ map (λ n. by.Server (server_named n)) (range_with_len 0 config.servers)
+    map (λ n. by.Rank (rank_named n)) (range_with_len 0 config.ranks) ++ map (λ n. by.Server (server_named n))
+    (range_with_len 0 config.servers)
 
 -- one journal for each actor, by place, in which the stamps rise
 pub record CanMerge (config : Config) (journals : List OfActor) : Type 0 where

@@ -1,5 +1,6 @@
 -- When journals are one run: each is its actor's own run, and on each link what was got is a prefix of what was sent.
-use Rattle.std.specs.Prelude.{◌≡◌, ◌<◌, ◌==◌, ℕ, nat_lt, ◌&&◌, not, List, [], ◌∷◌, ◌++◌, All, map, filter, Option, None, Some, if◌then◌else◌, slice_get}
+use Rattle.std.specs.Prelude.{◌≡◌, ◌<◌, ◌==◌, ℕ, nat_lt, ◌&&◌, not, List, [], ◌∷◌, ◌++◌, All, map, filter, Option, None, Some}
+use Rattle.std.specs.Prelude.{if◌then◌else◌, slice_get}
 use mathlib.Core.List.{IsPrefix}
 use Rattle.adlb_unit.specs.declared.actors.Actor.{Actor}
 use Rattle.adlb_unit.specs.declared.actors.Actor.TheVariants as by

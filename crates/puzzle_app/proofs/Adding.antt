@@ -1,5 +1,6 @@
 -- What comes to a rank with its calls, and what they put.
-use Rattle.std.proofs.Common.{◌≡◌, ℕ, ◌+◌, Bool, cond, List, [], ◌∷◌, ◌++◌, map, Option, Some, None, refl, sym, ap, ◌∙◌, subst, arith, append_assoc, append-nil, IsPermutation, count_by}
+use Rattle.std.proofs.Common.{◌≡◌, ℕ, ◌+◌, Bool, cond, List, [], ◌∷◌, ◌++◌, map, Option, Some, None, refl, sym, ap, ◌∙◌, subst, arith}
+use Rattle.std.proofs.Common.{append_assoc, append-nil, IsPermutation, count_by}
 use Rattle.std.specs.List.{flat_map}
 use Rattle.std.proofs.lemmas.List.{map-append}
 use Rattle.std.proofs.lemmas.List.Concat.{flat_map-append}
@@ -18,10 +19,12 @@ use Rattle.job_units.specs.declared.units.Made.TheVariants as made
 use Rattle.job_units.specs.Puts.{put_of}
 use Rattle.job_units.specs.Reading.{common_bytes, fetched as unit_fetched}
 use Rattle.puzzle_app.specs.Arrivals.{Arrival, arrival, bytes_on, makes}
-use Rattle.puzzle_app.specs.Books.{Books, Goes, Moves, going, holding, shut, received, brought, in_batch, without_batch, over_bytes, said_of}
+use Rattle.puzzle_app.specs.Books.{Books, Goes, Moves, going, holding, shut, received, brought, in_batch, without_batch, over_bytes}
+use Rattle.puzzle_app.specs.Books.{said_of}
 use Rattle.puzzle_app.specs.Follows.{all_made, start_of, tasks_of}
 use Rattle.puzzle_app.specs.Tasks.{Task, Put, Begin, End, all_units, as_units, put_all}
-use Rattle.puzzle_app.specs.Transcripts.{all_come, all_refused, batches_after, batches_in, calls_of, came_calls, comes, note_of, put_call, puts, refused, units_in}
+use Rattle.puzzle_app.specs.Transcripts.{all_come, all_refused, batches_after, batches_in, calls_of, came_calls, comes, note_of, put_call}
+use Rattle.puzzle_app.specs.Transcripts.{puts, refused, units_in}
 use Rattle.puzzle_app.specs.declared.program.PuzzleProgram.{PuzzleProgram}
 use Rattle.puzzle_app.proofs.Counting.{units_by_counts}
 use Rattle.puzzle_app.proofs.Calling.{OfEach, of_move}

@@ -1,5 +1,6 @@
 -- What the relation of the calls says of a transcript.
-use Rattle.std.proofs.Common.{◌≡◌, ℕ, ◌==◌, ◌||◌, Bool, true, false, List, [], ◌∷◌, ◌++◌, Option, Some, None, is_some, refl, sym, ap, ◌∙◌, subst, All, inl, inr, ◌⊎◌}
+use Rattle.std.proofs.Common.{◌≡◌, ℕ, ◌==◌, ◌||◌, Bool, true, false, List, [], ◌∷◌, ◌++◌, Option, Some, None, is_some, refl, sym, ap, ◌∙◌}
+use Rattle.std.proofs.Common.{subst, All, inl, inr, ◌⊎◌}
 use Rattle.std.proofs.lemmas.List.Elements.{All-nil, All-cons}
 use Rattle.std.proofs.lemmas.List.Folds.{list_any-append}
 use Rattle.adlb_unit.specs.declared.names.WorkType.{WorkType}
@@ -19,7 +20,9 @@ use Rattle.job_units.specs.Puts.{kind_of, put_of}
 use Rattle.job_units.specs.Reading.{common_bytes, fetched as unit_fetched}
 use Rattle.rank_client.specs.Calls.{end_of, end_told, goes_on, has_finished, is_finish, is_open, open_after}
 use Rattle.puzzle_app.specs.Arrivals.{Arrival, arrival, bytes_on}
-use Rattle.puzzle_app.specs.Books.{Books, Goes, Moves, accepted, rejected, stopped, begun, refused as refused_by, stopped_before, closed, closed_behind, granted, told, fetched, going, holding, shut, received, brought, in_batch, without_batch, said_of}
+use Rattle.puzzle_app.specs.Books.{Books, Goes, Moves, accepted, rejected, stopped, begun, refused as refused_by, stopped_before, closed}
+use Rattle.puzzle_app.specs.Books.{closed_behind, granted, told, fetched, going, holding, shut, received, brought, in_batch, without_batch}
+use Rattle.puzzle_app.specs.Books.{said_of}
 use Rattle.puzzle_app.specs.Follows.{IsSoFar, start_of}
 use Rattle.puzzle_app.specs.Tasks.{Task, Put, Begin, End, as_units, put_all}
 use Rattle.puzzle_app.specs.Transcripts.{is_own, is_within}

@@ -11,7 +11,8 @@ use Rattle.bag_ledger.specs.declared.entries.Answer.TheVariants.{Body}
 use Rattle.bag_ledger.specs.declared.entries.Call.TheVariants as calls_to
 use Rattle.job_units.specs.Bodies.{answer_body, board_body, body_of, job_body, solution_body}
 use Rattle.job_units.specs.Puts.{answer_rank, filled, kind_of, put_of}
-use Rattle.job_units.specs.Reading.{answer_of_body, board_of_body, common_bytes, fetched as unit_fetched, is_answer_rank, job_of_body, own_bytes, solution_of_body, unit_of}
+use Rattle.job_units.specs.Reading.{answer_of_body, board_of_body, common_bytes, fetched as unit_fetched, is_answer_rank, job_of_body}
+use Rattle.job_units.specs.Reading.{own_bytes, solution_of_body, unit_of}
 use Rattle.job_units.specs.declared.answers.Answer.{Answer}
 use Rattle.job_units.specs.declared.boards.Board.{Board}
 use Rattle.job_units.specs.declared.jobs.Job.{Job}
@@ -148,7 +149,8 @@ same_option None None there back = refl
 pub fetched_is : (note : UnitNote) (bytes : List ℕ) (unit : Option Made) → ((x : Made) → (unit ≡ Some x) ↔ IsFetchOf note bytes x) →
     unit ≡ unit_fetched note bytes
 fetched_is note bytes unit is =
-    same_option unit (unit_fetched note bytes) (λ x e. (reads_is note bytes x).1 ((is x).0 e)) (λ x e. (is x).1 ((reads_is note bytes x).0 e))
+    same_option unit (unit_fetched note bytes) (λ x e. (reads_is note bytes x).1 ((is x).0 e))
+    (λ x e. (is x).1 ((reads_is note bytes x).0 e))
 
 -- so a fetch is the next call
 pub fetch_moves : (grain : ℕ) (came : List Arrival) (note : UnitNote) (bytes : List ℕ) (next : Books) →

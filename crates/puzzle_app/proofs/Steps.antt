@@ -1,5 +1,6 @@
 -- One more call of a rank, and what it leaves.
-use Rattle.std.proofs.Common.{◌≡◌, ℕ, zero, suc, ◌+◌, ◌*◌, ◌^◌, ◌<◌, ◌≤◌, Bool, true, false, List, [], ◌∷◌, ◌++◌, length, Option, Some, None, refl, sym, ap, ◌∙◌, subst, arith, append_assoc, MatchBool, lit<, slice_index, count_by}
+use Rattle.std.proofs.Common.{◌≡◌, ℕ, zero, suc, ◌+◌, ◌*◌, ◌^◌, ◌<◌, ◌≤◌, Bool, true, false, List, [], ◌∷◌, ◌++◌, length, Option, Some}
+use Rattle.std.proofs.Common.{None, refl, sym, ap, ◌∙◌, subst, arith, append_assoc, MatchBool, lit<, slice_index, count_by}
 use Rattle.std.specs.List.{flat_map}
 use Rattle.std.proofs.lemmas.List.{length_push, map-append}
 use Rattle.adlb_unit.specs.declared.notes.End as told_end
@@ -18,7 +19,8 @@ use Rattle.job_units.specs.Forms.{IsUnit}
 use Rattle.job_units.specs.Puts.{is_kind, put_of}
 use Rattle.job_units.specs.Reading.{common_bytes, fetched as unit_fetched}
 use Rattle.puzzle_app.specs.Arrivals.{Arrival, arrival, bytes_on, makes}
-use Rattle.puzzle_app.specs.Books.{Books, Goes, Moves, accepted, rejected, stopped, begun, refused, stopped_before, closed, closed_behind, granted, told, going, holding, shut, received, brought, without_batch, over_bytes, said_of}
+use Rattle.puzzle_app.specs.Books.{Books, Goes, Moves, accepted, rejected, stopped, begun, refused, stopped_before, closed, closed_behind}
+use Rattle.puzzle_app.specs.Books.{granted, told, going, holding, shut, received, brought, without_batch, over_bytes, said_of}
 use Rattle.puzzle_app.specs.Calls.{answer_of, grant}
 use Rattle.puzzle_app.specs.declared.calls.Reply.{Reply}
 use Rattle.puzzle_app.specs.Desk.{Answers, Brings, HasRoom, Receives, answers_to}
@@ -28,7 +30,8 @@ use Rattle.puzzle_app.specs.Working.{HasPut, IsGoing, IsStopped, IsTally, Passes
 use Rattle.puzzle_app.specs.declared.desk.Desk.{Desk}
 use Rattle.puzzle_app.specs.declared.program.PuzzleProgram.{PuzzleProgram}
 use Rattle.puzzle_app.proofs.Fetching.{fetch_moves}
-use Rattle.puzzle_app.proofs.Tallies.{Counted, Fresh, Same, as_it_was, counted_tasks, made_over, tally_fresh, tally_one, tally_over, tally_same}
+use Rattle.puzzle_app.proofs.Tallies.{Counted, Fresh, Same, as_it_was, counted_tasks, made_over, tally_fresh, tally_one, tally_over}
+use Rattle.puzzle_app.proofs.Tallies.{tally_same}
 
 -- a call after others
 pub goes_snoc : (grain : ℕ) (b : Books) (said : List Said) (mid next : Books) (s : Said) → Goes grain b said mid → Moves grain mid s next →

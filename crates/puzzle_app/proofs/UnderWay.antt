@@ -19,7 +19,8 @@ use Rattle.puzzle_app.specs.Working.{HasPut, IsGoing, Passes}
 use Rattle.puzzle_app.specs.declared.desk.Desk.{Desk}
 use Rattle.puzzle_app.specs.declared.program.PuzzleProgram.{PuzzleProgram}
 use Rattle.puzzle_app.proofs.Calling.{so_front}
-use Rattle.puzzle_app.proofs.Steps.{Popped, brought_so, going_so, granted_so, passes_closed, passes_so, stopped_is, stopped_so, told_is, unbegun_is}
+use Rattle.puzzle_app.proofs.Steps.{Popped, brought_so, going_so, granted_so, passes_closed, passes_so, stopped_is, stopped_so, told_is}
+use Rattle.puzzle_app.proofs.Steps.{unbegun_is}
 
 -- a call of a link that had not failed is what is begun, if anything is
 pub began_pends : (before : Option Trouble) (was : Option Call) (call : Call) (now : Option Trouble) (begun : Option Call) → before ≡ None →

@@ -1,5 +1,6 @@
 -- A rank while it works: its calls so far and its desk agree.
-use Rattle.std.specs.Prelude.{◌≡◌, ℕ, ◌+◌, ◌*◌, ◌^◌, ◌≤◌, ◌<◌, Bool, List, [], ◌∷◌, ◌++◌, length, count_by, Option, Some, None, Result, Err, MatchBool, IfOk, OnOk}
+use Rattle.std.specs.Prelude.{◌≡◌, ℕ, ◌+◌, ◌*◌, ◌^◌, ◌≤◌, ◌<◌, Bool, List, [], ◌∷◌, ◌++◌, length, count_by, Option, Some, None, Result, Err}
+use Rattle.std.specs.Prelude.{MatchBool, IfOk, OnOk}
 use Rattle.adlb_unit.specs.declared.notes.Trouble.{Trouble}
 use Rattle.adlb_unit.specs.declared.notes.Trouble.TheVariants.{TooLong}
 use Rattle.bag_ledger.specs.declared.entries.Said.{Said}
@@ -92,7 +93,7 @@ pub record IsReady (m : LinkModel) : Type 0 where
 abbrev pub IsOnWay : PuzzleProgram → LinkModel → Type 0
 IsOnWay p m = IsUnderWay p m.said (unanswered m.failed m.begun)
 
--- whom the link serves stays; at `Ok` it has not failed, and a batch goes on or not, as `on` says; and it failed with the stamp that is told
+-- whom the link serves stays; at `Ok` it has not failed, and a batch goes on or not, as `on` says; it failed with the stamp that is told
 pub record Keeps {X : Type 0} (old new : LinkModel) (on : Bool) (r : Result X Trouble) : Type 0 where
   pub seat : new.seat ≡ old.seat
   pub whole : OnOk r (new.failed ≡ None)

@@ -1,5 +1,6 @@
 -- What a rank puts, gets, works and keeps, counted by any test of units.
-use Rattle.std.proofs.Common.{◌≡◌, ◌+◌, ℕ, Bool, true, false, cond, List, [], ◌∷◌, ◌++◌, map, length, Option, Some, None, refl, sym, ap, ◌∙◌, subst, arith, count_by, All}
+use Rattle.std.proofs.Common.{◌≡◌, ◌+◌, ℕ, Bool, true, false, cond, List, [], ◌∷◌, ◌++◌, map, length, Option, Some, None, refl, sym, ap}
+use Rattle.std.proofs.Common.{◌∙◌, subst, arith, count_by, All}
 use Rattle.std.specs.Prelude.{ℤ}
 use Rattle.std.specs.List.{flat_map}
 use Rattle.std.proofs.lemmas.List.{take-append-drop}
@@ -30,7 +31,8 @@ use Rattle.puzzle_app.specs.Books.{Books, Goes, brought, going, holding, in_batc
 use Rattle.puzzle_app.specs.Tasks.{Task, Put, Begin, End, as_units, put_all}
 use Rattle.puzzle_app.proofs.Calling.{OfEach, of_move}
 use Rattle.puzzle_law.proofs.Calls.{brought_on, of_put, put_begins_none}
-use Rattle.puzzle_law.proofs.Pieces.{Test, all-append, all_by, batch_waits, end_waits, none_waits, pieces, put_waits, received_same, waits, waits-put_all}
+use Rattle.puzzle_law.proofs.Pieces.{Test, all-append, all_by, batch_waits, end_waits, none_waits, pieces, put_waits, received_same, waits}
+use Rattle.puzzle_law.proofs.Pieces.{waits-put_all}
 use Rattle.puzzle_law.proofs.Sums.{count_one, one_if}
 
 -- a test of units over common bytes as a test of what is sent and got

@@ -1,5 +1,6 @@
 -- The outcomes of a run hold what each job is to give.
-use Rattle.std.proofs.Common.{◌≡◌, ◌≤◌, ◌+◌, ◌==◌, ℕ, Bool, true, false, cond, List, [], ◌∷◌, ◌++◌, None, refl, sym, ap, ◌∙◌, arith, count_by, sum_by, All, IsPermutation}
+use Rattle.std.proofs.Common.{◌≡◌, ◌≤◌, ◌+◌, ◌==◌, ℕ, Bool, true, false, cond, List, [], ◌∷◌, ◌++◌, None, refl, sym, ap, ◌∙◌, arith}
+use Rattle.std.proofs.Common.{count_by, sum_by, All, IsPermutation}
 use Rattle.std.specs.List.{list_any}
 use Rattle.std.proofs.lemmas.List.Elements.{All-head, All-tail}
 use Rattle.std.proofs.lemmas.List.Sums.{sum_by-cons}
@@ -17,7 +18,8 @@ use Rattle.job_units.specs.declared.units.Made.{Made}
 use Rattle.job_units.specs.declared.units.Made.TheVariants as made
 use Rattle.puzzle_app.specs.Arrivals.{Arrival, is_over_at, solutions_in}
 use Rattle.puzzle_app.specs.Tasks.{tasks_from}
-use Rattle.puzzle_law.proofs.Answered.{answer_passes, answers_are, answers_pass, first_batch, first_item, next_batches, next_items, told_weighs}
+use Rattle.puzzle_law.proofs.Answered.{answer_passes, answers_are, answers_pass, first_batch, first_item, next_batches, next_items}
+use Rattle.puzzle_law.proofs.Answered.{told_weighs}
 use Rattle.puzzle_law.proofs.Counting.{grids_by_counts, one_by_counts}
 use Rattle.puzzle_law.proofs.First.{answers_weigh, boards_weigh, item_answers, its_root, job_answers, other_root, roots_weigh}
 use Rattle.puzzle_law.proofs.Pieces.{over, waits}

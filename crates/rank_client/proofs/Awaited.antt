@@ -1,5 +1,6 @@
 -- The rule of a letter that the pending call awaits.
-use Rattle.std.proofs.Common.{All, Global, Vec, ◌≡◌, ◌≤◌, ◌<◌, ◌+◌, ◌∷◌, ◌++◌, [], ◌^◌, ◌⊎◌, inl, inr, ℕ, List, Option, Some, None, length, get_or, set, Bool, true, false, ◌&&◌, not, refl, sym, arith, ap, subst, ◌∙◌}
+use Rattle.std.proofs.Common.{All, Global, Vec, ◌≡◌, ◌≤◌, ◌<◌, ◌+◌, ◌∷◌, ◌++◌, [], ◌^◌, ◌⊎◌, inl, inr, ℕ, List, Option, Some, None, length}
+use Rattle.std.proofs.Common.{get_or, set, Bool, true, false, ◌&&◌, not, refl, sym, arith, ap, subst, ◌∙◌}
 use Rattle.std.proofs.Math.ListN.{length-set}
 use Rattle.std.proofs.lemmas.List.{length_push}
 use Rattle.std.specs.Prelude.{if◌then◌else◌, IfSome, IsSome, nat_lt}
@@ -21,7 +22,8 @@ use Rattle.adlb_unit.specs.declared.notes.End.{End}
 use Rattle.rank_client.specs.declared.outcomes.Change.{Change}
 use Rattle.rank_client.specs.declared.outcomes.Change.TheVariants as changes
 use Rattle.rank_client.specs.declared.rooms.Room.{Room}
-use Rattle.rank_client.specs.Inside.{HasRoom, IsFit, IsFresh, IsInside, IsPlaced, IsSound, accepted_after, awaited, batch_after, handles_after, state_of}
+use Rattle.rank_client.specs.Inside.{HasRoom, IsFit, IsFresh, IsInside, IsPlaced, IsSound, accepted_after, awaited, batch_after}
+use Rattle.rank_client.specs.Inside.{handles_after, state_of}
 use Rattle.rank_client.specs.Transcript.{TranscriptModel}
 use Rattle.rank_client.specs.Rules.{ClientResponse, answer_call}
 use Rattle.rank_client.specs.State.{ClientModel}
@@ -137,11 +139,14 @@ some_mapped : (o : Option ClientResponse) → IsSome (option_map made o) → IsS
 some_mapped None e = absurd (cc)
 some_mapped (Some z) e = refl
 
-pub heard_is : (s : ClientModel) (from : Server) (letter : Letter) → told_trouble letter.message ≡ None → (IsSome (told_trouble letter.message) ⊎ IsSome (hear s from letter)) → IsHeard s from letter
+pub heard_is : (s : ClientModel) (from : Server) (letter : Letter) → told_trouble letter.message ≡ None
+    → (IsSome (told_trouble letter.message) ⊎ IsSome (hear s from letter)) → IsHeard s from letter
 heard_is s from letter none (inl told) = absurd (cc)
 heard_is s from letter none (inr some) = by_test (not s.finished && nat_lt letter.stamp (2 ^ 48)) refl some
   where
-    by_test : (t : Bool) → (not s.finished && nat_lt letter.stamp (2 ^ 48)) ≡ t → IsSome (if t then option_map made (answer_call (ticked s (letter_stamp s letter)) s.pending from letter.message) else None) → IsHeard s from letter
+    by_test : (t : Bool) → (not s.finished && nat_lt letter.stamp (2 ^ 48)) ≡ t
+        → IsSome (if t then option_map made (answer_call (ticked s (letter_stamp s letter)) s.pending from letter.message) else None)
+        → IsHeard s from letter
     by_test true is some =
         let parts = and_parts (not s.finished) (nat_lt letter.stamp (2 ^ 48)) is in
         record { going = not-true s.finished parts.0; stamp = ltb-true letter.stamp (2 ^ 48) parts.1; awaited = some_mapped _ some }

@@ -1,5 +1,6 @@
 -- A call that was opened.
-use Rattle.std.proofs.Common.{◌≡◌, ◌&&◌, ◌∙◌, ℕ, ℤ, Bool, true, false, not, cond, is_some, length, List, Option, None, Some, Result, Ok, Err, refl, ap, sym}
+use Rattle.std.proofs.Common.{◌≡◌, ◌&&◌, ◌∙◌, ℕ, ℤ, Bool, true, false, not, cond, is_some, length, List, Option, None, Some, Result, Ok}
+use Rattle.std.proofs.Common.{Err, refl, ap, sym}
 use Rattle.std.specs.Prelude.{IsSome, OnErr, nat_le}
 use Rattle.adlb_unit.specs.Limits.{body_limit}
 use Rattle.adlb_unit.specs.Targets.{in_ranks}

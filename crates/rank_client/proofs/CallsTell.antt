@@ -1,5 +1,6 @@
 -- The rank begins a call: what it makes of the client, and that the client is ready for it.
-use Rattle.std.proofs.Common.{◌≡◌, ℕ, ◌+◌, ◌≤◌, ◌&&◌, not, cond, Bool, true, false, List, [], ◌∷◌, ◌++◌, append-nil, length, Option, None, Some}
+use Rattle.std.proofs.Common.{◌≡◌, ℕ, ◌+◌, ◌≤◌, ◌&&◌, not, cond, Bool, true, false, List, [], ◌∷◌, ◌++◌, append-nil, length, Option, None}
+use Rattle.std.proofs.Common.{Some}
 use Rattle.std.proofs.Common.{is_none, is_some, refl, sym, ap, ◌∙◌, subst, arith}
 use Rattle.std.specs.Prelude.{IsSome}
 use Rattle.std.specs.Option.{option_map}
@@ -56,11 +57,13 @@ module _ (s : ClientModel) (r : Remembers s) (idle : s.pending ≡ waits_for.Not
   Goes call z = IsGrantedFirst z.state → Tells s (call_stamp s) call z.answer z.state
 
   -- it is answered at once by the end that was told
-  over_tells : (call : Call) (puts : ℕ) (end : End) → s.end ≡ Some end → is_finish call ≡ false → answers_call call (answers.Ended end) ≡ true
+  over_tells : (call : Call) (puts : ℕ) (end : End) → s.end ≡ Some end → is_finish call ≡ false
+      → answers_call call (answers.Ended end) ≡ true
       → IsAnswer s.transcript call (answers.Ended end) → ((on : Bool) → on ≡ goes_on call (answers.Ended end) on)
       → ((id : UnitId) → fetches id call ≡ false)
       → AreGranted (plus s.transcript call (Some (answers.Ended end))) s.handles waits_for.Nothing
-      → Tells s (call_stamp s) call (Some (answers.Ended end)) (answered (waiting (record t { puts = puts }) waits_for.Nothing) call (answers.Ended end))
+      → Tells s (call_stamp s) call (Some (answers.Ended end))
+      (answered (waiting (record t { puts = puts }) waits_for.Nothing) call (answers.Ended end))
   over_tells call puts end told other kind known on none first =
       ends_tells s r going (call_stamp s) later call (s.next + 1) puts s.accepted s.end s.batch s.handles s.finished (answers.Ended end)
       (going ∙ sym other) (told ∙ sym (ap (λ o. first_end o (Some end)) told)) (on (is_some s.batch))
@@ -116,7 +119,8 @@ module _ (s : ClientModel) (r : Remembers s) (idle : s.pending ≡ waits_for.Not
       by_id i is found first =
           let here : note_with note.id s.handles ≡ Some note = ap (λ j. note_with j s.handles) is ∙ found in
           let others_are : others note.id s.handles ≡ others i s.handles = ap (λ j. others j s.handles) is in
-          waits_tells s r going (call_stamp s) later (calls_to.Fetch i) (waits_for.Fetch s.next note) (s.next + 1) s.puts (others i s.handles)
+          waits_tells s r going (call_stamp s) later (calls_to.Fetch i) (waits_for.Fetch s.next note) (s.next + 1) s.puts
+          (others i s.handles)
           (ap (λ j. Some (calls_to.Fetch j)) is)
           (subst (λ l. AreHeld s.transcript (l ++ note ∷ [])) others_are (held_taken s.transcript s.handles note held_now here))
           first
@@ -133,7 +137,8 @@ module _ (s : ClientModel) (r : Remembers s) (idle : s.pending ≡ waits_for.Not
 
   finish_tells : Goes calls_to.Finish (finish t)
   finish_tells first =
-      ends_tells s r going (call_stamp s) later calls_to.Finish (s.next + 1) s.puts s.accepted s.end s.batch s.handles true answers.Fine refl
+      ends_tells s r going (call_stamp s) later calls_to.Finish (s.next + 1) s.puts s.accepted s.end s.batch s.handles true
+      answers.Fine refl
       (first_none s.end) refl
       (held_same s.transcript s.handles calls_to.Finish answers.Fine held_now (λ note is. absurd (cc)) (λ id. refl))
       (record { kind = refl; known = tt; again = λ heeds. absurd (cc) }) first
@@ -152,7 +157,8 @@ module _ (s : ClientModel) (r : Remembers s) (idle : s.pending ≡ waits_for.Not
   open_tells calls_to.Finish z is = subst (Goes calls_to.Finish) (if_is _ _ z is) finish_tells
   open_tells calls_to.SetDone z is = subst (Goes calls_to.SetDone) (some_is is) done_tells
 
-pub call_tells : (s : ClientModel) (call : Call) (x : Made) → begin s call ≡ Some x → Remembers s → Tells s (call_stamp s) call x.answer x.state
+pub call_tells : (s : ClientModel) (call : Call) (x : Made) → begin s call ≡ Some x → Remembers s
+    → Tells s (call_stamp s) call x.answer x.state
 call_tells s call x is r = by_free (is_free s) refl is
   where
     by_free : (free : Bool) → is_free s ≡ free → cond free (option_map made (open_call (ticked s (call_stamp s)) call)) None ≡ Some x

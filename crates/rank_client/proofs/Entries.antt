@@ -22,12 +22,14 @@ same_unit_is a b e =
     let numbers : a.number ≡ b.number = eqb-true a.number b.number s.1 in
     rw (← ranks, ← numbers) refl
 
-pub changed_at : {X : Type 0} (f : X → X) (xs : List X) (n : ℕ) (x : X) → slice_get xs n ≡ Some x → slice_get (change_at f n xs) n ≡ Some (f x)
+pub changed_at : {X : Type 0} (f : X → X) (xs : List X) (n : ℕ) (x : X) → slice_get xs n ≡ Some x
+    → slice_get (change_at f n xs) n ≡ Some (f x)
 changed_at f [] n x e = absurd (cc)
 changed_at f (y ∷ xs) zero x e = let is : y ≡ x = some_is e in ap (λ z. Some (f z)) is
 changed_at f (y ∷ xs) (suc n) x e = changed_at f xs n x e
 
-pub rank_changed : (b : Bag) (rank : Rank) (f : RankState → RankState) (r : RankState) → rank_at b rank ≡ Some r → rank_at (with_rank rank f b) rank ≡ Some (f r)
+pub rank_changed : (b : Bag) (rank : Rank) (f : RankState → RankState) (r : RankState) → rank_at b rank ≡ Some r
+    → rank_at (with_rank rank f b) rank ≡ Some (f r)
 rank_changed b rank f r e = changed_at f b.ranks rank.0 r e
 
 -- What is asked where exhaustion is found concerns no entry of a rank.
@@ -59,7 +61,8 @@ module _ (found : Bag → Bool) where
   pub saying : (b next : Bag) (e : Entry) (rank : Rank) (said : Said) → StepsWhere found b e next → says b e ≡ Some (rank, said)
       → calls_from b (e ∷ []) rank ≡ said ∷ []
   saying b next e rank said s is =
-      calls_more b next e [] rank s ∙ ap (λ o. said_by rank o ++ []) is ∙ append-nil (said_by rank (Some (rank, said))) ∙ said_once rank said
+      calls_more b next e [] rank s ∙ ap (λ o. said_by rank o ++ []) is ∙ append-nil (said_by rank (Some (rank, said)))
+      ∙ said_once rank said
 
   -- an entry that ends no call, and one that ends a call of the rank
   pub then_saying : (b next last : Bag) (e f : Entry) (rank : Rank) (said : Said) → StepsWhere found b e next → StepsWhere found next f last

@@ -1,5 +1,6 @@
 -- Exactly the letters that are expected have a step.
-use Rattle.std.proofs.Common.{◌≡◌, ◌↔◌, ◌==◌, ◌^◌, ℕ, Bool, true, false, ◌&&◌, not, cond, length, Option, Some, None, IsSome, refl, ap, List}
+use Rattle.std.proofs.Common.{◌≡◌, ◌↔◌, ◌==◌, ◌^◌, ℕ, Bool, true, false, ◌&&◌, not, cond, length, Option, Some, None, IsSome, refl, ap}
+use Rattle.std.proofs.Common.{List}
 use Rattle.std.specs.Prelude.{nat_lt}
 use Rattle.std.specs.Option.{option_map}
 use Rattle.std.proofs.lemmas.Bool.{and_from, and_parts, eq-eqb, eqb-true, lt-ltb, ltb-true, not-true, not_from_false}
@@ -15,8 +16,10 @@ use Rattle.bag_ledger.proofs.Tests.{same_server_is}
 use Rattle.rank_client.specs.declared.pendings.Pending.{Pending}
 use Rattle.rank_client.specs.declared.pendings.Pending.TheVariants as waits_for
 use Rattle.rank_client.specs.Calls.{is_fetched, is_granted}
-use Rattle.rank_client.specs.Expected.{AnswersClose, AnswersCommon, AnswersCount, AnswersDone, AnswersFetch, AnswersPut, AnswersReserve, AnswersTry, ExpectedAreHeard, IsAtServer, IsAwaited, IsFor, IsNewNote}
-use Rattle.rank_client.specs.Rules.{ClientResponse, answer_call, asked, expects_note, hear_close, hear_common, hear_count, hear_done, hear_fetch, hear_keep, hear_look, hear_put, hear_reserve, is_at_server, is_for, looks_at}
+use Rattle.rank_client.specs.Expected.{AnswersClose, AnswersCommon, AnswersCount, AnswersDone, AnswersFetch, AnswersPut, AnswersReserve}
+use Rattle.rank_client.specs.Expected.{AnswersTry, ExpectedAreHeard, IsAtServer, IsAwaited, IsFor, IsNewNote}
+use Rattle.rank_client.specs.Rules.{ClientResponse, answer_call, asked, expects_note, hear_close, hear_common, hear_count, hear_done}
+use Rattle.rank_client.specs.Rules.{hear_fetch, hear_keep, hear_look, hear_put, hear_reserve, is_at_server, is_for, looks_at}
 use Rattle.rank_client.specs.State.{ClientModel}
 use Rattle.rank_client.specs.Step.{letter_stamp, made, ticked}
 
@@ -69,27 +72,33 @@ note_is s note = (
         common = (at_server_is s note.common).0 one.1;
       },
   λ new.
-      and_from _ _ (and_from _ _ (and_from _ _ (lt-ltb note.server.0 s.config.servers new.server) ((at_server_is s note.common).1 new.common)) (not_from_false (is_granted note.id s.transcript) new.ungranted))
+      and_from _ _
+      (and_from _ _ (and_from _ _ (lt-ltb note.server.0 s.config.servers new.server) ((at_server_is s note.common).1 new.common))
+      (not_from_false (is_granted note.id s.transcript) new.ungranted))
       (not_from_false (is_fetched note.id s.transcript) new.unfetched),
 )
 
 -- such an answer has a step
-plain_is : (request : ℕ) (at from : Server) (to : ℕ) (z : ClientResponse) → IsSome (cond (is_for request at from to) (Some z) None) ↔ IsFor request at from to
+plain_is : (request : ℕ) (at from : Server) (to : ℕ) (z : ClientResponse) → IsSome (cond (is_for request at from to) (Some z) None)
+    ↔ IsFor request at from to
 plain_is request at from to z = let is = for_is request at from to in (λ some. is.0 (if_some _ _ some), λ here. some_if _ _ (is.1 here))
 
 -- The pending call.
 
-put_awaited : (s : ClientModel) (unit : Unit) (first : Server) (tried : ℕ) (from : Server) (m : Message) → IsSome (hear_put s unit first tried from m) ↔ AnswersPut unit.id.number (asked s first tried) from m
+put_awaited : (s : ClientModel) (unit : Unit) (first : Server) (tried : ℕ) (from : Server) (m : Message)
+    → IsSome (hear_put s unit first tried from m) ↔ AnswersPut unit.id.number (asked s first tried) from m
 put_awaited s unit first tried from (tells.Accepted to) = plain_is unit.id.number (asked s first tried) from to _
 put_awaited s unit first tried from (tells.Full to charge) = plain_is unit.id.number (asked s first tried) from to _
 put_awaited s unit first tried from (tells.Ended to end) = plain_is unit.id.number (asked s first tried) from to _
 put_awaited s unit first tried from _ = (λ some. absurd (cc), λ here. absurd here)
 
-reserve_awaited : (s : ClientModel) (request : ℕ) (types : Option (List WorkType)) (from : Server) (m : Message) → IsSome (hear_reserve s request types from m) ↔ AnswersReserve s request from m
+reserve_awaited : (s : ClientModel) (request : ℕ) (types : Option (List WorkType)) (from : Server) (m : Message)
+    → IsSome (hear_reserve s request types from m) ↔ AnswersReserve s request from m
 reserve_awaited s request types from (tells.Grant to note) =
     let is = for_is request (home s.config s.me) from to in
     let new = note_is s note in (
-      λ some. let parts = and_parts (is_for request (home s.config s.me) from to) (expects_note s note) (if_some _ _ some) in (is.0 parts.0, new.0 parts.1),
+      λ some. let parts = and_parts (is_for request (home s.config s.me) from to) (expects_note s note) (if_some _ _ some) in
+          (is.0 parts.0, new.0 parts.1),
       λ here. some_if _ _ (and_from _ _ (is.1 here.0) (new.1 here.1)),
     )
 reserve_awaited s request types from (tells.Ended to end) = plain_is request (home s.config s.me) from to _
@@ -100,36 +109,43 @@ look_awaited : (s : ClientModel) (request : ℕ) (types : Option (List WorkType)
 look_awaited s request types tried from (tells.Grant to note) =
     let is = for_is request (looks_at s tried) from to in
     let new = note_is s note in (
-      λ some. let parts = and_parts (is_for request (looks_at s tried) from to) (expects_note s note) (if_some _ _ some) in (is.0 parts.0, new.0 parts.1),
+      λ some. let parts = and_parts (is_for request (looks_at s tried) from to) (expects_note s note) (if_some _ _ some) in
+          (is.0 parts.0, new.0 parts.1),
       λ here. some_if _ _ (and_from _ _ (is.1 here.0) (new.1 here.1)),
     )
 look_awaited s request types tried from (tells.Nothing to) = plain_is request (looks_at s tried) from to _
 look_awaited s request types tried from (tells.Ended to end) = plain_is request (looks_at s tried) from to _
 look_awaited s request types tried from _ = (λ some. absurd (cc), λ here. absurd here)
 
-fetch_awaited : (s : ClientModel) (request : ℕ) (note : UnitNote) (from : Server) (m : Message) → IsSome (hear_fetch s request note from m) ↔ AnswersFetch request note from m
+fetch_awaited : (s : ClientModel) (request : ℕ) (note : UnitNote) (from : Server) (m : Message) → IsSome (hear_fetch s request note from m)
+    ↔ AnswersFetch request note from m
 fetch_awaited s request note from (tells.Bytes to body) =
     let is = for_is request note.server from to in (
-      λ some. let parts = and_parts (is_for request note.server from to) (length body == note.length) (if_some _ _ some) in (is.0 parts.0, eqb-true (length body) note.length parts.1),
+      λ some. let parts = and_parts (is_for request note.server from to) (length body == note.length) (if_some _ _ some) in
+          (is.0 parts.0, eqb-true (length body) note.length parts.1),
       λ here. some_if _ _ (and_from _ _ (is.1 here.0) (eq-eqb (length body) note.length here.1)),
     )
 fetch_awaited s request note from _ = (λ some. absurd (cc), λ here. absurd here)
 
-common_awaited : (s : ClientModel) (request : ℕ) (note : UnitNote) (common : CommonRef) (own : List ℕ) (from : Server) (m : Message) → IsSome (hear_common s request note common own from m) ↔ AnswersCommon request common from m
+common_awaited : (s : ClientModel) (request : ℕ) (note : UnitNote) (common : CommonRef) (own : List ℕ) (from : Server) (m : Message)
+    → IsSome (hear_common s request note common own from m) ↔ AnswersCommon request common from m
 common_awaited s request note common own from (tells.Bytes to body) =
     let is = for_is request common.server from to in (
-      λ some. let parts = and_parts (is_for request common.server from to) (length body == common.length) (if_some _ _ some) in (is.0 parts.0, eqb-true (length body) common.length parts.1),
+      λ some. let parts = and_parts (is_for request common.server from to) (length body == common.length) (if_some _ _ some) in
+          (is.0 parts.0, eqb-true (length body) common.length parts.1),
       λ here. some_if _ _ (and_from _ _ (is.1 here.0) (eq-eqb (length body) common.length here.1)),
     )
 common_awaited s request note common own from _ = (λ some. absurd (cc), λ here. absurd here)
 
-keep_awaited : (s : ClientModel) (request : ℕ) (common : List ℕ) (first : Server) (tried : ℕ) (from : Server) (m : Message) → IsSome (hear_keep s request common first tried from m) ↔ AnswersPut request (asked s first tried) from m
+keep_awaited : (s : ClientModel) (request : ℕ) (common : List ℕ) (first : Server) (tried : ℕ) (from : Server) (m : Message)
+    → IsSome (hear_keep s request common first tried from m) ↔ AnswersPut request (asked s first tried) from m
 keep_awaited s request common first tried from (tells.Accepted to) = plain_is request (asked s first tried) from to _
 keep_awaited s request common first tried from (tells.Full to charge) = plain_is request (asked s first tried) from to _
 keep_awaited s request common first tried from (tells.Ended to end) = plain_is request (asked s first tried) from to _
 keep_awaited s request common first tried from _ = (λ some. absurd (cc), λ here. absurd here)
 
-close_awaited : (s : ClientModel) (request : ℕ) (batch : CommonRef) (from : Server) (m : Message) → IsSome (hear_close s request batch from m) ↔ AnswersClose request batch from m
+close_awaited : (s : ClientModel) (request : ℕ) (batch : CommonRef) (from : Server) (m : Message)
+    → IsSome (hear_close s request batch from m) ↔ AnswersClose request batch from m
 close_awaited s request batch from (tells.Closed to) = plain_is request batch.server from to _
 close_awaited s request batch from _ = (λ some. absurd (cc), λ here. absurd here)
 
@@ -165,13 +181,27 @@ before_server s stamp None at = at
 before_server s stamp (Some common) at = at
 
 new_ticked : (s : ClientModel) (stamp : ℕ) (note : UnitNote) → IsNewNote s note → IsNewNote (ticked s stamp) note
-new_ticked s stamp note new = record { server = new.server; ungranted = new.ungranted; unfetched = new.unfetched; common = same_server s stamp note.common new.common }
+new_ticked s stamp note new =
+    record {
+      server = new.server;
+      ungranted = new.ungranted;
+      unfetched = new.unfetched;
+      common = same_server s stamp note.common new.common;
+    }
 
 new_before : (s : ClientModel) (stamp : ℕ) (note : UnitNote) → IsNewNote (ticked s stamp) note → IsNewNote s note
-new_before s stamp note new = record { server = new.server; ungranted = new.ungranted; unfetched = new.unfetched; common = before_server s stamp note.common new.common }
+new_before s stamp note new =
+    record {
+      server = new.server;
+      ungranted = new.ungranted;
+      unfetched = new.unfetched;
+      common = before_server s stamp note.common new.common;
+    }
 
-reserve_ticked : (s : ClientModel) (stamp request : ℕ) (from : Server) (m : Message) → AnswersReserve s request from m ↔ AnswersReserve (ticked s stamp) request from m
-reserve_ticked s stamp request from (tells.Grant to note) = (λ here. (here.0, new_ticked s stamp note here.1), λ here. (here.0, new_before s stamp note here.1))
+reserve_ticked : (s : ClientModel) (stamp request : ℕ) (from : Server) (m : Message) → AnswersReserve s request from m
+    ↔ AnswersReserve (ticked s stamp) request from m
+reserve_ticked s stamp request from (tells.Grant to note) =
+    (λ here. (here.0, new_ticked s stamp note here.1), λ here. (here.0, new_before s stamp note here.1))
 reserve_ticked s stamp request from (tells.Ended to end) = (λ here. here, λ here. here)
 reserve_ticked s stamp request from _ = (λ here. here, λ here. here)
 
@@ -183,7 +213,8 @@ look_ticked s stamp request tried from (tells.Nothing to) = (λ here. here, λ h
 look_ticked s stamp request tried from (tells.Ended to end) = (λ here. here, λ here. here)
 look_ticked s stamp request tried from _ = (λ here. here, λ here. here)
 
-awaited_ticked : (s : ClientModel) (stamp : ℕ) (p : Pending) (from : Server) (m : Message) → IsAwaited s p from m ↔ IsAwaited (ticked s stamp) p from m
+awaited_ticked : (s : ClientModel) (stamp : ℕ) (p : Pending) (from : Server) (m : Message) → IsAwaited s p from m
+    ↔ IsAwaited (ticked s stamp) p from m
 awaited_ticked s stamp waits_for.Nothing from m = (λ here. here, λ here. here)
 awaited_ticked s stamp (waits_for.Reserve request types) from m = reserve_ticked s stamp request from m
 awaited_ticked s stamp (waits_for.Try request types tried) from m = look_ticked s stamp request tried from m
@@ -199,6 +230,11 @@ expected_are_heard s from letter =
       λ some.
           let parts = where_some given (option_map made o) some in
           let both = and_parts (not s.finished) (nat_lt letter.stamp (2 ^ 48)) parts.0 in
-          record { going = not-true s.finished both.0; stamp = ltb-true letter.stamp (2 ^ 48) both.1; awaited = same.1 (rule.0 (map_some made o parts.1)) },
-      λ is. some_where given (option_map made o) (and_from _ _ (not_from_false s.finished is.going) (lt-ltb letter.stamp (2 ^ 48) is.stamp)) (some_map made o (rule.1 (same.0 is.awaited))),
+          record {
+            going = not-true s.finished both.0;
+            stamp = ltb-true letter.stamp (2 ^ 48) both.1;
+            awaited = same.1 (rule.0 (map_some made o parts.1));
+          },
+      λ is. some_where given (option_map made o) (and_from _ _ (not_from_false s.finished is.going) (lt-ltb letter.stamp (2 ^ 48) is.stamp))
+          (some_map made o (rule.1 (same.0 is.awaited))),
     )

@@ -18,7 +18,8 @@ one_more x sent now sends all letter stamp i n clock below now_is letter_is all_
     rw (more, now_is, all_is, letter_is, ← clock) refl
 
 -- the counts after this server are as they were
-pub later_kept : (sent now : List ℕ) (stamp v i n : ℕ) → now ≡ slice_set sent i v → ((k : ℕ) → i ≤ k → k < n → get_or sent k 0 < stamp) → (k : ℕ) → i + 1 ≤ k → k < n → get_or now k 0 < stamp
+pub later_kept : (sent now : List ℕ) (stamp v i n : ℕ) → now ≡ slice_set sent i v → ((k : ℕ) → i ≤ k → k < n → get_or sent k 0 < stamp)
+    → (k : ℕ) → i + 1 ≤ k → k < n → get_or now k 0 < stamp
 later_kept sent now stamp v i n is later k above below =
     let apart : k ≢ i = omega arith in
     rw (is, get_or-set_other) (later k (omega arith) below)

@@ -1,5 +1,6 @@
 -- The fields of a client stay sound.
-use Rattle.std.proofs.Common.{All, Global, Vec, Option, None, true, refl, ◌∷◌, ◌++◌, [], ◌≡◌, ◌≤◌, ◌<◌, ◌+◌, ℕ, List, length, get_or, set, arith, Some, ◌∙◌, ap, not}
+use Rattle.std.proofs.Common.{All, Global, Vec, Option, None, true, refl, ◌∷◌, ◌++◌, [], ◌≡◌, ◌≤◌, ◌<◌, ◌+◌, ℕ, List, length, get_or, set}
+use Rattle.std.proofs.Common.{arith, Some, ◌∙◌, ap, not}
 use Rattle.std.proofs.Math.ListN.{length-set}
 use Rattle.std.specs.Vec.{vec_capacity, vec_len}
 use Rattle.std.proofs.lemmas.Bool.{and_parts}
@@ -59,7 +60,8 @@ begun_sound s pending puts sent handles before spent transcript sound fresh more
 -- and waits for an answer, for which a letter was written
 pub asks_inside : (i : Inside) (pending : Pending) (room : Room) (puts : ℕ) (sent : Vec ℕ Global) (handles : Vec UnitNote Global)
     (before : List UnitNote) (spent : Option UnitId) (said : TranscriptModel) (to : ℕ) → IsInside i → IsFresh (state_of i)
-    → puts ≤ i.puts + 1 → to < i.config.servers → HasRoom i.config room pending → sent.items ≡ set i.sent.items to (get_or i.sent.items to 0 + 1)
+    → puts ≤ i.puts + 1 → to < i.config.servers → HasRoom i.config room pending
+    → sent.items ≡ set i.sent.items to (get_or i.sent.items to 0 + 1)
     → handles.items ≡ unspent spent before → before ≡ i.handles.items → vec_len handles + 1 ≤ vec_capacity handles
     → said.items ≡ i.said.items → 4 ≤ said.ids → IsInside (record i {
       pending = pending;
@@ -95,7 +97,8 @@ idle_awaits _ idle = absurd (cc)
 
 -- or is answered at once
 pub over_inside : (i : Inside) (puts : ℕ) (handles : Vec UnitNote Global) (before : List UnitNote) (spent : Option UnitId)
-    (said between : TranscriptModel) (more_said : Said) → IsInside i → IsFresh (state_of i) → is_free (state_of i) ≡ true → puts ≤ i.puts + 1
+    (said between : TranscriptModel) (more_said : Said) → IsInside i → IsFresh (state_of i) → is_free (state_of i) ≡ true
+    → puts ≤ i.puts + 1
     → handles.items ≡ unspent spent before → before ≡ i.handles.items → vec_len handles + 1 ≤ vec_capacity handles
     → said.items ≡ between.items ++ more_said ∷ [] → between.items ≡ i.said.items → between.ids ≤ said.ids + 2 → 4 ≤ between.ids
     → IsInside (record i { next = i.next + 1; puts = puts; handles = handles; said = said })

@@ -26,7 +26,8 @@ use Rattle.rank_client.specs.Answers.{IsAnswer, answers_call, heeds_end}
 use Rattle.rank_client.specs.Calls.{end_of, fetches, goes_on, is_fetched, is_finish, is_granted, plus}
 use Rattle.rank_client.specs.Granted.{AreGranted, IsGrantedFirst}
 use Rattle.rank_client.specs.Remembered.{AreHeld, IsFitting, IsTaken, Remembers, fetched_by, pending_call}
-use Rattle.rank_client.specs.Rules.{ClientResponse, answer_call, answered, asked, begun_batch, call_of, ends, looked, own_came, part_refused, refused, told_done}
+use Rattle.rank_client.specs.Rules.{ClientResponse, answer_call, answered, asked, begun_batch, call_of, ends, looked, own_came}
+use Rattle.rank_client.specs.Rules.{part_refused, refused, told_done}
 use Rattle.rank_client.specs.Says.{Tells}
 use Rattle.rank_client.specs.State.{ClientModel}
 use Rattle.rank_client.specs.Step.{Made, hear, letter_stamp, made, ticked}
@@ -91,7 +92,8 @@ module _ (s : ClientModel) (r : Remembers s) (going : s.finished ≡ false) (sta
   refused_tells unit first tried true untold none granted =
       next_tells (call_of unit) refl untold none (λ id. refl) (waits_for.Put unit first (tried + 1)) refl refl granted tt
   refused_tells unit first tried false untold none granted =
-      plain (call_of unit) refl untold none (λ id. refl) s.accepted s.end s.batch answers.Rejected untold refl refl tt (λ note e. absurd (cc))
+      plain (call_of unit) refl untold none (λ id. refl) s.accepted s.end s.batch answers.Rejected untold refl refl tt
+      (λ note e. absurd (cc))
       granted
 
   put_tells : (unit : Unit) (first : Server) (tried : ℕ) (m : Message) (z : ClientResponse) → s.end ≡ None → fetched_by s.pending ≡ []
@@ -119,7 +121,10 @@ module _ (s : ClientModel) (r : Remembers s) (going : s.finished ≡ false) (sta
       let gave = if_both _ _ z is in
       let new = (note_is heard note).0 (and_parts _ _ gave.0).1 in
       subst (Goes (calls_to.Reserve types)) gave.1
-      (granted_tells (calls_to.Reserve types) refl untold none (λ id. refl) note new.ungranted new.unfetched refl (new.ungranted, new.unfetched)
+      (granted_tells (calls_to.Reserve types) refl untold none (λ id. refl) note new.ungranted new.unfetched refl (
+        new.ungranted,
+        new.unfetched,
+      )
       (λ on. refl))
   reserve_tells request types _ z untold none is = absurd (cc)
 
@@ -155,7 +160,8 @@ module _ (s : ClientModel) (r : Remembers s) (going : s.finished ≡ false) (sta
   part_refused_tells : (request : ℕ) (common : List ℕ) (first : Server) (tried : ℕ) (more : Bool) → s.end ≡ None
       → fetched_by s.pending ≡ [] → Goes (calls_to.BeginBatch common) (part_refused heard request common first tried more)
   part_refused_tells request common first tried true untold none granted =
-      next_tells (calls_to.BeginBatch common) refl untold none (λ id. refl) (waits_for.Keep request common first (tried + 1)) refl refl granted tt
+      next_tells (calls_to.BeginBatch common) refl untold none (λ id. refl) (waits_for.Keep request common first (tried + 1)) refl
+      refl granted tt
   part_refused_tells request common first tried false untold none granted =
       plain (calls_to.BeginBatch common) refl untold none (λ id. refl) s.accepted s.end s.batch answers.Rejected untold refl refl tt
       (λ note e. absurd (cc)) granted
@@ -181,7 +187,8 @@ module _ (s : ClientModel) (r : Remembers s) (going : s.finished ≡ false) (sta
       → answer_call heard (waits_for.Close request batch) from m ≡ Some z → Goes calls_to.EndBatch z
   close_tells request batch (tells.Closed to) z none is =
       subst (Goes calls_to.EndBatch) (if_both _ _ z is).1
-      (λ first. ends_tells s r going stamp later calls_to.EndBatch s.next s.puts s.accepted s.end None s.handles s.finished answers.Fine going
+      (λ first. ends_tells s r going stamp later calls_to.EndBatch s.next s.puts s.accepted s.end None s.handles s.finished
+      answers.Fine going
       (first_none s.end) refl
       (held_same s.transcript s.handles calls_to.EndBatch answers.Fine (held_idle none) (λ note e. absurd (cc)) (λ id. refl))
       (record { kind = refl; known = tt; again = λ heeds. absurd (cc) }) first)
@@ -222,7 +229,8 @@ module _ (s : ClientModel) (r : Remembers s) (going : s.finished ≡ false) (sta
       → AreGranted (plus s.transcript (calls_to.Fetch note.id) (Some (answers.Body body))) s.handles waits_for.Nothing
       → Tells s stamp (calls_to.Fetch note.id) (Some (answers.Body body)) (answered heard (calls_to.Fetch note.id) (answers.Body body))
   body_tells note body waits fits long first =
-      ends_tells s r going stamp later (calls_to.Fetch note.id) s.next s.puts s.accepted s.end s.batch s.handles s.finished (answers.Body body)
+      ends_tells s r going stamp later (calls_to.Fetch note.id) s.next s.puts s.accepted s.end s.batch s.handles s.finished
+      (answers.Body body)
       going (first_none s.end) refl
       (held_fetched s.transcript s.handles note (answers.Body body) (λ n e. absurd (cc))
       (subst (λ l. AreHeld s.transcript (s.handles ++ l)) waits r.held) fits.gone)

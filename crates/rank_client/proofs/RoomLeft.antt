@@ -12,12 +12,14 @@ use Rattle.rank_client.specs.declared.rounds.Round.{Round}
 use Rattle.rank_client.specs.Inside.{HasRoom, HasTries, IsOffer, IsShort, later, pending_at}
 
 -- the room that is left after one more server was asked
-pub room_left : (config : Config) (before after : Room) (round next : Round) (e : Errand) (pending : Pending) → HasRoom config before (pending_at round e)
+pub room_left : (config : Config) (before after : Room) (round next : Round) (e : Errand) (pending : Pending)
+    → HasRoom config before (pending_at round e)
     → ((body : List ℕ) → All (λ b. b ≡ body) before.tries.items → All (λ b. b ≡ body) after.tries.items)
     → vec_len after.tries + (round.tried + 1) + 1 ≡ config.servers → after ≡ record before { tries = after.tries } → next ≡ later round
     → pending ≡ pending_at next e → HasRoom config after pending
 room_left config before after round next e pending has bodies left others next_is is =
-    subst (λ (p : Pending). HasRoom config after p) (sym is) (subst (λ (r : Round). HasRoom config after (pending_at r e)) (sym next_is) (by_errand e has))
+    subst (λ (p : Pending). HasRoom config after p) (sym is)
+    (subst (λ (r : Round). HasRoom config after (pending_at r e)) (sym next_is) (by_errand e has))
   where
     tries : HasTries config before round.tried → HasTries config after (round.tried + 1)
     tries had = rw others (left, had.1, had.2)
@@ -29,8 +31,10 @@ room_left config before after round next e pending has bodies left others next_i
     by_errand (goes_to.SetDone request) had = tries had
 
 -- the room with which a round begins
-pub first_room : (config : Config) (room : Room) (first : Server) (e : Errand) (body : List ℕ) (pending : Pending) → IsOffer e body → IsShort e
-    → first.0 < config.servers → vec_len room.tries + 1 ≡ config.servers → All (λ b. b ≡ body) room.tries.items → vec_capacity room.entries ≡ 1
+pub first_room : (config : Config) (room : Room) (first : Server) (e : Errand) (body : List ℕ) (pending : Pending)
+    → IsOffer e body → IsShort e
+    → first.0 < config.servers → vec_len room.tries + 1 ≡ config.servers → All (λ b. b ≡ body) room.tries.items
+    → vec_capacity room.entries ≡ 1
     → room.entries.items ≡ [] → pending ≡ pending_at (record { first = first; tried = 0 }) e → HasRoom config room pending
 first_room config room first e body pending offer short there tries bodies one none is =
     subst (λ (p : Pending). HasRoom config room p) (sym is) (by_errand e offer short)

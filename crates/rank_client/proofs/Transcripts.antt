@@ -59,7 +59,8 @@ unfolding has_finished
 none_finished = refl
 
 -- the last answer grants this unit
-pub granted_last : (said : List Said) (call : Call) (note : UnitNote) → granted note (said ++ record { call = call; answer = answers.Granted note } ∷ [])
+pub granted_last : (said : List Said) (call : Call) (note : UnitNote)
+    → granted note (said ++ record { call = call; answer = answers.Granted note } ∷ [])
 unfolding granted
 granted_last said call note = (call, Contains-push said (record { call = call; answer = answers.Granted note }))
 

@@ -1,5 +1,6 @@
 -- The fields of a client.
-use Rattle.std.specs.Prelude.{◌≡◌, ℕ, ◌+◌, ◌<◌, ◌≤◌, List, [], ◌∷◌, ◌++◌, length, filter, not, All, IfSome, IsSome, Option, None, Some, Bool, false}
+use Rattle.std.specs.Prelude.{◌≡◌, ℕ, ◌+◌, ◌<◌, ◌≤◌, List, [], ◌∷◌, ◌++◌, length, filter, not, All, IfSome, IsSome, Option, None, Some}
+use Rattle.std.specs.Prelude.{Bool, false}
 use Rattle.adlb_unit.specs.Ids.{same_unit}
 use Rattle.adlb_unit.specs.declared.names.UnitId.{UnitId}
 use Rattle.bag_ledger.specs.declared.entries.Entry.{Entry}
@@ -153,7 +154,12 @@ changed s change = record s {
 -- the response that it is, if it is one
 abbrev pub response_of : ClientModel → Outcome → Option ClientResponse
 response_of s (comes_to.Ends change entries said) =
-    Some (record { state = answered (changed s change) said.call said.answer; says = []; entries = entries.items; answer = Some said.answer })
+    Some (record {
+      state = answered (changed s change) said.call said.answer;
+      says = [];
+      entries = entries.items;
+      answer = Some said.answer;
+    })
 response_of s (comes_to.Waits pending to message sends) =
     Some (record { state = record s { pending = pending }; says = record { to = to; message = message } ∷ []; entries = []; answer = None })
 response_of s comes_to.Strange = None

@@ -1,5 +1,6 @@
 -- What a rank does with a call, and with a letter that answers it, one rule each.
-use Rattle.std.specs.Prelude.{ℕ, ◌+◌, ◌==◌, nat_le, nat_lt, Bool, true, false, ◌&&◌, not, ℤ, List, [], ◌∷◌, ◌++◌, length, map, filter, find, Option, None, Some, is_none, if◌then◌else◌}
+use Rattle.std.specs.Prelude.{ℕ, ◌+◌, ◌==◌, nat_le, nat_lt, Bool, true, false, ◌&&◌, not, ℤ, List, [], ◌∷◌, ◌++◌, length, map, filter, find}
+use Rattle.std.specs.Prelude.{Option, None, Some, is_none, if◌then◌else◌}
 use Rattle.std.specs.List.{range_with_len}
 use Rattle.adlb_unit.specs.Targets.{home, in_ranks}
 use Rattle.adlb_unit.specs.Ids.{same_unit}
@@ -84,7 +85,8 @@ entry_of unit = enters.Putting unit.id.rank unit.id.number unit.kind unit.prio u
 abbrev pub put : ClientModel → Unit → Option End → ClientResponse
 put s unit (Some end) = over (record s { puts = s.puts + 1 }) (entry_of unit) (call_of unit) end
 put s unit None =
-    asks (record s { puts = s.puts + 1 }) (entry_of unit) (first_server s unit.target) (tells.Put unit) (waits_for.Put unit (first_server s unit.target) 0)
+    asks (record s { puts = s.puts + 1 }) (entry_of unit) (first_server s unit.target) (tells.Put unit)
+    (waits_for.Put unit (first_server s unit.target) 0)
 
 -- the unit that this call puts, in the batch that is going on, if any
 abbrev pub unit_put : ClientModel → WorkType → ℤ → Target → Option Rank → List ℕ → Unit
@@ -128,7 +130,8 @@ held s id = find (λ n. same_unit n.id id) s.handles
 -- its server is asked for the bytes
 abbrev pub fetched : ClientModel → UnitId → UnitNote → ClientResponse
 fetched s id note =
-    asks (record s { handles = filter (λ n. not (same_unit n.id id)) s.handles }) (enters.Fetching s.me s.next id) note.server (tells.Fetch s.next id)
+    asks (record s { handles = filter (λ n. not (same_unit n.id id)) s.handles }) (enters.Fetching s.me s.next id) note.server
+    (tells.Fetch s.next id)
     (waits_for.Fetch s.next note)
 
 abbrev pub fetch : ClientModel → UnitId → Option UnitNote → Option ClientResponse
@@ -232,9 +235,11 @@ hear_put s unit first tried from (tells.Accepted to) =
     if is_for unit.id.number (asked s first tried) from to
     then Some (ends (record s { accepted = s.accepted + 1 }) [] (call_of unit) answers.Fine) else None
 hear_put s unit first tried from (tells.Full to charge) =
-    if is_for unit.id.number (asked s first tried) from to then Some (refused s unit first tried (nat_lt (tried + 1) s.config.servers)) else None
+    if is_for unit.id.number (asked s first tried) from to
+    then Some (refused s unit first tried (nat_lt (tried + 1) s.config.servers)) else None
 hear_put s unit first tried from (tells.Ended to end) =
-    if is_for unit.id.number (asked s first tried) from to then Some (ends (record s { end = Some end }) [] (call_of unit) (answers.Ended end)) else None
+    if is_for unit.id.number (asked s first tried) from to
+    then Some (ends (record s { end = Some end }) [] (call_of unit) (answers.Ended end)) else None
 hear_put s unit first tried from _ = None
 
 -- the common part, if there is one, is at a server of the run

@@ -1,5 +1,6 @@
 -- One step of a rank: the rule of its call or letter, and the stamps and places of what it sends.
-use Rattle.std.specs.Prelude.{ℕ, ◌+◌, nat_lt, nat_le, ◌&&◌, not, List, [], ◌∷◌, ◌++◌, slice_index_or, slice_set, Option, None, Some, if◌then◌else◌}
+use Rattle.std.specs.Prelude.{ℕ, ◌+◌, nat_lt, nat_le, ◌&&◌, not, List, [], ◌∷◌, ◌++◌, slice_index_or, slice_set, Option, None, Some}
+use Rattle.std.specs.Prelude.{if◌then◌else◌}
 use Rattle.std.specs.Option.{option_map}
 use Rattle.adlb_unit.specs.Limits.{stamp_limit}
 use Rattle.adlb_unit.specs.Links.{sending, stamp_after}

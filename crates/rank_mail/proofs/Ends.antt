@@ -7,7 +7,8 @@ use Rattle.std.specs.Option.{option_map}
 use mathlib.Core.List.{IsPrefix}
 use Rattle.adlb_unit.specs.declared.letters.Letter.{Letter}
 use Rattle.rank_mail.specs.Inside.{Agrees, LineModel, line_of, with_line, closed_by, all_closed}
-use Rattle.rank_mail.specs.Mailboxes.{ClosedModel, Place, PostModel, InboxModel, fresh_inbox, got_on, letters_of, places_of, sent_on, sent_to}
+use Rattle.rank_mail.specs.Mailboxes.{ClosedModel, Place, PostModel, InboxModel, fresh_inbox, got_on, letters_of, places_of, sent_on}
+use Rattle.rank_mail.specs.Mailboxes.{sent_to}
 use Rattle.rank_mail.proofs.Lists.{there}
 
 -- Sending.
@@ -88,7 +89,8 @@ front_next (d ∷ ds) [] zero b l at e h = absurd cc
 front_next (d ∷ ds) [] (suc k) b l at e h = absurd cc
 front_next (d ∷ ds) (m ∷ ms) zero b l at e h =
     let same : l ≡ m = cc in
-    (λ i. record (e i) { closed = (e i).closed ++ same i ∷ [] } ∷ ds) ∙ ap (λ r. record d { closed = d.closed ++ m ∷ [] } ∷ r) (sym (front_none ds ms))
+    (λ i. record (e i) { closed = (e i).closed ++ same i ∷ [] } ∷ ds)
+    ∙ ap (λ r. record d { closed = d.closed ++ m ∷ [] } ∷ r) (sym (front_none ds ms))
 front_next (d ∷ ds) (m ∷ ms) (suc k) b l at e h =
     ap (λ r. record d { closed = d.closed ++ m ∷ [] } ∷ r) (front_next ds ms k b l at e (omega (arith, h)))
 
@@ -134,10 +136,12 @@ pub closed_longer : (bs : List InboxModel) (ls : List (List Letter)) (n : ℕ)
     → (k : ℕ) (b : InboxModel) → slice_get (closed_by bs ls) k ≡ Some b → length b.closed ≡ n + 1
 closed_longer [] ls n h k b at = absurd cc
 closed_longer (d ∷ ds) [] n h zero b at =
-    let is : b ≡ with_closed d [] = cc in ap (λ (x : InboxModel). length x.closed) is ∙ omega (arith, length-append d.closed ([] ∷ []), h 0 d refl)
+    let is : b ≡ with_closed d [] = cc in
+    ap (λ (x : InboxModel). length x.closed) is ∙ omega (arith, length-append d.closed ([] ∷ []), h 0 d refl)
 closed_longer (d ∷ ds) [] n h (suc k) b at = closed_longer ds [] n (λ j x a. h (suc j) x a) k b at
 closed_longer (d ∷ ds) (l ∷ ls) n h zero b at =
-    let is : b ≡ with_closed d l = cc in ap (λ (x : InboxModel). length x.closed) is ∙ omega (arith, length-append d.closed (l ∷ []), h 0 d refl)
+    let is : b ≡ with_closed d l = cc in
+    ap (λ (x : InboxModel). length x.closed) is ∙ omega (arith, length-append d.closed (l ∷ []), h 0 d refl)
 closed_longer (d ∷ ds) (l ∷ ls) n h (suc k) b at = closed_longer ds ls n (λ j x a. h (suc j) x a) k b at
 
 -- the inbox at a place once all posts are closed

@@ -30,8 +30,10 @@ at_end (x ∷ xs) a b zero n e = absurd (n e)
 at_end (x ∷ xs) a b (suc j) n e = ap suc (at_end xs a b j n e)
 
 -- what holds of the changed view, and of each other one, holds of each
-all_set : (F : ℕ → Known → Type 0) (views : List Known) (i : ℕ) (w : Known) → F i w → ((j : ℕ) (u : Known) → j ≢ i → get_elem? views j ≡ some u → F j u) → All F (set views i w)
-all_set F views i w mine others j u e = ⊎_elim (λ (x : (j ≡ i) × (w ≡ u)). subst (λ (y : ℕ × Known). F y.0 y.1) (λ k. (sym x.0 k, x.1 k)) mine)
+all_set : (F : ℕ → Known → Type 0) (views : List Known) (i : ℕ) (w : Known) → F i w
+    → ((j : ℕ) (u : Known) → j ≢ i → get_elem? views j ≡ some u → F j u) → All F (set views i w)
+all_set F views i w mine others j u e =
+    ⊎_elim (λ (x : (j ≡ i) × (w ≡ u)). subst (λ (y : ℕ × Known). F y.0 y.1) (λ k. (sym x.0 k, x.1 k)) mine)
     (λ (x : (j ≢ i) × (get_elem? views j ≡ some u)). others j u x.0 x.1) (at_set views i j w u e)
 
 letters-append : (p : ℕ) (xs ys : List Posted) → letters_of p (xs ++ ys) ≡ letters_of p xs ++ letters_of p ys
@@ -45,7 +47,8 @@ letters-own p x e = let t : (x.from == p) ≡ true = eq-eqb x.from p e in rw t r
 letters-other : (p : ℕ) (x : Posted) → x.from ≢ p → letters_of p (x ∷ []) ≡ []
 letters-other p x n = let t : (x.from == p) ≡ false = ne_eqb x.from p n in rw t refl
 
-at_last_or : (l : List Known) (a b : Known) (j : ℕ) → get_elem? (l ++ a ∷ []) j ≡ some b → (get_elem? l j ≡ some b) ⊎ ((j ≡ length l) × (a ≡ b))
+at_last_or : (l : List Known) (a b : Known) (j : ℕ) → get_elem? (l ++ a ∷ []) j ≡ some b
+    → (get_elem? l j ≡ some b) ⊎ ((j ≡ length l) × (a ≡ b))
 at_last_or [] a b zero e = inr (refl, some-injective a b e)
 at_last_or [] a b (suc j) e = absurd (some-ne-none b (sym e))
 at_last_or (x ∷ xs) a b zero e = inl e
@@ -111,7 +114,8 @@ sender_within senders x before after none = elim (cases_lt x.from senders) [
   | inr above ↦
       let at : letters_of x.from (before ++ x ∷ after) ≡ letters_of x.from before ++ x.letter ∷ letters_of x.from after =
       letters-append x.from before (x ∷ after)
-      ∙ ap (λ l. letters_of x.from before ++ l) (letters-append x.from (x ∷ []) after ∙ ap (λ l. l ++ letters_of x.from after) (letters-own x.from x refl)) in
+      ∙ ap (λ l. letters_of x.from before ++ l)
+      (letters-append x.from (x ∷ []) after ∙ ap (λ l. l ++ letters_of x.from after) (letters-own x.from x refl)) in
       let long : length (letters_of x.from (before ++ x ∷ after)) ≡ 0 = ap length (none x.from above) in
       absurd (omega (arith, long, ap length at, length-append (letters_of x.from before) (x.letter ∷ letters_of x.from after)))
 ]

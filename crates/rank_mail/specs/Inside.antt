@@ -47,7 +47,8 @@ FitsSender seat senders closed all i v =
 abbrev pub FitsReceiver : ℕ → ℕ → ℕ → List Posted → List Posted → ℕ → Known → Type 0
 FitsReceiver place senders closed got all i v =
     v.gets ≡ true
-    → (i ≡ place) × (v.got ≡ got) × (v.senders ≡ senders) × (length v.closed ≡ closed) × ((k : ℕ) → k < closed → slice_index_or v.closed k [] ≡ letters_of k all)
+    → (i ≡ place) × (v.got ≡ got) × (v.senders ≡ senders) × (length v.closed ≡ closed)
+    × ((k : ℕ) → k < closed → slice_index_or v.closed k [] ≡ letters_of k all)
 
 abbrev pub Fits : ℕ → (ℕ → ℕ) → ℕ → ℕ → List Posted → List Posted → ℕ → Known → Type 0
 Fits place seat senders closed got all i v = FitsSender seat senders closed all i v × FitsReceiver place senders closed got all i v

@@ -1,10 +1,13 @@
 -- Entries of ranks, of which those that wait stand in front.
-use Rattle.std.proofs.Common.{◌≡◌, ◌≢◌, ◌<◌, ◌≤◌, ◌+◌, ℕ, zero, suc, Bool, true, false, cond, not, List, [], ◌∷◌, ◌++◌, length, map, filter, take, drop, set, get_or, Option, None, Some, All, is_some, refl, sym, ap, ◌∙◌, subst, arith, ◌⊎◌, inl, inr, add-one, append_assoc, length-append}
+use Rattle.std.proofs.Common.{◌≡◌, ◌≢◌, ◌<◌, ◌≤◌, ◌+◌, ℕ, zero, suc, Bool, true, false, cond, not, List, [], ◌∷◌, ◌++◌, length, map, filter}
+use Rattle.std.proofs.Common.{take, drop, set, get_or, Option, None, Some, All, is_some, refl, sym, ap, ◌∙◌, subst, arith, ◌⊎◌, inl, inr}
+use Rattle.std.proofs.Common.{add-one, append_assoc, length-append}
 use Rattle.std.specs.Prelude.{nat_eq, nat_lt}
 use Rattle.std.specs.List.{drop-map, insert, list_any, position, remove, slice_get}
 use Rattle.std.specs.Map.{keys_of, values_of}
 use Rattle.std.proofs.lemmas.Bool.{both_ways, cases_eq, cases_lt, eq-eqb, eqb-true, false_from_ne_true, lt-ltb, ltb-true}
-use Rattle.std.proofs.lemmas.List.{drop_more, get_or-drop, get_or-take, length-take-le, map-append, take-append-drop, take-append-le, take-map, take-set-le, take-take, take_all}
+use Rattle.std.proofs.lemmas.List.{drop_more, get_or-drop, get_or-take, length-take-le, map-append, take-append-drop, take-append-le}
+use Rattle.std.proofs.lemmas.List.{take-map, take-set-le, take-take, take_all}
 use Rattle.std.proofs.lemmas.List.Edits.{length-remove, remove-append_left}
 use Rattle.std.proofs.lemmas.List.Elements.{All-cons, All-head, All-nil, All-tail, filter-append}
 use Rattle.std.proofs.lemmas.List.Folds.{list_any_at}

@@ -1,5 +1,6 @@
 -- Where a rank waits.
-use Rattle.std.proofs.Common.{◌≡◌, ◌≢◌, ◌<◌, ◌≤◌, ◌⊎◌, inl, inr, ℕ, Bool, true, false, ◌&&◌, cond, ltb, List, [], ◌∷◌, length, map, set, get_or, find, Option, None, Some, All, refl, sym, ap, ◌∙◌, subst, arith}
+use Rattle.std.proofs.Common.{◌≡◌, ◌≢◌, ◌<◌, ◌≤◌, ◌⊎◌, inl, inr, ℕ, Bool, true, false, ◌&&◌, cond, ltb, List, [], ◌∷◌, length, map, set}
+use Rattle.std.proofs.Common.{get_or, find, Option, None, Some, All, refl, sym, ap, ◌∙◌, subst, arith}
 use Rattle.std.specs.List.{AllPairs, list_any, position, position_or_len, slice_get}
 use Rattle.std.proofs.lemmas.Bool.{and_from, and_parts, cases_eq, cases_lt, eq-eqb, eqb-true, false_from_ne_true}
 use Rattle.std.proofs.lemmas.Bool.Decides.{nat_tests}

@@ -1,5 +1,6 @@
 -- That no free unit lies for a rank that waits.
-use Rattle.std.proofs.Common.{◌≡◌, ◌<◌, ℕ, Bool, true, false, not, List, [], ◌∷◌, ◌++◌, length, map, filter, find, get_or, Option, None, Some, All, Any, refl, sym, ap, subst, ◌∙◌}
+use Rattle.std.proofs.Common.{◌≡◌, ◌<◌, ℕ, Bool, true, false, not, List, [], ◌∷◌, ◌++◌, length, map, filter, find, get_or, Option, None}
+use Rattle.std.proofs.Common.{Some, All, Any, refl, sym, ap, subst, ◌∙◌}
 use Rattle.std.proofs.lemmas.List.{get_or_default}
 use Rattle.std.proofs.lemmas.List.Elements.{All-filter, All-map, All-push, All-weaker}
 use Rattle.adlb_unit.specs.Ids.{same_unit}
@@ -17,7 +18,8 @@ use Rattle.work_queue.proofs.Lists.{free_from_best}
 use Rattle.work_queue.proofs.Offers.{is_permitted}
 use Rattle.work_queue.proofs.Searched.{find_first, find_none}
 use Rattle.work_queue.proofs.Walks.{best_walk, no_best}
-use Rattle.reserve_path.specs.Calls.{after_ask, after_none, asking, asks_next, given, gone, gone_if, hears_of, hinted, hints_next, is_since, or_else, reserved, suits, suits_first, taker_of, takes, takes_first, turned}
+use Rattle.reserve_path.specs.Calls.{after_ask, after_none, asking, asks_next, given, gone, gone_if, hears_of, hinted, hints_next, is_since}
+use Rattle.reserve_path.specs.Calls.{or_else, reserved, suits, suits_first, taker_of, takes, takes_first, turned}
 use Rattle.reserve_path.specs.Grants.{best_for, pinned_to, with_grant}
 use Rattle.reserve_path.specs.Parked.{IsParked, ParkedModel, entry_of, is_by, is_of}
 use Rattle.reserve_path.specs.Rest.{HasNoneFor, NoneFits, NoneWished}

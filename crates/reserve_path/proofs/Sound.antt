@@ -1,5 +1,6 @@
 -- What is so of what waits stays so.
-use Rattle.std.proofs.Common.{◌≡◌, ◌≢◌, ◌<◌, ◌≤◌, ◌==◌, ◌||◌, ℕ, Bool, true, false, not, List, [], ◌∷◌, ◌++◌, length, map, drop, filter, get_or, set, eqb, Option, None, Some, All, refl, sym, ap, ◌∙◌, subst, arith, length-append}
+use Rattle.std.proofs.Common.{◌≡◌, ◌≢◌, ◌<◌, ◌≤◌, ◌==◌, ◌||◌, ℕ, Bool, true, false, not, List, [], ◌∷◌, ◌++◌, length, map, drop, filter}
+use Rattle.std.proofs.Common.{get_or, set, eqb, Option, None, Some, All, refl, sym, ap, ◌∙◌, subst, arith, length-append}
 use Rattle.std.specs.List.{AllPairs, list_any, slice_get}
 use Rattle.std.proofs.lemmas.Bool.{both_ways, eq-eqb, eqb-true, not-true}
 use Rattle.std.proofs.lemmas.Bool.Decides.{Decides-eqb}
@@ -16,7 +17,8 @@ use Rattle.adlb_unit.specs.declared.configs.Config.{Config}
 use Rattle.adlb_unit.specs.declared.names.Rank.{Rank}
 use Rattle.adlb_unit.specs.declared.names.Server.{Server}
 use Rattle.reserve_path.specs.Calls.{asking, asks_next, forgotten, gone, has_server, hears_of, turned, wished, with_turned}
-use Rattle.reserve_path.specs.Parked.{IsAway, IsHere, IsOther, IsParked, IsWaiting, ParkedModel, is_by, is_idle, is_of, is_parked, with_waiting}
+use Rattle.reserve_path.specs.Parked.{IsAway, IsHere, IsOther, IsParked, IsWaiting, ParkedModel, is_by, is_idle, is_of, is_parked}
+use Rattle.reserve_path.specs.Parked.{with_waiting}
 use Rattle.reserve_path.specs.declared.waits.Waiting.{Waiting}
 use Rattle.reserve_path.specs.declared.wishes.Wish.{Wish}
 use Rattle.reserve_path.proofs.Others.{all_others}

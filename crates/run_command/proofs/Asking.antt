@@ -7,7 +7,8 @@ use Rattle.run_command.specs.Inside.{IsRefusal, Stops}
 use Rattle.run_command.specs.declared.faults.Fault.{Fault}
 use Rattle.run_command.specs.declared.faults.Fault.TheVariants.{Input, Read, Write, NoThread, Memory, TooLong, TooLarge}
 
-module _ (before after : Option (List ℕ)) (read : List ℕ) (reads : Reads before after (input_limit + 1) read) (short : length read ≤ input_limit)
+module _ (before after : Option (List ℕ)) (read : List ℕ) (reads : Reads before after (input_limit + 1) read)
+    (short : length read ≤ input_limit)
   where
     -- what the bytes ask is what the input asks
     pub read_asks : {A : Type 0} (asks : List ℕ → A → Type 0) (asked : A) → asks read asked → (all : List ℕ) → before ≡ Some all →
@@ -18,7 +19,8 @@ module _ (before after : Option (List ℕ)) (read : List ℕ) (reads : Reads bef
 
     -- and why they ask nothing is why it has no answer
     pub read_stops : {A W : Type 0} (asks : List ℕ → A → Type 0) (refuses : List ℕ → ℕ → W → Type 0) (faults now refused refused' : ℕ) →
-        now ≡ faults → (fault : Fault W) → IsRefusal (refuses read) fault → Stops asks refuses before after faults now refused refused' fault
+        now ≡ faults → (fault : Fault W) → IsRefusal (refuses read) fault
+        → Stops asks refuses before after faults now refused refused' fault
     read_stops asks refuses faults now refused refused' same (Input line why) is = (
       λ all told.
           let bytes : read ≡ all = read_whole input_limit before after read reads all short told in

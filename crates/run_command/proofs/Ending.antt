@@ -1,5 +1,6 @@
 -- How a run ends: with a fault before anything is written, or as the writing of what is told ended.
-use Rattle.std.proofs.Common.{◌≡◌, ◌≤◌, ◌+◌, ◌==◌, ℕ, Bool, List, ◌++◌, length, take, Option, Some, None, IfSome, refl, sym, ap, ◌∙◌, subst, inl, inr, arith, length-append, append-nil}
+use Rattle.std.proofs.Common.{◌≡◌, ◌≤◌, ◌+◌, ◌==◌, ℕ, Bool, List, ◌++◌, length, take, Option, Some, None, IfSome, refl, sym, ap, ◌∙◌, subst}
+use Rattle.std.proofs.Common.{inl, inr, arith, length-append, append-nil}
 use Rattle.std.proofs.lemmas.List.{length-take-le}
 use Rattle.std.proofs.lemmas.Bool.{cases_eq, cond-false, ne_eqb}
 use Rattle.adlb_io.specs.Inputs.{IsAtEnd}
@@ -20,7 +21,8 @@ none_begun K taken after same before now was is =
     let long : length now ≡ length before = ap length n in (λ some. absurd (cc), λ more. absurd (omega arith))
 
 -- so much of the front of the text was taken
-prefix_of : (before after : Option (List ℕ)) (text : List ℕ) (n : ℕ) → n ≤ length text → Takes before after (take n text) → TakesPrefix before after text
+prefix_of : (before after : Option (List ℕ)) (text : List ℕ) (n : ℕ) → n ≤ length text → Takes before after (take n text)
+    → TakesPrefix before after text
 prefix_of None after text n part took = took
 prefix_of (Some before) after text n part took = (n, part, took)
 
@@ -28,7 +30,8 @@ took_none : (before after : Option (List ℕ)) (text : List ℕ) → Takes befor
 took_none None after text took = took
 took_none (Some before) after text took = took ∙ ap Some (simp append-nil)
 
-took_long : (before after : Option (List ℕ)) (text b a : List ℕ) (n : ℕ) → n ≤ length text → Takes before after (take n text) → before ≡ Some b → after ≡ Some a → length a ≡ length b + n
+took_long : (before after : Option (List ℕ)) (text b a : List ℕ) (n : ℕ) → n ≤ length text → Takes before after (take n text)
+    → before ≡ Some b → after ≡ Some a → length a ≡ length b + n
 took_long None after text b a n part took was is = absurd (cc)
 took_long (Some before) after text b a n part took was is =
     let e : Some a ≡ Some (before ++ take n text) = sym is ∙ took in
@@ -41,7 +44,8 @@ module _ {A W K : Type 0} (asks : List ℕ → A → Type 0) (refuses : List ℕ
     (tells : A → K → List ℕ → Type 0) (before after : Scene)
   where
     -- a run that has no answer ends by the fault for which it has none
-    pub ends_early : (fault : Fault W) → Stops asks refuses before.left after.left before.reads after.reads before.refused after.refused fault →
+    pub ends_early : (fault : Fault W)
+        → Stops asks refuses before.left after.left before.reads after.reads before.refused after.refused fault →
         after.taken ≡ before.taken → EndsBy asks refuses keeps tells before after (Some fault) None
     ends_early (Input line why) is same = (is.0, is.1, is.2, record { nothing = same; none_kept = refl })
     ends_early Read is same = (is, record { nothing = same; none_kept = refl })

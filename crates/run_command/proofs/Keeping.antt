@@ -1,5 +1,6 @@
 -- What is kept of a run of one rank over one server.
-use Rattle.std.proofs.Common.{◌≡◌, ◌<◌, ◌≤◌, ◌^◌, ℕ, zero, suc, List, [], ◌∷◌, ◌++◌, length, Option, Some, None, Result, Ok, Err, IfOk, map, refl, sym, ap, ◌∙◌, subst, arith, slice_get, slice_index_or}
+use Rattle.std.proofs.Common.{◌≡◌, ◌<◌, ◌≤◌, ◌^◌, ℕ, zero, suc, List, [], ◌∷◌, ◌++◌, length, Option, Some, None, Result, Ok, Err, IfOk, map}
+use Rattle.std.proofs.Common.{refl, sym, ap, ◌∙◌, subst, arith, slice_get, slice_index_or}
 use Rattle.std.proofs.lemmas.Result.{IfOk-at_ok}
 use Rattle.adlb_threads.specs.Reports.{Reported}
 use Rattle.adlb_unit.specs.declared.configs.Config.{Config}
@@ -101,7 +102,8 @@ abbrev report_with : {O : Type 0} → Config → List Entry → List (List Said)
 report_with config ledger transcripts outcomes left =
     record { config = config; ledger = ledger; transcripts = transcripts; outcomes = outcomes; left = left }
 
-pub reported : {V O : Type 0} (config : Config) (ledger : List Entry) (left : List LeftUnit) (seen_as : V → List Said) (transcripts : List V)
+pub reported : {V O : Type 0} (config : Config) (ledger : List Entry) (left : List LeftUnit) (seen_as : V → List Said)
+    (transcripts : List V)
     (transcript : V) (outcomes : List O) (outcome : O) → transcripts ≡ transcript ∷ [] → outcomes ≡ outcome ∷ [] →
     report_with config ledger (map seen_as transcripts) outcomes left ≡ one_report config ledger (seen_as transcript) left outcome
 reported {V} {O} config ledger left seen_as transcripts transcript outcomes outcome one found =
@@ -115,7 +117,8 @@ trouble_told troubles.Memory run late told = tt
 trouble_told (troubles.TooLong stamp) run late told = late stamp (told stamp refl)
 
 -- the numbers stay from the start of the world to its end
-pub numbers_of : (config : Config) (limit : ℕ) (first mid last : Run) → config.ranks ≡ 1 → config.servers ≡ 1 → limit ≡ config.limit → IsStart limit first → HasNumbers first.config mid → last.config ≡ mid.config → HasNumbers config last
+pub numbers_of : (config : Config) (limit : ℕ) (first mid last : Run) → config.ranks ≡ 1 → config.servers ≡ 1 → limit ≡ config.limit
+    → IsStart limit first → HasNumbers first.config mid → last.config ≡ mid.config → HasNumbers config last
 numbers_of config limit first mid last one_rank one_server is start same kept = record {
   ranks = ap (λ (c : Config). c.ranks) kept ∙ same.ranks ∙ start.one_rank ∙ sym one_rank;
   servers = ap (λ (c : Config). c.servers) kept ∙ same.servers ∙ start.one_server ∙ sym one_server;
@@ -123,8 +126,11 @@ numbers_of config limit first mid last one_rank one_server is start same kept = 
 }
 
 -- where nothing failed, Finish came to the transcript
-pub finishes : (before last : Run) (transcript : List Said) → last.transcript ≡ plus before.transcript calls_to.Finish (finish_answer last.failed) → last.failed ≡ None → transcript ≡ last.transcript → transcript ≡ before.transcript ++ finish ∷ []
-finishes before last transcript says whole same = same ∙ says ∙ ap (λ (t : Option Trouble). plus before.transcript calls_to.Finish (finish_answer t)) whole
+pub finishes : (before last : Run) (transcript : List Said) → last.transcript
+    ≡ plus before.transcript calls_to.Finish (finish_answer last.failed) → last.failed ≡ None → transcript ≡ last.transcript
+    → transcript ≡ before.transcript ++ finish ∷ []
+finishes before last transcript says whole same =
+    same ∙ says ∙ ap (λ (t : Option Trouble). plus before.transcript calls_to.Finish (finish_answer t)) whole
 
 -- a link of the same seat has the same numbers
 pub seat_numbers : (before after : Run) → seat_of after ≡ seat_of before → HasNumbers before.config after

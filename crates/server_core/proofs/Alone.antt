@@ -1,5 +1,6 @@
 -- One element of a list in which each has a number of its own: those before it, and those behind.
-use Rattle.std.proofs.Common.{◌≡◌, ◌≢◌, ◌+◌, ◌==◌, ℕ, suc, Bool, true, false, ◌&&◌, ◌||◌, not, cond, List, [], ◌∷◌, ◌++◌, length, filter, find, get_or, Some, All, refl, sym, ap, ◌∙◌, arith, length-append}
+use Rattle.std.proofs.Common.{◌≡◌, ◌≢◌, ◌+◌, ◌==◌, ℕ, suc, Bool, true, false, ◌&&◌, ◌||◌, not, cond, List, [], ◌∷◌, ◌++◌, length, filter}
+use Rattle.std.proofs.Common.{find, get_or, Some, All, refl, sym, ap, ◌∙◌, arith, length-append}
 use Rattle.std.specs.List.{AllPairs, list_any}
 use Rattle.std.proofs.lemmas.Bool.{and_left, ne_eqb}
 use Rattle.std.proofs.lemmas.List.{get_or-append-add, get_or_append_left}
@@ -97,7 +98,8 @@ pub any_one : {X : Type 0} (test q : X → Bool) (before : List X) (x : X) (behi
     → NonePasses test behind → list_any (λ y. test y && q y) (before ++ x ∷ behind) ≡ q x
 any_one {X} test q [] x behind first own last =
     let F : X → Type 0 = λ y. test y ≡ false in
-    let none = list_any_none (λ y. test y && q y) behind (All-weaker F (λ y. (test y && q y) ≡ false) (λ y is. and_left (test y) (q y) is) behind last) in
+    let none = list_any_none (λ y. test y && q y) behind
+    (All-weaker F (λ y. (test y && q y) ≡ false) (λ y is. and_left (test y) (q y) is) behind last) in
     rw (own, none) (or-false (q x))
   where
     or-false : (t : Bool) → (t || false) ≡ t

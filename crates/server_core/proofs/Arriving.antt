@@ -1,5 +1,6 @@
 -- A unit comes from another server: it is settled while its acknowledgement is owed, which is said then.
-use Rattle.std.proofs.Common.{◌≡◌, Bool, true, false, cond, List, [], ◌∷◌, ◌++◌, append-nil, find, Option, None, Some, refl, sym, ap, ◌∙◌, subst}
+use Rattle.std.proofs.Common.{◌≡◌, Bool, true, false, cond, List, [], ◌∷◌, ◌++◌, append-nil, find, Option, None, Some, refl, sym, ap, ◌∙◌}
+use Rattle.std.proofs.Common.{subst}
 use Rattle.adlb_unit.specs.declared.actors.Actor.TheVariants as by
 use Rattle.adlb_unit.specs.declared.messages.Message.TheVariants as tells
 use Rattle.adlb_unit.specs.declared.names.Server.{Server}
@@ -123,7 +124,8 @@ module _ (s : ServerModel) (out : Out) (from : Server) (unit : Work) (none : s.k
   acked last end after told =
       let a = Acks from unit.id in
       let x = to_server from (tells.PushAck unit.id) in
-      let paid : owing t None ≡ t = ap (owing t) (sym (settled_owes unit.id v t (with_entry out (enters.Arrived s.me unit.id)) mid settled none)) in
+      let paid : owing t None ≡ t =
+      ap (owing t) (sym (settled_owes unit.id v t (with_entry out (enters.Arrived s.me unit.id)) mid settled none)) in
       let now = after ∙ ap (λ u. counted u (by.Server from)) (sym paid) in
       let letter = told ∙ ap (λ u. with_letter mid (posted u x)) (sym paid) in
       let goes = goes_nowhere (with_letter mid (posted (owing t None) x)) (counted (owing t None) (by.Server from))

@@ -1,5 +1,6 @@
 -- What a check makes of a server, and what is said of it.
-use Rattle.std.proofs.Common.{◌≡◌, ◌≤◌, ◌<◌, ◌+◌, ◌-◌, ◌*◌, ◌==◌, ◌↔◌, ◌⊎◌, inl, inr, ℕ, suc, Bool, true, false, cond, List, [], ◌∷◌, ◌++◌, append-nil, append_assoc, length, map, Option, None, Some, IsTrue, All, refl, sym, ap, ◌∙◌, subst, arith}
+use Rattle.std.proofs.Common.{◌≡◌, ◌≤◌, ◌<◌, ◌+◌, ◌-◌, ◌*◌, ◌==◌, ◌↔◌, ◌⊎◌, inl, inr, ℕ, suc, Bool, true, false, cond, List, [], ◌∷◌, ◌++◌}
+use Rattle.std.proofs.Common.{append-nil, append_assoc, length, map, Option, None, Some, IsTrue, All, refl, sym, ap, ◌∙◌, subst, arith}
 use Rattle.std.specs.Prelude.{if◌then◌else◌}
 use Rattle.std.specs.List.{range_with_len}
 use Rattle.std.proofs.lemmas.Bool.{both_ways, eq-eqb, ne_eqb}
@@ -24,7 +25,8 @@ use Rattle.exhaust_ring.specs.Visits.{Outcome, judged, outcome, found_of, verdic
 use Rattle.exhaust_ring.specs.declared.steps.RingStep.{RingStep}
 use Rattle.exhaust_ring.specs.declared.steps.RingStep.TheVariants.{Pass, Fail, Exhausted, Shutdown, Ended}
 use Rattle.reserve_path.specs.Parked.{Parked}
-use Rattle.server_law.specs.Acts.{Act, Fails, Finds, Gives_up, Hears_exhaust, Marks, Passes, ServerSaying, Shuts, askers, does, entries, says, tested_in, to_others, to_server}
+use Rattle.server_law.specs.Acts.{Act, Fails, Finds, Gives_up, Hears_exhaust, Marks, Passes, ServerSaying, Shuts, askers, does, entries}
+use Rattle.server_law.specs.Acts.{says, tested_in, to_others, to_server}
 use Rattle.server_law.specs.Carried.{Served, all_counted, carried, counted, done, joined, posted, stamped}
 use Rattle.server_law.specs.Checks.{exhaust_rule, marks, tests, tests_now, token_rule, verdict, visit}
 use Rattle.server_law.specs.Endings.{is_quiet, tells_all, tells_idle}
@@ -127,7 +129,8 @@ module _ (s : ServerModel) (out : Out) (from : Server) (t : Token) (n : RingMode
       by_test : (o : Option Why) (z : Bool) → (s.me.0 == 0) ≡ z → n ≡ (judged (ring_at s) t o).ring → step ≡ (judged (ring_at s) t o).step
           → x ≡ going_on out (tests z o from t ∷ []) s
       by_test None z zeroth ring is =
-          one_act (Passes from t) (with_ring (ring_at s) (with_tests s.kept.ring)) (Pass (token t.check 2 t.asked)) ring is refl refl refl [] refl
+          one_act (Passes from t) (with_ring (ring_at s) (with_tests s.kept.ring)) (Pass (token t.check 2 t.asked)) ring is refl
+          refl refl [] refl
       by_test (Some why) z zeroth ring is =
           by_place z (ring ∙ ap (λ b. (at b).ring) zeroth) (is ∙ ap (λ b. (at b).step) zeroth) (λ no. second (zeroth ∙ no))
         where
@@ -164,7 +167,8 @@ module _ (s : ServerModel) (out : Out) (from : Server) (t : Token) (n : RingMode
           at : Bool → Outcome
           at b = cond b (outcome (with_ring (ring_at s) (ended s.kept.ring)) Ended) (outcome (with_exhausted (ring_at s)) Exhausted)
 
-          by_found : (b : Bool) → n ≡ (at b).ring → step ≡ (at b).step → (p : Plan) → verdict b (a ∷ asked) from t ≡ Some p → x ≡ planned out p s
+          by_found : (b : Bool) → n ≡ (at b).ring → step ≡ (at b).step → (p : Plan) → verdict b (a ∷ asked) from t ≡ Some p
+              → x ≡ planned out p s
           by_found true ring is =
               planned_by (Gives_up from t) []
               (one_act (Gives_up from t) (with_ring (ring_at s) (ended s.kept.ring)) Ended ring is refl refl refl [] refl)
@@ -321,7 +325,8 @@ pub judged_check : (m : RingModel) (t : Token) (o : Option Why) → (judged m t 
 judged_check m t None = refl
 judged_check m t (Some why) = by_test (m.me.0 == 0)
   where
-    by_test : (b : Bool) → (cond b (outcome (with_ring m (ended m.ring)) Ended) (outcome (with_ring m (with_tests m.ring)) (Fail t why))).ring.ring.check
+    by_test : (b : Bool)
+        → (cond b (outcome (with_ring m (ended m.ring)) Ended) (outcome (with_ring m (with_tests m.ring)) (Fail t why))).ring.ring.check
         ≡ m.ring.check
     by_test true = refl
     by_test false = refl

@@ -1,5 +1,6 @@
 -- Acts after acts, with what was sent and entered before.
-use Rattle.std.proofs.Common.{◌≡◌, ◌≤◌, ◌+◌, ◌==◌, ℕ, Bool, true, false, not, cond, ◌&&◌, List, [], ◌∷◌, ◌++◌, All, append-nil, filter, find, length, Option, None, Some, IsSome, refl, sym, ap, ◌∙◌, subst, arith, length-append}
+use Rattle.std.proofs.Common.{◌≡◌, ◌≤◌, ◌+◌, ◌==◌, ℕ, Bool, true, false, not, cond, ◌&&◌, List, [], ◌∷◌, ◌++◌, All, append-nil, filter}
+use Rattle.std.proofs.Common.{find, length, Option, None, Some, IsSome, refl, sym, ap, ◌∙◌, subst, arith, length-append}
 use Rattle.std.specs.Prelude.{nat_lt}
 use Rattle.std.specs.Option.{option_map}
 use Rattle.std.proofs.lemmas.List.{length-map}
@@ -94,7 +95,8 @@ handled_goes s t u out mid end from message p is first then =
     ∙ ap (λ x. Some x) (sym (goes_on ends_event p s t u out mid end first then))
 
 -- a letter that is expected is served so
-pub serves : (s t u : ServerModel) (out : Out) (room : ℕ) (from : Actor) (letter : Letter) → IsSome (serve s from letter) → t ≡ at_event s letter
+pub serves : (s t u : ServerModel) (out : Out) (room : ℕ) (from : Actor) (letter : Letter) → IsSome (serve s from letter)
+    → t ≡ at_event s letter
     → option_map (λ list. going_on (nothing room) list t) (acts t from letter.message) ≡ Some (made u out)
     → serve s from letter ≡ Some (made u out)
 serves s t u out room from letter some now goes =
@@ -172,7 +174,8 @@ pub close_goes : (s : ServerModel) (out : Out) (from : Rank) (request : ℕ) (ba
 close_goes s out from request batch accepted x goes = by_part (part_in s.kept.parts batch) goes
   where
     by_part : (o : Option Part) → ((p : Part) → o ≡ Some p → x ≡ going_on out (Closes request batch accepted p ∷ []) s)
-        → (q : Plan) → close request batch accepted (part_if (can_close from batch accepted s.kept.queue.common) o) ≡ Some q → x ≡ planned out q s
+        → (q : Plan) → close request batch accepted (part_if (can_close from batch accepted s.kept.queue.common) o) ≡ Some q
+        → x ≡ planned out q s
     by_part None goes q is = absurd (cc)
     by_part (Some p) goes q is = by_test (can_close from batch accepted s.kept.queue.common p) (goes p refl) q is
       where

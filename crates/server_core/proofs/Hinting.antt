@@ -4,7 +4,8 @@ use Rattle.adlb_unit.specs.declared.names.Rank.{Rank}
 use Rattle.adlb_unit.specs.declared.names.Target.{Target}
 use Rattle.adlb_unit.specs.declared.names.WorkType.{WorkType}
 use Rattle.bag_ledger.proofs.Tests.{some_is}
-use Rattle.std.proofs.Common.{◌≡◌, ◌≢◌, ◌<◌, ℕ, Bool, true, false, ◌&&◌, not, cond, List, [], ◌∷◌, ◌++◌, length, find, Option, None, Some, refl, sym, ap, ◌∙◌, subst, arith, length-append}
+use Rattle.std.proofs.Common.{◌≡◌, ◌≢◌, ◌<◌, ℕ, Bool, true, false, ◌&&◌, not, cond, List, [], ◌∷◌, ◌++◌, length, find, Option, None, Some}
+use Rattle.std.proofs.Common.{refl, sym, ap, ◌∙◌, subst, arith, length-append}
 use Rattle.std.specs.List.{AllPairs}
 use Rattle.std.proofs.lemmas.Bool.{and_from, and_left, and_parts, and_right, eq-eqb, not_from_false, not_from_true}
 use Rattle.std.proofs.lemmas.List.Elements.{All-filter, All-head, All-tail, All-weaker}
@@ -88,7 +89,8 @@ next_left kind target wishes once w is = by_named (find (suits_first kind target
   where
     by_named : (o : Option Wish) → find (suits_first kind target) wishes ≡ o → or_else o (find (suits kind target) wishes) ≡ Some w
         → length (unwished w.rank wishes) < length wishes
-    by_named (Some v) found is = fewer_left wishes once w (suits_first kind target) (found_split (suits_first kind target) wishes w (found ∙ is))
+    by_named (Some v) found is =
+        fewer_left wishes once w (suits_first kind target) (found_split (suits_first kind target) wishes w (found ∙ is))
     by_named None found is = fewer_left wishes once w (suits kind target) (found_split (suits kind target) wishes w is)
 
 module _ (unit : Work) (wishes : List Wish) (once : AreOnce wishes) where
@@ -208,7 +210,8 @@ module _ (s : ServerModel) (sound : IsParked (parked_of s)) (kind : WorkType) (t
             told_hint unit s out w (next_hint unit s.kept.parked.wishes sound.wished_once w (own unit same_kind same_target ∙ is));
       }
 
-  pub hint_told : {u : ServerModel} {rank : Rank} {request : ℕ} → u ≡ unwished_next kind target s → Some (rank, request) ≡ option_map call_of named
+  pub hint_told : {u : ServerModel} {rank : Rank} {request : ℕ} → u ≡ unwished_next kind target s
+      → Some (rank, request) ≡ option_map call_of named
       → HintTold s kind target u rank request
   hint_told {u} {rank} {request} made told =
       let w = call_told named rank request told in

@@ -1,5 +1,6 @@
 -- The bytes of the parts that are kept, all together, and what is told of a part.
-use Rattle.std.proofs.Common.{◌≡◌, ◌≤◌, ◌<◌, ◌+◌, ◌↔◌, ◌∙◌, ℕ, Bool, true, false, cond, not, [], ◌∷◌, length, Option, None, Some, IsTrue, refl, sym, ap, subst, arith}
+use Rattle.std.proofs.Common.{◌≡◌, ◌≤◌, ◌<◌, ◌+◌, ◌↔◌, ◌∙◌, ℕ, Bool, true, false, cond, not, [], ◌∷◌, length, Option, None, Some, IsTrue}
+use Rattle.std.proofs.Common.{refl, sym, ap, subst, arith}
 use Rattle.std.specs.Prelude.{if◌then◌else◌, nat_le, nat_lt}
 use Rattle.std.specs.BTreeMap.{insert_entry}
 use Rattle.std.specs.Option.{option_map}
@@ -12,7 +13,8 @@ use Rattle.adlb_unit.specs.Ids.{same_batch}
 use Rattle.adlb_unit.specs.declared.names.BatchId.{BatchId}
 use Rattle.bag_ledger.proofs.Tests.{some_is}
 use Rattle.work_queue.specs.Queue.{Queue, without_common}
-use Rattle.batch_store.specs.Store.{CanClose, CanFetch, Keeps, Store, by_batch, changed, counts, frees, part_in, released, size_of, with_turned, without}
+use Rattle.batch_store.specs.Store.{CanClose, CanFetch, Keeps, Store, by_batch, changed, counts, frees, part_in, released, size_of}
+use Rattle.batch_store.specs.Store.{with_turned, without}
 use Rattle.batch_store.specs.declared.parts.Part.{Part}
 use Rattle.server_core.specs.Inside.{bytes_in, bytes_of}
 

@@ -1,5 +1,6 @@
 -- Among the servers behind this one each stands once.
-use Rattle.std.proofs.Common.{◌≡◌, ◌≢◌, ◌<◌, ◌≤◌, ◌+◌, ◌-◌, ◌*◌, ◌%◌, ◌==◌, ◌⊎◌, inl, inr, ℕ, zero, suc, Bool, true, false, ◌||◌, [], ◌∷◌, filter, map, refl, sym, ap, ◌∙◌, arith}
+use Rattle.std.proofs.Common.{◌≡◌, ◌≢◌, ◌<◌, ◌≤◌, ◌+◌, ◌-◌, ◌*◌, ◌%◌, ◌==◌, ◌⊎◌, inl, inr, ℕ, zero, suc, Bool, true, false, ◌||◌, [], ◌∷◌}
+use Rattle.std.proofs.Common.{filter, map, refl, sym, ap, ◌∙◌, arith}
 use Rattle.std.specs.List.{range_with_len}
 use Rattle.std.proofs.lemmas.Bool.{cases_lt, eq-eqb, ne_eqb}
 use Rattle.std.proofs.lemmas.Nat.{mod-mul-add}
@@ -80,7 +81,8 @@ module _ (test : Server → Bool) (f : ℕ → Server) (k : ℕ) (here : test (f
       → filter test (map f (range_with_len a n)) ≡ f k ∷ []
   one_passes a zero more less fails = absurd (omega arith)
   one_passes a (suc n) more less fails =
-      by_order (cases_lt a k) (λ before. one_passes (a + 1) n (omega (arith, before)) (omega (arith, less)) (λ j within. fails j (omega arith)))
+      by_order (cases_lt a k)
+      (λ before. one_passes (a + 1) n (omega (arith, before)) (omega (arith, less)) (λ j within. fails j (omega arith)))
     where
       by_order : (a < k) ⊎ (k ≤ a) → (a < k → filter test (map f (range_with_len (a + 1) n)) ≡ f k ∷ [])
           → filter test (map f (range_with_len a (suc n))) ≡ f k ∷ []
@@ -92,7 +94,8 @@ module _ (test : Server → Bool) (f : ℕ → Server) (k : ℕ) (here : test (f
           rw (passes, rest) (ap (λ m. f m ∷ []) (sym same))
 
 -- with nobody to ask, that server alone is to be asked
-pub with_one : (config : Config) (me from : Server) → me.0 < config.servers → IsOther config me from → with_server config me [] from ≡ from ∷ []
+pub with_one : (config : Config) (me from : Server) → me.0 < config.servers → IsOther config me from
+    → with_server config me [] from ≡ from ∷ []
 with_one config me from there other =
     let at = place_behind config me from there other in
     let f = behind config me in

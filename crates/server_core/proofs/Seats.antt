@@ -1,5 +1,6 @@
 -- One rank among those that wait at a server, each once.
-use Rattle.std.proofs.Common.{◌≡◌, ◌↔◌, ◌==◌, ℕ, suc, Bool, true, false, ◌&&◌, not, List, ◌∷◌, ◌++◌, length, map, filter, find, Option, None, Some, IsTrue, All, refl, sym, ap, ◌∙◌, subst}
+use Rattle.std.proofs.Common.{◌≡◌, ◌↔◌, ◌==◌, ℕ, suc, Bool, true, false, ◌&&◌, not, List, ◌∷◌, ◌++◌, length, map, filter, find, Option}
+use Rattle.std.proofs.Common.{None, Some, IsTrue, All, refl, sym, ap, ◌∙◌, subst}
 use Rattle.std.specs.Prelude.{is_none, is_some}
 use Rattle.std.specs.List.{AllPairs, list_any}
 use Rattle.std.specs.Option.{IfSome, option_map}

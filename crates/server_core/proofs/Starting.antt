@@ -1,5 +1,6 @@
 -- A check that starts, and what is said of it.
-use Rattle.std.proofs.Common.{◌≡◌, ◌≤◌, ◌<◌, ◌+◌, ◌-◌, ◌==◌, ℕ, Bool, true, false, cond, List, [], ◌∷◌, map, Option, None, Some, refl, sym, ap, ◌∙◌, subst, arith}
+use Rattle.std.proofs.Common.{◌≡◌, ◌≤◌, ◌<◌, ◌+◌, ◌-◌, ◌==◌, ℕ, Bool, true, false, cond, List, [], ◌∷◌, map, Option, None, Some, refl, sym}
+use Rattle.std.proofs.Common.{ap, ◌∙◌, subst, arith}
 use Rattle.std.specs.List.{range_with_len}
 use Rattle.std.proofs.lemmas.Bool.{eq-eqb, eqb-true}
 use Rattle.adlb_unit.specs.Ring.{behind}
@@ -14,7 +15,8 @@ use Rattle.exhaust_ring.specs.Tests.{first_failing}
 use Rattle.exhaust_ring.specs.Visits.{Outcome, first_token, judged, judged_alone, outcome, started}
 use Rattle.exhaust_ring.specs.declared.steps.RingStep.{RingStep}
 use Rattle.exhaust_ring.specs.declared.steps.RingStep.TheVariants.{Pass, Fail, Exhausted, Shutdown, Ended}
-use Rattle.server_law.specs.Acts.{Act, Checks_alone, Finds_alone, Shuts_alone, Starts, askers, check_alone, does, entries, fit_among, says, to_others, to_server}
+use Rattle.server_law.specs.Acts.{Act, Checks_alone, Finds_alone, Shuts_alone, Starts, askers, check_alone, does, entries, fit_among, says}
+use Rattle.server_law.specs.Acts.{to_others, to_server}
 use Rattle.server_law.specs.Endings.{checks, finds_alone, is_quiet, starts, tells_all}
 use Rattle.server_law.specs.State.{ServerModel, ring_at}
 use Rattle.server_law.proofs.Starting.{may_tested}
@@ -109,7 +111,8 @@ check_is {i} {s} {asked} {fits} inside is =
     (λ (u : ServerModel). asked ≡ askers u.kept → (u.config.servers ≡ 1 → fits ≡ fit_among u.kept asked)
     → started i.ring i.activity asked fits ≡ check_alone u) is (check_here inside)
 
-pub started_inside : {i : Inside} {s : ServerModel} {n : RingModel} (asked : List Asker) (fits : Option UnitId) → IsInside i → state_of i ≡ s
+pub started_inside : {i : Inside} {s : ServerModel} {n : RingModel} (asked : List Asker) (fits : Option UnitId) → IsInside i
+    → state_of i ≡ s
     → n ≡ (started i.ring i.activity asked fits).ring → AreOfOne i.ring n → s.me.0 ≡ 0 → s.kept.ring.check < s.clock
     → IsInside (record i { ring = n })
 started_inside {i} asked fits inside is now own zeroth young =

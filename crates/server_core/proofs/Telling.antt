@@ -1,5 +1,6 @@
 -- How the end is told to idle ranks, one after the other.
-use Rattle.std.proofs.Common.{◌≡◌, ◌<◌, ◌+◌, ℕ, true, false, List, [], ◌∷◌, ◌++◌, append-nil, append_assoc, filter, length, not, Option, None, Some, refl, sym, ap, ◌∙◌, subst, arith}
+use Rattle.std.proofs.Common.{◌≡◌, ◌<◌, ◌+◌, ℕ, true, false, List, [], ◌∷◌, ◌++◌, append-nil, append_assoc, filter, length, not, Option}
+use Rattle.std.proofs.Common.{None, Some, refl, sym, ap, ◌∙◌, subst, arith}
 use Rattle.std.specs.Prelude.{is_none}
 use Rattle.std.specs.List.{AllPairs}
 use Rattle.std.specs.Option.{option_map}
@@ -30,7 +31,8 @@ use Rattle.server_core.proofs.Sounds.{waits_within}
 
 -- Those that are not idle are passed.
 
-passed_one : (end : End) (at : Around) (e : Waiting) (told passed : List Act) → is_idle e ≡ false → tells_one end at e e.asked told passed ≡ passed
+passed_one : (end : End) (at : Around) (e : Waiting) (told passed : List Act) → is_idle e ≡ false
+    → tells_one end at e e.asked told passed ≡ passed
 passed_one end at e told passed asked = by_asked e.asked asked
   where
     by_asked : (o : Option Server) → is_none o ≡ false → tells_one end at e o told passed ≡ passed
@@ -122,7 +124,8 @@ module _ (s : ServerModel) (sound : IsParked (parked_of s)) where
             let v = with_parked s s.kept.queue (record { waiting = l; wishes = s.kept.parked.wishes }) in
             going_on (with_answer out (posted v x) over) (tells_all end [] l) (counted v (by.Rank e.wish.rank))
             ≡ going_on out (tells_all end [] s.kept.parked.waiting) s in
-            let told : Goes (at.before ++ at.behind) = sym (ap (λ l. going_on out l s) acts ∙ answers_one tell more s out x over refl refl) in
+            let told : Goes (at.before ++ at.behind) =
+            sym (ap (λ l. going_on out l s) acts ∙ answers_one tell more s out x over refl refl) in
             subst Goes (sym left) told;
       }
 

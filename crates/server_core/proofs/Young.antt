@@ -1,5 +1,6 @@
 -- No act of a letter's rule starts a check: as the event ends, fewer checks were started than there are stamps.
-use Rattle.std.proofs.Common.{◌≡◌, ◌<◌, ◌==◌, Bool, true, false, cond, ◌&&◌, List, [], ◌∷◌, ◌++◌, find, Option, None, Some, refl, sym, ap, ◌∙◌, subst}
+use Rattle.std.proofs.Common.{◌≡◌, ◌<◌, ◌==◌, Bool, true, false, cond, ◌&&◌, List, [], ◌∷◌, ◌++◌, find, Option, None, Some, refl, sym, ap}
+use Rattle.std.proofs.Common.{◌∙◌, subst}
 use Rattle.std.specs.Option.{IfSome}
 use Rattle.adlb_unit.specs.declared.actors.Actor.{Actor}
 use Rattle.adlb_unit.specs.declared.actors.Actor.TheVariants as by
@@ -22,7 +23,8 @@ use Rattle.reserve_path.specs.Parked.{is_idle, is_of}
 use Rattle.reserve_path.specs.declared.waits.Waiting.{Waiting}
 use Rattle.reserve_path.specs.declared.wishes.Wish.{Wish}
 use Rattle.work_queue.specs.declared.placing.Placed.{Placed}
-use Rattle.server_law.specs.Acts.{Act, Around, Checks_alone, Ends_push, Fails, Finds_alone, Heard, Hints, ServerSaying, Shuts_alone, Starts, Stops_push, does, says, takes}
+use Rattle.server_law.specs.Acts.{Act, Around, Checks_alone, Ends_push, Fails, Finds_alone, Heard, Hints, ServerSaying, Shuts_alone, Starts}
+use Rattle.server_law.specs.Acts.{Stops_push, does, says, takes}
 use Rattle.server_law.specs.Asks.{expects_ask, pass_at, pass_on, wake, wake_at}
 use Rattle.server_law.specs.Batches.{can_close, can_fetch, close, expects_keep, part_if, share}
 use Rattle.server_law.specs.Carried.{Served, all_counted, all_done, counted, done}
@@ -108,7 +110,8 @@ hints_none : (test : Wish → Bool) (wishes : List Wish) → StartNoCheck (hints
 hints_none test [] = tt
 hints_none test (w ∷ wishes) = by_test (test w) (hints_none test wishes)
   where
-    by_test : (b : Bool) → StartNoCheck (hints_if test wishes) → StartNoCheck (cond b (Hints w ∷ hints_if test wishes) (hints_if test wishes))
+    by_test : (b : Bool) → StartNoCheck (hints_if test wishes)
+        → StartNoCheck (cond b (Hints w ∷ hints_if test wishes) (hints_if test wishes))
     by_test true others = (refl, others)
     by_test false others = others
 
@@ -297,4 +300,5 @@ stays_young s t out mid from message p is goes young =
     let kept = acts_keep (p.first ∷ follow) s (taker_starts_no_check p.first _ at.takes, decided_none p.follow (done p.first s) none) in
     let so = ap (λ (x : Served). x.state) goes ∙ carried_state (p.first ∷ follow) s in
     let Young : ServerModel → Type 0 = λ u. u.kept.ring.check < u.clock in
-    subst Young (sym so) (subst (λ n. n < (all_done (p.first ∷ follow) s).clock) (sym kept.0) (subst (λ n. s.kept.ring.check < n) (sym kept.1) young))
+    subst Young (sym so)
+    (subst (λ n. n < (all_done (p.first ∷ follow) s).clock) (sym kept.0) (subst (λ n. s.kept.ring.check < n) (sym kept.1) young))

@@ -12,7 +12,8 @@ use Rattle.adlb_unit.specs.declared.notes.UnitNote.{UnitNote}
 use Rattle.bag_ledger.specs.declared.entries.Entry.TheVariants as enters
 use Rattle.work_queue.specs.Queue.{Queue}
 use Rattle.work_queue.specs.declared.placing.Placed.{Placed}
-use Rattle.reserve_path.specs.Calls.{after_ask, after_none, first_idle, forgotten_if, given, gone, gone_if, hinted, hints_next, reserved, taker_of}
+use Rattle.reserve_path.specs.Calls.{after_ask, after_none, first_idle, forgotten_if, given, gone, gone_if, hinted, hints_next, reserved}
+use Rattle.reserve_path.specs.Calls.{taker_of}
 use Rattle.reserve_path.specs.Grants.{best_for, pinned_to}
 use Rattle.reserve_path.specs.Parked.{Parked, ParkedModel}
 use Rattle.reserve_path.specs.declared.steps.ReserveStep.{ReserveStep}

@@ -1,5 +1,6 @@
 -- No free unit lies for a rank that is idle.
-use Rattle.std.proofs.Common.{◌≡◌, ◌≤◌, ◌==◌, ℕ, Bool, true, false, cond, ◌&&◌, List, [], ◌∷◌, ◌++◌, length, map, Option, None, Some, Any, refl, sym, ap, ◌∙◌, subst, arith}
+use Rattle.std.proofs.Common.{◌≡◌, ◌≤◌, ◌==◌, ℕ, Bool, true, false, cond, ◌&&◌, List, [], ◌∷◌, ◌++◌, length, map, Option, None, Some, Any}
+use Rattle.std.proofs.Common.{refl, sym, ap, ◌∙◌, subst, arith}
 use Rattle.std.specs.Prelude.{count_by, slice_get}
 use Rattle.std.proofs.lemmas.Bool.{and_left, both_ways, eq-eqb}
 use Rattle.std.proofs.lemmas.List.Elements.{All-push, All-weaker, All-map}
@@ -28,7 +29,8 @@ use Rattle.reserve_path.specs.Rest.{HasNoneFor}
 use Rattle.reserve_path.specs.declared.waits.Waiting.{Waiting}
 use Rattle.reserve_path.specs.declared.wishes.Wish.{Wish}
 use Rattle.reserve_path.proofs.Resting.{each_not, none_granted_is, none_left, none_pinned, not_any}
-use Rattle.server_law.specs.Acts.{Act, Accepts, Answers, Around, Arrives, Asks_on, Closes, Fetches, Fetches_part, Gives, Grants, Grants_try, Heard, Is_hinted, Parks, Sends_unit, Wakes, comes, given_back, queue_after, takes}
+use Rattle.server_law.specs.Acts.{Act, Accepts, Answers, Around, Arrives, Asks_on, Closes, Fetches, Fetches_part, Gives, Grants, Grants_try}
+use Rattle.server_law.specs.Acts.{Heard, Is_hinted, Parks, Sends_unit, Wakes, comes, given_back, queue_after, takes}
 use Rattle.server_law.specs.Asks.{none_rule, wake, wake_at}
 use Rattle.server_law.specs.Calm.{EventsKeepCalm, StartIsCalm, WaitOnce}
 use Rattle.server_law.specs.Carried.{Served, all_done, done}
@@ -47,7 +49,8 @@ use Rattle.server_law.proofs.Decided.{Follow, settles_decides}
 use Rattle.server_law.proofs.Places.{Takes, found_there, none_found, taker_found}
 use Rattle.server_law.proofs.Settling.{free, settles_new}
 use Rattle.server_law.proofs.Tests.{expects_put_says, unit_comes_says}
-use Rattle.server_law.proofs.Waiters.{Each, all_done_joined, all_each, done_kept, each_after, each_all, each_append, each_both, each_gone, each_parts, each_weaker, none_of, one}
+use Rattle.server_law.proofs.Waiters.{Each, all_done_joined, all_each, done_kept, each_after, each_all, each_append, each_both, each_gone}
+use Rattle.server_law.proofs.Waiters.{each_parts, each_weaker, none_of, one}
 use Rattle.server_law.proofs.Once.{Handles, follow_rest, plan_handles, step_acts}
 
 -- No free unit for an idle rank.

@@ -1,5 +1,6 @@
 -- What acts make of a server, one after the other.
-use Rattle.std.proofs.Common.{◌≡◌, ◌<◌, ◌==◌, ℕ, true, false, cond, List, [], ◌∷◌, ◌++◌, find, Option, Some, None, refl, sym, ap, ◌∙◌, append_assoc}
+use Rattle.std.proofs.Common.{◌≡◌, ◌<◌, ◌==◌, ℕ, true, false, cond, List, [], ◌∷◌, ◌++◌, find, Option, Some, None, refl, sym, ap, ◌∙◌}
+use Rattle.std.proofs.Common.{append_assoc}
 use Rattle.std.specs.Option.{option_map}
 use Rattle.std.proofs.lemmas.Bool.{lt-ltb}
 use Rattle.std.proofs.lemmas.List.{append-nil}
@@ -20,7 +21,8 @@ use Rattle.adlb_unit.specs.declared.tokens.Token.{Token}
 use Rattle.adlb_unit.specs.declared.units.Unit.{Unit as Work}
 use Rattle.exhaust_ring.specs.Expected.{expects, is_running}
 use Rattle.work_queue.specs.declared.placing.Placed.{Placed}
-use Rattle.server_law.specs.Acts.{Act, Arrives, Drops_hint, Ends_push, Fetches, Hears_done, Hears_exhaust, Hears_failed, Hears_shutdown, Is_hinted, Notes_finish, Passes_on, ServerSaying, Stops_push, Wakes, Wants, Withdraws, entries}
+use Rattle.server_law.specs.Acts.{Act, Arrives, Drops_hint, Ends_push, Fetches, Hears_done, Hears_exhaust, Hears_failed, Hears_shutdown}
+use Rattle.server_law.specs.Acts.{Is_hinted, Notes_finish, Passes_on, ServerSaying, Stops_push, Wakes, Wants, Withdraws, entries}
 use Rattle.server_law.specs.Asks.{answer_now, expects_ask}
 use Rattle.server_law.specs.Carried.{Served, all_counted, all_done, carried, counted, done, joined, posted, sends, stamped}
 use Rattle.server_law.specs.Checks.{failed_rule, token_rule, visit}

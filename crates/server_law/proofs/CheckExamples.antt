@@ -115,7 +115,8 @@ record Seen : Type 0 where
 
 abbrev seen_after : List Event → Option Seen
 seen_after events =
-    option_map (λ (p : Pair). record { to_zeroth = p.to_zeroth; to_first = p.to_first; entered = p.entered; told = p.told }) (run events fresh)
+    option_map (λ (p : Pair). record { to_zeroth = p.to_zeroth; to_first = p.to_first; entered = p.entered; told = p.told })
+    (run events fresh)
 
 -- Both ranks want units of type 3, of which there is no unit. The unit that rank 1 puts is of type 2, and is pushed to server 0.
 

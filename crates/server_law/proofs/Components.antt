@@ -1,5 +1,6 @@
 -- The agreement of the bag and a server, where one component changes.
-use Rattle.std.proofs.Common.{◌≡◌, ℕ, ◌+◌, Bool, true, false, cond, List, [], ◌∷◌, ◌++◌, Option, Some, None, refl, sym, ap, subst, sum_by, ◌∙◌, arith}
+use Rattle.std.proofs.Common.{◌≡◌, ℕ, ◌+◌, Bool, true, false, cond, List, [], ◌∷◌, ◌++◌, Option, Some, None, refl, sym, ap, subst, sum_by}
+use Rattle.std.proofs.Common.{◌∙◌, arith}
 use Rattle.std.specs.Option.{option_or}
 use Rattle.std.proofs.lemmas.Bool.{false_from_ne_true}
 use Rattle.std.proofs.lemmas.List.Folds.{find-append}
@@ -116,7 +117,8 @@ seen_kept me batch other g same (p ∷ lots) keeps = by_test (seen_kept me batch
 
 -- the part of the batch is changed
 pub holds_changed : (lots : List Part) (me : Server) (store now : Store) (batch : BatchId) (g : Part → Part) (p : Part)
-    → ((p : Part) → (g p).batch ≡ p.batch) → find (of_batch batch) lots ≡ Some p → HoldsParts lots me store → part_in now batch ≡ part_at me (g p)
+    → ((p : Part) → (g p).batch ≡ p.batch) → find (of_batch batch) lots ≡ Some p → HoldsParts lots me store
+    → part_in now batch ≡ part_at me (g p)
     → ((other : BatchId) → same_batch other batch ≡ false → part_in now other ≡ part_in store other)
     → HoldsParts (change_first g (of_batch batch) lots) me now
 holds_changed lots me store now batch g p same found holds here others other = by_test (same_batch other batch) refl
@@ -142,7 +144,8 @@ or_none (Some x) = refl
 
 -- one part more
 pub holds_more : (lots : List Part) (me : Server) (store now : Store) (p : Part) → find (of_batch p.batch) lots ≡ None
-    → HoldsParts lots me store → part_in now p.batch ≡ part_at me p → ((other : BatchId) → same_batch other p.batch ≡ false → part_in now other ≡ part_in store other)
+    → HoldsParts lots me store → part_in now p.batch ≡ part_at me p
+    → ((other : BatchId) → same_batch other p.batch ≡ false → part_in now other ≡ part_in store other)
     → HoldsParts (lots ++ p ∷ []) me now
 holds_more lots me store now p new holds here others other =
     rw (find-append (of_batch other) lots (p ∷ [])) (by_test (same_batch other p.batch) refl)
@@ -152,10 +155,12 @@ holds_more lots me store now p new holds here others other =
     by_test true is =
         subst (λ x. part_in now x ≡ option_and_then (part_at me) (option_or (find (of_batch x) lots) (cond (of_batch x p) (Some p) None)))
         (sym (same_batch_is other p.batch is)) (rw (new, same_batch_from p.batch p.batch refl) here)
-    by_test false is = rw (of_other) (others other is ∙ holds other ∙ ap (option_and_then (part_at me)) (sym (or_none (find (of_batch other) lots))))
+    by_test false is =
+        rw (of_other) (others other is ∙ holds other ∙ ap (option_and_then (part_at me)) (sym (or_none (find (of_batch other) lots))))
       where
         of_other : of_batch other p ≡ false
-        of_other = false_from_ne_true (of_batch other p) (λ same. let e = same_batch_is p.batch other same in let f = same_batch_from other p.batch (sym e) in absurd (cc))
+        of_other = false_from_ne_true (of_batch other p)
+            (λ same. let e = same_batch_is p.batch other same in let f = same_batch_from other p.batch (sym e) in absurd (cc))
 
 -- one unit more shares a part, which is is_open
 pub shared_agrees : (b : Bag) (s : ServerModel) (common : Option CommonRef) → IsOpen b common → ServerAgrees b s

@@ -83,7 +83,8 @@ plan_pays : (s : ServerModel) (from : Actor) (message : Message) → IsOther mes
 plan_pays s from message other none None = tt
 plan_pays s from message other none (Some p) = λ h.
     let t = done p.first s in
-    follow_owes (decided (p.follow ++ ends_event) t) t h.follow.1 (owes_after p.first s (first_owes p.first s from message h.takes other none))
+    follow_owes (decided (p.follow ++ ends_event) t) t h.follow.1
+    (owes_after p.first s (first_owes p.first s from message h.takes other none))
 
 -- once the acknowledgement is said, whatever was settled before
 arrival_pays : (t : ServerModel) (id : UnitId) → Follow (decided (settles id ∷ acks ∷ ends_event) t) t

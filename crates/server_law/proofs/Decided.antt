@@ -1,5 +1,6 @@
 -- What follows the first act of a rule: each act is sure where it is carried out, and none takes a letter.
-use Rattle.std.proofs.Common.{◌≡◌, inl, inr, suc, ◌==◌, Bool, true, false, cond, ◌&&◌, not, List, [], ◌∷◌, ◌++◌, find, Option, None, Some, refl, sym, ap, ◌∙◌, subst, append_assoc, Any, arith}
+use Rattle.std.proofs.Common.{◌≡◌, inl, inr, suc, ◌==◌, Bool, true, false, cond, ◌&&◌, not, List, [], ◌∷◌, ◌++◌, find, Option, None, Some}
+use Rattle.std.proofs.Common.{refl, sym, ap, ◌∙◌, subst, append_assoc, Any, arith}
 use Rattle.std.specs.Prelude.{is_none}
 use Rattle.std.specs.Option.{IfSome}
 use Rattle.std.proofs.lemmas.Bool.{and_parts, eqb-false, eqb-true}
@@ -18,7 +19,8 @@ use Rattle.work_queue.specs.declared.placing.Placed.{Placed}
 use Rattle.server_law.specs.Acts.{Act, Around, Finds_alone, Hints, Starts, Tells, check_alone, takes}
 use Rattle.reserve_path.specs.Parked.{is_idle, is_of}
 use Rattle.server_law.specs.Carried.{all_done, done}
-use Rattle.server_law.specs.Endings.{checks, ends_event, finds_alone, is_noted, is_quiet, notice, notices, starts, tells_all, tells_idle, tells_one}
+use Rattle.server_law.specs.Endings.{checks, ends_event, finds_alone, is_noted, is_quiet, notice, notices, starts, tells_all, tells_idle}
+use Rattle.server_law.specs.Endings.{tells_one}
 use Rattle.server_law.specs.Finding.{Place, best_for, is_free_as, permits, place_in, taker}
 use Rattle.server_law.specs.Hints.{hint_all, hints_if, is_first_for, is_later_for}
 use Rattle.server_law.specs.Plan.{Decider, decided}

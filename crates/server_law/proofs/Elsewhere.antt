@@ -1,5 +1,6 @@
 -- A step of the bag leaves its agreement with each server that is not the entry's keeper.
-use Rattle.std.proofs.Common.{◌≡◌, ◌≢◌, ℕ, ◌+◌, ◌==◌, Bool, true, false, cond, List, [], ◌∷◌, ◌++◌, find, Option, Some, None, refl, sym, ap, ◌∙◌, subst, arith}
+use Rattle.std.proofs.Common.{◌≡◌, ◌≢◌, ℕ, ◌+◌, ◌==◌, Bool, true, false, cond, List, [], ◌∷◌, ◌++◌, find, Option, Some, None, refl, sym, ap}
+use Rattle.std.proofs.Common.{◌∙◌, subst, arith}
 use Rattle.std.specs.Prelude.{option_and_then}
 use Rattle.std.specs.Option.{option_or}
 use Rattle.std.proofs.lemmas.Bool.{eqb-true, false_from_ne_true}
@@ -129,7 +130,8 @@ unpromises b s id p single found away m =
 -- Common parts.
 
 -- a pending put shares an open part, if any
-pub put_shares_open : (b : Bag) → IsSoundBag b → (rank : Rank) (r : RankState) (u : Work) → rank_at b rank ≡ Some r → r.status ≡ is_at.Putting u
+pub put_shares_open : (b : Bag) → IsSoundBag b → (rank : Rank) (r : RankState) (u : Work) → rank_at b rank ≡ Some r
+    → r.status ≡ is_at.Putting u
     → IsOpen b u.common
 put_shares_open b sound rank r u there puts = by_common u.common refl
   where
@@ -171,7 +173,8 @@ entry_stays found b (enters.Accepted server id) s sound l differs m =
     let more : ServerAgrees (record b { units = b.units ++ u ∷ [] }) s =
     added b s u (free_away s.me server (Free server) (elsewhere s.me server differs) refl) m in
     let is_open : IsOpen b l.1.common = put_shares_open b sound id.rank l.0 l.1 l.2 l.3 in
-    let all : ServerAgrees (taken server (Some l.1) b) s = shared_agrees (record b { units = b.units ++ u ∷ [] }) s l.1.common is_open more in
+    let all : ServerAgrees (taken server (Some l.1) b) s =
+    shared_agrees (record b { units = b.units ++ u ∷ [] }) s l.1.common is_open more in
     subst (λ (o : Option Work). ServerAgrees (taken server o b) s) (sym put) all
 entry_stays found b (enters.Kept server batch) s sound l differs m =
     let part = new_part server batch l.1 in

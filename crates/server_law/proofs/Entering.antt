@@ -21,7 +21,8 @@ abbrev pub AreSteps : (Bag → Bool) → Bag → List Entry → ServerModel → 
 AreSteps found b es now = (next : Bag) × IsRunWhere found b es next × ServerAgrees next now × (has_due next ≡ false)
 
 -- one entry
-pub is_step : (found : Bag → Bool) (b : Bag) (e : Entry) (now : ServerModel) → StepsWhere found b e (after b e) → ServerAgrees (after b e) now
+pub is_step : (found : Bag → Bool) (b : Bag) (e : Entry) (now : ServerModel) → StepsWhere found b e (after b e)
+    → ServerAgrees (after b e) now
     → has_due (after b e) ≡ false → AreSteps found b (e ∷ []) now
 is_step found b e now step m rests = (after b e, (after b e, step, refl), m, rests)
 

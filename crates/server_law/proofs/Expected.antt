@@ -1,5 +1,6 @@
 -- Exactly the letters that are expected have a step.
-use Rattle.std.proofs.Common.{◌↔◌, ◌≡◌, ◌≢◌, ◌<◌, ◌==◌, ℕ, Bool, true, false, cond, List, [], ◌∷◌, Option, None, Some, IsSome, refl, sym, ap, ◌∙◌, subst, find}
+use Rattle.std.proofs.Common.{◌↔◌, ◌≡◌, ◌≢◌, ◌<◌, ◌==◌, ℕ, Bool, true, false, cond, List, [], ◌∷◌, Option, None, Some, IsSome, refl, sym}
+use Rattle.std.proofs.Common.{ap, ◌∙◌, subst, find}
 use Rattle.std.specs.Prelude.{is_some}
 use Rattle.std.specs.List.{list_any}
 use Rattle.std.specs.Option.{IfSome, option_map}
@@ -44,7 +45,9 @@ use Rattle.batch_store.specs.Store.{part_in}
 use Rattle.batch_store.specs.declared.parts.Part.{Part}
 use Rattle.server_law.specs.Batches.{can_close, can_fetch, close, expects_keep, part_if, share}
 use Rattle.server_law.proofs.Places.{IsPlace, place_found, place_says}
-use Rattle.server_law.proofs.Tests.{Says, below_says, both_say, close_says, expects_ask_says, expects_hint_says, expects_put_says, has_asked_says, keep_says, pinned_says, promise_says, query_says, running_says, runs_at_home_says, runs_says, same_says, server_says, share_says, unanswered_says, unit_comes_says}
+use Rattle.server_law.proofs.Tests.{Says, below_says, both_say, close_says, expects_ask_says, expects_hint_says, expects_put_says}
+use Rattle.server_law.proofs.Tests.{has_asked_says, keep_says, pinned_says, promise_says, query_says, running_says, runs_at_home_says}
+use Rattle.server_law.proofs.Tests.{runs_says, same_says, server_says, share_says, unanswered_says, unit_comes_says}
 
 -- Options.
 

@@ -1,5 +1,6 @@
 -- A letter is handled by the acts of its rule.
-use Rattle.std.proofs.Common.{◌≡◌, ℕ, ◌==◌, Bool, true, false, cond, List, [], ◌∷◌, ◌++◌, length, find, Option, None, Some, refl, sym, ap, ◌∙◌, subst}
+use Rattle.std.proofs.Common.{◌≡◌, ℕ, ◌==◌, Bool, true, false, cond, List, [], ◌∷◌, ◌++◌, length, find, Option, None, Some, refl, sym, ap}
+use Rattle.std.proofs.Common.{◌∙◌, subst}
 use Rattle.std.specs.Option.{IfSome, option_map}
 use Rattle.std.proofs.lemmas.Bool.{eqb-true}
 use Rattle.adlb_unit.specs.declared.actors.Actor.{Actor}
@@ -15,7 +16,8 @@ use Rattle.adlb_unit.specs.declared.units.Unit.{Unit as Work}
 use Rattle.bag_ledger.proofs.Tests.{some_is}
 use Rattle.exhaust_ring.specs.Expected.{is_running}
 use Rattle.work_queue.specs.declared.placing.Placed.{Placed}
-use Rattle.server_law.specs.Acts.{Act, Accepts, Closes, Ends_put, Ends_reserve, Grants, Heard, Hears_done, Hears_exhaust, Hints, Parks, Refuses, of_rank, takes}
+use Rattle.server_law.specs.Acts.{Act, Accepts, Closes, Ends_put, Ends_reserve, Grants, Heard, Hears_done, Hears_exhaust, Hints, Parks}
+use Rattle.server_law.specs.Acts.{Refuses, of_rank, takes}
 use Rattle.adlb_unit.specs.declared.names.BatchId.{BatchId}
 use Rattle.batch_store.specs.Store.{part_in}
 use Rattle.batch_store.specs.declared.parts.Part.{Part}
@@ -43,7 +45,8 @@ use Rattle.server_law.proofs.CheckPlans.{token_plan}
 use Rattle.server_law.proofs.Plans.{IsPlan, if_plan, made, settled, told}
 use Rattle.server_law.proofs.PushPlans.{ack_plan, cancel_plan, no_plan, query_plan, unit_plan, yes_plan}
 use Rattle.server_law.proofs.Tests.{can_close_says, expects_put_says, has_asked_says, is_since_says, running_says}
-use Rattle.server_law.proofs.Decided.{asks_on_decides, asks_on_hints_none, looks_again_decides, looks_again_hints_none, presses_decides, presses_hints_none}
+use Rattle.server_law.proofs.Decided.{asks_on_decides, asks_on_hints_none, looks_again_decides, looks_again_hints_none, presses_decides}
+use Rattle.server_law.proofs.Decided.{presses_hints_none}
 
 -- The rules.
 
@@ -104,7 +107,8 @@ keep_plan s from request common expected true over done is = made refl (expected
 keep_plan s from request common expected false true done is = made refl (expected, done, is) refl tt tt
 keep_plan s from request common expected false false done is = made refl (expected, done, is) refl tt tt
 
-close_plan : (s : ServerModel) (from : Rank) (request : ℕ) (batch : BatchId) (accepted : ℕ) (o : Option Part) → part_in s.kept.parts batch ≡ o
+close_plan : (s : ServerModel) (from : Rank) (request : ℕ) (batch : BatchId) (accepted : ℕ) (o : Option Part)
+    → part_in s.kept.parts batch ≡ o
     → IfSome (close request batch accepted (part_if (can_close from batch accepted s.kept.queue.common) o))
     (IsPlan s (by.Rank from) (tells.CloseBatch request batch accepted))
 close_plan s from request batch accepted None found = tt
@@ -215,7 +219,8 @@ planned_by_server s from apart (tells.Hint rank request) =
 planned_by_server s from apart (tells.PushQuery id length) =
     if_plan s (by.Server from) (tells.PushQuery id length) (expects_query s.kept id) _ (λ expected.
     query_plan s from id length expected (exceeds s.kept.queue length) refl)
-planned_by_server s from apart (tells.PushYes id) = yes_plan s from id s.kept.pushing.push (find (is_free_as id) s.kept.queue.units) refl refl
+planned_by_server s from apart (tells.PushYes id) =
+    yes_plan s from id s.kept.pushing.push (find (is_free_as id) s.kept.queue.units) refl refl
 planned_by_server s from apart (tells.PushNo id) = no_plan s from id s.kept.pushing.push refl
 planned_by_server s from apart (tells.PushAck id) = ack_plan s from id s.kept.pushing.push refl
 planned_by_server s from apart (tells.PushUnit unit) =
@@ -254,7 +259,8 @@ planned s (by.Rank from) (tells.Fetch request id) = fetch_plan s from request id
 planned s (by.Rank from) (tells.KeepCommon request common) =
     if_plan s (by.Rank from) (tells.KeepCommon request common) (expects_keep s from request common) _ (λ expected.
     keep_plan s from request common expected s.kept.done (exceeds s.kept.queue (length common)) refl refl)
-planned s (by.Rank from) (tells.CloseBatch request batch accepted) = close_plan s from request batch accepted (part_in s.kept.parts batch) refl
+planned s (by.Rank from) (tells.CloseBatch request batch accepted) =
+    close_plan s from request batch accepted (part_in s.kept.parts batch) refl
 planned s (by.Rank from) (tells.FetchCommon request batch) = share_plan s from request batch (part_in s.kept.parts batch) refl
 planned s (by.Rank from) (tells.Count request kind) =
     if_plan s (by.Rank from) (tells.Count request kind) (runs_at_home s from) _ (λ expected. made refl expected refl tt tt)

@@ -1,5 +1,6 @@
 -- A rank for which another server is asked is left alone until that server answers.
-use Rattle.std.proofs.Common.{◌≡◌, ◌≢◌, ◌⊎◌, inl, inr, ◌≤◌, ◌+◌, ◌==◌, ℕ, Bool, true, false, cond, List, [], ◌∷◌, ◌++◌, Some, refl, sym, ap, ◌∙◌, subst, arith}
+use Rattle.std.proofs.Common.{◌≡◌, ◌≢◌, ◌⊎◌, inl, inr, ◌≤◌, ◌+◌, ◌==◌, ℕ, Bool, true, false, cond, List, [], ◌∷◌, ◌++◌, Some, refl, sym, ap}
+use Rattle.std.proofs.Common.{◌∙◌, subst, arith}
 use Rattle.std.specs.Prelude.{count_by}
 use Rattle.std.proofs.lemmas.Bool.{eq-eqb}
 use Rattle.std.proofs.lemmas.List.Sums.{sum_by-append, sum_by-cons}
@@ -19,7 +20,10 @@ use Rattle.batch_store.specs.declared.parts.Part.{Part}
 use Rattle.reserve_path.specs.Parked.{is_of}
 use Rattle.reserve_path.specs.declared.waits.Waiting.{Waiting}
 use Rattle.reserve_path.specs.declared.wishes.Wish.{Wish}
-use Rattle.server_law.specs.Acts.{Act, Accepts, Answers, Around, Arrives, Asks_on, Closes, Counts, Ends_keep, Ends_put, Ends_reserve, Ends_try, Fetches, Fetches_part, Finds, Finds_alone, Gives, Grants, Grants_try, Heard, Is_hinted, Keeps, Looks, Passes_on, Promises, Refuses, Refuses_part, Sends_unit, Tells, Wakes, Withdraws, comes, entries, frees, goes, takes}
+use Rattle.server_law.specs.Acts.{Act, Accepts, Answers, Around, Arrives, Asks_on, Closes, Counts, Ends_keep, Ends_put, Ends_reserve}
+use Rattle.server_law.specs.Acts.{Ends_try, Fetches, Fetches_part, Finds, Finds_alone, Gives, Grants, Grants_try, Heard, Is_hinted, Keeps}
+use Rattle.server_law.specs.Acts.{Looks, Passes_on, Promises, Refuses, Refuses_part, Sends_unit, Tells, Wakes, Withdraws, comes, entries}
+use Rattle.server_law.specs.Acts.{frees, goes, takes}
 use Rattle.server_law.specs.Calm.{AskedAreLeft, AskedWaitOn, EndsCall, IsAnswer, WaitOnce}
 use Rattle.server_law.specs.Carried.{Served, all_done, carried, done}
 use Rattle.server_law.specs.Expected.{IsExpected, IsHome}
@@ -31,7 +35,8 @@ use Rattle.server_law.proofs.Carrying.{carried_state}
 use Rattle.server_law.proofs.Expected.{expected_have_steps}
 use Rattle.server_law.proofs.Handled.{acts_handle}
 use Rattle.server_law.proofs.Tests.{expects_ask_says}
-use Rattle.server_law.proofs.Waiters.{Each, Has, all_each, any_has, done_kept, done_named, each_append, has_after, has_any, has_parts, one, some_of}
+use Rattle.server_law.proofs.Waiters.{Each, Has, all_each, any_has, done_kept, done_named, each_append, has_after, has_any, has_parts, one}
+use Rattle.server_law.proofs.Waiters.{some_of}
 
 -- the rank waits with this wish, and this server is unanswered
 abbrev Waits : Wish → Server → Waiting → Type 0

@@ -1,5 +1,6 @@
 -- The entries of a server's acts are steps of the bag that agrees with it, and the bag agrees afterwards.
-use Rattle.std.proofs.Common.{◌≡◌, ℕ, ◌+◌, ◌≤◌, ◌<◌, ◌==◌, Bool, true, false, cond, ◌&&◌, is_some, find, List, [], ◌∷◌, ◌++◌, length, map, filter, Option, Some, None, refl, sym, ap, ◌∙◌, subst, arith}
+use Rattle.std.proofs.Common.{◌≡◌, ℕ, ◌+◌, ◌≤◌, ◌<◌, ◌==◌, Bool, true, false, cond, ◌&&◌, is_some, find, List, [], ◌∷◌, ◌++◌, length, map}
+use Rattle.std.proofs.Common.{filter, Option, Some, None, refl, sym, ap, ◌∙◌, subst, arith}
 use Rattle.std.specs.Prelude.{option_and_then}
 use Rattle.std.proofs.lemmas.Bool.{false_from_ne_true, ltb-false, ltb-true}
 use Rattle.adlb_unit.specs.Permit.{permitted}
@@ -25,7 +26,9 @@ use Rattle.bag_law.specs.Counts.{one}
 use Rattle.work_queue.specs.Counts.{counts_of}
 use Rattle.work_queue.specs.Queue.{charge_of, has_other_id, pinned_by, with_unit}
 use Rattle.work_queue.specs.declared.placing.Placed.{Placed}
-use Rattle.server_law.specs.Acts.{Accepts, Act, Answers, Arrives, Closes, Counts, Ends_keep, Ends_put, Ends_reserve, Ends_try, Fetches, Fetches_part, Finds, Finds_alone, Gives, Grants, Grants_try, Hears_done, Hears_exhaust, Keeps, Looks, Promises, Refuses, Refuses_part, Sends_unit, Shuts, Tells, Withdraws, does, entries}
+use Rattle.server_law.specs.Acts.{Accepts, Act, Answers, Arrives, Closes, Counts, Ends_keep, Ends_put, Ends_reserve, Ends_try, Fetches}
+use Rattle.server_law.specs.Acts.{Fetches_part, Finds, Finds_alone, Gives, Grants, Grants_try, Hears_done, Hears_exhaust, Keeps, Looks}
+use Rattle.server_law.specs.Acts.{Promises, Refuses, Refuses_part, Sends_unit, Shuts, Tells, Withdraws, does, entries}
 use Rattle.adlb_unit.specs.declared.names.CommonRef.{CommonRef}
 use Rattle.server_law.specs.Agreement.{ServerAgrees, of_batch, pinned_weight, weight_at}
 use Rattle.server_law.specs.Carried.{done}
@@ -55,7 +58,8 @@ use Rattle.server_law.proofs.Waiters.{done_kept, done_named}
 shared_rests : (b : Bag) (common : Option CommonRef) → IsOpen b common → has_due b ≡ false → has_due (shared common b) ≡ false
 shared_rests b None is_open rests = rests
 shared_rests b (Some c) is_open rests =
-    none_changed is_due (of_batch c.batch) (λ p. record p { accepted = p.accepted + 1 }) b.parts rests (λ p found. rw (is_open p found) refl)
+    none_changed is_due (of_batch c.batch) (λ p. record p { accepted = p.accepted + 1 }) b.parts rests
+    (λ p found. rw (is_open p found) refl)
 
 accepts : (found : Bag → Bool) (b : Bag) (s : ServerModel) (unit : Work) → ServerAgrees b s → has_due b ≡ false → Offers b s.me unit
     → unit_of b unit.id ≡ None → IsOpen b unit.common → is_over s.kept.queue unit ≡ false
@@ -176,7 +180,8 @@ fetches found b s rank request id p m rests asks is pin =
 
 -- Counts.
 
-counts : (found : Bag → Bool) (b : Bag) (s : ServerModel) (rank : Rank) (request : ℕ) (kind : WorkType) → ServerAgrees b s → has_due b ≡ false
+counts : (found : Bag → Bool) (b : Bag) (s : ServerModel) (rank : Rank) (request : ℕ) (kind : WorkType) → ServerAgrees b s
+    → has_due b ≡ false
     → Does b rank (is_at.Counting request kind) → runs_at_home s rank ≡ true
     → AreSteps found b (entries (Counts rank request kind) s) (done (Counts rank request kind) s)
 counts found b s rank request kind m rests of home =
@@ -253,8 +258,10 @@ acts_are_legal found b s (Hears_done rank request) m rests sits sure needs =
 acts_are_legal found b s (Hears_exhaust from) m rests sits sure needs =
     (b, refl, known_agrees b s b.done b.exhausted s.kept.done true m m.done (λ is. needs) (λ zeroth is. refl), rests)
 acts_are_legal found b s (Shuts from t) m rests sits sure needs = (b, refl, told b (Shuts from t) s m, rests)
-acts_are_legal found b s (Keeps rank request common) m rests sits sure needs = keeps found b s rank request common m rests needs.0 needs.1 sure.2
-acts_are_legal found b s (Refuses_part rank request common) m rests sits sure needs = refuses_part found b s rank request common m rests needs sure.2
+acts_are_legal found b s (Keeps rank request common) m rests sits sure needs =
+    keeps found b s rank request common m rests needs.0 needs.1 sure.2
+acts_are_legal found b s (Refuses_part rank request common) m rests sits sure needs =
+    refuses_part found b s rank request common m rests needs sure.2
 acts_are_legal found b s (Ends_keep rank request common end) m rests sits sure needs =
     ends found b s rank request end needs.0 m rests needs.1 (ap open_call needs.2) sure.1
 acts_are_legal found b s (Closes request batch accepted part) m rests sits sure needs =

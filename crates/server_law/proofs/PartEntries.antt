@@ -1,5 +1,6 @@
 -- The entries of the acts on common parts are steps of the bag, and the bag agrees afterwards.
-use Rattle.std.proofs.Common.{◌≡◌, ℕ, ◌+◌, ◌≤◌, ◌<◌, ◌==◌, Bool, true, false, ◌&&◌, ◌||◌, cond, not, List, [], ◌∷◌, ◌++◌, length, Option, Some, None, refl, sym, ap, ◌∙◌, subst, sum_by, arith}
+use Rattle.std.proofs.Common.{◌≡◌, ℕ, ◌+◌, ◌≤◌, ◌<◌, ◌==◌, Bool, true, false, ◌&&◌, ◌||◌, cond, not, List, [], ◌∷◌, ◌++◌, length, Option}
+use Rattle.std.proofs.Common.{Some, None, refl, sym, ap, ◌∙◌, subst, sum_by, arith}
 use Rattle.std.specs.Prelude.{option_and_then}
 use Rattle.std.specs.List.{list_any}
 use Rattle.std.proofs.lemmas.List.Folds.{list_any-append}
@@ -78,7 +79,8 @@ changed_twice f g test keeps [] = refl
 changed_twice f g test keeps (x ∷ xs) = by_test (changed_twice f g test keeps xs) (test x) refl
   where
     by_test : change_first g test (change_first f test xs) ≡ change_first (λ y. g (f y)) test xs → (t : Bool) → test x ≡ t
-        → change_first g test (cond t (f x ∷ xs) (x ∷ change_first f test xs)) ≡ cond t (g (f x) ∷ xs) (x ∷ change_first (λ y. g (f y)) test xs)
+        → change_first g test (cond t (f x ∷ xs) (x ∷ change_first f test xs))
+        ≡ cond t (g (f x) ∷ xs) (x ∷ change_first (λ y. g (f y)) test xs)
     by_test rest true is = rw (keeps x ∙ is) refl
     by_test rest false is = rw (is, rest) refl
 
@@ -126,7 +128,8 @@ module _ (found : Bag → Bool) (b : Bag) (s : ServerModel) (batch : BatchId) (p
   kept_here : part_in (changed f s.kept.parts batch) batch ≡ kept now
   kept_here = changed_here f s.kept.parts batch ∙ ap (λ o. option_and_then (λ p. kept (f p)) o) at
 
-  kept_there : (other : BatchId) → same_batch other batch ≡ false → part_in (changed f s.kept.parts batch) other ≡ part_in s.kept.parts other
+  kept_there : (other : BatchId) → same_batch other batch ≡ false
+      → part_in (changed f s.kept.parts batch) other ≡ part_in s.kept.parts other
   kept_there other differs = in_changed f s.kept.parts batch other ∙ rw differs refl
 
   due_now : is_lot_due (g lot) ≡ is_due now
@@ -197,7 +200,8 @@ module _ (found : Bag → Bool) (b : Bag) (s : ServerModel) (batch : BatchId) (p
 
 -- the entry of a common part that is kept
 pub keeps : (found : Bag → Bool) (b : Bag) (s : ServerModel) (rank : Rank) (request : ℕ) (common : List ℕ) → ServerAgrees b s
-    → has_due b ≡ false → Begins b s.me rank request common → part_of b (batch_of rank request) ≡ None → exceeds s.kept.queue (length common) ≡ false
+    → has_due b ≡ false → Begins b s.me rank request common → part_of b (batch_of rank request) ≡ None
+    → exceeds s.kept.queue (length common) ≡ false
     → AreSteps found b (entries (Keeps rank request common) s) (done (Keeps rank request common) s)
 keeps found b s rank request common m rests of new over =
     is_step found b (enters.Kept s.me batch) (done (Keeps rank request common) s) (rw rests refl, legal, refl)
@@ -249,11 +253,13 @@ refuses_part found b s rank request common m rests of over =
     (rw rests refl, (of.0, length common, of.1, ap offer of.2, rw m.servers m.within, of.3, used, rw m.limit above), refl) m rests
 
 -- the entries of a batch that ends
-pub closes : (found : Bag → Bool) (b : Bag) (s : ServerModel) (request : ℕ) (batch : BatchId) (accepted : ℕ) (part : Part) → ServerAgrees b s
+pub closes : (found : Bag → Bool) (b : Bag) (s : ServerModel) (request : ℕ) (batch : BatchId) (accepted : ℕ) (part : Part)
+    → ServerAgrees b s
     → has_due b ≡ false → EndsBatch b request batch → HasAccepted b batch accepted → part_in s.kept.parts batch ≡ Some part
     → AreSteps found b (entries (Closes request batch accepted part) s) (done (Closes request batch accepted part) s)
 closes found b s request batch accepted part m rests of all held =
-    part_steps found b s batch part (closed accepted) g lot (change_at (λ r. ended (record r { batch = None })) batch.rank.0 b.ranks) m is held
+    part_steps found b s batch part (closed accepted) g lot
+    (change_at (λ r. ended (record r { batch = None })) batch.rank.0 b.ranks) m is held
     (record { batch = λ p. refl; server = λ p. refl; common = λ p. refl; freed = λ p. refl })
     (ap (λ n. closed n (part_seen lot)) (all lot is.found) ∙ ap (closed accepted) is.same) rests (enters.Closed s.me batch)
     (rw rests refl, legal, refl)
@@ -274,7 +280,8 @@ closes found b s request batch accepted part m rests of all held =
     legal = (of.0, request, of.1, lot, of.2, of.3, of.4, of.5, (rw m.servers m.within, is.found, is.here, is.unfreed))
 
 -- the entries of common bytes that are fetched
-pub fetches_part : (found : Bag → Bool) (b : Bag) (s : ServerModel) (rank : Rank) (request : ℕ) (batch : BatchId) (part : Part) → ServerAgrees b s
+pub fetches_part : (found : Bag → Bool) (b : Bag) (s : ServerModel) (rank : Rank) (request : ℕ) (batch : BatchId) (part : Part)
+    → ServerAgrees b s
     → has_due b ≡ false → IsOwed b rank request batch → part_in s.kept.parts batch ≡ Some part
     → AreSteps found b (entries (Fetches_part rank request batch part) s) (done (Fetches_part rank request batch part) s)
 fetches_part found b s rank request batch part m rests of held =

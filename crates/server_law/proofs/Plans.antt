@@ -12,7 +12,9 @@ use Rattle.server_law.specs.Plan.{Decider, Plan, decided}
 use Rattle.server_law.specs.Puts.{settles}
 use Rattle.server_law.specs.State.{Kept, ServerModel}
 use Rattle.server_law.specs.Sure.{AreHintsOf, HasCause, SitsIn, Sure}
-use Rattle.server_law.proofs.Decided.{EachDecides, EachHintsNone, Follow, decided_follow, decided_hints_none, each_joined, each_none_joined, ends_event_decides, ends_event_hints_none, follow_joined, hints_joined, settles_decides, settles_hints, tells_idle_hints_none, told_follow}
+use Rattle.server_law.proofs.Decided.{EachDecides, EachHintsNone, Follow, decided_follow, decided_hints_none, each_joined, each_none_joined}
+use Rattle.server_law.proofs.Decided.{ends_event_decides, ends_event_hints_none, follow_joined, hints_joined, settles_decides}
+use Rattle.server_law.proofs.Decided.{settles_hints, tells_idle_hints_none, told_follow}
 use Rattle.server_law.proofs.Waiters.{done_kept}
 
 -- the first act takes the letter and is sure, and what is decided after it is sure and takes none
@@ -59,7 +61,8 @@ settled {s} id first follow sits sure takes same each none =
       sits = sits;
       sure = sure;
       takes = takes;
-      follow = decided_follow (settles id ∷ follow ++ ends_event) t (settles_decides id, each_joined follow ends_event each ends_event_decides);
+      follow =
+          decided_follow (settles id ∷ follow ++ ends_event) t (settles_decides id, each_joined follow ends_event each ends_event_decides);
       hints = subst (λ wishes. AreHintsOf wishes (settles id t ++ later)) same hints;
     }
 

@@ -1,5 +1,6 @@
 -- The entries of pushes: room is promised, a unit leaves, it arrives, and a promise is taken back.
-use Rattle.std.proofs.Common.{◌≡◌, ◌≢◌, ◌≤◌, ◌<◌, ℕ, ◌+◌, ◌==◌, Bool, true, false, [], ◌∷◌, ◌++◌, filter, length, sum_by, Some, None, refl, sym, ap, ◌∙◌, arith}
+use Rattle.std.proofs.Common.{◌≡◌, ◌≢◌, ◌≤◌, ◌<◌, ℕ, ◌+◌, ◌==◌, Bool, true, false, [], ◌∷◌, ◌++◌, filter, length, sum_by, Some, None, refl}
+use Rattle.std.proofs.Common.{sym, ap, ◌∙◌, arith}
 use Rattle.std.proofs.lemmas.Bool.{false_from_ne_true, ltb-false}
 use Rattle.std.proofs.lemmas.List.Sums.{sum_by_push}
 use Rattle.adlb_unit.specs.Ids.{same_unit}
@@ -96,7 +97,8 @@ promises found b s from id n m rests expected fits other held long none =
 -- The unit leaves.
 
 -- the entry of a unit that leaves
-pub leaves : (found : Bag → Bool) (b : Bag) (s : ServerModel) (to : Server) (p : Placed) → ServerAgrees b s → has_due b ≡ false → to.0 < b.servers
+pub leaves : (found : Bag → Bool) (b : Bag) (s : ServerModel) (to : Server) (p : Placed) → ServerAgrees b s → has_due b ≡ false
+    → to.0 < b.servers
     → IsPromisedAt b to p.unit.id → unit_with p.unit.id s.kept.queue.units ≡ Some p → p.pin ≡ None
     → AreSteps found b (enters.Left s.me to p.unit.id ∷ [])
     (with_units (filter (has_other_id p.unit.id) s.kept.queue.units) s.kept.queue.arrivals s)

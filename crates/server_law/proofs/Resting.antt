@@ -1,5 +1,6 @@
 -- A bag that rests is settled.
-use Rattle.std.proofs.Common.{◌≡◌, ◌⊎◌, inl, inr, ℕ, ◌≤◌, ◌*◌, Bool, true, false, ◌&&◌, List, length, slice_get, Option, Some, is_some, refl, ap, ◌∙◌, subst, All, sum_by, arith}
+use Rattle.std.proofs.Common.{◌≡◌, ◌⊎◌, inl, inr, ℕ, ◌≤◌, ◌*◌, Bool, true, false, ◌&&◌, List, length, slice_get, Option, Some, is_some}
+use Rattle.std.proofs.Common.{refl, ap, ◌∙◌, subst, All, sum_by, arith}
 use Rattle.std.specs.List.{list_any}
 use Rattle.std.proofs.lemmas.Bool.{false_from_ne_true}
 use Rattle.std.proofs.lemmas.List.Elements.{All-weaker}

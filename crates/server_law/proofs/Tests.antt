@@ -1,8 +1,10 @@
 -- What the tests of a server's rules say.
-use Rattle.std.proofs.Common.{◌≡◌, ◌≢◌, ◌⊎◌, ◌↔◌, inl, inr, ◌<◌, ◌≤◌, ◌==◌, ℕ, Bool, true, false, ◌&&◌, ◌||◌, not, cond, List, [], ◌∷◌, length, get_or, Option, None, Some, IsSome, refl, sym, ap, ◌∙◌, subst, All, Any, find, arith, zero-add}
+use Rattle.std.proofs.Common.{◌≡◌, ◌≢◌, ◌⊎◌, ◌↔◌, inl, inr, ◌<◌, ◌≤◌, ◌==◌, ℕ, Bool, true, false, ◌&&◌, ◌||◌, not, cond, List, [], ◌∷◌}
+use Rattle.std.proofs.Common.{length, get_or, Option, None, Some, IsSome, refl, sym, ap, ◌∙◌, subst, All, Any, find, arith, zero-add}
 use Rattle.std.specs.Prelude.{is_none, is_some, nat_le, nat_lt}
 use Rattle.std.specs.List.{list_all, list_any, range_with_len}
-use Rattle.std.proofs.lemmas.Bool.{and_from, and_parts, both_ways, eq-eqb, eqb-true, false_from_ne_true, le-leb, leb-true, lt-ltb, ltb-true, not-true, not_from_false}
+use Rattle.std.proofs.lemmas.Bool.{and_from, and_parts, both_ways, eq-eqb, eqb-true, false_from_ne_true, le-leb, leb-true, lt-ltb, ltb-true}
+use Rattle.std.proofs.lemmas.Bool.{not-true, not_from_false}
 use Rattle.std.proofs.lemmas.List.{get_or_default}
 use Rattle.std.proofs.lemmas.List.Folds.{Any-from_list_any, list_any-from_Any}
 use Rattle.std.proofs.lemmas.List.FromFn.{get_or-range_with_len, length-range_with_len}
@@ -226,14 +228,16 @@ pub close_says : (s : ServerModel) (from : Rank) (batch : BatchId) (accepted : �
     → IsSome (part_if (can_close from batch accepted s.kept.queue.common) (part_in s.kept.parts batch))
     ↔ ((batch.rank ≡ from) × PartKept s.kept.parts batch s.kept.queue.common (CanClose accepted))
 close_says s from batch accepted =
-    let says = part_says (can_close from batch accepted s.kept.queue.common) (part_in s.kept.parts batch) (can_close_says from batch accepted s.kept.queue.common) in (
+    let says = part_says (can_close from batch accepted s.kept.queue.common) (part_in s.kept.parts batch)
+    (can_close_says from batch accepted s.kept.queue.common) in (
       λ some. let has = says.0 some in (has.2.0, record { part = has.0; here = has.1; charged = has.2.2; holds = has.2.1 }),
       λ is. says.1 (is.1.part, is.1.here, (is.0, is.1.holds, is.1.charged)),
     )
 
 -- the test of common bytes that are fetched
 pub share_says : (s : ServerModel) (batch : BatchId)
-    → IsSome (part_if (can_fetch s.kept.queue.common) (part_in s.kept.parts batch)) ↔ PartKept s.kept.parts batch s.kept.queue.common CanFetch
+    → IsSome (part_if (can_fetch s.kept.queue.common) (part_in s.kept.parts batch))
+    ↔ PartKept s.kept.parts batch s.kept.queue.common CanFetch
 share_says s batch =
     let says = part_says (can_fetch s.kept.queue.common) (part_in s.kept.parts batch) (can_fetch_says s.kept.queue.common) in (
       λ some. let has = says.0 some in record { part = has.0; here = has.1; charged = has.2.1; holds = has.2.0 },

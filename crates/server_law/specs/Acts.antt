@@ -1,6 +1,7 @@
 -- What a server does, one act after the other: the letter that an act takes, what it changes, says and enters in the ledger. Each
 -- act is about one rank at most.
-use Rattle.std.specs.Prelude.{ℕ, ◌+◌, ◌==◌, Bool, true, not, List, [], ◌∷◌, ◌++◌, filter, length, map, Option, None, Some, slice_set, if◌then◌else◌}
+use Rattle.std.specs.Prelude.{ℕ, ◌+◌, ◌==◌, Bool, true, not, List, [], ◌∷◌, ◌++◌, filter, length, map, Option, None, Some, slice_set}
+use Rattle.std.specs.Prelude.{if◌then◌else◌}
 use Rattle.adlb_unit.specs.Ring.{behind, others}
 use Rattle.adlb_unit.specs.Targets.{home}
 use Rattle.adlb_unit.specs.declared.actors.Actor.{Actor}
@@ -24,7 +25,8 @@ use Rattle.exhaust_ring.specs.Ring.{Asker, Ring, begun, ended, token, wanting, w
 use Rattle.exhaust_ring.specs.Visits.{Outcome, started}
 use Rattle.work_queue.specs.Counts.{counts_of}
 use Rattle.work_queue.specs.Fits.{first_fit}
-use Rattle.work_queue.specs.Queue.{Queue, charge_of, with_arrival, with_common, with_pin, with_promise, with_unit, without, without_common, without_promise}
+use Rattle.work_queue.specs.Queue.{Queue, charge_of, with_arrival, with_common, with_pin, with_promise, with_unit, without, without_common}
+use Rattle.work_queue.specs.Queue.{without_promise}
 use Rattle.batch_store.specs.Store.{Store, changed, closed, fetched, is_due, with_fresh}
 use Rattle.batch_store.specs.declared.parts.Part.{Part}
 use Rattle.reserve_path.specs.Calls.{wants, with_server}

@@ -1,5 +1,6 @@
 -- Which part of the bag a server stands for: its own units, promises and parts, and what it knows. Of ranks it says nothing.
-use Rattle.std.specs.Prelude.{◌≡◌, ◌<◌, ◌==◌, ℕ, Bool, true, ◌&&◌, not, List, find, Option, None, Some, is_none, sum_by, option_and_then, if◌then◌else◌}
+use Rattle.std.specs.Prelude.{◌≡◌, ◌<◌, ◌==◌, ℕ, Bool, true, ◌&&◌, not, List, find, Option, None, Some, is_none, sum_by, option_and_then}
+use Rattle.std.specs.Prelude.{if◌then◌else◌}
 use Rattle.std.specs.Option.{option_map}
 use Rattle.adlb_unit.specs.Ids.{same_batch, same_unit}
 use Rattle.adlb_unit.specs.declared.configs.Config.{Config}
@@ -94,7 +95,8 @@ pub record Matches (lodged : List Lodged) (lots : List Part) (rooms : List Room)
 -- the bag agrees with the server
 abbrev pub ServerAgrees : Bag → ServerModel → Type 0
 ServerAgrees b s =
-    Matches b.units b.parts b.promises b.done b.exhausted b.servers b.limit s.config s.me s.kept.queue s.kept.parts s.kept.done s.kept.exhausted
+    Matches b.units b.parts b.promises b.done b.exhausted b.servers b.limit s.config s.me s.kept.queue s.kept.parts s.kept.done
+    s.kept.exhausted
 
 -- at the start of a run the bag agrees with each server
 abbrev pub StartAgrees : Type 0

@@ -1,5 +1,6 @@
 -- The rules of batches: a common part is kept, closed and fetched.
-use Rattle.std.specs.Prelude.{ℕ, ◌==◌, nat_le, nat_lt, Bool, true, false, ◌&&◌, List, [], length, Option, None, Some, is_none, if◌then◌else◌}
+use Rattle.std.specs.Prelude.{ℕ, ◌==◌, nat_le, nat_lt, Bool, true, false, ◌&&◌, List, [], length, Option, None, Some, is_none}
+use Rattle.std.specs.Prelude.{if◌then◌else◌}
 use Rattle.adlb_unit.specs.Limits.{body_limit}
 use Rattle.adlb_unit.specs.declared.names.BatchId.{BatchId}
 use Rattle.adlb_unit.specs.declared.names.Rank.{Rank}

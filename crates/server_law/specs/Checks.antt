@@ -8,7 +8,8 @@ use Rattle.adlb_unit.specs.declared.tokens.Token.{Token}
 use Rattle.exhaust_ring.specs.Expected.{expects, is_running}
 use Rattle.exhaust_ring.specs.Ring.{Asker}
 use Rattle.exhaust_ring.specs.Tests.{first_failing}
-use Rattle.server_law.specs.Acts.{Act, Fails, Finds, Gives_up, Hears_exhaust, Hears_failed, Hears_shutdown, Marks, Passes, Shuts, Wants, fit_among}
+use Rattle.server_law.specs.Acts.{Act, Fails, Finds, Gives_up, Hears_exhaust, Hears_failed, Hears_shutdown, Marks, Passes, Shuts, Wants}
+use Rattle.server_law.specs.Acts.{fit_among}
 use Rattle.server_law.specs.Endings.{is_quiet, tells_idle}
 use Rattle.server_law.specs.Plan.{Plan, plan}
 use Rattle.server_law.specs.State.{ServerModel, ring_at}

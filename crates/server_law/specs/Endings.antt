@@ -1,6 +1,7 @@
 -- What follows each event: a quiet server that has changed gives notice, and a check is started where one is wanted. And how an end is
 -- told to the ranks that wait.
-use Rattle.std.specs.Prelude.{ℕ, ◌==◌, Bool, true, false, ◌&&◌, ◌||◌, not, List, [], ◌∷◌, ◌++◌, Option, None, Some, is_none, is_some, if◌then◌else◌}
+use Rattle.std.specs.Prelude.{ℕ, ◌==◌, Bool, true, false, ◌&&◌, ◌||◌, not, List, [], ◌∷◌, ◌++◌, Option, None, Some, is_none, is_some}
+use Rattle.std.specs.Prelude.{if◌then◌else◌}
 use Rattle.std.specs.List.{list_all, list_any, range_with_len}
 use Rattle.adlb_unit.specs.declared.names.Rank.{Rank}
 use Rattle.adlb_unit.specs.declared.names.Server.{Server}
@@ -39,7 +40,8 @@ tells_one end at e (Some t) told passed = passed
 abbrev pub tells_all : End → List Waiting → List Waiting → List Act
 tells_all end before [] = []
 tells_all end before (e ∷ behind) =
-    tells_one end (record { before = before; behind = behind }) e e.asked (tells_all end before behind) (tells_all end (before ++ e ∷ []) behind)
+    tells_one end (record { before = before; behind = behind }) e e.asked (tells_all end before behind)
+    (tells_all end (before ++ e ∷ []) behind)
 
 abbrev pub tells_idle : End → Decider
 tells_idle end s = tells_all end [] s.kept.parked.waiting

@@ -19,7 +19,9 @@ use Rattle.bag_ledger.specs.declared.states.Status.TheVariants as is_at
 use Rattle.bag_ledger.specs.declared.states.UnitPlace.TheVariants.{Travelling}
 use Rattle.bag_law.specs.Sound.{IsSoundBag, PromisesAreSingle}
 use Rattle.reserve_path.specs.declared.wishes.Wish.{Wish}
-use Rattle.server_law.specs.Acts.{Accepts, Act, Answers, Arrives, Closes, Counts, Ends_keep, Ends_put, Ends_reserve, Ends_try, Fetches, Fetches_part, Finds, Finds_alone, Gives, Grants, Grants_try, Hears_done, Hears_exhaust, Keeps, Looks, Promises, Refuses, Refuses_part, Sends_unit, Tells, Withdraws, batch_of, entries}
+use Rattle.server_law.specs.Acts.{Accepts, Act, Answers, Arrives, Closes, Counts, Ends_keep, Ends_put, Ends_reserve, Ends_try, Fetches}
+use Rattle.server_law.specs.Acts.{Fetches_part, Finds, Finds_alone, Gives, Grants, Grants_try, Hears_done, Hears_exhaust, Keeps, Looks}
+use Rattle.server_law.specs.Acts.{Promises, Refuses, Refuses_part, Sends_unit, Tells, Withdraws, batch_of, entries}
 use Rattle.server_law.specs.Agreement.{ServerAgrees}
 use Rattle.server_law.specs.Carried.{done}
 use Rattle.server_law.specs.Moving.{IsHeldAt, IsMeasured, IsPromisedAt}
@@ -92,7 +94,8 @@ Needs found (Fetches_part rank request batch part) b me = IsOwed b rank request 
 Needs found (Answers from wish unit) b me = AsksFor b wish
 Needs found (Promises from id length) b me = (from ≢ me) × IsHeldAt b from id × IsMeasured b id length × (promise_of b id ≡ None)
 Needs found (Sends_unit to length unit) b me = (to.0 < b.servers) × IsPromisedAt b to unit.id
-Needs found (Arrives from unit) b me = (unit_of b unit.id ≡ Some (record { unit = unit; place = Travelling me })) × PromisesAreSingle b.promises
+Needs found (Arrives from unit) b me = (unit_of b unit.id ≡ Some (record { unit = unit; place = Travelling me }))
+    × PromisesAreSingle b.promises
 Needs found (Withdraws from id) b me = IsHeldAt b from id × PromisesAreSingle b.promises
 Needs found a b me = Unit {0}
 

@@ -16,7 +16,12 @@ use Rattle.exhaust_ring.specs.Tests.{first_failing, passes}
 use Rattle.work_queue.specs.declared.placing.Placed.{Placed}
 use Rattle.reserve_path.specs.declared.waits.Waiting.{Waiting}
 use Rattle.reserve_path.specs.declared.wishes.Wish.{Wish}
-use Rattle.server_law.specs.Acts.{Accepts, Acks, Act, Answers, Around, Arrives, Asks_on, Cancels, Closes, Checks_alone, Counts, Declines, Drops_hint, Ends_keep, Ends_push, Ends_put, Ends_reserve, Ends_try, Fails, Fetches, Fetches_part, Finds, Finds_alone, Gives, Gives_up, Grants, Grants_try, Hears_done, Hears_exhaust, Hears_failed, Hears_shutdown, Hints, Is_hinted, Keeps, Looks, Marks, Notes_finish, Notes_own, Notices, Parks, Passes, Passes_on, Promises, Queries, Refuses, Refuses_part, Refuses_push, Sends_unit, Shuts, Shuts_alone, Starts, Stops_push, Tells, Wakes, Wants, Withdraws, around, fit_among, goes, takes}
+use Rattle.server_law.specs.Acts.{Accepts, Acks, Act, Answers, Around, Arrives, Asks_on, Cancels, Closes, Checks_alone, Counts, Declines}
+use Rattle.server_law.specs.Acts.{Drops_hint, Ends_keep, Ends_push, Ends_put, Ends_reserve, Ends_try, Fails, Fetches, Fetches_part, Finds}
+use Rattle.server_law.specs.Acts.{Finds_alone, Gives, Gives_up, Grants, Grants_try, Hears_done, Hears_exhaust, Hears_failed, Hears_shutdown}
+use Rattle.server_law.specs.Acts.{Hints, Is_hinted, Keeps, Looks, Marks, Notes_finish, Notes_own, Notices, Parks, Passes, Passes_on}
+use Rattle.server_law.specs.Acts.{Promises, Queries, Refuses, Refuses_part, Refuses_push, Sends_unit, Shuts, Shuts_alone, Starts}
+use Rattle.server_law.specs.Acts.{Stops_push, Tells, Wakes, Wants, Withdraws, around, fit_among, goes, takes}
 use Rattle.batch_store.specs.Store.{part_in}
 use Rattle.server_law.specs.Asks.{expects_ask}
 use Rattle.server_law.specs.Batches.{can_close, can_fetch, expects_keep}
@@ -168,4 +173,5 @@ pub record HandledBy (from : Actor) (message : Message) (list : List Act) (s : S
 
 -- the law: a letter is handled by the acts of its rule
 abbrev pub ActsHandle : Type 0
-ActsHandle = (s : ServerModel) (from : Actor) (message : Message) (list : List Act) → acts s from message ≡ Some list → HandledBy from message list s
+ActsHandle = (s : ServerModel) (from : Actor) (message : Message) (list : List Act) → acts s from message ≡ Some list
+    → HandledBy from message list s

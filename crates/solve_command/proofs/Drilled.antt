@@ -21,7 +21,8 @@ no_more (inr last) = omega (arith, last)
 
 -- a made text that is short enough, and of which no line is refused, is answered
 pub drilled_fine : (count seed : ℕ) (settings : Settings) (IsOf : Config → Type 0) (inline : Bool) (before after : Scene)
-    (fault : Option (Fault LineWhy)) (kept : Option (Kept Outcome)) → Drills count seed settings IsOf inline before after fault kept → length (made_text count seed) ≤ input_limit →
+    (fault : Option (Fault LineWhy)) (kept : Option (Kept Outcome)) → Drills count seed settings IsOf inline before after fault kept
+    → length (made_text count seed) ≤ input_limit →
     input_refused (made_text count seed) ≡ None → (Rises before.writes after.writes → ⊥) → (Rises before.refused after.refused → ⊥) →
     IsFine fault
 drilled_fine count seed settings IsOf inline before after fault kept drills short fine no_write no_refusal =

@@ -25,7 +25,8 @@ abbrev fault_with : Option (ℕ × LineWhy) → Option (Fault LineWhy)
 fault_with None = None
 fault_with (Some x) = Some (Input x.0 x.1)
 
-module _ (settings : Settings) (tells : List Job → Reported Outcome → List ℕ → Type 0) (before after : Scene) (fault : Option (Fault LineWhy)) (kept : Option (Kept Outcome))
+module _ (settings : Settings) (tells : List Job → Reported Outcome → List ℕ → Type 0) (before after : Scene)
+    (fault : Option (Fault LineWhy)) (kept : Option (Kept Outcome))
     (bytes : List ℕ) (ended : EndsWith settings tells before after fault kept) (told : before.left ≡ Some bytes)
     (no_read : Rises before.reads after.reads → ⊥)
   where

@@ -1,5 +1,6 @@
 -- What follows of a run over puzzles and batches for its report.
-use Rattle.std.proofs.Common.{◌≡◌, ◌<◌, ◌≤◌, ◌^◌, ◌+◌, ◌*◌, ℕ, suc, List, [], ◌∷◌, length, Some, Result, Ok, Err, IfOk, All, refl, sym, ◌∙◌, subst, arith, slice_get, slice_index}
+use Rattle.std.proofs.Common.{◌≡◌, ◌<◌, ◌≤◌, ◌^◌, ◌+◌, ◌*◌, ℕ, suc, List, [], ◌∷◌, length, Some, Result, Ok, Err, IfOk, All, refl, sym, ◌∙◌}
+use Rattle.std.proofs.Common.{subst, arith, slice_get, slice_index}
 use Rattle.std.proofs.lemmas.Option.{slice_get_within}
 use Rattle.std.proofs.lemmas.List.Elements.{All-cons, All-head, All-nil, All-tail}
 use Rattle.std.proofs.lemmas.List.Sums.{sum_by-cons}
@@ -40,7 +41,8 @@ all_grids (Puzzle g ∷ jobs) grids =
     All-cons IsSudoku g (puzzles jobs) (All-head HasGrid (Puzzle g) jobs grids) (all_grids jobs (All-tail HasGrid (Puzzle g) jobs grids))
 all_grids (Batch common items ∷ jobs) grids = all_grids jobs (All-tail HasGrid (Batch common items) jobs grids)
 
-module _ (settings : Settings) (jobs : List Job) (r : Reported Outcome) (run : HasRun (λ ranks. ArePrograms settings) FollowsPuzzles jobs r) where
+module _ (settings : Settings) (jobs : List Job) (r : Reported Outcome)
+    (run : HasRun (λ ranks. ArePrograms settings) FollowsPuzzles jobs r) where
   rank_run : (rank : Rank) → rank.0 < r.config.ranks → IsRankRun r.config r.ledger settings jobs r.outcomes rank
   rank_run rank below =
       let e = run.each rank below in

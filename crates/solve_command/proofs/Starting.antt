@@ -26,7 +26,8 @@ module _ (settings : Settings) (IsOf : Config → Type 0) (inline : Bool) (befor
       run = none_run;
     }
 
-    pub drilled_early : (count seed : ℕ) → ReadsNothing before after → Drills count seed settings IsOf inline before after (Some Memory) None
+    pub drilled_early : (count seed : ℕ) → ReadsNothing before after
+        → Drills count seed settings IsOf inline before after (Some Memory) None
     drilled_early count seed unread = record {
       rest = made_text count seed;
       ends = ends_early AreJobs RefusesLine (IsKept (λ ranks. ArePrograms settings) FollowsPuzzles)

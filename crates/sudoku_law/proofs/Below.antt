@@ -1,5 +1,6 @@
 -- `any_below` and `fewest_below`: what they answer, and what one more number adds.
-use Rattle.std.proofs.Common.{◌≡◌, ◌≢◌, ◌<◌, ◌≤◌, ℕ, zero, suc, ◌+◌, Bool, true, false, ◌&&◌, cond, length, get_or, Option, Some, None, refl, sym, ap, ◌∙◌, inl, inr, ◌⊎◌, arith, eqb, ltb, add-one}
+use Rattle.std.proofs.Common.{◌≡◌, ◌≢◌, ◌<◌, ◌≤◌, ℕ, zero, suc, ◌+◌, Bool, true, false, ◌&&◌, cond, length, get_or, Option, Some, None}
+use Rattle.std.proofs.Common.{refl, sym, ap, ◌∙◌, inl, inr, ◌⊎◌, arith, eqb, ltb, add-one}
 use Rattle.std.proofs.lemmas.Bool.{cases_eq, cases_Bool, or_cases, or_left, or_right, eqb-true, eq-eqb, and_parts}
 use Rattle.sudoku_law.specs.Grid.{Cells, any_below, fewest_below, fewest, fewer, choices, IsBlank}
 
@@ -57,7 +58,8 @@ record IsBlankBelow (g : Cells) (n cell : ℕ) : Type 0 where
   pub within : cell < n
   pub blank : get_or g cell 0 ≡ 0
 
-cond_some : (b : Bool) (x y : Option ℕ) (cell : ℕ) → cond b x y ≡ Some cell → ((b ≡ true) × (x ≡ Some cell)) ⊎ ((b ≡ false) × (y ≡ Some cell))
+cond_some : (b : Bool) (x y : Option ℕ) (cell : ℕ) → cond b x y ≡ Some cell
+    → ((b ≡ true) × (x ≡ Some cell)) ⊎ ((b ≡ false) × (y ≡ Some cell))
 cond_some true x y cell h = inl (refl, h)
 cond_some false x y cell h = inr (refl, h)
 
@@ -69,15 +71,17 @@ blank_here g n cell test same =
 later : (g : Cells) (n cell : ℕ) → IsBlankBelow g n cell → IsBlankBelow g (suc n) cell
 later g n cell is = record { within = omega (arith, is.within); blank = is.blank }
 
-fewer_blank : (m : ℕ) (g : Cells) (n cell : ℕ) (prev : Option ℕ) → ((c : ℕ) → prev ≡ Some c → IsBlankBelow g n c) → fewer m g n prev ≡ Some cell → IsBlankBelow g (suc n) cell
+fewer_blank : (m : ℕ) (g : Cells) (n cell : ℕ) (prev : Option ℕ) → ((c : ℕ) → prev ≡ Some c → IsBlankBelow g n c)
+    → fewer m g n prev ≡ Some cell → IsBlankBelow g (suc n) cell
 fewer_blank m g n cell None before h = elim (cond_some (eqb (get_or g n 0) 0) (Some n) None cell h) [
   | inl w ↦ blank_here g n cell w.0 w.1
   | inr w ↦ absurd (let e = w.1 in cc)
 ]
-fewer_blank m g n cell (Some c) before h = elim (cond_some (eqb (get_or g n 0) 0 && ltb (choices m g n) (choices m g c)) (Some n) (Some c) cell h) [
-  | inl w ↦ blank_here g n cell (and_parts (eqb (get_or g n 0) 0) _ w.0).0 w.1
-  | inr w ↦ later g n cell (before cell w.1)
-]
+fewer_blank m g n cell (Some c) before h =
+    elim (cond_some (eqb (get_or g n 0) 0 && ltb (choices m g n) (choices m g c)) (Some n) (Some c) cell h) [
+      | inl w ↦ blank_here g n cell (and_parts (eqb (get_or g n 0) 0) _ w.0).0 w.1
+      | inr w ↦ later g n cell (before cell w.1)
+    ]
 
 blank_below : (m : ℕ) (g : Cells) (n cell : ℕ) → fewest_below m g n ≡ Some cell → IsBlankBelow g n cell
 unfolding fewest_below
@@ -86,11 +90,13 @@ blank_below m g (suc n) cell h = fewer_blank m g n cell (fewest_below m g n) (λ
 
 -- the chosen cell is blank
 pub fewest_is_blank : (m : ℕ) (g : Cells) (cell : ℕ) → fewest m g ≡ Some cell → IsBlank g cell
-fewest_is_blank m g cell h = let is : IsBlankBelow g (length g) cell = blank_below m g (length g) cell h in record { within = is.within; blank = is.blank }
+fewest_is_blank m g cell h = let is : IsBlankBelow g (length g) cell = blank_below m g (length g) cell h in
+    record { within = is.within; blank = is.blank }
 
 -- no cell is chosen only where this one is not blank and none was chosen before
 fewer_none : (m : ℕ) (g : Cells) (n : ℕ) (prev : Option ℕ) → fewer m g n prev ≡ None → (prev ≡ None) × (get_or g n 0 ≢ 0)
-fewer_none m g n None h = (refl, λ blank. let test : eqb (get_or g n 0) 0 ≡ true = eq-eqb (get_or g n 0) 0 blank in let e : Some n ≡ None = rw test at h in cc)
+fewer_none m g n None h =
+    (refl, λ blank. let test : eqb (get_or g n 0) 0 ≡ true = eq-eqb (get_or g n 0) 0 blank in let e : Some n ≡ None = rw test at h in cc)
 fewer_none m g n (Some c) h = absurd (never (eqb (get_or g n 0) 0 && ltb (choices m g n) (choices m g c)) n c h)
   where
     never : (b : Bool) (x y : ℕ) → cond b (Some x) (Some y) ≡ None → ⊥

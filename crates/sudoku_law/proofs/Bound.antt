@@ -1,5 +1,6 @@
 -- How many nodes of a tree are handed out at most.
-use Rattle.std.proofs.Common.{◌≡◌, ◌<◌, ◌≤◌, ℕ, zero, suc, ◌+◌, ◌*◌, ◌/◌, Bool, true, false, cond, not, List, [], ◌∷◌, length, set, Option, Some, None, refl, ap, ◌∙◌, arith, filter}
+use Rattle.std.proofs.Common.{◌≡◌, ◌<◌, ◌≤◌, ℕ, zero, suc, ◌+◌, ◌*◌, ◌/◌, Bool, true, false, cond, not, List, [], ◌∷◌, length, set, Option}
+use Rattle.std.proofs.Common.{Some, None, refl, ap, ◌∙◌, arith, filter}
 use Rattle.std.proofs.lemmas.Bool.{cond_both}
 use Rattle.std.proofs.lemmas.List.Sums.{length-filter, count_by-le-length}
 use Rattle.std.proofs.lemmas.Nat.{div-add-mod', mul-le}
@@ -24,12 +25,14 @@ few_candidates m g cell =
     at : (p : ℕ → Bool) (n : ℕ) → length (filter p (count_up 1 n)) ≤ n
     at p n = omega (arith, length-filter p (count_up 1 n), count_by-le-length p (count_up 1 n), length-count_up 1 n)
 
-branches_handed : (rec : Rec) (grain budget k share most : ℕ) (g : Cells) (cell : ℕ) (ds : List ℕ) → ((x : Cells) → handed grain (rec share x) ≤ most) → handed grain (branches rec budget k share g cell ds) ≤ length ds * (1 + most)
+branches_handed : (rec : Rec) (grain budget k share most : ℕ) (g : Cells) (cell : ℕ) (ds : List ℕ)
+    → ((x : Cells) → handed grain (rec share x) ≤ most) → handed grain (branches rec budget k share g cell ds) ≤ length ds * (1 + most)
 unfolding branches
 branches_handed rec grain budget k share most g cell [] few = omega arith
 branches_handed rec grain budget k share most g cell (d ∷ ds) few =
     let here : handed grain (rec share (set g cell d)) ≤ most = few (set g cell d) in
-    let rest : handed grain (branches rec budget k share g cell ds) ≤ length ds * (1 + most) = branches_handed rec grain budget k share most g cell ds few in
+    let rest : handed grain (branches rec budget k share g cell ds) ≤ length ds * (1 + most) =
+    branches_handed rec grain budget k share most g cell ds few in
     let one : cond (hands_out grain budget k) 1 0 ≤ 1 = at_most_one (hands_out grain budget k) in
     let more : suc (length ds) * (1 + most) ≡ length ds * (1 + most) + (1 + most) = one_more (length ds) (1 + most) in
     omega (arith, here, rest, one, more)
@@ -57,7 +60,8 @@ shares_fit k w rest few =
         ∙ ap (λ x. x + k * (w * s)) (let e : k * 1 ≡ k = omega arith in e)
         ∙ ap (λ x. k + x) (mul_comm k (w * s) ∙ mul_assoc w s k)
 
-cell_handed : (m : ℕ) (rec : Rec) (grain budget : ℕ) (g : Cells) (o : Option ℕ) → ((c : ℕ) (x : Cells) → c < budget → handed grain (rec c x) ≤ side m * c) → handed grain (at_cell m rec budget g o) ≤ side m * budget
+cell_handed : (m : ℕ) (rec : Rec) (grain budget : ℕ) (g : Cells) (o : Option ℕ)
+    → ((c : ℕ) (x : Cells) → c < budget → handed grain (rec c x) ≤ side m * c) → handed grain (at_cell m rec budget g o) ≤ side m * budget
 unfolding at_cell
 cell_handed m rec grain budget g None few = omega arith
 cell_handed m rec grain zero g (Some cell) few = omega arith

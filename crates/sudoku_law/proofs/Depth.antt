@@ -6,7 +6,8 @@ use Rattle.sudoku_law.specs.Tree.{Tree, end, branches, at_cell, node, grown, tre
 abbrev Rec : Type 0
 Rec = ℕ → Cells → Tree
 
-branches_same : (f h : Rec) (budget k share : ℕ) (g : Cells) (cell : ℕ) (ds : List ℕ) → ((x : Cells) → f share x ≡ h share x) → branches f budget k share g cell ds ≡ branches h budget k share g cell ds
+branches_same : (f h : Rec) (budget k share : ℕ) (g : Cells) (cell : ℕ) (ds : List ℕ) → ((x : Cells) → f share x ≡ h share x)
+    → branches f budget k share g cell ds ≡ branches h budget k share g cell ds
 unfolding branches
 branches_same f h budget k share g cell [] same = refl
 branches_same f h budget k share g cell (d ∷ ds) same = rw (same (set g cell d), branches_same f h budget k share g cell ds same) refl
@@ -15,7 +16,8 @@ branches_same f h budget k share g cell (d ∷ ds) same = rw (same (set g cell d
 pub share_falls : (rest k : ℕ) → rest / k ≤ rest
 share_falls rest k = grind arith
 
-cell_same : (m : ℕ) (f h : Rec) (budget : ℕ) (g : Cells) (o : Option ℕ) → ((b : ℕ) (x : Cells) → b < budget → f b x ≡ h b x) → at_cell m f budget g o ≡ at_cell m h budget g o
+cell_same : (m : ℕ) (f h : Rec) (budget : ℕ) (g : Cells) (o : Option ℕ) → ((b : ℕ) (x : Cells) → b < budget → f b x ≡ h b x)
+    → at_cell m f budget g o ≡ at_cell m h budget g o
 unfolding at_cell
 cell_same m f h budget g None same = refl
 cell_same m f h zero g (Some cell) same = refl
@@ -25,7 +27,8 @@ cell_same m f h (suc rest) g (Some cell) same =
     let less : share < suc rest = let le : share ≤ rest = share_falls rest (length ds) in omega arith in
     branches_same f h (suc rest) (length ds) share g cell ds (λ x. same share x less)
 
-node_same : (m : ℕ) (f h : Rec) (budget : ℕ) (g : Cells) → ((b : ℕ) (x : Cells) → b < budget → f b x ≡ h b x) → node m f budget g ≡ node m h budget g
+node_same : (m : ℕ) (f h : Rec) (budget : ℕ) (g : Cells) → ((b : ℕ) (x : Cells) → b < budget → f b x ≡ h b x)
+    → node m f budget g ≡ node m h budget g
 node_same m f h budget g same = ap (λ (t : Tree). cond (conflict m g) end t) (cell_same m f h budget g (fewest m g) same)
 
 -- trees of two depths above the budget are one

@@ -21,11 +21,13 @@ at_most_up n from (suc count) fits = (omega arith, at_most_up n (from + 1) count
 
 at_most_filter : (n : ℕ) (p : ℕ → Bool) (ds : List ℕ) → AreAtMost n ds → AreAtMost n (filter p ds)
 at_most_filter n p [] all = tt
-at_most_filter n p (d ∷ ds) all = cond_both (p d) (d ∷ filter p ds) (filter p ds) (AreAtMost n) (λ t. (all.0, at_most_filter n p ds all.1)) (λ f. at_most_filter n p ds all.1)
+at_most_filter n p (d ∷ ds) all = cond_both (p d) (d ∷ filter p ds) (filter p ds) (AreAtMost n) (λ t. (all.0, at_most_filter n p ds all.1))
+    (λ f. at_most_filter n p ds all.1)
 
 -- a candidate is at most the side
 pub candidates_at_most : (m : ℕ) (g : Cells) (cell : ℕ) → AreAtMost (side m) (candidates m g cell)
-candidates_at_most m g cell = at_most_filter (side m) (λ d. not (used m g cell d)) (count_up 1 (side m)) (at_most_up (side m) 1 (side m) (omega arith))
+candidates_at_most m g cell =
+    at_most_filter (side m) (λ d. not (used m g cell d)) (count_up 1 (side m)) (at_most_up (side m) 1 (side m) (omega arith))
 
 -- each element of such a list is at most the bound
 pub at_most_each : (n d : ℕ) (ds : List ℕ) → AreAtMost n ds → Contains ds d → d ≤ n
@@ -54,7 +56,8 @@ rising_up low from (suc n) less = (less, rising_up from (from + 1) n (omega arit
 
 rising_filter : (p : ℕ → Bool) (low : ℕ) (ds : List ℕ) → IsRising low ds → IsRising low (filter p ds)
 rising_filter p low [] up = tt
-rising_filter p low (d ∷ ds) up = cond_both (p d) (d ∷ filter p ds) (filter p ds) (IsRising low) (λ t. (up.0, rising_filter p d ds up.1)) (λ f. rising_filter p low ds (rising_lower low d ds (omega (arith, up.0)) up.1))
+rising_filter p low (d ∷ ds) up = cond_both (p d) (d ∷ filter p ds) (filter p ds) (IsRising low) (λ t. (up.0, rising_filter p d ds up.1))
+    (λ f. rising_filter p low ds (rising_lower low d ds (omega (arith, up.0)) up.1))
 
 -- candidates rise
 pub candidates_rising : (m : ℕ) (g : Cells) (cell : ℕ) → IsRising 0 (candidates m g cell)
@@ -75,4 +78,5 @@ Contains-up from (suc n) d low high = elim (cases_eq from d) [
 -- a digit that is not used is a candidate
 pub unused_is_candidate : (m : ℕ) (g : Cells) (cell d : ℕ) → 1 ≤ d → d ≤ side m → used m g cell d ≡ false → Contains (candidates m g cell) d
 unused_is_candidate m g cell d low high unused =
-    Contains-filter (λ k. not (used m g cell k)) (count_up 1 (side m)) d (Contains-up 1 (side m) d low (omega arith)) (not_from_false (used m g cell d) unused)
+    Contains-filter (λ k. not (used m g cell k)) (count_up 1 (side m)) d (Contains-up 1 (side m) d low (omega arith))
+    (not_from_false (used m g cell d) unused)

@@ -1,6 +1,7 @@
 -- What a list contains, and lists without repeats.
 use Rattle.std.specs.List.{AllPairs}
-use Rattle.std.proofs.Common.{◌≡◌, ◌≢◌, ◌<◌, ℕ, zero, suc, Bool, true, List, [], ◌∷◌, ◌++◌, length, get_or, refl, sym, ap, ◌∙◌, arith, inl, inr, ◌⊎◌, Contains, subst, filter}
+use Rattle.std.proofs.Common.{◌≡◌, ◌≢◌, ◌<◌, ℕ, zero, suc, Bool, true, List, [], ◌∷◌, ◌++◌, length, get_or, refl, sym, ap, ◌∙◌, arith, inl}
+use Rattle.std.proofs.Common.{inr, ◌⊎◌, Contains, subst, filter}
 use Rattle.std.proofs.lemmas.List.Elements.{Contains-append_cases, Contains-get_or}
 use Rattle.std.proofs.lemmas.List.Kept.{AllPairs-cons}
 use Rattle.std.proofs.lemmas.Bool.{cond_both}
@@ -38,8 +39,11 @@ Contains-filter p [] x there passes = absurd (none_there x there)
 Contains-filter p (y ∷ xs) x there passes =
     let P : List ℕ → Type 0 = λ l. Contains l x in
     elim (head_cases y x xs there) [
-      | inl same ↦ let t : p y ≡ true = ap p same ∙ passes in rw t (let e : Contains (y ∷ filter p xs) x = subst (λ z. Contains (z ∷ filter p xs) x) (sym same) (Contains-head x (filter p xs)) in e)
-      | inr later ↦ cond_both (p y) (y ∷ filter p xs) (filter p xs) P (λ t. Contains-later y x (filter p xs) (Contains-filter p xs x later passes)) (λ f. Contains-filter p xs x later passes)
+      | inl same ↦ let t : p y ≡ true = ap p same ∙ passes in
+          rw t (let e : Contains (y ∷ filter p xs) x =
+          subst (λ z. Contains (z ∷ filter p xs) x) (sym same) (Contains-head x (filter p xs)) in e)
+      | inr later ↦ cond_both (p y) (y ∷ filter p xs) (filter p xs) P
+          (λ t. Contains-later y x (filter p xs) (Contains-filter p xs x later passes)) (λ f. Contains-filter p xs x later passes)
     ]
 
 -- no element stands twice
@@ -48,7 +52,8 @@ IsDistinct [] = Unit {0}
 IsDistinct (x ∷ xs) = (Contains xs x → ⊥) × IsDistinct xs
 
 -- lists without repeats that share nothing, joined, have no repeats
-pub distinct_append : {X : Type 0} (xs ys : List X) → IsDistinct xs → IsDistinct ys → ((x : X) → Contains xs x → Contains ys x → ⊥) → IsDistinct (xs ++ ys)
+pub distinct_append : {X : Type 0} (xs ys : List X) → IsDistinct xs → IsDistinct ys → ((x : X) → Contains xs x → Contains ys x → ⊥)
+    → IsDistinct (xs ++ ys)
 distinct_append [] ys dx dy apart = dy
 distinct_append (x ∷ xs) ys dx dy apart = (
   λ there. elim (Contains-append_cases xs ys x there) [

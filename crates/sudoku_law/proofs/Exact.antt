@@ -1,7 +1,10 @@
 -- The tests on a grid say what the definitions say.
-use Rattle.std.proofs.Common.{◌≡◌, ◌≢◌, ◌<◌, ◌≤◌, ℕ, zero, suc, true, false, ◌&&◌, not, length, get_or, Option, Some, None, refl, sym, ap, ◌∙◌, inl, inr, arith, eqb, ltb, ◌↔◌, IsTrue, subst, Bool}
-use Rattle.std.proofs.lemmas.Bool.{cases_eq, cases_order, eqb-true, eqb-false, eq-eqb, ne_eqb, and_parts, and_from, and_cases, cond_both, ltb-true, ltb-false, not-true, not_from_false}
-use Rattle.sudoku_law.specs.Grid.{Cells, any_below, fewest_below, fewest, fewer, choices, shares, clash, conflict, HasConflict, IsBlank, IsFewest}
+use Rattle.std.proofs.Common.{◌≡◌, ◌≢◌, ◌<◌, ◌≤◌, ℕ, zero, suc, true, false, ◌&&◌, not, length, get_or, Option, Some, None, refl, sym, ap}
+use Rattle.std.proofs.Common.{◌∙◌, inl, inr, arith, eqb, ltb, ◌↔◌, IsTrue, subst, Bool}
+use Rattle.std.proofs.lemmas.Bool.{cases_eq, cases_order, eqb-true, eqb-false, eq-eqb, ne_eqb, and_parts, and_from, and_cases, cond_both}
+use Rattle.std.proofs.lemmas.Bool.{ltb-true, ltb-false, not-true, not_from_false}
+use Rattle.sudoku_law.specs.Grid.{Cells, any_below, fewest_below, fewest, fewer, choices, shares, clash, conflict, HasConflict, IsBlank}
+use Rattle.sudoku_law.specs.Grid.{IsFewest}
 use Rattle.sudoku_law.proofs.Below.{any_from, any_gives, fewest_is_none}
 
 -- what a clash of two cells is
@@ -71,7 +74,8 @@ none_still m g n none filled k below = elim (cases_eq k n) [
 ]
 
 -- the new cell has fewer
-newly_chosen : (m : ℕ) (g : Cells) (n c : ℕ) → IsFewestBelow m g n c → get_or g n 0 ≡ 0 → choices m g n < choices m g c → IsFewestBelow m g (suc n) n
+newly_chosen : (m : ℕ) (g : Cells) (n c : ℕ) → IsFewestBelow m g n c → get_or g n 0 ≡ 0 → choices m g n < choices m g c
+    → IsFewestBelow m g (suc n) n
 newly_chosen m g n c is blank less = record {
   within = omega arith;
   blank = blank;
@@ -89,7 +93,8 @@ newly_chosen m g n c is blank less = record {
     weaker p q = omega arith
 
 -- the new cell is not blank or has no fewer
-still_chosen : (m : ℕ) (g : Cells) (n c : ℕ) → IsFewestBelow m g n c → (get_or g n 0 ≡ 0 → choices m g c ≤ choices m g n) → IsFewestBelow m g (suc n) c
+still_chosen : (m : ℕ) (g : Cells) (n c : ℕ) → IsFewestBelow m g n c → (get_or g n 0 ≡ 0 → choices m g c ≤ choices m g n)
+    → IsFewestBelow m g (suc n) c
 still_chosen m g n c is more = record {
   within = omega (arith, is.within);
   blank = is.blank;
@@ -100,7 +105,8 @@ still_chosen m g n c is more = record {
   first = is.first;
 }
 
-no_fewer : (m : ℕ) (g : Cells) (n c : ℕ) → (eqb (get_or g n 0) 0 && ltb (choices m g n) (choices m g c)) ≡ false → get_or g n 0 ≡ 0 → choices m g c ≤ choices m g n
+no_fewer : (m : ℕ) (g : Cells) (n c : ℕ) → (eqb (get_or g n 0) 0 && ltb (choices m g n) (choices m g c)) ≡ false → get_or g n 0 ≡ 0
+    → choices m g c ≤ choices m g n
 no_fewer m g n c test blank = elim (and_cases (eqb (get_or g n 0) 0) (ltb (choices m g n) (choices m g c)) test) [
   | inl filled ↦ absurd (eqb-false (get_or g n 0) 0 filled blank)
   | inr less ↦ ltb-false (choices m g n) (choices m g c) less
@@ -114,7 +120,8 @@ chosen_more m g n None none =
 chosen_more m g n (Some c) is =
     cond_both (eqb (get_or g n 0) 0 && ltb (choices m g n) (choices m g c)) (Some n) (Some c) (λ o. Chosen m g (suc n) o)
     (λ t.
-    let two : (eqb (get_or g n 0) 0 ≡ true) × (ltb (choices m g n) (choices m g c) ≡ true) = and_parts (eqb (get_or g n 0) 0) (ltb (choices m g n) (choices m g c)) t in
+    let two : (eqb (get_or g n 0) 0 ≡ true) × (ltb (choices m g n) (choices m g c) ≡ true) =
+    and_parts (eqb (get_or g n 0) 0) (ltb (choices m g n) (choices m g c)) t in
     newly_chosen m g n c is (eqb-true (get_or g n 0) 0 two.0) (ltb-true (choices m g n) (choices m g c) two.1))
     (λ f. still_chosen m g n c is (no_fewer m g n c f))
 

@@ -8,7 +8,8 @@ times_one : (n : ℕ) → n * 1 ≡ n
 times_one n = omega arith
 
 -- a count over w rows of w cells, by row and column
-by_place : (w : ℕ) (group : ℕ → ℕ) (place : ℕ → ℕ → ℕ) (u : ℕ) → ((r c : ℕ) → r < w → c < w → group (r * w + c) ≡ place r c) → how_many (w * w) (λ cell. eqb (group cell) u) ≡ sum_to w (λ r. sum_to w (λ c. one_if (eqb (place r c) u)))
+by_place : (w : ℕ) (group : ℕ → ℕ) (place : ℕ → ℕ → ℕ) (u : ℕ) → ((r c : ℕ) → r < w → c < w → group (r * w + c) ≡ place r c)
+    → how_many (w * w) (λ cell. eqb (group cell) u) ≡ sum_to w (λ r. sum_to w (λ c. one_if (eqb (place r c) u)))
 by_place w group place u is =
     how_many_is (w * w) (λ cell. eqb (group cell) u)
     ∙ sum_to_rows w w (λ cell. one_if (eqb (group cell) u))

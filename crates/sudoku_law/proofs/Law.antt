@@ -1,5 +1,6 @@
 -- The tree's solution nodes, sorted, are all solutions in text order.
-use Rattle.std.proofs.Common.{◌≡◌, ◌<◌, ◌≤◌, ℕ, zero, suc, ◌+◌, Bool, true, false, cond, List, [], ◌∷◌, length, get_or, refl, sym, ap, ◌∙◌, arith, zero-add, inl, inr, Contains, subst, IsPermutation, IsSorted, count_by}
+use Rattle.std.proofs.Common.{◌≡◌, ◌<◌, ◌≤◌, ℕ, zero, suc, ◌+◌, Bool, true, false, cond, List, [], ◌∷◌, length, get_or, refl, sym, ap, ◌∙◌}
+use Rattle.std.proofs.Common.{arith, zero-add, inl, inr, Contains, subst, IsPermutation, IsSorted, count_by}
 use Rattle.std.specs.Cmp.Lexicographic.{slice_cmp}
 use Rattle.std.specs.Ordering.{nat_cmp, is_lt, ordering_reverse}
 use Rattle.std.specs.declared.cmp.Ordering.{Ordering}
@@ -33,7 +34,8 @@ count_yes p x xs e = count_cons p x xs ∙ ap (λ (t : Bool). cond t 1 0 + count
 none_counted : (s : Cells) (xs : List Cells) → (Contains xs s → ⊥) → count_by (bytes_eq s) xs ≡ 0
 none_counted s [] none = refl
 none_counted s (x ∷ xs) none =
-    let differs : bytes_eq s x ≡ false = false_from_ne_true (bytes_eq s x) (λ t. none (subst (λ z. Contains (x ∷ xs) z) (sym ((bytes_eq-Decides s x).0 t)) (Contains-head x xs))) in
+    let differs : bytes_eq s x ≡ false = false_from_ne_true (bytes_eq s x)
+    (λ t. none (subst (λ z. Contains (x ∷ xs) z) (sym ((bytes_eq-Decides s x).0 t)) (Contains-head x xs))) in
     let rest : count_by (bytes_eq s) xs ≡ 0 = none_counted s xs (λ there. none (Contains-later x s xs there)) in
     count_no (bytes_eq s) x xs differs ∙ rest
 
@@ -50,17 +52,20 @@ one_counted s (x ∷ xs) distinct = elim (cases_Bool (bytes_eq s x)) [
 ]
 
 -- two neighbors that pass are two
-two_counted : (p : Cells → Bool) (xs : List Cells) (k : ℕ) → k + 1 < length xs → p (get_or xs k []) ≡ true → p (get_or xs (k + 1) []) ≡ true → 2 ≤ count_by p xs
+two_counted : (p : Cells → Bool) (xs : List Cells) (k : ℕ) → k + 1 < length xs → p (get_or xs k []) ≡ true → p (get_or xs (k + 1) []) ≡ true
+    → 2 ≤ count_by p xs
 two_counted p [] k within a b = absurd (omega arith)
 two_counted p (x ∷ []) k within a b = absurd (omega arith)
 two_counted p (x ∷ y ∷ xs) zero within a b =
     omega (arith, count_yes p x (y ∷ xs) a, count_yes p y xs b)
 two_counted p (x ∷ y ∷ xs) (suc k) within a b =
-    let rest : 2 ≤ count_by p (y ∷ xs) = two_counted p (y ∷ xs) k (omega arith) a (let e : suc k + 1 ≡ suc (k + 1) = omega arith in rw e at b) in
+    let rest : 2 ≤ count_by p (y ∷ xs) =
+    two_counted p (y ∷ xs) k (omega arith) a (let e : suc k + 1 ≡ suc (k + 1) = omega arith in rw e at b) in
     omega (arith, count_cons p x (y ∷ xs), rest)
 
 -- two neighbors in a sorted list that are not the same rise
-rises : (x y : Cells) → is_lt (slice_cmp nat_cmp y x) ≡ false → (x ≡ y → ⊥) → (o : Ordering) → slice_cmp nat_cmp x y ≡ o → slice_cmp nat_cmp x y ≡ Less
+rises : (x y : Cells) → is_lt (slice_cmp nat_cmp y x) ≡ false → (x ≡ y → ⊥) → (o : Ordering) → slice_cmp nat_cmp x y ≡ o
+    → slice_cmp nat_cmp x y ≡ Less
 rises x y sorted differ Less is = is
 rises x y sorted differ Equal is = absurd (differ (exact_bytes x y is))
 rises x y sorted differ Greater is =
@@ -69,7 +74,8 @@ rises x y sorted differ Greater is =
     absurd (cc)
 
 -- where no node is over, the solution nodes in order are the solution list
-pub tree_law : (m b : ℕ) (g : Cells) (xs : List Cells) → IsGrid m g → is_over (tree m b g) ≡ false → IsPermutation (solutions (tree m b g)) xs → IsSorted (slice_cmp nat_cmp) xs → IsSolutionList m g xs
+pub tree_law : (m b : ℕ) (g : Cells) (xs : List Cells) → IsGrid m g → is_over (tree m b g) ≡ false
+    → IsPermutation (solutions (tree m b g)) xs → IsSorted (slice_cmp nat_cmp) xs → IsSolutionList m g xs
 tree_law m b g xs grid fine moved sorted =
     let nodes : List Cells = solutions (tree m b g) in
     let back : IsPermutation xs nodes = IsPermutation-sym nodes xs moved in
@@ -80,7 +86,8 @@ tree_law m b g xs grid fine moved sorted =
           text_order x y ∙ rises x y (sorted k [] (omega arith) within)
           (λ same.
           let few : count_by (bytes_eq x) nodes ≤ 1 = one_counted x nodes (tree_distinct m b g grid) in
-          let many : 2 ≤ count_by (bytes_eq x) xs = two_counted (bytes_eq x) xs k within ((bytes_eq-Decides x x).1 refl) ((bytes_eq-Decides x y).1 same) in
+          let many : 2 ≤ count_by (bytes_eq x) xs =
+          two_counted (bytes_eq x) xs k within ((bytes_eq-Decides x x).1 refl) ((bytes_eq-Decides x y).1 same) in
           omega (arith, sum_by-IsPermutation (λ s. cond (bytes_eq x s) 1 0) nodes xs moved))
           (slice_cmp nat_cmp x y) refl;
       each = λ s. (

@@ -19,14 +19,16 @@ AreGrids m b (child budget k share g below others) = IsGrid m g × (share < b) �
 abbrev Rec : Type 0
 Rec = ℕ → Cells → Tree
 
-branches_grids : (m : ℕ) (rec : Rec) (b budget k share : ℕ) (g : Cells) (cell : ℕ) (ds : List ℕ) → IsGrid m g → share < b → AreAtMost (side m) ds → ((x : Cells) → IsGrid m x → AreGrids m b (rec share x)) → AreGrids m b (branches rec budget k share g cell ds)
+branches_grids : (m : ℕ) (rec : Rec) (b budget k share : ℕ) (g : Cells) (cell : ℕ) (ds : List ℕ) → IsGrid m g → share < b
+    → AreAtMost (side m) ds → ((x : Cells) → IsGrid m x → AreGrids m b (rec share x)) → AreGrids m b (branches rec budget k share g cell ds)
 unfolding branches
 branches_grids m rec b budget k share g cell [] grid less few is = tt
 branches_grids m rec b budget k share g cell (d ∷ ds) grid less few is =
     let next : IsGrid m (set g cell d) = set_grid m g cell d grid few.0 in
     (next, less, is (set g cell d) next, branches_grids m rec b budget k share g cell ds grid less few.1 is)
 
-cell_grids : (m : ℕ) (rec : Rec) (b budget : ℕ) (g : Cells) (o : Option ℕ) → IsGrid m g → budget ≤ b → ((c : ℕ) (x : Cells) → c < budget → IsGrid m x → AreGrids m b (rec c x)) → AreGrids m b (at_cell m rec budget g o)
+cell_grids : (m : ℕ) (rec : Rec) (b budget : ℕ) (g : Cells) (o : Option ℕ) → IsGrid m g → budget ≤ b
+    → ((c : ℕ) (x : Cells) → c < budget → IsGrid m x → AreGrids m b (rec c x)) → AreGrids m b (at_cell m rec budget g o)
 unfolding at_cell
 cell_grids m rec b budget g None grid within is = grid
 cell_grids m rec b zero g (Some cell) grid within is = tt
@@ -48,7 +50,8 @@ grown_grids m b (suc depth) budget g grid within =
 abbrev IsBelow : ℕ → ℕ → ℕ × Cells → Type 0
 IsBelow m b c = IsGrid m c.1 × (c.0 < b)
 
-child_children : (m b grain budget k share : ℕ) (g : Cells) (below : Tree) → IsGrid m g → share < b → All (IsBelow m b) (walk grain below).children → All (IsBelow m b) (met_at grain budget k share g below).children
+child_children : (m b grain budget k share : ℕ) (g : Cells) (below : Tree) → IsGrid m g → share < b
+    → All (IsBelow m b) (walk grain below).children → All (IsBelow m b) (met_at grain budget k share g below).children
 child_children m b grain budget k share g below grid less is =
     met_cases grain budget k share g below (λ met. All (IsBelow m b) met.children)
     (All-cons (IsBelow m b) (share, g) [] (grid, less) (All-nil (IsBelow m b)))

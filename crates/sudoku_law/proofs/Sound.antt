@@ -1,5 +1,6 @@
 -- Each solution node of a tree is a solution.
-use Rattle.std.proofs.Common.{◌≡◌, ◌≢◌, ◌<◌, ◌≤◌, ℕ, zero, suc, ◌/◌, true, false, List, [], ◌∷◌, length, set, get_or, Option, Some, None, refl, sym, ap, ◌∙◌, arith, eqb, inl, inr, Contains, subst}
+use Rattle.std.proofs.Common.{◌≡◌, ◌≢◌, ◌<◌, ◌≤◌, ℕ, zero, suc, ◌/◌, true, false, List, [], ◌∷◌, length, set, get_or, Option, Some, None}
+use Rattle.std.proofs.Common.{refl, sym, ap, ◌∙◌, arith, eqb, inl, inr, Contains, subst}
 use Rattle.std.proofs.lemmas.List.{get_or-set_same, get_or-set_other, length-set}
 use Rattle.std.proofs.lemmas.List.Elements.{Contains-append_cases}
 use Rattle.std.proofs.lemmas.Bool.{cases_eq, eq-eqb, ne_eqb, cond_both}
@@ -31,7 +32,8 @@ unset m g s cell d blank is =
     }
 
 -- no two cells that share have one digit in a grid without conflict
-pub no_clash : (m : ℕ) (g : Cells) (i j : ℕ) → conflict m g ≡ false → get_or g i 0 ≢ 0 → j < i → i < length g → shares m i j ≡ true → get_or g i 0 ≡ get_or g j 0 → ⊥
+pub no_clash : (m : ℕ) (g : Cells) (i j : ℕ) → conflict m g ≡ false → get_or g i 0 ≢ 0 → j < i → i < length g → shares m i j ≡ true
+    → get_or g i 0 ≡ get_or g j 0 → ⊥
 no_clash m g i j fine some before within share same =
     let row : any_below i (λ k. clash m g i k) ≡ false = none_of (length g) (λ k. any_below k (λ l. clash m g k l)) i fine within in
     let pair : clash m g i j ≡ false = none_of i (λ k. clash m g i k) j row before in
@@ -57,7 +59,9 @@ set_grid m g cell d grid small = record {
       let n : length (set g cell d) ≡ length g = length-set g cell d in
       let inside : i < length g = omega arith in
       elim (cases_eq i cell) [
-        | inl same ↦ let e : get_or (set g cell d) i 0 ≡ d = rw same (get_or-set_same g cell d 0 (let k : cell < length g = omega arith in k)) in subst (λ x. x ≤ side m) (sym e) small
+        | inl same ↦
+            let e : get_or (set g cell d) i 0 ≡ d = rw same (get_or-set_same g cell d 0 (let k : cell < length g = omega arith in k)) in
+            subst (λ x. x ≤ side m) (sym e) small
         | inr differs ↦ subst (λ x. x ≤ side m) (sym (get_or-set_other g cell i d 0 differs)) (grid.digits i inside)
       ];
 }
@@ -66,7 +70,9 @@ set_grid m g cell d grid small = record {
 abbrev pub GivesSolutions : ℕ → (ℕ → Cells → Tree) → Type 0
 GivesSolutions m rec = (b : ℕ) (x s : Cells) → IsGrid m x → Contains (solutions (rec b x)) s → IsSolution m x s
 
-branches_sound : (m : ℕ) (rec : ℕ → Cells → Tree) (budget k share : ℕ) (g s : Cells) (cell : ℕ) (ds : List ℕ) → GivesSolutions m rec → IsGrid m g → IsBlank g cell → AreAtMost (side m) ds → Contains (solutions (branches rec budget k share g cell ds)) s → IsSolution m g s
+branches_sound : (m : ℕ) (rec : ℕ → Cells → Tree) (budget k share : ℕ) (g s : Cells) (cell : ℕ) (ds : List ℕ) → GivesSolutions m rec
+    → IsGrid m g → IsBlank g cell → AreAtMost (side m) ds → Contains (solutions (branches rec budget k share g cell ds)) s
+    → IsSolution m g s
 unfolding branches
 branches_sound m rec budget k share g s cell [] gives grid blank small there = absurd (none_there s there)
 branches_sound m rec budget k share g s cell (d ∷ ds) gives grid blank small there =
@@ -75,14 +81,16 @@ branches_sound m rec budget k share g s cell (d ∷ ds) gives grid blank small t
       | inr later ↦ branches_sound m rec budget k share g s cell ds gives grid blank small.1 later
     ]
 
-cell_sound : (m : ℕ) (rec : ℕ → Cells → Tree) (budget : ℕ) (g s : Cells) → GivesSolutions m rec → IsGrid m g → conflict m g ≡ false → (o : Option ℕ) → fewest m g ≡ o → Contains (solutions (at_cell m rec budget g o)) s → IsSolution m g s
+cell_sound : (m : ℕ) (rec : ℕ → Cells → Tree) (budget : ℕ) (g s : Cells) → GivesSolutions m rec → IsGrid m g → conflict m g ≡ false
+    → (o : Option ℕ) → fewest m g ≡ o → Contains (solutions (at_cell m rec budget g o)) s → IsSolution m g s
 unfolding at_cell
 cell_sound m rec budget g s gives grid fine None full there =
     let is : g ≡ s = only g s there in subst (λ x. IsSolution m g x) is (full_is m g grid fine full)
 cell_sound m rec zero g s gives grid fine (Some cell) chosen there = absurd (none_there s there)
 cell_sound m rec (suc rest) g s gives grid fine (Some cell) chosen there =
     let ds : List ℕ = candidates m g cell in
-    branches_sound m rec (suc rest) (length ds) (rest / length ds) g s cell ds gives grid (fewest_is_blank m g cell chosen) (candidates_at_most m g cell) there
+    branches_sound m rec (suc rest) (length ds) (rest / length ds) g s cell ds gives grid (fewest_is_blank m g cell chosen)
+    (candidates_at_most m g cell) there
 
 -- at each depth
 pub grown_sound : (m depth : ℕ) → GivesSolutions m (grown m depth)

@@ -1,6 +1,7 @@
 -- Sudoku's plain rules, for boxes of side m: a grid has m * m rows, columns and boxes of m * m cells each.
 -- A grid is the list of its cells by rows, each the digit that stands there or 0 for blank.
-use Rattle.std.specs.Prelude.{◌≡◌, ◌≢◌, ◌<◌, ◌≤◌, ℕ, ◌+◌, ◌*◌, zero, suc, ◌/◌, ◌%◌, ◌==◌, nat_lt, Bool, false, ◌&&◌, ◌||◌, not, List, [], ◌∷◌, length, slice_index, Option, Some, None, IsTrue, if◌then◌else◌, filter}
+use Rattle.std.specs.Prelude.{◌≡◌, ◌≢◌, ◌<◌, ◌≤◌, ℕ, ◌+◌, ◌*◌, zero, suc, ◌/◌, ◌%◌, ◌==◌, nat_lt, Bool, false, ◌&&◌, ◌||◌, not, List, []}
+use Rattle.std.specs.Prelude.{◌∷◌, length, slice_index, Option, Some, None, IsTrue, if◌then◌else◌, filter}
 
 abbrev pub Cells : Type 0
 Cells = List ℕ

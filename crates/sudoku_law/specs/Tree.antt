@@ -1,5 +1,6 @@
 -- The search tree of a grid with a budget, and what is read off it.
-use Rattle.std.specs.Prelude.{ℕ, ◌+◌, zero, suc, ◌/◌, nat_lt, Bool, true, false, ◌&&◌, ◌||◌, List, [], ◌∷◌, ◌++◌, length, slice_set, Option, Some, None, if◌then◌else◌}
+use Rattle.std.specs.Prelude.{ℕ, ◌+◌, zero, suc, ◌/◌, nat_lt, Bool, true, false, ◌&&◌, ◌||◌, List, [], ◌∷◌, ◌++◌, length, slice_set, Option}
+use Rattle.std.specs.Prelude.{Some, None, if◌then◌else◌}
 use Rattle.sudoku_law.specs.Grid.{Cells, conflict, candidates, fewest}
 
 -- what stands at and below a node, or at a node's children from one on
@@ -85,4 +86,5 @@ walk grain end = nothing
 walk grain (solution g) = record { solutions = g ∷ []; children = []; over = false }
 walk grain over = record { solutions = []; children = []; over = true }
 walk grain (child budget k share g below others) =
-    both (if hands_out grain budget k then record { solutions = []; children = (share, g) ∷ []; over = false } else walk grain below) (walk grain others)
+    both (if hands_out grain budget k then record { solutions = []; children = (share, g) ∷ []; over = false } else walk grain below)
+    (walk grain others)

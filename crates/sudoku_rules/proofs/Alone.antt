@@ -1,7 +1,9 @@
 -- A blank cell with one candidate: while the budget is above the blank cells, it may be filled before all others.
-use Rattle.std.proofs.Common.{◌≡◌, ◌<◌, ◌≤◌, ℕ, zero, suc, ◌+◌, ◌-◌, ◌/◌, Bool, true, false, cond, ◌&&◌, ◌||◌, not, List, [], ◌∷◌, length, filter, get_or, set, Option, Some, None, refl, sym, ap, ◌∙◌, inl, inr, ◌⊎◌, arith, eqb, ltb}
+use Rattle.std.proofs.Common.{◌≡◌, ◌<◌, ◌≤◌, ℕ, zero, suc, ◌+◌, ◌-◌, ◌/◌, Bool, true, false, cond, ◌&&◌, ◌||◌, not, List, [], ◌∷◌, length}
+use Rattle.std.proofs.Common.{filter, get_or, set, Option, Some, None, refl, sym, ap, ◌∙◌, inl, inr, ◌⊎◌, arith, eqb, ltb}
 use Rattle.std.proofs.Math.Bool.{or_comm}
-use Rattle.std.proofs.lemmas.Bool.{cases_Bool, cases_eq, cases_order, eq-eqb, ne_eqb, and_right, or_left, or_right, or_from, not-true, not-false, not_from_false, not_from_true}
+use Rattle.std.proofs.lemmas.Bool.{cases_Bool, cases_eq, cases_order, eq-eqb, ne_eqb, and_right, or_left, or_right, or_from, not-true}
+use Rattle.std.proofs.lemmas.Bool.{not-false, not_from_false, not_from_true}
 use Rattle.std.proofs.lemmas.List.{length-set, get_or-set_same, get_or-set_other}
 use Rattle.std.proofs.lemmas.List.Sums.{sum_by-cons, sum_by-set}
 use Rattle.sudoku_law.specs.Grid.{Cells, IsBlank, IsFewest, any_below, choices, conflict, count_up, fewest, how_many, shares, side, used}
@@ -13,7 +15,8 @@ use Rattle.sudoku_rules.specs.Inside.Boards.{blanks}
 use Rattle.sudoku_rules.proofs.AnyBelow.{eqb_comm}
 use Rattle.sudoku_rules.proofs.Carried.{put_fine, shares_swap}
 use Rattle.sudoku_rules.proofs.Children.{digit_worked}
-use Rattle.sudoku_rules.proofs.Walking.{at_digit, both_nothing, digit_next, digits_end, digits_skip, from_digit, no_candidates, node_open, or_assoc, rest_of}
+use Rattle.sudoku_rules.proofs.Walking.{at_digit, both_nothing, digit_next, digits_end, digits_skip, from_digit, no_candidates, node_open}
+use Rattle.sudoku_rules.proofs.Walking.{or_assoc, rest_of}
 
 -- One more digit.
 

@@ -1,13 +1,16 @@
 -- A grid with its planes: how they are made, what a digit that is put changes, and the cell with the fewest candidates.
-use Rattle.std.proofs.Common.{◌≡◌, ◌<◌, ◌≤◌, ℕ, zero, suc, ◌+◌, ◌^◌, Bool, true, false, cond, ◌&&◌, ◌||◌, not, List, length, get_or, set, replicate, Some, None, refl, sym, ap, ◌∙◌, inl, inr, arith, eqb, ltb, leb, add-one, subst}
+use Rattle.std.proofs.Common.{◌≡◌, ◌<◌, ◌≤◌, ℕ, zero, suc, ◌+◌, ◌^◌, Bool, true, false, cond, ◌&&◌, ◌||◌, not, List, length, get_or, set}
+use Rattle.std.proofs.Common.{replicate, Some, None, refl, sym, ap, ◌∙◌, inl, inr, arith, eqb, ltb, leb, add-one, subst}
 use Rattle.std.specs.Int.{bit_at}
 use Rattle.std.specs.Int.Bits.{bit_and, bit_or}
 use Rattle.std.specs.Int.Count.{ones}
 use Rattle.std.proofs.Math.Bool.{or_comm, or-false}
-use Rattle.std.proofs.lemmas.Bool.{cases_Bool, cases_eq, cases_lt, eq-eqb, ne_eqb, eqb-true, lt-ltb, le-ltb, ltb-true, leb-true, leb-false, and_left, and_right, and_parts, and_from, or_left, not-true}
+use Rattle.std.proofs.lemmas.Bool.{cases_Bool, cases_eq, cases_lt, eq-eqb, ne_eqb, eqb-true, lt-ltb, le-ltb, ltb-true, leb-true, leb-false}
+use Rattle.std.proofs.lemmas.Bool.{and_left, and_right, and_parts, and_from, or_left, not-true}
 use Rattle.std.proofs.lemmas.List.{length-set, length-replicate, get_or-set_same, get_or-set_other, get_or-replicate}
 use Rattle.std.proofs.lemmas.Nat.{and_le_l}
-use Rattle.sudoku_law.specs.Grid.{Cells, IsBlank, IsGrid, any_below, box_of, choices, clash, column_of, conflict, fewest, how_many, row_of, shares, side, size, used}
+use Rattle.sudoku_law.specs.Grid.{Cells, IsBlank, IsGrid, any_below, box_of, choices, clash, column_of, conflict, fewest, how_many, row_of}
+use Rattle.sudoku_law.specs.Grid.{shares, side, size, used}
 use Rattle.sudoku_law.proofs.Exact.{fewest_from, none_exact}
 use Rattle.sudoku_law.proofs.Sound.{set_grid}
 use Rattle.sudoku_rules.specs.declared.boards.Board.{Board}

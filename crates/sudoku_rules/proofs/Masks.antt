@@ -1,11 +1,13 @@
 -- Masks of digits: what one more cell adds to them, and what the masks around a cell tell.
-use Rattle.std.proofs.Common.{◌≡◌, ◌<◌, ◌≤◌, ℕ, ◌+◌, ◌-◌, ◌*◌, ◌/◌, ◌^◌, min, max, Bool, true, false, cond, ◌&&◌, ◌||◌, not, ◌↔◌, List, length, get_or, set, replicate, refl, sym, ap, ◌∙◌, inl, inr, arith, eqb, add-one, w16}
+use Rattle.std.proofs.Common.{◌≡◌, ◌<◌, ◌≤◌, ℕ, ◌+◌, ◌-◌, ◌*◌, ◌/◌, ◌^◌, min, max, Bool, true, false, cond, ◌&&◌, ◌||◌, not, ◌↔◌, List}
+use Rattle.std.proofs.Common.{length, get_or, set, replicate, refl, sym, ap, ◌∙◌, inl, inr, arith, eqb, add-one, w16}
 use Rattle.std.specs.Int.{bit_at, IsBitSet}
 use Rattle.std.specs.Int.Bits.{bit_and, bit_or}
 use Rattle.std.proofs.lemmas.Bool.{cases_eq, eq-eqb, ne_eqb, and_right, and_left}
 use Rattle.std.proofs.lemmas.List.{length-set, length-replicate, get_or-set_same, get_or-set_other, get_or-replicate}
 use Rattle.std.proofs.lemmas.Nat.{or_lt, pow_below, pow_pos, and_mask}
-use Rattle.std.proofs.lemmas.Nat.Bits.{bit_at-zero, bit_at_and, bit_at_or, bit_at-pow_same, bit_at-pow_other, bit_at-lt, bit_at_ones, bit_at_not, and_pow}
+use Rattle.std.proofs.lemmas.Nat.Bits.{bit_at-zero, bit_at_and, bit_at_or, bit_at-pow_same, bit_at-pow_other, bit_at-lt, bit_at_ones}
+use Rattle.std.proofs.lemmas.Nat.Bits.{bit_at_not, and_pow}
 use Rattle.std.proofs.Math.Bool.{or_comm}
 use Rattle.sudoku_law.specs.Grid.{Cells, any_below, row_of, column_of, box_of, side, size, shares, clash, used}
 use Rattle.sudoku_rules.specs.declared.look.Masks.{Masks}

@@ -1,5 +1,6 @@
 -- Cells that are kept two in a byte.
-use Rattle.std.proofs.Common.{◌≡◌, ◌<◌, ◌≤◌, ℕ, zero, suc, ◌+◌, ◌*◌, ◌/◌, ◌%◌, List, [], ◌∷◌, ◌++◌, All, append_assoc, append-nil, drop, length, take, get_or, set, refl, sym, ap, ◌∙◌, arith}
+use Rattle.std.proofs.Common.{◌≡◌, ◌<◌, ◌≤◌, ℕ, zero, suc, ◌+◌, ◌*◌, ◌/◌, ◌%◌, List, [], ◌∷◌, ◌++◌, All, append_assoc, append-nil, drop}
+use Rattle.std.proofs.Common.{length, take, get_or, set, refl, sym, ap, ◌∙◌, arith}
 use Rattle.std.proofs.lemmas.List.{at_drop_all, at_drop_more, get_or_default, length-set}
 use Rattle.std.proofs.lemmas.Grind.{take-set_at}
 use Rattle.sudoku_law.specs.Grid.{Cells, IsGrid}
@@ -56,7 +57,8 @@ pairs_long (suc n) [] least most = absurd (omega (arith, least))
 pairs_long zero (x ∷ []) least most = refl
 pairs_long (suc n) (x ∷ []) least most = absurd (omega (arith, least))
 pairs_long zero (x ∷ y ∷ rest) least most = absurd (omega (arith, most))
-pairs_long (suc n) (x ∷ y ∷ rest) least most = let more = pairs_long n rest (omega (arith, least)) (omega (arith, most)) in omega (arith, more)
+pairs_long (suc n) (x ∷ y ∷ rest) least most = let more = pairs_long n rest (omega (arith, least)) (omega (arith, most)) in
+    omega (arith, more)
 
 -- a grid of side 4 or 9 has small cells
 pub small_four : (g : Cells) → IsGrid 2 g → All (λ x. x < 16) g

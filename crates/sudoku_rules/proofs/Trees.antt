@@ -1,12 +1,14 @@
 -- The search tree of a grid of any of the three sides: the boards that its walk hands out are of the same side.
-use Rattle.std.proofs.Common.{◌≡◌, ◌<◌, ℕ, zero, suc, ◌/◌, ◌||◌, List, [], ◌∷◌, ◌++◌, length, set, Option, Some, None, refl, sym, ap, ◌∙◌, subst, arith, All, sum_by, IsPermutation}
+use Rattle.std.proofs.Common.{◌≡◌, ◌<◌, ℕ, zero, suc, ◌/◌, ◌||◌, List, [], ◌∷◌, ◌++◌, length, set, Option, Some, None, refl, sym, ap, ◌∙◌}
+use Rattle.std.proofs.Common.{subst, arith, All, sum_by, IsPermutation}
 use Rattle.std.specs.List.{flat_map, list_any}
 use Rattle.std.proofs.lemmas.Bool.{cond_both}
 use Rattle.std.proofs.lemmas.List.{length-set}
 use Rattle.std.proofs.lemmas.List.Elements.{All-nil, All-cons, All-append, All-head, All-tail, All-weaker}
 use Rattle.std.proofs.lemmas.List.Sums.{sum_by-cons}
 use Rattle.sudoku_law.specs.Grid.{Cells, IsGrid, conflict, candidates, fewest}
-use Rattle.sudoku_law.specs.Tree.{Tree, end, solution, over, child, branches, at_cell, grown, tree, walk, solutions, is_over, handed, boards}
+use Rattle.sudoku_law.specs.Tree.{Tree, end, solution, over, child, branches, at_cell, grown, tree, walk, solutions, is_over, handed}
+use Rattle.sudoku_law.specs.Tree.{boards}
 use Rattle.sudoku_law.proofs.Handed.{met_at, met_cases, boards_add, over_adds, solutions_add}
 use Rattle.sudoku_law.proofs.Nodes.{children_below, solutions_grids}
 use Rattle.sudoku_rules.specs.Sides.{IsSudoku, box_for, box_side, tree_of}

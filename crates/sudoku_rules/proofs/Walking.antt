@@ -1,5 +1,6 @@
 -- One node of the walk, as the code takes it.
-use Rattle.std.proofs.Common.{◌≡◌, ◌<◌, ◌≤◌, ℕ, zero, suc, ◌+◌, ◌-◌, ◌/◌, Bool, true, false, cond, ◌||◌, not, List, [], ◌∷◌, ◌++◌, length, set, filter, Option, Some, None, refl, sym, ap, ◌∙◌, arith, append-nil, append_assoc}
+use Rattle.std.proofs.Common.{◌≡◌, ◌<◌, ◌≤◌, ℕ, zero, suc, ◌+◌, ◌-◌, ◌/◌, Bool, true, false, cond, ◌||◌, not, List, [], ◌∷◌, ◌++◌, length}
+use Rattle.std.proofs.Common.{set, filter, Option, Some, None, refl, sym, ap, ◌∙◌, arith, append-nil, append_assoc}
 use Rattle.std.proofs.Math.Bool.{or-false}
 use Rattle.sudoku_law.specs.Grid.{Cells, side, conflict, candidates, choices, fewest, used, count_up}
 use Rattle.sudoku_law.specs.Tree.{Tree, end, branches, at_cell, tree, hands_out, Met, nothing, both, walk}

@@ -1,5 +1,6 @@
 -- The best of the tours that were found is a least one.
-use Rattle.std.proofs.Common.{◌≡◌, ◌<◌, ◌≤◌, ◌+◌, ℕ, zero, suc, Bool, true, false, cond, List, [], ◌∷◌, ◌++◌, length, drop, get_or, Contains, All, Option, Some, None, Result, Ok, Err, IfOk, refl, sym, ap, ◌∙◌, subst, arith, inl, inr, ◌⊎◌}
+use Rattle.std.proofs.Common.{◌≡◌, ◌<◌, ◌≤◌, ◌+◌, ℕ, zero, suc, Bool, true, false, cond, List, [], ◌∷◌, ◌++◌, length, drop, get_or}
+use Rattle.std.proofs.Common.{Contains, All, Option, Some, None, Result, Ok, Err, IfOk, refl, sym, ap, ◌∙◌, subst, arith, inl, inr, ◌⊎◌}
 use Rattle.std.proofs.lemmas.List.{drop_more}
 use Rattle.std.proofs.lemmas.List.Elements.{All-head, All-tail}
 use Rattle.tour_law.specs.Tours.{Costs, IsLeast, IsTour, cost}
@@ -135,7 +136,8 @@ told_by items n c found price tour count shown (Ok text) hold is count_is same t
       p.tour,
       p.least,
       text_is ∙ ap (λ k. tour_text k price shown) count_is ∙ ap (tour_text n price) same
-          ∙ ap (λ k. tour_text n k tour) (ap (λ (x : ℕ × List ℕ). x.0) e) ∙ ap (tour_text n (cost c p.tour)) (ap (λ (x : ℕ × List ℕ). x.1) e),
+          ∙ ap (λ k. tour_text n k tour) (ap (λ (x : ℕ × List ℕ). x.0) e)
+          ∙ ap (tour_text n (cost c p.tour)) (ap (λ (x : ℕ × List ℕ). x.1) e),
     )
 
 -- one tour more

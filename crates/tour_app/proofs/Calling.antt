@@ -10,7 +10,8 @@ use Rattle.tour_app.specs.declared.program.TourProgram.{TourProgram}
 use Rattle.tour_app.specs.declared.units.TourUnit.{TourUnit}
 
 -- a call behind others
-pub goes_snoc : (b : Books TourUnit) (said : List Said) (mid next : Books TourUnit) (s : Said) → Goes tours b said mid → Moves tours mid s next →
+pub goes_snoc : (b : Books TourUnit) (said : List Said) (mid next : Books TourUnit) (s : Said) → Goes tours b said mid
+    → Moves tours mid s next →
     Goes tours b (said ++ s ∷ []) next
 goes_snoc b [] mid next s same move = (next, subst (λ x. Moves tours x s next) (sym same) move, refl)
 goes_snoc b (t ∷ said) mid next s goes move = (goes.0, goes.1, goes_snoc goes.0 said mid next s goes.2 move)

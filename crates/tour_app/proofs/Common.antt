@@ -1,5 +1,7 @@
 -- Common parts, written and read back.
-use Rattle.std.proofs.Common.{◌≡◌, ◌<◌, ◌≤◌, Result, Ok, Err, IfOk, ◌+◌, ◌-◌, ◌*◌, ◌^◌, ◌&&◌, ℕ, zero, suc, Bool, true, false, cond, List, [], ◌∷◌, ◌++◌, length, take, drop, All, get_or, Option, Some, None, refl, sym, ap, ◌∙◌, subst, arith, append_assoc, append-nil, length-append, length-drop}
+use Rattle.std.proofs.Common.{◌≡◌, ◌<◌, ◌≤◌, Result, Ok, Err, IfOk, ◌+◌, ◌-◌, ◌*◌, ◌^◌, ◌&&◌, ℕ, zero, suc, Bool, true, false, cond, List}
+use Rattle.std.proofs.Common.{[], ◌∷◌, ◌++◌, length, take, drop, All, get_or, Option, Some, None, refl, sym, ap, ◌∙◌, subst, arith}
+use Rattle.std.proofs.Common.{append_assoc, append-nil, length-append, length-drop}
 use Rattle.std.specs.Prelude.{flat_map, nat_le}
 use Rattle.std.specs.Int.{from_be_bytes, to_be_bytes, w32}
 use Rattle.std.proofs.lemmas.Bool.{and_from, and_parts, cond-true, leb-true, le-leb}
@@ -44,7 +46,8 @@ words_start count bytes first enough =
     }
 
 pub words_more : (count : ℕ) (bytes first : List ℕ) (i : ℕ) (rest now next new : List ℕ) (x : ℕ) → WordsSoFar count bytes first i rest now →
-    i < count → x ≡ from_be_bytes w32 (take 4 rest) → next ≡ drop 4 rest → new ≡ now ++ x ∷ [] → WordsSoFar count bytes first (i + 1) next new
+    i < count → x ≡ from_be_bytes w32 (take 4 rest) → next ≡ drop 4 rest → new ≡ now ++ x ∷ []
+    → WordsSoFar count bytes first (i + 1) next new
 unfolding words_in behind_words
 words_more count bytes first i rest now next new x far within is on more =
     let step : count - i ≡ suc (count - (i + 1)) = omega arith in
@@ -166,11 +169,13 @@ pub if_ok_same : {X E : Type 0} (r : Result X E) (a b : X) → a ≡ b → IfOk 
 if_ok_same (Ok x) a b same is = is ∙ same
 if_ok_same (Err e) a b same is = tt
 
-pub if_ok_short : {E : Type 0} (n : ℕ) (r : Result (List ℕ) E) (a : List ℕ) → length a ≤ n → IfOk r (λ x. x ≡ a) → IfOk r (λ x. length x ≤ n)
+pub if_ok_short : {E : Type 0} (n : ℕ) (r : Result (List ℕ) E) (a : List ℕ) → length a ≤ n → IfOk r (λ x. x ≡ a)
+    → IfOk r (λ x. length x ≤ n)
 if_ok_short n (Ok x) a few is = omega (arith, few, ap length is)
 if_ok_short n (Err e) a few is = tt
 
-pub common_is : (s : StartModel) (n : ℕ) (rows first none one more all : List ℕ) → n ≡ s.cities.count → rows ≡ s.cities.rows → first ≡ s.first →
+pub common_is : (s : StartModel) (n : ℕ) (rows first none one more all : List ℕ) → n ≡ s.cities.count → rows ≡ s.cities.rows
+    → first ≡ s.first →
     none ≡ [] → one ≡ none ++ n ∷ [] → more ≡ one ++ words rows → all ≡ more ++ first → all ≡ common_part s
 unfolding common_part
 common_is s n rows first none one more all n_is rows_are first_is none_is one_is more_is all_are =

@@ -1,5 +1,6 @@
 -- What a desk has when units come.
-use Rattle.std.proofs.Common.{◌≡◌, ◌<◌, ◌≤◌, ◌+◌, ◌-◌, ◌==◌, ℕ, zero, suc, Bool, true, false, cond, not, List, [], ◌∷◌, ◌++◌, map, length, Option, Some, None, refl, sym, ap, ◌∙◌, subst, arith, append_assoc, append-nil}
+use Rattle.std.proofs.Common.{◌≡◌, ◌<◌, ◌≤◌, ◌+◌, ◌-◌, ◌==◌, ℕ, zero, suc, Bool, true, false, cond, not, List, [], ◌∷◌, ◌++◌, map, length}
+use Rattle.std.proofs.Common.{Option, Some, None, refl, sym, ap, ◌∙◌, subst, arith, append_assoc, append-nil}
 use Rattle.std.specs.Prelude.{OnOk, Result, filter, flat_map, option_to_list}
 use Rattle.std.specs.List.{range_with_len}
 use Rattle.std.proofs.lemmas.List.{map-append}
@@ -24,12 +25,14 @@ pub made_is : (common : List ℕ) (unit : TourUnit) (o : Option TourUnit) → o 
     made_by tours (arrival tours common unit) ≡ option_to_list o
 made_is common unit o e = ap option_to_list (over_same common unit ∙ sym e)
 
-pub front_is : (common : List ℕ) (unit : TourUnit) (o : Option TourUnit) (old mid new : List TourUnit) → o ≡ made_of common unit → mid ≡ old →
+pub front_is : (common : List ℕ) (unit : TourUnit) (o : Option TourUnit) (old mid new : List TourUnit)
+    → o ≡ made_of common unit → mid ≡ old →
     new ≡ option_to_list o ++ mid → new ≡ made_by tours (arrival tours common unit) ++ old
 front_is common unit o old mid new e same more =
     more ∙ ap (λ l. option_to_list o ++ l) same ∙ ap (λ l. l ++ old) (sym (made_is common unit o e))
 
-pub back_is : (common : List ℕ) (unit : TourUnit) (o : Option TourUnit) (old mid new : List TourUnit) → o ≡ made_of common unit → mid ≡ old →
+pub back_is : (common : List ℕ) (unit : TourUnit) (o : Option TourUnit) (old mid new : List TourUnit)
+    → o ≡ made_of common unit → mid ≡ old →
     new ≡ mid ++ option_to_list o → new ≡ old ++ made_by tours (arrival tours common unit)
 back_is common unit o old mid new e same more =
     more ∙ ap (λ l. l ++ option_to_list o) same ∙ ap (λ l. old ++ l) (sym (made_is common unit o e))
@@ -49,7 +52,8 @@ pub record OverSoFar (common : List ℕ) (all : List TourUnit) (old now : Desk) 
 
 pub over_more : (common : List ℕ) (all : List TourUnit) (old now next : Desk) (left rest : List TourUnit) (unit : TourUnit) →
     OverSoFar common all old now left → left ≡ unit ∷ rest →
-    next.waiting.items ≡ now.waiting.items ++ made_by tours (arrival tours common unit) → next.found.items ≡ now.found.items ++ found_in unit →
+    next.waiting.items ≡ now.waiting.items ++ made_by tours (arrival tours common unit)
+    → next.found.items ≡ now.found.items ++ found_in unit →
     OverSoFar common all old next rest
 over_more common all old now next left rest unit far is waits stays =
     let later : List TourUnit = flat_map (made_by tours) (over_bytes tours common rest) in
@@ -74,7 +78,8 @@ over_end common all old now left far none = record {
 
 among_more : (a : ℕ) (xs ys : List ℕ) → pairs_among a (xs ++ ys) ≡ pairs_among a xs ++ pairs_among a ys
 among_more a xs ys =
-    ap (map (Pair a)) (filter-append (λ b. not (b == a)) xs ys) ∙ map-append (Pair a) (filter (λ b. not (b == a)) xs) (filter (λ b. not (b == a)) ys)
+    ap (map (Pair a)) (filter-append (λ b. not (b == a)) xs ys)
+    ∙ map-append (Pair a) (filter (λ b. not (b == a)) xs) (filter (λ b. not (b == a)) ys)
 
 -- the pairs of a city and one more
 pub among_step : (a b : ℕ) (first now new : List TourUnit) → 1 ≤ b → now ≡ first ++ pairs_among a (range_with_len 1 (b - 1)) →

@@ -1,5 +1,6 @@
 -- What calls make of a link, by what they come to.
-use Rattle.std.proofs.Common.{◌≡◌, ℕ, ℤ, Bool, true, false, List, [], ◌∷◌, ◌++◌, Option, Some, None, Result, Ok, Err, IfOk, OnOk, OnErr, refl, sym, ap, ◌∙◌, subst, inl, inr, ◌⊎◌}
+use Rattle.std.proofs.Common.{◌≡◌, ℕ, ℤ, Bool, true, false, List, [], ◌∷◌, ◌++◌, Option, Some, None, Result, Ok, Err, IfOk, OnOk, OnErr}
+use Rattle.std.proofs.Common.{refl, sym, ap, ◌∙◌, subst, inl, inr, ◌⊎◌}
 use Rattle.adlb_rank.specs.Calls.{HasTaken, Stays, Takes, answer_of, replied}
 use Rattle.adlb_rank.specs.declared.replies.Reply.{Reply}
 use Rattle.adlb_rank.specs.declared.replies.Reply.TheVariants as replies
@@ -24,12 +25,14 @@ pub on_ok : {X E : Type 0} (P : Type 0) → P → (r : Result X E) → OnOk r P
 on_ok P is (Ok x) = is
 on_ok P is (Err e) = tt
 
-pub says_by : (old new : List Said) (call made : Call) (r : Result Reply Trouble) → call ≡ made → new ≡ plus old call (answered (replied r)) →
+pub says_by : (old new : List Said) (call made : Call) (r : Result Reply Trouble) → call ≡ made
+    → new ≡ plus old call (answered (replied r)) →
     IfOk r (λ reply. new ≡ old ++ said_of made (answer_of reply) ∷ [])
 says_by old new call made (Ok reply) same is = is ∙ ap (λ (c : Call). old ++ said_of c (answer_of reply) ∷ []) same
 says_by old new call made (Err trouble) same is = tt
 
-pub same_by : (old new : List Said) (call : Call) (r : Result Reply Trouble) → new ≡ plus old call (answered (replied r)) → OnErr r (new ≡ old)
+pub same_by : (old new : List Said) (call : Call) (r : Result Reply Trouble) → new ≡ plus old call (answered (replied r))
+    → OnErr r (new ≡ old)
 same_by old new call (Ok reply) is = tt
 same_by old new call (Err trouble) is = is
 
@@ -41,7 +44,8 @@ pub too_long_by : (now : Option Trouble) (r : Result Reply Trouble) → now ≡ 
     now ≡ Some (TooLong stamp)
 too_long_by now r is stamp e = is ∙ ap (λ (x : Result Reply Trouble). troubled (replied x)) e
 
-pub begun_by : (old new : LinkModel) (call made : Call) (r : Result Reply Trouble) → call ≡ made → old.failed ≡ None → Made old new call (replied r) →
+pub begun_by : (old new : LinkModel) (call made : Call) (r : Result Reply Trouble) → call ≡ made → old.failed ≡ None
+    → Made old new call (replied r) →
     Pends (unanswered new.failed new.begun) made
 begun_by old new call made r same whole is =
     subst (λ (c : Call). Pends (unanswered new.failed new.begun) c) same
@@ -56,7 +60,8 @@ keeps_by old new call r is stays = record {
   too_long = stays.too_long;
 }
 
-pub batch_by : (common : List ℕ) (now on : Bool) (r : Result Reply Trouble) → now ≡ batch_after (BeginBatch common) (replied r) on → on ≡ false →
+pub batch_by : (common : List ℕ) (now on : Bool) (r : Result Reply Trouble) → now ≡ batch_after (BeginBatch common) (replied r) on
+    → on ≡ false →
     IfOk r (λ reply. now ≡ is_accepted reply)
 batch_by common now on (Ok replies.Accepted) is closed = is
 batch_by common now on (Ok replies.Rejected) is closed = is ∙ closed

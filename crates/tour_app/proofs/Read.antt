@@ -1,5 +1,6 @@
 -- Units are read back from their bodies.
-use Rattle.std.proofs.Common.{◌≡◌, ◌<◌, ◌≤◌, ◌+◌, ◌-◌, ◌^◌, ◌==◌, ◌&&◌, ℕ, zero, suc, Bool, true, false, cond, List, [], ◌∷◌, ◌++◌, length, take, drop, All, Option, Some, None, refl, sym, ap, ◌∙◌, subst, arith, length-append}
+use Rattle.std.proofs.Common.{◌≡◌, ◌<◌, ◌≤◌, ◌+◌, ◌-◌, ◌^◌, ◌==◌, ◌&&◌, ℕ, zero, suc, Bool, true, false, cond, List, [], ◌∷◌, ◌++◌, length}
+use Rattle.std.proofs.Common.{take, drop, All, Option, Some, None, refl, sym, ap, ◌∙◌, subst, arith, length-append}
 use Rattle.std.specs.Prelude.{nat_le, nat_lt, option_to_list}
 use Rattle.std.specs.Int.{from_be_bytes, to_be_bytes, w64}
 use Rattle.std.proofs.lemmas.Bool.{and_from, and_parts, le-leb, leb-true, lt-ltb, ltb-true}
@@ -15,13 +16,15 @@ use Rattle.tour_app.specs.declared.units.TourUnit.TheVariants.{Pair, Answer}
 use Rattle.tour_law.specs.Tours.{cost}
 use Rattle.tour_law.specs.Search.{is_better}
 
-answer_back : (price : ℕ) (tour : List ℕ) → price < 2 ^ 64 → length tour ≤ 12 → answer_in (body_of (Answer price tour)) ≡ Some (Answer price tour)
+answer_back : (price : ℕ) (tour : List ℕ) → price < 2 ^ 64 → length tour ≤ 12
+    → answer_in (body_of (Answer price tour)) ≡ Some (Answer price tour)
 answer_back price tour small few =
     let body : List ℕ = to_be_bytes w64 price ++ tour in
     let eight : length (to_be_bytes w64 price) ≡ 8 = refl in
     let long : length body ≡ 8 + length tour = omega (arith, length-append (to_be_bytes w64 price) tour, eight) in
     let fits : (nat_le 8 (length body) && nat_le (length body) 20) ≡ true =
-    and_from (nat_le 8 (length body)) (nat_le (length body) 20) (le-leb 8 (length body) (omega arith)) (le-leb (length body) 20 (omega arith)) in
+    and_from (nat_le 8 (length body)) (nat_le (length body) 20) (le-leb 8 (length body) (omega arith))
+    (le-leb (length body) 20 (omega arith)) in
     ap (λ b. cond b (Some (Answer (from_be_bytes w64 (take 8 body)) (drop 8 body))) None) fits
     ∙ ap (λ k. Some (Answer k tour)) (from_be_bytes-to_be_bytes_8 price small)
 

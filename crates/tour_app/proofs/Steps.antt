@@ -1,5 +1,6 @@
 -- One more call of a rank, and what it leaves.
-use Rattle.std.proofs.Common.{◌≡◌, ◌<◌, ◌≤◌, ℕ, Bool, true, false, List, [], ◌∷◌, ◌++◌, Option, Some, None, refl, sym, ap, ◌∙◌, subst, append_assoc, append-nil, cond, MatchBool}
+use Rattle.std.proofs.Common.{◌≡◌, ◌<◌, ◌≤◌, ℕ, Bool, true, false, List, [], ◌∷◌, ◌++◌, Option, Some, None, refl, sym, ap, ◌∙◌, subst}
+use Rattle.std.proofs.Common.{append_assoc, append-nil, cond, MatchBool}
 use Rattle.std.specs.Prelude.{flat_map, nat_lt}
 use Rattle.std.proofs.lemmas.Bool.{lt-ltb, le-ltb}
 use Rattle.adlb_rank.specs.Calls.{answer_of}
@@ -10,7 +11,9 @@ use Rattle.bag_ledger.specs.declared.entries.Answer.TheVariants.{Fine, Rejected,
 use Rattle.bag_ledger.specs.declared.entries.Call.{Call}
 use Rattle.bag_ledger.specs.declared.entries.Call.TheVariants.{Reserve, Fetch, BeginBatch, EndBatch}
 use Rattle.bag_ledger.specs.declared.entries.Said.{Said}
-use Rattle.work_law.specs.Books.{Books, Goes, Moves, Task, Put, Begin, End, accepted, rejected, stopped, begun, refused, stopped_before, closed, closed_behind, granted, told, fetched, bytes_on, brought, going, holding, over_bytes, put_all, received, said_of, shut, without_batch}
+use Rattle.work_law.specs.Books.{Books, Goes, Moves, Task, Put, Begin, End, accepted, rejected, stopped, begun, refused, stopped_before}
+use Rattle.work_law.specs.Books.{closed, closed_behind, granted, told, fetched, bytes_on, brought, going, holding, over_bytes, put_all}
+use Rattle.work_law.specs.Books.{received, said_of, shut, without_batch}
 use Rattle.work_law.specs.Work.{Arrival, arrival, common_bytes, fetched_unit, made_by, put_of}
 use Rattle.tour_app.specs.Bodies.{common_part}
 use Rattle.tour_app.specs.Calls.{grant}
@@ -45,7 +48,8 @@ stays p d e came same is = ap (λ f. f.items) same ∙ is
 
 -- Puts.
 
-pub accepted_is : (p : TourProgram) (said new : List Said) (d e : Desk) (x : TourUnit) (rest : List (Task TourUnit)) (on : Option (List ℕ)) →
+pub accepted_is : (p : TourProgram) (said new : List Said) (d e : Desk) (x : TourUnit) (rest : List (Task TourUnit))
+    (on : Option (List ℕ)) →
     IsGoing p said d rest on → Popped x d e → fits x ≡ true → new ≡ said ++ said_of (put_of tours x) Fine ∷ [] → IsGoing p new e rest on
 accepted_is p said new d e x rest on is popped form one = record {
   came = is.came;
@@ -119,7 +123,8 @@ stopped_so p said new d e x end rest on is popped one = record {
 }
 
 -- a unit that no server takes, when memory for its work is short
-pub rejected_so : (p : TourProgram) (said new : List Said) (d e : Desk) (x : TourUnit) (rest : List (Task TourUnit)) (on : Option (List ℕ)) →
+pub rejected_so : (p : TourProgram) (said new : List Said) (d e : Desk) (x : TourUnit) (rest : List (Task TourUnit))
+    (on : Option (List ℕ)) →
     IsGoing p said d rest on → Popped x d e → new ≡ said ++ said_of (put_of tours x) Rejected ∷ [] → IsSoFar p new
 rejected_so p said new d e x rest on is popped one = record {
   last = received tours (arrival tours (bytes_on on) x) (put_all e.waiting.items ++ rest) on is.came;

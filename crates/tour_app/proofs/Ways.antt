@@ -18,7 +18,8 @@ use Rattle.tour_app.specs.declared.desk.Desk.{Desk}
 use Rattle.tour_app.specs.declared.program.TourProgram.{TourProgram}
 use Rattle.tour_app.specs.declared.units.TourUnit.{TourUnit}
 use Rattle.tour_app.proofs.Calling.{so_front}
-use Rattle.tour_app.proofs.Steps.{Popped, brought_so, ended_so, going_so, granted_so, passes_closed, passes_so, refused_so, stopped_so, told_is}
+use Rattle.tour_app.proofs.Steps.{Popped, brought_so, ended_so, going_so, granted_so, passes_closed, passes_so, refused_so, stopped_so}
+use Rattle.tour_app.proofs.Steps.{told_is}
 
 -- a call of a link that had not failed is what is begun, if anything is
 pub began_pends : (before : Option Trouble) (was : Option Call) (call : Call) (now : Option Trouble) (begun : Option Call) → before ≡ None →

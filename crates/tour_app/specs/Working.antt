@@ -52,7 +52,7 @@ pub record IsReady (m : LinkModel) : Type 0 where
 abbrev pub IsOnWay : TourProgram → LinkModel → Type 0
 IsOnWay p m = IsUnderWay p m.said (unanswered m.failed m.begun)
 
--- whom the link serves stays; at `Ok` it has not failed, and a batch goes on or not, as `on` says; and it failed with the stamp that is told
+-- whom the link serves stays; at `Ok` it has not failed, and a batch goes on or not, as `on` says; it failed with the stamp that is told
 pub record Keeps {X : Type 0} (old new : LinkModel) (on : Bool) (r : Result X Trouble) : Type 0 where
   pub seat : new.seat ≡ old.seat
   pub whole : OnOk r (new.failed ≡ None)

@@ -1,5 +1,6 @@
 -- The work of a run over cities: its units, what the work on each makes, and what stays with a rank.
-use Rattle.std.specs.Prelude.{ℕ, ◌-◌, ◌==◌, ◌^◌, nat_le, nat_lt, pos, Bool, true, false, not, ◌&&◌, is_none, option_to_list, List, [], ◌∷◌, ◌++◌, length, map, filter, flat_map, Option, Some, None, if◌then◌else◌}
+use Rattle.std.specs.Prelude.{ℕ, ◌-◌, ◌==◌, ◌^◌, nat_le, nat_lt, pos, Bool, true, false, not, ◌&&◌, is_none, option_to_list, List, [], ◌∷◌}
+use Rattle.std.specs.Prelude.{◌++◌, length, map, filter, flat_map, Option, Some, None, if◌then◌else◌}
 use Rattle.std.specs.List.{range_with_len}
 use Rattle.adlb_unit.specs.declared.names.Rank.{Rank}
 use Rattle.adlb_unit.specs.declared.names.Target.TheVariants.{Any, Only}

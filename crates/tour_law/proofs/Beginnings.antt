@@ -1,5 +1,6 @@
 -- Beginnings of tours: how they go on, what they cost, and when nothing is lost by cutting one.
-use Rattle.std.proofs.Common.{◌≡◌, ◌<◌, ◌≤◌, ◌+◌, ◌-◌, ◌*◌, ◌==◌, ℕ, zero, suc, List, [], ◌∷◌, ◌++◌, length, get_or, take, All, Some, inl, inr, ◌⊎◌, refl, sym, ap, ◌∙◌, subst, arith, append_assoc, append-nil}
+use Rattle.std.proofs.Common.{◌≡◌, ◌<◌, ◌≤◌, ◌+◌, ◌-◌, ◌*◌, ◌==◌, ℕ, zero, suc, List, [], ◌∷◌, ◌++◌, length, get_or, take, All, Some, inl}
+use Rattle.std.proofs.Common.{inr, ◌⊎◌, refl, sym, ap, ◌∙◌, subst, arith, append_assoc, append-nil}
 use Rattle.std.specs.Prelude.{sum_by, slice_get}
 use Rattle.std.specs.Cmp.Lexicographic.{slice_cmp}
 use Rattle.std.specs.Ordering.{nat_cmp, ordering_then}
@@ -57,7 +58,8 @@ next n p tour less is on = at on.0 on.1
         absurd (omega (arith, long, both))
     at (x ∷ rest) e =
         let here : All (λ y. y < n) (p ++ x ∷ rest) = subst (λ l. All (λ y. y < n) l) e is.cities in
-        let below : x < n = All-contains (λ y. y < n) (p ++ x ∷ rest) x here (Contains-append_right p (x ∷ rest) x (0, omega arith, refl)) in
+        let below : x < n =
+        All-contains (λ y. y < n) (p ++ x ∷ rest) x here (Contains-append_right p (x ∷ rest) x (0, omega arith, refl)) in
         let once : times x (p ++ x ∷ rest) ≡ 1 = ap (times x) (sym e) ∙ is.once x below in
         record {
           x = x;
@@ -142,7 +144,8 @@ last_at a q =
     let e : suc (suc (length q)) - 1 ≡ suc (length q) = omega arith in
     ap (λ k. get_or (0 ∷ a ∷ q) k 0) e ∙ end_is a q 0
 
-pub path_cost-more : (n : ℕ) (c : Costs) (p : List ℕ) (y : ℕ) → IsBeginning n p → path_cost c (p ++ y ∷ []) ≡ path_cost c p + c (last_of p) y
+pub path_cost-more : (n : ℕ) (c : Costs) (p : List ℕ) (y : ℕ) → IsBeginning n p
+    → path_cost c (p ++ y ∷ []) ≡ path_cost c p + c (last_of p) y
 path_cost-more n c p y is =
     let s = shape n p is in
     let l : last_of p ≡ end_of s.a s.q = ap last_of s.is ∙ last_at s.a s.q in
@@ -215,7 +218,8 @@ module _ (n : ℕ) (c : Costs) (out : ℕ → ℕ) (some : 0 < n) (ways : IsWayO
         let m : sum_by out p ≡ sum_by out (0 ∷ s.a ∷ s.q) = ap (sum_by out) s.is in
         omega (arith, o, w, m, rest)
 
-    pub cut_above : cost c known < path_cost c p + out (last_of p) + left → (tour : List ℕ) → IsTour n tour → Continues p tour → IsAsGood c known tour
+    pub cut_above : cost c known < path_cost c p + out (last_of p) + left → (tour : List ℕ) → IsTour n tour → Continues p tour
+        → IsAsGood c known tour
     cut_above exceeds tour of on =
         let s = shape n p is in
         let b = its_bound s in
@@ -244,7 +248,8 @@ pub last_below : (n : ℕ) (p : List ℕ) → IsBeginning n p → last_of p < n
 last_below n p is = let long = is.long in All-get_or (λ x. x < n) p (length p - 1) 0 (omega arith) is.cities
 
 -- one city more is still within the sum of all
-pub left_enough : (n : ℕ) (f : ℕ → ℕ) (p : List ℕ) (x left : ℕ) → IsBeginning n p → x < n → times x p ≡ 0 → left + sum_by f p ≡ sum_below n f →
+pub left_enough : (n : ℕ) (f : ℕ → ℕ) (p : List ℕ) (x left : ℕ) → IsBeginning n p → x < n → times x p ≡ 0
+    → left + sum_by f p ≡ sum_below n f →
     f x ≤ left
 left_enough n f p x left is below new rest =
     let more = longer n p x is below new in

@@ -1,5 +1,6 @@
 -- The list of all tours has each tour and nothing else, so its best is the least tour.
-use Rattle.std.proofs.Common.{◌≡◌, ◌<◌, ◌≤◌, ◌+◌, ◌-◌, ◌==◌, ℕ, zero, suc, Bool, true, false, cond, ◌&&◌, List, [], ◌∷◌, ◌++◌, map, length, get_or, slice_get, Contains, All, count_by, Some, refl, sym, ap, ◌∙◌, subst, arith, inl, inr, ◌⊎◌}
+use Rattle.std.proofs.Common.{◌≡◌, ◌<◌, ◌≤◌, ◌+◌, ◌-◌, ◌==◌, ℕ, zero, suc, Bool, true, false, cond, ◌&&◌, List, [], ◌∷◌, ◌++◌, map, length}
+use Rattle.std.proofs.Common.{get_or, slice_get, Contains, All, count_by, Some, refl, sym, ap, ◌∙◌, subst, arith, inl, inr, ◌⊎◌}
 use Rattle.std.specs.List.{flat_map, range_with_len}
 use Rattle.std.specs.Prelude.{filter}
 use Rattle.std.proofs.lemmas.Bool.{cases_eq, cases_lt, eq-eqb, eqb-true}
@@ -8,7 +9,8 @@ use Rattle.std.proofs.lemmas.List.Sums.{sum_by-cons}
 use Rattle.tour_law.specs.Tours.{Costs, IsLeast, IsTour}
 use Rattle.tour_law.specs.Search.{IsAsGood, all_tours, begins_with, best, is_better, least, orders, pair_best, picks}
 use Rattle.tour_law.specs.Beginnings.{Continues}
-use Rattle.tour_law.proofs.Members.{All-there, Among, Contains-flat, Contains-head, Contains-later, Contains-map, From, flat_from, head_cases, map_from, none_there, there_counts}
+use Rattle.tour_law.proofs.Members.{All-there, Among, Contains-flat, Contains-head, Contains-later, Contains-map, From, flat_from}
+use Rattle.tour_law.proofs.Members.{head_cases, map_from, none_there, there_counts}
 use Rattle.tour_law.proofs.Once.{times, times-other, times-same, times-more}
 use Rattle.tour_law.proofs.Orders.{good_itself, good_of_better, good_of_not, good_on, good_same, least_of_good}
 
@@ -117,7 +119,8 @@ range_once : (a n k : ℕ) → a ≤ k → k < a + n → times k (range_with_len
 range_once a zero k low high = absurd (omega arith)
 range_once a (suc n) k low high = elim (cases_eq a k) [
   | inl same ↦
-      let e : times k (a ∷ range_with_len (a + 1) n) ≡ times a (a ∷ range_with_len (a + 1) n) = ap (λ z. times z (a ∷ range_with_len (a + 1) n)) (sym same) in
+      let e : times k (a ∷ range_with_len (a + 1) n) ≡ times a (a ∷ range_with_len (a + 1) n) =
+      ap (λ z. times z (a ∷ range_with_len (a + 1) n)) (sym same) in
       omega (arith, e, times-same a (range_with_len (a + 1) n), range_past (a + 1) n a (omega arith))
   | inr other ↦ times-other a k (range_with_len (a + 1) n) other ∙ range_once (a + 1) n k (omega arith) (omega arith)
 ]
@@ -161,7 +164,8 @@ tours_has n (x ∷ t) some is =
         ]
 
 -- each list with these counts is a tour
-counted_tour : (n : ℕ) (t : List ℕ) → slice_get t 0 ≡ Some 0 → ((k : ℕ) → k < n → times k t ≡ 1) → ((k : ℕ) → n ≤ k → times k t ≡ 0) → IsTour n t
+counted_tour : (n : ℕ) (t : List ℕ) → slice_get t 0 ≡ Some 0 → ((k : ℕ) → k < n → times k t ≡ 1)
+    → ((k : ℕ) → n ≤ k → times k t ≡ 0) → IsTour n t
 counted_tour n t begins once none = record {
   begins = begins;
   once = once;
@@ -212,7 +216,8 @@ unfolding best
 best_is c t [] = record { one_of = inl refl; good = good_itself c t; each = λ k d below. absurd (omega arith) }
 best_is c t (u ∷ ts) = at (is_better c u t) refl (best_is c u ts) (best_is c t ts)
   where
-    at : (b : Bool) → b ≡ is_better c u t → IsBest c u ts (best c u ts) → IsBest c t ts (best c t ts) → IsBest c t (u ∷ ts) (best c (cond b u t) ts)
+    at : (b : Bool) → b ≡ is_better c u t → IsBest c u ts (best c u ts) → IsBest c t ts (best c t ts)
+        → IsBest c t (u ∷ ts) (best c (cond b u t) ts)
     at true e of_u of_t = record {
       one_of = elim of_u.one_of [
         | inl same ↦ inr (subst (λ z. Contains (u ∷ ts) z) (sym same) (Contains-head u ts))
@@ -261,7 +266,8 @@ kept_from : (p : List ℕ → Bool) (ts : List (List ℕ)) (t : List ℕ) → Co
 kept_from p [] t there = absurd (none_there t there)
 kept_from p (u ∷ ts) t there = at (p u) refl there (kept_from p ts t)
   where
-    at : (b : Bool) → b ≡ p u → Contains (cond b (u ∷ filter p ts) (filter p ts)) t → (Contains (filter p ts) t → IsKept p ts t) → IsKept p (u ∷ ts) t
+    at : (b : Bool) → b ≡ p u → Contains (cond b (u ∷ filter p ts) (filter p ts)) t → (Contains (filter p ts) t → IsKept p ts t)
+        → IsKept p (u ∷ ts) t
     at true e th on = elim (head_cases u t (filter p ts) th) [
       | inl same ↦ record {
         there = subst (λ z. Contains (u ∷ ts) z) same (Contains-head u ts);
@@ -290,7 +296,8 @@ module _ (n : ℕ) (c : Costs) (first : List ℕ) (a b : ℕ) (some : 1 ≤ n) w
       let x = best_is c first (filter (begins_with a b) (all_tours n)) in
       elim x.one_of [
         | inl same ↦ subst (IsTour n) (sym same) is
-        | inr there ↦ tours_only n (pair_best n c first a b) some (kept_from (begins_with a b) (all_tours n) (pair_best n c first a b) there).there
+        | inr there ↦
+            tours_only n (pair_best n c first a b) some (kept_from (begins_with a b) (all_tours n) (pair_best n c first a b) there).there
       ]
 
   -- whatever a search finds that is one of these tours and as good as all is this one
@@ -321,5 +328,8 @@ module _ (n : ℕ) (c : Costs) (first : List ℕ) (a b : ℕ) (some : 1 ≤ n) w
       begins_continues n a b (x ∷ y ∷ []) is e = absurd (cc)
       begins_continues n a b (x ∷ y ∷ z ∷ rest) is e =
           let p = both (y == a) (z == b) e in
-          let zero_first : x ≡ 0 = let h = is.begins in cc in
-          (rest, ap (λ k. k ∷ y ∷ z ∷ rest) zero_first ∙ ap (λ k. 0 ∷ k ∷ z ∷ rest) (eqb-true y a p.0) ∙ ap (λ k. 0 ∷ a ∷ k ∷ rest) (eqb-true z b p.1))
+          let zero_first : x ≡ 0 = let h = is.begins in cc in (
+            rest,
+            ap (λ k. k ∷ y ∷ z ∷ rest) zero_first ∙ ap (λ k. 0 ∷ k ∷ z ∷ rest) (eqb-true y a p.0)
+                ∙ ap (λ k. 0 ∷ a ∷ k ∷ rest) (eqb-true z b p.1),
+          )

@@ -1,5 +1,6 @@
 -- What a list contains, and what is counted in it.
-use Rattle.std.proofs.Common.{◌≡◌, ◌<◌, ◌≤◌, ◌+◌, ℕ, zero, suc, Bool, true, false, cond, List, [], ◌∷◌, ◌++◌, map, length, get_or, Contains, All, count_by, refl, sym, ap, ◌∙◌, subst, arith, inl, inr, ◌⊎◌}
+use Rattle.std.proofs.Common.{◌≡◌, ◌<◌, ◌≤◌, ◌+◌, ℕ, zero, suc, Bool, true, false, cond, List, [], ◌∷◌, ◌++◌, map, length, get_or, Contains}
+use Rattle.std.proofs.Common.{All, count_by, refl, sym, ap, ◌∙◌, subst, arith, inl, inr, ◌⊎◌}
 use Rattle.std.specs.List.{flat_map}
 use Rattle.std.specs.Prelude.{filter}
 use Rattle.std.proofs.lemmas.List.Elements.{Contains-append_cases, Contains-append_left, Contains-append_right, All-nil, All-cons}
@@ -53,7 +54,8 @@ flat_from f (x ∷ xs) y there = elim (Contains-append_cases (f x) (flat_map f x
   | inr later ↦ let rest = flat_from f xs y later in record { x = rest.x; there = Contains-later x rest.x xs rest.there; is = rest.is }
 ]
 
-pub Contains-flat : {X Y : Type 0} (f : X → List Y) (xs : List X) (x : X) (y : Y) → Contains xs x → Contains (f x) y → Contains (flat_map f xs) y
+pub Contains-flat : {X Y : Type 0} (f : X → List Y) (xs : List X) (x : X) (y : Y) → Contains xs x → Contains (f x) y
+    → Contains (flat_map f xs) y
 Contains-flat f [] x y there is = absurd (none_there x there)
 Contains-flat f (z ∷ xs) x y there is = elim (head_cases z x xs there) [
   | inl same ↦ Contains-append_left (f z) (flat_map f xs) y (subst (λ w. Contains (f w) y) (sym same) is)

@@ -1,5 +1,6 @@
 -- Lists in which each number stands once at most, and sums over tours.
-use Rattle.std.proofs.Common.{◌≡◌, ◌<◌, ◌≤◌, ◌+◌, ◌*◌, ◌==◌, ℕ, zero, suc, Bool, true, false, cond, List, [], ◌∷◌, ◌++◌, length, All, count_by, refl, sym, ap, ◌∙◌, arith, inl, inr, ◌⊎◌, zero-add}
+use Rattle.std.proofs.Common.{◌≡◌, ◌<◌, ◌≤◌, ◌+◌, ◌*◌, ◌==◌, ℕ, zero, suc, Bool, true, false, cond, List, [], ◌∷◌, ◌++◌, length, All}
+use Rattle.std.proofs.Common.{count_by, refl, sym, ap, ◌∙◌, arith, inl, inr, ◌⊎◌, zero-add}
 use Rattle.std.specs.Prelude.{sum_by}
 use Rattle.std.proofs.Math.Nat.{add-mul, one-mul, zero-mul}
 use Rattle.std.proofs.lemmas.Bool.{eq-eqb, ne_eqb, cases_eq, cases_lt}

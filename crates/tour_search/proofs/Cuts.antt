@@ -1,5 +1,6 @@
 -- Lists that are cut at their first element that passes a test.
-use Rattle.std.proofs.Common.{◌≡◌, ◌<◌, ◌≤◌, ℕ, Bool, true, false, cond, List, [], ◌∷◌, length, not, refl, sym, ap, ◌∙◌, Some, None, Option, ◌==◌, arith}
+use Rattle.std.proofs.Common.{◌≡◌, ◌<◌, ◌≤◌, ℕ, Bool, true, false, cond, List, [], ◌∷◌, length, not, refl, sym, ap, ◌∙◌, Some, None, Option}
+use Rattle.std.proofs.Common.{◌==◌, arith}
 use Rattle.std.specs.List.{position, position_or_len, before_first, after_first, slice_split}
 use Rattle.std.proofs.lemmas.Bool.{ltb-false}
 use Rattle.std.proofs.lemmas.List.Elements.{All-from_get_or}
@@ -42,7 +43,8 @@ kept_piece (b ∷ piece) pieces some = refl
 
 -- some piece is to come of bytes
 pub some_piece : (p : ℕ → Bool) (text : List ℕ) → slice_split p text ≡ [] → ⊥
-some_piece p text e = let long = length-slice_split p text in let none : length (slice_split p text) ≡ 0 = ap length e in omega (arith, long, none)
+some_piece p text e = let long = length-slice_split p text in let none : length (slice_split p text) ≡ 0 = ap length e in
+    omega (arith, long, none)
 
 pub some_left : (rest : Option (Bor (List ℕ))) (at : ℕ) (text : Bor (List ℕ)) → rest ≡ Some text → pieces_in rest at ≡ [] → ⊥
 some_left rest at text some left = some_piece (λ byte. byte == at) text.now (sym (ap (λ r. pieces_in r at) some) ∙ left)

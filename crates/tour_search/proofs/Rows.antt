@@ -1,5 +1,7 @@
 -- Rows of costs that are read word by word, and line by line.
-use Rattle.std.proofs.Common.{◌≡◌, ◌<◌, ◌≤◌, ◌+◌, ◌-◌, ◌*◌, ℕ, zero, suc, Bool, true, false, cond, List, [], ◌∷◌, ◌++◌, length, All, Option, Some, None, Result, Ok, Err, MatchOption, MatchBool, refl, sym, ap, ◌∙◌, subst, arith, append_assoc, append-nil}
+use Rattle.std.proofs.Common.{◌≡◌, ◌<◌, ◌≤◌, ◌+◌, ◌-◌, ◌*◌, ℕ, zero, suc, Bool, true, false, cond, List, [], ◌∷◌, ◌++◌, length, All, Option}
+use Rattle.std.proofs.Common.{Some, None, Result, Ok, Err, MatchOption, MatchBool, refl, sym, ap, ◌∙◌, subst, arith, append_assoc}
+use Rattle.std.proofs.Common.{append-nil}
 use Rattle.std.specs.Prelude.{codes}
 use Rattle.std.specs.Borrow.{Bor}
 use Rattle.std.specs.Str.{bytes_eq}
@@ -8,7 +10,8 @@ use Rattle.std.proofs.lemmas.List.Elements.{All-nil, All-cons, All-append}
 use Rattle.tour_search.specs.Cities.{AreCities, CitiesModel}
 use Rattle.tour_search.specs.Lines.{is_long}
 use Rattle.tour_search.specs.Numbers.{number_to}
-use Rattle.tour_search.specs.Reading.{Read, before, cities_in, count_in, count_of, if_some, named_in, refused, row_in, row_of, rows_in, with_count, with_row, with_rows, words}
+use Rattle.tour_search.specs.Reading.{Read, before, cities_in, count_in, count_of, if_some, named_in, refused, row_in, row_of, rows_in}
+use Rattle.tour_search.specs.Reading.{with_count, with_row, with_rows, words}
 use Rattle.tour_search.specs.Inside.Parts.{RefusedBy, head_read, onto, or_none, or_refused, row_read}
 use Rattle.tour_search.specs.declared.faults.CitiesFault.{CitiesFault}
 use Rattle.tour_search.specs.declared.faults.CitiesFault.TheVariants.{Memory, Refused}
@@ -140,7 +143,8 @@ IsNextOf o left rest = MatchOption o (left ≡ []) (λ line. left ≡ line.now �
 
 -- what the next line is to the rows
 by_line : (n left number : ℕ) (line : List ℕ) (rest : List (List ℕ)) (fault : ℕ × CitiesWhy) →
-    (if_long : Bool) → if_long ≡ is_long line → cond if_long (refused {X = List ℕ} number why.Long) (or_refused number (row_of n line)) ≡ Err fault →
+    (if_long : Bool) → if_long ≡ is_long line
+    → cond if_long (refused {X = List ℕ} number why.Long) (or_refused number (row_of n line)) ≡ Err fault →
     cond if_long (refused {X = List ℕ} number why.Long) (with_row number (row_of n line) (rows_in n left (number + 1) rest)) ≡ Err fault
 by_line n left number line rest fault true h e = e
 by_line n left number line rest fault false h e = at (row_of n line) e
@@ -164,7 +168,8 @@ rows_fault n all i left rest now (Some line) number fault far within at is bad =
     ∙ ap (onto now) (by_line n (n - (i + 1)) number line.now rest fault (is_long line.now) refl bad)
 
 good_line : (n left number : ℕ) (line row : List ℕ) (rest : List (List ℕ)) →
-    (if_long : Bool) → if_long ≡ is_long line → cond if_long (refused {X = List ℕ} number why.Long) (or_refused number (row_of n line)) ≡ Ok row →
+    (if_long : Bool) → if_long ≡ is_long line
+    → cond if_long (refused {X = List ℕ} number why.Long) (or_refused number (row_of n line)) ≡ Ok row →
     cond if_long (refused {X = List ℕ} number why.Long) (with_row number (row_of n line) (rows_in n left (number + 1) rest))
     ≡ with_row number (Some row) (rows_in n left (number + 1) rest)
 good_line n left number line row rest true h e = absurd (cc)

@@ -1,5 +1,6 @@
 -- A search under way.
-use Rattle.std.proofs.Common.{◌≡◌, ◌<◌, ◌≤◌, ◌+◌, ◌-◌, ◌==◌, ◌&&◌, ◌||◌, ◌⊎◌, inl, inr, ℕ, Bool, true, false, List, [], ◌∷◌, ◌++◌, length, take, Vec, Global, refl, sym, ap, ◌∙◌, subst, arith, append_assoc}
+use Rattle.std.proofs.Common.{◌≡◌, ◌<◌, ◌≤◌, ◌+◌, ◌-◌, ◌==◌, ◌&&◌, ◌||◌, ◌⊎◌, inl, inr, ℕ, Bool, true, false, List, [], ◌∷◌, ◌++◌, length}
+use Rattle.std.proofs.Common.{take, Vec, Global, refl, sym, ap, ◌∙◌, subst, arith, append_assoc}
 use Rattle.std.specs.Prelude.{nat_lt, sum_by, vec_capacity}
 use Rattle.std.specs.List.{list_any}
 use Rattle.std.proofs.Math.Dec.{eqb}
@@ -19,7 +20,8 @@ use Rattle.tour_search.specs.Cities.{CitiesModel, IsKnown, beats, costs, cuts, o
 use Rattle.tour_search.specs.declared.tours.Tour.{Tour}
 
 -- the cities below `city` were tried after the beginning
-pub record IsSearched (cities : CitiesModel) (beginning : Vec ℕ Global) (known : Tour) (now : Vec ℕ Global) (best : Tour) (city : ℕ) : Type 0 where
+pub record IsSearched (cities : CitiesModel) (beginning : Vec ℕ Global) (known : Tour) (now : Vec ℕ Global) (best : Tour)
+    (city : ℕ) : Type 0 where
   pub kept : now.items ≡ beginning.items
   pub room : vec_capacity now ≡ vec_capacity beginning
   pub tour : IsKnown cities best
@@ -47,7 +49,8 @@ cut_of bound best o e = at (nat_lt best bound) (bound == best) (is_gt o) refl re
     at false true false h i j e = absurd (cc)
     at false false f h i j e = absurd (cc)
 
-pub cut_searches : (n : ℕ) (c : Costs) (ways p known : List ℕ) (best bound left : ℕ) → 0 < n → IsWayOut n c (out_of ways) → IsBeginning n p →
+pub cut_searches : (n : ℕ) (c : Costs) (ways p known : List ℕ) (best bound left : ℕ) → 0 < n → IsWayOut n c (out_of ways)
+    → IsBeginning n p →
     left + sum_by (out_of ways) p ≡ sum_below n (out_of ways) → best ≡ cost c known →
     bound ≡ path_cost c p + out_of ways (last_of p) + left → cuts bound p best known ≡ true →
     (tour : List ℕ) → IsTour n tour → Continues p tour → IsAsGood c known tour
@@ -109,7 +112,8 @@ none_again n p tour x there of on =
     omega (arith, once, e, f, times-same x [], there)
 
 pub all_tried : (cities : CitiesModel) (p : List ℕ) (best : List ℕ) → length p < cities.count →
-    ((x : ℕ) → x < cities.count → (tour : List ℕ) → IsTour cities.count tour → Continues (p ++ x ∷ []) tour → IsAsGood (costs cities) best tour) →
+    ((x : ℕ) → x < cities.count → (tour : List ℕ) → IsTour cities.count tour → Continues (p ++ x ∷ []) tour
+    → IsAsGood (costs cities) best tour) →
     (tour : List ℕ) → IsTour cities.count tour → Continues p tour → IsAsGood (costs cities) best tour
 all_tried cities p best less tried tour of on =
     let x = next cities.count p tour less of on in
@@ -131,7 +135,8 @@ pub record IsNext (cities : CitiesModel) (ways more : List ℕ) (cost rest : ℕ
   pub spent : cost ≡ path_cost (costs cities) more
   pub left : rest + sum_by (out_of ways) more ≡ sum_below cities.count (out_of ways)
 
-pub is_next : (cities : CitiesModel) (ways p now : List ℕ) (x spent left step : ℕ) → IsBeginning cities.count p → x < cities.count → times x p ≡ 0 →
+pub is_next : (cities : CitiesModel) (ways p now : List ℕ) (x spent left step : ℕ) → IsBeginning cities.count p → x < cities.count
+    → times x p ≡ 0 →
     now ≡ p ++ x ∷ [] → spent ≡ path_cost (costs cities) p → left + sum_by (out_of ways) p ≡ sum_below cities.count (out_of ways) →
     step ≡ costs cities (last_of p) x → IsNext cities ways now (spent + step) (left - out_of ways x)
 is_next cities ways p now x spent left step is below new e its_spent its_left its_step =
@@ -147,7 +152,8 @@ is_next cities ways p now x spent left step is below new e its_spent its_left it
 pub any_times : (x : ℕ) (p : List ℕ) (b : Bool) → b ≡ list_any (λ y. eqb y x) p → b ≡ false → times x p ≡ 0
 any_times x [] b e is = refl
 any_times x (y ∷ p) b e is = elim (cases_eq y x) [
-  | inl same ↦ absurd (let t : eqb y x ≡ true = eq-eqb y x same in let f : list_any (λ y. eqb y x) (y ∷ p) ≡ true = ap (λ d. d || list_any (λ y. eqb y x) p) t in cc)
+  | inl same ↦ absurd (let t : eqb y x ≡ true = eq-eqb y x same in
+      let f : list_any (λ y. eqb y x) (y ∷ p) ≡ true = ap (λ d. d || list_any (λ y. eqb y x) p) t in cc)
   | inr other ↦
       let f : eqb y x ≡ false = ne_eqb y x other in
       let g : list_any (λ y. eqb y x) (y ∷ p) ≡ list_any (λ y. eqb y x) p = ap (λ d. d || list_any (λ y. eqb y x) p) f in
@@ -156,7 +162,8 @@ any_times x (y ∷ p) b e is = elim (cases_eq y x) [
 
 -- one call deeper: the longer beginning was searched, and the city is the next that was tried
 pub one_more : (cities : CitiesModel) (beginning now after : Vec ℕ Global) (known before best : Tour) (x : ℕ) (more : List ℕ) →
-    IsSearched cities beginning known now before x → more ≡ beginning.items ++ x ∷ [] → after.items ≡ beginning.items → vec_capacity after ≡ vec_capacity beginning →
+    IsSearched cities beginning known now before x → more ≡ beginning.items ++ x ∷ [] → after.items ≡ beginning.items
+    → vec_capacity after ≡ vec_capacity beginning →
     IsKnown cities best → IsAsGood (costs cities) best.cities.items before.cities.items →
     ((best.cities.items ≡ before.cities.items) ⊎ Continues more best.cities.items) →
     ((tour : List ℕ) → IsTour cities.count tour → Continues more tour → IsAsGood (costs cities) best.cities.items tour) →

@@ -8,7 +8,9 @@ use Rattle.bag_ledger.specs.declared.entries.Call.TheVariants as calls_to
 use Rattle.bag_ledger.specs.declared.entries.Said.{Said}
 use Rattle.balance_law.specs.Balanced.{IsEndedWell}
 use Rattle.work_law.specs.Work.{Arrival, Work, arrival, common_bytes, fetched_unit, put_of}
-use Rattle.work_law.specs.Books.{Books, Goes, Moves, Task, Put, Begin, End, accepted, rejected, stopped, begun, refused, stopped_before, closed, closed_behind, granted, told, fetched, bytes_on, brought, going, holding, in_batch, put_all, received, said_of, shut, without_batch}
+use Rattle.work_law.specs.Books.{Books, Goes, Moves, Task, Put, Begin, End, accepted, rejected, stopped, begun, refused, stopped_before}
+use Rattle.work_law.specs.Books.{closed, closed_behind, granted, told, fetched, bytes_on, brought, going, holding, in_batch, put_all}
+use Rattle.work_law.specs.Books.{received, said_of, shut, without_batch}
 
 -- this holds of each kind of call
 pub record OfEach {Made : Type 0} (W : Work Made) (P : Books Made → Said → Books Made → Type 0) : Type 0 where
@@ -23,7 +25,8 @@ pub record OfEach {Made : Type 0} (W : Work Made) (P : Books Made → Said → B
   pub at_refused : (common : List ℕ) (units : List Made) (rest : List (Task Made)) (came : List (Arrival Made)) →
       P (going (Begin common units ∷ rest) None came) (said_of (calls_to.BeginBatch common) Rejected)
       (without_batch W common units rest came)
-  pub at_stopped_before : (common : List ℕ) (units : List Made) (rest : List (Task Made)) (came : List (Arrival Made)) (end : told_end.End) →
+  pub at_stopped_before : (common : List ℕ) (units : List Made) (rest : List (Task Made)) (came : List (Arrival Made))
+      (end : told_end.End) →
       P (going (Begin common units ∷ rest) None came) (said_of (calls_to.BeginBatch common) (Ended end))
       (shut (put_all units ++ rest) None came)
   pub at_closed : (common : List ℕ) (rest : List (Task Made)) (came : List (Arrival Made)) →
@@ -38,7 +41,8 @@ pub record OfEach {Made : Type 0} (W : Work Made) (P : Books Made → Said → B
       P (holding note came) (said_of (calls_to.Fetch note.id) (Body bytes))
       (brought W (common_bytes note.length bytes) (fetched_unit W note bytes) came)
 
-moved : {Made : Type 0} (P : Books Made → Said → Books Made → Type 0) {b b' : Books Made} {s s' : Said} {n n' : Books Made} → b ≡ b' → s ≡ s' →
+moved : {Made : Type 0} (P : Books Made → Said → Books Made → Type 0) {b b' : Books Made} {s s' : Said} {n n' : Books Made}
+    → b ≡ b' → s ≡ s' →
     n ≡ n' → P b' s' n' → P b s n
 moved P {b} {b'} {s} {s'} {n} {n'} e f g h =
     subst (λ x. P x s n) (sym e) (subst (λ x. P b' x n) (sym f) (subst (λ x. P b' s' x) (sym g) h))
@@ -65,7 +69,8 @@ pub record IsOn {Made : Type 0} (next : Books Made) : Type 0 where
   pub holds : next.held ≡ None
   pub stays : next.on ≡ None
 
-pub brought_on : {Made : Type 0} (W : Work Made) (common : List ℕ) (o : Option Made) (came : List (Arrival Made)) → IsOn (brought W common o came)
+pub brought_on : {Made : Type 0} (W : Work Made) (common : List ℕ) (o : Option Made) (came : List (Arrival Made))
+    → IsOn (brought W common o came)
 brought_on W common None came = record { lives = refl; holds = refl; stays = refl }
 brought_on W common (Some unit) came = record { lives = refl; holds = refl; stays = refl }
 
@@ -100,7 +105,8 @@ none_left_at W b (s ∷ said) last well goes none =
     (All-head (λ (t : Said). IsEndedWell t.call t.answer) s said well) none)
 
 pub none_left : {Made : Type 0} (W : Work Made) (first : List (Task Made)) (said : List Said) (left : List (Task Made))
-    (came : List (Arrival Made)) → All (λ (s : Said). IsEndedWell s.call s.answer) said → Goes W (going first None []) said (shut left None came) →
+    (came : List (Arrival Made)) → All (λ (s : Said). IsEndedWell s.call s.answer) said
+    → Goes W (going first None []) said (shut left None came) →
     left ≡ []
 none_left W first said left came well goes =
     none_left_at W (going first None []) said (shut left None came) well goes (λ over. absurd (cc)) refl

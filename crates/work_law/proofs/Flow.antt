@@ -1,5 +1,6 @@
 -- What a rank puts, gets, works and keeps, counted by any test of units.
-use Rattle.std.proofs.Common.{◌≡◌, ◌+◌, ◌-◌, ℕ, Bool, true, false, cond, List, [], ◌∷◌, ◌++◌, map, length, take, drop, Option, Some, None, refl, sym, ap, ◌∙◌, subst, arith, count_by, All}
+use Rattle.std.proofs.Common.{◌≡◌, ◌+◌, ◌-◌, ℕ, Bool, true, false, cond, List, [], ◌∷◌, ◌++◌, map, length, take, drop, Option, Some, None}
+use Rattle.std.proofs.Common.{refl, sym, ap, ◌∙◌, subst, arith, count_by, All}
 use Rattle.std.specs.List.{flat_map}
 use Rattle.std.proofs.lemmas.List.{drop_at, length-append, take-append-drop, take_at}
 use Rattle.std.proofs.lemmas.List.Elements.{All-nil, All-cons, All-head, All-tail}
@@ -16,10 +17,12 @@ use Rattle.balance_law.specs.Balanced.{IsEndedWell}
 use Rattle.balance_law.specs.Orderly.{finish}
 use Rattle.balance_law.specs.Parcels.{Parcel, batch_after, common_of, got, granted_note, own_of, parcel_got, parcel_read, parcel_sent, sent}
 use Rattle.work_law.specs.Work.{Arrival, IsWork, Work, arrival, common_bytes, fetched_unit, made_by, own_bytes, put_of}
-use Rattle.work_law.specs.Books.{Books, Goes, Task, Put, Begin, End, bytes_on, brought, going, holding, in_batch, put_all, received, said_of, shut, without_batch}
+use Rattle.work_law.specs.Books.{Books, Goes, Task, Put, Begin, End, bytes_on, brought, going, holding, in_batch, put_all, received}
+use Rattle.work_law.specs.Books.{said_of, shut, without_batch}
 use Rattle.work_law.specs.Together.{all_by, waits}
 use Rattle.work_law.proofs.Calls.{OfEach, brought_on, by_kind}
-use Rattle.work_law.proofs.Pieces.{Test, all-append, batch_waits, count_one, end_waits, none_waits, one_if, put_waits, received_same, refused_same, waits-put_all}
+use Rattle.work_law.proofs.Pieces.{Test, all-append, batch_waits, count_one, end_waits, none_waits, one_if, put_waits, received_same}
+use Rattle.work_law.proofs.Pieces.{refused_same, waits-put_all}
 
 -- a body is its common part and its own bytes
 parts_of_body : (common : Option CommonRef) (bytes : List ℕ) → bytes_of (common_of common bytes) (own_of common bytes) ≡ bytes
@@ -86,7 +89,8 @@ module _ {Made : Type 0} (W : Work Made) (is : IsWork W) where
       ap (reads_bytes q f.kind f.answer (length f.body)) (bytes_together on f.body) in
       let common : reads_bytes q f.kind f.answer (length f.body) (bytes_on on ++ f.body)
       ≡ passes q (bytes_on on) (W.read f.kind f.answer (own_bytes (length f.body) (bytes_on on ++ f.body))) =
-      ap (λ c. passes q c (W.read f.kind f.answer (own_bytes (length f.body) (bytes_on on ++ f.body)))) (common_before (bytes_on on) f.body) in
+      ap (λ c. passes q c (W.read f.kind f.answer (own_bytes (length f.body) (bytes_on on ++ f.body))))
+      (common_before (bytes_on on) f.body) in
       let own : passes q (bytes_on on) (W.read f.kind f.answer (own_bytes (length f.body) (bytes_on on ++ f.body)))
       ≡ passes q (bytes_on on) (W.read f.kind f.answer f.body) =
       ap (λ b. passes q (bytes_on on) (W.read f.kind f.answer b)) (own_behind (bytes_on on) f.body) in
@@ -144,7 +148,8 @@ module _ {Made : Type 0} (W : Work Made) (is : IsWork W) where
     at_stopped = λ unit rest on came end over well. absurd (well);
     at_begun = λ common units rest came over well. record {
       same = λ q.
-          let counted : count_by q (waits W (Some common) (put_all units ++ End ∷ rest)) ≡ count_by q (waits W None (Begin common units ∷ rest)) =
+          let counted : count_by q (waits W (Some common) (put_all units ++ End ∷ rest))
+          ≡ count_by q (waits W None (Begin common units ∷ rest)) =
           ap (count_by q) (waits-put_all W is (Some common) units (End ∷ rest)
           ∙ ap (λ l. map (arrival W common) units ++ l) (end_waits W is (Some common) rest)
           ∙ sym (batch_waits W is common units rest)) in
@@ -247,7 +252,8 @@ module _ {Made : Type 0} (W : Work Made) (is : IsWork W) where
       let front : AreEndedWell said = All-front P said (finish ∷ []) well in
       let all : FlowsAll (going tasks None []) said (shut left None came) =
       flows_all (going tasks None []) said (shut left None came) (λ e. absurd (cc)) front goes in
-      let none : count_by q (waits W None left) ≡ 0 = ap (λ l. count_by q (waits W None l)) (all.shuts refl) ∙ ap (count_by q) (none_waits W is None) in
+      let none : count_by q (waits W None left) ≡ 0 = ap (λ l. count_by q (waits W None l)) (all.shuts refl)
+      ∙ ap (count_by q) (none_waits W is None) in
       let to : count_by (reads q) (sent None (said ++ finish ∷ [])) ≡ count_by (reads q) (sent None said) =
       ap (count_by (reads q)) (sent_finish None said) in
       let from : count_by (reads q) (got None (said ++ finish ∷ [])) ≡ count_by (reads q) (got None said) =

@@ -145,4 +145,5 @@ module _ {Made : Type 0} (W : Work Made) (is : IsWork W) where
 
   pub worker_orderly : (ranks : ℕ) (first left : List (Task Made)) (said : List Said) (came : List (Arrival Made)) → 0 < ranks →
       Goes W (going first None []) said (shut left None came) → IsOrderly ranks None None (said ++ finish ∷ [])
-  worker_orderly ranks first left said came some goes = goes_orderly ranks (going first None []) said (shut left None came) some refl refl refl goes
+  worker_orderly ranks first left said came some goes =
+      goes_orderly ranks (going first None []) said (shut left None came) some refl refl refl goes

@@ -75,7 +75,8 @@ pub data Moves {Made : Type 0} (W : Work Made) (b : Books Made) (s : Said) (next
       next ≡ received W (arrival W (bytes_on on) unit) rest on came → Moves W b s next
   -- it is told an end at the put: the unit is left
   stopped : (unit : Made) (rest : List (Task Made)) (on : Option (List ℕ)) (came : List (Arrival Made)) (end : told_end.End) →
-      b ≡ going (Put unit ∷ rest) on came → s ≡ said_of (put_of W unit) (Ended end) → next ≡ shut (Put unit ∷ rest) on came → Moves W b s next
+      b ≡ going (Put unit ∷ rest) on came → s ≡ said_of (put_of W unit) (Ended end) → next ≡ shut (Put unit ∷ rest) on came
+      → Moves W b s next
   -- it begins a batch, and a server keeps the common bytes
   begun : (common : List ℕ) (units : List Made) (rest : List (Task Made)) (came : List (Arrival Made)) →
       b ≡ going (Begin common units ∷ rest) None came → s ≡ said_of (BeginBatch common) Fine → next ≡ in_batch common units rest came →

@@ -1,5 +1,6 @@
 -- A queue with one unit more.
-use Rattle.std.proofs.Common.{◌≡◌, ◌≢◌, ◌<◌, ◌≤◌, ◌^◌, ℕ, ◌+◌, List, [], ◌∷◌, ◌++◌, length, get_or, Some, None, refl, sym, ap, ◌∙◌, All, sum_by, arith, IsSome, is_some, true}
+use Rattle.std.proofs.Common.{◌≡◌, ◌≢◌, ◌<◌, ◌≤◌, ◌^◌, ℕ, ◌+◌, List, [], ◌∷◌, ◌++◌, length, get_or, Some, None, refl, sym, ap, ◌∙◌, All}
+use Rattle.std.proofs.Common.{sum_by, arith, IsSome, is_some, true}
 use Rattle.std.specs.List.Sorted.{IsPermutation}
 use Rattle.std.specs.VecDeque.{deque_capacity, deque_len}
 use Rattle.std.proofs.lemmas.List.Elements.{All-push, All-weaker, filter_map-append}
@@ -21,19 +22,23 @@ use Rattle.work_queue.specs.Inside.Units.{units_at}
 use Rattle.work_queue.specs.declared.placing.Placed.{Placed}
 use Rattle.work_queue.specs.declared.queues.WorkQueue.TheInside.{Inside}
 
-pub updates_from : (old mid new : Slab Placed) (key : ℕ) (p : Placed) → mid ≡ record old { capacity = mid.capacity } → Updates mid new key (Some p) → Updates old new key (Some p)
+pub updates_from : (old mid new : Slab Placed) (key : ℕ) (p : Placed) → mid ≡ record old { capacity = mid.capacity }
+    → Updates mid new key (Some p) → Updates old new key (Some p)
 updates_from old mid new key p mid_is updates = record {
   changed = updates.changed;
   others = λ other differs. updates.others other differs ∙ ap (λ s. get s other) mid_is;
 }
 
 differs_from : (old : Slab Placed) (key k : ℕ) → IsSome (get old k) → get old key ≡ None → k ≢ key
-differs_from old key k some vacant same = let e : get old k ≡ None = ap (λ x. get old x) same ∙ vacant in let no : is_some {T = Placed} None ≡ true = rw e at some in absurd (cc)
+differs_from old key k some vacant same = let e : get old k ≡ None = ap (λ x. get old x) same ∙ vacant in
+    let no : is_some {T = Placed} None ≡ true = rw e at some in absurd (cc)
 
-kept_at : (old new : Slab Placed) (key k : ℕ) (p : Placed) → get old key ≡ None → Updates old new key (Some p) → IsSome (get old k) → get new k ≡ get old k
+kept_at : (old new : Slab Placed) (key k : ℕ) (p : Placed) → get old key ≡ None → Updates old new key (Some p) → IsSome (get old k)
+    → get new k ≡ get old k
 kept_at old new key k p vacant updates some = updates.others k (differs_from old key k some vacant)
 
-units_added : (old new : Slab Placed) (order : List ℕ) (key : ℕ) (p : Placed) → All (λ k. IsSome (get old k)) order → get old key ≡ None → Updates old new key (Some p) → units_at new (order ++ key ∷ []) ≡ units_at old order ++ p ∷ []
+units_added : (old new : Slab Placed) (order : List ℕ) (key : ℕ) (p : Placed) → All (λ k. IsSome (get old k)) order → get old key ≡ None
+    → Updates old new key (Some p) → units_at new (order ++ key ∷ []) ≡ units_at old order ++ p ∷ []
 units_added old new order key p there vacant updates =
     let P : ℕ → Type 0 = λ k. IsSome (get old k) in
     let Q : ℕ → Type 0 = λ k. get new k ≡ get old k in
@@ -65,7 +70,8 @@ pub record Comes (w v : Inside) (key : ℕ) (unit : Unit) : Type 0 where
 
 module _ (w v : Inside) (key : ℕ) (unit : Unit) (sound : IsSound w) (comes : Comes w v key unit) where
   pub units_come : units_at v.slots v.order.items ≡ units_at w.slots w.order.items ++ record { unit = unit; pin = None } ∷ []
-  units_come = ap (λ o. units_at v.slots o) comes.order ∙ units_added w.slots v.slots w.order.items key (record { unit = unit; pin = None }) sound.there comes.vacant comes.updates
+  units_come = ap (λ o. units_at v.slots o) comes.order
+      ∙ units_added w.slots v.slots w.order.items key (record { unit = unit; pin = None }) sound.there comes.vacant comes.updates
 
   keys_there : All (λ k. IsSome (get v.slots k)) (w.order.items ++ key ∷ [])
   keys_there =
@@ -73,7 +79,9 @@ module _ (w v : Inside) (key : ℕ) (unit : Unit) (sound : IsSound w) (comes : C
       let P : ℕ → Type 0 = λ k. IsSome (get v.slots k) in
       let O : ℕ → Type 0 = λ k. IsSome (get w.slots k) in
       let here : get v.slots key ≡ Some now = comes.updates.changed in
-      All-push P w.order.items key (All-weaker O P (λ k some. rw (kept_at w.slots v.slots key k now comes.vacant comes.updates some) some) w.order.items sound.there) (rw here refl)
+      All-push P w.order.items key
+      (All-weaker O P (λ k some. rw (kept_at w.slots v.slots key k now comes.vacant comes.updates some) some) w.order.items sound.there)
+      (rw here refl)
 
   apart_still : HasApartPromises (units_at w.slots w.order.items ++ record { unit = unit; pin = None } ∷ []) v.rooms
   apart_still k d within =
@@ -95,8 +103,14 @@ module _ (w v : Inside) (key : ℕ) (unit : Unit) (sound : IsSound w) (comes : C
         apart = rw units_come apart_still;
         charge = comes.charge ∙ rw units_come (omega (arith, sum_by_push size_of units now));
         within = comes.within;
-        indexed = rw (units_come, comes.arrivals) (indexed_come units w.arrivals w.index sound.indexed v.index now refl comes.entries comes.in_order comes.stamps);
-        named = rw (units_come, comes.stamps) (named_come units now w.index.stamps.items w.arrivals w.names v.names sound.named sound.indexed.long comes.fresh comes.names);
+        indexed = rw (
+          units_come,
+          comes.arrivals,
+        ) (indexed_come units w.arrivals w.index sound.indexed v.index now refl comes.entries comes.in_order comes.stamps);
+        named = rw (
+          units_come,
+          comes.stamps,
+        ) (named_come units now w.index.stamps.items w.arrivals w.names v.names sound.named sound.indexed.long comes.fresh comes.names);
         slots_room = comes.slots_room;
         order_room = comes.order_room;
         entries_room = comes.entries_room;
@@ -104,5 +118,11 @@ module _ (w v : Inside) (key : ℕ) (unit : Unit) (sound : IsSound w) (comes : C
         names_room = comes.names_room;
       }
 
-  pub view_come : queue_of v ≡ record { units = units_at w.slots w.order.items ++ record { unit = unit; pin = None } ∷ []; promises = v.rooms; common = v.common; arrivals = v.arrivals; limit = v.limit }
+  pub view_come : queue_of v ≡ record {
+    units = units_at w.slots w.order.items ++ record { unit = unit; pin = None } ∷ [];
+    promises = v.rooms;
+    common = v.common;
+    arrivals = v.arrivals;
+    limit = v.limit;
+  }
   view_come = rw units_come refl

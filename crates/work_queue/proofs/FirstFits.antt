@@ -30,7 +30,13 @@ module _ (asked : List (Rank × Option (List WorkType))) where
   is_asked p is =
       let some = is.1 in
       and_from (is_none p.pin) (list_any (permits p) asked) (rw is.0 refl)
-      (list_any-from_Any (permits p) asked (some.0, some.1, some.2, some.3, is_permitted some.1.0 some.1.1 p.unit.kind p.unit.target some.4))
+      (list_any-from_Any (permits p) asked (
+        some.0,
+        some.1,
+        some.2,
+        some.3,
+        is_permitted some.1.0 some.1.1 p.unit.kind p.unit.target some.4,
+      ))
 
   -- what is found is a unit with this id
   pub fit_found : (o : Option Placed) (id : UnitId) → Some id ≡ option_map id_of o → (p : Placed) × (o ≡ Some p) × (id_of p ≡ id)
@@ -52,7 +58,9 @@ module _ (asked : List (Rank × Option (List WorkType))) where
           here = first.here;
           has_id = found.2;
           is_asked = asked_is found.0 first.passes;
-          is_first = λ other q before at is. both_ways (asked_for asked q) (ap (asked_for asked) (sym (get_or_from_slice_get units other q q at)) ∙ first.fails other q before) (is_asked q is);
+          is_first =
+              λ other q before at is. both_ways (asked_for asked q)
+              (ap (asked_for asked) (sym (get_or_from_slice_get units other q q at)) ∙ first.fails other q before) (is_asked q is);
         }
 
     pub some_asked : Any (IsAsked asked) units

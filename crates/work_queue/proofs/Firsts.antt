@@ -9,7 +9,8 @@ use Rattle.work_queue.specs.Best.{IsBest, IsOffered, Precedes, beats, best_from,
 use Rattle.work_queue.specs.declared.placing.Placed.{Placed}
 use Rattle.work_queue.specs.declared.rating.Rated.{Rated}
 
-best_is_fold : (rank : Rank) (types : Option (List WorkType)) (found : Option Rated) (units : List Placed) → best_from rank types found units ≡ fold (pick rank types) found units
+best_is_fold : (rank : Rank) (types : Option (List WorkType)) (found : Option Rated) (units : List Placed)
+    → best_from rank types found units ≡ fold (pick rank types) found units
 best_is_fold rank types found [] = refl
 best_is_fold rank types found (p ∷ units) = best_is_fold rank types (pick rank types found p) units
 
@@ -20,14 +21,19 @@ module _ (rank : Rank) (types : Option (List WorkType)) where
   by_rating : IsOrder (rating rank) beats (Precedes rank)
   by_rating = record {
     stays = λ i j u y before test. stays_first (class u) (class y) u.unit.prio y.unit.prio (i < j) before test;
-    passes = λ i j u y before test. passes_one (class u) (class y) u.unit.prio y.unit.prio (j < i) (passes_is (class u) (class y) u.unit.prio y.unit.prio test);
-    passes_all = λ i j k u y q before test first. passes_all (class u) (class y) (class q) u.unit.prio y.unit.prio q.unit.prio (i < k) (j < k) (passes_is (class u) (class y) u.unit.prio y.unit.prio test) first;
+    passes =
+        λ i j u y before test. passes_one (class u) (class y) u.unit.prio y.unit.prio (j < i)
+        (passes_is (class u) (class y) u.unit.prio y.unit.prio test);
+    passes_all =
+        λ i j k u y q before test first. passes_all (class u) (class y) (class q) u.unit.prio y.unit.prio q.unit.prio (i < k) (j < k)
+        (passes_is (class u) (class y) u.unit.prio y.unit.prio test) first;
   }
 
   picks : IsPick (offered rank types) (rating rank) beats (pick rank types)
   picks = record { at_none = λ p. refl; at_some = λ r p. refl }
 
-  leads_is_best : (units : List Placed) (r : Rated) → Leads (offered rank types) (rating rank) beats (Precedes rank) (pick rank types) by_rating picks units r → IsBest rank types units r.id
+  leads_is_best : (units : List Placed) (r : Rated) → Leads (offered rank types) (rating rank) beats (Precedes rank) (pick rank types)
+      by_rating picks units r → IsBest rank types units r.id
   leads_is_best units r leads = record {
     place = leads.place;
     unit = leads.unit;
@@ -37,10 +43,13 @@ module _ (rank : Rank) (types : Option (List WorkType)) where
     is_first = λ other q at differs may. leads.is_first other q at differs (is_offered rank types q may);
   }
 
-  found_so : (units : List Placed) (found : Option Rated) → found ≡ best_from rank types None units → Found (offered rank types) (rating rank) beats (Precedes rank) (pick rank types) by_rating picks units found
+  found_so : (units : List Placed) (found : Option Rated) → found ≡ best_from rank types None units
+      → Found (offered rank types) (rating rank) beats (Precedes rank) (pick rank types) by_rating picks units found
   found_so units found same =
-      let F : Option Rated → Type 0 = λ o. Found (offered rank types) (rating rank) beats (Precedes rank) (pick rank types) by_rating picks units o in
-      subst F (sym (same ∙ best_is_fold rank types None units)) (found_all (offered rank types) (rating rank) beats (Precedes rank) (pick rank types) by_rating picks units)
+      let F : Option Rated → Type 0 =
+      λ o. Found (offered rank types) (rating rank) beats (Precedes rank) (pick rank types) by_rating picks units o in
+      subst F (sym (same ∙ best_is_fold rank types None units))
+      (found_all (offered rank types) (rating rank) beats (Precedes rank) (pick rank types) by_rating picks units)
 
   -- the fold gives the best
   pub best_is : (units : List Placed) (r : Rated) → Some r ≡ best_from rank types None units → IsBest rank types units r.id
@@ -48,8 +57,10 @@ module _ (rank : Rank) (types : Option (List WorkType)) where
 
   pub some_offered : (units : List Placed) (r : Rated) → Some r ≡ best_from rank types None units → Any (IsOffered rank types) units
   some_offered units r same =
-      let some = some_may (offered rank types) (rating rank) beats (Precedes rank) (pick rank types) by_rating picks units r (found_so units (Some r) same) in
+      let some = some_may (offered rank types) (rating rank) beats (Precedes rank) (pick rank types) by_rating picks units r
+      (found_so units (Some r) same) in
       (some.0, some.1, some.2, some.3, offered_is rank types some.1 some.4)
 
   pub none_offered : (units : List Placed) → None ≡ best_from rank types None units → Any (IsOffered rank types) units → ⊥
-  none_offered units same some = none_may (offered rank types) (rating rank) beats (Precedes rank) (pick rank types) by_rating picks units (found_so units None same) (some.0, some.1, some.2, some.3, is_offered rank types some.1 some.4)
+  none_offered units same some = none_may (offered rank types) (rating rank) beats (Precedes rank) (pick rank types) by_rating picks units
+      (found_so units None same) (some.0, some.1, some.2, some.3, is_offered rank types some.1 some.4)

@@ -30,16 +30,22 @@ pub record IsFound (w : Inside) (place key : ℕ) (p : Placed) (id : UnitId) : T
   pub has_id : id_of p ≡ id
 
 -- what the search by id answers for the units of the queue
-pub placed : (w : Inside) (id : UnitId) (place : ℕ) → IsSound w → ((units : List Placed) → HasDistinctIds units → IsNamed units w.index.stamps.items w.names → length w.index.stamps.items ≡ length units → place ≡ position_or_len (is_unit id) units) → place ≡ position_or_len (is_unit id) (units_at w.slots w.order.items)
+pub placed : (w : Inside) (id : UnitId) (place : ℕ) → IsSound w
+    → ((units : List Placed) → HasDistinctIds units → IsNamed units w.index.stamps.items w.names
+    → length w.index.stamps.items ≡ length units → place ≡ position_or_len (is_unit id) units)
+    → place ≡ position_or_len (is_unit id) (units_at w.slots w.order.items)
 placed w id place sound tells = tells (units_at w.slots w.order.items) sound.distinct sound.named sound.indexed.long
 
-pub place_in_order : (w : Inside) (id : UnitId) (place : ℕ) → IsSound w → HasUnit id (units_at w.slots w.order.items) → place ≡ position_or_len (is_unit id) (units_at w.slots w.order.items) → place < length w.order.items
+pub place_in_order : (w : Inside) (id : UnitId) (place : ℕ) → IsSound w → HasUnit id (units_at w.slots w.order.items)
+    → place ≡ position_or_len (is_unit id) (units_at w.slots w.order.items) → place < length w.order.items
 place_in_order w id place sound has is =
     let inside = place_within (units_at w.slots w.order.items) id has in
     let long = length-units w.slots w.order.items sound.there in
     omega (arith, is, inside, long)
 
-pub found_at : (w : Inside) (id : UnitId) (place key : ℕ) → IsSound w → HasUnit id (units_at w.slots w.order.items) → place ≡ position_or_len (is_unit id) (units_at w.slots w.order.items) → key ≡ get_or w.order.items place key → (p : Placed) × IsFound w place key p id
+pub found_at : (w : Inside) (id : UnitId) (place key : ℕ) → IsSound w → HasUnit id (units_at w.slots w.order.items)
+    → place ≡ position_or_len (is_unit id) (units_at w.slots w.order.items) → key ≡ get_or w.order.items place key
+    → (p : Placed) × IsFound w place key p id
 found_at w id place key sound has is read =
     let units = units_at w.slots w.order.items in
     let inside : place < length w.order.items = place_in_order w id place sound has is in
@@ -47,21 +53,31 @@ found_at w id place key sound has is read =
     let key_is : get_or w.order.items place 0 ≡ key = get_or_default w.order.items place 0 key inside ∙ sym read in
     let p = get_or units place has.1 in
     let at : slice_get units place ≡ Some p = slice_get-get_or units place has.1 (omega (arith, inside, long)) in
-    let passes : is_unit id p ≡ true = rw (sym is) at (passes_at_first (is_unit id) units has.1 (place_within units id has)) in
-    (p, record { within = inside; key_is = key_is; found = ap (λ k. get w.slots k) (sym key_is) ∙ sym (unit_under w.slots w.order.items sound.there place inside) ∙ at; has_id = same_unit_is (id_of p) id passes })
+    let passes : is_unit id p ≡ true = rw (sym is) at (passes_at_first (is_unit id) units has.1 (place_within units id has)) in (
+      p,
+      record {
+        within = inside;
+        key_is = key_is;
+        found = ap (λ k. get w.slots k) (sym key_is) ∙ sym (unit_under w.slots w.order.items sound.there place inside) ∙ at;
+        has_id = same_unit_is (id_of p) id passes;
+      },
+    )
 
 pub not_within : (place n : ℕ) → (place < n → ⊥) → n ≤ place
 not_within place n past = elim (cases_lt place n) [ inl below ↦ absurd (past below) | inr beyond ↦ beyond ]
 
 -- what stands under the key at that place, and beyond the last
-pub found_under : (w : Inside) (id : UnitId) (place key : ℕ) → IsSound w → place ≡ position_or_len (is_unit id) (units_at w.slots w.order.items) → place < length w.order.items → key ≡ get_or w.order.items place key → get w.slots key ≡ find (is_unit id) (units_at w.slots w.order.items)
+pub found_under : (w : Inside) (id : UnitId) (place key : ℕ) → IsSound w
+    → place ≡ position_or_len (is_unit id) (units_at w.slots w.order.items) → place < length w.order.items
+    → key ≡ get_or w.order.items place key → get w.slots key ≡ find (is_unit id) (units_at w.slots w.order.items)
 found_under w id place key sound is within read =
     ap (λ k. get w.slots k) (read ∙ get_or_default w.order.items place key 0 within)
     ∙ sym (unit_under w.slots w.order.items sound.there place within)
     ∙ ap (λ n. slice_get (units_at w.slots w.order.items) n) is
     ∙ sym (find_at (is_unit id) (units_at w.slots w.order.items))
 
-pub found_past : (w : Inside) (id : UnitId) (place : ℕ) → IsSound w → place ≡ position_or_len (is_unit id) (units_at w.slots w.order.items) → (place < length w.order.items → ⊥) → None ≡ find (is_unit id) (units_at w.slots w.order.items)
+pub found_past : (w : Inside) (id : UnitId) (place : ℕ) → IsSound w → place ≡ position_or_len (is_unit id) (units_at w.slots w.order.items)
+    → (place < length w.order.items → ⊥) → None ≡ find (is_unit id) (units_at w.slots w.order.items)
 found_past w id place sound is past =
     let long = length-units w.slots w.order.items sound.there in
     let beyond = not_within place (length w.order.items) past in
@@ -73,7 +89,9 @@ pub as_long_as_order : (w : Inside) → IsSound w → length w.index.stamps.item
 as_long_as_order w sound = sound.indexed.long ∙ length-units w.slots w.order.items sound.there
 
 -- what is found by the stamp of an entry is its unit
-pub leading_unit : (w : Inside) (e : Entry) (p : Placed) → (at : IsEntryAt (units_at w.slots w.order.items) w.index.stamps.items e) → ((place : ℕ) (q : Placed) → slice_get (units_at w.slots w.order.items) place ≡ Some q → get_or w.index.stamps.items place 0 ≡ e.stamp → p ≡ q) → p ≡ at.unit
+pub leading_unit : (w : Inside) (e : Entry) (p : Placed) → (at : IsEntryAt (units_at w.slots w.order.items) w.index.stamps.items e)
+    → ((place : ℕ) (q : Placed) → slice_get (units_at w.slots w.order.items) place ≡ Some q → get_or w.index.stamps.items place 0 ≡ e.stamp
+    → p ≡ q) → p ≡ at.unit
 leading_unit w e p at found = found at.place at.unit at.here (sym (ap (λ (x : Entry). x.stamp) at.is))
 
 pub small_at : (w : Inside) (place : ℕ) (p : Placed) → IsSound w → slice_get (units_at w.slots w.order.items) place ≡ Some p → IsSmall p
@@ -94,5 +112,6 @@ module _ (w : Inside) (place key : ℕ) (p : Placed) (id : UnitId) (sound : IsSo
       All-contains P (units_at w.slots w.order.items) p sound.small listed
 
   -- it is the only unit of this id
-  pub only_found : (k : ℕ) (d : Placed) → k < length (units_at w.slots w.order.items) → id_of (get_or (units_at w.slots w.order.items) k d) ≡ id → get_or (units_at w.slots w.order.items) k d ≡ p
+  pub only_found : (k : ℕ) (d : Placed) → k < length (units_at w.slots w.order.items)
+      → id_of (get_or (units_at w.slots w.order.items) k d) ≡ id → get_or (units_at w.slots w.order.items) k d ≡ p
   only_found k d within same = only_one (units_at w.slots w.order.items) k d p sound.distinct listed within (same ∙ sym at.has_id)

@@ -33,7 +33,8 @@ module _ (w v : Inside) (sound : IsSound w) (grown : IsGrown w v) where
   units_kept = ap (λ o. units_at v.slots o) grown.items ∙ ap (λ s. units_at s w.order.items) grown.slots
 
   -- promises that are sound with the units of w, and the charge with them
-  pub sound_rooms : HasDistinctPromises v.rooms → HasApartPromises (units_at w.slots w.order.items) v.rooms → v.charge ≡ sum_by size_of (units_at w.slots w.order.items) + sum_by promised v.rooms + v.common → v.charge ≤ v.limit → IsSound v
+  pub sound_rooms : HasDistinctPromises v.rooms → HasApartPromises (units_at w.slots w.order.items) v.rooms
+      → v.charge ≡ sum_by size_of (units_at w.slots w.order.items) + sum_by promised v.rooms + v.common → v.charge ≤ v.limit → IsSound v
   sound_rooms once apart charge within = record {
     there = rw (grown.items, grown.slots) sound.there;
     distinct = rw units_kept sound.distinct;
@@ -57,26 +58,33 @@ module _ (w v : Inside) (sound : IsSound w) (grown : IsGrown w v) where
     names_room = grown.names_room;
   }
 
-  pub view_rooms : queue_of v ≡ record { units = units_at w.slots w.order.items; promises = v.rooms; common = v.common; arrivals = v.arrivals; limit = v.limit }
+  pub view_rooms : queue_of v
+      ≡ record { units = units_at w.slots w.order.items; promises = v.rooms; common = v.common; arrivals = v.arrivals; limit = v.limit }
   view_rooms = rw units_kept refl
 
-pub once_more : (promises : List Promise) (id : UnitId) (n : ℕ) → HasDistinctPromises promises → HasNoPromise id promises → HasDistinctPromises (promises ++ record { id = id; length = n } ∷ [])
+pub once_more : (promises : List Promise) (id : UnitId) (n : ℕ) → HasDistinctPromises promises → HasNoPromise id promises
+    → HasDistinctPromises (promises ++ record { id = id; length = n } ∷ [])
 once_more promises id n once none = all_pairs_push (λ (p q : Promise). p.id ≢ q.id) promises (record { id = id; length = n }) once none
 
-pub apart_more : (units : List Placed) (promises : List Promise) (id : UnitId) (n : ℕ) → HasApartPromises units promises → HasNoUnit id units → HasApartPromises units (promises ++ record { id = id; length = n } ∷ [])
+pub apart_more : (units : List Placed) (promises : List Promise) (id : UnitId) (n : ℕ) → HasApartPromises units promises
+    → HasNoUnit id units → HasApartPromises units (promises ++ record { id = id; length = n } ∷ [])
 apart_more units promises id n apart none =
     let P : Promise → Type 0 = λ p. HasNoUnit p.id units in
     All-push P promises (record { id = id; length = n }) apart none
 
-pub once_left : (promises : List Promise) (id : UnitId) → HasDistinctPromises promises → HasDistinctPromises (filter (is_for_other id) promises)
+pub once_left : (promises : List Promise) (id : UnitId) → HasDistinctPromises promises
+    → HasDistinctPromises (filter (is_for_other id) promises)
 once_left promises id once = AllPairs-filter (λ (p q : Promise). p.id ≢ q.id) (is_for_other id) promises once
 
-pub apart_left : (units : List Placed) (promises : List Promise) (id : UnitId) → HasApartPromises units promises → HasApartPromises units (filter (is_for_other id) promises)
+pub apart_left : (units : List Placed) (promises : List Promise) (id : UnitId) → HasApartPromises units promises
+    → HasApartPromises units (filter (is_for_other id) promises)
 apart_left units promises id apart =
     let P : Promise → Type 0 = λ p. HasNoUnit p.id units in
     All-filter (is_for_other id) P promises apart
 
 -- a queue that has the promises of w, too, is sound
-pub sound_grown : (w v : Inside) → IsSound w → IsGrown w v → v.rooms ≡ w.rooms → v.common ≡ w.common → v.charge ≡ w.charge → v.limit ≡ w.limit → IsSound v
+pub sound_grown : (w v : Inside) → IsSound w → IsGrown w v → v.rooms ≡ w.rooms → v.common ≡ w.common → v.charge ≡ w.charge
+    → v.limit ≡ w.limit → IsSound v
 sound_grown w v sound grown rooms common charge limit =
-    sound_rooms w v sound grown (rw rooms sound.once) (rw rooms sound.apart) (rw (charge, rooms, common) sound.charge) (rw (charge, limit) sound.within)
+    sound_rooms w v sound grown (rw rooms sound.once) (rw rooms sound.apart) (rw (charge, rooms, common) sound.charge)
+    (rw (charge, limit) sound.within)

@@ -1,5 +1,6 @@
 -- Units by their ids: a pin and a removal in a list of units of distinct ids.
-use Rattle.std.proofs.Common.{◌≡◌, ◌≢◌, ◌<◌, ℕ, Bool, true, false, cond, List, [], ◌∷◌, ◌++◌, length, get_or, map, Some, refl, sym, ap, ◌∙◌, All, arith, sum_by, Contains}
+use Rattle.std.proofs.Common.{◌≡◌, ◌≢◌, ◌<◌, ℕ, Bool, true, false, cond, List, [], ◌∷◌, ◌++◌, length, get_or, map, Some, refl, sym, ap, ◌∙◌}
+use Rattle.std.proofs.Common.{All, arith, sum_by, Contains}
 use Rattle.std.specs.List.{filter}
 use Rattle.std.proofs.lemmas.List.{map-append, get_or-map, length-map}
 use Rattle.std.proofs.lemmas.List.Elements.{All-head, All-tail, All-weaker, All-map}
@@ -34,29 +35,41 @@ map_others id rank (q ∷ units) others =
     rw (other_stays id rank q (All-head P q units others), map_others id rank units (All-tail P q units others)) refl
 
 -- the units on both sides of one have other ids
-pub others_before : (front back : List Placed) (p : Placed) (id : UnitId) → HasDistinctIds (front ++ p ∷ back) → id_of p ≡ id → All (λ q. id_of q ≢ id) front
+pub others_before : (front back : List Placed) (p : Placed) (id : UnitId) → HasDistinctIds (front ++ p ∷ back) → id_of p ≡ id
+    → All (λ q. id_of q ≢ id) front
 others_before = named.others_before id_of
 
-pub others_after : (front back : List Placed) (p : Placed) (id : UnitId) → HasDistinctIds (front ++ p ∷ back) → id_of p ≡ id → All (λ q. id_of q ≢ id) back
+pub others_after : (front back : List Placed) (p : Placed) (id : UnitId) → HasDistinctIds (front ++ p ∷ back) → id_of p ≡ id
+    → All (λ q. id_of q ≢ id) back
 others_after = named.others_after id_of
 
-pub map_at : (front back : List Placed) (p : Placed) (id : UnitId) (rank : Rank) → HasDistinctIds (front ++ p ∷ back) → id_of p ≡ id → map (pinned_by id rank) (front ++ p ∷ back) ≡ front ++ record p { pin = Some rank } ∷ back
+pub map_at : (front back : List Placed) (p : Placed) (id : UnitId) (rank : Rank) → HasDistinctIds (front ++ p ∷ back) → id_of p ≡ id
+    → map (pinned_by id rank) (front ++ p ∷ back) ≡ front ++ record p { pin = Some rank } ∷ back
 map_at front back p id rank distinct is =
     map-append (pinned_by id rank) front (p ∷ back)
-    ∙ rw (map_others id rank front (others_before front back p id distinct is), this_pinned id rank p is, map_others id rank back (others_after front back p id distinct is)) refl
+    ∙ rw (
+      map_others id rank front (others_before front back p id distinct is),
+      this_pinned id rank p is,
+      map_others id rank back (others_after front back p id distinct is),
+    ) refl
 
-pub filter_at : (front back : List Placed) (p : Placed) (id : UnitId) → HasDistinctIds (front ++ p ∷ back) → id_of p ≡ id → filter (has_other_id id) (front ++ p ∷ back) ≡ front ++ back
+pub filter_at : (front back : List Placed) (p : Placed) (id : UnitId) → HasDistinctIds (front ++ p ∷ back) → id_of p ≡ id
+    → filter (has_other_id id) (front ++ p ∷ back) ≡ front ++ back
 filter_at = named.filter_at id_of
 
 -- a unit of the list is the only one of its id
-pub only_one : (units : List Placed) (k : ℕ) (d p : Placed) → HasDistinctIds units → Contains units p → k < length units → id_of (get_or units k d) ≡ id_of p → get_or units k d ≡ p
+pub only_one : (units : List Placed) (k : ℕ) (d p : Placed) → HasDistinctIds units → Contains units p → k < length units
+    → id_of (get_or units k d) ≡ id_of p → get_or units k d ≡ p
 only_one = named.only_one id_of
 
 -- ids stay distinct when units are pinned
-pub distinct_pinned : (id : UnitId) (rank : Rank) (units : List Placed) → HasDistinctIds units → HasDistinctIds (map (pinned_by id rank) units)
+pub distinct_pinned : (id : UnitId) (rank : Rank) (units : List Placed) → HasDistinctIds units
+    → HasDistinctIds (map (pinned_by id rank) units)
 distinct_pinned id rank units distinct i j d before within same =
     let long : length (map (pinned_by id rank) units) ≡ length units = length-map units (pinned_by id rank) in
-    let at : (k : ℕ) → k < length units → id_of (get_or (map (pinned_by id rank) units) k d) ≡ id_of (get_or units k d) = λ k in_list. ap id_of (get_or-map (pinned_by id rank) units k d d in_list) ∙ ap (λ u. u.id) (unit_pinned id rank (get_or units k d)) in
+    let at : (k : ℕ) → k < length units → id_of (get_or (map (pinned_by id rank) units) k d)
+    ≡ id_of (get_or units k d) =
+    λ k in_list. ap id_of (get_or-map (pinned_by id rank) units k d d in_list) ∙ ap (λ u. u.id) (unit_pinned id rank (get_or units k d)) in
     distinct i j d before (omega arith) (sym (at i (omega arith)) ∙ same ∙ at j (omega arith))
 
 size_pinned : (id : UnitId) (rank : Rank) (q : Placed) → size_of (pinned_by id rank q) ≡ size_of q
@@ -70,4 +83,11 @@ small_pinned id rank units small =
 
 pub sizes_pinned : (id : UnitId) (rank : Rank) (units : List Placed) → sum_by size_of (map (pinned_by id rank) units) ≡ sum_by size_of units
 sizes_pinned id rank [] = refl
-sizes_pinned id rank (q ∷ units) = omega (arith, sum_by-cons size_of (pinned_by id rank q) (map (pinned_by id rank) units), sum_by-cons size_of q units, sizes_pinned id rank units, size_pinned id rank q)
+sizes_pinned id rank (q ∷ units) =
+    omega (
+      arith,
+      sum_by-cons size_of (pinned_by id rank q) (map (pinned_by id rank) units),
+      sum_by-cons size_of q units,
+      sizes_pinned id rank units,
+      size_pinned id rank q,
+    )

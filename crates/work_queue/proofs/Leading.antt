@@ -1,11 +1,13 @@
 -- A search that goes over the units and keeps the one that comes first so far.
-use Rattle.std.proofs.Common.{◌≡◌, ◌≢◌, ◌<◌, ℕ, zero, suc, ◌⊎◌, Bool, true, false, cond, List, [], ◌∷◌, ◌++◌, length, Option, Some, None, Any, fold, refl, sym, ap, ◌∙◌, subst, arith, inl, inr, append_assoc, append-nil}
+use Rattle.std.proofs.Common.{◌≡◌, ◌≢◌, ◌<◌, ℕ, zero, suc, ◌⊎◌, Bool, true, false, cond, List, [], ◌∷◌, ◌++◌, length, Option, Some, None}
+use Rattle.std.proofs.Common.{Any, fold, refl, sym, ap, ◌∙◌, subst, arith, inl, inr, append_assoc, append-nil}
 use Rattle.std.specs.List.{slice_get}
 use Rattle.std.proofs.lemmas.Bool.{both_ways, cases_eq}
 use Rattle.std.proofs.lemmas.Option.{none-some, same_Some, slice_get_within, slice_get-get_or, get_or_from_slice_get}
 use Rattle.work_queue.specs.declared.placing.Placed.{Placed}
 
-pushed_cases : (xs : List Placed) (y : Placed) (k : ℕ) (q : Placed) → slice_get (xs ++ y ∷ []) k ≡ Some q → (slice_get xs k ≡ Some q) ⊎ ((k ≡ length xs) × (y ≡ q))
+pushed_cases : (xs : List Placed) (y : Placed) (k : ℕ) (q : Placed) → slice_get (xs ++ y ∷ []) k ≡ Some q
+    → (slice_get xs k ≡ Some q) ⊎ ((k ≡ length xs) × (y ≡ q))
 pushed_cases [] y zero q at = inr (refl, same_Some y q at)
 pushed_cases [] y (suc k) q at = absurd (none-some q at)
 pushed_cases (x ∷ xs) y zero q at = inl at
@@ -28,11 +30,13 @@ pub record IsOrder {R : Type 0} (rate : Placed → R) (beats : R → R → Bool)
   pub passes_all : (i j k : ℕ) (u y q : Placed) → k < j → beats (rate y) (rate u) ≡ true → Before i u k q → Before j y k q
 
 -- one more unit is looked at
-pub record IsPick {R : Type 0} (may : Placed → Bool) (rate : Placed → R) (beats : R → R → Bool) (pick : Option R → Placed → Option R) : Type 0 where
+pub record IsPick {R : Type 0} (may : Placed → Bool) (rate : Placed → R) (beats : R → R → Bool)
+    (pick : Option R → Placed → Option R) : Type 0 where
   pub at_none : (p : Placed) → pick None p ≡ cond (may p) (Some (rate p)) None
   pub at_some : (r : R) (p : Placed) → pick (Some r) p ≡ cond (may p) (Some (cond (beats (rate p) r) (rate p) r)) (Some r)
 
-module _ {R : Type 0} (may : Placed → Bool) (rate : Placed → R) (beats : R → R → Bool) (Before : ℕ → Placed → ℕ → Placed → Type 0) (pick : Option R → Placed → Option R) (order : IsOrder rate beats Before) (picks : IsPick may rate beats pick) where
+module _ {R : Type 0} (may : Placed → Bool) (rate : Placed → R) (beats : R → R → Bool) (Before : ℕ → Placed → ℕ → Placed → Type 0)
+    (pick : Option R → Placed → Option R) (order : IsOrder rate beats Before) (picks : IsPick may rate beats pick) where
   -- a unit that is rated so comes before each other unit that may be taken
   pub record Leads (units : List Placed) (r : R) : Type 0 where
     pub place : ℕ
@@ -98,7 +102,8 @@ module _ {R : Type 0} (may : Placed → Bool) (rate : Placed → R) (beats : R �
         ];
       }
 
-  takes : (units : List Placed) (y : Placed) (r : R) → Leads units r → may y ≡ true → beats (rate y) r ≡ true → Leads (units ++ y ∷ []) (rate y)
+  takes : (units : List Placed) (y : Placed) (r : R) → Leads units r → may y ≡ true → beats (rate y) r ≡ true
+      → Leads (units ++ y ∷ []) (rate y)
   takes units y r leads may_be wins =
       let u = leads.unit in
       let test : beats (rate y) (rate u) ≡ true = ap (λ x. beats (rate y) x) leads.rated ∙ wins in
@@ -123,7 +128,8 @@ module _ {R : Type 0} (may : Placed → Bool) (rate : Placed → R) (beats : R �
         ];
       }
 
-  found_one : (units : List Placed) (y : Placed) (found : Option R) → Found units found → (t : Bool) → may y ≡ t → Found (units ++ y ∷ []) (pick found y)
+  found_one : (units : List Placed) (y : Placed) (found : Option R) → Found units found → (t : Bool) → may y ≡ t
+      → Found (units ++ y ∷ []) (pick found y)
   found_one units y None so true test = rw (picks.at_none y, test) (first_found units y so test)
   found_one units y None so false test = rw (picks.at_none y, test) (none_more units y so test)
   found_one units y (Some r) so false test = rw (picks.at_some r y, test) (passed_over units y r so test)
@@ -137,14 +143,22 @@ module _ {R : Type 0} (may : Placed → Bool) (rate : Placed → R) (beats : R �
   found_more units [] found so = rw append-nil so
   found_more units (y ∷ more) found so =
       let F : List Placed → Type 0 = λ l. Found l (fold pick (pick found y) more) in
-      subst F (append_assoc units (y ∷ []) more) (found_more (units ++ y ∷ []) more (pick found y) (found_one units y found so (may y) refl))
+      subst F (append_assoc units (y ∷ []) more)
+      (found_more (units ++ y ∷ []) more (pick found y) (found_one units y found so (may y) refl))
 
   -- what the fold finds leads
   pub found_all : (units : List Placed) → Found units (fold pick None units)
   found_all units = found_more [] units None (λ k q at. absurd (none-some q at))
 
   pub some_may : (units : List Placed) (r : R) → Leads units r → Any (λ p. may p ≡ true) units
-  some_may units r leads = (leads.place, leads.unit, slice_get_within units leads.place leads.unit leads.here, get_or_from_slice_get units leads.place leads.unit leads.unit leads.here, leads.is)
+  some_may units r leads = (
+    leads.place,
+    leads.unit,
+    slice_get_within units leads.place leads.unit leads.here,
+    get_or_from_slice_get units leads.place leads.unit leads.unit leads.here,
+    leads.is,
+  )
 
   pub none_may : (units : List Placed) → Found units None → Any (λ p. may p ≡ true) units → ⊥
-  none_may units none some = both_ways (may some.1) (none some.0 some.1 (slice_get-get_or units some.0 some.1 some.2 ∙ ap (λ p. Some p) some.3)) some.4
+  none_may units none some =
+      both_ways (may some.1) (none some.0 some.1 (slice_get-get_or units some.0 some.1 some.2 ∙ ap (λ p. Some p) some.3)) some.4

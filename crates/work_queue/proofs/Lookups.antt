@@ -1,5 +1,6 @@
 -- What the unit of an id says of all units.
-use Rattle.std.proofs.Common.{◌≡◌, ◌↔◌, Bool, true, false, not, List, Option, Some, None, is_some, refl, sym, ap, ◌∙◌, All, Any, find, IsTrue, Bor}
+use Rattle.std.proofs.Common.{◌≡◌, ◌↔◌, Bool, true, false, not, List, Option, Some, None, is_some, refl, sym, ap, ◌∙◌, All, Any, find}
+use Rattle.std.proofs.Common.{IsTrue, Bor}
 use Rattle.std.specs.Option.{option_copied}
 use Rattle.std.proofs.lemmas.Bool.{false≢true, true≢false}
 use Rattle.std.proofs.lemmas.List.Elements.{All-contains}
@@ -27,7 +28,8 @@ module _ (units : List Placed) (id : UnitId) where
   pub pin_missing : None ≡ find (is_unit id) units → (o : Option Rank) → Any (λ q. (id_of q ≡ id) × (q.pin ≡ o)) units → ⊥
   pin_missing none o has = unit_missing none (has.0, has.1, has.2, has.3, has.4.0)
 
-  pub has_unit_is : (o : Option (Bor Placed)) (b : Bool) → option_copied o ≡ find (is_unit id) units → b ≡ is_some o → IsTrue b ↔ HasUnit id units
+  pub has_unit_is : (o : Option (Bor Placed)) (b : Bool) → option_copied o ≡ find (is_unit id) units → b ≡ is_some o → IsTrue b
+      ↔ HasUnit id units
   has_unit_is None b found is = (λ t. absurd (false≢true (sym is ∙ t)), λ has. absurd (unit_missing found has))
   has_unit_is (Some r) b found is = (λ t. unit_there r.now found, λ has. is)
 

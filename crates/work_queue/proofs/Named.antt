@@ -1,8 +1,10 @@
 -- Lists whose elements have ids, no two the same: the one of an id, and what stays without it.
-use Rattle.std.proofs.Common.{◌≡◌, ◌≢◌, ◌<◌, ℕ, suc, ◌+◌, Bool, not, List, [], ◌∷◌, ◌++◌, length, get_or, take, drop, Some, None, refl, sym, ap, ◌∙◌, All, Any, Contains, arith, add-one, inl, inr, find, subst}
+use Rattle.std.proofs.Common.{◌≡◌, ◌≢◌, ◌<◌, ℕ, suc, ◌+◌, Bool, not, List, [], ◌∷◌, ◌++◌, length, get_or, take, drop, Some, None, refl, sym}
+use Rattle.std.proofs.Common.{ap, ◌∙◌, All, Any, Contains, arith, add-one, inl, inr, find, subst}
 use Rattle.std.specs.List.{AllPairs, filter, remove}
 use Rattle.std.proofs.lemmas.Bool.{both_ways, cases_order}
-use Rattle.std.proofs.lemmas.List.{drop_more, get_or_append_left, get_or_at, get_or-append-add, get_or_default, length-append, take-append-drop}
+use Rattle.std.proofs.lemmas.List.{drop_more, get_or_append_left, get_or_at, get_or-append-add, get_or_default, length-append}
+use Rattle.std.proofs.lemmas.List.{take-append-drop}
 use Rattle.std.proofs.lemmas.List.Elements.{All-head, All-tail, filter-append}
 use Rattle.adlb_unit.specs.declared.names.UnitId.{UnitId}
 use Rattle.adlb_unit.specs.Ids.{same_unit}
@@ -23,35 +25,45 @@ module _ {X : Type 0} (name : X → UnitId) where
       rw (unit_differs (name x) id (All-head P x xs others), filter_others id xs (All-tail P x xs others)) refl
 
   -- the elements on both sides of one have other ids
-  pub others_before : (front back : List X) (x : X) (id : UnitId) → AllPairs (λ a b. name a ≢ name b) (front ++ x ∷ back) → name x ≡ id → All (λ y. name y ≢ id) front
+  pub others_before : (front back : List X) (x : X) (id : UnitId) → AllPairs (λ a b. name a ≢ name b) (front ++ x ∷ back) → name x ≡ id
+      → All (λ y. name y ≢ id) front
   others_before front back x id distinct is k d within same =
       let here : get_or (front ++ x ∷ back) k d ≡ get_or front k d = get_or_append_left front (x ∷ back) d k within in
       let there : get_or (front ++ x ∷ back) (length front) d ≡ x = get_or_at front x back d (length front) refl in
       let long : length (front ++ x ∷ back) ≡ length front + suc (length back) = length-append front (x ∷ back) in
       distinct k (length front) d within (omega arith) (ap name here ∙ same ∙ sym is ∙ sym (ap name there))
 
-  pub others_after : (front back : List X) (x : X) (id : UnitId) → AllPairs (λ a b. name a ≢ name b) (front ++ x ∷ back) → name x ≡ id → All (λ y. name y ≢ id) back
+  pub others_after : (front back : List X) (x : X) (id : UnitId) → AllPairs (λ a b. name a ≢ name b) (front ++ x ∷ back) → name x ≡ id
+      → All (λ y. name y ≢ id) back
   others_after front back x id distinct is k d within same =
       let here : get_or (front ++ x ∷ back) (length front + suc k) d ≡ get_or back k d = get_or-append-add front (x ∷ back) (suc k) d in
       let there : get_or (front ++ x ∷ back) (length front) d ≡ x = get_or_at front x back d (length front) refl in
       let long : length (front ++ x ∷ back) ≡ length front + suc (length back) = length-append front (x ∷ back) in
       distinct (length front) (length front + suc k) d (omega arith) (omega arith) (ap name there ∙ is ∙ sym same ∙ sym (ap name here))
 
-  pub filter_at : (front back : List X) (x : X) (id : UnitId) → AllPairs (λ a b. name a ≢ name b) (front ++ x ∷ back) → name x ≡ id → filter (is_not_of id) (front ++ x ∷ back) ≡ front ++ back
+  pub filter_at : (front back : List X) (x : X) (id : UnitId) → AllPairs (λ a b. name a ≢ name b) (front ++ x ∷ back) → name x ≡ id
+      → filter (is_not_of id) (front ++ x ∷ back) ≡ front ++ back
   filter_at front back x id distinct is =
       filter-append (is_not_of id) front (x ∷ back)
-      ∙ rw (filter_others id front (others_before front back x id distinct is), same_unit_from (name x) id is, filter_others id back (others_after front back x id distinct is)) refl
+      ∙ rw (
+        filter_others id front (others_before front back x id distinct is),
+        same_unit_from (name x) id is,
+        filter_others id back (others_after front back x id distinct is),
+      ) refl
 
-  pub remove_is : (xs : List X) (i : ℕ) (x : X) (id : UnitId) → AllPairs (λ a b. name a ≢ name b) xs → i < length xs → x ≡ get_or xs i x → name x ≡ id → remove xs i ≡ filter (is_not_of id) xs
+  pub remove_is : (xs : List X) (i : ℕ) (x : X) (id : UnitId) → AllPairs (λ a b. name a ≢ name b) xs → i < length xs → x ≡ get_or xs i x
+      → name x ≡ id → remove xs i ≡ filter (is_not_of id) xs
   remove_is xs i x id distinct within read is =
       let front = take i xs in
       let back = drop (suc i) xs in
-      let listed : xs ≡ front ++ x ∷ back = sym (take-append-drop i xs) ∙ ap (λ l. front ++ l) (drop_more xs i x within) ∙ ap (λ y. front ++ y ∷ drop (i + 1) xs) (sym read) ∙ ap (λ n. front ++ x ∷ drop n xs) (add-one i) in
+      let listed : xs ≡ front ++ x ∷ back = sym (take-append-drop i xs) ∙ ap (λ l. front ++ l) (drop_more xs i x within)
+      ∙ ap (λ y. front ++ y ∷ drop (i + 1) xs) (sym read) ∙ ap (λ n. front ++ x ∷ drop n xs) (add-one i) in
       let parted : AllPairs (λ a b. name a ≢ name b) (front ++ x ∷ back) = rw listed at distinct in
       sym (filter_at front back x id parted is) ∙ sym (ap (λ l. filter (is_not_of id) l) listed)
 
   -- an element of the list is the only one of its id
-  pub only_one : (xs : List X) (k : ℕ) (d x : X) → AllPairs (λ a b. name a ≢ name b) xs → Contains xs x → k < length xs → name (get_or xs k d) ≡ name x → get_or xs k d ≡ x
+  pub only_one : (xs : List X) (k : ℕ) (d x : X) → AllPairs (λ a b. name a ≢ name b) xs → Contains xs x → k < length xs
+      → name (get_or xs k d) ≡ name x → get_or xs k d ≡ x
   only_one xs k d x distinct there within same =
       let j = there.0 in
       let at : get_or xs j d ≡ x = get_or_default xs j d x there.1 ∙ there.2 in
@@ -69,7 +81,8 @@ module _ {X : Type 0} (name : X → UnitId) where
 
   -- where nothing is found, no element has the id
   pub find_nothing : (xs : List X) (id : UnitId) → find (is_of id) xs ≡ None → All (λ x. name x ≢ id) xs
-  find_nothing xs id none k d within same = both_ways (is_of id (get_or xs k d)) (find_none (is_of id) xs none k d within) (same_unit_from (name (get_or xs k d)) id same)
+  find_nothing xs id none k d within same =
+      both_ways (is_of id (get_or xs k d)) (find_none (is_of id) xs none k d within) (same_unit_from (name (get_or xs k d)) id same)
 
   -- so what holds of the one of an id holds of some element of that id, and the other way
   module _ (P : X → Type 0) (xs : List X) (id : UnitId) (distinct : AllPairs (λ a b. name a ≢ name b) xs) where

@@ -1,5 +1,6 @@
 -- The tests of the best unit, and what they say.
-use Rattle.std.proofs.Common.{◌≡◌, ◌<◌, ◌<ℤ◌, ◌⊎◌, ◌==◌, ℤ, ℕ, List, [], ◌∷◌, Bool, true, false, ◌&&◌, ◌||◌, Option, Some, None, is_none, int_lt, refl, ap, ◌∙◌, arith, inl, inr, eqb, nat_lt, Contains}
+use Rattle.std.proofs.Common.{◌≡◌, ◌<◌, ◌<ℤ◌, ◌⊎◌, ◌==◌, ℤ, ℕ, List, [], ◌∷◌, Bool, true, false, ◌&&◌, ◌||◌, Option, Some, None, is_none}
+use Rattle.std.proofs.Common.{int_lt, refl, ap, ◌∙◌, arith, inl, inr, eqb, nat_lt, Contains}
 use Rattle.std.specs.List.{list_any}
 use Rattle.std.proofs.lemmas.Bool.{and_parts, and_from, eqb-true, eq-eqb, or_cases, or_left, or_right, false≢true}
 use Rattle.std.proofs.lemmas.Bool.Decides.{nat_tests}
@@ -40,13 +41,16 @@ free_is None test = refl
 free_is (Some rank) test = absurd (false≢true test)
 
 -- the test tells what is permitted
-pub permitted_is : (rank : Rank) (types : Option (List WorkType)) (kind : WorkType) (target : Target) → permitted rank types kind target ≡ true → Permits rank types kind target
+pub permitted_is : (rank : Rank) (types : Option (List WorkType)) (kind : WorkType) (target : Target)
+    → permitted rank types kind target ≡ true → Permits rank types kind target
 permitted_is rank types kind target test =
     let parts = and_parts (is_for target rank) (has_kind types kind) test in
     (has_kind_is types kind parts.1, is_for_is target rank parts.0)
 
-pub is_permitted : (rank : Rank) (types : Option (List WorkType)) (kind : WorkType) (target : Target) → Permits rank types kind target → permitted rank types kind target ≡ true
-is_permitted rank types kind target is = and_from (is_for target rank) (has_kind types kind) (is_is_for target rank is.1) (is_has_kind types kind is.0)
+pub is_permitted : (rank : Rank) (types : Option (List WorkType)) (kind : WorkType) (target : Target) → Permits rank types kind target
+    → permitted rank types kind target ≡ true
+is_permitted rank types kind target is =
+    and_from (is_for target rank) (has_kind types kind) (is_is_for target rank is.1) (is_has_kind types kind is.0)
 
 -- the test tells the offered units
 pub offered_is : (rank : Rank) (types : Option (List WorkType)) (p : Placed) → offered rank types p ≡ true → IsOffered rank types p
@@ -55,7 +59,8 @@ offered_is rank types p test =
     (free_is p.pin free.0, permitted_is rank types p.unit.kind p.unit.target free.1)
 
 pub is_offered : (rank : Rank) (types : Option (List WorkType)) (p : Placed) → IsOffered rank types p → offered rank types p ≡ true
-is_offered rank types p is = and_from (is_none p.pin) (permitted rank types p.unit.kind p.unit.target) (rw is.0 refl) (is_permitted rank types p.unit.kind p.unit.target is.1)
+is_offered rank types p is = and_from (is_none p.pin) (permitted rank types p.unit.kind p.unit.target) (rw is.0 refl)
+    (is_permitted rank types p.unit.kind p.unit.target is.1)
 
 -- the test that a later unit, of class b and priority y, is strictly better than one of class a and priority x
 abbrev pub passes : ℕ → ℕ → ℤ → ℤ → Bool
@@ -82,7 +87,8 @@ above x y z rest last up (inl down) = inl (let h : z <ℤ y = omega (arith, ints
 above x y z rest last up (inr tie) = inl (let h : z <ℤ y = omega (arith, ints, tie.0) in h)
 
 -- and so before all that the earlier unit came before
-pub passes_all : (a b c : ℕ) (x y z : ℤ) (rest last : Type 0) → (b < a) ⊎ ((b ≡ a) × (x <ℤ y)) → ByClass a c (ByPriority x z rest) → ByClass b c (ByPriority y z last)
+pub passes_all : (a b c : ℕ) (x y z : ℤ) (rest last : Type 0) → (b < a) ⊎ ((b ≡ a) × (x <ℤ y)) → ByClass a c (ByPriority x z rest)
+    → ByClass b c (ByPriority y z last)
 passes_all a b c x y z rest last (inl lower) (inl first) = inl (omega arith)
 passes_all a b c x y z rest last (inl lower) (inr tie) = inl (omega (arith, tie.0))
 passes_all a b c x y z rest last (inr even) (inl first) = inl (omega (arith, even.0))

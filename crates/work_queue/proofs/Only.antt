@@ -14,11 +14,13 @@ use Rattle.work_queue.specs.Queue.{id_of}
 use Rattle.work_queue.specs.declared.placing.Placed.{Placed}
 
 -- of two units that each come first, at places of their own, each would come before the other
-module _ (May : Placed → Type 0) (Before : ℕ → Placed → ℕ → Placed → Type 0) (apart : (i j : ℕ) (p q : Placed) → Before i p j q → Before j q i p → ⊥) (units : List Placed) where
+module _ (May : Placed → Type 0) (Before : ℕ → Placed → ℕ → Placed → Type 0)
+    (apart : (i j : ℕ) (p q : Placed) → Before i p j q → Before j q i p → ⊥) (units : List Placed) where
   abbrev IsFirst : ℕ → Placed → Type 0
   IsFirst i p = (other : ℕ) (r : Placed) → slice_get units other ≡ Some r → other ≢ i → May r → Before i p other r
 
-  pub only_first : (i j : ℕ) (p q : Placed) → slice_get units i ≡ Some p → slice_get units j ≡ Some q → May p → May q → IsFirst i p → IsFirst j q → p ≡ q
+  pub only_first : (i j : ℕ) (p q : Placed) → slice_get units i ≡ Some p → slice_get units j ≡ Some q → May p → May q → IsFirst i p
+      → IsFirst j q → p ≡ q
   only_first i j p q at there may_p may_q first_p first_q = elim (cases_eq i j) [
     | inl same ↦ same_Some p q (sym at ∙ ap (λ k. slice_get units k) same ∙ there)
     | inr differs ↦ absurd (apart i j p q (first_p j q there (λ e. differs (sym e)) may_q) (first_q i p at differs may_p))
@@ -43,22 +45,26 @@ goes_apart x y i j (inr a) (inl b) = omega (arith, ints, a.0, b)
 goes_apart x y i j (inr a) (inr b) = omega (arith, a.1, b.1)
 
 -- a list has one best
-pub only_best : (rank : Rank) (types : Option (List WorkType)) (units : List Placed) (a b : UnitId) → IsBest rank types units a → IsBest rank types units b → a ≡ b
+pub only_best : (rank : Rank) (types : Option (List WorkType)) (units : List Placed) (a b : UnitId) → IsBest rank types units a
+    → IsBest rank types units b → a ≡ b
 only_best rank types units a b x y =
-    let same : x.unit ≡ y.unit = only_first (IsOffered rank types) (Precedes rank) (λ i j p q. by_class _ _ p.unit.prio q.unit.prio i j) units x.place y.place x.unit y.unit x.here y.here x.is_offered y.is_offered x.is_first y.is_first in
+    let same : x.unit ≡ y.unit = only_first (IsOffered rank types) (Precedes rank) (λ i j p q. by_class _ _ p.unit.prio q.unit.prio i j)
+    units x.place y.place x.unit y.unit x.here y.here x.is_offered y.is_offered x.is_first y.is_first in
     sym x.has_id ∙ ap id_of same ∙ y.has_id
 
 -- and one first to push
 pub only_push : (units : List Placed) (a b : UnitId × ℕ) → IsFirstToPush units a → IsFirstToPush units b → a ≡ b
 only_push units a b x y =
-    let same : x.unit ≡ y.unit = only_first IsMovable GoesBefore (λ i j p q. goes_apart p.unit.prio q.unit.prio i j) units x.place y.place x.unit y.unit x.here y.here x.is_movable y.is_movable x.is_first y.is_first in
+    let same : x.unit ≡ y.unit = only_first IsMovable GoesBefore (λ i j p q. goes_apart p.unit.prio q.unit.prio i j) units x.place y.place
+    x.unit y.unit x.here y.here x.is_movable y.is_movable x.is_first y.is_first in
     sym x.has ∙ ap told same ∙ y.has
 
 order_cases : (i j : ℕ) → (i < j) ⊎ ((i ≡ j) ⊎ (j < i))
 order_cases i j = grind arith
 
 -- and one first fit
-pub only_fit : (asked : List (Rank × Option (List WorkType))) (units : List Placed) (a b : UnitId) → IsFirstFit asked units a → IsFirstFit asked units b → a ≡ b
+pub only_fit : (asked : List (Rank × Option (List WorkType))) (units : List Placed) (a b : UnitId) → IsFirstFit asked units a
+    → IsFirstFit asked units b → a ≡ b
 only_fit asked units a b x y =
     let same : x.unit ≡ y.unit = by_order (order_cases x.place y.place) in
     sym x.has_id ∙ ap id_of same ∙ y.has_id

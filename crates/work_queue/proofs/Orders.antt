@@ -1,5 +1,6 @@
 -- The order of the entries.
-use Rattle.std.proofs.Common.{◌≡◌, ◌≢◌, ◌<◌, ◌<ℤ◌, ◌⊎◌, ℕ, ℤ, Bool, true, false, not, ◌&&◌, ◌||◌, int_lt, nat_lt, refl, sym, ap, ◌∙◌, arith, inl, inr}
+use Rattle.std.proofs.Common.{◌≡◌, ◌≢◌, ◌<◌, ◌<ℤ◌, ◌⊎◌, ℕ, ℤ, Bool, true, false, not, ◌&&◌, ◌||◌, int_lt, nat_lt, refl, sym, ap, ◌∙◌, arith}
+use Rattle.std.proofs.Common.{inl, inr}
 use Rattle.std.proofs.lemmas.Bool.Decides.{nat_tests}
 use Rattle.std.proofs.lemmas.Int.{ints}
 use Rattle.adlb_unit.specs.declared.names.Target.{Target}
@@ -17,7 +18,8 @@ is_lower a b t is = grind (arith, nat_tests)
 pub lower_isnt : (a b : ℕ) (t : Bool) → lower_first a b t ≡ false → (b < a) ⊎ ((a ≡ b) × (t ≡ false))
 lower_isnt a b t test = grind (arith, nat_tests)
 
-pub lower_trans : (a b c : ℕ) (s t u : Bool) → (s ≡ true → t ≡ true → u ≡ true) → lower_first a b s ≡ true → lower_first b c t ≡ true → lower_first a c u ≡ true
+pub lower_trans : (a b c : ℕ) (s t u : Bool) → (s ≡ true → t ≡ true → u ≡ true) → lower_first a b s ≡ true → lower_first b c t ≡ true
+    → lower_first a c u ≡ true
 lower_trans a b c s t u both first second = is_lower a c u (by_cases (lower_is a b s first) (lower_is b c t second))
   where
     by_cases : (a < b) ⊎ ((a ≡ b) × (s ≡ true)) → (b < c) ⊎ ((b ≡ c) × (t ≡ true)) → (a < c) ⊎ ((a ≡ c) × (u ≡ true))
@@ -42,16 +44,19 @@ lower_even a b s t is isnt = by_cases (lower_is a b s is) (lower_isnt a b t isnt
     by_cases (inr x) (inl y) = absurd (omega (arith, x.0))
     by_cases (inr x) (inr y) = (x.0, x.1, y.1)
 
-pub run_trans : (a b c : Entry) (s t u : Bool) → (s ≡ true → t ≡ true → u ≡ true) → by_run a b s ≡ true → by_run b c t ≡ true → by_run a c u ≡ true
+pub run_trans : (a b c : Entry) (s t u : Bool) → (s ≡ true → t ≡ true → u ≡ true) → by_run a b s ≡ true → by_run b c t ≡ true
+    → by_run a c u ≡ true
 run_trans a b c s t u both =
     lower_trans a.kind.0 b.kind.0 c.kind.0 _ _ _
     (lower_trans (sort_of a.target) (sort_of b.target) (sort_of c.target) _ _ _
     (lower_trans (named_by a.target) (named_by b.target) (named_by c.target) s t u both))
 
-turn_trans : (x y z : ℤ) (k l m : ℕ) → (int_lt y x || (not (int_lt x y) && nat_lt k l)) ≡ true → (int_lt z y || (not (int_lt y z) && nat_lt l m)) ≡ true → (int_lt z x || (not (int_lt x z) && nat_lt k m)) ≡ true
+turn_trans : (x y z : ℤ) (k l m : ℕ) → (int_lt y x || (not (int_lt x y) && nat_lt k l)) ≡ true
+    → (int_lt z y || (not (int_lt y z) && nat_lt l m)) ≡ true → (int_lt z x || (not (int_lt x z) && nat_lt k m)) ≡ true
 turn_trans x y z k l m first second = grind (arith, ints, nat_tests)
 
-turn_other : (x y : ℤ) (k l : ℕ) → k ≢ l → (int_lt y x || (not (int_lt x y) && nat_lt k l)) ≡ false → (int_lt x y || (not (int_lt y x) && nat_lt l k)) ≡ true
+turn_other : (x y : ℤ) (k l : ℕ) → k ≢ l → (int_lt y x || (not (int_lt x y) && nat_lt k l)) ≡ false
+    → (int_lt x y || (not (int_lt y x) && nat_lt l k)) ≡ true
 turn_other x y k l differs test = grind (arith, ints, nat_tests)
 
 pub before_trans : (a b c : Entry) → goes_before a b ≡ true → goes_before b c ≡ true → goes_before a c ≡ true

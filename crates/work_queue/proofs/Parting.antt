@@ -1,5 +1,6 @@
 -- Two lists one after the other, and numbers that rise in them.
-use Rattle.std.proofs.Common.{◌≡◌, ◌<◌, ◌≤◌, ◌+◌, ◌-◌, ◌++◌, ℕ, List, Option, None, Some, OnSome, length, get_or, sym, ap, ◌∙◌, arith, inl, inr}
+use Rattle.std.proofs.Common.{◌≡◌, ◌<◌, ◌≤◌, ◌+◌, ◌-◌, ◌++◌, ℕ, List, Option, None, Some, OnSome, length, get_or, sym, ap, ◌∙◌, arith, inl}
+use Rattle.std.proofs.Common.{inr}
 use Rattle.std.specs.List.{AllPairs}
 use Rattle.std.proofs.lemmas.Bool.{cases_lt}
 use Rattle.std.proofs.lemmas.List.{length-append, get_or_append_left, get_or-append-add, get_or_default}
@@ -8,7 +9,8 @@ module _ (front back : List ℕ) (rises : AllPairs (λ a b. a < b) (front ++ bac
   pub back_rises : AllPairs (λ a b. a < b) back
   back_rises i j d before within =
       let long = length-append front back in
-      rw (sym (get_or-append-add front back i d), sym (get_or-append-add front back j d)) (rises (length front + i) (length front + j) d (omega (arith, before)) (omega (arith, long, within)))
+      rw (sym (get_or-append-add front back i d), sym (get_or-append-add front back j d))
+      (rises (length front + i) (length front + j) d (omega (arith, before)) (omega (arith, long, within)))
 
   -- what stands in the first list is not above its last
   not_above : (k d : ℕ) → k < length front → get_or (front ++ back) k d ≤ get_or front (length front - 1) d
@@ -25,7 +27,8 @@ module _ (front back : List ℕ) (rises : AllPairs (λ a b. a < b) (front ++ bac
   ]
 
   -- what stands in the other list is above the last of the first
-  above : (k d : ℕ) → 0 < length front → length front ≤ k → k < length (front ++ back) → get_or front (length front - 1) d < get_or (front ++ back) k d
+  above : (k d : ℕ) → 0 < length front → length front ≤ k → k < length (front ++ back)
+      → get_or front (length front - 1) d < get_or (front ++ back) k d
   above k d some behind within =
       let last = get_or_append_left front back d (length front - 1) (omega (arith, some)) in
       let less = rises (length front - 1) k d (omega (arith, some, behind)) within in
@@ -60,7 +63,8 @@ module _ (front back : List ℕ) (rises : AllPairs (λ a b. a < b) (front ++ bac
   ]
 
 -- the last of a list of this length, whatever is read past its end
-pub last_read : (list : List ℕ) (last n : ℕ) → n ≡ length list → 0 < length list → last ≡ get_or list (n - 1) last → (d : ℕ) → get_or list (length list - 1) d ≡ last
+pub last_read : (list : List ℕ) (last n : ℕ) → n ≡ length list → 0 < length list → last ≡ get_or list (n - 1) last → (d : ℕ)
+    → get_or list (length list - 1) d ≡ last
 last_read list last n n_is some read d =
     get_or_default list (length list - 1) d last (omega (arith, some)) ∙ sym (read ∙ ap (λ k. get_or list (k - 1) last) n_is)
 

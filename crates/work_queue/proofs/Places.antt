@@ -14,12 +14,14 @@ use Rattle.work_queue.specs.Inside.Units.{units_at}
 use Rattle.work_queue.specs.declared.placing.Placed.{Placed}
 use Rattle.work_queue.specs.declared.queues.WorkQueue.TheInside.{Inside}
 
-pub seen_there : (w : Inside) (place key : ℕ) → IsSound w → place < length w.order.items → key ≡ get_or w.order.items place key → option_map seen (get w.slots key) ≡ option_map seen (slice_get (units_at w.slots w.order.items) place)
+pub seen_there : (w : Inside) (place key : ℕ) → IsSound w → place < length w.order.items → key ≡ get_or w.order.items place key
+    → option_map seen (get w.slots key) ≡ option_map seen (slice_get (units_at w.slots w.order.items) place)
 seen_there w place key sound within read =
     let is : key ≡ get_or w.order.items place 0 = read ∙ get_or_default w.order.items place key 0 within in
     ap (λ o. option_map seen o) (ap (λ k. get w.slots k) is ∙ sym (unit_under w.slots w.order.items sound.there place within))
 
-pub seen_past : (w : Inside) (place : ℕ) → IsSound w → (place < length w.order.items → ⊥) → None ≡ option_map seen (slice_get (units_at w.slots w.order.items) place)
+pub seen_past : (w : Inside) (place : ℕ) → IsSound w → (place < length w.order.items → ⊥)
+    → None ≡ option_map seen (slice_get (units_at w.slots w.order.items) place)
 seen_past w place sound past =
     let long = length-units w.slots w.order.items sound.there in
     let beyond = not_within place (length w.order.items) past in

@@ -1,5 +1,6 @@
 -- The unit that goes first among those that can be moved.
-use Rattle.std.proofs.Common.{◌≡◌, ◌<◌, ◌⊎◌, ◌<ℤ◌, ℕ, ℤ, int_le, true, false, List, Option, Some, None, Any, fold, refl, sym, ap, ◌∙◌, subst, inl, inr, is_none, arith}
+use Rattle.std.proofs.Common.{◌≡◌, ◌<◌, ◌⊎◌, ◌<ℤ◌, ℕ, ℤ, int_le, true, false, List, Option, Some, None, Any, fold, refl, sym, ap, ◌∙◌}
+use Rattle.std.proofs.Common.{subst, inl, inr, is_none, arith}
 use Rattle.std.proofs.lemmas.Bool.{and_parts, and_from, false≢true}
 use Rattle.std.proofs.lemmas.Int.{ints}
 use Rattle.std.proofs.lemmas.Option.{get_or_from_slice_get, slice_get_within}
@@ -42,7 +43,8 @@ goes a b Rest rest (inr same) = inr (same, rest)
 
 goes_all : (a b c : ℤ) (Was Rest : Type 0) → Rest → int_le b a ≡ true → (a <ℤ c) ⊎ ((a ≡ c) × Was) → (b <ℤ c) ⊎ ((b ≡ c) × Rest)
 goes_all a b c Was Rest rest test (inl low) = inl (below_as_low a b c test low)
-goes_all a b c Was Rest rest test (inr same) = let low : int_le b c ≡ true = ap (λ x. int_le b x) (sym same.0) ∙ test in goes c b Rest rest (as_low c b low)
+goes_all a b c Was Rest rest test (inr same) = let low : int_le b c ≡ true = ap (λ x. int_le b x) (sym same.0) ∙ test in
+    goes c b Rest rest (as_low c b low)
 
 by_prio : IsOrder candidate goes_first GoesBefore
 by_prio = record {
@@ -54,7 +56,8 @@ by_prio = record {
 picks : IsPick movable candidate goes_first pick_to_push
 picks = record { at_none = λ p. refl; at_some = λ r p. refl }
 
-found_so : (units : List Placed) (found : Option Candidate) → found ≡ fold pick_to_push None units → Found movable candidate goes_first GoesBefore pick_to_push by_prio picks units found
+found_so : (units : List Placed) (found : Option Candidate) → found ≡ fold pick_to_push None units
+    → Found movable candidate goes_first GoesBefore pick_to_push by_prio picks units found
 found_so units found same =
     let F : Option Candidate → Type 0 = λ o. Found movable candidate goes_first GoesBefore pick_to_push by_prio picks units o in
     subst F (sym same) (found_all movable candidate goes_first GoesBefore pick_to_push by_prio picks units)
@@ -81,7 +84,14 @@ module _ (units : List Placed) (c : Candidate) (same : Some c ≡ fold pick_to_p
 
 -- the unit that is pushed first is free
 pub free_from_push : (units : List Placed) (is : UnitId × ℕ) → IsFirstToPush units is → HasFree is.0 units
-free_from_push units is first = (first.place, first.unit, slice_get_within units first.place first.unit first.here, get_or_from_slice_get units first.place first.unit first.unit first.here, (ap (λ (r : UnitId × ℕ). r.0) first.has, first.is_movable.0))
+free_from_push units is first = (
+  first.place,
+  first.unit,
+  slice_get_within units first.place first.unit first.here,
+  get_or_from_slice_get units first.place first.unit first.unit first.here,
+  (ap (λ (r : UnitId × ℕ). r.0) first.has, first.is_movable.0),
+)
 
 pub none_movable : (units : List Placed) → None ≡ fold pick_to_push None units → Any IsMovable units → ⊥
-none_movable units same some = none_may movable candidate goes_first GoesBefore pick_to_push by_prio picks units (found_so units None same) (some.0, some.1, some.2, some.3, is_movable some.1 some.4)
+none_movable units same some = none_may movable candidate goes_first GoesBefore pick_to_push by_prio picks units (found_so units None same)
+    (some.0, some.1, some.2, some.3, is_movable some.1 some.4)

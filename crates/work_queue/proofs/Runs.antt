@@ -1,12 +1,14 @@
 -- The runs of the index, and the entry that leads.
-use Rattle.std.proofs.Common.{◌≡◌, ◌<◌, ◌≤◌, ◌+◌, ◌-◌, ◌⊎◌, ◌||◌, ◌&&◌, ℕ, ℤ, Bool, true, false, cond, not, int_lt, nat_lt, List, get_or, length, Option, Some, None, Contains, refl, sym, ap, ◌∙◌, arith, inl, inr}
+use Rattle.std.proofs.Common.{◌≡◌, ◌<◌, ◌≤◌, ◌+◌, ◌-◌, ◌⊎◌, ◌||◌, ◌&&◌, ℕ, ℤ, Bool, true, false, cond, not, int_lt, nat_lt, List, get_or}
+use Rattle.std.proofs.Common.{length, Option, Some, None, Contains, refl, sym, ap, ◌∙◌, arith, inl, inr}
 use Rattle.std.specs.List.Sorted.{IsPartitionPoint}
 use Rattle.std.proofs.lemmas.Bool.{both_ways, cases_eq, cases_lt}
 use Rattle.std.proofs.lemmas.Bool.Decides.{nat_tests}
 use Rattle.std.proofs.lemmas.Int.{ints}
 use Rattle.std.proofs.lemmas.List.{get_or_default}
 use Rattle.work_queue.proofs.Orders.{IsNext, lower_is, lower_isnt, lower_self, run_of, turn_self}
-use Rattle.work_queue.specs.Inside.Index.{IsInOrder, IsLeading, IsRun, by_turn, came_first, leading, lower_first, may_have, may_move, may_serve, moves_first, named_by, runs_before, sort_of, suits_better}
+use Rattle.work_queue.specs.Inside.Index.{IsInOrder, IsLeading, IsRun, by_turn, came_first, leading, lower_first, may_have, may_move}
+use Rattle.work_queue.specs.Inside.Index.{may_serve, moves_first, named_by, runs_before, sort_of, suits_better}
 use Rattle.work_queue.specs.declared.indexing.Run.{Run}
 use Rattle.adlb_unit.specs.Permit.{class_for}
 use Rattle.adlb_unit.specs.declared.names.Rank.{Rank}
@@ -18,10 +20,12 @@ pub record IsRanking (outranks : Entry → Entry → Bool) : Type 0 where
   pub not_both : (a b : Entry) → outranks a b ≡ true → outranks b a ≡ false
   pub passes_on : (a b c : Entry) → outranks b a ≡ false → outranks c b ≡ false → outranks c a ≡ false
 
-turn_not_both : (x y : ℤ) (k l : ℕ) → (int_lt y x || (not (int_lt x y) && nat_lt k l)) ≡ true → (int_lt x y || (not (int_lt y x) && nat_lt l k)) ≡ false
+turn_not_both : (x y : ℤ) (k l : ℕ) → (int_lt y x || (not (int_lt x y) && nat_lt k l)) ≡ true
+    → (int_lt x y || (not (int_lt y x) && nat_lt l k)) ≡ false
 turn_not_both x y k l test = grind (arith, ints, nat_tests)
 
-turn_passes_on : (x y z : ℤ) (k l m : ℕ) → (int_lt x y || (not (int_lt y x) && nat_lt l k)) ≡ false → (int_lt y z || (not (int_lt z y) && nat_lt m l)) ≡ false → (int_lt x z || (not (int_lt z x) && nat_lt m k)) ≡ false
+turn_passes_on : (x y z : ℤ) (k l m : ℕ) → (int_lt x y || (not (int_lt y x) && nat_lt l k)) ≡ false
+    → (int_lt y z || (not (int_lt z y) && nat_lt m l)) ≡ false → (int_lt x z || (not (int_lt z x) && nat_lt m k)) ≡ false
 turn_passes_on x y z k l m first second = grind (arith, ints, nat_tests)
 
 pub turn_ranks : IsRanking by_turn
@@ -35,9 +39,12 @@ runs_self : (a : Entry) → runs_before a a ≡ false
 runs_self a = lower_self a.kind.0 _ (lower_self (sort_of a.target) _ (lower_self (named_by a.target) _ refl))
 
 runs_alike : (a b : Entry) → a.kind ≡ b.kind → a.target ≡ b.target → runs_before a b ≡ false
-runs_alike a b kind target = rw (kind, target) (lower_self b.kind.0 _ (lower_self (sort_of b.target) _ (lower_self (named_by b.target) _ refl)))
+runs_alike a b kind target =
+    rw (kind, target) (lower_self b.kind.0 _ (lower_self (sort_of b.target) _ (lower_self (named_by b.target) _ refl)))
 
-module _ (entries : List Entry) (place end : ℕ) (e : Entry) (order : IsInOrder entries) (within : place < length entries) (here : e ≡ get_or entries place e) (point : IsPartitionPoint (λ x. runs_before e x ≡ false) (λ x. runs_before e x ≡ true) entries end) where
+module _ (entries : List Entry) (place end : ℕ) (e : Entry) (order : IsInOrder entries) (within : place < length entries)
+    (here : e ≡ get_or entries place e)
+    (point : IsPartitionPoint (λ x. runs_before e x ≡ false) (λ x. runs_before e x ≡ true) entries end) where
   pub run_goes_on : place < end
   run_goes_on = elim (cases_lt place end) [
     | inl below ↦ below
@@ -53,24 +60,28 @@ module _ (entries : List Entry) (place end : ℕ) (e : Entry) (order : IsInOrder
         inr (run_of e (get_or entries k d) (rw read at before) (point.0 k d (omega arith) below))
   ]
 
-  alike : (k : ℕ) (d : Entry) → place ≤ k → k < end → k < length entries → ((get_or entries k d).kind ≡ e.kind) × ((get_or entries k d).target ≡ e.target) × (by_turn (get_or entries k d) e ≡ false)
+  alike : (k : ℕ) (d : Entry) → place ≤ k → k < end → k < length entries → ((get_or entries k d).kind ≡ e.kind)
+      × ((get_or entries k d).target ≡ e.target) × (by_turn (get_or entries k d) e ≡ false)
   alike k d from below inside = elim (in_run k d from below inside) [
     | inl same ↦ rw same (refl, refl, turn_self e.prio e.stamp)
     | inr next ↦ (sym next.kind, sym next.target, turn_ranks.not_both e (get_or entries k d) next.turn)
   ]
 
-  none_later : (k : ℕ) (d : Entry) → place ≤ k → k < end → end ≤ length entries → by_turn (get_or entries (end - 1) d) (get_or entries k d) ≡ false
+  none_later : (k : ℕ) (d : Entry) → place ≤ k → k < end → end ≤ length entries
+      → by_turn (get_or entries (end - 1) d) (get_or entries k d) ≡ false
   none_later k d from below whole = elim (cases_eq k (end - 1)) [
     | inl same ↦ rw same (turn_self (get_or entries (end - 1) d).prio (get_or entries (end - 1) d).stamp)
     | inr differs ↦
         let before = order k (end - 1) d (omega arith) (omega arith) in
         let a = alike k d from below (omega arith) in
         let b = alike (end - 1) d (omega arith) (omega arith) (omega arith) in
-        let next = run_of (get_or entries k d) (get_or entries (end - 1) d) before (runs_alike (get_or entries k d) (get_or entries (end - 1) d) (a.0 ∙ sym b.0) (a.1 ∙ sym b.1)) in
+        let next = run_of (get_or entries k d) (get_or entries (end - 1) d) before
+        (runs_alike (get_or entries k d) (get_or entries (end - 1) d) (a.0 ∙ sym b.0) (a.1 ∙ sym b.1)) in
         turn_ranks.not_both (get_or entries k d) (get_or entries (end - 1) d) next.turn
   ]
 
-  pub is_run : (last : Entry) → last ≡ get_or entries (end - 1) last → end ≤ length entries → IsRun entries place (record { first = e; last = last; end = end })
+  pub is_run : (last : Entry) → last ≡ get_or entries (end - 1) last → end ≤ length entries
+      → IsRun entries place (record { first = e; last = last; end = end })
   is_run last is whole = record {
     first_is = here;
     last_is = is;
@@ -82,9 +93,13 @@ module _ (entries : List Entry) (place end : ℕ) (e : Entry) (order : IsInOrder
         record { kind = a.0; target = a.1; not_earlier = a.2; not_later = rw read at (none_later k d from below whole) };
   }
 
-module _ (may : Entry → Bool) (outranks : Entry → Entry → Bool) (ranking : IsRanking outranks) (entries : List Entry) (place end : ℕ) (first : Entry) (below : place ≤ end) (listed : Contains entries first) (run : (k : ℕ) (d : Entry) → place ≤ k → k < end → (may (get_or entries k d) ≡ may first) × (outranks (get_or entries k d) first ≡ false)) where
+module _ (may : Entry → Bool) (outranks : Entry → Entry → Bool) (ranking : IsRanking outranks) (entries : List Entry) (place end : ℕ)
+    (first : Entry) (below : place ≤ end) (listed : Contains entries first)
+    (run : (k : ℕ) (d : Entry) → place ≤ k → k < end → (may (get_or entries k d) ≡ may first)
+    × (outranks (get_or entries k d) first ≡ false)) where
   -- no entry of the run passes
-  pub passed_by : (found : Option Entry) → may first ≡ false → IsLeading may outranks entries place found → IsLeading may outranks entries end found
+  pub passed_by : (found : Option Entry) → may first ≡ false → IsLeading may outranks entries place found
+      → IsLeading may outranks entries end found
   passed_by None fails leads = λ k d before. elim (cases_lt k place) [
     | inl early ↦ leads k d early
     | inr late ↦ (run k d late before).0 ∙ fails
@@ -99,7 +114,8 @@ module _ (may : Entry → Bool) (outranks : Entry → Entry → Bool) (ranking :
   )
 
   -- the first of the run is taken into account
-  pub taken_up : (found : Option Entry) → may first ≡ true → IsLeading may outranks entries place found → IsLeading may outranks entries end (Some (leading outranks found first))
+  pub taken_up : (found : Option Entry) → may first ≡ true → IsLeading may outranks entries place found
+      → IsLeading may outranks entries end (Some (leading outranks found first))
   taken_up None passes leads = (
     listed,
     passes,
@@ -135,7 +151,8 @@ lower_not_both a b s t other test = by_cases (lower_is a b s test)
     by_cases (inl low) = grind (arith, nat_tests)
     by_cases (inr even) = let off = other even.1 in grind (arith, nat_tests)
 
-lower_passes_on : (a b c : ℕ) (s t u : Bool) → (s ≡ false → t ≡ false → u ≡ false) → lower_first b a s ≡ false → lower_first c b t ≡ false → lower_first c a u ≡ false
+lower_passes_on : (a b c : ℕ) (s t u : Bool) → (s ≡ false → t ≡ false → u ≡ false) → lower_first b a s ≡ false → lower_first c b t ≡ false
+    → lower_first c a u ≡ false
 lower_passes_on a b c s t u both first second = by_cases (lower_isnt b a s first) (lower_isnt c b t second)
   where
     by_cases : (a < b) ⊎ ((b ≡ a) × (s ≡ false)) → (b < c) ⊎ ((c ≡ b) × (t ≡ false)) → lower_first c a u ≡ false
@@ -146,11 +163,15 @@ lower_passes_on a b c s t u both first second = by_cases (lower_isnt b a s first
 
 pub suits_ranks : (rank : Rank) → IsRanking (suits_better rank)
 suits_ranks rank = record {
-  not_both = λ a b. lower_not_both (class_for rank a.target) (class_for rank b.target) (by_turn a b) (by_turn b a) (turn_ranks.not_both a b);
-  passes_on = λ a b c. lower_passes_on (class_for rank a.target) (class_for rank b.target) (class_for rank c.target) (by_turn b a) (by_turn c b) (by_turn c a) (turn_ranks.passes_on a b c);
+  not_both =
+      λ a b. lower_not_both (class_for rank a.target) (class_for rank b.target) (by_turn a b) (by_turn b a) (turn_ranks.not_both a b);
+  passes_on =
+      λ a b c. lower_passes_on (class_for rank a.target) (class_for rank b.target) (class_for rank c.target) (by_turn b a) (by_turn c b)
+      (by_turn c a) (turn_ranks.passes_on a b c);
 }
 
-turn_back : (x y z : ℤ) (k l m : ℕ) → (int_lt y x || (not (int_lt x y) && nat_lt k l)) ≡ false → (int_lt z y || (not (int_lt y z) && nat_lt l m)) ≡ false → (int_lt z x || (not (int_lt x z) && nat_lt k m)) ≡ false
+turn_back : (x y z : ℤ) (k l m : ℕ) → (int_lt y x || (not (int_lt x y) && nat_lt k l)) ≡ false
+    → (int_lt z y || (not (int_lt y z) && nat_lt l m)) ≡ false → (int_lt z x || (not (int_lt x z) && nat_lt k m)) ≡ false
 turn_back x y z k l m first second = grind (arith, ints, nat_tests)
 
 pub moves_ranks : IsRanking moves_first
@@ -160,12 +181,15 @@ moves_ranks = record {
 }
 
 -- the run beside its first, for a rank, and beside its last
-pub run_suits : (rank : Rank) (types : Option (List WorkType)) (entries : List Entry) (place : ℕ) (run : Run) → IsRun entries place run → (k : ℕ) (d : Entry) → place ≤ k → k < run.end → (may_have rank types (get_or entries k d) ≡ may_have rank types run.first) × (suits_better rank (get_or entries k d) run.first ≡ false)
+pub run_suits : (rank : Rank) (types : Option (List WorkType)) (entries : List Entry) (place : ℕ) (run : Run) → IsRun entries place run
+    → (k : ℕ) (d : Entry) → place ≤ k → k < run.end → (may_have rank types (get_or entries k d) ≡ may_have rank types run.first)
+    × (suits_better rank (get_or entries k d) run.first ≡ false)
 run_suits rank types entries place run is k d from below =
     let of = is.alike k d from below in
     (rw (of.kind, of.target) refl, rw of.target (lower_self (class_for rank run.first.target) _ of.not_earlier))
 
-pub run_moves : (entries : List Entry) (place : ℕ) (run : Run) → IsRun entries place run → (k : ℕ) (d : Entry) → place ≤ k → k < run.end → (may_move (get_or entries k d) ≡ may_move run.last) × (moves_first (get_or entries k d) run.last ≡ false)
+pub run_moves : (entries : List Entry) (place : ℕ) (run : Run) → IsRun entries place run → (k : ℕ) (d : Entry) → place ≤ k → k < run.end
+    → (may_move (get_or entries k d) ≡ may_move run.last) × (moves_first (get_or entries k d) run.last ≡ false)
 run_moves entries place run is k d from below =
     let on = is.goes_on in
     let whole = is.within in
@@ -181,17 +205,21 @@ pub last_listed : (entries : List Entry) (place : ℕ) (run : Run) → IsRun ent
 last_listed entries place run is = let on = is.goes_on in let whole = is.within in (run.end - 1, omega arith, sym is.last_is)
 
 -- a run as its places are read
-module _ (entries : List Entry) (place end : ℕ) (z : Entry) (order : IsInOrder entries) (within : place < length entries) (point : IsPartitionPoint (λ x. runs_before (get_or entries place z) x ≡ false) (λ x. runs_before (get_or entries place z) x ≡ true) entries end) where
+module _ (entries : List Entry) (place end : ℕ) (z : Entry) (order : IsInOrder entries) (within : place < length entries)
+    (point : IsPartitionPoint (λ x. runs_before (get_or entries place z) x ≡ false) (λ x. runs_before (get_or entries place z) x ≡ true)
+    entries end) where
   read : get_or entries place z ≡ get_or entries place (get_or entries place z)
   read = get_or_default entries place z (get_or entries place z) within
 
   pub read_goes_on : place < end
   read_goes_on = run_goes_on entries place end (get_or entries place z) order within read point
 
-  pub read_run : end ≤ length entries → IsRun entries place (record { first = get_or entries place z; last = get_or entries (end - 1) z; end = end })
+  pub read_run : end ≤ length entries
+      → IsRun entries place (record { first = get_or entries place z; last = get_or entries (end - 1) z; end = end })
   read_run whole =
       let on = read_goes_on in
-      is_run entries place end (get_or entries place z) order within read point (get_or entries (end - 1) z) (get_or_default entries (end - 1) z (get_or entries (end - 1) z) (omega arith)) whole
+      is_run entries place end (get_or entries place z) order within read point (get_or entries (end - 1) z)
+      (get_or_default entries (end - 1) z (get_or entries (end - 1) z) (omega arith)) whole
 
 came_not_both : (k l : ℕ) → nat_lt k l ≡ true → nat_lt l k ≡ false
 came_not_both k l test = grind (arith, nat_tests)

@@ -1,5 +1,6 @@
 -- A unit of the queue among the others, with its stamp.
-use Rattle.std.proofs.Common.{◌≡◌, ◌≢◌, ◌<◌, ◌≤◌, ◌+◌, ℕ, suc, List, ◌∷◌, ◌++◌, take, drop, get_or, length, Option, Some, None, Contains, refl, sym, ap, ◌∙◌, All, IfSome, IsSome, arith, add-one}
+use Rattle.std.proofs.Common.{◌≡◌, ◌≢◌, ◌<◌, ◌≤◌, ◌+◌, ℕ, suc, List, ◌∷◌, ◌++◌, take, drop, get_or, length, Option, Some, None, Contains}
+use Rattle.std.proofs.Common.{refl, sym, ap, ◌∙◌, All, IfSome, IsSome, arith, add-one}
 use Rattle.std.specs.List.{remove}
 use Rattle.std.specs.List.Sorted.{IsPermutation}
 use Rattle.std.specs.VecDeque.{deque_capacity, deque_len}
@@ -26,8 +27,10 @@ use Rattle.work_queue.specs.declared.indexing.Index.{Index}
 use Rattle.work_queue.specs.declared.placing.Placed.{Placed}
 use Rattle.work_queue.specs.declared.queues.WorkQueue.TheInside.{Inside}
 
-pub stamps_cut : (stamps : List ℕ) (place : ℕ) → place < length stamps → stamps ≡ take place stamps ++ get_or stamps place 0 ∷ drop (suc place) stamps
-stamps_cut stamps place within = sym (take-append-drop place stamps) ∙ ap (λ x. take place stamps ++ x) (drop_more stamps place 0 within) ∙ ap (λ n. take place stamps ++ get_or stamps place 0 ∷ drop n stamps) (add-one place)
+pub stamps_cut : (stamps : List ℕ) (place : ℕ) → place < length stamps
+    → stamps ≡ take place stamps ++ get_or stamps place 0 ∷ drop (suc place) stamps
+stamps_cut stamps place within = sym (take-append-drop place stamps) ∙ ap (λ x. take place stamps ++ x) (drop_more stamps place 0 within)
+    ∙ ap (λ n. take place stamps ++ get_or stamps place 0 ∷ drop n stamps) (add-one place)
 
 module _ (w : Inside) (place key : ℕ) (p : Placed) (id : UnitId) (sound : IsSound w) (at : IsFound w place key p id) where
   abbrev pub front : List ℕ
@@ -45,7 +48,8 @@ module _ (w : Inside) (place key : ℕ) (p : Placed) (id : UnitId) (sound : IsSo
   pub indexed_parted : IsIndexed (units_at w.slots front ++ p ∷ units_at w.slots back) w.arrivals w.index
   indexed_parted = rw (units_parted w.slots w.order.items key p front back parts_of) at sound.indexed
 
-  pub stamps_parted : w.index.stamps.items ≡ take place w.index.stamps.items ++ get_or w.index.stamps.items place 0 ∷ drop (suc place) w.index.stamps.items
+  pub stamps_parted : w.index.stamps.items ≡ take place w.index.stamps.items ++ get_or w.index.stamps.items place 0
+      ∷ drop (suc place) w.index.stamps.items
   stamps_parted = stamps_cut w.index.stamps.items place stamp_within
 
   pub as_long : length (take place w.index.stamps.items) ≡ length (units_at w.slots front)
@@ -57,13 +61,17 @@ module _ (w : Inside) (place key : ℕ) (p : Placed) (id : UnitId) (sound : IsSo
       omega (arith, a, b, c)
 
   pub entry_found : p.pin ≡ None → Contains w.index.entries.items (entry_of p (get_or w.index.stamps.items place 0))
-  entry_found free = entry_there (units_at w.slots front) (units_at w.slots back) p _ _ _ w.arrivals w.index indexed_parted stamps_parted as_long free
+  entry_found free =
+      entry_there (units_at w.slots front) (units_at w.slots back) p _ _ _ w.arrivals w.index indexed_parted stamps_parted as_long free
 
-  named_parted : IsNamed (units_at w.slots front ++ p ∷ units_at w.slots back) (take place w.index.stamps.items ++ get_or w.index.stamps.items place 0 ∷ drop (suc place) w.index.stamps.items) w.names
+  named_parted : IsNamed (units_at w.slots front ++ p ∷ units_at w.slots back)
+      (take place w.index.stamps.items ++ get_or w.index.stamps.items place 0 ∷ drop (suc place) w.index.stamps.items) w.names
   named_parted = rw (units_parted w.slots w.order.items key p front back parts_of, stamps_parted) at sound.named
 
-  pub named_after_take : (new : Names) → ((q : UnitId) → stamp_at new q ≡ (if same_unit (id_of p) q then None else stamp_at w.names q)) → IsNamed (units_at w.slots front ++ units_at w.slots back) (remove w.index.stamps.items place) new
-  named_after_take new less = named_taken (units_at w.slots front) (units_at w.slots back) p _ _ _ w.names new named_parted as_long parts_of.distinct less
+  pub named_after_take : (new : Names) → ((q : UnitId) → stamp_at new q ≡ (if same_unit (id_of p) q then None else stamp_at w.names q))
+      → IsNamed (units_at w.slots front ++ units_at w.slots back) (remove w.index.stamps.items place) new
+  named_after_take new less =
+      named_taken (units_at w.slots front) (units_at w.slots back) p _ _ _ w.names new named_parted as_long parts_of.distinct less
 
 -- the index no longer has the entry of the unit at the place, and has as much room
 pub record LeavesIndex (w : Inside) (place : ℕ) (p : Placed) (index : Index) : Type 0 where
@@ -91,7 +99,8 @@ pub record LosesName (w : Inside) (id : UnitId) (names : Names) : Type 0 where
   pub less : (q : UnitId) → stamp_at names q ≡ (if same_unit id q then None else stamp_at w.names q)
   pub room : spare_in w.names ≤ spare_in names
 
-module _ (w : Inside) (place key : ℕ) (p : Placed) (id : UnitId) (sound : IsSound w) (at : IsFound w place key p id) (index : Index) (forgets : ForgetsUnit w place p index) where
+module _ (w : Inside) (place key : ℕ) (p : Placed) (id : UnitId) (sound : IsSound w) (at : IsFound w place key p id) (index : Index)
+    (forgets : ForgetsUnit w place p index) where
   abbrev before : List Placed
   before = units_at w.slots (front w place key p id sound at)
 
@@ -99,19 +108,29 @@ module _ (w : Inside) (place key : ℕ) (p : Placed) (id : UnitId) (sound : IsSo
   after = units_at w.slots (back w place key p id sound at)
 
   abbrev rest : List Entry
-  rest = others before after p (take place w.index.stamps.items) (drop (suc place) w.index.stamps.items) (get_or w.index.stamps.items place 0) w.arrivals w.index (indexed_parted w place key p id sound at) (stamps_parted w place key p id sound at) (as_long w place key p id sound at)
+  rest = others before after p (take place w.index.stamps.items) (drop (suc place) w.index.stamps.items)
+      (get_or w.index.stamps.items place 0) w.arrivals w.index (indexed_parted w place key p id sound at)
+      (stamps_parted w place key p id sound at) (as_long w place key p id sound at)
 
   rest_held : (o : Option Rank) → p.pin ≡ o → IsPermutation rest index.entries.items
-  rest_held None free = others_held before after p _ _ _ w.arrivals w.index (indexed_parted w place key p id sound at) (stamps_parted w place key p id sound at) (as_long w place key p id sound at) index.entries.items free forgets.in_order (forgets.gone free) (forgets.left free)
-  rest_held (Some rank) pinned = rw (forgets.kept rank pinned) (others_pinned before after p _ _ _ w.arrivals w.index (indexed_parted w place key p id sound at) (stamps_parted w place key p id sound at) (as_long w place key p id sound at) rank pinned)
+  rest_held None free = others_held before after p _ _ _ w.arrivals w.index (indexed_parted w place key p id sound at)
+      (stamps_parted w place key p id sound at) (as_long w place key p id sound at) index.entries.items free forgets.in_order
+      (forgets.gone free) (forgets.left free)
+  rest_held (Some rank) pinned =
+      rw (forgets.kept rank pinned)
+      (others_pinned before after p _ _ _ w.arrivals w.index (indexed_parted w place key p id sound at)
+      (stamps_parted w place key p id sound at) (as_long w place key p id sound at) rank pinned)
 
   pub indexed_after_take : IsIndexed (before ++ after) w.arrivals index
   indexed_after_take =
       let within = stamp_within w place key p id sound at in
       let B : ℕ → Type 0 = λ s. s < w.arrivals in
-      indexed_taken before after p _ _ _ w.arrivals w.index (indexed_parted w place key p id sound at) (stamps_parted w place key p id sound at) (as_long w place key p id sound at) index (rest_held p.pin refl) forgets.in_order forgets.stamps
+      indexed_taken before after p _ _ _ w.arrivals w.index (indexed_parted w place key p id sound at)
+      (stamps_parted w place key p id sound at) (as_long w place key p id sound at) index (rest_held p.pin refl) forgets.in_order
+      forgets.stamps
       (all_pairs_remove (λ a b. a < b) w.index.stamps.items place within sound.indexed.rising)
-      (All-append B (take place w.index.stamps.items) (drop (suc place) w.index.stamps.items) (All-take B place w.index.stamps.items sound.indexed.below) (All-drop B (suc place) w.index.stamps.items sound.indexed.below))
+      (All-append B (take place w.index.stamps.items) (drop (suc place) w.index.stamps.items)
+      (All-take B place w.index.stamps.items sound.indexed.below) (All-drop B (suc place) w.index.stamps.items sound.indexed.below))
 
 module _ (w : Inside) (place key : ℕ) (p : Placed) (id : UnitId) (sound : IsSound w) (at : IsFound w place key p id) where
   -- where some free unit has the id, it is this one
@@ -123,7 +142,8 @@ module _ (w : Inside) (place key : ℕ) (p : Placed) (id : UnitId) (sound : IsSo
   pub stamp_is : (stamp : ℕ) → stamp ≡ get_or w.index.stamps.items place stamp → stamp ≡ get_or w.index.stamps.items place 0
   stamp_is stamp read = read ∙ get_or_default w.index.stamps.items place stamp 0 (stamp_within w place key p id sound at)
 
-  pub entry_is : (stamp : ℕ) (e : Entry) → e ≡ entry_of p stamp → stamp ≡ get_or w.index.stamps.items place stamp → e ≡ entry_of p (get_or w.index.stamps.items place 0)
+  pub entry_is : (stamp : ℕ) (e : Entry) → e ≡ entry_of p stamp → stamp ≡ get_or w.index.stamps.items place stamp
+      → e ≡ entry_of p (get_or w.index.stamps.items place 0)
   entry_is stamp e is read = is ∙ ap (λ s. entry_of p s) (stamp_is stamp read)
 
   pub entry_listed : (e : Entry) → e ≡ entry_of p (get_or w.index.stamps.items place 0) → p.pin ≡ None → Contains w.index.entries.items e
@@ -134,8 +154,10 @@ module _ (w : Inside) (place key : ℕ) (p : Placed) (id : UnitId) (sound : IsSo
     pub some : p.pin ≡ None → entry ≡ Some (entry_of p (get_or w.index.stamps.items place 0))
     pub none : (rank : Rank) → p.pin ≡ Some rank → entry ≡ None
 
-  pub tells_entry : (stamp : ℕ) (entry : Option Entry) → stamp ≡ get_or w.index.stamps.items place stamp → (p.pin ≡ None → entry ≡ Some (entry_of p stamp)) → ((rank : Rank) → p.pin ≡ Some rank → entry ≡ None) → TellsEntry entry
-  tells_entry stamp entry read some none = record { some = λ free. some free ∙ ap (λ s. Some (entry_of p s)) (stamp_is stamp read); none = none }
+  pub tells_entry : (stamp : ℕ) (entry : Option Entry) → stamp ≡ get_or w.index.stamps.items place stamp
+      → (p.pin ≡ None → entry ≡ Some (entry_of p stamp)) → ((rank : Rank) → p.pin ≡ Some rank → entry ≡ None) → TellsEntry entry
+  tells_entry stamp entry read some none =
+      record { some = λ free. some free ∙ ap (λ s. Some (entry_of p s)) (stamp_is stamp read); none = none }
 
   pub entry_if_free : (entry : Option Entry) → TellsEntry entry → IfSome entry (λ e. Contains w.index.entries.items e)
   entry_if_free entry tells = by_pin p.pin refl

@@ -1,5 +1,6 @@
 -- A queue with one unit less.
-use Rattle.std.proofs.Common.{◌≡◌, ◌≢◌, ◌≤◌, ◌+◌, ◌-◌, ℕ, suc, List, ◌∷◌, ◌++◌, get_or, take, drop, None, refl, sym, ap, ◌∙◌, All, arith, IsSome, sum_by, length}
+use Rattle.std.proofs.Common.{◌≡◌, ◌≢◌, ◌≤◌, ◌+◌, ◌-◌, ℕ, suc, List, ◌∷◌, ◌++◌, get_or, take, drop, None, refl, sym, ap, ◌∙◌, All, arith}
+use Rattle.std.proofs.Common.{IsSome, sum_by, length}
 use Rattle.std.specs.List.{filter, remove}
 use Rattle.std.proofs.lemmas.List.Elements.{All-append, All-take, All-drop, All-filter, filter_map-append}
 use Rattle.std.proofs.lemmas.List.Kept.{AllPairs-filter}
@@ -19,7 +20,8 @@ use Rattle.work_queue.specs.Inside.Units.{units_at}
 use Rattle.work_queue.specs.declared.placing.Placed.{Placed}
 use Rattle.work_queue.specs.declared.queues.WorkQueue.TheInside.{Inside}
 
-module _ (old new : Slab Placed) (order front back : List ℕ) (key : ℕ) (p : Placed) (parts : Parts old order key p front back) (updates : Updates old new key None) where
+module _ (old new : Slab Placed) (order front back : List ℕ) (key : ℕ) (p : Placed) (parts : Parts old order key p front back)
+    (updates : Updates old new key None) where
   units_left : units_at new (front ++ back) ≡ units_at old front ++ units_at old back
   units_left =
       filter_map-append (λ k. get new k) front back
@@ -35,15 +37,20 @@ module _ (old new : Slab Placed) (order front back : List ℕ) (key : ℕ) (p : 
 
   sizes_taken : sum_by size_of (units_at old order) ≡ size_of p + sum_by size_of (units_at new (front ++ back))
   sizes_taken =
-      let a : sum_by size_of (units_at old order) ≡ sum_by size_of (units_at old front) + sum_by size_of (p ∷ units_at old back) = ap (λ l. sum_by size_of l) (units_parted old order key p front back parts) ∙ sum_by-append size_of (units_at old front) (p ∷ units_at old back) in
-      let b : sum_by size_of (units_at new (front ++ back)) ≡ sum_by size_of (units_at old front) + sum_by size_of (units_at old back) = ap (λ l. sum_by size_of l) units_left ∙ sum_by-append size_of (units_at old front) (units_at old back) in
-      let e : sum_by size_of (p ∷ units_at old back) ≡ size_of p + sum_by size_of (units_at old back) = sum_by-cons size_of p (units_at old back) in
+      let a : sum_by size_of (units_at old order) ≡ sum_by size_of (units_at old front) + sum_by size_of (p ∷ units_at old back) =
+      ap (λ l. sum_by size_of l) (units_parted old order key p front back parts)
+      ∙ sum_by-append size_of (units_at old front) (p ∷ units_at old back) in
+      let b : sum_by size_of (units_at new (front ++ back)) ≡ sum_by size_of (units_at old front) + sum_by size_of (units_at old back) =
+      ap (λ l. sum_by size_of l) units_left ∙ sum_by-append size_of (units_at old front) (units_at old back) in
+      let e : sum_by size_of (p ∷ units_at old back) ≡ size_of p + sum_by size_of (units_at old back) =
+      sum_by-cons size_of p (units_at old back) in
       omega arith
 
   others_there : (keys : List ℕ) → All (λ k. IsSome (get old k)) keys → All (λ k. k ≢ key) keys → All (λ k. IsSome (get new k)) keys
   others_there keys there others k d within = rw (updates.others (get_or keys k d) (others k d within)) (there k d within)
 
-module _ (w : Inside) (new : Slab Placed) (place key : ℕ) (p : Placed) (id : UnitId) (sound : IsSound w) (at : IsFound w place key p id) (updates : Updates w.slots new key None) where
+module _ (w : Inside) (new : Slab Placed) (place key : ℕ) (p : Placed) (id : UnitId) (sound : IsSound w) (at : IsFound w place key p id)
+    (updates : Updates w.slots new key None) where
   parts : Parts w.slots w.order.items key p (take place w.order.items) (drop (suc place) w.order.items)
   parts = parts_at w.slots w.order.items place key p sound.distinct at.within at.key_is at.found
 
@@ -61,25 +68,38 @@ module _ (w : Inside) (new : Slab Placed) (place key : ℕ) (p : Placed) (id : U
   pub size_within : size_of p ≤ w.charge
   size_within = omega (arith, sizes, sound.charge)
 
-  pub sound_taken : (v : Inside) → v.slots ≡ new → v.order.items ≡ remove w.order.items place → v.charge ≡ w.charge - size_of p → v.limit ≡ w.limit → v.rooms ≡ w.rooms → v.common ≡ w.common → slab_len new + 1 ≡ slab_len w.slots → new.capacity ≡ w.slots.capacity → length v.order.items + 1 ≡ length w.order.items → v.order.capacity ≡ w.order.capacity → v.arrivals ≡ w.arrivals → ForgetsUnit w place p v.index → LosesName w id v.names → IsSound v
+  pub sound_taken : (v : Inside) → v.slots ≡ new → v.order.items ≡ remove w.order.items place → v.charge ≡ w.charge - size_of p
+      → v.limit ≡ w.limit → v.rooms ≡ w.rooms → v.common ≡ w.common → slab_len new + 1 ≡ slab_len w.slots → new.capacity ≡ w.slots.capacity
+      → length v.order.items + 1 ≡ length w.order.items → v.order.capacity ≡ w.order.capacity → v.arrivals ≡ w.arrivals
+      → ForgetsUnit w place p v.index → LosesName w id v.names → IsSound v
   sound_taken v slots order charge limit rooms common slab_less slab_same order_less order_same arrivals forgets loses =
       let O : ℕ → Type 0 = λ k. IsSome (get w.slots k) in
       let P : ℕ → Type 0 = λ k. IsSome (get new k) in
       let S : Placed → Type 0 = λ q. IsSmall q in
       let front = take place w.order.items in
       let back = drop (suc place) w.order.items in
-      let before : All P front = others_there w.slots new w.order.items front back key p parts updates front (All-take O place w.order.items sound.there) parts.before in
-      let after : All P back = others_there w.slots new w.order.items front back key p parts updates back (All-drop O (suc place) w.order.items sound.there) parts.after in
+      let before : All P front = others_there w.slots new w.order.items front back key p parts updates front
+      (All-take O place w.order.items sound.there) parts.before in
+      let after : All P back = others_there w.slots new w.order.items front back key p parts updates back
+      (All-drop O (suc place) w.order.items sound.there) parts.after in
       record {
         there = rw (slots, order) (All-append P front back before after);
-        distinct = rw (slots, order, units) (AllPairs-filter (λ a b. id_of a ≢ id_of b) (has_other_id id) (units_at w.slots w.order.items) sound.distinct);
+        distinct = rw (
+          slots,
+          order,
+          units,
+        ) (AllPairs-filter (λ a b. id_of a ≢ id_of b) (has_other_id id) (units_at w.slots w.order.items) sound.distinct);
         small = rw (slots, order, units) (All-filter (has_other_id id) S (units_at w.slots w.order.items) sound.small);
         once = rw rooms sound.once;
-        apart = rw (rooms, slots, order, units) (λ k d within. apart_left (units_at w.slots w.order.items) (get_or w.rooms k d).id (sound.apart k d within));
+        apart = rw (rooms, slots, order, units)
+            (λ k d within. apart_left (units_at w.slots w.order.items) (get_or w.rooms k d).id (sound.apart k d within));
         charge = rw (charge, slots, order, rooms, common) (omega (arith, sizes, sound.charge));
         within = omega (arith, charge, limit, sound.within);
-        indexed = rw (slots, order, arrivals, units_left w.slots new w.order.items front back key p parts updates) (indexed_after_take w place key p id sound at v.index forgets);
-        named = rw (slots, order, forgets.stamps, units_left w.slots new w.order.items front back key p parts updates) (named_after_take w place key p id sound at v.names (λ q. loses.less q ∙ ap (λ i. if same_unit i q then None else stamp_at w.names q) (sym at.has_id)));
+        indexed = rw (slots, order, arrivals, units_left w.slots new w.order.items front back key p parts updates)
+            (indexed_after_take w place key p id sound at v.index forgets);
+        named = rw (slots, order, forgets.stamps, units_left w.slots new w.order.items front back key p parts updates)
+            (named_after_take w place key p id sound at v.names
+            (λ q. loses.less q ∙ ap (λ i. if same_unit i q then None else stamp_at w.names q) (sym at.has_id)));
         slots_room = rw (slots, rooms) (omega (arith, slab_less, slab_same, sound.slots_room));
         order_room = rw rooms (omega (arith, order_less, order_same, sound.order_room));
         entries_room = rw rooms (omega (arith, forgets.fewer, forgets.same, sound.entries_room));
@@ -87,5 +107,6 @@ module _ (w : Inside) (new : Slab Placed) (place key : ℕ) (p : Placed) (id : U
         names_room = rw rooms (omega (arith, loses.room, sound.names_room));
       }
 
-  pub view_taken : (v : Inside) → v.slots ≡ new → v.order.items ≡ remove w.order.items place → v.arrivals ≡ w.arrivals → v.limit ≡ w.limit → v.rooms ≡ w.rooms → v.common ≡ w.common → queue_of v ≡ without (queue_of w) id
+  pub view_taken : (v : Inside) → v.slots ≡ new → v.order.items ≡ remove w.order.items place → v.arrivals ≡ w.arrivals → v.limit ≡ w.limit
+      → v.rooms ≡ w.rooms → v.common ≡ w.common → queue_of v ≡ without (queue_of w) id
   view_taken v slots order arrivals limit rooms common = rw (slots, order, units, arrivals, limit, rooms, common) refl

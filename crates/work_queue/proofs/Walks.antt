@@ -18,16 +18,24 @@ use Rattle.work_queue.specs.declared.rating.Rated.{Rated}
 
 module _ (rank : Rank) (types : Option (List WorkType)) (units : List Placed) where
   pub best_offered : (id : UnitId) → IsBest rank types units id → Any (IsOffered rank types) units
-  best_offered id is = (is.place, is.unit, slice_get_within units is.place is.unit is.here, get_or_from_slice_get units is.place is.unit is.unit is.here, is.is_offered)
+  best_offered id is = (
+    is.place,
+    is.unit,
+    slice_get_within units is.place is.unit is.here,
+    get_or_from_slice_get units is.place is.unit is.unit is.here,
+    is.is_offered,
+  )
 
-  best_found : (found : Option Rated) → found ≡ best_from rank types None units → (id : UnitId) → (rated_id found ≡ Some id) ↔ IsBest rank types units id
+  best_found : (found : Option Rated) → found ≡ best_from rank types None units → (id : UnitId) → (rated_id found ≡ Some id)
+      ↔ IsBest rank types units id
   best_found None same id = (λ no. absurd (none-some id no), λ is. absurd (none_offered rank types units same (best_offered id is)))
   best_found (Some r) same id =
       let here : IsBest rank types units r.id = best_is rank types units r same in
       let B : UnitId → Type 0 = λ x. IsBest rank types units x in
       (λ e. subst B (same_Some r.id id e) here, λ is. ap (λ x. Some x) (only_best rank types units r.id id here is))
 
-  none_found : (found : Option Rated) → found ≡ best_from rank types None units → (rated_id found ≡ None) ↔ ¬ Any (IsOffered rank types) units
+  none_found : (found : Option Rated) → found ≡ best_from rank types None units → (rated_id found ≡ None)
+      ↔ ¬ Any (IsOffered rank types) units
   none_found None same = (λ e some. none_offered rank types units same some, λ none. refl)
   none_found (Some r) same = (λ e. absurd (none-some r.id (sym e)), λ none. absurd (none (some_offered rank types units r same)))
 
@@ -39,12 +47,19 @@ module _ (rank : Rank) (types : Option (List WorkType)) (units : List Placed) wh
 
 module _ (units : List Placed) where
   pub push_movable : (is : UnitId × ℕ) → IsFirstToPush units is → Any IsMovable units
-  push_movable is first = (first.place, first.unit, slice_get_within units first.place first.unit first.here, get_or_from_slice_get units first.place first.unit first.unit first.here, first.is_movable)
+  push_movable is first = (
+    first.place,
+    first.unit,
+    slice_get_within units first.place first.unit first.here,
+    get_or_from_slice_get units first.place first.unit first.unit first.here,
+    first.is_movable,
+  )
 
   abbrev told_of : Option Candidate → Option (UnitId × ℕ)
   told_of found = option_map (λ (c : Candidate). (c.id, c.length)) found
 
-  push_found : (found : Option Candidate) → found ≡ fold pick_to_push None units → (is : UnitId × ℕ) → (told_of found ≡ Some is) ↔ IsFirstToPush units is
+  push_found : (found : Option Candidate) → found ≡ fold pick_to_push None units → (is : UnitId × ℕ) → (told_of found ≡ Some is)
+      ↔ IsFirstToPush units is
   push_found None same is = (λ no. absurd (none-some is no), λ first. absurd (none_movable units same (push_movable is first)))
   push_found (Some c) same is =
       let here : IsFirstToPush units (c.id, c.length) = first_is units c same in
@@ -63,7 +78,13 @@ module _ (units : List Placed) where
 
 module _ (asked : List (Rank × Option (List WorkType))) (units : List Placed) where
   pub fit_asked : (id : UnitId) → IsFirstFit asked units id → Any (IsAsked asked) units
-  fit_asked id is = (is.place, is.unit, slice_get_within units is.place is.unit is.here, get_or_from_slice_get units is.place is.unit is.unit is.here, is.is_asked)
+  fit_asked id is = (
+    is.place,
+    is.unit,
+    slice_get_within units is.place is.unit is.here,
+    get_or_from_slice_get units is.place is.unit is.unit is.here,
+    is.is_asked,
+  )
 
   fit_found : (found : Option UnitId) → found ≡ first_fit asked units → (id : UnitId) → (found ≡ Some id) ↔ IsFirstFit asked units id
   fit_found None same id = (λ no. absurd (none-some id no), λ is. absurd (none_asked asked units same (fit_asked id is)))

@@ -1,5 +1,6 @@
 -- The free unit that is pushed first.
-use Rattle.std.specs.Prelude.{◌≡◌, ◌≢◌, ◌⊎◌, ◌<◌, ◌<ℤ◌, ℕ, List, length, Bool, true, false, ◌&&◌, fold, Option, Some, None, if◌then◌else◌, is_none, int_le}
+use Rattle.std.specs.Prelude.{◌≡◌, ◌≢◌, ◌⊎◌, ◌<◌, ◌<ℤ◌, ℕ, List, length, Bool, true, false, ◌&&◌, fold, Option, Some, None, if◌then◌else◌}
+use Rattle.std.specs.Prelude.{is_none, int_le}
 use Rattle.std.specs.List.{slice_get}
 use Rattle.std.specs.Option.{option_map}
 use Rattle.adlb_unit.specs.declared.names.Target.{Target}

@@ -1,5 +1,6 @@
 -- What a store holds while the values of a flow come together.
-use Rattle.std.specs.Prelude.{◌≡◌, ◌⊎◌, ◌≤◌, ◌<◌, ℕ, ◌+◌, ◌-◌, Bool, true, false, not, List, [], ◌++◌, Option, Some, None, length, drop, count_by, slice_get, slice_index_or, is_some}
+use Rattle.std.specs.Prelude.{◌≡◌, ◌⊎◌, ◌≤◌, ◌<◌, ℕ, ◌+◌, ◌-◌, Bool, true, false, not, List, [], ◌++◌, Option, Some, None, length, drop}
+use Rattle.std.specs.Prelude.{count_by, slice_get, slice_index_or, is_some}
 use Rattle.flow_law.specs.Flows.{HasValue, Name, gives, joined, name_of}
 use Rattle.flow_law.specs.declared.Definition.{Definition}
 use Rattle.flow_law.specs.declared.Definition.TheVariants.{Let, Rule}
@@ -43,7 +44,8 @@ pub record HasLetsTo (flow : List Definition) (values : List (Option ℕ)) (k : 
 
 -- the values are those of the flow; each rule whose inputs have values is noted, but for those of `rest`, which may not be noted yet;
 -- what is ready is what is noted, and what was taken of it, that is what stands before `next`, has a value
-pub record IsStored (flow : List Definition) (values : List (Option ℕ)) (noted : List Bool) (ready : List ℕ) (next : ℕ) (rest : List ℕ) : Type 0 where
+pub record IsStored (flow : List Definition) (values : List (Option ℕ)) (noted : List Bool) (ready : List ℕ) (next : ℕ)
+    (rest : List ℕ) : Type 0 where
   pub long : length values ≡ length flow
   pub marks : length noted ≡ length flow
   pub inside : next ≤ length ready
@@ -52,7 +54,8 @@ pub record IsStored (flow : List Definition) (values : List (Option ℕ)) (noted
   pub rules : (i : ℕ) (name : Name) (op : Op) (left right : Name) → slice_get flow i ≡ Some (Rule name op left right) →
       is_some (gives (worth_in flow values) (Rule name op left right)) ≡ true → (is_noted noted i ≡ true) ⊎ (has rest i ≡ true)
   pub listed : (i : ℕ) → has ready i ≡ true → is_noted noted i ≡ true
-  pub grounded : (i : ℕ) (d : Definition) → slice_get flow i ≡ Some d → is_noted noted i ≡ true → is_some (gives (worth_in flow values) d) ≡ true
+  pub grounded : (i : ℕ) (d : Definition) → slice_get flow i ≡ Some d → is_noted noted i ≡ true
+      → is_some (gives (worth_in flow values) d) ≡ true
   pub done : (i : ℕ) → is_noted noted i ≡ true → (has (drop next ready) i ≡ true) ⊎ (is_some (value_at values i) ≡ true)
 
 abbrev pub Stores : List Definition → Store → List ℕ → Type 0

@@ -1,5 +1,6 @@
 -- A grid with a plane of cells for each digit: what the planes are, and what a digit changes.
-use Rattle.std.specs.Prelude.{◌≡◌, ◌<◌, ◌≤◌, ℕ, ◌+◌, ◌==◌, nat_lt, Bool, true, false, ◌&&◌, not, List, length, slice_index, slice_set, if◌then◌else◌, sum_by}
+use Rattle.std.specs.Prelude.{◌≡◌, ◌<◌, ◌≤◌, ℕ, ◌+◌, ◌==◌, nat_lt, Bool, true, false, ◌&&◌, not, List, length, slice_index, slice_set}
+use Rattle.std.specs.Prelude.{if◌then◌else◌, sum_by}
 use Rattle.sudoku_law.specs.Grid.{Cells, IsGrid, any_below, clash, conflict, shares, side, size, used}
 use Rattle.sudoku_law.specs.Tree.{tree, walk}
 use Rattle.sudoku_rules.specs.declared.boards.Board.{Board}

@@ -1,5 +1,6 @@
 -- A grid with its masks: what they are at each step of a walk, and how a step changes them.
-use Rattle.std.specs.Prelude.{◌≡◌, ◌<◌, ◌≤◌, ℕ, ◌+◌, ◌*◌, ◌-◌, ◌^◌, ◌==◌, nat_le, Bool, true, false, ◌&&◌, List, length, slice_index, slice_set, bit_and, bit_or, if◌then◌else◌}
+use Rattle.std.specs.Prelude.{◌≡◌, ◌<◌, ◌≤◌, ℕ, ◌+◌, ◌*◌, ◌-◌, ◌^◌, ◌==◌, nat_le, Bool, true, false, ◌&&◌, List, length, slice_index}
+use Rattle.std.specs.Prelude.{slice_set, bit_and, bit_or, if◌then◌else◌}
 use Rattle.std.specs.Int.{bit_at}
 use Rattle.sudoku_law.specs.Grid.{Cells, IsGrid, row_of, column_of, box_of, side}
 use Rattle.sudoku_rules.specs.declared.marked.Marked.{Marked}

@@ -1,5 +1,6 @@
 -- The index of the free units: by type, then by target, then the higher priority first, then by arrival.
-use Rattle.std.specs.Prelude.{◌≡◌, ◌<◌, ◌≤◌, ◌-◌, ℕ, ℤ, List, [], ◌∷◌, length, nat_lt, int_lt, ◌==◌, Bool, true, false, not, ◌&&◌, ◌||◌, if◌then◌else◌, is_none, All, Contains, Option, Some, None, slice_index_or, map, filter}
+use Rattle.std.specs.Prelude.{◌≡◌, ◌<◌, ◌≤◌, ◌-◌, ℕ, ℤ, List, [], ◌∷◌, length, nat_lt, int_lt, ◌==◌, Bool, true, false, not, ◌&&◌, ◌||◌}
+use Rattle.std.specs.Prelude.{if◌then◌else◌, is_none, All, Contains, Option, Some, None, slice_index_or, map, filter}
 use Rattle.std.specs.List.{AllPairs, list_any}
 use Rattle.std.specs.List.Sorted.{IsPermutation}
 use Rattle.adlb_unit.specs.Permit.{class_for, permitted}
@@ -30,7 +31,8 @@ lower_first a b rest = nat_lt a b || ((a == b) && rest)
 
 -- a's type and target come before b's, otherwise the rest decides
 abbrev pub by_run : Entry → Entry → Bool → Bool
-by_run a b rest = lower_first a.kind.0 b.kind.0 (lower_first (sort_of a.target) (sort_of b.target) (lower_first (named_by a.target) (named_by b.target) rest))
+by_run a b rest = lower_first a.kind.0 b.kind.0
+    (lower_first (sort_of a.target) (sort_of b.target) (lower_first (named_by a.target) (named_by b.target) rest))
 
 -- a's priority is higher, or even and a came earlier
 abbrev pub by_turn : Entry → Entry → Bool
@@ -84,7 +86,8 @@ pub record IsRun (entries : List Entry) (place : ℕ) (run : Run) : Type 0 where
 abbrev pub IsLeading : (Entry → Bool) → (Entry → Entry → Bool) → List Entry → ℕ → Option Entry → Type 0
 IsLeading may outranks entries n None = (k : ℕ) (d : Entry) → k < n → may (slice_index_or entries k d) ≡ false
 IsLeading may outranks entries n (Some found) =
-    Contains entries found × (may found ≡ true) × ((k : ℕ) (d : Entry) → k < n → may (slice_index_or entries k d) ≡ true → outranks (slice_index_or entries k d) found ≡ false)
+    Contains entries found × (may found ≡ true)
+    × ((k : ℕ) (d : Entry) → k < n → may (slice_index_or entries k d) ≡ true → outranks (slice_index_or entries k d) found ≡ false)
 
 -- the rank may have the unit
 abbrev pub may_have : Rank → Option (List WorkType) → Entry → Bool

@@ -36,7 +36,8 @@ pub returns-clause-overlong : goal.returns-clause-overlong
 returns-clause-overlong c = λ words before after fault kept bytes ends told no_read long.
     either_told fault ends.met ends.fault_is (Some (runs.TooLarge (input_limit + 1))) (Some runs.Memory)
     (overlong_told (settings_of words.options)
-    (IsReported (settings_of words.options) (behind (extras_of words))) before after ends.met ends.own bytes ends.ended.ends told no_read long)
+    (IsReported (settings_of words.options) (behind (extras_of words))) before after ends.met ends.own bytes ends.ended.ends
+    told no_read long)
 
 pub returns-clause-checked : goal.returns-clause-checked
 returns-clause-checked c = λ before after fault kept bytes ends told no_read config ledger short text no_write.
@@ -72,5 +73,6 @@ returns-clause-made c = λ count seed before after fault kept ends no_write. mad
 pub returns-clause-drilled : goal.returns-clause-drilled
 returns-clause-drilled c = λ count seed options before after fault kept ends few no_write no_refusal.
     fine_told fault ends.met ends.fault_is
-    (drilled_fine count seed (settings_of options) (IsConfigOf options.sizes options.inline) options.inline before after ends.met ends.own ends.ended (c.made_laws.ensures.short count seed few)
+    (drilled_fine count seed (settings_of options) (IsConfigOf options.sizes options.inline) options.inline before after ends.met ends.own
+    ends.ended (c.made_laws.ensures.short count seed few)
     (c.made_is_accepted.ensures.accepted count seed) no_write no_refusal)

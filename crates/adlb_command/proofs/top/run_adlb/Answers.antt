@@ -2,7 +2,8 @@ use Rattle.std.proofs.Common.{◌≡◌, ◌∙◌, Some, ap, map, subst}
 use Rattle.std.specs.String.{string_bytes}
 use Rattle.command_words.specs.Said.{command_of}
 use Rattle.run_command.specs.Ends.{scene}
-use Rattle.adlb_command.proofs.Ending.{drilled_said, ends_checked, ends_drawn, ends_drilled, ends_made, ends_solved, ends_unread, solved_said}
+use Rattle.adlb_command.proofs.Ending.{drilled_said, ends_checked, ends_drawn, ends_drilled, ends_made, ends_solved, ends_unread}
+use Rattle.adlb_command.proofs.Ending.{solved_said}
 use Rattle.adlb_command.proofs.top.run_adlb.Goals as goal
 
 pub returns-in-Ok-Solve-clause-ends : goal.returns-in-Ok-Solve-clause-ends

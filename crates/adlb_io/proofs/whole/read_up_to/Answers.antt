@@ -13,7 +13,14 @@ pub returns-then-branch-wanted-clause-read : goal.returns-then-branch-wanted-cla
 returns-then-branch-wanted-clause-read g c =
     let piece = c.in_ok-read_piece.ensures.appended in
     reads_end _ _ _ _ _ _ _ _ c.loop-alloc.invariant.so_far
-    (omega (arith, gathers_long _ _ _ _ _ _ piece, piece.within, c.min-wanted.ensures, c.len-in-loop-alloc.ensures, c.loop-alloc.invariant.within)) piece c.if-branch-wanted.true
+    (omega (
+      arith,
+      gathers_long _ _ _ _ _ _ piece,
+      piece.within,
+      c.min-wanted.ensures,
+      c.len-in-loop-alloc.ensures,
+      c.loop-alloc.invariant.within,
+    )) piece c.if-branch-wanted.true
 
 pub loop-alloc-preserved : goal.loop-alloc-preserved
 loop-alloc-preserved g c =

@@ -1,5 +1,6 @@
 use Rattle.bag_law.proofs.Dues.{made_due, none_due, not_due}
-use Rattle.bag_law.proofs.Facts.{are_found, are_used, batch_is_open, fetch_is_pinned, owed_is_kept, part_counts, put_is_new, unspent_is_kept}
+use Rattle.bag_law.proofs.Facts.{are_found, are_used, batch_is_open, fetch_is_pinned, owed_is_kept, part_counts, put_is_new}
+use Rattle.bag_law.proofs.Facts.{unspent_is_kept}
 use Rattle.bag_law.proofs.laws.sound_bag_laws.Goals as goal
 
 pub returns : goal.returns

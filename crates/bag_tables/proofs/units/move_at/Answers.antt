@@ -11,8 +11,14 @@ shift-requires-2-clause-room c =
 
 pub returns-clause-charged : goal.returns-clause-charged
 returns-clause-charged c =
-    rw c.put_at.ensures (charge_moved c.args.charges.now c.shift-2.new.self c.args.units.now.items c.args.at c.index-unit.result.now c.args.place c.len-n.result c.requires.charged c.requires.inside (sym c.index-unit.ensures) c.len-n.ensures (λ k within. rw (c.held_at.ensures, c.held_at-2.ensures) at (c.shift-2.ensures k within)))
+    rw c.put_at.ensures
+    (charge_moved c.args.charges.now c.shift-2.new.self c.args.units.now.items c.args.at c.index-unit.result.now c.args.place c.len-n.result
+    c.requires.charged c.requires.inside (sym c.index-unit.ensures) c.len-n.ensures
+    (λ k within. rw (c.held_at.ensures, c.held_at-2.ensures) at (c.shift-2.ensures k within)))
 
 pub returns-clause-counted : goal.returns-clause-counted
 returns-clause-counted c =
-    rw c.put_at.ensures (count_moved c.args.free.now c.shift.new.self c.args.units.now.items c.args.at c.index-unit.result.now c.args.place c.requires.counted c.requires.inside (sym c.index-unit.ensures) (rw (c.free_server-old_server.ensures, c.free_server-new_server.ensures) at c.in_ok-shift.ensures.shifted))
+    rw c.put_at.ensures
+    (count_moved c.args.free.now c.shift.new.self c.args.units.now.items c.args.at c.index-unit.result.now c.args.place c.requires.counted
+    c.requires.inside (sym c.index-unit.ensures)
+    (rw (c.free_server-old_server.ensures, c.free_server-new_server.ensures) at c.in_ok-shift.ensures.shifted))

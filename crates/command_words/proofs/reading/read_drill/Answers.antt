@@ -10,11 +10,13 @@ use Rattle.command_words.proofs.reading.read_drill.Goals as goal
 
 pub returns-in_err-matches-clause-refused : goal.returns-in_err-matches-clause-refused
 returns-in_err-matches-clause-refused c =
-    let none = refused_says_nothing drill_app _ drill_of (map string_bytes c.args.words.now) c.in_err-matches.field-0.0 c.in_ok-drill_command.ensures c.in_err-matches.ensures.refused in
+    let none = refused_says_nothing drill_app _ drill_of (map string_bytes c.args.words.now) c.in_err-matches.field-0.0
+    c.in_ok-drill_command.ensures c.in_err-matches.ensures.refused in
     search rules
 
 pub made_of-count-requires : goal.made_of-count-requires
-made_of-count-requires c = record { holds = made_holds drill_app _ _ c.in_ok-matches.ensures.parsed c.in_ok-drill_command.ensures refl refl }
+made_of-count-requires c =
+    record { holds = made_holds drill_app _ _ c.in_ok-matches.ensures.parsed c.in_ok-drill_command.ensures refl refl }
 
 pub run_of-requires : goal.run_of-requires
 run_of-requires c = record {

@@ -8,7 +8,8 @@ use Rattle.command_words.proofs.reading.read_make.Goals as goal
 
 pub returns-in_err-matches-clause-refused : goal.returns-in_err-matches-clause-refused
 returns-in_err-matches-clause-refused c =
-    let none = refused_says_nothing make_app _ make_of (map string_bytes c.args.words.now) c.in_err-matches.field-0.0 c.in_ok-make_command.ensures c.in_err-matches.ensures.refused in
+    let none = refused_says_nothing make_app _ make_of (map string_bytes c.args.words.now) c.in_err-matches.field-0.0
+    c.in_ok-make_command.ensures c.in_err-matches.ensures.refused in
     search rules
 
 pub made_of-count-requires : goal.made_of-count-requires

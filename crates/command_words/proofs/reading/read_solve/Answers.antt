@@ -10,7 +10,8 @@ use Rattle.command_words.proofs.reading.read_solve.Goals as goal
 
 pub returns-in_err-matches-clause-refused : goal.returns-in_err-matches-clause-refused
 returns-in_err-matches-clause-refused c =
-    let none = refused_says_nothing solve_app _ solve_of (map string_bytes c.args.words.now) c.in_err-matches.field-0.0 c.in_ok-solve_command.ensures c.in_err-matches.ensures.refused in
+    let none = refused_says_nothing solve_app _ solve_of (map string_bytes c.args.words.now) c.in_err-matches.field-0.0
+    c.in_ok-solve_command.ensures c.in_err-matches.ensures.refused in
     search rules
 
 pub run_of-requires : goal.run_of-requires

@@ -28,5 +28,6 @@ returns c =
     ∙ text_is c.args.flow.now c.args.store.now.values.items c.requires.stored.stored.long
     (value_is c.args.flow.now c.args.store.now.values.items c.args.store.now.noted.items c.args.store.now.ready.items c.args.store.now.next
     c.requires.stored.stored c.as_slice-definition-items.ensures.distinct c.requires.stored.lets c.requires.drained)
-    c.loop-place.text.items c.loop-place.place c.count-done.result (length c.as_slice.result.now - c.count-done.result) past c.loop-place.invariant
+    c.loop-place.text.items c.loop-place.place c.count-done.result (length c.as_slice.result.now - c.count-done.result) past
+    c.loop-place.invariant
     c.count-done.ensures (ap (λ l. length l - c.count-done.result) c.as_slice.ensures.definitions)

@@ -15,4 +15,5 @@ pub returns : goal.returns
 returns c =
     let was = c.loop-at.invariant in
     let rest = greatest (slice_range c.args.bytes.now c.loop-at.at (length c.args.bytes.now)) in
-    c.max_rest-2.ensures ∙ ap (λ m. max m rest) (c.max_rest.ensures ∙ zero-max (greatest c.loop-at.most) ∙ was.2) ∙ greatest_with_rest c.args.bytes.now c.loop-at.at
+    c.max_rest-2.ensures ∙ ap (λ m. max m rest) (c.max_rest.ensures ∙ zero-max (greatest c.loop-at.most) ∙ was.2)
+    ∙ greatest_with_rest c.args.bytes.now c.loop-at.at

@@ -8,7 +8,8 @@ loop-at-preserved c =
     let xs = c.args.bytes.now in
     let from = c.loop-at.at in
     let part : c.from-total.result ≡ sum (slice_range xs from (from + 8192)) = c.from-total.ensures ∙ c.sum_run.ensures in
-    let total : c.loop-at.total + c.from-total.result ≡ sum (take (from + 8192) xs) = (λ i. was.1 i + part i) ∙ sym (part_adds (λ x. x) xs from 8192) in (
+    let total : c.loop-at.total + c.from-total.result ≡ sum (take (from + 8192) xs) = (λ i. was.1 i + part i)
+    ∙ sym (part_adds (λ x. x) xs from 8192) in (
       omega (arith, c.loop-at-test.true),
       total,
       omega (arith, total, sums_at_most xs c.type_inv.bytes (from + 8192)),

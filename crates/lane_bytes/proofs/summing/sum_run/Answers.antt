@@ -10,14 +10,17 @@ use Rattle.lane_bytes.proofs.summing.sum_run.Goals as goal
 pub overflow_add-sums : goal.overflow_add-sums
 overflow_add-sums c =
     let part = take 32 (drop c.loop-at.at c.args.bytes.now) in
-    let small = subst (λ (l : List ℕ). Each1 (λ x. x ≤ 255) l) (sym (same_map part)) (bytes_below part (chunk-fits w8 c.loop-at.at 32 c.args.bytes.now c.type_inv.bytes)) in
-    more_fits (λ x. x) 255 c.args.bytes.now c.loop-at.at c.loop-at.sums c.loop-at.invariant.1 w16 65536 fits_16 (omega (arith, c.loop-at-test.true, c.requires)) (map (λ x. x) part) small
+    let small = subst (λ (l : List ℕ). Each1 (λ x. x ≤ 255) l) (sym (same_map part))
+    (bytes_below part (chunk-fits w8 c.loop-at.at 32 c.args.bytes.now c.type_inv.bytes)) in
+    more_fits (λ x. x) 255 c.args.bytes.now c.loop-at.at c.loop-at.sums c.loop-at.invariant.1 w16 65536 fits_16
+    (omega (arith, c.loop-at-test.true, c.requires)) (map (λ x. x) part) small
 
 pub loop-at-preserved : goal.loop-at-preserved
 loop-at-preserved c =
     let part = take 32 (drop c.loop-at.at c.args.bytes.now) in
     let room : c.loop-at.at + 32 ≤ length c.args.bytes.now = omega (arith, c.loop-at-test.true) in
-    let small = subst (λ (l : List ℕ). Each1 (λ x. x ≤ 255) l) (sym (same_map part)) (bytes_below part (chunk-fits w8 c.loop-at.at 32 c.args.bytes.now c.type_inv.bytes)) in
+    let small = subst (λ (l : List ℕ). Each1 (λ x. x ≤ 255) l) (sym (same_map part))
+    (bytes_below part (chunk-fits w8 c.loop-at.at 32 c.args.bytes.now c.type_inv.bytes)) in
     (room, reads_more (λ x. x) 255 c.args.bytes.now c.loop-at.at c.loop-at.sums c.loop-at.invariant.1 (map (λ x. x) part) room small refl)
 
 pub overflow_cast-result : goal.overflow_cast-result

@@ -12,10 +12,12 @@ returns-clause-same c =
 
 pub returns-clause-legal : goal.returns-clause-legal
 returns-clause-legal c =
-    let is = c.place_of.ensures ∙ place_is c.in_ok-stop.stop c.in_ok-machine.machine c.first_stop.new.machine c.args.ledger.now c.in_ok-stop.ensures.stop in
+    let is = c.place_of.ensures ∙ place_is c.in_ok-stop.stop c.in_ok-machine.machine c.first_stop.new.machine c.args.ledger.now
+    c.in_ok-stop.ensures.stop in
     legal_found c.args.config.now c.in_ok-machine.machine c.args.ledger.now (Ok c.place_of.result) c.in_ok-machine.ensures is
 
 pub returns-clause-least : goal.returns-clause-least
 returns-clause-least c = λ place.
-    let is = c.place_of.ensures ∙ place_is c.in_ok-stop.stop c.in_ok-machine.machine c.first_stop.new.machine c.args.ledger.now c.in_ok-stop.ensures.stop in
+    let is = c.place_of.ensures ∙ place_is c.in_ok-stop.stop c.in_ok-machine.machine c.first_stop.new.machine c.args.ledger.now
+    c.in_ok-stop.ensures.stop in
     least_found c.args.config.now c.in_ok-machine.machine c.args.ledger.now (Ok c.place_of.result) c.in_ok-machine.ensures is place

@@ -20,7 +20,8 @@ returns-clause-another c = λ none rest is.
     elim c.else-word-front.branch [
       | else-word-front-via-then-word-front+else-eq w ↦
           let apart : false ≡ bytes_eq (take (length f) c.args.word.now) f = w.if-eq.ensures in
-          let alike : false ≡ true = apart ∙ ap (λ t. bytes_eq (take (length f) t) f) is ∙ ap (λ t. bytes_eq t f) (take-append_seam f rest) ∙ bytes_alike f in
+          let alike : false ≡ true = apart ∙ ap (λ t. bytes_eq (take (length f) t) f) is ∙ ap (λ t. bytes_eq t f) (take-append_seam f rest)
+          ∙ bytes_alike f in
           cc
       | else-word-front-via-else-word-front w ↦ omega (arith, w.if-word-front.false, ap length is, length-append f rest)
     ]

@@ -5,7 +5,8 @@ use Rattle.ledger_rules.proofs.complaints.first_complaint.Goals as goal
 pub returns-in-Some-clause-none : goal.returns-in-Some-clause-none
 returns-in-Some-clause-none c = (
   λ none. absurd (cc),
-  λ legal. absurd (some_is_illegal c.args.config.now c.args.ledger.now c.in_ok-machine.machine c.first_stop.new.machine c.in_ok-machine.ensures
+  λ legal.
+      absurd (some_is_illegal c.args.config.now c.args.ledger.now c.in_ok-machine.machine c.first_stop.new.machine c.in_ok-machine.ensures
       c.in_ok-stop.field-0 c.in_ok-stop.ensures.stop c.in-Some.stop c.in-Some.is legal),
 )
 

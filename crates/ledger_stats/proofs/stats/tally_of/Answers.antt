@@ -24,7 +24,8 @@ unreachable-requires c =
 pub add-requires : goal.add-requires
 add-requires c = λ s.
     let next = rw c.in-Some.is at c.in_ok-entry.ensures.next in
-    let few = counted_few (counts s) (told c.loop.tally s) c.in-Some.entry c.loop.entries c.next.new.self c.args.ledger.now next (c.loop.invariant.counted s) in
+    let few = counted_few (counts s) (told c.loop.tally s) c.in-Some.entry c.loop.entries c.next.new.self c.args.ledger.now next
+    (c.loop.invariant.counted s) in
     let len = c.len-end.ensures.exact in omega (arith, few, len)
 
 pub loop-preserved : goal.loop-preserved
@@ -35,7 +36,8 @@ loop-preserved c =
     record {
       read = omega (arith, long, read);
       counted = λ s.
-          counted_more (counts s) (told c.loop.tally s) (told c.add.new.self s) c.in-Some.entry c.loop.entries c.next.new.self c.args.ledger.now next (c.loop.invariant.counted s) (c.add.ensures s);
+          counted_more (counts s) (told c.loop.tally s) (told c.add.new.self s) c.in-Some.entry c.loop.entries c.next.new.self
+          c.args.ledger.now next (c.loop.invariant.counted s) (c.add.ensures s);
     }
 
 pub returns : goal.returns

@@ -18,7 +18,8 @@ returns-in-Ok-clause-put c =
     (fits, c.in-Ok.ensures.added)
 
 pub returns-in-Ok-clause-full : goal.returns-in-Ok-clause-full
-returns-in-Ok-clause-full c n = (λ same. absurd (cc (same)), λ over. let failed = (c.add.ensures.full n).1 over in absurd (cc (c.in-Ok.is, failed)))
+returns-in-Ok-clause-full c n =
+    (λ same. absurd (cc (same)), λ over. let failed = (c.add.ensures.full n).1 over in absurd (cc (c.in-Ok.is, failed)))
 
 pub returns-in-Err-default-Full-clause-put : goal.returns-in-Err-default-Full-clause-put
 returns-in-Err-default-Full-clause-put c =
@@ -39,8 +40,14 @@ fault_in (Ok done) = refused.Memory
 fault_in (Err back) = back.1
 
 -- a lack of memory is not a full queue
-memory_differs : (r : Result (Unit {0}) (Piece × AddFault)) (u v : Piece) (f : AddFault) (n : ℕ) → r ≡ Err (u, f) → f ≡ refused.Memory → r ≡ Err (v, refused.Full n) → ⊥
-memory_differs r u v f n failed memory full = let same : refused.Memory ≡ refused.Full n = sym memory ∙ ap fault_in (sym failed ∙ full) in absurd (cc (same))
+memory_differs : (r : Result (Unit {0}) (Piece × AddFault)) (u v : Piece) (f : AddFault) (n : ℕ) → r ≡ Err (u, f) → f ≡ refused.Memory
+    → r ≡ Err (v, refused.Full n) → ⊥
+memory_differs r u v f n failed memory full = let same : refused.Memory ≡ refused.Full n = sym memory ∙ ap fault_in (sym failed ∙ full) in
+    absurd (cc (same))
 
 pub returns-clause-full : goal.returns-clause-full
-returns-clause-full c n = (λ same. absurd (cc (same)), λ over. absurd (memory_differs c.add.result _ _ _ n c.in-Err-default-Memory.is c.in-Err-default-Memory.field-0-1-is ((c.add.ensures.full n).1 over)))
+returns-clause-full c n = (
+  λ same. absurd (cc (same)),
+  λ over. absurd
+      (memory_differs c.add.result _ _ _ n c.in-Err-default-Memory.is c.in-Err-default-Memory.field-0-1-is ((c.add.ensures.full n).1 over)),
+)

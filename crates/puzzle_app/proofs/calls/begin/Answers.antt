@@ -25,4 +25,5 @@ begun now on common came (Err fault) is closed answered = tt
 
 pub returns-clause-batch : goal.returns-clause-batch
 returns-clause-batch g c =
-    begun _ _ c.in-Ok.common (put_came c.begin_batch.result) c.reply_of.result c.begin_batch.ensures.made.batch c.requires.closed c.reply_of.ensures.answer
+    begun _ _ c.in-Ok.common (put_came c.begin_batch.result) c.reply_of.result c.begin_batch.ensures.made.batch c.requires.closed
+    c.reply_of.ensures.answer

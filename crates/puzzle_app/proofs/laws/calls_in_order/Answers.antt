@@ -1,4 +1,5 @@
-use Rattle.puzzle_app.proofs.Calling.{goes_at, goes_within, move_asks, move_begins, move_fetches, move_last, so_front, so_on, so_open, so_own, so_told}
+use Rattle.puzzle_app.proofs.Calling.{goes_at, goes_within, move_asks, move_begins, move_fetches, move_last, so_front, so_on, so_open}
+use Rattle.puzzle_app.proofs.Calling.{so_own, so_told}
 use Rattle.puzzle_app.proofs.Adding.{move_holds}
 use Rattle.puzzle_app.proofs.laws.calls_in_order.Goals as goal
 

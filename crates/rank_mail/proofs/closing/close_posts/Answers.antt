@@ -14,7 +14,8 @@ close-requires-clause-next c = λ k b at.
 
 pub loop-post-preserved : goal.loop-post-preserved
 loop-post-preserved c =
-    let was = c.loop-post.invariant in let step = c.in-Some.ensures.steps in let posts = c.args.posts.items in let all = c.loop-post.all.items in
+    let was = c.loop-post.invariant in let step = c.in-Some.ensures.steps in let posts = c.args.posts.items in
+    let all = c.loop-post.all.items in
     let sent = c.in-Some.post.sent in
     let first : drop was.0 posts ≡ c.in-Some.post ∷ into_iter_items c.next.new.self = sym was.2 ∙ step.0 in
     let new : c.close.new.inboxes.items ≡ closed_by all sent = c.close.ensures in (

@@ -12,7 +12,8 @@ loop-k-preserved c =
     let next : (b : InboxModel) → slice_get bs k ≡ Some b → Agrees b =
     λ b at. subst Agrees (here ∙ get_or_from_slice_get bs k b box at) c.compare.ensures.agrees in record {
       end = was.end;
-      same = ap (set c.loop-k.inboxes.items k) c.compare.ensures.same ∙ set_same c.loop-k.inboxes.items k box c.index_mut.ensures.value ∙ was.same;
+      same = ap (set c.loop-k.inboxes.items k) c.compare.ensures.same
+          ∙ set_same c.loop-k.inboxes.items k box c.index_mut.ensures.value ∙ was.same;
       agree = λ j b low.
           below_more (λ j. (b : InboxModel) → slice_get bs j ≡ Some b → Agrees b) k (λ j low b. was.agree j b low) next j low b;
     }

@@ -9,7 +9,8 @@ use Rattle.rank_mail.proofs.closing.make.Goals as goal
 
 pub new-requires : goal.new-requires
 new-requires c = λ k b at.
-    senders_fresh (places_of c.in_ok-inboxes.inboxes.items) c.loop-number.number k b (ap (λ l. slice_get l k) (sym c.loop-number.invariant.fresh) ∙ at)
+    senders_fresh (places_of c.in_ok-inboxes.inboxes.items) c.loop-number.number k b
+    (ap (λ l. slice_get l k) (sym c.loop-number.invariant.fresh) ∙ at)
 
 pub loop-number-preserved : goal.loop-number-preserved
 loop-number-preserved c =

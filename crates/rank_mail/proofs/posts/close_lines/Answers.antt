@@ -51,7 +51,9 @@ loop-line-preserved c =
       len = was.len;
       count = omega (arith, was.count, step.1);
       rest = rw add-one (rest_of_drop ls _ k _ first);
-      inboxes = rw add-one ((λ i. set (was.inboxes i) k (c.close_line.ensures i)) ∙ front_next bs (lists ls) k box c.in-Some.line.sent sent at below);
+      inboxes =
+          rw add-one
+          ((λ i. set (was.inboxes i) k (c.close_line.ensures i)) ∙ front_next bs (lists ls) k box c.in-Some.line.sent sent at below);
     }
 
 pub returns : goal.returns

@@ -16,7 +16,8 @@ pub loop-k-preserved : goal.loop-k-preserved
 loop-k-preserved c =
     let was = c.loop-k.invariant in let k = c.loop-k.k in let xs = c.args.inboxes.now.items in let box = c.index_mut.result.now in
     let below : k < length xs = omega (arith, was.end, c.loop-k-test.true) in
-    let at : box ≡ get_or xs k box = c.index_mut.ensures.value ∙ ap (λ l. get_or l k box) was.inboxes ∙ upto_at with_line k xs box in record {
+    let at : box ≡ get_or xs k box = c.index_mut.ensures.value ∙ ap (λ l. get_or l k box) was.inboxes ∙ upto_at with_line k xs box in
+    record {
       end = was.end;
       len = was.len;
       inboxes = rw add-one (

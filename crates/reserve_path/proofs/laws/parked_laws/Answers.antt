@@ -1,4 +1,5 @@
-use Rattle.reserve_path.proofs.Resting.{arrival_rests, gone_rests, grant_rests, hint_rests, left_rests, none_rests, offer_rests, reserve_rests}
+use Rattle.reserve_path.proofs.Resting.{arrival_rests, gone_rests, grant_rests, hint_rests, left_rests, none_rests, offer_rests}
+use Rattle.reserve_path.proofs.Resting.{reserve_rests}
 use Rattle.reserve_path.proofs.laws.parked_laws.Goals as goal
 
 pub returns-clause-reserve : goal.returns-clause-reserve

@@ -8,7 +8,8 @@ pub returns-in-Err-run_in_line-clause-stopped : goal.returns-in-Err-run_in_line-
 returns-in-Err-run_in_line-clause-stopped g c = λ refused refused'.
     subst
     (λ f. Stops (g.C.Command.asks c.args.command.now) (g.C.Command.refuses c.args.command.now) (g.S.Source.left c.args.input.now)
-    (g.S.Source.left c.read_input.new.input) (g.S.Source.faults c.args.input.now) (g.S.Source.faults c.read_input.new.input) refused refused' f)
+    (g.S.Source.left c.read_input.new.input) (g.S.Source.faults c.args.input.now) (g.S.Source.faults c.read_input.new.input)
+    refused refused' f)
     (sym c.by.ensures)
     (trouble_stops (g.C.Command.asks c.args.command.now) (g.C.Command.refuses c.args.command.now) (g.S.Source.left c.args.input.now)
     (g.S.Source.left c.read_input.new.input) (g.S.Source.faults c.args.input.now) (g.S.Source.faults c.read_input.new.input)

@@ -32,7 +32,11 @@ returns-clause-asked g c =
 pub returns-clause-end : goal.returns-clause-end
 returns-clause-end g c =
     IfOk-weaker c.read_bytes-asked.result _ _
-    (λ asked are. read_end input_limit _ _ c.in-Ok.bytes.items c.in-Ok.ensures.read (omega (arith, c.len.ensures, c.if-len-gt-INPUT_LIMIT.false)))
+    (λ asked are. read_end input_limit _ _ c.in-Ok.bytes.items c.in-Ok.ensures.read (omega (
+      arith,
+      c.len.ensures,
+      c.if-len-gt-INPUT_LIMIT.false,
+    )))
     c.read_bytes-asked.ensures.asked
 
 pub returns-clause-stopped : goal.returns-clause-stopped

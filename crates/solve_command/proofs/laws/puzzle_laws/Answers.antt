@@ -4,7 +4,8 @@ use Rattle.solve_command.proofs.laws.puzzle_laws.Goals as goal
 
 pub returns-clause-complete : goal.returns-clause-complete
 returns-clause-complete c = λ settings wanted before after fault kept bytes ends told no_read short fine no_write no_refusal.
-    accepted_fine settings (IsTold (λ tail. tail) settings wanted) before after fault kept bytes ends told no_read short fine no_write no_refusal
+    accepted_fine settings (IsTold (λ tail. tail) settings wanted) before after fault kept bytes ends told no_read short fine
+    no_write no_refusal
 
 pub returns-clause-refused : goal.returns-clause-refused
 returns-clause-refused c = λ settings wanted before after fault kept bytes ends told no_read line why short is.

@@ -21,7 +21,8 @@ returns-clause-told g c =
     let r : Reported Outcome = c.args.kept.now.report in
     let whole = run_whole settings c.args.asked.now r c.requires c.jobs.ensures.grids in
     subst (λ (l : List Job). IfOk c.text_of.result (λ text. IsTold g.E.Tail.tail settings wanted l r text.items)) c.jobs.ensures.jobs
-    (subst (λ (x : Reported Outcome). IfOk c.text_of.result (λ text. IsTold g.E.Tail.tail settings wanted c.jobs.result.now x text.items)) c.report.ensures
+    (subst (λ (x : Reported Outcome). IfOk c.text_of.result (λ text. IsTold g.E.Tail.tail settings wanted c.jobs.result.now x text.items))
+    c.report.ensures
     (c.text_of.ensures settings
     (subst (λ (l : List Job). AreWhole settings.budget settings.grain l c.report.result.now.outcomes) (sym c.jobs.ensures.jobs)
     (subst (λ (x : Reported Outcome). AreWhole settings.budget settings.grain c.args.asked.now x.outcomes) (sym c.report.ensures) whole))))

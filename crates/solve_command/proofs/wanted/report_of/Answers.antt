@@ -6,5 +6,6 @@ use Rattle.solve_command.proofs.wanted.report_of.Goals as goal
 
 pub render-requires : goal.render-requires
 render-requires g c =
-    let same : c.deref.result.now ≡ c.args.report.now.outcomes = c.deref.ensures.value ∙ ap (λ (r : Reported Outcome). r.outcomes) c.report.view_is in
+    let same : c.deref.result.now ≡ c.args.report.now.outcomes =
+    c.deref.ensures.value ∙ ap (λ (r : Reported Outcome). r.outcomes) c.report.view_is in
     record { room = λ k. subst (λ (os : List Outcome). made_in k os < 2 ^ 128) (sym same) (c.requires.room k) }

@@ -22,4 +22,6 @@ returns-clause-child c = λ m g s cell d blank there. (
 )
 
 pub returns-clause-apart : goal.returns-clause-apart
-returns-clause-apart c = λ m g s cell d e blank in_d in_e at_d at_e. children_apart m g s cell d e blank.within (candidate_some m g cell d in_d) (candidate_some m g cell e in_e) at_d at_e
+returns-clause-apart c =
+    λ m g s cell d e blank in_d in_e at_d at_e. children_apart m g s cell d e blank.within (candidate_some m g cell d in_d)
+    (candidate_some m g cell e in_e) at_d at_e

@@ -16,7 +16,8 @@ returns g c =
     let m : ℕ = g.row.M in
     let h : Cells = c.args.cells.now in
     let sized = c.requires.sized in
-    let are = options m g.row.SIDE c.args.cell c.options_at.result sized.low sized.high sized.side h (c.options_at.ensures h c.of.ensures) in
+    let are =
+    options m g.row.SIDE c.args.cell c.options_at.result sized.low sized.high sized.side h (c.options_at.ensures h c.of.ensures) in
     rw (box_is m sized.low sized.high h c.requires.grid) (record {
       bits = λ d least most. option_bits m h c.args.cell c.options_at.result d are least most;
       few = are.small;

@@ -1,4 +1,5 @@
-use Rattle.std.proofs.Common.{◌≡◌, ◌<◌, ◌≤◌, ◌+◌, ◌%◌, ◌/◌, [], ◌∷◌, ◌++◌, append_assoc, append-nil, arith, ap, drop, get_or, length, set, sym, take, ◌∙◌}
+use Rattle.std.proofs.Common.{◌≡◌, ◌<◌, ◌≤◌, ◌+◌, ◌%◌, ◌/◌, [], ◌∷◌, ◌++◌, append_assoc, append-nil, arith, ap, drop, get_or, length, set}
+use Rattle.std.proofs.Common.{sym, take, ◌∙◌}
 use Rattle.std.proofs.lemmas.List.{length-set, take-set, take_more_set}
 use Rattle.sudoku_rules.specs.Inside.Packed.{halves}
 use Rattle.sudoku_rules.proofs.Packed.{halves_next, halves_none, two_more}

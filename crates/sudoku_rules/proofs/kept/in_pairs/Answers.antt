@@ -1,4 +1,5 @@
-use Rattle.std.proofs.Common.{◌≡◌, ◌+◌, ◌*◌, ◌++◌, ◌∷◌, [], append_assoc, append-nil, arith, ap, drop, get_or, sym, take, take_all, refl, ◌∙◌}
+use Rattle.std.proofs.Common.{◌≡◌, ◌+◌, ◌*◌, ◌++◌, ◌∷◌, [], append_assoc, append-nil, arith, ap, drop, get_or, sym, take, take_all, refl}
+use Rattle.std.proofs.Common.{◌∙◌}
 use Rattle.std.proofs.lemmas.List.{length-set}
 use Rattle.std.proofs.lemmas.Grind.{take-set_at}
 use Rattle.sudoku_rules.specs.Inside.Packed.{pairs}

@@ -7,7 +7,8 @@ use Rattle.tour_app.proofs.desk.pairs_of.Goals as goal
 
 pub loop-second-preserved : goal.loop-second-preserved
 loop-second-preserved c =
-    pairs_step c.args.count c.loop-second.second c.loop-second.units.items _ (omega arith) c.loop-second.invariant c.in_ok-append_pairs.ensures
+    pairs_step c.args.count c.loop-second.second c.loop-second.units.items _ (omega arith) c.loop-second.invariant
+    c.in_ok-append_pairs.ensures
 
 pub returns : goal.returns
 returns c =

@@ -11,6 +11,8 @@ unreachable-requires c =
 
 pub returns : goal.returns
 returns c =
-    told_by _ c.args.cities.now.count (costs c.args.cities.now) (all_found c.args.outcomes.now) c.in-Some.best.cost c.in-Some.best.cities.items
-    c.count.result c.deref.result.now c.text_of.result c.requires (sym (ap seen c.in-Some.is) ∙ c.in_ok-best.ensures) c.count.ensures.is c.deref.ensures.value
+    told_by _ c.args.cities.now.count (costs c.args.cities.now) (all_found c.args.outcomes.now) c.in-Some.best.cost
+    c.in-Some.best.cities.items
+    c.count.result c.deref.result.now c.text_of.result c.requires (sym (ap seen c.in-Some.is) ∙ c.in_ok-best.ensures) c.count.ensures.is
+    c.deref.ensures.value
     c.text_of.ensures

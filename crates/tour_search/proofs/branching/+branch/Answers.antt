@@ -1,4 +1,5 @@
-use Rattle.std.proofs.Common.{rules, arith, ◌≡◌, ◌≤◌, ◌<◌, ◌+◌, ◌*◌, ◌∷◌, [], ℕ, List, length, get_or, take, All, true, false, ◌-◌, Bool, nat_eq, nat_lt, ◌++◌, refl, sym, ap, ◌∙◌, subst, Vec, Global, inl, inr, ◌⊎◌, ◌==◌, count_by, append-nil}
+use Rattle.std.proofs.Common.{rules, arith, ◌≡◌, ◌≤◌, ◌<◌, ◌+◌, ◌*◌, ◌∷◌, [], ℕ, List, length, get_or, take, All, true, false, ◌-◌, Bool}
+use Rattle.std.proofs.Common.{nat_eq, nat_lt, ◌++◌, refl, sym, ap, ◌∙◌, subst, Vec, Global, inl, inr, ◌⊎◌, ◌==◌, count_by, append-nil}
 use Rattle.std.proofs.lemmas.Bool.{cases_eq}
 use Rattle.std.proofs.lemmas.List.{get_or_default, length_push, take_at}
 use Rattle.std.proofs.lemmas.List.Elements.{All-get_or}
@@ -11,7 +12,8 @@ use Rattle.tour_law.proofs.Orders.{good_itself, good_on}
 use Rattle.tour_search.specs.Cities.{IsKnown, costs, out_of}
 use Rattle.tour_search.specs.declared.tours.Tour.{Tour}
 use Rattle.std.specs.Prelude.{vec_capacity}
-use Rattle.tour_search.proofs.UnderWay.{IsSearched, all_tried, cut_searches, is_next, kept_better, left_at, new_at, none_again, old_at, one_more}
+use Rattle.tour_search.proofs.UnderWay.{IsSearched, all_tried, cut_searches, is_next, kept_better, left_at, new_at, none_again, old_at}
+use Rattle.tour_search.proofs.UnderWay.{one_more}
 use Rattle.tour_search.proofs.branching.+branch.Goals as goal
 use Rattle.tour_search.proofs.branching.+branch.Goals.{then-not-is_visited, else-not-is_visited}
 
@@ -103,8 +105,10 @@ pub overflow_add-there : goal.overflow_add-there
 overflow_add-there t c = let few = short c.args.cities.now.count c.args.beginning.now.items c.requires.begins in omega (arith, few)
 
 pub overflow_sub-rest : goal.overflow_sub-rest
-overflow_sub-rest t c = left_at c.args.cities.now.count c.args.ways_out.now c.args.beginning.now.items c.loop-city.city c.args.left c.requires.begins
-    (omega arith) (new_at c.args.beginning.now.items c.loop-city.beginning.items c.deref-in-loop-city.result.now c.loop-city.city c.is_visited.result
+overflow_sub-rest t c =
+    left_at c.args.cities.now.count c.args.ways_out.now c.args.beginning.now.items c.loop-city.city c.args.left c.requires.begins
+    (omega arith)
+    (new_at c.args.beginning.now.items c.loop-city.beginning.items c.deref-in-loop-city.result.now c.loop-city.city c.is_visited.result
     c.deref-in-loop-city.ensures.value c.loop-city.invariant.kept c.is_visited.ensures.no c.if-not-is_visited.true) c.requires.left
 
 pub push_reserved-requires : goal.push_reserved-requires
@@ -124,14 +128,25 @@ branch-cities-requires t c =
     let new = new_at p c.loop-city.beginning.items c.deref-in-loop-city.result.now x c.is_visited.result
     c.deref-in-loop-city.ensures.value c.loop-city.invariant.kept c.is_visited.ensures.no c.if-not-is_visited.true in
     let e = last_is p c.len-depth.result c.index-last.result.now c.requires.begins.long (omega arith) c.index-last.ensures in
-    let items : c.push_reserved.new.self.items ≡ p ++ x ∷ [] = c.push_reserved.ensures.items ∙ ap (λ l. l ++ x ∷ []) c.loop-city.invariant.kept in
+    let items : c.push_reserved.new.self.items ≡ p ++ x ∷ [] = c.push_reserved.ensures.items
+    ∙ ap (λ l. l ++ x ∷ []) c.loop-city.invariant.kept in
     let long : length c.push_reserved.new.self.items ≡ length p + 1 = ap length items ∙ length_push p x in
     let room = c.loop-city.invariant.room in
-    let is = is_next c.args.cities.now c.args.ways_out.now p c.push_reserved.new.self.items x c.args.spent c.args.left c.cost-then-not-is_visited.result
+    let is = is_next c.args.cities.now c.args.ways_out.now p c.push_reserved.new.self.items x c.args.spent c.args.left
+    c.cost-then-not-is_visited.result
     c.requires.begins (omega arith) new items c.requires.spent c.requires.left
     (c.cost-then-not-is_visited.ensures.is ∙ ap (λ k. costs c.args.cities.now k x) e) in
-    let falls : n - length c.push_reserved.new.self.items < n - length p = let few = short n p c.requires.begins in let d = c.if-depth-count.false in omega (arith, few, long, d) in
-    (search rules, (c.requires.count, (c.requires.ways, (c.requires.low, (is.begins, (omega arith, (is.spent, (omega arith, (is.left, (omega arith, c.loop-city.invariant.tour))))))))))
+    let falls : n - length c.push_reserved.new.self.items < n - length p = let few = short n p c.requires.begins in
+    let d = c.if-depth-count.false in omega (arith, few, long, d) in (
+      search rules,
+      (
+        c.requires.count,
+        (
+          c.requires.ways,
+          (c.requires.low, (is.begins, (omega arith, (is.spent, (omega arith, (is.left, (omega arith, c.loop-city.invariant.tour))))))),
+        ),
+      ),
+    )
 
 pub loop-city-preserved : goal.loop-city-preserved
 loop-city-preserved t c = elim c.if-not-is_visited.branch [
@@ -144,20 +159,27 @@ loop-city-preserved t c = elim c.if-not-is_visited.branch [
       ∙ take_at p (c.loop-city.city ∷ []) c.len-depth.result (omega arith) in
       let room : vec_capacity w.truncate.new.self ≡ vec_capacity c.args.beginning.now =
       w.truncate.ensures.capacity ∙ w.branch-cities.ensures.room ∙ w.push_reserved.ensures.capacity ∙ c.loop-city.invariant.room in
-      let is = one_more c.args.cities.now c.args.beginning.now c.loop-city.beginning w.truncate.new.self c.args.best.now c.loop-city.best w.branch-cities.new.best
-      c.loop-city.city w.push_reserved.new.self.items c.loop-city.invariant more back room w.branch-cities.ensures.known w.branch-cities.ensures.good
+      let is = one_more c.args.cities.now c.args.beginning.now c.loop-city.beginning w.truncate.new.self c.args.best.now c.loop-city.best
+      w.branch-cities.new.best
+      c.loop-city.city w.push_reserved.new.self.items c.loop-city.invariant more back room w.branch-cities.ensures.known
+      w.branch-cities.ensures.good
       w.branch-cities.ensures.from w.branch-cities.ensures.searched in
-      subst (λ (v : Vec ℕ Global). IsSearched c.args.cities.now c.args.beginning.now c.args.best.now v c.if-not-is_visited.best (c.loop-city.city + 1)) (sym w.beginning-is)
-      (subst (λ (b : Tour). IsSearched c.args.cities.now c.args.beginning.now c.args.best.now w.truncate.new.self b (c.loop-city.city + 1)) (sym w.best-is) is)
+      subst (λ (v : Vec ℕ Global). IsSearched c.args.cities.now c.args.beginning.now c.args.best.now v c.if-not-is_visited.best
+      (c.loop-city.city + 1)) (sym w.beginning-is)
+      (subst (λ (b : Tour). IsSearched c.args.cities.now c.args.beginning.now c.args.best.now w.truncate.new.self b (c.loop-city.city + 1))
+      (sym w.best-is) is)
   | else-not-is_visited w ↦
-      let there = old_at c.args.beginning.now.items c.loop-city.beginning.items c.deref-in-loop-city.result.now c.loop-city.city c.is_visited.result
+      let there =
+      old_at c.args.beginning.now.items c.loop-city.beginning.items c.deref-in-loop-city.result.now c.loop-city.city c.is_visited.result
       c.deref-in-loop-city.ensures.value c.loop-city.invariant.kept c.is_visited.ensures.yes w.if-not-is_visited.false in
       record {
         kept = ap (λ (v : Vec ℕ Global). v.items) w.beginning-is ∙ c.loop-city.invariant.kept;
         room = ap vec_capacity w.beginning-is ∙ c.loop-city.invariant.room;
         tour = subst (IsKnown c.args.cities.now) (sym w.best-is) c.loop-city.invariant.tour;
-        good = subst (λ (b : Tour). IsAsGood (costs c.args.cities.now) b.cities.items c.args.best.now.cities.items) (sym w.best-is) c.loop-city.invariant.good;
-        from = subst (λ (b : Tour). (b.cities.items ≡ c.args.best.now.cities.items) ⊎ Continues c.args.beginning.now.items b.cities.items) (sym w.best-is) c.loop-city.invariant.from;
+        good = subst (λ (b : Tour). IsAsGood (costs c.args.cities.now) b.cities.items c.args.best.now.cities.items) (sym w.best-is)
+            c.loop-city.invariant.good;
+        from = subst (λ (b : Tour). (b.cities.items ≡ c.args.best.now.cities.items) ⊎ Continues c.args.beginning.now.items b.cities.items)
+            (sym w.best-is) c.loop-city.invariant.from;
         tried = λ x below tour is on. elim (cases_eq x c.loop-city.city) [
           | inl same ↦ absurd (none_again c.args.cities.now.count c.args.beginning.now.items tour x
               (subst (λ k. 1 ≤ count_by (λ y. y == k) c.args.beginning.now.items) (sym same) there) is on)
@@ -171,4 +193,5 @@ pub returns-clause-searched : goal.returns-clause-searched
 returns-clause-searched t c =
     let long = tour-long c.args.cities.now.count in
     let few = short c.args.cities.now.count c.args.beginning.now.items c.requires.begins in
-    all_tried c.args.cities.now c.args.beginning.now.items c.loop-city.best.cities.items (omega (arith, few)) (λ x below. c.loop-city.invariant.tried x (omega arith))
+    all_tried c.args.cities.now c.args.beginning.now.items c.loop-city.best.cities.items (omega (arith, few))
+    (λ x below. c.loop-city.invariant.tried x (omega arith))

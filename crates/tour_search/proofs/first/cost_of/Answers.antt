@@ -56,5 +56,6 @@ returns c =
     let is : c.count-count.result - 1 ≡ length t - 1 = omega (arith, long, c.count-count.ensures.is) in
     let b = tour_begins n t (omega (arith, c.count-count.ensures.is, c.count-count.ensures.some, c.if-count-eq1.false)) c.requires in
     ap (λ s. s + c.cost.result) c.cost_along.ensures.cost
-    ∙ ap (λ s. path_cost k t + s) (c.cost.ensures.is ∙ ap (λ i. k (get_or t i 0) (get_or t 0 0)) is ∙ ap (k (last_of t)) (home t c.requires.begins))
+    ∙ ap (λ s. path_cost k t + s)
+    (c.cost.ensures.is ∙ ap (λ i. k (get_or t i 0) (get_or t 0 0)) is ∙ ap (k (last_of t)) (home t c.requires.begins))
     ∙ sym (cost-full n k t b)

@@ -21,11 +21,13 @@ pub loop-city-preserved : goal.loop-city-preserved
 loop-city-preserved c = record {
   known = c.search_from.ensures.known;
   tried = one_tried c.args.cities.now.count (costs c.args.cities.now) c.loop-city.best.cities.items c.search_from.new.best.cities.items
-      c.loop-city.city c.loop-city.invariant.tried c.search_from.ensures.good (subst (λ (l : List ℕ). (tour : List ℕ) → IsTour c.args.cities.now.count tour → Continues l tour →
+      c.loop-city.city c.loop-city.invariant.tried c.search_from.ensures.good
+      (subst (λ (l : List ℕ). (tour : List ℕ) → IsTour c.args.cities.now.count tour → Continues l tour →
       IsAsGood (costs c.args.cities.now) c.search_from.new.best.cities.items tour) c.as_slice.ensures c.in_ok-search_from.ensures.searched);
 }
 
 pub returns-clause-least : goal.returns-clause-least
 returns-clause-least c =
-    all_tried_least c.args.cities.now.count (costs c.args.cities.now) c.loop-city.best.cities.items c.loop-city.city (omega arith) (omega arith)
+    all_tried_least c.args.cities.now.count (costs c.args.cities.now) c.loop-city.best.cities.items c.loop-city.city
+    (omega arith) (omega arith)
     c.loop-city.invariant.known.tour c.loop-city.invariant.tried

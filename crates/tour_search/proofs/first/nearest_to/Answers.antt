@@ -12,4 +12,5 @@ is_nearer-requires-clause-city c =
 
 pub is_nearer-requires-clause-other : goal.is_nearer-requires-clause-other
 is_nearer-requires-clause-other c =
-    All-get_or (λ x. x < c.args.cities.now.count) c.args.tour.now c.loop-other.nearest 0 c.loop-other.invariant.within c.requires.tour.cities
+    All-get_or (λ x. x < c.args.cities.now.count) c.args.tour.now c.loop-other.nearest 0 c.loop-other.invariant.within
+    c.requires.tour.cities

@@ -31,5 +31,6 @@ returns-in-Err-read_rows-clause-refused c = λ line why e.
     ap cities_in (sym c.of-lines.ensures)
     ∙ head_is (lines_left c.of-lines.result) _ c.next.result c.in-Ok.count c.next.ensures c.in-Ok.ensures.count
     ∙ ap (with_rows c.in-Ok.count)
-    (refused_as (rows_in c.in-Ok.count c.in-Ok.count 2 (lines_left c.next.new.self)) c.in-Err-read_rows.fault c.in-Err-read_rows.ensures.refused
+    (refused_as (rows_in c.in-Ok.count c.in-Ok.count 2 (lines_left c.next.new.self)) c.in-Err-read_rows.fault
+    c.in-Err-read_rows.ensures.refused
     line why fault)

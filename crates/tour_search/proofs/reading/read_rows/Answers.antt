@@ -34,7 +34,8 @@ pub loop-row-preserved : goal.loop-row-preserved
 loop-row-preserved c =
     let row = c.in-Ok.ensures.row in
     record {
-      far = rows_more c.args.count (lines_left c.args.lines.now) c.loop-row._row (lines_left c.loop-row.lines) _ c.loop-row.costs.items _ row.0
+      far = rows_more c.args.count (lines_left c.args.lines.now) c.loop-row._row (lines_left c.loop-row.lines) _
+          c.loop-row.costs.items _ row.0
           c.next.result c.loop-row.number c.loop-row.invariant.far c.loop-row-test.true c.loop-row.invariant.numbered c.next.ensures row.1
           row.2;
       numbered = omega (arith, c.loop-row.invariant.numbered);

@@ -8,7 +8,8 @@ loop-to-preserved c = record {
   low = omega (arith, c.cheaper-least.ensures.low, c.loop-to.invariant.low);
   cheap = λ to below other. elim (cases_eq to c.loop-to.to) [
     | inl same ↦
-        subst (λ k. c.cheaper-least.result ≤ costs c.args.cities.now c.args.from k) (sym same) (c.cheaper-least.ensures.cheap (λ e. other (e ∙ sym same)))
+        subst (λ k. c.cheaper-least.result ≤ costs c.args.cities.now c.args.from k) (sym same)
+        (c.cheaper-least.ensures.cheap (λ e. other (e ∙ sym same)))
     | inr differs ↦
         let old = c.loop-to.invariant.cheap to (omega arith) other in
         omega (arith, old, c.cheaper-least.ensures.low)

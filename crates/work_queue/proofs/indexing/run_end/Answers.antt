@@ -8,4 +8,5 @@ use Rattle.work_queue.proofs.indexing.run_end.Goals as goal
 pub returns-clause-point : goal.returns-clause-point
 returns-clause-point c =
     run_point c.args.entries.now.items c.args.entry.now c.partition_point.result
-    (IsPartitionPoint-from_clause (λ (x : Entry). not (runs_before c.args.entry.now x)) _ _ c.partition_point.ensures.partitioned (parted_runs c.args.entries.now.items c.args.entry.now c.requires) (λ a r q k. search rules))
+    (IsPartitionPoint-from_clause (λ (x : Entry). not (runs_before c.args.entry.now x)) _ _ c.partition_point.ensures.partitioned
+    (parted_runs c.args.entries.now.items c.args.entry.now c.requires) (λ a r q k. search rules))

@@ -10,8 +10,11 @@ loop-place-preserved-then-permits c =
     record {
       within = run.within;
       leads = rw c.better_of.ensures
-          (taken_up (may_have c.args.rank c.args.types.now) (suits_better c.args.rank) (suits_ranks c.args.rank) c.args.entries.now.items c.loop-place.place c.run_at-run.result.end c.run_at-run.result.first (omega arith)
-          (first_listed c.args.entries.now.items c.loop-place.place c.run_at-run.result run) (run_suits c.args.rank c.args.types.now c.args.entries.now.items c.loop-place.place c.run_at-run.result run) c.loop-place.best (sym c.permits.ensures.test ∙ c.if-permits.true) c.loop-place.invariant.leads);
+          (taken_up (may_have c.args.rank c.args.types.now) (suits_better c.args.rank) (suits_ranks c.args.rank) c.args.entries.now.items
+          c.loop-place.place c.run_at-run.result.end c.run_at-run.result.first (omega arith)
+          (first_listed c.args.entries.now.items c.loop-place.place c.run_at-run.result run)
+          (run_suits c.args.rank c.args.types.now c.args.entries.now.items c.loop-place.place c.run_at-run.result run) c.loop-place.best
+          (sym c.permits.ensures.test ∙ c.if-permits.true) c.loop-place.invariant.leads);
     }
 
 pub loop-place-preserved : goal.loop-place-preserved
@@ -21,6 +24,9 @@ loop-place-preserved c =
     record {
       within = run.within;
       leads =
-          passed_by (may_have c.args.rank c.args.types.now) (suits_better c.args.rank) (suits_ranks c.args.rank) c.args.entries.now.items c.loop-place.place c.run_at-run.result.end c.run_at-run.result.first (omega arith)
-          (first_listed c.args.entries.now.items c.loop-place.place c.run_at-run.result run) (run_suits c.args.rank c.args.types.now c.args.entries.now.items c.loop-place.place c.run_at-run.result run) c.loop-place.best (sym c.permits.ensures.test ∙ c.if-permits.false) c.loop-place.invariant.leads;
+          passed_by (may_have c.args.rank c.args.types.now) (suits_better c.args.rank) (suits_ranks c.args.rank) c.args.entries.now.items
+          c.loop-place.place c.run_at-run.result.end c.run_at-run.result.first (omega arith)
+          (first_listed c.args.entries.now.items c.loop-place.place c.run_at-run.result run)
+          (run_suits c.args.rank c.args.types.now c.args.entries.now.items c.loop-place.place c.run_at-run.result run) c.loop-place.best
+          (sym c.permits.ensures.test ∙ c.if-permits.false) c.loop-place.invariant.leads;
     }

@@ -10,8 +10,11 @@ loop-place-preserved-then-is_for_any c =
     record {
       within = run.within;
       leads = rw c.first_of.ensures
-          (taken_up may_move moves_first moves_ranks c.args.entries.now.items c.loop-place.place c.run_at-run.result.end c.run_at-run.result.last (omega arith)
-          (last_listed c.args.entries.now.items c.loop-place.place c.run_at-run.result run) (run_moves c.args.entries.now.items c.loop-place.place c.run_at-run.result run) c.loop-place.first (sym c.is_for_any.ensures ∙ c.if-is_for_any.true) c.loop-place.invariant.leads);
+          (taken_up may_move moves_first moves_ranks c.args.entries.now.items c.loop-place.place c.run_at-run.result.end
+          c.run_at-run.result.last (omega arith)
+          (last_listed c.args.entries.now.items c.loop-place.place c.run_at-run.result run)
+          (run_moves c.args.entries.now.items c.loop-place.place c.run_at-run.result run) c.loop-place.first
+          (sym c.is_for_any.ensures ∙ c.if-is_for_any.true) c.loop-place.invariant.leads);
     }
 
 pub loop-place-preserved : goal.loop-place-preserved
@@ -21,6 +24,9 @@ loop-place-preserved c =
     record {
       within = run.within;
       leads =
-          passed_by may_move moves_first moves_ranks c.args.entries.now.items c.loop-place.place c.run_at-run.result.end c.run_at-run.result.last (omega arith)
-          (last_listed c.args.entries.now.items c.loop-place.place c.run_at-run.result run) (run_moves c.args.entries.now.items c.loop-place.place c.run_at-run.result run) c.loop-place.first (sym c.is_for_any.ensures ∙ c.if-is_for_any.false) c.loop-place.invariant.leads;
+          passed_by may_move moves_first moves_ranks c.args.entries.now.items c.loop-place.place c.run_at-run.result.end
+          c.run_at-run.result.last (omega arith)
+          (last_listed c.args.entries.now.items c.loop-place.place c.run_at-run.result run)
+          (run_moves c.args.entries.now.items c.loop-place.place c.run_at-run.result run) c.loop-place.first
+          (sym c.is_for_any.ensures ∙ c.if-is_for_any.false) c.loop-place.invariant.leads;
     }

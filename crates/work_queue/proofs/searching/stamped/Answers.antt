@@ -29,4 +29,5 @@ returns c place p at is =
     let key = c.at.result in
     let key_is : key ≡ get_or order place 0 = c.at.ensures ∙ ap (λ k. get_or order k key) same ∙ get_or_default order place key 0 within in
     let found : Some c.in-Some.placed.now ≡ get c.args.slots.now key = c.in-Some.ensures in
-    same_Some c.in-Some.placed.now p (found ∙ ap (λ k. get c.args.slots.now k) key_is ∙ sym (unit_under c.args.slots.now order c.requires.there place within) ∙ at)
+    same_Some c.in-Some.placed.now p
+    (found ∙ ap (λ k. get c.args.slots.now k) key_is ∙ sym (unit_under c.args.slots.now order c.requires.there place within) ∙ at)

@@ -17,7 +17,8 @@ returns-in-Accepted-clause-passes g c = λ eye.
 
 pub returns-in_default-pop-clause-passes : goal.returns-in_default-pop-clause-passes
 returns-in_default-pop-clause-passes g c = λ eye.
-    let none = ap (λ l. sum_by (g.D.Duty.worth c.args.self.now.duty eye (shared_bytes c.args.common.now)) l) c.in_default-pop.ensures.last.0 in
+    let none =
+    ap (λ l. sum_by (g.D.Duty.worth c.args.self.now.duty eye (shared_bytes c.args.common.now)) l) c.in_default-pop.ensures.last.0 in
     refused _ _ _ (shared_bytes c.args.common.now) _ _ _ _ _ _
     (opened _ _ _ (shared_bytes c.args.common.now) _ Rejected c.in_ok-begin_batch.ensures.made.said c.in-Ok.ensures c.in-Rejected.is)
     (c.tries.invariant.going eye) (omega (arith, none)) (omega arith)
@@ -59,5 +60,6 @@ tries-preserved g c = record {
 pub returns-in-Ended-clause-passes : goal.returns-in-Ended-clause-passes
 returns-in-Ended-clause-passes g c = λ eye.
     shut _ _ _ (shared_bytes c.args.common.now) _ _ _ _ c.in-Ended.field-0
-    (opened _ _ _ (shared_bytes c.args.common.now) _ (Ended c.in-Ended.field-0) c.in_ok-begin_batch.ensures.made.said c.in-Ok.ensures c.in-Ended.is)
+    (opened _ _ _ (shared_bytes c.args.common.now) _ (Ended c.in-Ended.field-0) c.in_ok-begin_batch.ensures.made.said c.in-Ok.ensures
+    c.in-Ended.is)
     (c.tries.invariant.going eye) (g.met.R.Rank.short _)

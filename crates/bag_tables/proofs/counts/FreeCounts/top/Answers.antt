@@ -11,10 +11,16 @@ returns-in_default c = none_after c.args.self.now c.args.server c.args.kind (rw 
 
 pub returns-then-at-server : goal.returns-then-at-server
 returns-then-at-server c =
-    none_here c.args.self.now c.args.server c.args.kind c.in-Some.at c.in-Some.of c.in-Some.prio c.in-Some.n c.in-Some.ensures (λ at of. elim c.then-at-server.branch [ then-at-server-via-then-at-server w ↦ omega arith | then-at-server-via-else-at-server+then-of-kind w ↦ omega arith ])
+    none_here c.args.self.now c.args.server c.args.kind c.in-Some.at c.in-Some.of c.in-Some.prio c.in-Some.n c.in-Some.ensures
+    (λ at of. elim c.then-at-server.branch [
+      | then-at-server-via-then-at-server w ↦ omega arith
+      | then-at-server-via-else-at-server+then-of-kind w ↦ omega arith
+    ])
 
 -- the priority is passed as it is
 pub returns-in-Some-prio : goal.returns-in-Some-prio
 returns-in-Some-prio c =
     let fits : SFits w32 c.in-Some-prio.field-0.0 = search rules in
-    simp to_z-of_z (top_here c.args.self.now c.args.server c.args.kind c.in-Some.at c.in-Some.of c.in-Some-prio.field-0.0 c.in-Some.n (rw c.in-Some-prio.is at c.in-Some.ensures) (omega arith) (omega arith))
+    simp to_z-of_z
+    (top_here c.args.self.now c.args.server c.args.kind c.in-Some.at c.in-Some.of c.in-Some-prio.field-0.0 c.in-Some.n
+    (rw c.in-Some-prio.is at c.in-Some.ensures) (omega arith) (omega arith))

@@ -5,7 +5,9 @@ use Rattle.bag_tables.proofs.promises.Promises.add.Goals as goal
 
 pub invariant_of-self-in_err-note : goal.invariant_of-self-in_err-note
 invariant_of-self-in_err-note c =
-    rw c.reserve.ensures.items (promises_same c.self.inside.places c.note.new.self c.self.inside.charges c.self.inside.slots.items c.self.invariant c.in_err-note.ensures.kept)
+    rw c.reserve.ensures.items
+    (promises_same c.self.inside.places c.note.new.self c.self.inside.charges c.self.inside.slots.items c.self.invariant
+    c.in_err-note.ensures.kept)
 
 pub shift-requires-clause-room : goal.shift-requires-clause-room
 shift-requires-clause-room c =
@@ -13,8 +15,11 @@ shift-requires-clause-room c =
 
 pub invariant_of-self-2 : goal.invariant_of-self-2
 invariant_of-self-2 c =
-    rw (c.push_reserved.ensures.items, c.reserve.ensures.items) (promises_added c.self.inside.places c.note.new.self c.self.inside.charges c.shift.new.self c.self.inside.slots.items c.args.promise c.len-at.result c.self.invariant (rw c.self.view_is c.requires) (omega arith) (omega arith) c.in_ok-note.ensures.noted c.shift.ensures)
+    rw (c.push_reserved.ensures.items, c.reserve.ensures.items)
+    (promises_added c.self.inside.places c.note.new.self c.self.inside.charges c.shift.new.self c.self.inside.slots.items c.args.promise
+    c.len-at.result c.self.invariant (rw c.self.view_is c.requires) (omega arith) (omega arith) c.in_ok-note.ensures.noted c.shift.ensures)
 
 pub returns : goal.returns
 returns c =
-    rw (c.push_reserved.ensures.items, c.reserve.ensures.items) (standing_push c.self.inside.slots.items c.args.promise ∙ ap (λ (l : List Promise). l ++ c.args.promise ∷ []) c.self.view_is)
+    rw (c.push_reserved.ensures.items, c.reserve.ensures.items)
+    (standing_push c.self.inside.slots.items c.args.promise ∙ ap (λ (l : List Promise). l ++ c.args.promise ∷ []) c.self.view_is)

@@ -5,7 +5,8 @@ use Rattle.bag_tables.proofs.Changing.{past_changes, set_changes, on_ok}
 use Rattle.bag_tables.proofs.ranks.Ranks.change.Goals as goal
 
 pub returns-then-place-len : goal.returns-then-place-len
-returns-then-place-len c = rw (← c.self.view_is) (past_changes c.self.inside.held.items c.args.rank.0 (rank_changed c.args.change) (omega arith))
+returns-then-place-len c =
+    rw (← c.self.view_is) (past_changes c.self.inside.held.items c.args.rank.0 (rank_changed c.args.change) (omega arith))
 
 pub returns : goal.returns
 returns c = rw (← c.self.view_is) (

@@ -11,4 +11,7 @@ shift-requires-clause-room c =
 
 pub invariant_of-self-2 : goal.invariant_of-self-2
 invariant_of-self-2 c =
-    rw (c.push_reserved.ensures.items, c.reserve.ensures.items) (units_added c.self.inside.places c.note.new.self c.self.inside.charges c.shift.new.self c.self.inside.free c.raise.new.self c.self.inside.held.items c.args.unit c.args.server c.len-at.result c.len-n.result c.self.invariant (omega arith) c.len-n.ensures (omega arith) c.in_default.ensures.noted c.shift.ensures c.in_ok-raise.ensures.raised)
+    rw (c.push_reserved.ensures.items, c.reserve.ensures.items)
+    (units_added c.self.inside.places c.note.new.self c.self.inside.charges c.shift.new.self c.self.inside.free c.raise.new.self
+    c.self.inside.held.items c.args.unit c.args.server c.len-at.result c.len-n.result c.self.invariant (omega arith) c.len-n.ensures
+    (omega arith) c.in_default.ensures.noted c.shift.ensures c.in_ok-raise.ensures.raised)

@@ -13,7 +13,8 @@ loop-sending-preserved c =
     let links = c.loop-sending.self in
     let rest = c.next.new.self.rest.items in
     let x = c.in-Some.sending in
-    let pushed : c.push.new.self ≡ put_link links c.args.from (place_of config x.to) (link links c.args.from (place_of config x.to) ++ x.letter ∷ []) =
+    let pushed : c.push.new.self
+    ≡ put_link links c.args.from (place_of config x.to) (link links c.args.from (place_of config x.to) ++ x.letter ∷ []) =
     c.in_ok-push.ensures ∙ ap (λ to. put_link links c.args.from to (link links c.args.from to ++ x.letter ∷ [])) c.place_of.ensures in
     record {
       leads = ap (λ (l : Links). post config l c.args.from rest) pushed ∙ sym (post_one config links c.args.from x rest)
@@ -26,5 +27,6 @@ returns c =
     let v = c.loop-sending.invariant in
     let config = c.args.config.now in
     let links = c.loop-sending.self in
-    let none : c.loop-sending.sending-iterator.rest.items ≡ [] = none_left c.loop-sending.sending-iterator.rest.items (sym v.len ∙ c.in-None.ensures.steps.0) in
+    let none : c.loop-sending.sending-iterator.rest.items ≡ [] =
+    none_left c.loop-sending.sending-iterator.rest.items (sym v.len ∙ c.in-None.ensures.steps.0) in
     sym (post_none config links c.args.from) ∙ ap (λ (r : List Sending). post config links c.args.from r) (sym none) ∙ v.leads

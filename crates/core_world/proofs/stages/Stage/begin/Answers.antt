@@ -10,12 +10,18 @@ use Rattle.core_world.proofs.stages.Stage.begin.Goals as goal
 pub returns-in_err-sends-clause-stops : goal.returns-in_err-sends-clause-stops
 returns-in_err-sends-clause-stops c =
     let p = err_from_is_err_and c.from_residual.result c.from_residual.ensures.1 in
-    rw (p.1, p.2) (call_stops c.args.self.now c.client_begins.new.self c.args.rank c.args.call c.in_err-sends.field-0.0 c.in_err-sends.ensures.cause c.in_err-sends.ensures.failed)
+    rw (
+      p.1,
+      p.2,
+    ) (call_stops c.args.self.now c.client_begins.new.self c.args.rank c.args.call c.in_err-sends.field-0.0 c.in_err-sends.ensures.cause
+    c.in_err-sends.ensures.failed)
 
 pub returns-clause-whole : goal.returns-clause-whole
 returns-clause-whole c =
     let w = c.args.self.now in
     let b = c.in_ok-sends.ensures.begun in
-    let fine : b.0.trouble ≡ None = (begin_leaves (client_of w c.args.rank) c.args.call (gives b.0 c.in_ok-sends.field-0) b.1).0 ∙ whole_rank w c.args.rank c.requires.whole in
+    let fine : b.0.trouble ≡ None = (begin_leaves (client_of w c.args.rank) c.args.call (gives b.0 c.in_ok-sends.field-0) b.1).0
+    ∙ whole_rank w c.args.rank c.requires.whole in
     let is = c.in_ok-give.ensures.given in
-    whole_client w c.client_begins.new.self c.give.new.self c.args.rank b.0 c.requires.whole fine b.2 (ap (λ (v : World). v.ranks) is) (ap (λ (v : World). v.servers) is)
+    whole_client w c.client_begins.new.self c.give.new.self c.args.rank b.0 c.requires.whole fine b.2 (ap (λ (v : World). v.ranks) is)
+    (ap (λ (v : World). v.servers) is)

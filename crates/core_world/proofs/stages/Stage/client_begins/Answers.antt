@@ -14,7 +14,12 @@ returns-clause-begun c =
     let w = c.args.self.now in
     let client = c.index_mut-client.result.now in
     let s = c.begin.new.self in
-    let at : client ≡ client_of w c.args.rank = found_client c.self.inside w c.args.rank client c.self.view_is c.self.invariant c.requires.there c.index_mut-client.ensures.value in
+    let at : client ≡ client_of w c.args.rank =
+    found_client c.self.inside w c.args.rank client c.self.view_is c.self.invariant c.requires.there c.index_mut-client.ensures.value in
     let P : ClientStep → Type 0 = λ x. begin client c.args.call ≡ Some (gives s x) in
     IfOk-weaker c.begin.result P _
-    (λ x begun. (s, ap (λ (k : ClientModel). begin k c.args.call) (sym at) ∙ begun, ap (λ (v : World). with_client v c.args.rank s) c.self.view_is)) c.begin.ensures.begun
+    (λ x begun. (
+      s,
+      ap (λ (k : ClientModel). begin k c.args.call) (sym at) ∙ begun,
+      ap (λ (v : World). with_client v c.args.rank s) c.self.view_is,
+    )) c.begin.ensures.begun

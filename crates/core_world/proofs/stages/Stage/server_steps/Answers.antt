@@ -15,16 +15,23 @@ returns-clause-served c =
     let w = c.args.self.now in
     let pool = c.index_mut-server.result.now in
     let s = c.step.new.self in
-    let at : pool ≡ pool_of w c.args.server = found_pool c.self.inside w c.args.server pool c.self.view_is c.self.invariant c.requires.there c.index_mut-server.ensures.value in
-    let P : Step → Type 0 = λ x. serve pool c.args.from c.args.letter ≡ Some (record { state = s; sends = x.sends.items; entries = x.entries.items }) in
+    let at : pool ≡ pool_of w c.args.server =
+    found_pool c.self.inside w c.args.server pool c.self.view_is c.self.invariant c.requires.there c.index_mut-server.ensures.value in
+    let P : Step → Type 0 =
+    λ x. serve pool c.args.from c.args.letter ≡ Some (record { state = s; sends = x.sends.items; entries = x.entries.items }) in
     IfOk-weaker c.step.result P _
-    (λ x served. (s, ap (λ (k : ServerModel). serve k c.args.from c.args.letter) (sym at) ∙ served, ap (λ (v : World). with_server v c.args.server s) c.self.view_is)) c.step.ensures.served
+    (λ x served. (
+      s,
+      ap (λ (k : ServerModel). serve k c.args.from c.args.letter) (sym at) ∙ served,
+      ap (λ (v : World). with_server v c.args.server s) c.self.view_is,
+    )) c.step.ensures.served
 
 pub returns-clause-stamp : goal.returns-clause-stamp
 returns-clause-stamp c =
     let w = c.args.self.now in
     let pool = c.index_mut-server.result.now in
-    let at : pool ≡ pool_of w c.args.server = found_pool c.self.inside w c.args.server pool c.self.view_is c.self.invariant c.requires.there c.index_mut-server.ensures.value in
+    let at : pool ≡ pool_of w c.args.server =
+    found_pool c.self.inside w c.args.server pool c.self.view_is c.self.invariant c.requires.there c.index_mut-server.ensures.value in
     on_ok_weaker c.step.result (λ early. subst (λ (k : ServerModel). next_stamp k c.args.letter < 2 ^ 48) at early)
     (step_on_time c.step.result (next_stamp pool c.args.letter) c.step.ensures.too_long)
 
@@ -32,7 +39,8 @@ pub returns-clause-cause : goal.returns-clause-cause
 returns-clause-cause c =
     let w = c.args.self.now in
     let pool = c.index_mut-server.result.now in
-    let at : pool ≡ pool_of w c.args.server = found_pool c.self.inside w c.args.server pool c.self.view_is c.self.invariant c.requires.there c.index_mut-server.ensures.value in
+    let at : pool ≡ pool_of w c.args.server =
+    found_pool c.self.inside w c.args.server pool c.self.view_is c.self.invariant c.requires.there c.index_mut-server.ensures.value in
     IfErr-weaker c.step.result (Causes (next_stamp pool c.args.letter)) (Causes (next_stamp (pool_of w c.args.server) c.args.letter))
     (λ t caused. subst (λ (k : ServerModel). Causes (next_stamp k c.args.letter) t) at caused)
     (step_causes c.step.result (next_stamp pool c.args.letter) c.step.ensures.too_long)

@@ -21,7 +21,8 @@ returns-in-Ok-clause-none_now c = λ given.
 pub returns-in-Err-clause-none_now : goal.returns-in-Err-clause-none_now
 returns-in-Err-clause-none_now c = λ given.
     enabled_says c.self.inside c.args.self.now c.args.event given (Err c.of-in-Err.result) c.self.view_is
-    (c.enables.ensures.0 c.if-not-enables.false) (trouble_is_none (Err c.of-in-Err.result) c.in-Err.trouble given (ap (λ (f : ApplyFault). Err f) c.of-in-Err.ensures))
+    (c.enables.ensures.0 c.if-not-enables.false)
+    (trouble_is_none (Err c.of-in-Err.result) c.in-Err.trouble given (ap (λ (f : ApplyFault). Err f) c.of-in-Err.ensures))
 
 pub returns-in-Err-clause-many : goal.returns-in-Err-clause-many
 returns-in-Err-clause-many c = λ whole stamp is.

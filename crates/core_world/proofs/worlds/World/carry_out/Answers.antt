@@ -13,8 +13,10 @@ returns-in-Ok-clause-config c =
 pub returns-in-Err-clause-config : goal.returns-in-Err-clause-config
 returns-in-Err-clause-config c =
     let i = c.self.inside in
-    let enabled : IsEnabled i.stage c.args.event = subst (λ (s : Seen). IsEnabled s.world c.args.event) (sym c.self.view_is) c.requires.enabled in
-    stops_config i.stage c.carry_out.new.self c.args.event c.in-Err.trouble enabled c.in-Err.ensures.stops ∙ ap (λ (s : Seen). s.world.config) c.self.view_is
+    let enabled : IsEnabled i.stage c.args.event =
+    subst (λ (s : Seen). IsEnabled s.world c.args.event) (sym c.self.view_is) c.requires.enabled in
+    stops_config i.stage c.carry_out.new.self c.args.event c.in-Err.trouble enabled c.in-Err.ensures.stops
+    ∙ ap (λ (s : Seen). s.world.config) c.self.view_is
 
 pub invariant_of-self : goal.invariant_of-self
 invariant_of-self c = λ none.

@@ -8,7 +8,15 @@ overflow_add-applied c =
     let v = c.loop-event.invariant in
     let h = c.in-Some.ensures.steps in
     let all = v.1 ∙ ap (λ (r : List Event). v.0 ++ r) h.0 in
-    omega (arith, v.3, ap length all, length-append v.0 (c.in-Some.event ∷ c.next.new.self.rest.items), c.args.events.ok.0, c.args.events.ok.1, c.args.events.small)
+    omega (
+      arith,
+      v.3,
+      ap length all,
+      length-append v.0 (c.in-Some.event ∷ c.next.new.self.rest.items),
+      c.args.events.ok.0,
+      c.args.events.ok.1,
+      c.args.events.small,
+    )
 
 pub loop-event-preserved : goal.loop-event-preserved
 loop-event-preserved c =
@@ -29,5 +37,6 @@ pub returns-in-Err-clause-refused : goal.returns-in-Err-clause-refused
 returns-in-Err-clause-refused c =
     let v = c.loop-event.invariant in
     let all = v.1 ∙ ap (λ (r : List Event). v.0 ++ r) c.in-Some.ensures.steps.0 in
-    stops_at c.args.self.now c.loop-event.self c.apply.new.self c.args.events.items v.0 c.next.new.self.rest.items c.in-Some.event c.loop-event.applied c.in-Err.fault
+    stops_at c.args.self.now c.loop-event.self c.apply.new.self c.args.events.items v.0 c.next.new.self.rest.items c.in-Some.event
+    c.loop-event.applied c.in-Err.fault
     all v.3 v.2 v.4 c.in-Err.ensures.refused

@@ -5,7 +5,8 @@ use Rattle.flow_app.proofs.stores.Store.settle.Goals as goal
 
 pub loop-rule-init : goal.loop-rule-init
 loop-rule-init c = record {
-  stored = value_came c.args.flow.now c.args.self.now.values.items c.args.self.now.noted.items c.args.self.now.ready.items c.args.self.now.next
+  stored =
+      value_came c.args.flow.now c.args.self.now.values.items c.args.self.now.noted.items c.args.self.now.ready.items c.args.self.now.next
       c.users-rule-items.result.now c.args.place c.args.value c.requires.stored c.requires.inside c.requires.none c.requires.right
       c.users-rule-items.ensures.all;
   values = refl;
@@ -23,12 +24,14 @@ note-requires-clause-stored c = (
 
 pub note-requires-clause-inside : goal.note-requires-clause-inside
 note-requires-clause-inside c =
-    below_at (length c.args.flow.now) c.users-rule-items.result.now c.loop-rule.rule-index 0 c.users-rule-items.ensures.within c.loop-rule-test.true
+    below_at (length c.args.flow.now) c.users-rule-items.result.now c.loop-rule.rule-index 0 c.users-rule-items.ensures.within
+    c.loop-rule-test.true
 
 pub loop-rule-preserved : goal.loop-rule-preserved
 loop-rule-preserved c = record {
   stored = c.in_ok-note.ensures.stored (drop (c.loop-rule.rule-index + 1) c.users-rule-items.result.now)
-      (rest_next c.args.flow.now c.loop-rule.self.values.items c.loop-rule.self.noted.items c.loop-rule.self.ready.items c.loop-rule.self.next
+      (rest_next c.args.flow.now c.loop-rule.self.values.items c.loop-rule.self.noted.items c.loop-rule.self.ready.items
+      c.loop-rule.self.next
       c.users-rule-items.result.now c.loop-rule.rule-index c.loop-rule-test.true c.loop-rule.invariant.stored);
   values = c.in_ok-note.ensures.values ∙ c.loop-rule.invariant.values;
   left = c.in_ok-note.ensures.left ∙ c.loop-rule.invariant.left;

@@ -8,4 +8,5 @@ settle-requires-clause-none c =
     c.definition.ensures (sym c.in-Some.ensures)
 
 pub settle-requires-clause-right : goal.settle-requires-clause-right
-settle-requires-clause-right c = let_right c.args.flow.now c.args.place c.definition.result.now c.in-Some.value c.definition.ensures (sym c.in-Some.ensures)
+settle-requires-clause-right c =
+    let_right c.args.flow.now c.args.place c.definition.result.now c.in-Some.value c.definition.ensures (sym c.in-Some.ensures)

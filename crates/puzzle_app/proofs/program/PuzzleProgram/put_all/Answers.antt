@@ -3,7 +3,8 @@ use Rattle.job_units.specs.Puts.{put_of}
 use Rattle.puzzle_app.specs.declared.calls.Reply.TheVariants as replies
 use Rattle.puzzle_app.specs.declared.desk.Desk.{Desk}
 use Rattle.puzzle_app.proofs.Calling.{so_open}
-use Rattle.puzzle_app.proofs.Steps.{Popped, accepted_is, going_so, grows, popped_off, rejected_is, rejected_so, replied, room_is, stopped_is, stopped_so}
+use Rattle.puzzle_app.proofs.Steps.{Popped, accepted_is, going_so, grows, popped_off, rejected_is, rejected_so, replied, room_is}
+use Rattle.puzzle_app.proofs.Steps.{stopped_is, stopped_so}
 use Rattle.puzzle_app.proofs.UnderWay.{put_way, whole_way}
 use Rattle.puzzle_app.proofs.program.PuzzleProgram.put_all.Goals as goal
 

@@ -5,6 +5,7 @@ pub returns-clause-has : goal.returns-clause-has
 returns-clause-has c =
     let r = c.in_ok-room.ensures in (
       c.requires.to,
-      first_room c.args.self.now.config c.in_ok-room.room c.args.first c.args.errand c.args.body _ c.requires.offer c.requires.short c.requires.first
+      first_room c.args.self.now.config c.in_ok-room.room c.args.first c.args.errand c.args.body _ c.requires.offer c.requires.short
+          c.requires.first
           r.tries r.bodies r.room r.none c.pending.ensures,
     )

@@ -4,7 +4,9 @@ use Rattle.rank_mail.proofs.Ends.{line_places, line_lists, line_numbers}
 use Rattle.rank_mail.proofs.posts.Post.new.Goals as goal
 
 pub invariant_of-result : goal.invariant_of-result
-invariant_of-result c = λ k l at. line_numbers c.args.inboxes.now.items c.args.number c.requires k l (ap (λ ls. slice_get ls k) (sym c.in_ok-lines.ensures.lines) ∙ at)
+invariant_of-result c =
+    λ k l at. line_numbers c.args.inboxes.now.items c.args.number c.requires k l
+    (ap (λ ls. slice_get ls k) (sym c.in_ok-lines.ensures.lines) ∙ at)
 
 pub returns-clause-post : goal.returns-clause-post
 returns-clause-post c =

@@ -33,7 +33,8 @@ invariant_of-self c =
     let place = c.args.place in
     let now = c.hear_of.new.self in
     let size = size_written es place now in
-    let same : now.wish.rank.0 ≡ c.index_mut.result.now.wish.rank.0 = ap (λ (x : Waiting). x.wish.rank.0) c.hear_of.ensures.heard ∙ ap (λ (w : Wish). w.rank.0) (heard_wish c.args.config.now c.args.me c.args.from c.index_mut.result.now) in
+    let same : now.wish.rank.0 ≡ c.index_mut.result.now.wish.rank.0 = ap (λ (x : Waiting). x.wish.rank.0) c.hear_of.ensures.heard
+    ∙ ap (λ (w : Wish). w.rank.0) (heard_wish c.args.config.now c.args.me c.args.from c.index_mut.result.now) in
     record {
       within = omega (arith, c.self.invariant.within, size);
       few = omega (arith, c.self.invariant.few, size);
@@ -60,8 +61,10 @@ returns-clause-heard c e here =
     let room : length (take i.count (values_of es)) ≡ i.count =
     length-take-le i.count (values_of es) (omega (arith, c.self.invariant.within, length-values_of es)) in
     let low : place < i.count = omega (arith, slice_get_within (take i.count (values_of es)) place e back, room) in
-    let made : now ≡ hears_of c.args.config.now c.args.me c.args.from e = c.hear_of.ensures.heard ∙ ap (λ (x : Waiting). hears_of c.args.config.now c.args.me c.args.from x) (one c e here) in
-    front_is _ (front_with (front_of i) (set (take i.count (values_of es)) place (hears_of c.args.config.now c.args.me c.args.from e))) (size_written es place now)
+    let made : now ≡ hears_of c.args.config.now c.args.me c.args.from e = c.hear_of.ensures.heard
+    ∙ ap (λ (x : Waiting). hears_of c.args.config.now c.args.me c.args.from x) (one c e here) in
+    front_is _ (front_with (front_of i) (set (take i.count (values_of es)) place (hears_of c.args.config.now c.args.me c.args.from e)))
+    (size_written es place now)
     (ap (λ (l : List Waiting). take i.count l) (values_written es place now) ∙ take-set-lt i.count (values_of es) place now low
     ∙ ap (λ (x : Waiting). set (take i.count (values_of es)) place x) made)
     ∙ ap (λ (f : FrontModel). front_with f (set f.waiting place (hears_of c.args.config.now c.args.me c.args.from e))) c.self.view_is

@@ -49,7 +49,8 @@ returns c =
     let within : c.args.place < length es = omega (arith, before, c.self.invariant.within) in
     let back : i.count - 1 + 1 ≡ i.count = omega (arith, before) in
     front_is _ (front_with (front_of i) (remove (take i.count (values_of es)) c.args.place)) c.move_index.ensures.reordered.1
-    (leaves es c.move_index.new.self.entries c.args.place (i.count - 1) (get_or es c.args.place d) (slice_get-get_or es c.args.place d within)
+    (leaves es c.move_index.new.self.entries c.args.place (i.count - 1) (get_or es c.args.place d)
+    (slice_get-get_or es c.args.place d within)
     (omega (arith, before)) (omega (arith, before, c.self.invariant.within)) c.move_index.ensures.entries
     ∙ ap (λ (n : ℕ). remove (take n (values_of es)) c.args.place) back)
     ∙ ap (λ (f : FrontModel). front_with f (remove f.waiting c.args.place)) c.self.view_is

@@ -15,5 +15,6 @@ loop-number-preserved c =
       size = c.in-Ok.ensures.len ∙ ap (λ (t : Bool). index_map_len map + (if t then 0 else 1)) none ∙ ap (λ (n : ℕ). n + 1) was.size;
       keyed = subst (λ (es : Entries). All IsKeyed es) (sym c.in-Ok.ensures.entries)
           (keyed_inserted map.entries number c.free.result was.keyed (sym (ap (λ (r : Rank). r.0) c.free.ensures)));
-      there = λ q. there_more q number (get nat_eq map q) (get nat_eq c.insert.new.self q) c.free.result (c.in-Ok.ensures.updates.0 q) (was.there q);
+      there = λ q. there_more q number (get nat_eq map q) (get nat_eq c.insert.new.self q) c.free.result (c.in-Ok.ensures.updates.0 q)
+          (was.there q);
     }

@@ -26,7 +26,8 @@ invariant_of-self c =
     let m = parked_of c.self.inside in
     let P : List Waiting → Type 0 = λ l. IsParked (with_waiting m l) in
     record {
-      sound = subst P (sym (ap (λ (f : FrontModel). f.waiting) c.park.ensures)) (parked_sound m c.args.waits (each c) (new c) c.self.invariant.sound);
+      sound = subst P (sym (ap (λ (f : FrontModel). f.waiting) c.park.ensures))
+          (parked_sound m c.args.waits (each c) (new c) c.self.invariant.sound);
       entries = ap (λ (f : FrontModel). f.ranks) c.park.ensures ∙ c.self.invariant.entries;
       wish_room = c.self.invariant.wish_room;
     }

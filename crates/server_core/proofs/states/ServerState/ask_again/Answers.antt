@@ -1,4 +1,6 @@
-use Rattle.server_core.proofs.Prelude.{◌∙◌, Answered, IsParked, answered, ap, arith, asks_next, best_for, looked, looked_room, made_as, parked_of, pending_of, released_room, room_as, room_less, step_for, sym, told_end, told_step, waits_by}
+use Rattle.server_core.proofs.Prelude.{◌∙◌, Answered, IsParked, answered, ap, arith, asks_next, best_for, looked, looked_room, made_as}
+use Rattle.server_core.proofs.Prelude.{parked_of, pending_of, released_room, room_as, room_less, step_for, sym, told_end, told_step}
+use Rattle.server_core.proofs.Prelude.{waits_by}
 use Rattle.server_core.proofs.states.ServerState.ask_again.Goals as goal
 use Rattle.server_core.proofs.states.ServerState.ask_again.Goals.{Start}
 

@@ -1,6 +1,7 @@
 use Rattle.bag_ledger.specs.declared.entries.Entry.TheVariants as enters
 use Rattle.adlb_unit.specs.declared.messages.Message.TheVariants as tells
-use Rattle.server_core.proofs.Prelude.{◌∙◌, None, Out, ServerModel, Some, ap, asked_goes, asked_room, made_as, posted, room_as, to_server, told_home, wish_of, with_answer}
+use Rattle.server_core.proofs.Prelude.{◌∙◌, None, Out, ServerModel, Some, ap, asked_goes, asked_room, made_as, posted, room_as, to_server}
+use Rattle.server_core.proofs.Prelude.{told_home, wish_of, with_answer}
 use Rattle.server_core.proofs.states.ServerState.ask_here.Goals as goal
 
 pub returns-in-Some-clause-made : goal.returns-in-Some-clause-made

@@ -1,4 +1,5 @@
-use Rattle.server_core.proofs.Prelude.{◌==◌, ◌∙◌, Ends_push, Hears_failed, Hears_shutdown, Stops_push, Wants, ack_at, ap, asks_room, false, has_sent, heard_goes, is_push_as, is_running, no_at, refl, ring_at, stays_room, sym, true}
+use Rattle.server_core.proofs.Prelude.{◌==◌, ◌∙◌, Ends_push, Hears_failed, Hears_shutdown, Stops_push, Wants, ack_at, ap, asks_room, false}
+use Rattle.server_core.proofs.Prelude.{has_sent, heard_goes, is_push_as, is_running, no_at, refl, ring_at, stays_room, sym, true}
 use Rattle.server_core.proofs.states.ServerState.follow_server.Goals as goal
 
 pub hear_token-requires-clause-awaited : goal.hear_token-requires-clause-awaited

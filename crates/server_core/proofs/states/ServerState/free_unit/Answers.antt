@@ -1,4 +1,5 @@
-use Rattle.server_core.proofs.Prelude.{◌≡◌, All-contains, HasFree, Placed, UnitFacts, ap, facts_of, free_is, free_there, id_of, none_free, refl}
+use Rattle.server_core.proofs.Prelude.{◌≡◌, All-contains, HasFree, Placed, UnitFacts, ap, facts_of, free_is, free_there, id_of, none_free}
+use Rattle.server_core.proofs.Prelude.{refl}
 use Rattle.server_core.proofs.states.ServerState.free_unit.Goals as goal
 
 pub returns-then-not-is_free : goal.returns-then-not-is_free

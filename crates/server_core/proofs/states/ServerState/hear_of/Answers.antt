@@ -1,4 +1,5 @@
-use Rattle.server_core.proofs.Prelude.{◌∙◌, ◌≡◌, Bool, None, Some, ap, cond, false, hinted_stays, is_idle_since, is_some, parked_at, parked_inside, parked_is, refl, true}
+use Rattle.server_core.proofs.Prelude.{◌∙◌, ◌≡◌, Bool, None, Some, ap, cond, false, hinted_stays, is_idle_since, is_some, parked_at}
+use Rattle.server_core.proofs.Prelude.{parked_inside, parked_is, refl, true}
 use Rattle.server_core.proofs.states.ServerState.hear_of.Goals as goal
 
 pub hint-requires-clause-here : goal.hint-requires-clause-here

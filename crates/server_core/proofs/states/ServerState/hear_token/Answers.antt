@@ -1,4 +1,5 @@
-use Rattle.server_core.proofs.Prelude.{◌∙◌, again_goes, ap, back_goes, comes_again, comes_back, comes_first, comes_last, first_goes, last_goes, number, sym}
+use Rattle.server_core.proofs.Prelude.{◌∙◌, again_goes, ap, back_goes, comes_again, comes_back, comes_first, comes_last, first_goes}
+use Rattle.server_core.proofs.Prelude.{last_goes, number, sym}
 use Rattle.server_core.proofs.states.ServerState.hear_token.Goals as goal
 
 pub test-requires-clause-again : goal.test-requires-clause-again

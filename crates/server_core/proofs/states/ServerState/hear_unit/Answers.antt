@@ -1,5 +1,6 @@
 use Rattle.bag_ledger.specs.declared.entries.Entry.TheVariants as enters
-use Rattle.server_core.proofs.Prelude.{◌≡◌, Out, Queue, arrives_goes, going_on, made, moved, refl, settled_config, settles, state_of, subst, with_entry}
+use Rattle.server_core.proofs.Prelude.{◌≡◌, Out, Queue, arrives_goes, going_on, made, moved, refl, settled_config, settles, state_of, subst}
+use Rattle.server_core.proofs.Prelude.{with_entry}
 use Rattle.server_core.proofs.states.ServerState.hear_unit.Goals as goal
 
 pub arrive-requires-clause-promised : goal.arrive-requires-clause-promised

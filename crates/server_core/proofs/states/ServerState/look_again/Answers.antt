@@ -1,4 +1,5 @@
-use Rattle.server_core.proofs.Prelude.{◌∙◌, ParkedModel, ServerModel, after_none, ap, best_for, entry_of, grants_inside, none_stays, parked_at, parked_is, pending_there, seat_at, step_for, with_grant}
+use Rattle.server_core.proofs.Prelude.{◌∙◌, ParkedModel, ServerModel, after_none, ap, best_for, entry_of, grants_inside, none_stays}
+use Rattle.server_core.proofs.Prelude.{parked_at, parked_is, pending_there, seat_at, step_for, with_grant}
 use Rattle.server_core.proofs.states.ServerState.look_again.Goals as goal
 
 pub remote_none-requires : goal.remote_none-requires

@@ -1,4 +1,5 @@
-use Rattle.server_core.proofs.Prelude.{◌∙◌, ◌∷◌, Outcome, RingModel, [], ap, askers, askers_parked, going_on, is_quiet, marked_check, marks, marks_go, ring_seen, state_of, step_fits, step_room, visited1, visited_inside}
+use Rattle.server_core.proofs.Prelude.{◌∙◌, ◌∷◌, Outcome, RingModel, [], ap, askers, askers_parked, going_on, is_quiet, marked_check, marks}
+use Rattle.server_core.proofs.Prelude.{marks_go, ring_seen, state_of, step_fits, step_room, visited1, visited_inside}
 use Rattle.server_core.proofs.states.ServerState.mark.Goals as goal
 
 pub visit1-step-requires-clause-parked : goal.visit1-step-requires-clause-parked

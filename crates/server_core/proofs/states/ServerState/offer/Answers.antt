@@ -1,4 +1,6 @@
-use Rattle.server_core.proofs.Prelude.{◌∙◌, ◌≡◌, All, All-contains, Option, ParkedModel, Placed, Rank, Some, UnitNote, ap, closes, find, free_is, free_there, given, given_pins, gone_if, gone_if_stays, granted, id_of, is_free_as, option_map, parked_at, parked_is, parked_of, seat_at, seen, taker_of, ℕ}
+use Rattle.server_core.proofs.Prelude.{◌∙◌, ◌≡◌, All, All-contains, Option, ParkedModel, Placed, Rank, Some, UnitNote, ap, closes, find}
+use Rattle.server_core.proofs.Prelude.{free_is, free_there, given, given_pins, gone_if, gone_if_stays, granted, id_of, is_free_as}
+use Rattle.server_core.proofs.Prelude.{option_map, parked_at, parked_is, parked_of, seat_at, seen, taker_of, ℕ}
 use Rattle.server_core.proofs.states.ServerState.offer.Goals as goal
 use Rattle.server_core.proofs.states.ServerState.offer.Goals.{After-offer}
 

@@ -7,13 +7,15 @@ release_granted-requires c = pending_of c.args.self.now c.args.from c.args.rank 
 pub say-requires-clause-actor : goal.say-requires-clause-actor
 say-requires-clause-actor c =
     rw c.release_granted.ensures.made
-    (answered c.args.self.now c.args.out.now c.args.from c.args.rank c.args.request c.release_granted.ensures.sound c.requires.awaited).within
+    (answered c.args.self.now c.args.out.now c.args.from c.args.rank c.args.request c.release_granted.ensures.sound
+    c.requires.awaited).within
 
 pub returns-clause-made : goal.returns-clause-made
 returns-clause-made c q rule =
     made_as c.say.ensures.counted c.say.ensures.told
     ∙ ap (told_passed c.args.rank c.args.request c.args.note c.args.out.now) c.release_granted.ensures.made
-    ∙ (answered c.args.self.now c.args.out.now c.args.from c.args.rank c.args.request c.release_granted.ensures.sound c.requires.awaited).passes
+    ∙ (answered c.args.self.now c.args.out.now c.args.from c.args.rank c.args.request c.release_granted.ensures.sound
+    c.requires.awaited).passes
     c.args.note q rule
 
 pub returns-clause-room : goal.returns-clause-room

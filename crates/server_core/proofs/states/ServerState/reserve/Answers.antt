@@ -1,4 +1,5 @@
-use Rattle.server_core.proofs.Prelude.{◌∙◌, ap, asking, best_for, made_as, new_here, others, reserves, room_as, sought, sought_room, step_for, sym, told_step, waits_by, wish_of}
+use Rattle.server_core.proofs.Prelude.{◌∙◌, ap, asking, best_for, made_as, new_here, others, reserves, room_as, sought, sought_room}
+use Rattle.server_core.proofs.Prelude.{step_for, sym, told_step, waits_by, wish_of}
 use Rattle.server_core.proofs.states.ServerState.reserve.Goals as goal
 
 pub returns-in-Some-clause-made : goal.returns-in-Some-clause-made

@@ -1,4 +1,5 @@
-use Rattle.server_core.proofs.Prelude.{◌∙◌, Option, Placed, ap, free_says, goes_nowhere, going_on, hint_all, is_some, made_as, none_takes, one_takes, room_as, settles_none, sym, told_free, told_note, told_unfree}
+use Rattle.server_core.proofs.Prelude.{◌∙◌, Option, Placed, ap, free_says, goes_nowhere, going_on, hint_all, is_some, made_as, none_takes}
+use Rattle.server_core.proofs.Prelude.{one_takes, room_as, settles_none, sym, told_free, told_note, told_unfree}
 use Rattle.server_core.proofs.states.ServerState.settle.Goals as goal
 
 pub returns-in_default-clause-made : goal.returns-in_default-clause-made

@@ -1,4 +1,6 @@
-use Rattle.server_core.proofs.Prelude.{◌*◌, ◌+◌, ◌∙◌, ◌≡◌, ◌≤◌, All-weaker, Err, Ok, OnOk, Out, Result, ServerModel, Some, acts, ap, arith, at_event, event_letters, false, going_on, is_err, length, made, max, next_stamp, option_map, serve_rule, serves, subst, sym, ticked}
+use Rattle.server_core.proofs.Prelude.{◌*◌, ◌+◌, ◌∙◌, ◌≡◌, ◌≤◌, All-weaker, Err, Ok, OnOk, Out, Result, ServerModel, Some, acts, ap, arith}
+use Rattle.server_core.proofs.Prelude.{at_event, event_letters, false, going_on, is_err, length, made, max, next_stamp, option_map}
+use Rattle.server_core.proofs.Prelude.{serve_rule, serves, subst, sym, ticked}
 use Rattle.server_core.proofs.states.ServerState.step.Goals as goal
 use Rattle.server_core.proofs.states.ServerState.step.Goals.{After-tick}
 

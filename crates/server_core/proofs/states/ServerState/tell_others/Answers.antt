@@ -1,4 +1,5 @@
-use Rattle.server_core.proofs.Prelude.{◌+◌, ◌-◌, ◌<◌, ◌∙◌, Config, ServerModel, ap, arith, behind, counted, room_less, said, said_one, sym, to_server, told_from, told_next, verdict}
+use Rattle.server_core.proofs.Prelude.{◌+◌, ◌-◌, ◌<◌, ◌∙◌, Config, ServerModel, ap, arith, behind, counted, room_less, said, said_one, sym}
+use Rattle.server_core.proofs.Prelude.{to_server, told_from, told_next, verdict}
 use Rattle.server_core.proofs.states.ServerState.tell_others.Goals as goal
 
 pub loop-places-preserved : goal.loop-places-preserved

@@ -1,4 +1,6 @@
-use Rattle.server_core.proofs.Prelude.{◌==◌, ◌∙◌, ◌∷◌, ◌⊎◌, Act, Bool, HasComeBack, IsToTest, Option, Outcome, RingModel, UnitId, [], ap, first_failing, first_fit, going_on, is_quiet, judged_check, ring_at, ring_seen, state_of, step_fits, step_room, subst, sym, tests, tests_go, tests_second, visited2, visited_inside}
+use Rattle.server_core.proofs.Prelude.{◌==◌, ◌∙◌, ◌∷◌, ◌⊎◌, Act, Bool, HasComeBack, IsToTest, Option, Outcome, RingModel, UnitId, [], ap}
+use Rattle.server_core.proofs.Prelude.{first_failing, first_fit, going_on, is_quiet, judged_check, ring_at, ring_seen, state_of, step_fits}
+use Rattle.server_core.proofs.Prelude.{step_room, subst, sym, tests, tests_go, tests_second, visited2, visited_inside}
 use Rattle.server_core.proofs.states.ServerState.test.Goals as goal
 
 pub visit2-step-requires : goal.visit2-step-requires

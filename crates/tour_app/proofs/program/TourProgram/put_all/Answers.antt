@@ -5,7 +5,8 @@ use Rattle.tour_app.specs.Works.{tours}
 use Rattle.tour_app.specs.declared.desk.Desk.{Desk}
 use Rattle.tour_app.proofs.Calling.{so_open}
 use Rattle.tour_app.proofs.Lists.{grows}
-use Rattle.tour_app.proofs.Steps.{Popped, PutBack, accepted_is, ended_so, going_so, rejected_is, rejected_so, replied, stopped_is, stopped_so}
+use Rattle.tour_app.proofs.Steps.{Popped, PutBack, accepted_is, ended_so, going_so, rejected_is, rejected_so, replied, stopped_is}
+use Rattle.tour_app.proofs.Steps.{stopped_so}
 use Rattle.tour_app.proofs.Ways.{put_way, whole_way}
 use Rattle.tour_app.proofs.program.TourProgram.put_all.Goals as goal
 
@@ -95,7 +96,8 @@ returns-in_default-put_back-clause-so_far g c =
     let rest : Desk = record c.puts.desk { waiting = c.pop_front.new.self } in
     let popped : Popped c.in-Some.unit c.puts.desk rest = record { first = c.in-Some.ensures.items; same = refl } in
     whole_way c.args.self.now _ _ _ c.in_ok-put.ensures.kept.whole
-    (stopped_so c.args.self.now _ _ c.puts.desk rest c.in-Some.unit c.in-Ended.field-0 at.0 at.1 (c.puts.invariant.going at.0 at.1 at.2 at.3)
+    (stopped_so c.args.self.now _ _ c.puts.desk rest c.in-Some.unit c.in-Ended.field-0 at.0 at.1
+    (c.puts.invariant.going at.0 at.1 at.2 at.3)
     popped (replied _ _ (put_of tours c.in-Some.unit) _ (replies.Ended c.in-Ended.field-0) c.in_ok-put.ensures.says c.in-Ended.is))
 
 pub returns-in-Ended-clause-told : goal.returns-in-Ended-clause-told
@@ -116,5 +118,6 @@ returns-in-Ended-clause-so_far g c =
     let rest : Desk = record c.puts.desk { waiting = c.pop_front.new.self } in
     let popped : Popped c.in-Some.unit c.puts.desk rest = record { first = c.in-Some.ensures.items; same = refl } in
     whole_way c.args.self.now _ _ _ c.in_ok-put.ensures.kept.whole
-    (stopped_so c.args.self.now _ _ c.puts.desk rest c.in-Some.unit c.in-Ended.field-0 at.0 at.1 (c.puts.invariant.going at.0 at.1 at.2 at.3)
+    (stopped_so c.args.self.now _ _ c.puts.desk rest c.in-Some.unit c.in-Ended.field-0 at.0 at.1
+    (c.puts.invariant.going at.0 at.1 at.2 at.3)
     popped (replied _ _ (put_of tours c.in-Some.unit) _ (replies.Ended c.in-Ended.field-0) c.in_ok-put.ensures.says c.in-Ended.is))

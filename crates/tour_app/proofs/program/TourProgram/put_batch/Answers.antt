@@ -46,7 +46,8 @@ put_all-requires-clause-going g c = (
   [],
   None,
   sym c.as_slice.ensures,
-  refused_is c.args.self.now _ _ c.args.desk.now c.take_over.new.self c.args.common.now (pairs c.args.count) c.requires.going c.requires.none
+  refused_is c.args.self.now _ _ c.args.desk.now c.take_over.new.self c.args.common.now (pairs c.args.count) c.requires.going
+      c.requires.none
       (replied _ _ (BeginBatch c.args.common.now) _ replies.Rejected c.in_ok-begin.ensures.says c.in-Rejected.is)
       (over_units c.bytes-in-Rejected.ensures c.in-Ok.ensures c.in-Ok-take_over.ensures),
 )
@@ -54,7 +55,8 @@ put_all-requires-clause-going g c = (
 pub returns-in-Ok-take_over-clause-told : goal.returns-in-Ok-take_over-clause-told
 returns-in-Ok-take_over-clause-told g c =
     c.put_all.ensures.told None (sym c.as_slice.ensures) []
-    (refused_is c.args.self.now _ _ c.args.desk.now c.take_over.new.self c.args.common.now (pairs c.args.count) c.requires.going c.requires.none
+    (refused_is c.args.self.now _ _ c.args.desk.now c.take_over.new.self c.args.common.now (pairs c.args.count) c.requires.going
+    c.requires.none
     (replied _ _ (BeginBatch c.args.common.now) _ replies.Rejected c.in_ok-begin.ensures.says c.in-Rejected.is)
     (over_units c.bytes-in-Rejected.ensures c.in-Ok.ensures c.in-Ok-take_over.ensures))
 

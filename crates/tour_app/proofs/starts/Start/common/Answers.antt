@@ -26,5 +26,6 @@ returns-clause-few c =
     (c.rows.ensures.rows ∙ ap (λ (m : CitiesModel). m.rows) c.cities-2.ensures) c.order.ensures.order c.new-bytes.ensures.items
     (c.push.ensures.items ∙ ap (λ b. if b then c.new-bytes.result.items ++ c.count.result ∷ [] else c.new-bytes.result.items) ok)
     c.in_ok-append_words.ensures c.in_ok-append.ensures in
-    let short = common_short c.args.self.now (subst (λ (m : CitiesModel). AreCities m) c.cities-2.ensures c.rows.ensures.are) c.order.ensures.tour in
+    let short = common_short c.args.self.now (subst (λ (m : CitiesModel). AreCities m) c.cities-2.ensures c.rows.ensures.are)
+    c.order.ensures.tour in
     if_ok_short 1048576 _ _ (omega (arith, short, ap length is, ap length c.from_vec.ensures)) c.share.ensures

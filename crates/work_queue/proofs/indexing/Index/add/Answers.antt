@@ -3,7 +3,8 @@ use Rattle.work_queue.proofs.Points.{order_added}
 use Rattle.work_queue.proofs.indexing.Index.add.Goals as goal
 
 pub returns-clause-entries : goal.returns-clause-entries
-returns-clause-entries c = rw c.in-Ok.ensures.items (IsPermutation-insert c.args.self.now.entries.items c.place_for-place.result c.args.entry)
+returns-clause-entries c =
+    rw c.in-Ok.ensures.items (IsPermutation-insert c.args.self.now.entries.items c.place_for-place.result c.args.entry)
 
 pub returns-clause-order : goal.returns-clause-order
 returns-clause-order c =

@@ -28,4 +28,5 @@ returns-else-stamp-last c =
     let last = last_read front c.in-Some.last.now (deque_len c.self.inside.front) (omega arith) some c.in-Some.ensures.lookup in
     rw (sym c.self.view_is)
     (stands_behind front c.self.inside.back.items (subst Rises (sym c.self.view_is) c.requires)
-    c.args.stamp c.place_in-else-stamp-last.result c.len-ahead.result (omega arith) (λ d there. let is = last d in omega (arith, is)) c.place_in-else-stamp-last.ensures.place)
+    c.args.stamp c.place_in-else-stamp-last.result c.len-ahead.result (omega arith) (λ d there. let is = last d in omega (arith, is))
+    c.place_in-else-stamp-last.ensures.place)

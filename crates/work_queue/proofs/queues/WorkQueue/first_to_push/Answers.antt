@@ -13,30 +13,43 @@ pub stamped-placed-requires-clause-long : goal.stamped-placed-requires-clause-lo
 stamped-placed-requires-clause-long c = (as_long_as_order c.self.inside c.self.invariant)
 
 pub stamped-placed-requires-clause-known : goal.stamped-placed-requires-clause-known
-stamped-placed-requires-clause-known c = (stamp_known _ c.self.inside.arrivals c.self.inside.index c.self.invariant.indexed c.in-Some.entry (leads_in may_move moves_first c.self.inside.index.entries.items _ c.in-Some.entry c.in-Some.is c.first_to_move.ensures).0)
+stamped-placed-requires-clause-known c =
+    (stamp_known _ c.self.inside.arrivals c.self.inside.index c.self.invariant.indexed c.in-Some.entry
+    (leads_in may_move moves_first c.self.inside.index.entries.items _ c.in-Some.entry c.in-Some.is c.first_to_move.ensures).0)
 
 pub overflow_cast-result : goal.overflow_cast-result
 overflow_cast-result c =
-    let at = unit_of_entry _ c.self.inside.arrivals c.self.inside.index c.self.invariant.indexed c.in-Some.entry (leads_in may_move moves_first c.self.inside.index.entries.items _ c.in-Some.entry c.in-Some.is c.first_to_move.ensures).0 in
+    let at = unit_of_entry _ c.self.inside.arrivals c.self.inside.index c.self.invariant.indexed c.in-Some.entry
+    (leads_in may_move moves_first c.self.inside.index.entries.items _ c.in-Some.entry c.in-Some.is c.first_to_move.ensures).0 in
     let found = leading_unit c.self.inside c.in-Some.entry c.stamped-placed.result.now at c.stamped-placed.ensures in
     let small : IsSmall c.stamped-placed.result.now = rw found (small_at c.self.inside at.place at.unit c.self.invariant at.here) in
     omega (arith, small, c.len.ensures)
 
 pub returns-in-Some-clause-first : goal.returns-in-Some-clause-first
 returns-in-Some-clause-first c =
-    let at = unit_of_entry _ c.self.inside.arrivals c.self.inside.index c.self.invariant.indexed c.in-Some.entry (leads_in may_move moves_first c.self.inside.index.entries.items _ c.in-Some.entry c.in-Some.is c.first_to_move.ensures).0 in
+    let at = unit_of_entry _ c.self.inside.arrivals c.self.inside.index c.self.invariant.indexed c.in-Some.entry
+    (leads_in may_move moves_first c.self.inside.index.entries.items _ c.in-Some.entry c.in-Some.is c.first_to_move.ensures).0 in
     let found = leading_unit c.self.inside c.in-Some.entry c.stamped-placed.result.now at c.stamped-placed.ensures in
     let First : Queue → Type 0 = λ q. IsFirstToPush q.units (told c.stamped-placed.result.now) in
-    rw c.len.ensures (subst First c.self.view_is (rw found (push_leads _ c.self.inside.arrivals c.self.inside.index c.self.invariant.indexed c.in-Some.entry (leads_in may_move moves_first c.self.inside.index.entries.items _ c.in-Some.entry c.in-Some.is c.first_to_move.ensures) at)))
+    rw c.len.ensures
+    (subst First c.self.view_is
+    (rw found
+    (push_leads _ c.self.inside.arrivals c.self.inside.index c.self.invariant.indexed c.in-Some.entry
+    (leads_in may_move moves_first c.self.inside.index.entries.items _ c.in-Some.entry c.in-Some.is c.first_to_move.ensures) at)))
 
 pub returns-in-Some-clause-some : goal.returns-in-Some-clause-some
-returns-in-Some-clause-some c = (λ _. push_movable c.args.self.now.units (c.stamped-placed.result.now.unit.id, c.len.result) (returns-in-Some-clause-first c), λ _. refl)
+returns-in-Some-clause-some c = (
+  λ _. push_movable c.args.self.now.units (c.stamped-placed.result.now.unit.id, c.len.result) (returns-in-Some-clause-first c),
+  λ _. refl,
+)
 
 pub returns-in-Some-clause-free : goal.returns-in-Some-clause-free
-returns-in-Some-clause-free c = free_from_push c.args.self.now.units (c.stamped-placed.result.now.unit.id, c.len.result) (returns-in-Some-clause-first c)
+returns-in-Some-clause-free c =
+    free_from_push c.args.self.now.units (c.stamped-placed.result.now.unit.id, c.len.result) (returns-in-Some-clause-first c)
 
 pub returns-in-Some-clause-fold : goal.returns-in-Some-clause-fold
-returns-in-Some-clause-fold c = sym ((push_walk c.args.self.now.units (c.stamped-placed.result.now.unit.id, c.len.result)).1 (returns-in-Some-clause-first c))
+returns-in-Some-clause-fold c =
+    sym ((push_walk c.args.self.now.units (c.stamped-placed.result.now.unit.id, c.len.result)).1 (returns-in-Some-clause-first c))
 
 none_left : (c : goal.In-None) → Any IsMovable c.args.self.now.units → ⊥
 none_left c some =

@@ -19,17 +19,23 @@ there w q id view has =
 
 pub at-key-requires : goal.at-key-requires
 at-key-requires c =
-    let inside = place_in_order c.self.inside c.args.id c.place_of-place.result c.self.invariant (there c.self.inside c.args.self.now c.args.id c.self.view_is c.requires) (placed c.self.inside c.args.id c.place_of-place.result c.self.invariant c.place_of-place.ensures) in
+    let inside = place_in_order c.self.inside c.args.id c.place_of-place.result c.self.invariant
+    (there c.self.inside c.args.self.now c.args.id c.self.view_is c.requires)
+    (placed c.self.inside c.args.id c.place_of-place.result c.self.invariant c.place_of-place.ensures) in
     omega (arith, inside)
 
 pub pin_at-requires-clause-small : goal.pin_at-requires-clause-small
 pin_at-requires-clause-small c =
-    let h = found_at c.self.inside c.args.id c.place_of-place.result c.at-key.result c.self.invariant (there c.self.inside c.args.self.now c.args.id c.self.view_is c.requires) (placed c.self.inside c.args.id c.place_of-place.result c.self.invariant c.place_of-place.ensures) c.at-key.ensures in
+    let h = found_at c.self.inside c.args.id c.place_of-place.result c.at-key.result c.self.invariant
+    (there c.self.inside c.args.self.now c.args.id c.self.view_is c.requires)
+    (placed c.self.inside c.args.id c.place_of-place.result c.self.invariant c.place_of-place.ensures) c.at-key.ensures in
     rw h.1.found (small_found c.self.inside _ _ h.0 c.args.id c.self.invariant h.1)
 
 pub invariant_of-self : goal.invariant_of-self
 invariant_of-self c =
-    let h = found_at c.self.inside c.args.id c.place_of-place.result c.at-key.result c.self.invariant (there c.self.inside c.args.self.now c.args.id c.self.view_is c.requires) (placed c.self.inside c.args.id c.place_of-place.result c.self.invariant c.place_of-place.ensures) c.at-key.ensures in
+    let h = found_at c.self.inside c.args.id c.place_of-place.result c.at-key.result c.self.invariant
+    (there c.self.inside c.args.self.now c.args.id c.self.view_is c.requires)
+    (placed c.self.inside c.args.id c.place_of-place.result c.self.invariant c.place_of-place.ensures) c.at-key.ensures in
     let Free : Queue → Type 0 = λ q. HasFree c.args.id q.units in
     let free = free_found c.self.inside _ _ h.0 c.args.id c.self.invariant h.1 (subst Free (sym c.self.view_is) c.requires) in
     let is = entry_is c.self.inside _ _ h.0 c.args.id c.self.invariant h.1 _ _ (c.entry_under-entry.ensures h.0 h.1.found) c.at.ensures in
@@ -41,18 +47,27 @@ invariant_of-self c =
       fewer = c.leave.ensures.entries_len;
       same = c.leave.ensures.entries_same;
     } in
-    rw (c.pin_at.ensures.pinned h.0 h.1.found) (sound_pinned c.self.inside _ _ h.0 c.args.id c.args.rank c.leave.new.self c.self.invariant h.1 free leaves)
+    rw (c.pin_at.ensures.pinned h.0 h.1.found)
+    (sound_pinned c.self.inside _ _ h.0 c.args.id c.args.rank c.leave.new.self c.self.invariant h.1 free leaves)
 
 pub returns-clause-pinned : goal.returns-clause-pinned
 returns-clause-pinned c =
-    let h = found_at c.self.inside c.args.id c.place_of-place.result c.at-key.result c.self.invariant (there c.self.inside c.args.self.now c.args.id c.self.view_is c.requires) (placed c.self.inside c.args.id c.place_of-place.result c.self.invariant c.place_of-place.ensures) c.at-key.ensures in
-    rw (c.pin_at.ensures.pinned h.0 h.1.found) (view_pinned c.self.inside _ _ h.0 c.args.id c.args.rank c.leave.new.self c.self.invariant h.1 ∙ ap (λ q. with_pin q c.args.id c.args.rank) c.self.view_is)
+    let h = found_at c.self.inside c.args.id c.place_of-place.result c.at-key.result c.self.invariant
+    (there c.self.inside c.args.self.now c.args.id c.self.view_is c.requires)
+    (placed c.self.inside c.args.id c.place_of-place.result c.self.invariant c.place_of-place.ensures) c.at-key.ensures in
+    rw (c.pin_at.ensures.pinned h.0 h.1.found)
+    (view_pinned c.self.inside _ _ h.0 c.args.id c.args.rank c.leave.new.self c.self.invariant h.1
+    ∙ ap (λ q. with_pin q c.args.id c.args.rank) c.self.view_is)
 
 pub returns-clause-facts : goal.returns-clause-facts
 returns-clause-facts c =
-    let h = found_at c.self.inside c.args.id c.place_of-place.result c.at-key.result c.self.invariant (there c.self.inside c.args.self.now c.args.id c.self.view_is c.requires) (placed c.self.inside c.args.id c.place_of-place.result c.self.invariant c.place_of-place.ensures) c.at-key.ensures in
+    let h = found_at c.self.inside c.args.id c.place_of-place.result c.at-key.result c.self.invariant
+    (there c.self.inside c.args.self.now c.args.id c.self.view_is c.requires)
+    (placed c.self.inside c.args.id c.place_of-place.result c.self.invariant c.place_of-place.ensures) c.at-key.ensures in
     let Told : Queue → Type 0 = λ q. All (λ p. id_of p ≡ c.args.id → c.pin_at.result ≡ facts_of p) q.units in
-    subst Told c.self.view_is (λ k d within same. rw (only_found c.self.inside _ _ h.0 c.args.id c.self.invariant h.1 k d within same) (c.pin_at.ensures.facts h.0 h.1.found))
+    subst Told c.self.view_is
+    (λ k d within same. rw (only_found c.self.inside _ _ h.0 c.args.id c.self.invariant h.1 k d within same)
+    (c.pin_at.ensures.facts h.0 h.1.found))
 
 pub returns-clause-held : goal.returns-clause-held
 returns-clause-held c =
@@ -61,13 +76,17 @@ returns-clause-held c =
 
 pub at-requires : goal.at-requires
 at-requires c =
-    let h = found_at c.self.inside c.args.id c.place_of-place.result c.at-key.result c.self.invariant (there c.self.inside c.args.self.now c.args.id c.self.view_is c.requires) (placed c.self.inside c.args.id c.place_of-place.result c.self.invariant c.place_of-place.ensures) c.at-key.ensures in
+    let h = found_at c.self.inside c.args.id c.place_of-place.result c.at-key.result c.self.invariant
+    (there c.self.inside c.args.self.now c.args.id c.self.view_is c.requires)
+    (placed c.self.inside c.args.id c.place_of-place.result c.self.invariant c.place_of-place.ensures) c.at-key.ensures in
     let within = stamp_within c.self.inside _ _ h.0 c.args.id c.self.invariant h.1 in
     omega (arith, within)
 
 pub leave-requires-clause-there : goal.leave-requires-clause-there
 leave-requires-clause-there c =
-    let h = found_at c.self.inside c.args.id c.place_of-place.result c.at-key.result c.self.invariant (there c.self.inside c.args.self.now c.args.id c.self.view_is c.requires) (placed c.self.inside c.args.id c.place_of-place.result c.self.invariant c.place_of-place.ensures) c.at-key.ensures in
+    let h = found_at c.self.inside c.args.id c.place_of-place.result c.at-key.result c.self.invariant
+    (there c.self.inside c.args.self.now c.args.id c.self.view_is c.requires)
+    (placed c.self.inside c.args.id c.place_of-place.result c.self.invariant c.place_of-place.ensures) c.at-key.ensures in
     let Free : Queue → Type 0 = λ q. HasFree c.args.id q.units in
     let free = free_found c.self.inside _ _ h.0 c.args.id c.self.invariant h.1 (subst Free (sym c.self.view_is) c.requires) in
     let is = entry_is c.self.inside _ _ h.0 c.args.id c.self.invariant h.1 _ _ (c.entry_under-entry.ensures h.0 h.1.found) c.at.ensures in
@@ -75,10 +94,14 @@ leave-requires-clause-there c =
 
 pub pin_at-requires-clause-there : goal.pin_at-requires-clause-there
 pin_at-requires-clause-there c =
-    let h = found_at c.self.inside c.args.id c.place_of-place.result c.at-key.result c.self.invariant (there c.self.inside c.args.self.now c.args.id c.self.view_is c.requires) (placed c.self.inside c.args.id c.place_of-place.result c.self.invariant c.place_of-place.ensures) c.at-key.ensures in
+    let h = found_at c.self.inside c.args.id c.place_of-place.result c.at-key.result c.self.invariant
+    (there c.self.inside c.args.self.now c.args.id c.self.view_is c.requires)
+    (placed c.self.inside c.args.id c.place_of-place.result c.self.invariant c.place_of-place.ensures) c.at-key.ensures in
     rw h.1.found refl
 
 pub entry_under-entry-requires : goal.entry_under-entry-requires
 entry_under-entry-requires c =
-    let h = found_at c.self.inside c.args.id c.place_of-place.result c.at-key.result c.self.invariant (there c.self.inside c.args.self.now c.args.id c.self.view_is c.requires) (placed c.self.inside c.args.id c.place_of-place.result c.self.invariant c.place_of-place.ensures) c.at-key.ensures in
+    let h = found_at c.self.inside c.args.id c.place_of-place.result c.at-key.result c.self.invariant
+    (there c.self.inside c.args.self.now c.args.id c.self.view_is c.requires)
+    (placed c.self.inside c.args.id c.place_of-place.result c.self.invariant c.place_of-place.ensures) c.at-key.ensures in
     rw h.1.found refl

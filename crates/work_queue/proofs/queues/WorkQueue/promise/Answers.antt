@@ -19,13 +19,29 @@ invariant_of-self-2 c =
     let long : length c.add.new.self ≡ length w.rooms + 1 = ap (λ l. length l) added ∙ length-append w.rooms (room ∷ []) in
     let slots : HasRoomFor c.make_room-grown.new.slots (c.len-more.result + 1) = search rules in
     let keys : length c.make_room-grown.new.order.items + (c.len-more.result + 1) ≤ c.make_room-grown.new.order.capacity = search rules in
-    let entries : deque_len c.make_room-grown.new.index.entries + (c.len-more.result + 1) ≤ deque_capacity c.make_room-grown.new.index.entries = search rules in
-    let stamps : length c.make_room-grown.new.index.stamps.items + (c.len-more.result + 1) ≤ c.make_room-grown.new.index.stamps.capacity = search rules in
+    let entries : deque_len c.make_room-grown.new.index.entries + (c.len-more.result + 1)
+    ≤ deque_capacity c.make_room-grown.new.index.entries = search rules in
+    let stamps : length c.make_room-grown.new.index.stamps.items + (c.len-more.result + 1) ≤ c.make_room-grown.new.index.stamps.capacity =
+    search rules in
     let names : c.len-more.result + 1 ≤ spare_in c.make_room-grown.new.names = search rules in
     sound_rooms w _ c.self.invariant
-    (record { slots = c.make_room-grown.ensures.slots; items = c.make_room-grown.ensures.items; entries = c.make_room-grown.ensures.entries; stamps = c.make_room-grown.ensures.stamps; names = c.make_room-grown.ensures.names; arrivals = refl; slots_room = omega arith; order_room = omega arith; entries_room = omega arith; stamps_room = omega arith; names_room = omega arith })
+    (record {
+      slots = c.make_room-grown.ensures.slots;
+      items = c.make_room-grown.ensures.items;
+      entries = c.make_room-grown.ensures.entries;
+      stamps = c.make_room-grown.ensures.stamps;
+      names = c.make_room-grown.ensures.names;
+      arrivals = refl;
+      slots_room = omega arith;
+      order_room = omega arith;
+      entries_room = omega arith;
+      stamps_room = omega arith;
+      names_room = omega arith;
+    })
     (rw added (once_more w.rooms c.args.id c.args.n c.self.invariant.once (subst Unpromised (sym c.self.view_is) c.requires.unpromised)))
-    (rw added (apart_more (units_at w.slots w.order.items) w.rooms c.args.id c.args.n c.self.invariant.apart (subst New (sym c.self.view_is) c.requires.new)))
+    (rw added
+    (apart_more (units_at w.slots w.order.items) w.rooms c.args.id c.args.n c.self.invariant.apart
+    (subst New (sym c.self.view_is) c.requires.new)))
     (rw added (omega (arith, sum_by_push promised w.rooms room)))
     (omega arith)
 
