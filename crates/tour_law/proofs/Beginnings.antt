@@ -207,16 +207,21 @@ greater_stays (x ∷ p) rest (y ∷ known) e before =
       ]
     ]
 
+-- the bound of a beginning by its last city
+pub bound_is : (n : ℕ) (c : Costs) (out : ℕ → ℕ) (p : List ℕ) (left : ℕ) → left + sum_by out p ≡ sum_below n out → (a : ℕ) (q : List ℕ) →
+    p ≡ 0 ∷ a ∷ q → bound n c out a q ≡ path_cost c p + out (last_of p) + left
+bound_is n c out p left rest a q is =
+    let l : last_of p ≡ end_of a q = ap last_of is ∙ last_at a q in
+    let o : out (last_of p) ≡ out (end_of a q) = ap out l in
+    let w : path_cost c p ≡ c 0 a + path c a q = ap (path_cost c) is in
+    let m : sum_by out p ≡ sum_by out (0 ∷ a ∷ q) = ap (sum_by out) is in
+    omega (arith, o, w, m, rest)
+
 module _ (n : ℕ) (c : Costs) (out : ℕ → ℕ) (some : 0 < n) (ways : IsWayOut n c out) (p known : List ℕ) (left : ℕ)
     (is : IsBeginning n p) (rest : left + sum_by out p ≡ sum_below n out)
   where
     its_bound : (s : HasShape p) → bound n c out s.a s.q ≡ path_cost c p + out (last_of p) + left
-    its_bound s =
-        let l : last_of p ≡ end_of s.a s.q = ap last_of s.is ∙ last_at s.a s.q in
-        let o : out (last_of p) ≡ out (end_of s.a s.q) = ap out l in
-        let w : path_cost c p ≡ c 0 s.a + path c s.a s.q = ap (path_cost c) s.is in
-        let m : sum_by out p ≡ sum_by out (0 ∷ s.a ∷ s.q) = ap (sum_by out) s.is in
-        omega (arith, o, w, m, rest)
+    its_bound s = bound_is n c out p left rest s.a s.q s.is
 
     pub cut_above : cost c known < path_cost c p + out (last_of p) + left → (tour : List ℕ) → IsTour n tour → Continues p tour
         → IsAsGood c known tour

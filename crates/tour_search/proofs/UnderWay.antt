@@ -1,6 +1,6 @@
 -- A search under way.
 use Rattle.std.proofs.Common.{◌≡◌, ◌<◌, ◌≤◌, ◌+◌, ◌-◌, ◌==◌, ◌&&◌, ◌||◌, ◌⊎◌, inl, inr, ℕ, Bool, true, false, List, [], ◌∷◌, ◌++◌, length}
-use Rattle.std.proofs.Common.{take, Vec, Global, refl, sym, ap, ◌∙◌, subst, arith, append_assoc}
+use Rattle.std.proofs.Common.{get_or, take, Vec, Global, refl, sym, ap, ◌∙◌, subst, arith, append_assoc}
 use Rattle.std.specs.Prelude.{nat_lt, sum_by, vec_capacity}
 use Rattle.std.specs.List.{list_any}
 use Rattle.std.proofs.Math.Dec.{eqb}
@@ -9,11 +9,12 @@ use Rattle.std.specs.Ordering.{nat_cmp, is_gt}
 use Rattle.std.specs.declared.cmp.Ordering.{Ordering}
 use Rattle.std.specs.declared.cmp.Ordering.TheVariants.{Less, Equal, Greater}
 use Rattle.std.proofs.lemmas.Bool.{ltb-true, eqb-true, eq-eqb, ne_eqb, cases_eq}
+use Rattle.std.proofs.lemmas.List.{get_or_default}
 use Rattle.std.proofs.lemmas.List.Sums.{sum_by-append}
 use Rattle.tour_law.specs.Tours.{Costs, IsTour, cost}
-use Rattle.tour_law.specs.Search.{IsAsGood, IsWayOut, is_better, sum_below}
+use Rattle.tour_law.specs.Search.{IsAsGood, IsWayOut, bound, is_better, sum_below}
 use Rattle.tour_law.specs.Beginnings.{Continues, IsBeginning, path_cost}
-use Rattle.tour_law.proofs.Beginnings.{cut_above, cut_tie, last_of, left_enough, longer, next, path_cost-more}
+use Rattle.tour_law.proofs.Beginnings.{bound_is, cut_above, cut_tie, last_of, left_enough, longer, next, path_cost-more, shape}
 use Rattle.tour_law.proofs.Once.{times, times-other, times-same, tour-once}
 use Rattle.tour_law.proofs.Orders.{good_itself, good_of_better, good_of_not, good_on}
 use Rattle.tour_search.specs.Cities.{CitiesModel, IsKnown, beats, costs, cuts, out_of}
@@ -29,6 +30,27 @@ pub record IsSearched (cities : CitiesModel) (beginning : Vec ℕ Global) (known
   pub from : (best.cities.items ≡ known.cities.items) ⊎ Continues beginning.items best.cities.items
   pub tried : (x : ℕ) → x < city → (tour : List ℕ) → IsTour cities.count tour → Continues (beginning.items ++ x ∷ []) tour →
       IsAsGood (costs cities) best.cities.items tour
+
+-- The bound.
+
+-- the last city of the beginning
+pub last_is : (p : List ℕ) (len last : ℕ) → 2 ≤ length p → len ≡ length p → last ≡ get_or p (len - 1) last → last ≡ last_of p
+last_is p len last long e is =
+    let below : len - 1 < length p = omega arith in
+    is ∙ get_or_default p (len - 1) last 0 below ∙ ap (λ k. get_or p (k - 1) 0) e
+
+-- what is told of the bound, by the last city
+pub bound_told : (n : ℕ) (c : Costs) (ways p seen : List ℕ) (spent left told : ℕ) → length ways ≡ n → seen ≡ p → IsBeginning n p →
+    spent ≡ path_cost c p → left + sum_by (out_of ways) p ≡ sum_below n (out_of ways) →
+    ((k : Costs) (a : ℕ) (q : List ℕ) → seen ≡ 0 ∷ a ∷ q → spent ≡ path_cost k seen →
+    left + sum_by (out_of ways) seen ≡ sum_below (length ways) (out_of ways) → told ≡ bound (length ways) k (out_of ways) a q) →
+    told ≡ path_cost c p + out_of ways (last_of p) + left
+bound_told n c ways p seen spent left told many same is its rest tells =
+    let s = shape n p is in
+    let r : left + sum_by (out_of ways) seen ≡ sum_below (length ways) (out_of ways) =
+    ap (λ l. left + sum_by (out_of ways) l) same ∙ rest ∙ ap (λ m. sum_below m (out_of ways)) (sym many) in
+    tells c s.a s.q (same ∙ s.is) (its ∙ ap (path_cost c) (sym same)) r ∙ ap (λ m. bound m c (out_of ways) s.a s.q) many
+    ∙ bound_is n c (out_of ways) p left rest s.a s.q s.is
 
 -- Cutting.
 

@@ -1,8 +1,8 @@
 //! Branch and bound over the tours that begin in a given way.
 
 ghost use Rattle.std.specs.Prelude.{◌≡◌, ◌⊎◌, ◌≤◌, ◌<◌, ◌+◌, ◌*◌, ◌∷◌, [], ℕ, List, length, All, sum_by, vec_capacity, true, false, count_by, ◌==◌};
-ghost use Rattle.tour_law.specs.Tours.{IsTour};
-ghost use Rattle.tour_law.specs.Search.{IsAsGood, IsWayOut, sum_below};
+ghost use Rattle.tour_law.specs.Tours.{Costs, IsTour};
+ghost use Rattle.tour_law.specs.Search.{IsAsGood, IsWayOut, bound, sum_below};
 ghost use Rattle.tour_law.specs.Beginnings.{Continues, IsBeginning, path_cost};
 ghost use Rattle.tour_search.specs.Cities.{IsKnown, beats, costs, cuts, out_of};
 
@@ -41,7 +41,7 @@ pub(crate) fn branch(
     let count = cities.count();
     let depth = beginning.len();
     let last = beginning[depth - 1];
-    let bound = spent + ways_out[last as usize] + left;
+    let bound = bound_of(ways_out, beginning, spent, left);
     if is_cut(bound, beginning, best) {
         return;
     }
@@ -58,6 +58,21 @@ pub(crate) fn branch(
             beginning.truncate(depth);
         }
     }
+}
+
+// The bound of a beginning (`bound`): what it costs, and the ways out of its last city and of the cities that are not yet visited.
+fn bound_of(ways_out: &[u64], beginning: &[u8], spent: u64, left: u64) -> u64
+    requires begins { IsBeginning (length ways_out.now) beginning.now }
+    requires count { length ways_out.now ≤ 12 }
+    requires low { All (λ x. x ≤ 1000000) ways_out.now }
+    requires few { spent ≤ 1000000 * length beginning.now }
+    requires little { left ≤ 12000000 }
+    ensures { (c : Costs) (a : ℕ) (q : List ℕ) → beginning.now ≡ 0 ∷ a ∷ q → spent ≡ path_cost c beginning.now →
+        left + sum_by (out_of ways_out.now) beginning.now ≡ sum_below (length ways_out.now) (out_of ways_out.now) →
+        result ≡ bound (length ways_out.now) c (out_of ways_out.now) a q }
+{
+    let last = beginning[beginning.len() - 1];
+    spent + ways_out[last as usize] + left
 }
 
 // The city stands in the beginning.

@@ -37,7 +37,8 @@ impl Cities {
 
     /// Equal cities. Its only error is `NoMemory`.
     pub fn twin(&self, alloc: Global) -> Result<Cities, NoMemory>
-        ensures { IfOk result (λ cities. cities ≡ self.now) }
+        ensures same { IfOk result (λ cities. cities ≡ self.now) }
+        ensures are { IfOk result AreCities }
     {
         let costs = or_no_memory(Vec::from_slice(alloc, &self.costs))?;
         Ok(Cities {

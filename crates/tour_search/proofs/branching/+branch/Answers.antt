@@ -1,51 +1,26 @@
-use Rattle.std.proofs.Common.{rules, arith, ◌≡◌, ◌≤◌, ◌<◌, ◌+◌, ◌*◌, ◌∷◌, [], ℕ, List, length, get_or, take, All, true, false, ◌-◌, Bool}
-use Rattle.std.proofs.Common.{nat_eq, nat_lt, ◌++◌, refl, sym, ap, ◌∙◌, subst, Vec, Global, inl, inr, ◌⊎◌, ◌==◌, count_by, append-nil}
+use Rattle.std.proofs.Common.{rules, arith, ◌≡◌, ◌≤◌, ◌<◌, ◌+◌, ◌∷◌, [], ℕ, length, take, true, false, ◌-◌}
+use Rattle.std.proofs.Common.{◌++◌, refl, sym, ap, ◌∙◌, subst, Vec, Global, inl, inr, ◌⊎◌, ◌==◌, count_by, append-nil}
 use Rattle.std.proofs.lemmas.Bool.{cases_eq}
-use Rattle.std.proofs.lemmas.List.{get_or_default, length_push, take_at}
-use Rattle.std.proofs.lemmas.List.Elements.{All-get_or}
-use Rattle.tour_law.specs.Tours.{IsTour, cost}
+use Rattle.std.proofs.lemmas.List.{length_push, take_at}
+use Rattle.tour_law.specs.Tours.{cost}
 use Rattle.tour_law.specs.Search.{IsAsGood}
 use Rattle.tour_law.specs.Beginnings.{Continues, path_cost}
-use Rattle.tour_law.proofs.Beginnings.{cost-full, full, last_below, last_of, left_enough, longer, path_cost-more, short, whole}
+use Rattle.tour_law.proofs.Beginnings.{cost-full, full, short, whole}
 use Rattle.tour_law.proofs.Once.{tour-long}
-use Rattle.tour_law.proofs.Orders.{good_itself, good_on}
-use Rattle.tour_search.specs.Cities.{IsKnown, costs, out_of}
+use Rattle.tour_law.proofs.Orders.{good_itself}
+use Rattle.tour_search.specs.Cities.{IsKnown, costs}
 use Rattle.tour_search.specs.declared.tours.Tour.{Tour}
 use Rattle.std.specs.Prelude.{vec_capacity}
-use Rattle.tour_search.proofs.UnderWay.{IsSearched, all_tried, cut_searches, is_next, kept_better, left_at, new_at, none_again, old_at}
-use Rattle.tour_search.proofs.UnderWay.{one_more}
+use Rattle.tour_search.proofs.UnderWay.{IsSearched, all_tried, bound_told, cut_searches, is_next, kept_better, last_is, left_at, new_at}
+use Rattle.tour_search.proofs.UnderWay.{none_again, old_at, one_more}
 use Rattle.tour_search.proofs.branching.+branch.Goals as goal
 use Rattle.tour_search.proofs.branching.+branch.Goals.{then-not-is_visited, else-not-is_visited}
-
--- the last city of the beginning
-last_is : (p : List ℕ) (len last : ℕ) → 2 ≤ length p → len ≡ length p → last ≡ get_or p (len - 1) last → last ≡ last_of p
-last_is p len last long e is =
-    let below : len - 1 < length p = omega arith in
-    is ∙ get_or_default p (len - 1) last 0 below ∙ ap (λ k. get_or p (k - 1) 0) e
-
-pub overflow_add-bound : goal.overflow_add-bound
-overflow_add-bound t c =
-    let p = c.args.beginning.now.items in
-    let few = short c.args.cities.now.count p c.requires.begins in
-    let e = last_is p c.len-depth.result c.index-last.result.now c.requires.begins.long (omega arith) c.index-last.ensures in
-    let below = last_below c.args.cities.now.count p c.requires.begins in
-    let low = All-get_or (λ x. x ≤ 1000000) c.args.ways_out.now c.index-last.result.now 0 (omega arith) c.requires.low in
-    omega (arith, few, low)
-
-pub overflow_add-bound-2 : goal.overflow_add-bound-2
-overflow_add-bound-2 t c =
-    let p = c.args.beginning.now.items in
-    let few = short c.args.cities.now.count p c.requires.begins in
-    let e = last_is p c.len-depth.result c.index-last.result.now c.requires.begins.long (omega arith) c.index-last.ensures in
-    let below = last_below c.args.cities.now.count p c.requires.begins in
-    let low = All-get_or (λ x. x ≤ 1000000) c.args.ways_out.now c.index-last.result.now 0 (omega arith) c.requires.low in
-    omega (arith, few, low)
 
 pub is_cut-requires : goal.is_cut-requires
 is_cut-requires t c =
     let few = short c.args.cities.now.count c.args.beginning.now.items c.requires.begins in
     let long = tour-long c.args.cities.now.count c.args.best.now.cities.items c.requires.known.tour in
-    let e = ap length c.deref.ensures.value in
+    let e = ap length c.deref-2.ensures.value in
     omega (arith, few, long, e)
 
 pub returns-then-is_cut-clause-good : goal.returns-then-is_cut-clause-good
@@ -54,13 +29,13 @@ returns-then-is_cut-clause-good t c = good_itself (costs c.args.cities.now) c.ar
 pub returns-then-is_cut-clause-searched : goal.returns-then-is_cut-clause-searched
 returns-then-is_cut-clause-searched t c =
     let p = c.args.beginning.now.items in
-    let e = last_is p c.len-depth.result c.index-last.result.now c.requires.begins.long (omega arith) c.index-last.ensures in
-    let cut = rw c.deref.ensures.value at (sym c.is_cut.ensures ∙ c.if-is_cut.true) in
+    let cut = rw c.deref-2.ensures.value at (sym c.is_cut.ensures ∙ c.if-is_cut.true) in
+    let its_bound =
+    bound_told c.args.cities.now.count (costs c.args.cities.now) c.args.ways_out.now p c.deref.result.now c.args.spent c.args.left
+    c.bound_of-bound.result c.requires.count c.deref.ensures.value c.requires.begins c.requires.spent c.requires.left
+    c.bound_of-bound.ensures in
     cut_searches c.args.cities.now.count (costs c.args.cities.now) c.args.ways_out.now p c.args.best.now.cities.items c.args.best.now.cost
-    (c.args.spent + get_or c.args.ways_out.now c.index-last.result.now 0 + c.args.left) c.args.left (omega arith) c.requires.ways
-    c.requires.begins c.requires.left c.requires.known.cost
-    (ap (λ s. s + get_or c.args.ways_out.now c.index-last.result.now 0 + c.args.left) c.requires.spent
-    ∙ ap (λ k. path_cost (costs c.args.cities.now) p + get_or c.args.ways_out.now k 0 + c.args.left) e) cut
+    c.bound_of-bound.result c.args.left (omega arith) c.requires.ways c.requires.begins c.requires.left c.requires.known.cost its_bound cut
 
 pub keep_better-requires : goal.keep_better-requires
 keep_better-requires t c =
