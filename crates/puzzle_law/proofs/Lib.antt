@@ -1,13 +1,13 @@
 mod Calls
 mod Orderly
-mod Sums
+pub mod Sums
 mod Counting
-mod Pieces
+pub mod Pieces
 mod Flow
 mod Ranks
-mod Weights
-mod Trees
-mod First
+pub mod Weights
+pub mod Trees
+pub mod First
 mod Answered
 mod Held
 mod Whole

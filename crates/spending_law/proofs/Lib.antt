@@ -1,0 +1,5 @@
+pub mod Waiting
+pub mod Spending
+pub mod Worths
+pub mod Together
+mod Worked
