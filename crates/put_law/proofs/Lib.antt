@@ -1,2 +1,2 @@
-mod Changes
-mod Entering
+pub mod Changes
+pub mod Entering
