@@ -104,17 +104,10 @@ refused_fetch : (note : UnitNote) (batches : List (List Job)) (bytes : List ℕ)
 refused_fetch note [] bytes = refl
 refused_fetch note (jobs ∷ batches) bytes = refl
 
-arrival_unit : (common : List ℕ) (x : Made) → (arrival common x).unit ≡ x
-arrival_unit common (made.Board b) = refl
-arrival_unit common (made.Solution s) = refl
-arrival_unit common (made.Job j) = refl
-arrival_unit common (made.Answer a) = refl
-
 came_more : (came : List Arrival) (common : List ℕ) (x : Made) →
     came_calls (came ++ arrival common x ∷ []) ≡ came_calls came ++ put_of x ∷ []
 came_more came common x =
     map-append (λ (a : Arrival). put_of a.unit) came (arrival common x ∷ [])
-    ∙ ap (λ u. came_calls came ++ put_of u ∷ []) (arrival_unit common x)
 
 came_over : (common : List ℕ) (jobs : List Job) → came_calls (over_bytes common jobs) ≡ calls_of (as_units jobs)
 came_over common [] = refl

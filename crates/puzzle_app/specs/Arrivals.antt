@@ -5,16 +5,20 @@ use Rattle.sudoku_law.specs.Grid.{Cells}
 use Rattle.job_units.specs.declared.units.Made.{Made}
 use Rattle.job_units.specs.declared.units.Made.TheVariants as made
 use Rattle.job_units.specs.Works.{answer_of, made_by, walk_of}
+use Rattle.work_law.specs.Work.{Arrival as Came}
 
 -- a unit that came to a rank: fetched, or made by it and taken by no server; and the common bytes over which a job is worked
-pub record Arrival : Type 0 where
-  pub unit : Made
-  pub common : List ℕ
+abbrev pub Arrival : Type 0
+Arrival = Came Made
 
--- over these common bytes, which are of use for a job alone
+-- common bytes are of use for a job alone
+abbrev pub common_for : Made → List ℕ → List ℕ
+common_for (made.Job j) common = common
+common_for unit common = []
+
+-- over these common bytes
 abbrev pub arrival : List ℕ → Made → Arrival
-arrival common (made.Job j) = record { unit = made.Job j; common = common }
-arrival common unit = record { unit = unit; common = [] }
+arrival common unit = record { unit = unit; common = common_for unit common }
 
 -- the common bytes of a batch, if one is going on
 abbrev pub bytes_on : Option (List ℕ) → List ℕ

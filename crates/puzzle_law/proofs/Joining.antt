@@ -12,7 +12,7 @@ use Rattle.puzzle_app.specs.declared.outcomes.Settings.{Settings}
 use Rattle.job_report.specs.Jobs.{puzzles}
 use Rattle.job_report.specs.Whole.{AreWhole}
 use Rattle.puzzle_law.specs.Joined.{IsPuzzleRun}
-use Rattle.puzzle_law.proofs.Orderly.{run_is_orderly}
+use Rattle.puzzle_law.proofs.Ranks.{run_is_orderly}
 use Rattle.puzzle_law.proofs.Whole.{run_is_whole}
 use Rattle.sudoku_rules.specs.Sides.{IsSudoku}
 
@@ -29,7 +29,7 @@ pub joined_whole : Conserves →
     IsPuzzleRun config ledger settings jobs outcomes → AreWhole settings.budget settings.grain jobs outcomes
 joined_whole conserves config ledger last settings jobs outcomes some legal grids run =
     let balanced : IsBalanced config ledger last =
-    conserves config ledger last some legal (run_is_orderly config ledger settings jobs outcomes run) in
+    conserves config ledger last some legal (run_is_orderly config ledger settings jobs outcomes run some) in
     run_is_whole config ledger last settings jobs outcomes some balanced grids run
 
 -- in a run of puzzle programs each accepted unit was fetched
@@ -39,7 +39,7 @@ pub joined_spent : Conserves →
     All (λ u. u.place ≡ Spent) last.units
 joined_spent conserves config ledger last settings jobs outcomes some legal run =
     let balanced : IsBalanced config ledger last =
-    conserves config ledger last some legal (run_is_orderly config ledger settings jobs outcomes run) in
+    conserves config ledger last some legal (run_is_orderly config ledger settings jobs outcomes run some) in
     balanced.spent
 
 -- in a run of puzzle programs each common part was freed
@@ -49,5 +49,5 @@ pub joined_freed : Conserves →
     All (λ p. (p.closed ≡ true) × (p.freed ≡ true)) last.parts
 joined_freed conserves config ledger last settings jobs outcomes some legal run =
     let balanced : IsBalanced config ledger last =
-    conserves config ledger last some legal (run_is_orderly config ledger settings jobs outcomes run) in
+    conserves config ledger last some legal (run_is_orderly config ledger settings jobs outcomes run some) in
     balanced.freed

@@ -1,9 +1,7 @@
-mod Calls
-mod Orderly
 pub mod Sums
 mod Counting
 pub mod Pieces
-mod Flow
+mod Workers
 mod Ranks
 pub mod Weights
 pub mod Trees

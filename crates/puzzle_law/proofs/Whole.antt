@@ -118,7 +118,7 @@ pub run_is_whole : (config : Config) (ledger : List Entry) (last : Bag) (setting
     IsPuzzleRun config ledger settings jobs outcomes → AreWhole settings.budget settings.grain jobs outcomes
 run_is_whole config ledger last settings jobs outcomes some balanced grids run =
     let are : AreTogether settings.budget settings.grain jobs outcomes =
-    run_together config ledger last settings jobs outcomes balanced run some in
+    run_together config ledger settings jobs outcomes run some last balanced in
     record {
       held = all_held settings.budget settings.grain jobs outcomes are grids;
       boards_made = boards_total settings.budget settings.grain jobs outcomes are;
