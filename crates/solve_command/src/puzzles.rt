@@ -1,6 +1,6 @@
 //! Runs over puzzles and batches, as a command.
 
-ghost use Rattle.std.specs.Prelude.{◌≡◌, ◌≤◌, ◌<◌, ◌^◌, IfOk, IfErr, length};
+ghost use Rattle.std.specs.Prelude.{◌≡◌, ◌≤◌, ◌<◌, ◌^◌, [], IfOk, OnOk, IfErr, length, vec_capacity};
 ghost use Rattle.run_command.specs.Reading.{RefusesBy};
 ghost use Rattle.solve_command.specs.Puzzles.{AreJobs, ArePrograms, RefusesLine};
 ghost use Rattle.solve_command.specs.Told.{IsTold};
@@ -116,11 +116,29 @@ fn programs_of(
     ensures all { IfOk result (λ programs. length programs.items ≡ ranks) }
     ensures programs { IfOk result (λ programs. ArePrograms settings asked.now programs.items) }
 {
-    let jobs = asked.jobs().twin()?;
     let mut programs = or_no_memory(Vec::with_capacity(alloc, ranks as usize))?;
+    fill(alloc, &mut programs, settings, ranks, asked)?;
+    Ok(programs)
+}
+
+// Adds the programs of the ranks to none. Its only error is `NoMemory`.
+fn fill(
+    alloc: Global,
+    programs: &mut Vec<PuzzleProgram>,
+    settings: Settings,
+    ranks: u32,
+    asked: &PuzzleJobs,
+) -> Result<(), NoMemory>
+    requires some { 0 < ranks }
+    requires none { programs.old.items ≡ [] }
+    requires room { ranks ≤ vec_capacity programs.old }
+    ensures all { OnOk result (length programs.new.items ≡ ranks) }
+    ensures programs { OnOk result (ArePrograms settings asked.now programs.new.items) }
+{
+    let jobs = asked.jobs().twin()?;
     programs.push_reserved(PuzzleProgram::new(alloc, settings, Some(jobs)));
     for _rank in 1..ranks {
         programs.push_reserved(PuzzleProgram::new(alloc, settings, None));
     }
-    Ok(programs)
+    Ok(())
 }

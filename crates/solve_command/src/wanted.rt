@@ -68,22 +68,22 @@ fn summary_of(
         IfOk result (λ text. IsSummed settings count seed jobs.now report.now text.items) }
 {
     let summary = summarize(alloc, jobs, &report.outcomes)?;
-    let mut text = line_of_drill(alloc, count, seed)?;
-    or_no_memory(text.extend_from_slice(&summary))?;
+    let mut text = Vec::new(alloc);
+    append_summary(&mut text, count, seed, &summary)?;
     Ok(text)
 }
 
-// The first line of the summary. Its only error is `NoMemory`.
-fn line_of_drill(alloc: Global, count: u32, seed: u64) -> Result<Vec<u8>, NoMemory>
-    ensures { IfOk result (λ line. line.items ≡ drill_line count seed) }
+// Appends the first line of the summary, and then the rest of it. Its only error is `NoMemory`.
+fn append_summary(text: &mut Vec<u8>, count: u32, seed: u64, summary: &[u8]) -> Result<(), NoMemory>
+    ensures { OnOk result (text.new.items ≡ text.old.items ++ drill_line count seed ++ summary.now) }
 {
-    let mut line = Vec::new(alloc);
-    append(&mut line, b"drill ")?;
-    append(&mut line, Buffer::new().format(count).as_bytes())?;
-    append(&mut line, b" ")?;
-    append(&mut line, Buffer::new().format(seed).as_bytes())?;
-    append(&mut line, b"\n")?;
-    Ok(line)
+    let mut digits = Buffer::new();
+    append(text, b"drill ")?;
+    append(text, digits.format(count).as_bytes())?;
+    append(text, b" ")?;
+    append(text, digits.format(seed).as_bytes())?;
+    append(text, b"\n")?;
+    append(text, summary)
 }
 
 // Appends the piece. Its only error is `NoMemory`.

@@ -4,9 +4,7 @@ use Rattle.run_command.proofs.Running.{ran_inline, ran_threads}
 use Rattle.run_command.proofs.runs.run.Goals as goal
 
 pub returns-then-inline-clause-ends : goal.returns-then-inline-clause-ends
-returns-then-inline-clause-ends g c =
-    c.run_inline.ensures.ends (g.T.Spawner.faults c.args.threads.now) (g.T.Spawner.starts c.args.threads.now)
-    (g.T.Spawner.faults c.args.threads.now) (g.T.Spawner.starts c.args.threads.now)
+returns-then-inline-clause-ends g c = c.run_inline.ensures.ends _ _ _ _
 
 pub returns-then-inline-clause-ran : goal.returns-then-inline-clause-ran
 returns-then-inline-clause-ran g c =

@@ -1,6 +1,6 @@
 use Rattle.std.proofs.Common.{◌≡◌, ◌≤◌, vec_len, vec_capacity}
 use Rattle.solve_command.specs.Puzzles.{ArePrograms}
-use Rattle.solve_command.proofs.puzzles.programs_of.Given as goal
+use Rattle.solve_command.proofs.puzzles.fill.Given as goal
 
 abbrev pub invariant-loop-rank : goal.invariant-loop-rank
 invariant-loop-rank l = record {
