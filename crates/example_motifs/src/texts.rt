@@ -1,24 +1,36 @@
 //! A text, some motifs, and how often one stands in a text.
 
+ghost use Rattle.std.specs.Prelude.{◌≡◌};
+ghost use Rattle.example_motifs.specs.Texts.{places, times};
+
 /// The text that is looked through.
 pub const TEXT: &[u8] =
     b"the ranks put units, the servers keep the units, and the ranks get the units that the ranks put";
 
 /// The motifs that are looked for.
-pub const MOTIFS: [&str; 7] = ["the", "rank", "unit", "that", "e", " ", "zebra"];
+pub const MOTIFS: &[&[u8]] = &[b"the", b"rank", b"unit", b"that", b"e", b" ", b"zebra"];
 
-/// How often the motif of this number stands in the text, up to 255 times.
-pub fn count(text: &[u8], number: u8) -> u8 {
-    let Some(motif) = MOTIFS.get(number as usize) else {
-        return 0;
-    };
-    let mut found = 0u8;
-    if !motif.is_empty() {
-        for window in text.windows(motif.len()) {
-            if window == motif.as_bytes() {
-                found = found.saturating_add(1);
-            }
+/// How often the motif of this number stands in the text, up to 255 times. A motif that is not there never does.
+pub fn times(motifs: &[&[u8]], text: &[u8], number: u8) -> u8
+    ensures { result ≡ times motifs.now text.now number }
+{
+    match motifs.get(number as usize) {
+        Some(motif) => places(motif, text).min(255) as u8,
+        None => 0,
+    }
+}
+
+// At how many places of the text the motif begins.
+fn places(motif: &[u8], text: &[u8]) -> usize
+    ensures { result ≡ places motif.now text.now }
+{
+    let mut found = 0;
+    let mut rest = text;
+    while let Some((_, after)) = rest.split_first() {
+        if rest.starts_with(motif) {
+            found += 1;
         }
+        rest = after;
     }
     found
 }
