@@ -1,0 +1,10 @@
+use Rattle.std.proofs.Common.{◌≡◌, ◌≤◌, vec_len, vec_capacity}
+use Rattle.tour_command.specs.Tours.{ArePrograms}
+use Rattle.tour_command.proofs.tours.programs_of.Given as goal
+
+abbrev pub invariant-loop-rank : goal.invariant-loop-rank
+invariant-loop-rank l = record {
+  many : vec_len l.programs ≡ l._rank;
+  room : l.ranks ≤ vec_capacity l.programs;
+  are : ArePrograms l.cities l.programs.items;
+}
