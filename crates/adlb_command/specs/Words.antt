@@ -14,6 +14,10 @@ settings_of options = record { budget = options.budget; grain = options.grain }
 abbrev pub extras_of : SolveWords → Extras
 extras_of words = record { stats = words.stats; ledger = words.ledger }
 
+-- these options, but that the run's progress is said or not
+abbrev pub told_or_not : Bool → RunOptions → RunOptions
+told_or_not told options = record options { progress = told }
+
 -- the numbers of a run: ranks, servers and their limit as the sizes say, but one rank and one server in line
 pub record IsConfigOf (sizes : Sizes) (inline : Bool) (config : Config) : Type 0 where
   pub ranks : config.ranks ≡ (if inline then 1 else sizes.ranks)

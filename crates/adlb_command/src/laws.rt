@@ -1,6 +1,6 @@
 //! What follows from how a command ends.
 
-ghost use Rattle.std.specs.Prelude.{◌≡◌, ◌⊎◌, ◌≤◌, ◌<◌, ◌+◌, ℕ, List, Option, Some, None, length};
+ghost use Rattle.std.specs.Prelude.{◌≡◌, ◌⊎◌, ◌≤◌, ◌<◌, ◌+◌, ℕ, Bool, List, Option, Some, None, length};
 ghost use Rattle.adlb_io.specs.Outside.{Rises};
 ghost use Rattle.adlb_unit.specs.declared.configs.Config.{Config};
 ghost use Rattle.bag_ledger.specs.declared.entries.Entry.{Entry};
@@ -17,6 +17,7 @@ ghost use Rattle.adlb_command.specs.declared.ends.LineWhy.{LineWhy};
 ghost use Rattle.adlb_command.specs.declared.ends.RunFault.{RunFault};
 ghost use Rattle.adlb_command.specs.Ends.{IsFine, why_of};
 ghost use Rattle.adlb_command.specs.Top.{EndsAs};
+ghost use Rattle.adlb_command.specs.Words.{told_or_not};
 
 use ledger_file::text_laws;
 use made_jobs::made_laws;
@@ -24,6 +25,8 @@ use made_law::made_is_accepted;
 
 /// What follows from how a command ended (`EndsAs`). It ends with `Usage` only if the words say none (`usage`), and if they say none, with
 /// that or `Memory` (`unsaid`).
+///
+/// It ends in the same ways whether or not its progress is to be said (`told`, `drill_told`).
 ///
 /// What follows of a source that tells its bytes, if no read failed. `solve`: an accepted input is answered, if no write failed and no
 /// start was refused either (`complete`), a refused one is refused at its first such line (`refused`), and one that is too long is told as
@@ -48,6 +51,12 @@ pub fn end_laws()
     ensures overlong { (words : SolveWords) (before after : Scene) (fault : Option RunFault) (kept : Option AnyKept) (bytes : List ℕ) →
         EndsAs (Some (Command.Solve words)) before after fault kept → before.left ≡ Some bytes → (Rises before.reads after.reads → ⊥) →
         input_limit < length bytes → (fault ≡ Some (RunFault.TooLarge (input_limit + 1))) ⊎ (fault ≡ Some RunFault.Memory) }
+    ensures told { (words : SolveWords) (told : Bool) (before after : Scene) (fault : Option RunFault) (kept : Option AnyKept) →
+        EndsAs (Some (Command.Solve words)) before after fault kept →
+        EndsAs (Some (Command.Solve (record words { options = told_or_not told words.options }))) before after fault kept }
+    ensures drill_told { (count seed : ℕ) (options : RunOptions) (told : Bool) (before after : Scene) (fault : Option RunFault) (kept : Option AnyKept) →
+        EndsAs (Some (Command.Drill count seed options)) before after fault kept →
+        EndsAs (Some (Command.Drill count seed (told_or_not told options))) before after fault kept }
     ensures checked { (before after : Scene) (fault : Option RunFault) (kept : Option AnyKept) (bytes : List ℕ) →
         EndsAs (Some Command.Check) before after fault kept → before.left ≡ Some bytes → (Rises before.reads after.reads → ⊥) →
         (config : Config) (ledger : List Entry) → length bytes ≤ ledger_limit → IsText config ledger bytes →

@@ -11,7 +11,7 @@ const USAGE: &[&str] = &[
     "N is 0 to 100000, SEED 0 to 2^64 - 1. Options, each once at most, as --ranks 4 or --ranks=4:",
     "--ranks 1 to 32, or 4        --servers 1 to 8, or 2       --limit 64 to 2^30 bytes a server, or 2^26",
     "--budget 1 to 2^32 nodes a puzzle, or 2^24                --grain 1 to 2^32 nodes a unit, or 2^16",
-    "--inline: one rank and one server, and no thread",
+    "--inline: one rank and one server, and no thread          --progress: how far it is, each second; not in line",
     "--stats: counts of the run behind the report              --ledger: all that happened, behind the report",
     "draw                                    write a picture, an SVG, of the ledger whose text standard input is",
 ];

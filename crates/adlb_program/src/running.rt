@@ -5,18 +5,22 @@ ghost use Rattle.adlb_command.specs.Ends.{status_of};
 ghost use Rattle.adlb_command.specs.declared.ends.RunFault.{RunFault};
 
 use crate::complaints::Complaint;
+use crate::telling::{Telling, end};
 use crate::words::words_of;
 use adlb_command::{RunEnd, RunFault, run_adlb};
-use adlb_io::{FreeGate, Sink, Source, Spawner};
+use adlb_io::{Sink, Source, Spawner};
 use ledger_rules::Complaint as Illegal;
 use std::alloc::Global;
 use std::env::Env;
+use std::sync::Wait;
+use std::time::Clock;
 
 /// Carries out the command that the words of the command line say (`run_adlb`), complains on standard error of the fault, if there is
-/// one, and answers the exit status, which is that of a fault or of none.
+/// one, and answers the exit status, which is that of a fault or of none. If the words ask for that, it says on standard error how far
+/// the run is, each second while it goes on.
 pub fn run_program<R, S, K, T>(rt: &R, input: &mut S, output: &mut K, threads: &mut T) -> u8
 where
-    R: Env + AllocGlobal + Eprint,
+    R: Env + AllocGlobal + Eprint + Clock + Wait + Send + Copy + 'static,
     S: Source,
     K: Sink,
     T: Spawner,
@@ -24,18 +28,32 @@ where
 {
     match words_of(rt) {
         Ok(words) => {
-            let end = run_adlb(
-                rt.alloc(),
-                words.as_slice(),
-                input,
-                output,
-                threads,
-                FreeGate {},
-            );
+            let end = run_told(rt, words.as_slice(), input, output, threads);
             answer(rt, words.as_slice(), end)
         }
         Err(fault) => answer(rt, &[], RunEnd::new(Some(fault))),
     }
+}
+
+// Carries out the command that the words say, and says meanwhile how far its run is, if they ask for that.
+fn run_told<R, S, K, T>(
+    rt: &R,
+    words: &[String],
+    input: &mut S,
+    output: &mut K,
+    threads: &mut T,
+) -> RunEnd
+where
+    R: AllocGlobal + Eprint + Clock + Wait + Send + Copy + 'static,
+    S: Source,
+    K: Sink,
+    T: Spawner,
+    ensures { result.status ≡ status_of result.fault }
+{
+    let Telling { gate, thread } = Telling::begin(rt, words, &*threads);
+    let ended = run_adlb(rt.alloc(), words, input, output, threads, gate);
+    end(thread, &*threads);
+    ended
 }
 
 // The exit status of this end, after what is to be said of it.

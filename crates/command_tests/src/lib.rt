@@ -10,6 +10,8 @@ mod faults;
 #[cfg(test)]
 mod inline;
 #[cfg(test)]
+mod progress;
+#[cfg(test)]
 mod rows;
 #[cfg(test)]
 mod runs;

@@ -106,7 +106,7 @@ const COMMANDS: &str = "\n\
     \x20 N is 0 to 100000, SEED 0 to 2^64 - 1. Options, each once at most, as --ranks 4 or --ranks=4:\n\
     \x20 --ranks 1 to 32, or 4        --servers 1 to 8, or 2       --limit 64 to 2^30 bytes a server, or 2^26\n\
     \x20 --budget 1 to 2^32 nodes a puzzle, or 2^24                --grain 1 to 2^32 nodes a unit, or 2^16\n\
-    \x20 --inline: one rank and one server, and no thread\n\
+    \x20 --inline: one rank and one server, and no thread          --progress: how far it is, each second; not in line\n\
     \x20 --stats: counts of the run behind the report              --ledger: all that happened, behind the report\n\
     \x20 draw                                    write a picture, an SVG, of the ledger whose text standard input is\n";
 

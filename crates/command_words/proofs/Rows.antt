@@ -82,6 +82,11 @@ between : command_of (codes "drill" ∷ codes "+3" ∷ codes "--budget" ∷ code
 unfolding clap_on_literals
 between = refl
 
+told : command_of (codes "drill" ∷ codes "3" ∷ codes "4" ∷ codes "--progress" ∷ [])
+    ≡ Some (Drill 3 4 (record default_run { progress = true }))
+unfolding clap_on_literals
+told = refl
+
 draw : command_of (codes "draw" ∷ []) ≡ Some Draw
 unfolding clap_on_literals
 draw = refl

@@ -53,7 +53,9 @@ with_work a = with_rule
 
 -- a command that takes the options of a run as well
 abbrev pub with_run : App → App
-with_run a = with_rule (with_work (with_sizes a)) (flag_rule (codes "inline"))
+with_run a = with_rule
+    (with_rule (with_work (with_sizes a)) (flag_rule (codes "inline")))
+    (flag_rule (codes "progress"))
 
 abbrev pub solve_app : App
 solve_app = with_rule

@@ -1,5 +1,5 @@
 -- Which command lines are accepted, and what they say.
-use Rattle.std.specs.Prelude.{ℕ, Bool, List, [], ◌∷◌, Option, Some, None, codes, false, ⊤, if◌then◌else◌}
+use Rattle.std.specs.Prelude.{ℕ, Bool, List, [], ◌∷◌, ◌&&◌, Option, Some, None, codes, false, not, ⊤, if◌then◌else◌}
 use Rattle.std.specs.Option.{option_map_or}
 use Rattle.std.specs.Str.{bytes_eq}
 use Rattle.std.specs.Str.Parse.{digits_value, without_leading_plus}
@@ -35,6 +35,7 @@ run_of rows = record {
   budget = number_of (codes "budget") budgets.default rows;
   grain = number_of (codes "grain") grains.default rows;
   inline = flag_of (codes "inline") rows;
+  progress = flag_of (codes "progress") rows;
 }
 
 -- where no option is given
@@ -83,6 +84,15 @@ command_of (word ∷ words) =
     else (if bytes_eq word (codes "drill") then read_by drill_app drill_of words
     else (if bytes_eq word (codes "draw") then read_by draw_app draw_of words
     else None))))
+
+-- a run in threads tells each second how far it is
+abbrev pub run_tells : RunOptions → Bool
+run_tells run = run.progress && not run.inline
+
+abbrev pub tells_progress : Command → Bool
+tells_progress (Solve words) = run_tells words.options
+tells_progress (Drill count seed run) = run_tells run
+tells_progress _ = false
 
 -- the numbers of a run are within their limits
 pub record AreWithin (sizes : Sizes) : Type 0 where

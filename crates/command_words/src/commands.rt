@@ -26,6 +26,8 @@ pub struct RunOptions {
     pub grain: u64,
     /// The run has one rank and one server, whatever its sizes say, and no thread.
     pub inline: bool,
+    /// A run in threads tells each second how far it is.
+    pub progress: bool,
 }
 
 /// What `solve` is told.
@@ -58,6 +60,21 @@ pub enum Command {
     },
     /// Draw a ledger's text.
     Draw,
+}
+
+impl Command {
+    ghost use Rattle.command_words.specs.Said.{tells_progress};
+
+    /// Whether its run tells each second how far it is (`tells_progress`): its words ask for that, and it has threads.
+    pub fn tells_progress(&self) -> bool
+        ensures { result ≡ tells_progress self.now }
+    {
+        match self {
+            Command::Solve(words) => words.options.progress && !words.options.inline,
+            Command::Drill { options, .. } => options.progress && !options.inline,
+            Command::Check | Command::Make { .. } | Command::Draw => false,
+        }
+    }
 }
 
 /// Why the words give no command.

@@ -113,7 +113,7 @@ fn with_run<'a>(alloc: Global, command: Command<'a>) -> Result<Command<'a>, Allo
     ensures { IfOk result (λ c. app_of c ≡ with_run (app_of command.entry)) }
 {
     let command = with_work(alloc, with_sizes(alloc, command)?)?;
-    with_flag(alloc, command, "inline")
+    with_flag(alloc, with_flag(alloc, command, "inline")?, "progress")
 }
 
 /// `solve` (`solve_app`).

@@ -73,6 +73,7 @@ fn run_of(matches: &ArgMatches<'_>) -> RunOptions
         budget: number_of(matches, "budget", 1 << 24),
         grain: number_of(matches, "grain", 1 << 16),
         inline: flag_of(matches, "inline"),
+        progress: flag_of(matches, "progress"),
     }
 }
 

@@ -39,6 +39,12 @@ returns-clause-overlong c = λ words before after fault kept bytes ends told no_
     (IsReported (settings_of words.options) (behind (extras_of words))) before after ends.met ends.own bytes ends.ended.ends
     told no_read long)
 
+pub returns-clause-told : goal.returns-clause-told
+returns-clause-told c = λ words told before after fault kept ends. ends
+
+pub returns-clause-drill_told : goal.returns-clause-drill_told
+returns-clause-drill_told c = λ count seed options told before after fault kept ends. ends
+
 pub returns-clause-checked : goal.returns-clause-checked
 returns-clause-checked c = λ before after fault kept bytes ends told no_read config ledger short text no_write.
     text_checked before after fault kept bytes ends told no_read c.text_laws.ensures.no_text
