@@ -40,7 +40,7 @@ impl Teller {
         })
     }
 
-    /// Stops the telling of all twins.
+    /// Stops it and its twins.
     pub fn stop(&self) {
         self.stopped.store(1, Ordering::SeqCst);
         self.stopped.wake_all();
@@ -61,8 +61,8 @@ impl Teller {
         }
     }
 
-    // Says a line if a second has passed since the last one, or since ranks were first seen to run; answers the time from which the
-    // next second counts, if ranks run.
+    // Says a line if a second has passed since the last one, or since ranks were first seen to run. Answers from when the next second
+    // counts, if ranks run.
     fn look<R: Clock + Eprint>(
         &self,
         rt: &R,
