@@ -10,10 +10,8 @@ use std::thread::{JoinHandle, Threads};
 use std::time::{Clock, Duration, Instant};
 use std::{io, thread};
 
-/// From one look at the clock to the next.
-const LOOK: Duration = Duration::from_millis(50);
-
-const SECOND: Duration = Duration::from_secs(1);
+/// The milliseconds from one look at the clock to the next.
+const LOOK: u64 = 50;
 
 /// Says on standard error how far a run is, each second while its ranks run. Twins of a teller stop together.
 #[derive(Drop)]
@@ -50,7 +48,7 @@ impl Teller {
     pub fn tell<R: Wait + Clock + Eprint>(&self, rt: &R) {
         let mut last = None;
         for _ in rt.forever() {
-            self.stopped.park_timeout(rt, 0, LOOK);
+            self.stopped.park_timeout(rt, 0, Duration::from_millis(LOOK));
             if self.stopped.load(Ordering::SeqCst) != 0 {
                 return;
             }
@@ -76,12 +74,12 @@ impl Teller {
         let Some(last) = last else {
             return Ok(Some(now));
         };
-        let passed = now.duration_since(last);
-        if passed < SECOND {
+        let seconds = now.duration_since(last).as_secs();
+        if seconds == 0 {
             return Ok(Some(last));
         }
         eprintln!(rt; "adlbrun: {counts}")?;
-        Ok(last.checked_add(Duration::from_secs(passed.as_secs())))
+        Ok(last.checked_add(Duration::from_secs(seconds)))
     }
 }
 
