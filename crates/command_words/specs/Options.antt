@@ -51,11 +51,13 @@ with_work a = with_rule
     (with_rule a (option_rule (codes "budget") budgets.low budgets.high))
     (option_rule (codes "grain") grains.low grains.high)
 
+-- a command that takes as well whether its run is in line, and whether it says how far it is
+abbrev pub with_manner : App → App
+with_manner a = with_rule (with_rule a (flag_rule (codes "inline"))) (flag_rule (codes "progress"))
+
 -- a command that takes the options of a run as well
 abbrev pub with_run : App → App
-with_run a = with_rule
-    (with_rule (with_work (with_sizes a)) (flag_rule (codes "inline")))
-    (flag_rule (codes "progress"))
+with_run a = with_manner (with_work (with_sizes a))
 
 abbrev pub solve_app : App
 solve_app = with_rule

@@ -3,7 +3,7 @@
 ghost use Rattle.std.specs.Prelude.{◌≡◌, IfOk, false};
 ghost use Rattle.clap.specs.Words.{app_of, rule_of, with_rule};
 ghost use Rattle.command_words.specs.Options.{bare, check_app, draw_app, drill_app, flag_rule, make_app, number_rule};
-ghost use Rattle.command_words.specs.Options.{option_rule, solve_app, with_made, with_run, with_sizes, with_work};
+ghost use Rattle.command_words.specs.Options.{option_rule, solve_app, with_made, with_manner, with_run, with_sizes, with_work};
 
 use clap::builder::ValueParser;
 use clap::{Arg, ArgAction, Command};
@@ -109,11 +109,18 @@ fn with_work<'a>(alloc: Global, command: Command<'a>) -> Result<Command<'a>, All
     with_option(alloc, command, "grain", 1, 1 << 32)
 }
 
+fn with_manner<'a>(alloc: Global, command: Command<'a>) -> Result<Command<'a>, AllocError>
+    ensures { IfOk result (λ c. app_of c ≡ with_manner (app_of command.entry)) }
+{
+    let command = with_flag(alloc, command, "inline")?;
+    with_flag(alloc, command, "progress")
+}
+
 fn with_run<'a>(alloc: Global, command: Command<'a>) -> Result<Command<'a>, AllocError>
     ensures { IfOk result (λ c. app_of c ≡ with_run (app_of command.entry)) }
 {
     let command = with_work(alloc, with_sizes(alloc, command)?)?;
-    with_flag(alloc, with_flag(alloc, command, "inline")?, "progress")
+    with_manner(alloc, command)
 }
 
 /// `solve` (`solve_app`).
