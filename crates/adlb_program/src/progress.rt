@@ -150,9 +150,11 @@ pub struct Progress {
 impl Progress {
     /// The progress of a run that has not begun. Its only error is `NoMemory`.
     pub fn new(alloc: Global) -> Result<Progress, NoMemory> {
-        let mut marks = or_no_memory(Vec::with_capacity(alloc, RANKS))?;
+        let mut marks = Vec::new(alloc);
         for _ in 0..RANKS {
-            marks.push_reserved(Marks::new());
+            if marks.push(Marks::new()).is_err() {
+                return Err(NoMemory);
+            }
         }
         let gates = AtomicU64::new(0);
         match Arc::new(alloc, Table { marks, gates }) {

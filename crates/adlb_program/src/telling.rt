@@ -48,7 +48,8 @@ impl Teller {
     pub fn tell<R: Wait + Clock + Eprint>(&self, rt: &R) {
         let mut last = None;
         for _ in rt.forever() {
-            self.stopped.park_timeout(rt, 0, Duration::from_millis(LOOK));
+            self.stopped
+                .park_timeout(rt, 0, Duration::from_millis(LOOK));
             if self.stopped.load(Ordering::SeqCst) != 0 {
                 return;
             }
