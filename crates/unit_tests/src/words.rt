@@ -5,7 +5,7 @@ use std::alloc::Global;
 use std::test::Fail;
 
 /// Each list of words, with blanks between, and what it says: the command, N and SEED, then ranks, servers, limit, budget,
-/// grain and inline, then stats and ledger. It says nothing if it is refused.
+/// grain and inline, then whether progress is told, then stats and ledger. It says nothing if it is refused.
 const ROWS: &[(&str, &str)] = &[
     (
         "solve",
@@ -40,6 +40,10 @@ const ROWS: &[(&str, &str)] = &[
         "solve 4 2 67108864 16777216 65536 true false false",
     ),
     (
+        "solve --progress",
+        "solve 4 2 67108864 16777216 65536 false progress false false",
+    ),
+    (
         "solve --stats",
         "solve 4 2 67108864 16777216 65536 false true false",
     ),
@@ -70,6 +74,10 @@ const ROWS: &[(&str, &str)] = &[
     (
         "drill --ranks 2 8 1",
         "drill 8 1 2 2 67108864 16777216 65536 false",
+    ),
+    (
+        "drill --inline 8 1 --progress",
+        "drill 8 1 4 2 67108864 16777216 65536 true progress",
     ),
     ("", ""),
     ("frob", ""),
@@ -109,6 +117,8 @@ const ROWS: &[(&str, &str)] = &[
     ("solve --version", ""),
     ("check file", ""),
     ("check --stats", ""),
+    ("check --progress", ""),
+    ("solve --progress --progress", ""),
     ("make", ""),
     ("make 8", ""),
     ("make 8 1 2", ""),
@@ -126,13 +136,15 @@ fn run_shown(alloc: Global, run: RunOptions) -> Result<String, Fail> {
         budget,
         grain,
         inline,
+        progress,
     } = run;
     let Sizes {
         ranks,
         servers,
         limit,
     } = sizes;
-    Ok(format!(in alloc; "{ranks} {servers} {limit} {budget} {grain} {inline}")?)
+    let told = if progress { " progress" } else { "" };
+    Ok(format!(in alloc; "{ranks} {servers} {limit} {budget} {grain} {inline}{told}")?)
 }
 
 fn shown(alloc: Global, command: Command) -> Result<String, Fail> {
