@@ -170,7 +170,7 @@ const TOLD: &[(u64, &str)] = &[
 ];
 
 // What a teller says of the run while the clock is looked at `most` times is this text.
-fn tells<R: Wait + AllocGlobal>(
+fn tells<R: Wait + AllocGlobal + Drop>(
     rt: R,
     progress: &Progress,
     most: u64,
