@@ -6,7 +6,7 @@ use adlb_unit::{
     Actor, AskedList, BatchId, Config, Letter, Message, Payload, Rank, Server, Target, Token,
     Types, Unit, UnitId, UnitNote, Why, WorkType,
 };
-use server_core::{LeftUnit, ServerState, Step};
+use server_core::{LeftUnit, ServerState, Spare, Step};
 use std::alloc::Global;
 use std::process::Abort;
 use std::test::Fail;
@@ -267,7 +267,7 @@ fn step(alloc: Global, server: &mut ServerState, from: Actor, says: Says) -> Res
     if !server.expects(from, &letter) {
         return Err("not expected".into());
     }
-    Ok(server.step(from, letter)?)
+    Ok(server.step(Spare::new(alloc), from, letter)?)
 }
 
 fn hears(alloc: Global, server: &mut ServerState, from: Actor, says: Says) -> Result<String, Fail> {

@@ -1,5 +1,5 @@
 -- Letters are sent, and entries entered, one by one.
-use Rattle.std.proofs.Common.{◌≡◌, ℕ, List, [], ◌∷◌, ◌++◌, length, refl, sym, arith, append-nil, append_assoc}
+use Rattle.std.proofs.Common.{◌≡◌, ℕ, List, [], ◌∷◌, ◌++◌, refl, sym, append-nil, append_assoc}
 use Rattle.adlb_unit.specs.Links.{place_of}
 use Rattle.adlb_unit.specs.declared.configs.Config.{Config}
 use Rattle.adlb_unit.specs.declared.letters.Sending.{Sending}
@@ -16,10 +16,6 @@ pub post_one : (config : Config) (links : Links) (from : ℕ) (x : Sending) (sen
     ≡ post config (put_link links from (place_of config x.to) (link links from (place_of config x.to) ++ x.letter ∷ [])) from sends
 unfolding post
 post_one config links from x sends = refl
-
-pub none_left : {X : Type 0} (xs : List X) → length xs ≡ 0 → xs ≡ []
-none_left [] none = refl
-none_left (x ∷ xs) none = absurd (omega (arith, none))
 
 -- nothing was entered
 pub between_none : (before entries : List Entry) → IsBetween before before (before ++ entries)

@@ -182,16 +182,16 @@ impl Links {
         Ok(())
     }
 
-    // Appends the letters that the actor of this place sends to their lists, in order.
+    // Appends the letters that the actor of this place sends to their lists, in order, and takes them off their own.
     pub(crate) fn post(
         &mut self,
         config: &Config,
         from: usize,
-        sends: Vec<Sending>,
+        sends: &mut Vec<Sending>,
     ) -> Result<(), NoMemory>
-        ensures { OnOk result (self.new ≡ post config.now self.old from sends.items) }
+        ensures { OnOk result (self.new ≡ post config.now self.old from sends.old.items) }
     {
-        for sending in sends {
+        for sending in sends.drain(..) {
             let Sending { to, letter } = sending;
             self.push(from, place_of(config, to), letter)?;
         }

@@ -15,7 +15,7 @@ use core_run::Event;
 use ghost_list::Trace;
 use packed_ledger::Ledger;
 use rank_client::ClientCore;
-use server_core::ServerState;
+use server_core::{ServerState, Spare};
 use std::alloc::Global;
 use std::marker::Model;
 
@@ -27,6 +27,8 @@ pub(crate) struct Stage {
     pub(crate) servers: Vec<ServerState>,
     pub(crate) links: Links,
     pub(crate) ledger: Ledger,
+    // The lists of what a server's step gave last.
+    pub(crate) spare: Spare,
 }
 
 impl Model for Stage {
@@ -54,6 +56,7 @@ impl Stage {
             servers: servers(alloc, config)?,
             links: Links::new(alloc, actors)?,
             ledger: Ledger::new(alloc),
+            spare: Spare::new(alloc),
         })
     }
 

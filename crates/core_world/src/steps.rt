@@ -166,8 +166,9 @@ impl Stage {
         ensures cause { IfErr result (Causes (next_stamp (pool_of self.old server) letter)) }
         ensures failed { IfErr result (λ trouble. (s : ServerModel) × (self.new ≡ with_server self.old server s)) }
     {
+        let spare = self.spare.lend();
         let server = &mut self.servers[server.0 as usize];
-        server.step(from, letter)
+        server.step(spare, from, letter)
     }
 
     // The front letter of the list, which has one.
@@ -184,7 +185,7 @@ impl Stage {
         }
     }
 
-    // Sends the letters of an event of the actor, and then enters its entries.
+    // Sends the letters of an event of the actor, and then enters its entries. The lists are kept for their room.
     fn give(&mut self, from: Actor, sends: Vec<Sending>, entries: Vec<Entry>) -> Result<(), Trouble>
         ensures given { OnOk result (self.new ≡ record self.old {
           links = post self.old.config self.old.links (place_of self.old.config from) sends.items;
@@ -192,23 +193,25 @@ impl Stage {
         }) }
         ensures cut { IfErr result (λ trouble. (trouble ≡ Trouble.Memory) × IsHalf self.old entries.items self.new) }
     {
+        let (mut sends, mut entries) = (sends, entries);
         let place = place_of(&self.config, from);
-        if self.links.post(&self.config, place, sends).is_err() {
+        if self.links.post(&self.config, place, &mut sends).is_err() {
             return Err(Trouble::Memory);
         }
-        match enter(&mut self.ledger, entries) {
-            Ok(()) => Ok(()),
-            Err(NoMemory) => Err(Trouble::Memory),
+        if let Err(NoMemory) = enter(&mut self.ledger, &mut entries) {
+            return Err(Trouble::Memory);
         }
+        self.spare.keep(sends, entries);
+        Ok(())
     }
 }
 
-// Enters what an event gave, in order, as far as there is memory.
-fn enter(ledger: &mut Ledger, entries: Vec<Entry>) -> Result<(), NoMemory>
-    ensures entered { OnOk result (ledger.new ≡ ledger.old ++ entries.items) }
-    ensures cut { IsBetween ledger.old ledger.new (ledger.old ++ entries.items) }
+// Enters what an event gave, in order, as far as there is memory, and takes it off its list.
+fn enter(ledger: &mut Ledger, entries: &mut Vec<Entry>) -> Result<(), NoMemory>
+    ensures entered { OnOk result (ledger.new ≡ ledger.old ++ entries.old.items) }
+    ensures cut { IsBetween ledger.old ledger.new (ledger.old ++ entries.old.items) }
 {
-    for entry in entries {
+    for entry in entries.drain(..) {
         ledger.push(entry)?;
     }
     Ok(())

@@ -27,5 +27,6 @@ mod steps;
 mod turns;
 mod waits;
 
+pub use outgoing::Spare;
 pub use states::{LeftUnit, ServerState};
 pub use steps::Step;

@@ -11,7 +11,7 @@ ghost use Rattle.server_law.specs.Plan.{Plan};
 ghost use Rattle.server_law.specs.State.{Kept, ServerModel};
 ghost use Rattle.server_law.specs.Step.{acts, heard_finish, next_stamp, raises, rank_rule, rule, serve, server_rule};
 
-use crate::outgoing::Outgoing;
+use crate::outgoing::{Outgoing, Spare};
 use crate::states::ServerState;
 use adlb_unit::{Actor, Letter, Message, NoMemory, Rank, STAMP_LIMIT, Sending, Server, Trouble};
 use bag_ledger::Entry;
@@ -27,8 +27,9 @@ pub struct Step {
 impl ServerState {
     /// Handles a letter, as `serve` says. The server is not broken, and the letter is expected. It fails with `TooLong`
     /// exactly when the event's stamp would reach `2^48`, which is tested first; its only other error is `Memory`. After a
-    /// failure the server is broken, and a Finish letter counts as handled.
-    pub fn step(&mut self, from: Actor, letter: Letter) -> Result<Step, Trouble>
+    /// failure the server is broken, and a Finish letter counts as handled. What it gives lies in the lists that it is lent,
+    /// emptied first: they take memory only if they have no room for it.
+    pub fn step(&mut self, spare: Spare, from: Actor, letter: Letter) -> Result<Step, Trouble>
         requires whole { self.old.trouble ≡ None }
         requires expected { IsSome (serve self.old from letter) }
 
@@ -52,7 +53,7 @@ impl ServerState {
         // needs; or enters a verdict and tells each of at most seven other servers. It answers each rank that waits, or
         // hints for each wish. Then it gives notice, or starts a check.
         let (waiting, wishes) = self.waiting_and_wishes();
-        let Ok(mut out) = Outgoing::new(self.alloc, waiting + wishes + 9) else {
+        let Ok(mut out) = Outgoing::new(spare, waiting + wishes + 9) else {
             return Err(self.fail(finishes, Trouble::Memory));
         };
         self.tick(stamp, raises(&letter.message));

@@ -62,7 +62,8 @@ fn hear<R: Wait, M: Mailing>(
     let stamp = letter.stamp;
     let from = Actor::Rank(Rank(number));
     let (cause, _letter) = got(from, letter);
-    server.enter(rt, 8, cause, Vec::new(alloc), Vec::new(alloc));
+    let (mut sends, mut entries) = (Vec::new(alloc), Vec::new(alloc));
+    server.enter(rt, 8, cause, &mut sends, &mut entries);
     Ok((number, stamp))
 }
 

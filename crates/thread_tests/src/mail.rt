@@ -70,9 +70,9 @@ pub fn send<M: Mailing, R: Wait>(
         place: 0,
         message,
     };
-    let sends = or_no_memory(vec![in alloc; Sending { to, letter }])?;
+    let mut sends = or_no_memory(vec![in alloc; Sending { to, letter }])?;
     desk.make_room(0)?;
     let (cause, _call) = called(Call::Finish);
-    desk.enter(rt, stamp, cause, sends, Vec::new(alloc));
+    desk.enter(rt, stamp, cause, &mut sends, &mut Vec::new(alloc));
     Ok(())
 }

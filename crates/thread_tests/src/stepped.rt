@@ -10,7 +10,7 @@ use ledger_checker::first_illegal;
 use merge_history::merge;
 use packed_ledger::Kept;
 use rank_client::ClientCore;
-use server_core::ServerState;
+use server_core::{ServerState, Spare};
 use std::alloc::Global;
 use std::test::Fail;
 
@@ -146,7 +146,7 @@ impl SteppedServer {
         if !self.server.expects(RANK, &letter) {
             return Err("not expected by the server".into());
         }
-        let step = self.server.step(RANK, letter)?;
+        let step = self.server.step(Spare::new(alloc), RANK, letter)?;
         self.journal.keep(step.stamp, step.entries)?;
         letters(alloc, step.sends)
     }

@@ -1,10 +1,8 @@
-use Rattle.std.proofs.Common.{◌≡◌, length}
+use Rattle.std.proofs.Common.{◌≡◌}
+use Rattle.std.specs.Vec.Iter.{drain_items}
 use Rattle.core_run.specs.World.{post}
 use Rattle.core_world.proofs.links.Links.post.Given as goal
 
 -- what is still to be sent leads to the same links
 abbrev pub invariant-loop-sending : goal.invariant-loop-sending
-invariant-loop-sending l = record {
-  leads : post l.config l.self l.from l.sending-iterator.rest.items ≡ post l.config l.fn.self l.from l.fn.sends.items;
-  len : l.sending-iterator.rest.len ≡ length l.sending-iterator.rest.items;
-}
+invariant-loop-sending l = post l.config l.self l.from (drain_items l.sending-iterator) ≡ post l.config l.fn.self l.from l.fn.sends.items
