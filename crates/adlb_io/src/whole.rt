@@ -3,7 +3,7 @@
 ghost use Rattle.std.specs.Prelude.{◌≡◌, ◌≤◌, ◌==◌, length, take, IfOk, IfErr, OnOk, OnErr, true, false, if◌then◌else◌};
 ghost use Rattle.adlb_io.specs.Outside.{Rises, Takes};
 ghost use Rattle.adlb_io.specs.Whole.{Fills, IsCut, Reads};
-ghost use Rattle.adlb_io.specs.Inside.{Appends};
+ghost use Rattle.adlb_io.specs.inside.{Appends};
 
 use crate::sinks::{Sink, SinkFault};
 use crate::sources::{Failed, Source, SourceFault};

@@ -9,7 +9,7 @@ use Rattle.merge_history.specs.Events.{OfActor}
 use Rattle.merge_history.specs.Kept.{kept_of}
 use Rattle.merge_history.specs.Merging.{actors_of}
 use Rattle.packed_ledger.specs.declared.stamped.Stamped.{Stamped}
-use Rattle.adlb_threads.specs.Inside.{AreClear, journals_at, of_events}
+use Rattle.adlb_threads.specs.inside.{AreClear, journals_at, of_events}
 use Rattle.adlb_threads.proofs.Journals.{actors_long}
 
 pub map_take : {A B : Type 0} (f : A → B) (n : ℕ) (xs : List A) → map f (take n xs) ≡ take n (map f xs)

@@ -9,7 +9,7 @@ use Rattle.adlb_unit.specs.Limits.{body_limit}
 use Rattle.adlb_unit.specs.declared.names.BatchId.{BatchId}
 use Rattle.adlb_unit.proofs.Same.{same_batch_is}
 use Rattle.batch_store.proofs.Lookups.{in_inserted, in_without, turned_apart, turned_here}
-use Rattle.batch_store.specs.Inside.{IsSmall}
+use Rattle.batch_store.specs.inside.{IsSmall}
 use Rattle.batch_store.specs.Store.{Store, by_batch, part_in, with_turned, without}
 use Rattle.batch_store.specs.declared.parts.Part.{Part}
 

@@ -28,7 +28,7 @@ impl Model for BatchStore {
 
     ghost Value = { Store };
 
-    ghost use Rattle.batch_store.specs.Inside.{IsSmall};
+    ghost use Rattle.batch_store.specs.inside.{IsSmall};
 
     ghost view = { λ s. s.parts };
 

@@ -26,7 +26,7 @@ use Rattle.clap.specs.declared.builder.value_parser.Reading.{Reading}
 use Rattle.clap.specs.declared.builder.value_parser.Reading.TheVariants.{AsWritten}
 use Rattle.clap.specs.declared.parser.matches.ArgMatches.{ArgMatches}
 use Rattle.clap.specs.declared.parser.matches.MatchedArg.{MatchedArg}
-use Rattle.command_words.specs.Inside.{HoldsIn, HoldsMade, HoldsRun, HoldsSizes}
+use Rattle.command_words.specs.inside.{HoldsIn, HoldsMade, HoldsRun, HoldsSizes}
 use Rattle.command_words.specs.Ranges.{budgets, counts, grains, limits, rank_counts, seeds, server_counts}
 
 abbrev pub is_parser : ℕ → ℕ → Option ValueParser → Bool

@@ -8,7 +8,7 @@ use Rattle.std.specs.String.{string_bytes}
 use Rattle.std.proofs.lemmas.List.{take_all}
 use Rattle.std.proofs.lemmas.Slice.Eq.{bytes_eq-Decides}
 use Rattle.clap.specs.Words.{App, IsUnsignedIn, Kinds, ReadsOne, Row, Text, fault_of, matches_of, one_of}
-use Rattle.command_words.specs.Inside.{HoldsIn, IsFound}
+use Rattle.command_words.specs.inside.{HoldsIn, IsFound}
 use Rattle.command_words.specs.Options.{drill_app, solve_app}
 use Rattle.command_words.specs.Ranges.{counts, seeds}
 use Rattle.command_words.specs.Said.{command_of, drill_of, flag_of, number_of, read_by, run_of, solve_of, unless}

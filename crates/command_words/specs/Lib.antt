@@ -1,4 +1,4 @@
-pub mod Inside
+pub mod inside
 pub mod Options
 pub mod Ranges
 pub mod Said

@@ -3,7 +3,7 @@
 ghost use Rattle.std.specs.Prelude.{◌≡◌, ◌≢◌, IfErr, IfOk, None, Some, [], ℕ, codes, map, true};
 ghost use Rattle.std.specs.String.{string_bytes};
 ghost use Rattle.clap.specs.Words.{IsParsedFrom, app_of, fault_of, found_of, is_simple_and_free, rows_of};
-ghost use Rattle.command_words.specs.Inside.{HoldsIn, HoldsMade, HoldsRun, HoldsSizes, IsFound};
+ghost use Rattle.command_words.specs.inside.{HoldsIn, HoldsMade, HoldsRun, HoldsSizes, IsFound};
 ghost use Rattle.command_words.specs.Options.{check_app, draw_app, drill_app, make_app, solve_app};
 ghost use Rattle.command_words.specs.Ranges.{IsIn, counts, seeds};
 ghost use Rattle.command_words.specs.Said.{AreWithin, IsRunWithin, IsWithin, check_of, command_of, draw_of, drill_of, flag_of};

@@ -15,7 +15,7 @@ use Rattle.adlb_unit.specs.declared.names.UnitId.{UnitId}
 use Rattle.adlb_unit.specs.declared.notes.End.TheVariants as ends_by
 use Rattle.adlb_unit.specs.declared.notes.UnitNote.{UnitNote}
 use Rattle.adlb_unit.specs.declared.tokens.Token.{Token}
-use Rattle.adlb_unit.specs.declared.units.Unit.{Unit as Work}
+use Rattle.adlb_unit.specs.declared.units.Unit.{Unit}
 use Rattle.exhaust_ring.specs.Expected.{expects, is_running}
 use Rattle.exhaust_ring.specs.Ring.{Asker}
 use Rattle.put_path.specs.Pushes.{is_push_as, query_of}
@@ -75,7 +75,7 @@ apart_sum : (p q : Wish → Bool) (wishes : List Wish)
 apart_sum p q [] = omega arith
 apart_sum p q (w ∷ wishes) = let here = apart (p w) (q w) in let later = apart_sum p q wishes in omega arith
 
-all_hinted : (unit : Work) (wishes : List Wish) (s : ServerModel) → length wishes ≤ 32 → Costs 2400 (hint_all unit wishes) s
+all_hinted : (unit : Unit) (wishes : List Wish) (s : ServerModel) → length wishes ≤ 32 → Costs 2400 (hint_all unit wishes) s
 all_hinted unit wishes s few =
     let a = hinted (is_first_for unit) wishes s in
     let b = hinted (is_later_for unit) wishes (all_done (hints_if (is_first_for unit) wishes) s) in
@@ -88,7 +88,7 @@ all_hinted unit wishes s few =
 settle_cost : (id : UnitId) (s : ServerModel) → length s.kept.parked.wishes ≤ 32 → Costs 2400 (settles id s) s
 settle_cost id s few = by_unit (find (is_free_as id) s.kept.queue.units)
   where
-    by_taker : (unit : Work) (o : Option Place) → Costs 2400 (gives s.kept unit o) s
+    by_taker : (unit : Unit) (o : Option Place) → Costs 2400 (gives s.kept unit o) s
     by_taker unit None = all_hinted unit s.kept.parked.wishes s few
     by_taker unit (Some p) = record { due = (tt, tt); few = omega arith }
 
@@ -129,7 +129,7 @@ if_paid : (s : ServerModel) (test : Bool) (p : Plan) → (test ≡ true → IsPa
 if_paid s true p is = is refl
 if_paid s false p is = tt
 
-put_paid : (s : ServerModel) (from : Rank) (unit : Work) → length s.kept.parked.wishes ≤ 32 → expects_put s from unit ≡ true
+put_paid : (s : ServerModel) (from : Rank) (unit : Unit) → length s.kept.parked.wishes ≤ 32 → expects_put s from unit ≡ true
     → (is_done over : Bool)
     → IsPaid s (record { first = put is_done over unit; follow = settles unit.id ∷ presses (not is_done && not over) ∷ [] })
 put_paid s from unit few expected is_done over = by_tests is_done over
@@ -169,7 +169,7 @@ put_paid s from unit few expected is_done over = by_tests is_done over
         let all = cost_joined 2400 (2500 + 0) (settles unit.id t) _ t first (cost_joined 2500 0 (presses true u) _ u second ends) in
         record { all = record { due = all.due; few = all.few } }
 
-unit_paid : (s : ServerModel) (from : Server) (unit : Work) → length s.kept.parked.wishes ≤ 32
+unit_paid : (s : ServerModel) (from : Server) (unit : Unit) → length s.kept.parked.wishes ≤ 32
     → IsPaid s (record { first = Arrives from unit; follow = settles unit.id ∷ acks ∷ [] })
 unit_paid s from unit few =
     let t = done (Arrives from unit) s in

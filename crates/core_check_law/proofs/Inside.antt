@@ -7,7 +7,7 @@ use Rattle.bag_ledger.specs.Runs.{IsRun}
 use Rattle.bag_ledger.specs.Steps.{Legal, after, change_first}
 use Rattle.bag_ledger.specs.declared.entries.Entry.{Entry}
 use Rattle.bag_ledger.specs.declared.entries.Entry.TheVariants as enters
-use Rattle.bag_ledger.specs.declared.states.Placed.{Placed as Lodged}
+use Rattle.bag_ledger.specs.declared.states.Placed.{Placed}
 use Rattle.bag_ledger.specs.declared.states.UnitPlace.{UnitPlace}
 use Rattle.bag_ledger.specs.declared.states.UnitPlace.TheVariants.{Free, Pinned, Spent, Travelling}
 use Rattle.bag_ledger.proofs.Fixed.{run_servers}
@@ -21,10 +21,10 @@ IsFreeIn servers (Free t) = t.0 < servers
 IsFreeIn servers _ = Unit {0}
 
 -- so it is of each unit
-abbrev pub AreIn : ℕ → List Lodged → Type 0
-AreIn servers units = Each (λ (u : Lodged). IsFreeIn servers u.place) units
+abbrev pub AreIn : ℕ → List Placed → Type 0
+AreIn servers units = Each (λ (u : Placed). IsFreeIn servers u.place) units
 
-moved_in : (servers : ℕ) (place : UnitPlace) (test : Lodged → Bool) (units : List Lodged) → IsFreeIn servers place → AreIn servers units
+moved_in : (servers : ℕ) (place : UnitPlace) (test : Placed → Bool) (units : List Placed) → IsFreeIn servers place → AreIn servers units
     → AreIn servers (change_first (λ u. record u { place = place }) test units)
 moved_in servers place test [] here all = tt
 moved_in servers place test (u ∷ units) here all = by_test (test u) (moved_in servers place test units here all.1)
@@ -37,8 +37,8 @@ moved_in servers place test (u ∷ units) here all = by_test (test u) (moved_in 
 entry_in : (b : Bag) (e : Entry) → Legal b e → AreIn b.servers b.units → AreIn b.servers (after b e).units
 entry_in b (enters.Accepted server id) l all =
     let n = accepted_is b server id l in
-    let u : Lodged = record { unit = n.u; place = Free server } in
-    subst (AreIn b.servers) (sym n.units) (each_append (λ (v : Lodged). IsFreeIn b.servers v.place) b.units (u ∷ []) all (l.5, tt))
+    let u : Placed = record { unit = n.u; place = Free server } in
+    subst (AreIn b.servers) (sym n.units) (each_append (λ (v : Placed). IsFreeIn b.servers v.place) b.units (u ∷ []) all (l.5, tt))
 entry_in b (enters.Kept server batch) l all = rw (kept_is b server batch l) all
 entry_in b (enters.Granted server rank call id) l all =
     moved_in b.servers (Pinned server rank) (λ u. same_unit u.unit.id id) b.units tt all

@@ -16,7 +16,7 @@ use Rattle.adlb_unit.specs.declared.names.UnitId.{UnitId}
 use Rattle.adlb_unit.specs.declared.notes.End.{End}
 use Rattle.adlb_unit.specs.declared.notes.End.TheVariants as ends_by
 use Rattle.adlb_unit.specs.declared.notes.UnitNote.{UnitNote}
-use Rattle.adlb_unit.specs.declared.units.Unit.{Unit as Work}
+use Rattle.adlb_unit.specs.declared.units.Unit.{Unit}
 use Rattle.bag_ledger.specs.Bag.{Bag}
 use Rattle.bag_ledger.specs.declared.states.Status.TheVariants as is_at
 use Rattle.bag_ledger.proofs.Tests.{some_is}
@@ -83,7 +83,7 @@ free_fits (q ∷ units) a id p none found may = by_test (free_fits units a id p 
     by_test later false is found = later (rw is at found) may
 
 -- where no unit fits, none is found for the wish
-pub none_found : (k : Kept) (wish : Wish) (unit : Work) → NoFit k.queue.units (asker wish)
+pub none_found : (k : Kept) (wish : Wish) (unit : Unit) → NoFit k.queue.units (asker wish)
     → IsFreeFor k unit wish ⊎ IsFound (best_for k wish) unit → ⊥
 none_found k wish unit none (inl free) =
     let p = free.0 in
@@ -150,7 +150,7 @@ module _ (w : World) (b : Bag) (k : Server) (p : ℕ) (asked : List Asker) (well
       has_filter (of_home w.config t) asked (asker wish) here
 
   -- nothing is permitted to it at a server that was visited, and the others have not changed
-  fits_never : (wish : Wish) (unit : Work) → k.0 < w.config.servers → s.kept.ring.mark < s.activity → Has asked (asker wish)
+  fits_never : (wish : Wish) (unit : Unit) → k.0 < w.config.servers → s.kept.ring.mark < s.activity → Has asked (asker wish)
       → IsFreeFor s.kept unit wish ⊎ IsFound (best_for s.kept wish) unit → ⊥
   fits_never wish unit here more on fit = by_place (cases_lt k.0 p)
     where
@@ -216,7 +216,7 @@ module _ (w : World) (b : Bag) (k : Server) (p : ℕ) (asked : List Asker) (well
       by_open (inr not_over) = let found = (l.pools k here).exhausted over in absurd (cc)
 
   -- nor is a unit found where another server asks for a rank
-  answers_never : (from : Server) (wish : Wish) (unit : Work) → IsAct w k (Answers from wish unit) → s.kept.ring.mark < s.activity → ⊥
+  answers_never : (from : Server) (wish : Wish) (unit : Unit) → IsAct w k (Answers from wish unit) → s.kept.ring.mark < s.activity → ⊥
   answers_never from wish unit is more = by_rests x.rests
     where
       a : Act

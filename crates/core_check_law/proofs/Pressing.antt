@@ -14,7 +14,7 @@ use Rattle.adlb_unit.specs.declared.notes.End.{End}
 use Rattle.adlb_unit.specs.declared.notes.End.TheVariants as ends_by
 use Rattle.adlb_unit.specs.declared.notes.UnitNote.{UnitNote}
 use Rattle.adlb_unit.specs.declared.tokens.Token.{Token}
-use Rattle.adlb_unit.specs.declared.units.Unit.{Unit as Work}
+use Rattle.adlb_unit.specs.declared.units.Unit.{Unit}
 use Rattle.batch_store.specs.Store.{part_in}
 use Rattle.batch_store.specs.declared.parts.Part.{Part}
 use Rattle.exhaust_ring.specs.Expected.{expects}
@@ -141,7 +141,7 @@ hints_none test (w ∷ wishes) = by_test (test w) (hints_none test wishes)
 settles_none : (id : UnitId) → BeginsNone (settles id)
 settles_none id s = by_unit (find (is_free_as id) s.kept.queue.units)
   where
-    by_taker : (unit : Work) (o : Option Place) → Each NoQuery (gives s.kept unit o)
+    by_taker : (unit : Unit) (o : Option Place) → Each NoQuery (gives s.kept unit o)
     by_taker unit None =
         each_append NoQuery (hints_if (is_first_for unit) s.kept.parked.wishes) (hints_if (is_later_for unit) s.kept.parked.wishes)
         (hints_none (is_first_for unit) s.kept.parked.wishes) (hints_none (is_later_for unit) s.kept.parked.wishes)
@@ -179,7 +179,7 @@ if_calm : (test : Bool) (p : Plan) → IsCalm p → OfRule (cond test (Some p) N
 if_calm true p is = is
 if_calm false p is = tt
 
-put_calm : (unit : Work) (is_done over : Bool)
+put_calm : (unit : Unit) (is_done over : Bool)
     → IsCalm (record { first = put is_done over unit; follow = settles unit.id ∷ presses (not is_done && not over) ∷ [] })
 put_calm unit true over = record { follow = λ other. (settles_none unit.id, (λ s. tt, tt)) }
 put_calm unit false true = record { follow = λ other. (settles_none unit.id, (λ s. tt, tt)) }

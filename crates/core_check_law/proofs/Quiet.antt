@@ -18,7 +18,7 @@ use Rattle.adlb_unit.specs.declared.names.Server.{Server}
 use Rattle.adlb_unit.specs.declared.names.UnitId.{UnitId}
 use Rattle.adlb_unit.proofs.Same.{same_unit_from}
 use Rattle.bag_ledger.specs.Bag.{Bag, is_travelling, rank_at}
-use Rattle.bag_ledger.specs.declared.states.Placed.{Placed as Lodged}
+use Rattle.bag_ledger.specs.declared.states.Placed.{Placed}
 use Rattle.bag_ledger.specs.declared.states.Status.TheVariants as is_at
 use Rattle.rank_client.specs.Agreement.{rank_of}
 use Rattle.rank_client.specs.declared.pendings.Pending.TheVariants as waits_for
@@ -87,24 +87,24 @@ not_brought id (by.Server from) (by.Server to) (tells.PushUnit unit) none =
     let n = none from in let i = itself from.0 in absurd (omega arith)
 not_brought id (by.Server from) (by.Server to) _ none = refl
 
-none_travels : (us : List Lodged) → ((id : UnitId) → on_way id us ≡ 0) → list_any (λ (u : Lodged). is_travelling u.place) us ≡ false
+none_travels : (us : List Placed) → ((id : UnitId) → on_way id us ≡ 0) → list_any (λ (u : Placed). is_travelling u.place) us ≡ false
 none_travels [] none = refl
 none_travels (u ∷ us) none = by_place (λ rest. none_travels us rest) (is_travelling u.place) refl
   where
     its : one (is_travelling u.place && same_unit u.unit.id u.unit.id) + on_way u.unit.id us ≡ 0
     its =
-        let sum = sum_by-cons (λ (x : Lodged). one (is_travelling x.place && same_unit x.unit.id u.unit.id)) u us in
+        let sum = sum_by-cons (λ (x : Placed). one (is_travelling x.place && same_unit x.unit.id u.unit.id)) u us in
         let n = none u.unit.id in
         omega arith
 
     rest : (id : UnitId) → on_way id us ≡ 0
     rest id =
-        let sum = sum_by-cons (λ (x : Lodged). one (is_travelling x.place && same_unit x.unit.id id)) u us in
+        let sum = sum_by-cons (λ (x : Placed). one (is_travelling x.place && same_unit x.unit.id id)) u us in
         let n = none id in
         omega arith
 
-    by_place : (((id : UnitId) → on_way id us ≡ 0) → list_any (λ (x : Lodged). is_travelling x.place) us ≡ false) → (t : Bool)
-        → is_travelling u.place ≡ t → list_any (λ (x : Lodged). is_travelling x.place) (u ∷ us) ≡ false
+    by_place : (((id : UnitId) → on_way id us ≡ 0) → list_any (λ (x : Placed). is_travelling x.place) us ≡ false) → (t : Bool)
+        → is_travelling u.place ≡ t → list_any (λ (x : Placed). is_travelling x.place) (u ∷ us) ≡ false
     by_place later true e =
         let both : one (is_travelling u.place && same_unit u.unit.id u.unit.id) ≡ 1 =
         rw (e, same_unit_from u.unit.id u.unit.id refl) refl in
@@ -143,7 +143,7 @@ module _ (w : World) (b : Bag) (well : IsWell w) (l : IsLawful w b) (free : AreU
       })
 
   -- nothing is promised, and no unit is between servers
-  pub unpushed_rests : (b.promises ≡ []) × (list_any (λ (u : Lodged). is_travelling u.place) b.units ≡ false)
+  pub unpushed_rests : (b.promises ≡ []) × (list_any (λ (u : Placed). is_travelling u.place) b.units ≡ false)
   unpushed_rests = (
     none_named b.promises (λ id.
         let none = weighs_none (promised_letter id) (not_promised id) in let same = l.pushed.rooms id in omega arith),
@@ -156,7 +156,7 @@ module _ (w : World) (b : Bag) (well : IsWell w) (l : IsLawful w b) (quiet : Are
   is_quiet_at : (t : Server) → t.0 < w.config.servers → IsQuiet (pool_of w t)
   is_quiet_at t there = (quiet_is_tested (pool_of w t)).0 (quiet t there)
 
-  unmoved : (b.promises ≡ []) × (list_any (λ (u : Lodged). is_travelling u.place) b.units ≡ false)
+  unmoved : (b.promises ≡ []) × (list_any (λ (u : Placed). is_travelling u.place) b.units ≡ false)
   unmoved = unpushed_rests w b well l (λ t there. (is_quiet_at t there).unpushed)
 
   rests_as : (r : Rank) → r.0 < w.config.ranks → (coming : Option Message) → IsSeat w b r coming

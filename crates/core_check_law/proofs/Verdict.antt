@@ -11,7 +11,7 @@ use Rattle.adlb_unit.specs.Permit.{permitted}
 use Rattle.adlb_unit.specs.Targets.{home}
 use Rattle.adlb_unit.specs.declared.names.Rank.{Rank}
 use Rattle.adlb_unit.specs.declared.names.Server.{Server}
-use Rattle.adlb_unit.specs.declared.units.Unit.{Unit as Work}
+use Rattle.adlb_unit.specs.declared.units.Unit.{Unit}
 use Rattle.bag_ledger.specs.Bag.{Bag, fresh, has_fit, is_asking, is_asking_or_finished, is_free, settled, start as empty_bag}
 use Rattle.bag_ledger.specs.Runs.{IsRun}
 use Rattle.bag_ledger.specs.Steps.{Is}
@@ -61,7 +61,7 @@ not_one false e = refl
 abbrev fits_as : Asker → Lodged → Bool
 fits_as a u = is_free u.place && permitted a.0 a.1 u.unit.kind u.unit.target
 
-unit_fits_not : (a : Asker) (servers : ℕ) (unit : Work) (place : UnitPlace) → IsFreeIn servers place
+unit_fits_not : (a : Asker) (servers : ℕ) (unit : Unit) (place : UnitPlace) → IsFreeIn servers place
     → ((t : Server) → t.0 < servers → weight_at t (fitting a) (record { unit = unit; place = place }) ≡ 0)
     → is_free place && permitted a.0 a.1 unit.kind unit.target ≡ false
 unit_fits_not a servers unit (Free t) inside zeros =

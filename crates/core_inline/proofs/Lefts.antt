@@ -5,7 +5,7 @@ use Rattle.core_inline.proofs.Prelude.{option_map, refl, same_number, sym, true,
 use Rattle.adlb_unit.proofs.Same.{same_unit_from}
 use Rattle.adlb_unit.specs.Ids.{same_unit}
 use Rattle.adlb_unit.specs.declared.names.UnitId.{UnitId}
-use Rattle.adlb_unit.specs.declared.units.Unit.{Unit as Work}
+use Rattle.adlb_unit.specs.declared.units.Unit.{Unit}
 use Rattle.bag_ledger.specs.declared.states.Placed.{Placed as Lodged}
 use Rattle.bag_ledger.specs.declared.states.UnitPlace.{UnitPlace}
 use Rattle.bag_ledger.specs.declared.states.UnitPlace.TheVariants.{Free, Pinned, Spent, Travelling}
@@ -37,7 +37,7 @@ nothing_left last (l ∷ left) spent is = absurd (let both = sym here ∙ is.eac
 
 -- What the server has left is what the bag has left, where each unit is at the server or spent.
 
-slot_left : (me : Server) (unit : Work) (place : UnitPlace) → IsHereOrSpent me place
+slot_left : (me : Server) (unit : Unit) (place : UnitPlace) → IsHereOrSpent me place
     → option_map (left_unit me) (slot_of me (record { unit = unit; place = place })) ≡ left_at unit.id place
 slot_left me unit (Free at) here = rw (here, same_number me.0) refl
 slot_left me unit (Pinned at rank) here = rw (here, same_number me.0) refl

@@ -15,7 +15,7 @@ use Rattle.adlb_unit.specs.declared.names.Server.{Server}
 use Rattle.adlb_unit.specs.declared.names.UnitId.{UnitId}
 use Rattle.adlb_unit.specs.declared.names.WorkType.{WorkType}
 use Rattle.adlb_unit.specs.declared.notes.UnitNote.{UnitNote}
-use Rattle.adlb_unit.specs.declared.units.Unit.{Unit as Work}
+use Rattle.adlb_unit.specs.declared.units.Unit.{Unit}
 use Rattle.bag_ledger.specs.Bag.{Bag}
 use Rattle.bag_ledger.specs.Runs.{calls_from}
 use Rattle.rank_client.specs.declared.pendings.Pending.{Pending}
@@ -111,7 +111,7 @@ asked_call w k a b me m l is takes_it request =
     let of = front_is w k a me its.0 (of_rank me m) is takes_it b its.1 (sym seat.named) request in
     (within, subst (λ (o : Option Message). IsSeat w b me o) of.0 its.1, of.1)
 
-put_asked : (c : ClientModel) (p : Pending) (k : Server) (unit : Work) → IsAsked c p k (tells.Put unit)
+put_asked : (c : ClientModel) (p : Pending) (k : Server) (unit : Unit) → IsAsked c p k (tells.Put unit)
     → (first : Server) × (tried : ℕ) × (p ≡ waits_for.Put unit first tried) × (k ≡ asked c first tried)
 put_asked c waits_for.Nothing k unit is = absurd is
 put_asked c (waits_for.Put other first tried) k unit is = let e = is.0 in (first, tried, cc, is.1)
@@ -206,14 +206,14 @@ try_asked c (waits_for.Count to kind) k wish is = absurd (cc is.0)
 try_asked c (waits_for.SetDone to tried) k wish is = absurd (cc is.0)
 
 -- a put that was asked for last at this server
-pub record IsPutHere (w : World) (k : Server) (b : Bag) (unit : Work) : Type 0 where
+pub record IsPutHere (w : World) (k : Server) (b : Bag) (unit : Unit) : Type 0 where
   pub first : Server
   pub tried : ℕ
   pub calling : IsCalling w b unit.id.rank (waits_for.Put unit first tried)
   pub here : k ≡ asked (client_of w unit.id.rank) first tried
 
 -- a put that is handled is of the rank's pending call
-pub put_here : (w : World) (k : Server) (a : Act) (b : Bag) (unit : Work) → IsLawful w b → IsAct w k a
+pub put_here : (w : World) (k : Server) (a : Act) (b : Bag) (unit : Unit) → IsLawful w b → IsAct w k a
     → takes a ≡ of_rank unit.id.rank (tells.Put unit) ∷ [] → IsPutHere w k b unit
 put_here w k a b unit l is takes_it =
     let its = asked_call w k a b unit.id.rank (tells.Put unit) l is takes_it refl in

@@ -8,7 +8,7 @@ use Rattle.adlb_unit.specs.declared.messages.Message.TheVariants as tells
 use Rattle.adlb_unit.specs.declared.messages.Message.{Message}
 use Rattle.adlb_unit.specs.declared.names.UnitId.{UnitId}
 use Rattle.bag_ledger.specs.Bag.{Bag, is_travelling}
-use Rattle.bag_ledger.specs.declared.states.Placed.{Placed as Lodged}
+use Rattle.bag_ledger.specs.declared.states.Placed.{Placed}
 use Rattle.bag_ledger.proofs.Tests.{some_is}
 use Rattle.bag_law.specs.Counts.{promises_named}
 use Rattle.core_run.specs.World.{World}
@@ -22,24 +22,24 @@ use Rattle.core_law.proofs.Sums.{links_le}
 
 -- what is sought counts
 
-way_some : (id : UnitId) (units : List Lodged) (u : Lodged) → find (λ (v : Lodged). same_unit v.unit.id id) units ≡ Some u
+way_some : (id : UnitId) (units : List Placed) (u : Placed) → find (λ (v : Placed). same_unit v.unit.id id) units ≡ Some u
     → is_travelling u.place ≡ true → 0 < on_way id units
 way_some id [] u found there = absurd (cc)
 way_some id (v ∷ units) u found there = by_test (way_some id units u) (same_unit v.unit.id id) refl found
   where
     count : on_way id (v ∷ units) ≡ one (is_travelling v.place && same_unit v.unit.id id) + on_way id units
-    count = sum_by-cons (λ (x : Lodged). one (is_travelling x.place && same_unit x.unit.id id)) v units
+    count = sum_by-cons (λ (x : Placed). one (is_travelling x.place && same_unit x.unit.id id)) v units
 
-    by_test : (find (λ (x : Lodged). same_unit x.unit.id id) units ≡ Some u → is_travelling u.place ≡ true → 0 < on_way id units)
-        → (t : Bool) → same_unit v.unit.id id ≡ t → find (λ (x : Lodged). same_unit x.unit.id id) (v ∷ units) ≡ Some u
+    by_test : (find (λ (x : Placed). same_unit x.unit.id id) units ≡ Some u → is_travelling u.place ≡ true → 0 < on_way id units)
+        → (t : Bool) → same_unit v.unit.id id ≡ t → find (λ (x : Placed). same_unit x.unit.id id) (v ∷ units) ≡ Some u
         → 0 < on_way id (v ∷ units)
     by_test rest true is found =
         let it : v ≡ u = some_is (rw is at found) in
-        let travels : is_travelling v.place ≡ true = ap (λ (x : Lodged). is_travelling x.place) it ∙ there in
+        let travels : is_travelling v.place ≡ true = ap (λ (x : Placed). is_travelling x.place) it ∙ there in
         let its : one (is_travelling v.place && same_unit v.unit.id id) ≡ 1 = rw (travels, is) refl in
         omega (arith, count, its)
     by_test rest false is found =
-        let later : find (λ (x : Lodged). same_unit x.unit.id id) units ≡ Some u = rw is at found in
+        let later : find (λ (x : Placed). same_unit x.unit.id id) units ≡ Some u = rw is at found in
         let some = rest later there in
         omega (arith, count, some)
 

@@ -31,7 +31,7 @@ use Rattle.bag_ledger.specs.declared.entries.Call.TheVariants as calls_to
 use Rattle.bag_ledger.specs.declared.entries.Entry.{Entry}
 use Rattle.bag_ledger.specs.declared.entries.Entry.TheVariants as enters
 use Rattle.bag_ledger.specs.declared.entries.Said.{Said}
-use Rattle.bag_ledger.specs.declared.states.Placed.{Placed as Lodged}
+use Rattle.bag_ledger.specs.declared.states.Placed.{Placed}
 use Rattle.bag_ledger.specs.declared.states.RankState.{RankState}
 use Rattle.bag_ledger.specs.declared.states.Status.TheVariants as does
 use Rattle.bag_ledger.specs.declared.states.UnitPlace.{UnitPlace}
@@ -286,14 +286,14 @@ refused_comes c unit first tried me b next used w is run =
 
 -- The unit is accepted.
 
-abbrev with_lodged : Bag → Lodged → Bag
+abbrev with_lodged : Bag → Placed → Bag
 with_lodged b u = record b { units = b.units ++ u ∷ [] }
 
-held_added : (b : Bag) (u : Lodged) (rank : Rank) (notes : List UnitNote) → All (IsHeld b rank) notes
+held_added : (b : Bag) (u : Placed) (rank : Rank) (notes : List UnitNote) → All (IsHeld b rank) notes
     → All (IsHeld (with_lodged b u) rank) notes
 held_added b u rank notes all =
     All-weaker (IsHeld b rank) (IsHeld (with_lodged b u) rank)
-    (λ note h. (h.0, (find_before (λ (x : Lodged). same_unit x.unit.id note.id) b.units (u ∷ []) h.0 h.1.0, h.1.1))) notes all
+    (λ note h. (h.0, (find_before (λ (x : Placed). same_unit x.unit.id note.id) b.units (u ∷ []) h.0 h.1.0, h.1.1))) notes all
 
 -- the parts where a unit of the batch is accepted
 shared_is : (b : Bag) (o : Option CommonRef) → shared o b ≡ record b { parts = shared_parts o b.parts }
@@ -319,7 +319,7 @@ accepted_comes c unit first tried me b next w run =
     let e = enters.Accepted me unit.id in
     let s = single b next e run in
     let offer = w.call.0 in
-    let u : Lodged = record { unit = unit; place = Free me } in
+    let u : Placed = record { unit = unit; place = Free me } in
     let more : Bag = with_lodged b u in
     let d : Bag = with_rank c.me ended (record more { parts = shared_parts unit.common b.parts }) in
     let at : rank_at b unit.id.rank ≡ Some (rank_putting c unit first tried) = ap (λ r. rank_at b r) offer.rank ∙ w.rank in
@@ -349,7 +349,7 @@ held_beside : (b : Bag) (id : UnitId) (place : UnitPlace) (rank : Rank) (note : 
 held_beside b id place rank note differs h = (h.0, (moved_other b id note.id place differs ∙ h.1.0, h.1.1))
 
 -- a unit that is free is not among these
-held_through : (b : Bag) (id : UnitId) (me : Server) (place : UnitPlace) (rank : Rank) (u : Lodged) (note : UnitNote)
+held_through : (b : Bag) (id : UnitId) (me : Server) (place : UnitPlace) (rank : Rank) (u : Placed) (note : UnitNote)
     → unit_of b id ≡ Some u → u.place ≡ Free me → IsHeld b rank note → IsHeld (moved id place b) rank note
 held_through b id me place rank u note there free h = by_test (same_unit id note.id) refl
   where
@@ -357,7 +357,7 @@ held_through b id me place rank u note there free h = by_test (same_unit id note
     by_test true same =
         let found : unit_of b note.id ≡ Some u = ap (λ i. unit_of b i) (sym (same_unit_is id note.id same)) ∙ there in
         let one : u ≡ h.0 = some_is (sym found ∙ h.1.0) in
-        let both : Free me ≡ Pinned note.server rank = sym free ∙ ap (λ (v : Lodged). v.place) one ∙ h.1.1 in
+        let both : Free me ≡ Pinned note.server rank = sym free ∙ ap (λ (v : Placed). v.place) one ∙ h.1.1 in
         absurd (cc)
     by_test false differs = held_beside b id place rank note differs h
 
@@ -415,7 +415,7 @@ try_granted c request types tried to note = record {
 }
 
 -- a unit that is granted
-pub granted_comes : (c : ClientModel) (p : Pending) (request : ℕ) (me : Server) (work : Unit) (u : Lodged) (b next : Bag)
+pub granted_comes : (c : ClientModel) (p : Pending) (request : ℕ) (me : Server) (work : Unit) (u : Placed) (b next : Bag)
     → IsGranted c p request (note_of me work) → Waits c p b → unit_of b work.id ≡ Some u → u.unit ≡ work → u.place ≡ Free me
     → IsRun b (enters.Granted me c.me request work.id ∷ []) next
     → Comes c p (tells.Grant request (note_of me work)) b next (enters.Granted me c.me request work.id ∷ [])
@@ -485,15 +485,15 @@ all_front P xs ys all = λ k d within.
     subst P (get_or_append_left xs ys d k within) (all k d inside)
 
 -- the note of the unit that is fetched tells it
-pub fetched_shares : (c : ClientModel) (request : ℕ) (note : UnitNote) (u : Lodged) (b : Bag) → Waits c (waits_for.Fetch request note) b
+pub fetched_shares : (c : ClientModel) (request : ℕ) (note : UnitNote) (u : Placed) (b : Bag) → Waits c (waits_for.Fetch request note) b
     → unit_of b note.id ≡ Some u → note ≡ note_of note.server u.unit
 fetched_shares c request note u b w there =
     let fact = All-contains (IsFact b) (c.handles ++ note ∷ []) note w.facts (Contains-push c.handles note) in
     let one : fact.0 ≡ u = some_is (sym fact.1 ∙ there) in
-    fact.2 ∙ ap (λ (v : Lodged). note_of note.server v.unit) one
+    fact.2 ∙ ap (λ (v : Placed). note_of note.server v.unit) one
 
 -- a unit's own bytes
-pub fetched_comes : (c : ClientModel) (request : ℕ) (note : UnitNote) (me : Server) (work : Unit) (u : Lodged) (b next : Bag)
+pub fetched_comes : (c : ClientModel) (request : ℕ) (note : UnitNote) (me : Server) (work : Unit) (u : Placed) (b next : Bag)
     → Waits c (waits_for.Fetch request note) b → unit_of b note.id ≡ Some u → u.unit ≡ work
     → IsRun b (enters.Fetched me c.me note.id ∷ []) next
     → Comes c (waits_for.Fetch request note) (tells.Bytes request work.body) b next (enters.Fetched me c.me note.id ∷ [])
@@ -518,13 +518,13 @@ fetched_comes c request note me work u b next w there same run =
     now : (o : Option CommonRef) → u.unit.common ≡ o → next ≡ with_rank c.me (own_fetched o) moved_bag
     now o is =
         let s = single b next e run in
-        s.1 ∙ ap (λ x. with_rank c.me (own_fetched x) moved_bag) (ap (λ x. option_and_then (λ (v : Lodged). v.unit.common) x) there ∙ is)
+        s.1 ∙ ap (λ x. with_rank c.me (own_fetched x) moved_bag) (ap (λ x. option_and_then (λ (v : Placed). v.unit.common) x) there ∙ is)
 
     left : (d : Bag) → d.units ≡ moved_bag.units → All (IsHeld d c.me) c.handles
     left d units = λ k v l.
         let held = get_or c.handles k v in
         let h = held_beside b id Spent c.me held (differs_back held.id id (w.call.2 k v l)) (handles k v l) in
-        (h.0, (ap (find (λ (x : Lodged). same_unit x.unit.id held.id)) units ∙ h.1.0, h.1.1))
+        (h.0, (ap (find (λ (x : Placed). same_unit x.unit.id held.id)) units ∙ h.1.0, h.1.1))
 
     facts_in : (d : Bag) → d.units ≡ moved_bag.units → All (IsFact d) (c.handles ++ [])
     facts_in d units =
@@ -553,7 +553,7 @@ fetched_comes c request note me work u b next w there same run =
         let d : Bag = with_rank c.me (own_fetched (Some common)) moved_bag in
         let some : note.common ≡ Some common = shares ∙ has in
         let quiet : says b e ≡ None = rw (there, has) refl in
-        let spent : Lodged = record u { place = Spent } in
+        let spent : Placed = record u { place = Spent } in
         rw (now (Some common) has) (record {
           rank = rw some (rank_changed moved_bag c.me (own_fetched (Some common)) (in_call c (waits_for.Fetch request note) None) w.rank);
           servers = w.servers;

@@ -13,7 +13,7 @@ use Rattle.adlb_unit.specs.declared.names.UnitId.{UnitId}
 use Rattle.adlb_unit.specs.declared.names.WorkType.{WorkType}
 use Rattle.adlb_unit.specs.declared.notes.End.{End}
 use Rattle.adlb_unit.specs.declared.notes.UnitNote.{UnitNote}
-use Rattle.adlb_unit.specs.declared.units.Unit.{Unit as Work}
+use Rattle.adlb_unit.specs.declared.units.Unit.{Unit}
 use Rattle.bag_ledger.specs.Bag.{Bag, has_declined, is_free, unit_of, rank_at, part_of}
 use Rattle.bag_ledger.specs.Runs.{IsRunWhere, note_of}
 use Rattle.bag_ledger.specs.declared.entries.Entry.{Entry}
@@ -83,15 +83,15 @@ pub record Succeeds (w : World) (k : Server) (a : Act) (b : Bag) : Type 0 where
   pub makes : (n : Bag) → IsMade w k a b n → IsDone w k a n
 
 -- the unit is free in the bag, at the server
-abbrev pub IsFreeAt : Bag → Server → Work → Type 0
+abbrev pub IsFreeAt : Bag → Server → Unit → Type 0
 IsFreeAt b me unit = (u : Lodged) × (unit_of b unit.id ≡ Some u) × (u.unit ≡ unit) × (u.place ≡ Free me)
 
 -- a unit that is free in the queue is free at the server in the bag
-pub free_at : (b : Bag) (s : ServerModel) (p : Placed) (unit : Work) → ServerAgrees b s → p.unit ≡ unit
+pub free_at : (b : Bag) (s : ServerModel) (p : Placed) (unit : Unit) → ServerAgrees b s → p.unit ≡ unit
     → unit_with p.unit.id s.kept.queue.units ≡ Some p → p.pin ≡ None → IsFreeAt b s.me unit
 free_at b s p unit m same found free =
     let u = lodged b.units s.me s.kept.queue.units p.unit.id p m.units found in
-    let at : unit_of b unit.id ≡ Some u.0 = ap (λ (v : Work). unit_of b v.id) (sym same) ∙ u.1.found in
+    let at : unit_of b unit.id ≡ Some u.0 = ap (λ (v : Unit). unit_of b v.id) (sym same) ∙ u.1.found in
     (u.0, at, u.1.same ∙ same, place_is s.me None u.0.place (u.1.pin ∙ ap Some free))
 
 neither : (g f : Bool) → (g || f) ≡ false → (g ≡ false) × (f ≡ false)
@@ -147,7 +147,7 @@ module _ (w : World) (k : Server) (b : Bag) (well : IsWell w) (l : IsLawful w b)
 
   -- Puts.
 
-  offers_now : (unit : Work) (h : IsPutHere w k b unit) → Offers b (pool_of w k).me unit
+  offers_now : (unit : Unit) (h : IsPutHere w k b unit) → Offers b (pool_of w k).me unit
   offers_now unit h =
       let p = waits_for.Put unit h.first h.tried in
       let c = client_of w unit.id.rank in
@@ -156,7 +156,7 @@ module _ (w : World) (k : Server) (b : Bag) (well : IsWell w) (l : IsLawful w b)
       let fresh : has_declined (in_call c p None) (pool_of w k).me ≡ false = rw (me_is ∙ h.here) untried in
       (in_call c p None, rank_is unit.id.rank p h.calling, refl, fresh)
 
-  pub accepts_succeeds : (unit : Work) → IsAct w k (Accepts unit) → Succeeds w k (Accepts unit) b
+  pub accepts_succeeds : (unit : Unit) → IsAct w k (Accepts unit) → Succeeds w k (Accepts unit) b
   accepts_succeeds unit is =
       let h = put_here w k (Accepts unit) b unit l is refl in
       let p = waits_for.Put unit h.first h.tried in
@@ -169,7 +169,7 @@ module _ (w : World) (k : Server) (b : Bag) (well : IsWell w) (l : IsLawful w b)
       (offers_now unit h, new.1, put_shares_open b sound unit.id.rank (in_call c p None) unit (rank_is unit.id.rank p h.calling) refl)
       (λ n run. accepted_comes c unit h.first h.tried (pool_of w k).me b n waits run)
 
-  pub refuses_succeeds : (unit : Work) → IsAct w k (Refuses unit) → Succeeds w k (Refuses unit) b
+  pub refuses_succeeds : (unit : Unit) → IsAct w k (Refuses unit) → Succeeds w k (Refuses unit) b
   refuses_succeeds unit is =
       let h = put_here w k (Refuses unit) b unit l is refl in
       let p = waits_for.Put unit h.first h.tried in
@@ -194,7 +194,7 @@ module _ (w : World) (k : Server) (b : Bag) (well : IsWell w) (l : IsLawful w b)
       subst (λ (es : List Entry). AreSteps es n → Comes c p now b n es) (sym entered)
       (renamed rank p now n (λ x. enters.Over x request end ∷ []) is (over_comes c p b n request end waits ended)))
 
-  pub ends_put_succeeds : (unit : Work) (end : End) → IsAct w k (Ends_put unit end) → Succeeds w k (Ends_put unit end) b
+  pub ends_put_succeeds : (unit : Unit) (end : End) → IsAct w k (Ends_put unit end) → Succeeds w k (Ends_put unit end) b
   ends_put_succeeds unit end is =
       let h = put_here w k (Ends_put unit end) b unit l is refl in
       let p = waits_for.Put unit h.first h.tried in
@@ -239,10 +239,10 @@ module _ (w : World) (k : Server) (b : Bag) (well : IsWell w) (l : IsLawful w b)
   -- Grants.
 
   -- the part that a unit shares is at a server of the run
-  shares_at : (unit : Work) (u : Lodged) → unit_of b unit.id ≡ Some u → u.unit ≡ unit → HasPart b.parts unit.common
+  shares_at : (unit : Unit) (u : Lodged) → unit_of b unit.id ≡ Some u → u.unit ≡ unit → HasPart b.parts unit.common
   shares_at unit u there same =
       let sound = run_is_sound (found_in w.config) w.config w.ledger b l.run in
-      subst (λ (k : Work). HasPart b.parts k.common) same (sound.shares.each unit.id u there)
+      subst (λ (k : Unit). HasPart b.parts k.common) same (sound.shares.each unit.id u there)
 
   common_at : (c : ClientModel) (o : Option CommonRef) → b.servers ≡ c.config.servers → HasPart b.parts o → IsAtServer c o
   common_at c None same has = tt
@@ -253,7 +253,7 @@ module _ (w : World) (k : Server) (b : Bag) (well : IsWell w) (l : IsLawful w b)
       omega arith
 
   -- a unit that is free was not granted before, nor fetched
-  note_is_new : (rank : Rank) (p : Pending) (unit : Work) → said (client_of w rank) p None ≡ (client_of w rank).transcript
+  note_is_new : (rank : Rank) (p : Pending) (unit : Unit) → said (client_of w rank) p None ≡ (client_of w rank).transcript
       → IsCalling w b rank p → IsFreeAt b (pool_of w k).me unit → IsNewNote (client_of w rank) (note_of (pool_of w k).me unit)
   note_is_new rank p unit before is u =
       let c = client_of w rank in
@@ -279,14 +279,14 @@ module _ (w : World) (k : Server) (b : Bag) (well : IsWell w) (l : IsLawful w b)
       }
 
   -- the note of the unit, and the letter that grants it
-  abbrev note_here : Work → UnitNote
+  abbrev note_here : Unit → UnitNote
   note_here unit = note_of (pool_of w k).me unit
 
-  abbrev grant : Wish → Work → Message
+  abbrev grant : Wish → Unit → Message
   grant wish unit = tells.Grant wish.request (note_here unit)
 
   -- a free unit is granted in a call that awaits the grant from this server
-  grants : (from : Server) (a : Act) (wish : Wish) (unit : Work) (p : Pending) → about a ≡ Some wish.rank
+  grants : (from : Server) (a : Act) (wish : Wish) (unit : Unit) (p : Pending) → about a ≡ Some wish.rank
       → entries a (pool_of w k) ≡ enters.Granted (pool_of w k).me wish.rank wish.request unit.id ∷ [] → IsCalling w b wish.rank p
       → IsGranted (client_of w wish.rank) p wish.request (note_here unit)
       → (IsNewNote (client_of w wish.rank) (note_here unit) → IsAwaited (client_of w wish.rank) p from (grant wish unit))
@@ -303,7 +303,7 @@ module _ (w : World) (k : Server) (b : Bag) (well : IsWell w) (l : IsLawful w b)
       (granted_comes c p wish.request me unit u.0 b n granted waits u.1 u.2 u.3)))
 
   -- in a reserve, from the rank's home
-  grants_wish : (from : Server) (a : Act) (wish : Wish) (unit : Work) → about a ≡ Some wish.rank
+  grants_wish : (from : Server) (a : Act) (wish : Wish) (unit : Unit) → about a ≡ Some wish.rank
       → entries a (pool_of w k) ≡ enters.Granted (pool_of w k).me wish.rank wish.request unit.id ∷ []
       → IsCalling w b wish.rank (waits_for.Reserve wish.request wish.types)
       → from ≡ home (client_of w wish.rank).config (client_of w wish.rank).me
@@ -314,19 +314,19 @@ module _ (w : World) (k : Server) (b : Bag) (well : IsWell w) (l : IsLawful w b)
       (λ new. ((refl, at_home), new)) u r needs
 
   -- the best unit is free in the bag
-  best_at : (wish : Wish) (unit : Work) → IsFound (best_for (pool_of w k).kept wish) unit → IsFreeAt b (pool_of w k).me unit
+  best_at : (wish : Wish) (unit : Unit) → IsFound (best_for (pool_of w k).kept wish) unit → IsFreeAt b (pool_of w k).me unit
   best_at wish unit found =
       let agrees = l.pools k here in
       let fit = best_is_fit (pool_of w k).kept wish found.0 agrees.units.distinct found.1 in
       free_at b (pool_of w k) found.0 unit agrees found.2 fit.found fit.free
 
-  pub grants_succeeds : (wish : Wish) (unit : Work) → IsAct w k (Grants wish unit) → Succeeds w k (Grants wish unit) b
+  pub grants_succeeds : (wish : Wish) (unit : Unit) → IsAct w k (Grants wish unit) → Succeeds w k (Grants wish unit) b
   grants_succeeds wish unit is =
       let h = reserve_here w k (Grants wish unit) b wish l is refl in
       grants_wish k (Grants wish unit) wish unit refl refl h.calling h.here (best_at wish unit is.sure.1)
       (replies w k _ _ _ refl (let e = one_self wish.rank in omega arith) refl) (asks_now wish h.calling)
 
-  pub grants_try_succeeds : (wish : Wish) (unit : Work) → IsAct w k (Grants_try wish unit) → Succeeds w k (Grants_try wish unit) b
+  pub grants_try_succeeds : (wish : Wish) (unit : Unit) → IsAct w k (Grants_try wish unit) → Succeeds w k (Grants_try wish unit) b
   grants_try_succeeds wish unit is =
       let h = try_here w k (Grants_try wish unit) b wish l is refl in
       grants k (Grants_try wish unit) wish unit (waits_for.Try wish.request wish.types h.tried) refl refl h.calling
@@ -335,17 +335,17 @@ module _ (w : World) (k : Server) (b : Bag) (well : IsWell w) (l : IsLawful w b)
       (tries_now wish h)
 
   -- one that has just become free, or the best one, is free in the bag
-  given_at : (unit : Work) (wish : Wish) → IsFreeFor (pool_of w k).kept unit wish ⊎ IsFound (best_for (pool_of w k).kept wish) unit
+  given_at : (unit : Unit) (wish : Wish) → IsFreeFor (pool_of w k).kept unit wish ⊎ IsFound (best_for (pool_of w k).kept wish) unit
       → IsFreeAt b (pool_of w k).me unit
   given_at unit wish (inl free) =
       let agrees = l.pools k here in
       let found = free.0 in
       let units = (pool_of w k).kept.queue.units in
       let there = free_is_found units unit.id found.0 agrees.units.distinct found.1 in
-      free_at b (pool_of w k) found.0 unit agrees found.2 (ap (λ (v : Work). unit_with v.id units) found.2 ∙ there.0) there.1
+      free_at b (pool_of w k) found.0 unit agrees found.2 (ap (λ (v : Unit). unit_with v.id units) found.2 ∙ there.0) there.1
   given_at unit wish (inr best) = best_at wish unit best
 
-  pub gives_succeeds : (at : Around) (wish : Wish) (rest : List Server) (unit : Work) → IsAct w k (Gives at wish rest unit)
+  pub gives_succeeds : (at : Around) (wish : Wish) (rest : List Server) (unit : Unit) → IsAct w k (Gives at wish rest unit)
       → Succeeds w k (Gives at wish rest unit) b
   gives_succeeds at wish rest unit is =
       let h = idle_here w k at wish rest b well l here is.sits in
@@ -353,7 +353,7 @@ module _ (w : World) (k : Server) (b : Bag) (well : IsWell w) (l : IsLawful w b)
       (replies w k _ _ _ refl (let e = one_self wish.rank in omega arith) refl) (asks_now wish h.calling)
 
   -- a server that is asked for the rank grants, and the rank awaits the word of its home
-  pub answers_succeeds : (from : Server) (wish : Wish) (unit : Work) → IsAct w k (Answers from wish unit)
+  pub answers_succeeds : (from : Server) (wish : Wish) (unit : Unit) → IsAct w k (Answers from wish unit)
       → Succeeds w k (Answers from wish unit) b
   answers_succeeds from wish unit is =
       let c = client_of w wish.rank in
@@ -393,7 +393,7 @@ module _ (w : World) (k : Server) (b : Bag) (well : IsWell w) (l : IsLawful w b)
   bytes_are rank request note u waits there =
       sym (ap (λ (n : UnitNote). n.length) (fetched_shares (client_of w rank) request note u b waits there))
 
-  pub fetches_succeeds : (rank : Rank) (request : ℕ) (id : UnitId) (unit : Work) → IsAct w k (Fetches rank request id unit)
+  pub fetches_succeeds : (rank : Rank) (request : ℕ) (id : UnitId) (unit : Unit) → IsAct w k (Fetches rank request id unit)
       → Succeeds w k (Fetches rank request id unit) b
   fetches_succeeds rank request id unit is =
       let h = fetch_here w k (Fetches rank request id unit) b rank request id l is refl in
@@ -409,7 +409,7 @@ module _ (w : World) (k : Server) (b : Bag) (well : IsWell w) (l : IsLawful w b)
       let there : unit_of b h.note.id ≡ Some u.0 = ap (unit_of b) h.named ∙ u.1.found in
       let same : u.0.unit ≡ unit = u.1.same ∙ found.2 in
       let waits = waits_so w b rank p well l h.calling in
-      let long = ap (λ (v : Work). length v.body) (sym same) ∙ bytes_are rank request h.note u.0 waits there in
+      let long = ap (λ (v : Unit). length v.body) (sym same) ∙ bytes_are rank request h.note u.0 waits there in
       decides (Fetches rank request id unit) rank p now refl h.calling
       (replies w k _ _ _ refl (let e = one_self rank in omega arith) refl) ((refl, h.here), long)
       (_, rank_is rank p h.calling, ap (λ i. is_at.Fetching request i false) h.named) (λ n.

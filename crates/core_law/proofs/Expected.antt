@@ -29,10 +29,10 @@ use Rattle.bag_law.specs.Sound.{IsSoundBag, IsKept}
 use Rattle.bag_law.proofs.Facts.{batch_is_open, owed_is_kept, part_counts, put_is_new}
 use Rattle.bag_law.proofs.Turn.{sum_found}
 use Rattle.bag_ledger.proofs.Tests.{some_is}
-use Rattle.bag_ledger.specs.declared.states.Part.{Part as Lot}
+use Rattle.bag_ledger.specs.declared.states.Part.{Part}
 use Rattle.adlb_unit.specs.declared.names.BatchId.{BatchId}
 use Rattle.adlb_unit.specs.declared.names.CommonRef.{CommonRef}
-use Rattle.batch_store.specs.Store.{CanClose, CanFetch, Keeps as PartKept, part_in}
+use Rattle.batch_store.specs.Store.{CanClose, CanFetch, Keeps, part_in}
 use Rattle.server_law.specs.Acts.{batch_of}
 use Rattle.server_law.proofs.Elsewhere.{begun_is_new}
 use Rattle.bag_law.proofs.Sound.{run_is_sound}
@@ -129,21 +129,21 @@ fetch_awaited rank note b s held a at =
 -- What a server finds of a batch.
 
 -- the part that the server keeps
-part_here : (b : Bag) (s : ServerModel) (batch : BatchId) (p : Lot) → ServerAgrees b s → part_of b batch ≡ Some p → p.server ≡ s.me
+part_here : (b : Bag) (s : ServerModel) (batch : BatchId) (p : Part) → ServerAgrees b s → part_of b batch ≡ Some p → p.server ≡ s.me
     → p.freed ≡ false → part_in s.kept.parts batch ≡ Some (part_seen p)
 part_here b s batch p a there at unfreed =
     a.parts batch ∙ ap (λ o. option_and_then (part_at s.me) o) there ∙ rw (at, unfreed, eq-eqb s.me.0 s.me.0 refl) refl
 
-part_charged : (b : Bag) (s : ServerModel) (batch : BatchId) (p : Lot) → ServerAgrees b s → part_of b batch ≡ Some p → p.server ≡ s.me
+part_charged : (b : Bag) (s : ServerModel) (batch : BatchId) (p : Part) → ServerAgrees b s → part_of b batch ≡ Some p → p.server ≡ s.me
     → p.freed ≡ false → length p.common ≤ s.kept.queue.common
 part_charged b s batch p a there at unfreed =
-    let one = sum_found (part_charge s.me) (λ (q : Lot). same_batch q.batch batch) b.parts p there in
+    let one = sum_found (part_charge s.me) (λ (q : Part). same_batch q.batch batch) b.parts p there in
     let charge : part_charge s.me p ≡ length p.common = rw (at, unfreed, eq-eqb s.me.0 s.me.0 refl) refl in
     let all = a.common in
     omega arith
 
 -- a closed part of which common bytes are owed can be fetched
-can_fetch : (p : Lot) → p.fetched < p.accepted → CanFetch (part_seen p)
+can_fetch : (p : Part) → p.fetched < p.accepted → CanFetch (part_seen p)
 can_fetch p few = by_closed p.closed
   where
     by_closed : (t : Bool) → (n : ℕ) → cond t (Some p.accepted) None ≡ Some n → p.fetched < n
@@ -152,7 +152,7 @@ can_fetch p few = by_closed p.closed
 
 common_awaited : (c : ClientModel) (request : ℕ) (note : UnitNote) (common : CommonRef) (own : List ℕ) (b : Bag) (s : ServerModel)
     → Waits c (waits_for.Common request note common own) b → IsSoundBag b → ServerAgrees b s → s.me ≡ common.server
-    → PartKept s.kept.parts common.batch s.kept.queue.common CanFetch
+    → Keeps s.kept.parts common.batch s.kept.queue.common CanFetch
 common_awaited c request note common own b s w sound a at =
     let owed = owed_is_kept b sound c.me (in_call c (waits_for.Common request note common own) None) request note.id w.rank refl in
     let one : owed.0 ≡ w.owed.0 = some_is (sym owed.2 ∙ w.owed.1) in
@@ -168,7 +168,7 @@ common_awaited c request note common own b s w sound a at =
 
 close_awaited : (c : ClientModel) (request : ℕ) (batch : CommonRef) (b : Bag) (s : ServerModel) → Waits c (waits_for.Close request batch) b
     → IsSoundBag b → ServerAgrees b s → s.me ≡ batch.server
-    → (batch.batch.rank ≡ c.me) × PartKept s.kept.parts batch.batch s.kept.queue.common (CanClose c.accepted)
+    → (batch.batch.rank ≡ c.me) × Keeps s.kept.parts batch.batch s.kept.queue.common (CanClose c.accepted)
 close_awaited c request batch b s w sound a at =
     let open_part = batch_is_open b sound c.me (in_call c (waits_for.Close request batch) None) batch w.rank w.call.1 in
     let p = open_part.1.0 in
@@ -176,7 +176,7 @@ close_awaited c request batch b s w sound a at =
     let here : p.server ≡ s.me = open_part.1.4 ∙ sym at in
     let has = subst (λ (o : Option CommonRef). HasAccepted b o c.accepted) w.call.1 w.accepted in
     let one : has.0 ≡ p = some_is (sym has.1 ∙ there) in
-    let count : p.accepted ≡ c.accepted = ap (λ (x : Lot). x.accepted) (sym one) ∙ has.2 in
+    let count : p.accepted ≡ c.accepted = ap (λ (x : Part). x.accepted) (sym one) ∙ has.2 in
     let counts = part_counts b sound batch.batch p there in
     let closed_not : p.closed ≡ false = open_part.1.2 in (
       ap rank_named open_part.0,

@@ -13,7 +13,7 @@ use Rattle.adlb_unit.specs.declared.names.Server.{Server}
 use Rattle.adlb_unit.specs.declared.names.UnitId.{UnitId}
 use Rattle.adlb_unit.proofs.Same.{same_unit_is}
 use Rattle.bag_ledger.specs.Bag.{Bag, promise_of, unit_of}
-use Rattle.bag_ledger.specs.declared.states.Placed.{Placed as Lodged}
+use Rattle.bag_ledger.specs.declared.states.Placed.{Placed}
 use Rattle.bag_ledger.specs.declared.states.UnitPlace.TheVariants.{Free, Travelling}
 use Rattle.bag_ledger.specs.declared.states.UnitPlace.{UnitPlace}
 use Rattle.bag_ledger.proofs.Tests.{some_is}
@@ -66,7 +66,7 @@ no_push_letter w k shape none even =
 
 -- A letter that is not of its pushes is not of an open push of the unit.
 
-held_elsewhere : (b : Bag) (k c : Server) (x id : UnitId) (u : Lodged) → unit_of b id ≡ Some u → u.place ≡ Free k → IsHeldAt b c x
+held_elsewhere : (b : Bag) (k c : Server) (x id : UnitId) (u : Placed) → unit_of b id ≡ Some u → u.place ≡ Free k → IsHeldAt b c x
     → one (c.0 == k.0) ≡ 0 → one (same_unit x id) ≡ 0
 held_elsewhere b k c x id u found free is away = by_test (same_unit x id) refl
   where
@@ -74,13 +74,13 @@ held_elsewhere b k c x id u found free is away = by_test (same_unit x id) refl
     by_test false differs = ap one differs
     by_test true same =
         let it : is.unit ≡ u = some_is (sym is.found ∙ ap (λ i. unit_of b i) (same_unit_is x id same) ∙ found) in
-        let place : is.unit.place ≡ Free k = ap (λ (v : Lodged). v.place) it ∙ free in
+        let place : is.unit.place ≡ Free k = ap (λ (v : Placed). v.place) it ∙ free in
         let here : (k.0 == c.0) ≡ true = subst (λ (p : UnitPlace). is_held_at c p ≡ true) place is.held in
         let back : (c.0 == k.0) ≡ true = eq-eqb c.0 k.0 (sym (eqb-true k.0 c.0 here)) in
         let no_one = one_not (c.0 == k.0) away in
         absurd (cc)
 
-not_open : (b : Bag) (k : Server) (id : UnitId) (u : Lodged) → unit_of b id ≡ Some u → u.place ≡ Free k → (from to : Server) (m : Message)
+not_open : (b : Bag) (k : Server) (id : UnitId) (u : Placed) → unit_of b id ≡ Some u → u.place ≡ Free k → (from to : Server) (m : Message)
     → of_push k from.0 to.0 m ≡ 0 → OfPush b from to m → open_of id m ≡ 0
 not_open b k id u found free from to (tells.PushQuery x n) away of = held_elsewhere b k from x id u found free of.0 away
 not_open b k id u found free from to (tells.PushYes x) away of = held_elsewhere b k to x id u found free of.0 away
@@ -93,11 +93,11 @@ not_open b k id u found free from to (tells.PushUnit unit) away of = by_test (sa
     by_test true is =
         let it : record { unit = unit; place = Travelling to } ≡ u =
         some_is (sym of ∙ ap (λ i. unit_of b i) (same_unit_is unit.id id is) ∙ found) in
-        let both : Travelling to ≡ Free k = ap (λ (v : Lodged). v.place) it ∙ free in
+        let both : Travelling to ≡ Free k = ap (λ (v : Placed). v.place) it ∙ free in
         absurd (cc)
 not_open b k id u found free from to _ away of = refl
 
-unopened : (w : World) (k : Server) (b : Bag) (id : UnitId) (u : Lodged) → IsShaped w → (pool_of w k).kept.pushing.push ≡ None
+unopened : (w : World) (k : Server) (b : Bag) (id : UnitId) (u : Placed) → IsShaped w → (pool_of w k).kept.pushing.push ≡ None
     → IsBalanced (push_weights (pushing k)) w → IsPushed w b → unit_of b id ≡ Some u → u.place ≡ Free k
     → OnLinks (λ from to l. open_letter id from to l.message ≡ 0) w.config w.links
 unopened w k b id u shape none even pushed found free =
@@ -136,7 +136,7 @@ unpromised w b id pushed none =
 -- A push begins.
 
 -- the query for room opens a push, and leaves what is known of the others
-pub queries_pushed : (w : World) (k to : Server) (id : UnitId) (size : ℕ) (b : Bag) (u : Lodged) → IsMade w k (Queries to id size) b b
+pub queries_pushed : (w : World) (k to : Server) (id : UnitId) (size : ℕ) (b : Bag) (u : Placed) → IsMade w k (Queries to id size) b b
     → (pool_of w k).kept.pushing.push ≡ None → IsBalanced (push_weights (pushing k)) w → unit_of b id ≡ Some u → u.place ≡ Free k
     → length u.unit.body ≡ size → IsPushed w b → IsPushed (acted w k (Queries to id size)) b
 queries_pushed w k to id size b u m rests even found free long pushed =

@@ -11,7 +11,7 @@ use Rattle.adlb_unit.specs.declared.letters.Letter.{Letter}
 use Rattle.adlb_unit.specs.declared.names.UnitId.{UnitId}
 use Rattle.adlb_unit.proofs.Same.{same_unit_from}
 use Rattle.bag_ledger.specs.Bag.{Bag}
-use Rattle.bag_ledger.specs.declared.states.Promise.{Promise as Room}
+use Rattle.bag_ledger.specs.declared.states.Promise.{Promise}
 use Rattle.bag_law.specs.Counts.{one as one_named, promises_named}
 use Rattle.core_run.specs.World.{World, link}
 use Rattle.core_law.specs.Letters.{fits_between, misfit}
@@ -48,12 +48,12 @@ none_between w id well alone =
     }
 
 -- if no unit is promised, there is no promise
-pub none_named : (rooms : List Room) → ((id : UnitId) → promises_named id rooms ≡ 0) → rooms ≡ []
+pub none_named : (rooms : List Promise) → ((id : UnitId) → promises_named id rooms ≡ 0) → rooms ≡ []
 none_named [] none = refl
 none_named (p ∷ rooms) none =
     let same = same_unit_from p.id p.id refl in
     let its : one_named (same_unit p.id p.id) ≡ 1 = rw same refl in
-    let sum = sum_by-cons (λ (q : Room). one_named (same_unit q.id p.id)) p rooms in
+    let sum = sum_by-cons (λ (q : Promise). one_named (same_unit q.id p.id)) p rooms in
     let all = none p.id in
     absurd (omega arith)
 

@@ -11,7 +11,7 @@ use Rattle.bag_ledger.specs.declared.entries.Call.{Call}
 use Rattle.bag_ledger.specs.declared.entries.Entry.{Entry}
 use Rattle.bag_ledger.specs.declared.entries.Entry.TheVariants as enters
 use Rattle.bag_ledger.specs.declared.entries.Said.{Said}
-use Rattle.bag_ledger.specs.declared.states.Placed.{Placed as Lodged}
+use Rattle.bag_ledger.specs.declared.states.Placed.{Placed}
 use Rattle.bag_ledger.specs.declared.states.RankState.{RankState}
 use Rattle.bag_ledger.specs.Bag.{Bag, rank_at, unit_of}
 use Rattle.bag_ledger.specs.Runs.{answered, call_of, calls_from, common_answer, note_of, own_answer, said_by, says}
@@ -41,13 +41,13 @@ maybe_other me b rank None is = refl
 maybe_other me b rank (Some answer) is = answer_other me b rank answer is
 
 -- what is granted or fetched
-unit_other : (me : Rank) (b : Bag) (rank : Rank) (f : Lodged → Option Answer) (o : Option Lodged) → tells_of me (Some rank) ≡ false
-    → said_by me (option_and_then (λ (u : Lodged). option_and_then (answered b rank) (f u)) o) ≡ []
+unit_other : (me : Rank) (b : Bag) (rank : Rank) (f : Placed → Option Answer) (o : Option Placed) → tells_of me (Some rank) ≡ false
+    → said_by me (option_and_then (λ (u : Placed). option_and_then (answered b rank) (f u)) o) ≡ []
 unit_other me b rank f None is = refl
 unit_other me b rank f (Some u) is = maybe_other me b rank (f u) is
 
-grant_other : (me : Rank) (b : Bag) (server : Server) (rank : Rank) (o : Option Lodged) → tells_of me (Some rank) ≡ false
-    → said_by me (option_and_then (λ (u : Lodged). answered b rank (answers.Granted (note_of server u.unit))) o) ≡ []
+grant_other : (me : Rank) (b : Bag) (server : Server) (rank : Rank) (o : Option Placed) → tells_of me (Some rank) ≡ false
+    → said_by me (option_and_then (λ (u : Placed). answered b rank (answers.Granted (note_of server u.unit))) o) ≡ []
 grant_other me b server rank None is = refl
 grant_other me b server rank (Some u) is = answer_other me b rank (answers.Granted (note_of server u.unit)) is
 

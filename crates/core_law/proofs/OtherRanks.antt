@@ -19,7 +19,7 @@ use Rattle.adlb_unit.proofs.Same.{same_unit_is}
 use Rattle.bag_ledger.specs.declared.entries.Entry.{Entry}
 use Rattle.bag_ledger.specs.declared.entries.Entry.TheVariants as enters
 use Rattle.bag_ledger.specs.declared.states.Part.{Part}
-use Rattle.bag_ledger.specs.declared.states.Placed.{Placed as Lodged}
+use Rattle.bag_ledger.specs.declared.states.Placed.{Placed}
 use Rattle.bag_ledger.specs.declared.states.Promise.{Promise}
 use Rattle.bag_ledger.specs.declared.states.RankState.{RankState}
 use Rattle.bag_ledger.specs.declared.states.UnitPlace.{UnitPlace}
@@ -60,7 +60,7 @@ still_caused b next (Some ends_by.Exhausted) done exhausted is = exhausted is
 -- What it keeps of the units and of the rank's batch.
 
 record KeepsUnits (me : Rank) (b next : Bag) : Type 0 where
-  unit : (id : UnitId) (u : Lodged) → unit_of b id ≡ Some u → (v : Lodged) × (unit_of next id ≡ Some v) × (v.unit ≡ u.unit)
+  unit : (id : UnitId) (u : Placed) → unit_of b id ≡ Some u → (v : Placed) × (unit_of next id ≡ Some v) × (v.unit ≡ u.unit)
   part : (batch : BatchId) (p : Part) → batch.rank.0 ≡ me.0 → part_of b batch ≡ Some p
       → (q : Part) × (part_of next batch ≡ Some q) × (q.accepted ≡ p.accepted)
 
@@ -130,17 +130,17 @@ aside : (me : Rank) (b : Bag) (parts : List Part) (promises : List Promise) → 
 aside me b parts promises = record { rank = refl; servers = refl; done = λ is. is; exhausted = λ is. is; held = λ note is. is }
 
 -- a unit comes
-added : (me : Rank) (b : Bag) (u : Lodged) (parts : List Part) → Leaves me b (record b { units = b.units ++ u ∷ []; parts = parts })
+added : (me : Rank) (b : Bag) (u : Placed) (parts : List Part) → Leaves me b (record b { units = b.units ++ u ∷ []; parts = parts })
 added me b u parts = record {
   rank = refl;
   servers = refl;
   done = λ is. is;
   exhausted = λ is. is;
-  held = λ note is. (is.0, (find_before (λ (v : Lodged). same_unit v.unit.id note.id) b.units (u ∷ []) is.0 is.1.0, is.1.1));
+  held = λ note is. (is.0, (find_before (λ (v : Placed). same_unit v.unit.id note.id) b.units (u ∷ []) is.0 is.1.0, is.1.1));
 }
 
 -- a unit that is not the rank's is moved
-goes : (me : Rank) (b : Bag) (id : UnitId) (place : UnitPlace) (u : Lodged) (promises : List Promise) → unit_of b id ≡ Some u
+goes : (me : Rank) (b : Bag) (id : UnitId) (place : UnitPlace) (u : Placed) (promises : List Promise) → unit_of b id ≡ Some u
     → ((server : Server) → u.place ≡ Pinned server me → ⊥) → Leaves me b (record (moved id place b) { promises = promises })
 goes me b id place u promises there apart = record { rank = refl; servers = refl; done = λ is. is; exhausted = λ is. is; held = held }
   where
@@ -151,16 +151,16 @@ goes me b id place u promises there apart = record { rank = refl; servers = refl
         by_test true same =
             let here : unit_of b note.id ≡ Some u = ap (λ i. unit_of b i) (sym (same_unit_is id note.id same)) ∙ there in
             let one : u ≡ is.0 = some_is (sym here ∙ is.1.0) in
-            absurd (apart note.server (ap (λ (v : Lodged). v.place) one ∙ is.1.1))
+            absurd (apart note.server (ap (λ (v : Placed). v.place) one ∙ is.1.1))
         by_test false differs = (is.0, (moved_other b id note.id place differs ∙ is.1.0, is.1.1))
 
-free_apart : (me : Rank) (at server : Server) (u : Lodged) → u.place ≡ Free at → u.place ≡ Pinned server me → ⊥
+free_apart : (me : Rank) (at server : Server) (u : Placed) → u.place ≡ Free at → u.place ≡ Pinned server me → ⊥
 free_apart me at server u free pinned = let both : Free at ≡ Pinned server me = sym free ∙ pinned in absurd (cc)
 
-travelling_apart : (me : Rank) (to server : Server) (u : Lodged) → u.place ≡ Travelling to → u.place ≡ Pinned server me → ⊥
+travelling_apart : (me : Rank) (to server : Server) (u : Placed) → u.place ≡ Travelling to → u.place ≡ Pinned server me → ⊥
 travelling_apart me to server u on_way pinned = let both : Travelling to ≡ Pinned server me = sym on_way ∙ pinned in absurd (cc)
 
-pinned_apart : (me other : Rank) (at server : Server) (u : Lodged) → me.0 ≢ other.0 → u.place ≡ Pinned at other
+pinned_apart : (me other : Rank) (at server : Server) (u : Placed) → me.0 ≢ other.0 → u.place ≡ Pinned at other
     → u.place ≡ Pinned server me → ⊥
 pinned_apart me other at server u differs one two =
     let both : Pinned at other ≡ Pinned server me = sym one ∙ two in
@@ -234,16 +234,16 @@ entry_leaves found me b (enters.Finished rank call) s is = then_rank me rank _ b
 
 -- Units stay, and so do the counts of the rank's own batch.
 
-unit_same : (b : Bag) (id : UnitId) (u : Lodged) → unit_of b id ≡ Some u → (v : Lodged) × (unit_of b id ≡ Some v) × (v.unit ≡ u.unit)
+unit_same : (b : Bag) (id : UnitId) (u : Placed) → unit_of b id ≡ Some u → (v : Placed) × (unit_of b id ≡ Some v) × (v.unit ≡ u.unit)
 unit_same b id u there = (u, there, refl)
 
-unit_kept : (found : Bag → Bool) (b : Bag) (e : Entry) (id : UnitId) (u : Lodged) → LegalWhere found b e → unit_of b id ≡ Some u
-    → (v : Lodged) × (unit_of (after b e) id ≡ Some v) × (v.unit ≡ u.unit)
+unit_kept : (found : Bag → Bool) (b : Bag) (e : Entry) (id : UnitId) (u : Placed) → LegalWhere found b e → unit_of b id ≡ Some u
+    → (v : Placed) × (unit_of (after b e) id ≡ Some v) × (v.unit ≡ u.unit)
 unit_kept found b (enters.Accepted server x) id u l there =
     let a = accepted_is b server x l in (
       u,
-      ap (find (λ (v : Lodged). same_unit v.unit.id id)) a.units
-          ∙ find_before (λ (v : Lodged). same_unit v.unit.id id) b.units (record { unit = a.u; place = Free server } ∷ []) u there,
+      ap (find (λ (v : Placed). same_unit v.unit.id id)) a.units
+          ∙ find_before (λ (v : Placed). same_unit v.unit.id id) b.units (record { unit = a.u; place = Free server } ∷ []) u there,
       refl,
     )
 unit_kept found b (enters.Kept server batch) id u l there = (u, ap (λ (n : Bag). unit_of n id) (kept_is b server batch l) ∙ there, refl)

@@ -3,7 +3,7 @@ use Rattle.std.proofs.Common.{◌≡◌, inl, inr, ◌+◌, ℕ, Bool, true, fal
 use Rattle.std.proofs.Common.{ap, ◌∙◌, find, append-nil}
 use Rattle.std.specs.Prelude.{option_and_then}
 use Rattle.adlb_unit.specs.Ids.{same_batch, same_unit}
-use Rattle.bag_ledger.specs.declared.states.Placed.{Placed as Lodged}
+use Rattle.bag_ledger.specs.declared.states.Placed.{Placed}
 use Rattle.adlb_unit.specs.declared.messages.Message.{Message}
 use Rattle.adlb_unit.specs.declared.messages.Message.TheVariants as tells
 use Rattle.adlb_unit.specs.declared.names.BatchId.{BatchId}
@@ -53,9 +53,9 @@ accepted_turned b batch g same counts (Some c) n has = by_is (part_is g same bat
 owed_same : (b n : Bag) (p : Pending) (coming : Option Message) → n.units ≡ b.units → n.done ≡ b.done → IsOwedIn b p coming
     → IsOwedIn n p coming
 owed_same b n (waits_for.Fetch request note) (Some (tells.Bytes to own)) same alike is = λ common shares. let o = is common shares in
-    (o.0, ap (λ units. find (λ (u : Lodged). same_unit u.unit.id note.id) units) same ∙ o.1, o.2, o.3)
+    (o.0, ap (λ units. find (λ (u : Placed). same_unit u.unit.id note.id) units) same ∙ o.1, o.2, o.3)
 owed_same b n (waits_for.Common request note common own) coming same alike is =
-    (is.0, ap (λ units. find (λ (u : Lodged). same_unit u.unit.id note.id) units) same ∙ is.1, is.2, is.3)
+    (is.0, ap (λ units. find (λ (u : Placed). same_unit u.unit.id note.id) units) same ∙ is.1, is.2, is.3)
 owed_same b n (waits_for.Fetch request note) None same alike is = tt
 owed_same b n (waits_for.Fetch request note) (Some _) same alike is = tt
 owed_same b n waits_for.Nothing coming same alike is = tt

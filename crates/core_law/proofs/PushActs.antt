@@ -16,8 +16,8 @@ use Rattle.bag_ledger.specs.Bag.{Bag, promise_of, unit_of}
 use Rattle.bag_ledger.specs.Steps.{after}
 use Rattle.bag_ledger.specs.declared.entries.Entry.TheVariants as enters
 use Rattle.bag_ledger.specs.declared.entries.Entry.{Entry}
-use Rattle.bag_ledger.specs.declared.states.Placed.{Placed as Lodged}
-use Rattle.bag_ledger.specs.declared.states.Promise.{Promise as Room}
+use Rattle.bag_ledger.specs.declared.states.Placed.{Placed}
+use Rattle.bag_ledger.specs.declared.states.Promise.{Promise}
 use Rattle.bag_ledger.specs.declared.states.UnitPlace.TheVariants.{Free, Travelling}
 use Rattle.bag_ledger.proofs.Moves.{moved_here}
 use Rattle.bag_law.specs.Counts.{promises_named}
@@ -211,7 +211,7 @@ pub promises_pushed : (w : World) (k from : Server) (id : UnitId) (size : ℕ) (
 promises_pushed w k from id size b n m pushed =
     let s = pool_of w k in
     let own = m.own in
-    let room : Room = record { server = s.me; id = id; length = size } in
+    let room : Promise = record { server = s.me; id = id; length = size } in
     let e = enters.Promised s.me id size in
     let is : n ≡ after b e = (single b n e m.step).1 in
     let of : OfPush b from k (tells.PushQuery id size) =
@@ -219,7 +219,7 @@ promises_pushed w k from id size b n m pushed =
     let held : IsHeldAt n from id = rw is (record { unit = (of.0).unit; found = (of.0).found; held = (of.0).held }) in
     let same = same_unit_from id id refl in
     let found : promise_of n id ≡ Some room = rw is
-    (find-append (λ (q : Room). same_unit q.id id) b.promises (room ∷ []) ∙ rw (of.2, same) refl) in
+    (find-append (λ (q : Promise). same_unit q.id id) b.promises (room ∷ []) ∙ rw (of.2, same) refl) in
     let rooms : n.promises ≡ b.promises ++ room ∷ [] = ap (λ (x : Bag). x.promises) is in
     let units : n.units ≡ b.units = ap (λ (x : Bag). x.units) is in
     mover_passes w k (Promises from id size) b n id m (refl, tt) (one_same id) tt
@@ -246,7 +246,7 @@ pub sends_pushed : (w : World) (k to : Server) (size : ℕ) (unit : Work) (b n :
 sends_pushed w k to size unit b n m found pushed =
     let e = enters.Left (pool_of w k).me to unit.id in
     let is : n ≡ after b e = (single b n e m.step).1 in
-    let u : Lodged = record { unit = unit; place = Free (pool_of w k).me } in
+    let u : Placed = record { unit = unit; place = Free (pool_of w k).me } in
     let there : unit_of n unit.id ≡ Some (record { unit = unit; place = Travelling to }) = rw is
     (moved_here b unit.id (Travelling to) u found) in
     mover_passes w k (Sends_unit to size unit) b n unit.id m (refl, tt) (one_same unit.id) tt (there, tt) (record {
@@ -266,7 +266,7 @@ cancels_pushed w k to id size b m pushed =
     mover_stays w k (Cancels to id size) b b m tt tt (of, tt) (record { rooms = λ x. refl; travels = λ x. refl }) pushed
 
 -- a unit that comes
-pub arrives_pushed : (w : World) (k from : Server) (unit : Work) (b n : Bag) (p : Room) → IsMade w k (Arrives from unit) b n
+pub arrives_pushed : (w : World) (k from : Server) (unit : Work) (b n : Bag) (p : Promise) → IsMade w k (Arrives from unit) b n
     → PromisesAreSingle b.promises → promise_of b unit.id ≡ Some p → IsPushed w b → IsPushed (acted w k (Arrives from unit)) n
 arrives_pushed w k from unit b n p m once found pushed =
     let e = enters.Arrived (pool_of w k).me unit.id in
@@ -280,7 +280,7 @@ arrives_pushed w k from unit b n p m once found pushed =
           let now = ap (λ (c : Bag). promises_named x c.promises) is in
           omega arith;
       travels = λ x.
-          let u : Lodged = record { unit = unit; place = Travelling k } in
+          let u : Placed = record { unit = unit; place = Travelling k } in
           let sum = moved_way x unit.id (Free (pool_of w k).me) b.units u of in
           let now = ap (λ (c : Bag). on_way x c.units) is in
           omega arith;

@@ -8,15 +8,15 @@ use Rattle.adlb_unit.specs.declared.names.BatchId.{BatchId}
 use Rattle.adlb_unit.specs.declared.names.CommonRef.{CommonRef}
 use Rattle.adlb_unit.specs.declared.names.Server.{Server}
 use Rattle.adlb_unit.specs.declared.names.UnitId.{UnitId}
-use Rattle.adlb_unit.specs.declared.units.Unit.{Unit as Work}
+use Rattle.adlb_unit.specs.declared.units.Unit.{Unit}
 use Rattle.adlb_unit.proofs.Same.{same_unit_is}
 use Rattle.bag_ledger.specs.Bag.{Bag, is_travelling, keeping, promise_of, putting, rank_at}
 use Rattle.bag_ledger.specs.Runs.{IsRunWhere}
 use Rattle.bag_ledger.specs.Steps.{LegalWhere, after, change_first, kept, shared, taken}
 use Rattle.bag_ledger.specs.declared.entries.Entry.TheVariants as enters
 use Rattle.bag_ledger.specs.declared.entries.Entry.{Entry}
-use Rattle.bag_ledger.specs.declared.states.Placed.{Placed as Lodged}
-use Rattle.bag_ledger.specs.declared.states.Promise.{Promise as Room}
+use Rattle.bag_ledger.specs.declared.states.Placed.{Placed}
+use Rattle.bag_ledger.specs.declared.states.Promise.{Promise}
 use Rattle.bag_ledger.specs.declared.states.RankState.{RankState}
 use Rattle.bag_ledger.specs.declared.states.UnitPlace.TheVariants.{Free, Pinned, Spent}
 use Rattle.bag_ledger.specs.declared.states.UnitPlace.{UnitPlace}
@@ -37,60 +37,62 @@ one_is_one : (t : Bool) → counts_one t ≡ one t
 one_is_one true = refl
 one_is_one false = refl
 
-named_cons : (x : UnitId) (p : Room) (rooms : List Room) → promises_named x (p ∷ rooms) ≡ one (same_unit p.id x) + promises_named x rooms
+named_cons : (x : UnitId) (p : Promise) (rooms : List Promise)
+    → promises_named x (p ∷ rooms) ≡ one (same_unit p.id x) + promises_named x rooms
 named_cons x p rooms =
-    sum_by-cons (λ (q : Room). counts_one (same_unit q.id x)) p rooms ∙ ap (λ n. n + promises_named x rooms) (one_is_one (same_unit p.id x))
+    sum_by-cons (λ (q : Promise). counts_one (same_unit q.id x)) p rooms
+    ∙ ap (λ n. n + promises_named x rooms) (one_is_one (same_unit p.id x))
 
 -- one more
-pub named_more : (x : UnitId) (p : Room) (rooms : List Room)
+pub named_more : (x : UnitId) (p : Promise) (rooms : List Promise)
     → promises_named x (rooms ++ p ∷ []) ≡ one (same_unit p.id x) + promises_named x rooms
 named_more x p rooms =
-    let sum = sum_by_push (λ (q : Room). counts_one (same_unit q.id x)) rooms p in
+    let sum = sum_by_push (λ (q : Promise). counts_one (same_unit q.id x)) rooms p in
     let same = one_is_one (same_unit p.id x) in
     omega arith
 
 -- they are the ones that a test picks
-named_are : (x : UnitId) (rooms : List Room) → promises_named x rooms ≡ picked (λ (p : Room). same_unit p.id x) rooms
+named_are : (x : UnitId) (rooms : List Promise) → promises_named x rooms ≡ picked (λ (p : Promise). same_unit p.id x) rooms
 named_are x [] = refl
 named_are x (p ∷ rooms) =
-    let sum = sum_by-cons (λ (q : Room). one (same_unit q.id x)) p rooms in
+    let sum = sum_by-cons (λ (q : Promise). one (same_unit q.id x)) p rooms in
     named_cons x p rooms ∙ ap (λ n. one (same_unit p.id x) + n) (named_are x rooms) ∙ sym sum
 
 -- the promise that is no longer there was the only one of its unit
-pub promise_gone : (id x : UnitId) (rooms : List Room) (p : Room) → PromisesAreSingle rooms
-    → find (λ (q : Room). same_unit q.id id) rooms ≡ Some p
-    → one (same_unit id x) + promises_named x (filter (λ (q : Room). not (same_unit q.id id)) rooms) ≡ promises_named x rooms
+pub promise_gone : (id x : UnitId) (rooms : List Promise) (p : Promise) → PromisesAreSingle rooms
+    → find (λ (q : Promise). same_unit q.id id) rooms ≡ Some p
+    → one (same_unit id x) + promises_named x (filter (λ (q : Promise). not (same_unit q.id id)) rooms) ≡ promises_named x rooms
 promise_gone id x rooms p single found =
-    let few : picked (λ (q : Room). same_unit q.id id) rooms ≤ 1 =
+    let few : picked (λ (q : Promise). same_unit q.id id) rooms ≤ 1 =
     let most = single.each id in let same = named_are id rooms in omega arith in
-    let sum = gone_sum (λ (q : Room). same_unit q.id id) (λ (q : Room). counts_one (same_unit q.id x)) rooms p few found in
-    let its : same_unit p.id id ≡ true = (found_passes (λ (q : Room). same_unit q.id id) rooms p found) in
+    let sum = gone_sum (λ (q : Promise). same_unit q.id id) (λ (q : Promise). counts_one (same_unit q.id x)) rooms p few found in
+    let its : same_unit p.id id ≡ true = (found_passes (λ (q : Promise). same_unit q.id id) rooms p found) in
     let weight : counts_one (same_unit p.id x) ≡ one (same_unit id x) =
     one_is_one (same_unit p.id x) ∙ ap (λ (i : UnitId). one (same_unit i x)) (same_unit_is p.id id its) in
     omega arith
 
 -- a unit of which no promise is counted has none
 pub not_promised : (b : Bag) (id : UnitId) → promises_named id b.promises ≡ 0 → promise_of b id ≡ None
-not_promised b id none = picked_none (λ (p : Room). same_unit p.id id) b.promises (sym (named_are id b.promises) ∙ none)
+not_promised b id none = picked_none (λ (p : Promise). same_unit p.id id) b.promises (sym (named_are id b.promises) ∙ none)
 
 -- Units between servers.
 
-abbrev is_on_way : UnitId → Lodged → ℕ
+abbrev is_on_way : UnitId → Placed → ℕ
 is_on_way id u = one (is_travelling u.place && same_unit u.unit.id id)
 
-rests : (id : UnitId) (u : Lodged) → is_travelling u.place ≡ false → is_on_way id u ≡ 0
+rests : (id : UnitId) (u : Placed) → is_travelling u.place ≡ false → is_on_way id u ≡ 0
 rests id u is = rw is refl
 
 -- one is moved
-pub moved_way : (id x : UnitId) (place : UnitPlace) (units : List Lodged) (u : Lodged)
-    → find (λ (v : Lodged). same_unit v.unit.id x) units ≡ Some u
-    → on_way id (change_first (λ (v : Lodged). record v { place = place }) (λ (v : Lodged). same_unit v.unit.id x) units)
+pub moved_way : (id x : UnitId) (place : UnitPlace) (units : List Placed) (u : Placed)
+    → find (λ (v : Placed). same_unit v.unit.id x) units ≡ Some u
+    → on_way id (change_first (λ (v : Placed). record v { place = place }) (λ (v : Placed). same_unit v.unit.id x) units)
     + one (is_travelling u.place && same_unit u.unit.id id)
     ≡ on_way id units + one (is_travelling place && same_unit u.unit.id id)
 moved_way id x place units u found =
-    sum_changed (is_on_way id) (λ (v : Lodged). record v { place = place }) (λ (v : Lodged). same_unit v.unit.id x) units u found
+    sum_changed (is_on_way id) (λ (v : Placed). record v { place = place }) (λ (v : Placed). same_unit v.unit.id x) units u found
 
-taken_way : (id : UnitId) (b : Bag) (server : Server) (o : Option Work) → on_way id (taken server o b).units ≡ on_way id b.units
+taken_way : (id : UnitId) (b : Bag) (server : Server) (o : Option Unit) → on_way id (taken server o b).units ≡ on_way id b.units
 taken_way id b server None = refl
 taken_way id b server (Some unit) = by_common unit.common
   where

@@ -11,10 +11,10 @@ use Rattle.adlb_unit.specs.declared.messages.Message.TheVariants as tells
 use Rattle.adlb_unit.specs.declared.messages.Message.{Message}
 use Rattle.adlb_unit.specs.declared.names.Server.{Server}
 use Rattle.adlb_unit.specs.declared.names.UnitId.{UnitId}
-use Rattle.adlb_unit.specs.declared.units.Unit.{Unit as Work}
+use Rattle.adlb_unit.specs.declared.units.Unit.{Unit}
 use Rattle.bag_ledger.specs.Bag.{Bag, unit_of}
 use Rattle.bag_ledger.specs.Runs.{IsRunWhere}
-use Rattle.bag_ledger.specs.declared.states.Placed.{Placed as Lodged}
+use Rattle.bag_ledger.specs.declared.states.Placed.{Placed}
 use Rattle.bag_ledger.specs.declared.states.UnitPlace.TheVariants.{Free, Travelling}
 use Rattle.bag_ledger.specs.declared.states.UnitPlace.{UnitPlace}
 use Rattle.bag_ledger.proofs.Tests.{some_is}
@@ -47,12 +47,12 @@ use Rattle.core_law.proofs.Pushing.{begins_push}
 use Rattle.core_law.proofs.Seats.{IsMade}
 use Rattle.core_law.proofs.LettersAndActors.{fit_of}
 
-abbrev is_free : Bag → Server → Work → Type 0
+abbrev is_free : Bag → Server → Unit → Type 0
 is_free b me unit = unit_of b unit.id ≡ Some (record { unit = unit; place = Free me })
 
-free_is : (b : Bag) (me : Server) (unit : Work) → IsFreeAt b me unit → is_free b me unit
+free_is : (b : Bag) (me : Server) (unit : Unit) → IsFreeAt b me unit → is_free b me unit
 free_is b me unit u =
-    u.1 ∙ ap (λ (x : Work). Some (record { unit = x; place = u.0.place })) u.2
+    u.1 ∙ ap (λ (x : Unit). Some (record { unit = x; place = u.0.place })) u.2
     ∙ ap (λ (p : UnitPlace). Some (record { unit = unit; place = p })) u.3
 
 -- the unit for which room is asked is the first to push
@@ -71,7 +71,7 @@ query_unit config me p queue q is = by_test (may_push config p queue) is
 
 -- and it is free in the bag, and so long
 record IsFirst (b : Bag) (me : Server) (id : UnitId) (size : ℕ) : Type 0 where
-  unit : Lodged
+  unit : Placed
   found : unit_of b id ≡ Some unit
   free : unit.place ≡ Free me
   long : length unit.unit.body ≡ size
@@ -98,7 +98,7 @@ first_here b s id size agrees is = by_pick (fold pick_to_push None s.kept.queue.
           unit = u.0;
           found = ap (unit_of b) (sym name) ∙ u.1;
           free = u.3;
-          long = ap (λ (x : Work). length x.body) u.2 ∙ long;
+          long = ap (λ (x : Unit). length x.body) u.2 ∙ long;
         }
 
 module _ (w : World) (k : Server) (b : Bag) (well : IsWell w) (l : IsLawful w b) where
@@ -113,14 +113,14 @@ module _ (w : World) (k : Server) (b : Bag) (well : IsWell w) (l : IsLawful w b)
   singles = (run_is_sound (found_in w.config) w.config w.ledger b l.run).single
 
   -- a unit that is sent
-  sent_is_free : (to : Server) (size : ℕ) (unit : Work) → IsAct w k (Sends_unit to size unit) → is_free b (pool_of w k).me unit
+  sent_is_free : (to : Server) (size : ℕ) (unit : Unit) → IsAct w k (Sends_unit to size unit) → is_free b (pool_of w k).me unit
   sent_is_free to size unit is =
       let s = pool_of w k in
       let agrees = l.pools k is.here in
       let found = is.sure.1 in
       let units = s.kept.queue.units in
       let at = free_is_found units unit.id found.0 agrees.units.distinct found.1 in
-      let there = ap (λ (v : Work). unit_with v.id units) found.2 ∙ at.0 in
+      let there = ap (λ (v : Unit). unit_with v.id units) found.2 ∙ at.0 in
       free_is b s.me unit (free_at b s found.0 unit agrees found.2 there at.1)
 
   -- What the act needs of the bag.
@@ -140,7 +140,7 @@ module _ (w : World) (k : Server) (b : Bag) (well : IsWell w) (l : IsLawful w b)
         of.2,
       )
 
-  pub sends_needs : (to : Server) (size : ℕ) (unit : Work) → IsAct w k (Sends_unit to size unit)
+  pub sends_needs : (to : Server) (size : ℕ) (unit : Unit) → IsAct w k (Sends_unit to size unit)
       → Needs (found_in w.config) (Sends_unit to size unit) b (pool_of w k).me
   sends_needs to size unit is =
       let of = letter_is (Sends_unit to size unit) to (tells.PushYes unit.id) is refl in
@@ -150,7 +150,7 @@ module _ (w : World) (k : Server) (b : Bag) (well : IsWell w) (l : IsLawful w b)
       let servers = agrees.servers in
       (omega arith, of.1)
 
-  pub arrives_needs : (from : Server) (unit : Work) → IsAct w k (Arrives from unit)
+  pub arrives_needs : (from : Server) (unit : Unit) → IsAct w k (Arrives from unit)
       → Needs (found_in w.config) (Arrives from unit) b (pool_of w k).me
   arrives_needs from unit is =
       let of = letter_is (Arrives from unit) from (tells.PushUnit unit) is refl in

@@ -19,7 +19,7 @@ use Rattle.adlb_unit.proofs.Same.{same_unit_from}
 use Rattle.bag_ledger.proofs.Tests.{some_is}
 use Rattle.bag_ledger.specs.Bag.{Bag, promise_of, unit_of}
 use Rattle.bag_ledger.specs.Words.{IsTracked}
-use Rattle.bag_ledger.specs.declared.states.Placed.{Placed as Lodged}
+use Rattle.bag_ledger.specs.declared.states.Placed.{Placed}
 use Rattle.bag_ledger.specs.declared.states.Promise.{Promise as Room}
 use Rattle.bag_ledger.specs.declared.states.UnitPlace.{UnitPlace}
 use Rattle.bag_ledger.specs.declared.states.UnitPlace.TheVariants.{Free, Pinned, Spent, Travelling}
@@ -106,7 +106,7 @@ not_held a me (Pinned at rank) differs held = rw (other_server a me at differs h
 not_held a me (Travelling to) differs held = refl
 not_held a me Spent differs held = refl
 
-no_unit_here : (b : Bag) (s : ServerModel) (id : UnitId) (u : Lodged) → ServerAgrees b s → unit_of b id ≡ Some u
+no_unit_here : (b : Bag) (s : ServerModel) (id : UnitId) (u : Placed) → ServerAgrees b s → unit_of b id ≡ Some u
     → pin_at s.me u.place ≡ None → HasNoUnit id s.kept.queue.units
 no_unit_here b s id u a found away =
     let slot : slot_of s.me u ≡ None = ap (λ o. option_map (λ (pin : Option Rank). record { unit = u.unit; pin = pin }) o) away in
@@ -129,11 +129,11 @@ query_awaited b s from to id n a differs of =
 unit_awaited : (b : Bag) (s : ServerModel) (from to : Server) (unit : Unit) → ServerAgrees b s → IsTracked b → s.me ≡ to
     → s.kept.owed ≡ None → OfPush b from to (tells.PushUnit unit) → IsAwaitedFrom s from (tells.PushUnit unit)
 unit_awaited b s from to unit a tracked named owed of =
-    let u : Lodged = record { unit = unit; place = Travelling to } in
+    let u : Placed = record { unit = unit; place = Travelling to } in
     let p = tracked.promised unit.id u to (of, refl) in
     let measured = tracked.measured unit.id p.0 p.1 in
     let same : measured.0 ≡ u = some_is (sym measured.1 ∙ of) in
-    let long : p.0.length ≡ length unit.body = sym measured.2 ∙ ap (λ (x : Lodged). length x.unit.body) same in
+    let long : p.0.length ≡ length unit.body = sym measured.2 ∙ ap (λ (x : Placed). length x.unit.body) same in
     let room = room_here b s unit.id p.0 a p.1 (p.2 ∙ sym named) in
     let q : Promise = record { id = p.0.id; length = p.0.length } in
     let found = find_listed (λ (x : Promise). x.id) s.kept.queue.promises q unit.id room in (

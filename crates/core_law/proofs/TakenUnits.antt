@@ -13,7 +13,7 @@ use Rattle.bag_ledger.specs.declared.entries.Answer.TheVariants as answers
 use Rattle.bag_ledger.specs.declared.entries.Call.{Call}
 use Rattle.bag_ledger.specs.declared.entries.Call.TheVariants as calls_to
 use Rattle.bag_ledger.specs.declared.entries.Said.{Said}
-use Rattle.bag_ledger.specs.declared.states.Placed.{Placed as Lodged}
+use Rattle.bag_ledger.specs.declared.states.Placed.{Placed}
 use Rattle.bag_ledger.specs.declared.states.UnitPlace.{UnitPlace}
 use Rattle.bag_ledger.specs.declared.states.UnitPlace.TheVariants.{Pinned, Spent}
 use Rattle.bag_ledger.specs.Bag.{Bag, is_free, unit_of}
@@ -27,22 +27,22 @@ use Rattle.rank_client.specs.Calls.{fetches, grants, is_fetched, is_granted}
 
 -- the unit was accepted, and is not free
 abbrev pub IsGone : Bag → UnitId → Type 0
-IsGone b id = (u : Lodged) × (unit_of b id ≡ Some u) × (is_free u.place ≡ false)
+IsGone b id = (u : Placed) × (unit_of b id ≡ Some u) × (is_free u.place ≡ false)
 
 -- The bag changes.
 
 -- what notes say depends on the units alone
 pub facts_same : (b c : Bag) (notes : List UnitNote) → c.units ≡ b.units → All (IsFact b) notes → All (IsFact c) notes
 facts_same b c notes same all =
-    let find_in : UnitId → List Lodged → Option Lodged = λ id units. find (λ (u : Lodged). same_unit u.unit.id id) units in
+    let find_in : UnitId → List Placed → Option Placed = λ id units. find (λ (u : Placed). same_unit u.unit.id id) units in
     All-weaker (IsFact b) (IsFact c) (λ note f. (f.0, ap (find_in note.id) same ∙ f.1, f.2)) notes all
 
 -- what notes say stays so where a unit comes
-pub facts_added : (b : Bag) (u : Lodged) (notes : List UnitNote) → All (IsFact b) notes
+pub facts_added : (b : Bag) (u : Placed) (notes : List UnitNote) → All (IsFact b) notes
     → All (IsFact (record b { units = b.units ++ u ∷ [] })) notes
 facts_added b u notes all =
     All-weaker (IsFact b) (IsFact (record b { units = b.units ++ u ∷ [] }))
-    (λ note f. (f.0, find_before (λ (v : Lodged). same_unit v.unit.id note.id) b.units (u ∷ []) f.0 f.1, f.2)) notes all
+    (λ note f. (f.0, find_before (λ (v : Placed). same_unit v.unit.id note.id) b.units (u ∷ []) f.0 f.1, f.2)) notes all
 
 fact_moved : (b : Bag) (id : UnitId) (place : UnitPlace) (note : UnitNote) → IsFact b note → IsFact (moved id place b) note
 fact_moved b id place note fact =

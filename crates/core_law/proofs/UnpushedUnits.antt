@@ -22,8 +22,8 @@ use Rattle.bag_ledger.specs.Runs.{IsRunWhere}
 use Rattle.bag_ledger.specs.Steps.{LegalWhere, after, kept, moved, shared, taken}
 use Rattle.bag_ledger.specs.declared.entries.Entry.TheVariants as enters
 use Rattle.bag_ledger.specs.declared.entries.Entry.{Entry}
-use Rattle.bag_ledger.specs.declared.states.Placed.{Placed as Lodged}
-use Rattle.bag_ledger.specs.declared.states.Promise.{Promise as Room}
+use Rattle.bag_ledger.specs.declared.states.Placed.{Placed}
+use Rattle.bag_ledger.specs.declared.states.Promise.{Promise}
 use Rattle.bag_ledger.specs.declared.states.RankState.{RankState}
 use Rattle.bag_ledger.specs.declared.states.UnitPlace.TheVariants.{Free, Pinned, Spent, Travelling}
 use Rattle.bag_ledger.specs.declared.states.UnitPlace.{UnitPlace}
@@ -43,26 +43,26 @@ IsOnward p q =
     ⊎ ((at : Server) × (rank : Rank) × (((p ≡ Free at) × (q ≡ Pinned at rank)) ⊎ ((p ≡ Pinned at rank) × (q ≡ Spent))))
 
 -- the unit is where it was, or further on: pinned where it was free, or spent where it was pinned
-pub record IsLater (n : Bag) (id : UnitId) (u : Lodged) : Type 0 where
-  pub unit : Lodged
+pub record IsLater (n : Bag) (id : UnitId) (u : Placed) : Type 0 where
+  pub unit : Placed
   pub found : unit_of n id ≡ Some unit
   pub same : unit.unit ≡ u.unit
   pub onward : IsOnward u.place unit.place
 
-as_it_was : (n : Bag) (id : UnitId) (u : Lodged) → unit_of n id ≡ Some u → IsLater n id u
+as_it_was : (n : Bag) (id : UnitId) (u : Placed) → unit_of n id ≡ Some u → IsLater n id u
 as_it_was n id u found = record { unit = u; found = found; same = refl; onward = inl refl }
 
 shared_units : (b : Bag) (common : Option CommonRef) (id : UnitId) → unit_of (shared common b) id ≡ unit_of b id
 shared_units b None id = refl
 shared_units b (Some c) id = refl
 
-taken_units : (b : Bag) (server : Server) (o : Option Work) (id : UnitId) (u : Lodged) → unit_of b id ≡ Some u
+taken_units : (b : Bag) (server : Server) (o : Option Work) (id : UnitId) (u : Placed) → unit_of b id ≡ Some u
     → unit_of (taken server o b) id ≡ Some u
 taken_units b server None id u found = found
 taken_units b server (Some unit) id u found =
-    let more : Lodged = record { unit = unit; place = Free server } in
+    let more : Placed = record { unit = unit; place = Free server } in
     shared_units (record b { units = b.units ++ more ∷ [] }) unit.common id
-    ∙ find_before (λ (v : Lodged). same_unit v.unit.id id) b.units (more ∷ []) u found
+    ∙ find_before (λ (v : Placed). same_unit v.unit.id id) b.units (more ∷ []) u found
 
 kept_units : (b : Bag) (server : Server) (batch : BatchId) (o : Option (ℕ × List ℕ)) (id : UnitId)
     → unit_of (kept server batch o b) id ≡ unit_of b id
@@ -70,7 +70,7 @@ kept_units b server batch None id = refl
 kept_units b server batch (Some x) id = refl
 
 -- another unit is moved, or this one onward
-moved_later : (b : Bag) (x id : UnitId) (place : UnitPlace) (v u : Lodged) → unit_of b x ≡ Some v → IsOnward v.place place
+moved_later : (b : Bag) (x id : UnitId) (place : UnitPlace) (v u : Placed) → unit_of b x ≡ Some v → IsOnward v.place place
     → unit_of b id ≡ Some u → IsLater (moved x place b) id u
 moved_later b x id place v u there onward found = by_test (same_unit x id) refl
   where
@@ -81,9 +81,9 @@ moved_later b x id place v u there onward found = by_test (same_unit x id) refl
         record {
           unit = record u { place = place };
           found = ap (λ i. unit_of (moved x place b) i) (sym same) ∙ moved_here b x place v there
-              ∙ ap (λ (w : Lodged). Some (record w { place = place })) it;
+              ∙ ap (λ (w : Placed). Some (record w { place = place })) it;
           same = refl;
-          onward = subst (λ (w : Lodged). IsOnward w.place place) it onward;
+          onward = subst (λ (w : Placed). IsOnward w.place place) it onward;
         }
     by_test false differs = as_it_was (moved x place b) id u (moved_other b x id place differs ∙ found)
 
@@ -92,7 +92,7 @@ abbrev pub IsNotOf : Option UnitId → UnitId → Type 0
 IsNotOf None id = Unit {0}
 IsNotOf (Some x) id = same_unit x id ≡ false
 
-unit_later : (rule : Bag → Bool) (b : Bag) (e : Entry) (id : UnitId) (u : Lodged) → LegalWhere rule b e → IsNotOf (pushes e) id
+unit_later : (rule : Bag → Bool) (b : Bag) (e : Entry) (id : UnitId) (u : Placed) → LegalWhere rule b e → IsNotOf (pushes e) id
     → unit_of b id ≡ Some u → IsLater (after b e) id u
 unit_later rule b (enters.Accepted server x) id u l apart found =
     let brought = option_and_then (λ (r : RankState). putting r.status) (rank_at b x.rank) in
@@ -146,11 +146,11 @@ run_promises rule [] b n run none = ap (λ (x : Bag). x.promises) (sym run)
 run_promises rule (e ∷ es) b n run none =
     run_promises rule es run.0 n run.2 none.1 ∙ ap (λ (x : Bag). x.promises) (run.1).2 ∙ same_promises b e none.0
 
-promised_other : (b : Bag) (p : Room) (id : UnitId) → same_unit p.id id ≡ false
+promised_other : (b : Bag) (p : Promise) (id : UnitId) → same_unit p.id id ≡ false
     → promise_of (record b { promises = b.promises ++ p ∷ [] }) id ≡ promise_of b id
-promised_other b p id differs = find-append (λ (q : Room). same_unit q.id id) b.promises (p ∷ []) ∙ by_found (promise_of b id)
+promised_other b p id differs = find-append (λ (q : Promise). same_unit q.id id) b.promises (p ∷ []) ∙ by_found (promise_of b id)
   where
-    by_found : (o : Option Room) → option_or o (cond (same_unit p.id id) (Some p) None) ≡ o
+    by_found : (o : Option Promise) → option_or o (cond (same_unit p.id id) (Some p) None) ≡ o
     by_found (Some q) = refl
     by_found None = rw differs refl
 
@@ -160,7 +160,7 @@ promise_later b (enters.Promised server x n) id apart = promised_other b (record
 promise_later b (enters.Left server to x) id apart = refl
 promise_later b (enters.Arrived server x) id apart = unpromised_other (moved x (Free server) b) x id apart
 promise_later b (enters.Withdrawn server x) id apart = unpromised_other b x id apart
-promise_later b e id apart = ap (find (λ (p : Room). same_unit p.id id)) (same_promises b e refl)
+promise_later b e id apart = ap (find (λ (p : Promise). same_unit p.id id)) (same_promises b e refl)
 
 -- A push letter of another unit, or a step that pushes none.
 

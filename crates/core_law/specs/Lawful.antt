@@ -11,7 +11,7 @@ use Rattle.adlb_unit.specs.declared.names.Server.{Server}
 use Rattle.adlb_unit.specs.declared.notes.UnitNote.{UnitNote}
 use Rattle.bag_ledger.specs.Bag.{Bag, has_due, start as empty_bag, unit_of}
 use Rattle.bag_ledger.specs.Runs.{IsRunWhere, calls, note_of}
-use Rattle.bag_ledger.specs.declared.states.Placed.{Placed as Lodged}
+use Rattle.bag_ledger.specs.declared.states.Placed.{Placed}
 use Rattle.rank_client.specs.declared.pendings.Pending.{Pending}
 use Rattle.rank_client.specs.declared.pendings.Pending.TheVariants as waits_for
 use Rattle.rank_client.specs.Agreement.{ClientAgrees, holds, said}
@@ -67,7 +67,7 @@ IsWaiting s coming e = e.wish.rank ≡ s.me → (s.pending ≡ waits_for.Reserve
 
 -- the note tells its unit
 abbrev pub IsFact : Bag → UnitNote → Type 0
-IsFact b note = (u : Lodged) × (unit_of b note.id ≡ Some u) × (note ≡ note_of note.server u.unit)
+IsFact b note = (u : Placed) × (unit_of b note.id ≡ Some u) × (note ≡ note_of note.server u.unit)
 
 -- The seat of a rank: what is known of it. `coming` is what the ledger has decided of its call and the rank has not heard.
 pub record IsSeat (w : World) (b : Bag) (me : Rank) (coming : Option Message) : Type 0 where

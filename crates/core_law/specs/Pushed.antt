@@ -10,7 +10,7 @@ use Rattle.adlb_unit.specs.declared.names.UnitId.{UnitId}
 use Rattle.bag_ledger.specs.Bag.{Bag, is_travelling, promise_of, unit_of}
 use Rattle.bag_ledger.specs.declared.entries.Entry.{Entry}
 use Rattle.bag_ledger.specs.declared.entries.Entry.TheVariants as enters
-use Rattle.bag_ledger.specs.declared.states.Placed.{Placed as Lodged}
+use Rattle.bag_ledger.specs.declared.states.Placed.{Placed}
 use Rattle.bag_ledger.specs.declared.states.UnitPlace.TheVariants.{Travelling}
 use Rattle.bag_law.specs.Counts.{promises_named}
 use Rattle.server_law.specs.Moving.{IsHeldAt, IsMeasured, IsPromisedAt}
@@ -48,8 +48,8 @@ abbrev pub letters_of : (Actor → Actor → Message → ℕ) → Weights
 letters_of f = record { letter = f; server = no_server; rank = no_rank; server_due = no_server; rank_due = no_rank }
 
 -- how many units of this id are between servers
-abbrev pub on_way : UnitId → List Lodged → ℕ
-on_way id units = sum_by (λ (u : Lodged). one (is_travelling u.place && same_unit u.unit.id id)) units
+abbrev pub on_way : UnitId → List Placed → ℕ
+on_way id units = sum_by (λ (u : Placed). one (is_travelling u.place && same_unit u.unit.id id)) units
 
 -- Of each unit at most one letter of a push is under way, but for acknowledgements. The bag has what it says. A promise is there exactly
 -- while a letter of promised room is. A unit is between servers exactly while the letter is that brings it.

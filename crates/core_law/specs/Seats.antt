@@ -7,8 +7,8 @@ use Rattle.adlb_unit.specs.declared.names.UnitId.{UnitId}
 use Rattle.bag_ledger.specs.Bag.{Bag, promise_of, start as empty_bag}
 use Rattle.bag_ledger.specs.Runs.{IsRunWhere, calls}
 use Rattle.bag_ledger.specs.Steps.{Stands}
-use Rattle.bag_ledger.specs.declared.states.Placed.{Placed as Lodged}
-use Rattle.bag_ledger.specs.declared.states.Promise.{Promise as Room}
+use Rattle.bag_ledger.specs.declared.states.Placed.{Placed}
+use Rattle.bag_ledger.specs.declared.states.Promise.{Promise}
 use Rattle.bag_ledger.specs.declared.states.UnitPlace.TheVariants.{Travelling}
 use Rattle.bag_law.specs.Counts.{promises_named}
 use Rattle.rank_client.specs.Agreement.{ClientAgrees, said}
@@ -37,9 +37,9 @@ pub record AreMoving (w : World) (b : Bag) : Type 0 where
 -- exactly one of promised room for each promise
 pub record AreBrought (w : World) (b : Bag) : Type 0 where
   pub told : OnLinks (λ from to l. IsOfPush b from to l.message) w.config w.links
-  pub unit : (id : UnitId) (u : Lodged) (to : Server) → Stands b id u (Travelling to)
+  pub unit : (id : UnitId) (u : Placed) (to : Server) → Stands b id u (Travelling to)
       → links_weight w.config (letters_of (travels_letter id)) w.links ≡ 1
-  pub promise : (id : UnitId) (p : Room) → promise_of b id ≡ Some p
+  pub promise : (id : UnitId) (p : Promise) → promise_of b id ≡ Some p
       → links_weight w.config (letters_of (promised_letter id)) w.links ≡ 1
 
 -- the ledger leads to this bag, in which each rank has its seat, with which each server agrees, and whose units between servers are

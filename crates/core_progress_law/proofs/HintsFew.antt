@@ -8,7 +8,7 @@ use Rattle.adlb_unit.specs.declared.letters.Sending.{Sending}
 use Rattle.adlb_unit.specs.declared.messages.Message.{Message}
 use Rattle.adlb_unit.specs.declared.names.Rank.{Rank}
 use Rattle.adlb_unit.specs.declared.names.Server.{Server}
-use Rattle.adlb_unit.specs.declared.units.Unit.{Unit as Work}
+use Rattle.adlb_unit.specs.declared.units.Unit.{Unit}
 use Rattle.bag_ledger.specs.Runs.{note_of}
 use Rattle.core_bound_law.proofs.Wishes.{AreSingle, KeepSingle, begins_single, few_wishes, fewer, off, single_kept, wishes_of}
 use Rattle.core_bound_law.proofs.Wishes.{wishes_single}
@@ -356,7 +356,7 @@ module _ (w : World) (me : Server) (well : IsWell w) (few : AreFew w) where
             ∙ eqb-true (home_of (pool_of w me).config.servers rank) from.0 parts.1,
       )
 
-  answers_few : (from : Server) (wish : Wish) (unit : Work) → IsAct w me (Answers from wish unit)
+  answers_few : (from : Server) (wish : Wish) (unit : Unit) → IsAct w me (Answers from wish unit)
       → AreFew (acted w me (Answers from wish unit))
   answers_few from wish unit is =
       let asked = asked_low from wish.rank (Answers from wish unit) is is.sure.0 in

@@ -2,7 +2,7 @@
 use Rattle.adlb_unit.specs.declared.actors.Actor.{Actor}
 use Rattle.adlb_unit.specs.declared.messages.Message.{Message}
 use Rattle.adlb_unit.specs.declared.names.UnitId.{UnitId}
-use Rattle.adlb_unit.specs.declared.units.Unit.{Unit as Work}
+use Rattle.adlb_unit.specs.declared.units.Unit.{Unit}
 use Rattle.core_bound_law.proofs.Chains.{costs}
 use Rattle.core_bound_law.proofs.Rules.{acts_paid}
 use Rattle.core_bound_law.proofs.Wishes.{wishes_of}
@@ -91,7 +91,7 @@ apart_sum : (r : ℕ) (p q : Wish → Bool) (wishes : List Wish)
 apart_sum r p q [] = omega arith
 apart_sum r p q (w ∷ wishes) = let here = apart (p w) (q w) (w.rank.0 == r) in let later = apart_sum r p q wishes in omega arith
 
-all_hinted : (r : ℕ) (unit : Work) (wishes : List Wish) → hints_of r (hint_all unit wishes) ≤ wishes_of r wishes
+all_hinted : (r : ℕ) (unit : Unit) (wishes : List Wish) → hints_of r (hint_all unit wishes) ≤ wishes_of r wishes
 unfolding wishes_of
 all_hinted r unit wishes =
     let a = hinted r (is_first_for unit) wishes in
@@ -103,7 +103,7 @@ all_hinted r unit wishes =
 settled_hints : (r : ℕ) (id : UnitId) (s : ServerModel) → hints_of r (settles id s) ≤ wishes_of r s.kept.parked.wishes
 settled_hints r id s = by_unit (find (is_free_as id) s.kept.queue.units)
   where
-    by_taker : (unit : Work) (o : Option Place) → hints_of r (gives s.kept unit o) ≤ wishes_of r s.kept.parked.wishes
+    by_taker : (unit : Unit) (o : Option Place) → hints_of r (gives s.kept unit o) ≤ wishes_of r s.kept.parked.wishes
     by_taker unit None = all_hinted r unit s.kept.parked.wishes
     by_taker unit (Some p) = omega arith
 

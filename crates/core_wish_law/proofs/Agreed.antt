@@ -15,7 +15,7 @@ use Rattle.adlb_unit.specs.declared.names.UnitId.{UnitId}
 use Rattle.adlb_unit.specs.declared.names.WorkType.{WorkType}
 use Rattle.adlb_unit.specs.declared.notes.End.{End}
 use Rattle.adlb_unit.specs.declared.notes.UnitNote.{UnitNote}
-use Rattle.adlb_unit.specs.declared.units.Unit.{Unit as Work}
+use Rattle.adlb_unit.specs.declared.units.Unit.{Unit}
 use Rattle.bag_ledger.specs.declared.entries.Call.{Call}
 use Rattle.core_check_law.proofs.Classes.{IsMine, IsOthers, now}
 use Rattle.core_check_law.proofs.Lists.{each_has, has_at, home_below}
@@ -210,7 +210,7 @@ module _ (s : ClientModel) where
   abbrev Opens : Option ClientResponse → Type 0
   Opens o = OnSome o (λ z. NewDone z.state.pending)
 
-  put_opens : (unit : Work) (end : Option End) → NewDone (put s unit end).state.pending
+  put_opens : (unit : Unit) (end : Option End) → NewDone (put s unit end).state.pending
   put_opens unit None = tt
   put_opens unit (Some end) = tt
 
@@ -269,11 +269,11 @@ module _ (s : ClientModel) (from : Server) where
   abbrev Hears_it : Pending → Message → Option ClientResponse → Type 0
   Hears_it p m o = OnSome o (λ z. HearsSo s p from m z.state.pending)
 
-  refused_hears : (unit : Work) (first : Server) (tried : ℕ) (t : Bool) → NotDone (refused s unit first tried t).state.pending
+  refused_hears : (unit : Unit) (first : Server) (tried : ℕ) (t : Bool) → NotDone (refused s unit first tried t).state.pending
   refused_hears unit first tried true = tt
   refused_hears unit first tried false = tt
 
-  put_hears : (unit : Work) (first : Server) (tried : ℕ) (m : Message)
+  put_hears : (unit : Unit) (first : Server) (tried : ℕ) (m : Message)
       → Hears_it (waits_for.Put unit first tried) m (hear_put s unit first tried from m)
   put_hears unit first tried (tells.Accepted to) = if_some _ (is_for unit.id.number (asked s first tried) from to) _ (λ is. tt)
   put_hears unit first tried (tells.Full to charge) =

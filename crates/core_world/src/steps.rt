@@ -9,7 +9,7 @@ ghost use Rattle.core_run.specs.World.{client_of, happens, pool_of, post, taken}
 ghost use Rattle.core_world.specs.Applied.{Causes, IsBetween, IsEnabled, IsHalf, Stops, event_answer, event_stamp};
 ghost use Rattle.core_world.specs.Seen.{under_way};
 ghost use Rattle.core_world.specs.Stage.{IsWhole, with_client, with_server};
-ghost use Rattle.rank_client.specs.Inside.{gives};
+ghost use Rattle.rank_client.specs.inside.{gives};
 ghost use Rattle.rank_client.specs.State.{ClientModel};
 ghost use Rattle.rank_client.specs.Step.{begin, call_stamp, hear, letter_stamp};
 ghost use Rattle.server_law.specs.State.{ServerModel};

@@ -2,7 +2,7 @@
 
 ghost use Rattle.std.specs.Prelude.{◌≡◌, ◌≤◌, IfOk, IfErr, OnOk};
 ghost use Rattle.adlb_io.specs.Inputs.{IsAtEnd};
-ghost use Rattle.ledger_command.specs.Inside.{Refuses};
+ghost use Rattle.ledger_command.specs.inside.{Refuses};
 ghost use Rattle.draw_command.specs.Ends.{IsPictureOn};
 
 use adlb_io::Source;

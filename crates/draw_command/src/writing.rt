@@ -1,7 +1,7 @@
 //! The writing of a picture.
 
 ghost use Rattle.std.specs.Prelude.{◌≤◌};
-ghost use Rattle.draw_command.specs.Inside.{Writes};
+ghost use Rattle.draw_command.specs.inside.{Writes};
 
 use adlb_io::{Sink, write_all};
 use ledger_command::CheckFault;

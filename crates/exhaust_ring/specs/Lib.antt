@@ -1,5 +1,5 @@
 pub mod Expected
-pub mod Inside
+pub mod inside
 pub mod Ring
 pub mod Tests
 pub mod Visits

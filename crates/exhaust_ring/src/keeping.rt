@@ -30,7 +30,7 @@ impl Model for Ring {
 
     ghost Value = { RingModel };
 
-    ghost use Rattle.exhaust_ring.specs.Inside.{IsInside, ring_of};
+    ghost use Rattle.exhaust_ring.specs.inside.{IsInside, ring_of};
 
     ghost view = { ring_of };
 

@@ -10,8 +10,8 @@ use Rattle.flow_law.specs.Flows.{Name, gives, joined}
 use Rattle.flow_law.specs.declared.Definition.{Definition}
 use Rattle.flow_law.specs.declared.Definition.TheVariants.{Let, Rule}
 use Rattle.flow_law.specs.declared.Op.{Op}
-use Rattle.flow_app.specs.Inside.Linked.{are_below, has, number_of}
-use Rattle.flow_app.specs.Inside.Stored.{HasLets, HasLetsTo, IsStored, is_noted, value_at, value_of, worth_in}
+use Rattle.flow_app.specs.inside.Linked.{are_below, has, number_of}
+use Rattle.flow_app.specs.inside.Stored.{HasLets, HasLetsTo, IsStored, is_noted, value_at, value_of, worth_in}
 
 -- one `let` more
 pub let_stored : (flow : List Definition) (values : List (Option ℕ)) (k : ℕ) (name : Name) (v : ℕ) → HasLetsTo flow values k →

@@ -9,8 +9,8 @@ use Rattle.flow_app.specs.declared.parts.Parts.{Parts}
 use Rattle.flow_app.specs.declared.reading.Reading.{Reading}
 use Rattle.flow_app.specs.Kinds.{Kind, is_mark, kind_of}
 use Rattle.flow_app.specs.Reading.{all_defined, defined, fault_of, first_refused, flow_refused, input_flow, or_later}
-use Rattle.flow_app.specs.Inside.Left.{parts_left, room_left}
-use Rattle.flow_app.specs.Inside.Read.{Extends, IsRead}
+use Rattle.flow_app.specs.inside.Left.{parts_left, room_left}
+use Rattle.flow_app.specs.inside.Read.{Extends, IsRead}
 use Rattle.std.specs.List.{slice_split}
 
 -- the kinds of these lines

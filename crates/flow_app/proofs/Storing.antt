@@ -13,8 +13,8 @@ use Rattle.flow_law.specs.declared.Definition.{Definition}
 use Rattle.flow_law.specs.declared.Definition.TheVariants.{Rule}
 use Rattle.flow_law.specs.declared.Op.{Op}
 use Rattle.flow_law.proofs.Turns.{IsMore, gives_more, some_of}
-use Rattle.flow_app.specs.Inside.Linked.{are_below, asks, has, inputs_of, is_number, number_of}
-use Rattle.flow_app.specs.Inside.Stored.{IsStored, is_noted, value_at, value_of, worth_in}
+use Rattle.flow_app.specs.inside.Linked.{are_below, asks, has, inputs_of, is_number, number_of}
+use Rattle.flow_app.specs.inside.Stored.{IsStored, is_noted, value_at, value_of, worth_in}
 
 -- Values.
 

@@ -7,8 +7,8 @@ use Rattle.flow_law.specs.Flows.{AreDistinct, HasValue, Name, apply, given, give
 use Rattle.flow_law.specs.declared.Definition.{Definition}
 use Rattle.flow_law.specs.declared.Definition.TheVariants.{Let, Rule}
 use Rattle.flow_law.proofs.Turns.{one_value, some_of, value_law}
-use Rattle.flow_app.specs.Inside.Linked.{has, number_of}
-use Rattle.flow_app.specs.Inside.Stored.{HasLets, IsStored, value_at, value_of, worth_in}
+use Rattle.flow_app.specs.inside.Linked.{has, number_of}
+use Rattle.flow_app.specs.inside.Stored.{HasLets, IsStored, value_at, value_of, worth_in}
 use Rattle.flow_app.proofs.Numbered.{definition_at, number_here, number_inside, number_named, place_of}
 
 drop_past : (n : ℕ) (xs : List ℕ) → length xs ≤ n → drop n xs ≡ []

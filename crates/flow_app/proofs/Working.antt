@@ -9,9 +9,9 @@ use Rattle.flow_law.specs.declared.Definition.{Definition}
 use Rattle.flow_law.specs.declared.Definition.TheVariants.{Let, Rule}
 use Rattle.flow_law.proofs.Turns.{gives_has}
 use Rattle.flow_app.specs.declared.links.Inputs.{Inputs}
-use Rattle.flow_app.specs.Inside.Linked.{inputs_of}
-use Rattle.flow_app.specs.Inside.Stored.{Grows, HasLetsTo, IsStored, given_by, is_noted, own_value, value_at, worth_in}
-use Rattle.flow_app.specs.Inside.Users.{IsInside}
+use Rattle.flow_app.specs.inside.Linked.{inputs_of}
+use Rattle.flow_app.specs.inside.Stored.{Grows, HasLetsTo, IsStored, given_by, is_noted, own_value, value_at, worth_in}
+use Rattle.flow_app.specs.inside.Users.{IsInside}
 use Rattle.flow_app.proofs.Lets.{let_stored, rule_passed}
 use Rattle.flow_app.proofs.Linking.{inside_of}
 use Rattle.flow_app.proofs.Numbered.{definition_at, there_at}

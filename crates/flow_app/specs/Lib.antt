@@ -1,4 +1,4 @@
 pub mod Kinds
 pub mod Reading
 pub mod Finishing
-pub mod Inside
+pub mod inside

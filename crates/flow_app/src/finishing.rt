@@ -3,7 +3,7 @@
 ghost use Rattle.std.specs.Prelude.{◌≡◌, ℕ, All, IfOk, OnOk};
 ghost use Rattle.flow_law.specs.Flows.{flow_text};
 ghost use Rattle.flow_app.specs.Finishing.{AreValues, IsItsValue};
-ghost use Rattle.flow_app.specs.Inside.Stored.{IsWhole};
+ghost use Rattle.flow_app.specs.inside.Stored.{IsWhole};
 
 use crate::flows::Flow;
 use crate::stores::Store;

@@ -4,8 +4,8 @@ ghost use Rattle.std.specs.Prelude.{◌≡◌, ◌<◌, ◌≤◌, ◌^◌, ℕ,
 ghost use Rattle.flow_law.specs.Flows.{AreDistinct, Name};
 ghost use Rattle.flow_law.specs.declared.Definition.{Definition as Defined};
 ghost use Rattle.flow_app.specs.Reading.{definition_limit, flow_refused, input_flow};
-ghost use Rattle.flow_app.specs.Inside.Linked.{are_below, asks, has, inputs_by, inputs_of, noted_number, number_of};
-ghost use Rattle.flow_app.specs.Inside.Users.{AreInside, HasUsers};
+ghost use Rattle.flow_app.specs.inside.Linked.{are_below, asks, has, inputs_by, inputs_of, noted_number, number_of};
+ghost use Rattle.flow_app.specs.inside.Users.{AreInside, HasUsers};
 
 use crate::faults::{FlowFault, FlowWhy};
 use crate::links::{Inputs, Numbers, no_users, note_user};
@@ -28,7 +28,7 @@ pub struct Flow {
 impl Model for Flow {
     ghost use Rattle.std.specs.Prelude.{List};
     ghost use Rattle.flow_law.specs.declared.Definition.{Definition};
-    ghost use Rattle.flow_app.specs.Inside.Linked.{IsLinked};
+    ghost use Rattle.flow_app.specs.inside.Linked.{IsLinked};
 
     ghost Value = { List Definition };
 

@@ -2,7 +2,7 @@
 
 ghost use Rattle.std.specs.Prelude.{◌≡◌};
 ghost use Rattle.flow_app.specs.Kinds.{definition_in, kind_of, let_in, rule_in, short_kind};
-ghost use Rattle.flow_app.specs.Inside.Left.{IsNamedIfAny, IsNamedLine, its_definition, kind, parts_left};
+ghost use Rattle.flow_app.specs.inside.Left.{IsNamedIfAny, IsNamedLine, its_definition, kind, parts_left};
 
 use crate::faults::FlowWhy;
 use crate::parts::Parts;

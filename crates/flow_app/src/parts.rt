@@ -4,7 +4,7 @@ ghost use Rattle.std.specs.Prelude.{◌≡◌, ◌==◌, ◌+◌, ◌<◌, ◌�
 ghost use Rattle.std.specs.List.{slice_split};
 ghost use Rattle.std.specs.Str.Lines.{strip_carriage_return};
 ghost use Rattle.flow_app.specs.Kinds.{is_mark};
-ghost use Rattle.flow_app.specs.Inside.Left.{parts_left, room_left};
+ghost use Rattle.flow_app.specs.inside.Left.{parts_left, room_left};
 
 /// The parts that are still to be read: those of the rest, or none if the last part was read.
 #[derive(Clone, Copy, Drop)]

@@ -5,7 +5,7 @@ ghost use Rattle.flow_law.specs.Flows.{name_of};
 ghost use Rattle.flow_law.specs.declared.Definition.{Definition as Defined};
 ghost use Rattle.flow_app.specs.Kinds.{defines, kind_of};
 ghost use Rattle.flow_app.specs.Reading.{define_fault, fault_of};
-ghost use Rattle.flow_app.specs.Inside.Read.{Extends, IsRead};
+ghost use Rattle.flow_app.specs.inside.Read.{Extends, IsRead};
 
 use crate::faults::{FlowFault, FlowWhy};
 use crate::flows::Flow;

@@ -4,8 +4,8 @@ ghost use Rattle.std.specs.Prelude.{◌≡◌, ◌+◌, ◌<◌, ◌∷◌, [], 
 ghost use Rattle.flow_law.specs.Flows.{HasValue, gives, joined, name_of};
 ghost use Rattle.flow_law.specs.declared.Definition.{Definition as Defined};
 ghost use Rattle.flow_app.specs.Finishing.{IsItsValue};
-ghost use Rattle.flow_app.specs.Inside.Users.{IsInside};
-ghost use Rattle.flow_app.specs.Inside.Stored.{Grows, HasLetsTo, IsDrained, IsWhole, Stores, given_by, is_noted, own_value as own, to_take, value_at, value_of, worth_in};
+ghost use Rattle.flow_app.specs.inside.Users.{IsInside};
+ghost use Rattle.flow_app.specs.inside.Stored.{Grows, HasLetsTo, IsDrained, IsWhole, Stores, given_by, is_noted, own_value as own, to_take, value_at, value_of, worth_in};
 
 use crate::flows::Flow;
 use crate::links::Inputs;

@@ -6,7 +6,7 @@ use Rattle.std.proofs.lemmas.Bool.{ne_eqb}
 use Rattle.std.proofs.lemmas.List.Elements.{Contains-append_cases}
 use Rattle.adlb_unit.specs.declared.configs.Config.{Config}
 use Rattle.adlb_unit.specs.declared.names.Rank.{Rank}
-use Rattle.bag_ledger.specs.declared.entries.Answer.{Answer as Reply}
+use Rattle.bag_ledger.specs.declared.entries.Answer.{Answer}
 use Rattle.bag_ledger.specs.declared.entries.Answer.TheVariants as answers
 use Rattle.bag_ledger.specs.declared.entries.Call.{Call}
 use Rattle.bag_ledger.specs.declared.entries.Call.TheVariants as calls_to
@@ -68,7 +68,7 @@ module _ (F : Forms) where
   rules_end (s ∷ said) = ap (λ l. rules_of F s.call ++ l) (rules_end said)
 
   -- a rank without the flow puts no rule
-  no_rule : (u : FlowUnit) (a : Reply) (s : Said) → F.read (F.form u).kind (F.form u).answer (F.form u).body ≡ Some u →
+  no_rule : (u : FlowUnit) (a : Answer) (s : Said) → F.read (F.form u).kind (F.form u).answer (F.form u).body ≡ Some u →
       rule_of (Some u) ≡ [] →
       s ≡ said_of (put_unit (flows F) u) a → rules_of F s.call ≡ []
   no_rule u a s back none said = ap (λ (t : Said). rules_of F t.call) said ∙ ap rule_of back ∙ none

@@ -5,7 +5,7 @@ use Rattle.std.proofs.lemmas.List.Elements.{All-nil, All-cons, All-head, All-tai
 use Rattle.std.proofs.lemmas.List.Sums.{sum_by-append}
 use Rattle.adlb_unit.specs.declared.configs.Config.{Config}
 use Rattle.adlb_unit.specs.declared.names.Rank.{Rank}
-use Rattle.bag_ledger.specs.declared.entries.Answer.{Answer as Reply}
+use Rattle.bag_ledger.specs.declared.entries.Answer.{Answer}
 use Rattle.bag_ledger.specs.declared.entries.Call.TheVariants as calls_to
 use Rattle.bag_ledger.specs.declared.entries.Entry.{Entry}
 use Rattle.bag_ledger.specs.declared.entries.Said.{Said}
@@ -109,7 +109,7 @@ module _ (F : Forms) (config : Config) (ledger : List Entry) (some : 0 < config.
           noted.put ∙ sym (ap (rules_in F) w.calls_are ∙ rules_end F w.said) in
           subst IsOnce put (noted.once (λ i. omega arith))
 
-      pub known : (front : List Said) (s : Said) (back : List Said) (i : ℕ) (op : Op) (a b : ℕ) (x : Reply) →
+      pub known : (front : List Said) (s : Said) (back : List Said) (i : ℕ) (op : Op) (a b : ℕ) (x : Answer) →
           F.fits (Rule i op a b) ≡ true →
           s ≡ said_of (put_of (flows F) (Rule i op a b)) x → calls config ledger (record { 0 = 0 }) ≡ front ++ s ∷ back →
           IsOfKnown F flow front i
@@ -152,7 +152,7 @@ module _ (F : Forms) (config : Config) (ledger : List Entry) (some : 0 < config.
           ap (count_by (reads (flows (untargeted F)) is (is_unit u))) all in
           got_right F is config ledger last some forms.aimed legal flow each (record { 0 = 0 }) some u (omega (arith, counts, sums, more))
 
-      pub values : (front : List Said) (s : Said) (back : List Said) (i : ℕ) (op : Op) (a b : ℕ) (x : Reply) →
+      pub values : (front : List Said) (s : Said) (back : List Said) (i : ℕ) (op : Op) (a b : ℕ) (x : Answer) →
           F.fits (Rule i op a b) ≡ true →
           s ≡ said_of (put_of (flows F) (Rule i op a b)) x → calls config ledger (record { 0 = 0 }) ≡ front ++ s ∷ back →
           IsGoodRule flow i op a b

@@ -11,7 +11,7 @@ use Rattle.sudoku_rules.specs.Sides.{tree_of}
 use Rattle.job_text.specs.declared.items.Item.{Item}
 use Rattle.job_text.specs.declared.jobs.Job.{Job}
 use Rattle.job_text.specs.declared.jobs.Job.TheVariants.{Puzzle, Batch}
-use Rattle.job_report.specs.Inside.{grids_at, is_over_at, over_count_at, overs_from, solution_count_at, solutions_from}
+use Rattle.job_report.specs.inside.{grids_at, is_over_at, over_count_at, overs_from, solution_count_at, solutions_from}
 use Rattle.job_report.specs.Jobs.{all_boards, all_items, all_solutions, item_count, puzzles}
 use Rattle.job_report.specs.Report.{totals}
 use Rattle.job_report.specs.Summary.{batches_line, is_batch, is_over_puzzle, puzzles_line, solutions_reported}

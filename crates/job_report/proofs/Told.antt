@@ -10,7 +10,7 @@ use Rattle.job_text.specs.declared.items.Item.{Item}
 use Rattle.job_units.specs.Items.{answer_to}
 use Rattle.job_report.specs.Report.{item_line, item_lines}
 use Rattle.job_report.specs.Whole.{AreAnswered, answers_in, answers_of}
-use Rattle.job_report.specs.Inside.{by_item, latest, lines_told, value_at}
+use Rattle.job_report.specs.inside.{by_item, latest, lines_told, value_at}
 use Rattle.job_report.specs.declared.answers.Answers.{Answers}
 use Rattle.job_report.specs.declared.outcomes.Outcome.{Outcome}
 

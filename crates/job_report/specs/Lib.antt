@@ -3,4 +3,4 @@ pub mod Report
 pub mod Summary
 pub mod Whole
 pub mod Pairs
-pub mod Inside
+pub mod inside

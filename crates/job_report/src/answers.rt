@@ -2,7 +2,7 @@
 
 ghost use Rattle.std.specs.Prelude.{◌≡◌, ◌==◌, ◌&&◌, ℕ, IfOk, OnOk, if◌then◌else◌};
 ghost use Rattle.job_report.specs.Whole.{answers_in, answers_of};
-ghost use Rattle.job_report.specs.Inside.{latest, value_at};
+ghost use Rattle.job_report.specs.inside.{latest, value_at};
 
 use crate::outcomes::Outcome;
 use adlb_unit::{NoMemory, or_no_memory};

@@ -5,7 +5,7 @@ ghost use Rattle.std.specs.BTreeSet.{contains};
 ghost use Rattle.std.specs.Ordering.{nat_cmp};
 ghost use Rattle.std.specs.List.{list_any};
 ghost use Rattle.job_report.specs.Whole.{found, told_over};
-ghost use Rattle.job_report.specs.Inside.{grids_at, is_over_at};
+ghost use Rattle.job_report.specs.inside.{grids_at, is_over_at};
 
 use crate::outcomes::Outcome;
 use crate::told_grids::Told;

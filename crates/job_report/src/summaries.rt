@@ -1,7 +1,7 @@
 //! The summary of the jobs of an input.
 
 ghost use Rattle.std.specs.Prelude.{◌≡◌, ◌++◌, ◌+◌, ◌<◌, ◌≤◌, ◌^◌, ℕ, length, IfOk, OnOk, count_by};
-ghost use Rattle.job_report.specs.Inside.{HasRoom, over_count_at, overs_from, solution_count_at, solutions_from};
+ghost use Rattle.job_report.specs.inside.{HasRoom, over_count_at, overs_from, solution_count_at, solutions_from};
 ghost use Rattle.job_report.specs.Jobs.{all_items, puzzles};
 ghost use Rattle.job_report.specs.Summary.{batches_line, is_batch, puzzles_line, summary};
 ghost use Rattle.job_report.specs.Whole.{AreWhole, made_in};

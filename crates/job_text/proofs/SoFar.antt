@@ -10,7 +10,7 @@ use Rattle.job_text.specs.declared.reading.OpenBatch.{OpenBatch}
 use Rattle.job_text.specs.declared.reading.Reading.{Reading}
 use Rattle.job_text.specs.Kinds.{Kind, skipped, puzzle, batch, item}
 use Rattle.job_text.specs.Jobs.{items_of, jobs_of, fault_of}
-use Rattle.job_text.specs.Inside.Read.{Extends, count, count_current, is_some_batch, jobs_behind, jobs_with}
+use Rattle.job_text.specs.inside.Read.{Extends, count, count_current, is_some_batch, jobs_behind, jobs_with}
 
 -- nothing follows
 pub nothing_more : (jobs : List Job) → jobs ≡ jobs ++ jobs_of []

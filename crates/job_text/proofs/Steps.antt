@@ -6,8 +6,8 @@ use Rattle.job_text.specs.declared.lines.Lines.{Lines}
 use Rattle.job_text.specs.declared.reading.Reading.{Reading}
 use Rattle.job_text.specs.Kinds.{Kind, skipped, puzzle, batch, item, bad, kind_of, short_kind}
 use Rattle.job_text.specs.Jobs.{fault_of, goes_on, or_later, first_refused, input_jobs, input_refused}
-use Rattle.job_text.specs.Inside.Left.{lines_left, bytes_left, ends_left}
-use Rattle.job_text.specs.Inside.Read.{Extends, adds, count, is_open, jobs_with}
+use Rattle.job_text.specs.inside.Left.{lines_left, bytes_left, ends_left}
+use Rattle.job_text.specs.inside.Read.{Extends, adds, count, is_open, jobs_with}
 
 -- these lines were read, of this number, and those that are left go on from there
 pub record IsReadTo (bytes : List ℕ) (r : Reading) (left : Lines) (number : ℕ) : Type 0 where

@@ -2,4 +2,4 @@ pub mod Lines
 pub mod Words
 pub mod Kinds
 pub mod Jobs
-pub mod Inside
+pub mod inside

@@ -3,7 +3,7 @@
 ghost use Rattle.std.specs.Prelude.{◌≡◌};
 ghost use Rattle.job_text.specs.Kinds.{begins_puzzle as begins, is_item_name as is_named};
 ghost use Rattle.job_text.specs.Kinds.{kind_of, named_kind, puzzle_kind, short_kind};
-ghost use Rattle.job_text.specs.Inside.Left.{kind};
+ghost use Rattle.job_text.specs.inside.Left.{kind};
 
 use crate::faults::LineWhy;
 use crate::items::{Item, item_of};

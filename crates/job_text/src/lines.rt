@@ -3,7 +3,7 @@
 ghost use Rattle.std.specs.Prelude.{◌≡◌, ◌+◌, ◌<◌, ◌≤◌, ◌∷◌, [], length, MatchOption};
 ghost use Rattle.std.specs.Str.Lines.{strip_carriage_return};
 ghost use Rattle.job_text.specs.Lines.{lines};
-ghost use Rattle.job_text.specs.Inside.Left.{bytes_left, ends_left, lines_left};
+ghost use Rattle.job_text.specs.inside.Left.{bytes_left, ends_left, lines_left};
 
 use crate::words::cut;
 

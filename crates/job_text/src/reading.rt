@@ -3,7 +3,7 @@
 ghost use Rattle.std.specs.Prelude.{◌≡◌, ◌≤◌, ◌^◌, ℕ, [], length, Some, Err, IfOk};
 ghost use Rattle.job_text.specs.Kinds.{kind_of, puzzle, batch as batch_of, item as item_kind};
 ghost use Rattle.job_text.specs.Jobs.{fault_of};
-ghost use Rattle.job_text.specs.Inside.Read.{Extends, count, is_open, jobs_with};
+ghost use Rattle.job_text.specs.inside.Read.{Extends, count, is_open, jobs_with};
 
 use crate::commons::CommonBytes;
 use crate::faults::{JobsFault, LineWhy};

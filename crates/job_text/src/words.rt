@@ -2,7 +2,7 @@
 
 ghost use Rattle.std.specs.Prelude.{◌≡◌, ◌↔◌, ◌==◌, decimal, position, IsTrue};
 ghost use Rattle.std.specs.List.{before_first};
-ghost use Rattle.job_text.specs.Inside.Left.{CutsAt};
+ghost use Rattle.job_text.specs.inside.Left.{CutsAt};
 ghost use Rattle.job_text.specs.Words.{behind_word, byte_number as number_of, first_word, is_blank};
 
 use itoa::Buffer;

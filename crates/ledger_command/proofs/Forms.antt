@@ -13,7 +13,7 @@ use Rattle.adlb_unit.specs.declared.configs.Config.{Config}
 use Rattle.bag_ledger.specs.declared.entries.Entry as of
 use Rattle.ledger_command.specs.Faults.{fault_in}
 use Rattle.ledger_command.specs.Input.{IsTextOn, input_limit}
-use Rattle.ledger_command.specs.Inside.{Refuses, RefusesText}
+use Rattle.ledger_command.specs.inside.{Refuses, RefusesText}
 
 module _ (before after : Option (List ℕ)) (read : List ℕ) (reads : Reads before after (input_limit + 1) read) where
   whole : (all : List ℕ) → length read ≤ input_limit → before ≡ Some all → read ≡ all

@@ -1,5 +1,5 @@
 pub mod Ends
 pub mod Faults
 pub mod Input
-pub mod Inside
+pub mod inside
 pub mod Verdicts

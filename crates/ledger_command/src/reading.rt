@@ -4,7 +4,7 @@ ghost use Rattle.std.specs.Prelude.{◌≡◌, ◌≤◌, IfOk, IfErr, OnOk};
 ghost use Rattle.adlb_io.specs.Inputs.{IsAtEnd};
 ghost use Rattle.ledger_file.specs.Lines.{IsText};
 ghost use Rattle.ledger_command.specs.Input.{IsTextOn, IsVerdictOn};
-ghost use Rattle.ledger_command.specs.Inside.{Refuses, RefusesText};
+ghost use Rattle.ledger_command.specs.inside.{Refuses, RefusesText};
 ghost use Rattle.ledger_command.specs.Verdicts.{Suits};
 
 use crate::faults::CheckFault;

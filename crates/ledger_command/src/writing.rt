@@ -1,7 +1,7 @@
 //! The writing of what is told.
 
 ghost use Rattle.std.specs.Prelude.{◌≤◌};
-ghost use Rattle.ledger_command.specs.Inside.{Writes};
+ghost use Rattle.ledger_command.specs.inside.{Writes};
 
 use crate::faults::CheckFault;
 use crate::verdicts::Verdict;

@@ -13,9 +13,9 @@ use Rattle.bag_ledger.specs.declared.entries.Entry.TheVariants as of
 use Rattle.ledger_file.specs.Fields.{Field, word, IsWithin}
 use Rattle.ledger_file.specs.Lines.{row, words, line, first_row, last_row, lines, open_text, text, IsEntry, AreEntries, IsText}
 use Rattle.ledger_file.specs.Lines.{BeginsWithEntry, BeginsWithEnd, IsFirstBad, no_first, no_next, behind}
-use Rattle.ledger_file.specs.Inside.Names.{name_of}
-use Rattle.ledger_file.specs.Inside.Reading.{free, parts_of}
-use Rattle.ledger_file.specs.Inside.Rows.{read_entry, read_sizes}
+use Rattle.ledger_file.specs.inside.Names.{name_of}
+use Rattle.ledger_file.specs.inside.Reading.{free, parts_of}
+use Rattle.ledger_file.specs.inside.Rows.{read_entry, read_sizes}
 use Rattle.ledger_file.proofs.Bytes.{above, above_free, AllAbove, all_above_less, split_joined, joined_above, same_front}
 use Rattle.ledger_file.proofs.Plain.{fields_plain}
 use Rattle.ledger_file.proofs.Entries.{entry_again, sizes_again}

@@ -6,7 +6,7 @@ use Rattle.std.specs.Fmt.{digit_glyph, digits, digits_onto}
 use Rattle.std.specs.List.{list_all, onto_first, join_with_byte, flat_map, AllByRecursion}
 use Rattle.std.specs.Str.{bytes_eq}
 use Rattle.std.specs.Str.Parse.{digits_value}
-use Rattle.ledger_file.specs.Inside.Reading.{free, parts_of, IsCut}
+use Rattle.ledger_file.specs.inside.Reading.{free, parts_of, IsCut}
 use Rattle.std.proofs.lemmas.Bool.{and_parts, and_from, ltb-true, lt-ltb, eq-eqb, ne_eqb, not-true, both_ways}
 use Rattle.std.proofs.lemmas.Fmt.{decimal_is_IsNumeral}
 use Rattle.std.proofs.lemmas.List.{append-nil, get_or_append_left, take-append-drop, drop_more}

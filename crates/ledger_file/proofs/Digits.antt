@@ -10,7 +10,7 @@ use Rattle.std.proofs.lemmas.List.Concat.{flat_map-append}
 use Rattle.std.proofs.lemmas.List.Folds.{list_all-append}
 use Rattle.ledger_file.specs.declared.faults.LineFault.TheVariants as fault
 use Rattle.ledger_file.specs.Fields.{body, hex, word, IsWithin}
-use Rattle.ledger_file.specs.Inside.Reading.{Misses}
+use Rattle.ledger_file.specs.inside.Reading.{Misses}
 
 abbrev pub are_bytes : List ℕ → Bool
 are_bytes bs = list_all (λ b. nat_lt b (2 ^ 8)) bs

@@ -11,11 +11,11 @@ use Rattle.ledger_file.specs.declared.names.Name.{Name}
 use Rattle.ledger_file.specs.declared.names.Name.TheVariants as name
 use Rattle.ledger_file.specs.Fields.{Field, u32, u64, word, IsWithin}
 use Rattle.ledger_file.specs.Lines.{row, words, IsEntry}
-use Rattle.ledger_file.specs.Inside.Names.{name_word, all_names, name_in, name_of}
+use Rattle.ledger_file.specs.inside.Names.{name_word, all_names, name_in, name_of}
 use Rattle.adlb_unit.specs.declared.names.Rank.{Rank}
-use Rattle.ledger_file.specs.Inside.Reading.{onward, next, first, with_rest, value, whole, with_call, call_in, length_in, number_in}
-use Rattle.ledger_file.specs.Inside.Reading.{rank_of, server_of, kind_of, unit_of, batch_of}
-use Rattle.ledger_file.specs.Inside.Rows.{read_row, named, read_entry, read_numbers, read_sizes}
+use Rattle.ledger_file.specs.inside.Reading.{onward, next, first, with_rest, value, whole, with_call, call_in, length_in, number_in}
+use Rattle.ledger_file.specs.inside.Reading.{rank_of, server_of, kind_of, unit_of, batch_of}
+use Rattle.ledger_file.specs.inside.Rows.{read_row, named, read_entry, read_numbers, read_sizes}
 use Rattle.ledger_file.proofs.Bytes.{same_bytes}
 use Rattle.ledger_file.proofs.Readers.{Reads, length_reads, number_reads, prio_reads, pair_reads, target_reads, answer_reads, top_reads}
 use Rattle.ledger_file.proofs.Readers.{types_reads, bytes_reads, end_reads}

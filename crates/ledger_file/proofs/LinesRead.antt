@@ -16,9 +16,9 @@ use Rattle.ledger_file.specs.declared.reading.Line.TheVariants as next
 use Rattle.ledger_file.specs.Fields.{Field}
 use Rattle.ledger_file.specs.Lines.{row, words, line, first_row, last_row, lines, open_text, text, IsEntry, AreEntries, IsText, IsFirstBad}
 use Rattle.ledger_file.specs.Lines.{no_first, no_next, behind}
-use Rattle.ledger_file.specs.Inside.Next.{IsLine, IsNoLine, HasRead, IsRest, IsBadAfter, none_next, too_much}
-use Rattle.ledger_file.specs.Inside.Reading.{IsCut, free, parts_of, Fails}
-use Rattle.ledger_file.specs.Inside.Rows.{read_entry, read_sizes}
+use Rattle.ledger_file.specs.inside.Next.{IsLine, IsNoLine, HasRead, IsRest, IsBadAfter, none_next, too_much}
+use Rattle.ledger_file.specs.inside.Reading.{IsCut, free, parts_of, Fails}
+use Rattle.ledger_file.specs.inside.Rows.{read_entry, read_sizes}
 use Rattle.ledger_file.proofs.Bytes.{AllAbove, cut_somewhere, same_front}
 use Rattle.ledger_file.proofs.Beginnings.{joined, entry_plain, first_plain, last_plain, no_feed, words_back, joined_back, line_then}
 use Rattle.ledger_file.proofs.Beginnings.{config_within, no_text}

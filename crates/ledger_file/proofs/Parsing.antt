@@ -11,7 +11,7 @@ use lib.Signed.{mag}
 use Rattle.ledger_file.specs.declared.faults.LineFault.{LineFault}
 use Rattle.ledger_file.specs.declared.faults.LineFault.TheVariants as fault
 use Rattle.ledger_file.specs.Fields.{Field, u32, u64, i32, word, in_u32, in_i32, IsWithin}
-use Rattle.ledger_file.specs.Inside.Reading.{IsCut, first, with_rest, Gives, Finds, Misses}
+use Rattle.ledger_file.specs.inside.Reading.{IsCut, first, with_rest, Gives, Finds, Misses}
 use Rattle.ledger_file.proofs.Bytes.{above_free, above_less, same_front, decimal_above}
 use Rattle.ledger_file.proofs.Plain.{short_is, long_is}
 use Rattle.ledger_file.proofs.Readers.{Reads, gives, pair_field}

@@ -20,10 +20,10 @@ use Rattle.ledger_file.specs.declared.faults.LineFault.{LineFault}
 use Rattle.ledger_file.specs.declared.faults.LineFault.TheVariants as fault
 use Rattle.ledger_file.specs.Fields.{Field, u32, u64, i32, id, aim, rank_or_none, prio_or_none, wanted, body, told, hex, word, within}
 use Rattle.ledger_file.specs.Fields.{in_u32, in_i32, IsWithin}
-use Rattle.ledger_file.specs.Inside.Reading.{checked, unsigned_guess, signed_guess, kind_guess, before_dot, behind_dot, parts_of}
-use Rattle.ledger_file.specs.Inside.Reading.{target_guess, answer_guess, top_guess, types_guess, end_guess, unhex, bytes_guess, length_in}
-use Rattle.ledger_file.specs.Inside.Reading.{number_in, prio_in, pair_in, target_in, answer_in, top_in, types_in, bytes_in, end_in, Gives}
-use Rattle.ledger_file.specs.Inside.Reading.{Finds}
+use Rattle.ledger_file.specs.inside.Reading.{checked, unsigned_guess, signed_guess, kind_guess, before_dot, behind_dot, parts_of}
+use Rattle.ledger_file.specs.inside.Reading.{target_guess, answer_guess, top_guess, types_guess, end_guess, unhex, bytes_guess, length_in}
+use Rattle.ledger_file.specs.inside.Reading.{number_in, prio_in, pair_in, target_in, answer_in, top_in, types_in, bytes_in, end_in, Gives}
+use Rattle.ledger_file.specs.inside.Reading.{Finds}
 use Rattle.ledger_file.proofs.Bytes.{same_bytes, bytes_alike, above, split_joined, decimal_above, decimal_back, decimal_some, first_digit}
 use Rattle.ledger_file.proofs.Bytes.{first_no_dash, first_joined, glyph_above}
 use Rattle.ledger_file.proofs.Plain.{short_is, long_is, kinds_plain}

@@ -13,7 +13,7 @@ use Rattle.adlb_unit.specs.declared.wanted.TypesFault.TheVariants as types
 use Rattle.ledger_file.specs.declared.faults.LineFault.{LineFault}
 use Rattle.ledger_file.specs.declared.faults.LineFault.TheVariants as fault
 use Rattle.ledger_file.specs.Fields.{u32, wanted, word, in_u32, IsWithin}
-use Rattle.ledger_file.specs.Inside.Reading.{parts_of, Misses}
+use Rattle.ledger_file.specs.inside.Reading.{parts_of, Misses}
 use Rattle.ledger_file.proofs.Bytes.{split_joined}
 use Rattle.ledger_file.proofs.Plain.{kinds_plain}
 

@@ -9,7 +9,7 @@ use Rattle.bag_ledger.specs.declared.entries.Entry.{Entry}
 use Rattle.ledger_file.specs.declared.fields.Field.{Field}
 use Rattle.ledger_file.specs.Fields.{Field as Spelt, IsWithin, word}
 use Rattle.ledger_file.specs.Lines.{IsEntry, row, line}
-use Rattle.ledger_file.specs.Inside.Given.{field_of, fields_of, heads, spaced, what, who}
+use Rattle.ledger_file.specs.inside.Given.{field_of, fields_of, heads, spaced, what, who}
 use Rattle.ledger_file.proofs.Bytes.{joined_is}
 
 -- a list whose first was written, and then the others after the byte k

@@ -1,3 +1,3 @@
 pub mod Fields
-pub mod Inside
+pub mod inside
 pub mod Lines

@@ -2,7 +2,7 @@
 
 ghost use Rattle.std.specs.Prelude.{◌≡◌, ◌++◌, ℕ, List, None, IfSome};
 ghost use Rattle.ledger_file.specs.Fields.{aim, rank_or_none, prio_or_none, told};
-ghost use Rattle.ledger_file.specs.Inside.Reading.{Finds};
+ghost use Rattle.ledger_file.specs.inside.Reading.{Finds};
 
 use crate::faults::LineFault;
 use crate::numbers::{prio, short};

@@ -2,7 +2,7 @@
 //! text at its line feeds.
 
 ghost use Rattle.std.specs.Prelude.{◌≡◌, ◌∷◌, [], MatchOption, true};
-ghost use Rattle.ledger_file.specs.Inside.Reading.{IsCut, free, parts_left, parts_of};
+ghost use Rattle.ledger_file.specs.inside.Reading.{IsCut, free, parts_left, parts_of};
 
 /// What stands before the first of these bytes and after it, if there is one (`IsCut`).
 pub fn cut(bytes: &[u8], at: u8) -> Option<(&[u8], &[u8])>

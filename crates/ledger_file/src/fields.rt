@@ -4,7 +4,7 @@ ghost use Rattle.std.specs.Prelude.{◌≡◌, ◌++◌, ◌<◌, ◌≤◌, OnO
 ghost use Rattle.std.specs.Fmt.{digit_glyph};
 ghost use Rattle.adlb_unit.specs.Limits.{type_limit};
 ghost use Rattle.ledger_file.specs.Fields.{IsWithin, word, aim, wanted, body as bytes_field, id};
-ghost use Rattle.ledger_file.specs.Inside.Given.{field_of};
+ghost use Rattle.ledger_file.specs.inside.Given.{field_of};
 
 use crate::texts::append;
 use adlb_unit::{End, NoMemory, Rank, Target, Types, WorkType};

@@ -3,7 +3,7 @@
 ghost use Rattle.std.specs.Prelude.{◌≡◌, ◌<◌, ℕ, false, MatchResult};
 ghost use Rattle.std.specs.Fmt.{digit_glyph};
 ghost use Rattle.ledger_file.specs.Fields.{wanted, body};
-ghost use Rattle.ledger_file.specs.Inside.Reading.{Finds};
+ghost use Rattle.ledger_file.specs.inside.Reading.{Finds};
 
 use crate::cursor::Parts;
 use crate::faults::LineFault;

@@ -1,7 +1,7 @@
 //! The names of entries.
 
 ghost use Rattle.std.specs.Prelude.{◌≡◌};
-ghost use Rattle.ledger_file.specs.Inside.Names.{name_in, name_of, name_word};
+ghost use Rattle.ledger_file.specs.inside.Names.{name_in, name_of, name_word};
 ghost use Rattle.ledger_file.specs.Lines.{row};
 
 use bag_ledger::Entry;
@@ -141,7 +141,7 @@ impl Name {
     }
 
     /// The name with this word, if there is one (`name_of`).
-    #[tactic(auto, unfolding(crate::specs::Inside::Names::name_of))]
+    #[tactic(auto, unfolding(crate::specs::inside::Names::name_of))]
     pub fn of(word: &[u8]) -> Option<Name>
         ensures { result ≡ name_of word.now }
     {

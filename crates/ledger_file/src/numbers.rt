@@ -2,7 +2,7 @@
 
 ghost use Rattle.std.specs.Prelude.{◌≡◌, ◌↔◌, IsTrue};
 ghost use Rattle.ledger_file.specs.Fields.{u32 as short_field, u64 as long_field, i32 as signed_field, id as id_field};
-ghost use Rattle.ledger_file.specs.Inside.Reading.{Finds};
+ghost use Rattle.ledger_file.specs.inside.Reading.{Finds};
 
 use crate::cursor::cut;
 use crate::faults::LineFault;

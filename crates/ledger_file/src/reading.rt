@@ -4,9 +4,9 @@ ghost use Rattle.std.specs.Prelude.{◌≡◌, ◌↔◌, ℕ, List, IfOk, IsTru
 ghost use Rattle.adlb_unit.specs.declared.configs.Config.{Config};
 ghost use Rattle.bag_ledger.specs.declared.entries.Entry.{Entry};
 ghost use Rattle.ledger_file.specs.Lines.{IsFirstBad, IsText, first_row, last_row, words};
-ghost use Rattle.ledger_file.specs.Inside.Reading.{Gives, parts_of};
-ghost use Rattle.ledger_file.specs.Inside.Rows.{read_sizes};
-ghost use Rattle.ledger_file.specs.Inside.Next.{IsBadAfter, IsNext, IsRest};
+ghost use Rattle.ledger_file.specs.inside.Reading.{Gives, parts_of};
+ghost use Rattle.ledger_file.specs.inside.Rows.{read_sizes};
+ghost use Rattle.ledger_file.specs.inside.Next.{IsBadAfter, IsNext, IsRest};
 
 use crate::cursor::{Parts, cut};
 use crate::faults::{LedgerFault, LineFault};
@@ -49,7 +49,7 @@ fn config_of(line: &[u8]) -> Result<Config, LineFault>
 }
 
 // The numbers of a first line, without its line feed. `Bad` exactly if it has not its form.
-#[tactic(auto, unfolding(crate::specs::Inside::Rows::read_sizes))]
+#[tactic(auto, unfolding(crate::specs::inside::Rows::read_sizes))]
 fn sizes_of(line: &[u8]) -> Result<(u32, u32, u64), LineFault>
     ensures { Gives (λ x. x) result (read_sizes (parts_of 32 line.now)) }
 {

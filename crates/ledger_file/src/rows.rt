@@ -1,7 +1,7 @@
 //! The entry of a line.
 
-ghost use Rattle.ledger_file.specs.Inside.Reading.{Gives, parts_left, parts_of};
-ghost use Rattle.ledger_file.specs.Inside.Rows.{read_row, read_entry};
+ghost use Rattle.ledger_file.specs.inside.Reading.{Gives, parts_left, parts_of};
+ghost use Rattle.ledger_file.specs.inside.Rows.{read_row, read_entry};
 
 mod alike;
 mod calls;
@@ -17,7 +17,7 @@ use servers::{counted, granted, looked, promised, refused};
 use std::alloc::Global;
 
 /// The entry that is written so, without its line feed. `Bad` exactly if none is. Its only other error is `Memory`.
-#[tactic(auto, unfolding(crate::specs::Inside::Rows::read_entry))]
+#[tactic(auto, unfolding(crate::specs::inside::Rows::read_entry))]
 pub fn entry_of(alloc: Global, line: &[u8]) -> Result<Entry, LineFault>
     ensures { Gives (λ e. e) result (read_entry (parts_of 32 line.now)) }
 {

@@ -1,6 +1,6 @@
 //! The fields of an entry, read from the words of a line one after the other.
 
-ghost use Rattle.ledger_file.specs.Inside.Reading.{Gives, first, parts_left, whole, length_in, number_in, prio_in, pair_in, target_in, answer_in, top_in, types_in, bytes_in, end_in, call_in};
+ghost use Rattle.ledger_file.specs.inside.Reading.{Gives, first, parts_left, whole, length_in, number_in, prio_in, pair_in, target_in, answer_in, top_in, types_in, bytes_in, end_in, call_in};
 ghost use Rattle.std.specs.Prelude.{◌≡◌, ◌∷◌, [], MatchResult};
 
 use crate::choices::{answer, end, target, top};
@@ -39,7 +39,7 @@ impl<'a> Parts<'a> {
     }
 
     /// The next two words, as a rank and the number of its call.
-    #[tactic(auto, unfolding(crate::specs::Inside::Reading::call_in))]
+    #[tactic(auto, unfolding(crate::specs::inside::Reading::call_in))]
     pub fn call(&mut self) -> Result<(Rank, u64), LineFault>
         ensures { Gives (λ x. ((x.0.0, x.1), parts_left self.new)) result (call_in (parts_left self.old)) }
     {

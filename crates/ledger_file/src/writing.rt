@@ -4,7 +4,7 @@ ghost use Rattle.std.specs.Prelude.{◌≡◌, ◌++◌, IfOk, OnOk, length};
 ghost use Rattle.std.specs.List.{AllByRecursion};
 ghost use Rattle.ledger_file.specs.Fields.{IsWithin};
 ghost use Rattle.ledger_file.specs.Lines.{AreEntries, IsEntry, first_row, last_row, line, open_text, row, text};
-ghost use Rattle.ledger_file.specs.Inside.Given.{fields_of, spaced, what, who};
+ghost use Rattle.ledger_file.specs.inside.Given.{fields_of, spaced, what, who};
 
 use crate::fields::Field::{self, Aim, Answer, Bytes, End, Id, Number, Prio, Short, Top, Types};
 use crate::names::Name;

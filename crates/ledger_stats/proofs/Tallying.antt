@@ -2,7 +2,7 @@
 use Rattle.std.proofs.Common.{◌≡◌, ◌≤◌, ◌+◌, ◌∙◌, ℕ, Bool, List, [], ◌∷◌, length, cond, count_by, arith, ap, refl}
 use Rattle.std.proofs.lemmas.List.Sums.{count_by-le-length, sum_by-append}
 use Rattle.bag_ledger.specs.declared.entries.Entry.{Entry}
-use Rattle.ledger_stats.specs.Inside.{told}
+use Rattle.ledger_stats.specs.inside.{told}
 use Rattle.ledger_stats.specs.declared.stats.Statistic.{Statistic}
 use Rattle.ledger_stats.specs.declared.stats.Statistic.TheVariants.{Accepted, Refused, Rejected, Granted, Pushed}
 use Rattle.ledger_stats.specs.declared.stats.Tally.{Tally}

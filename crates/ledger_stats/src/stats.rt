@@ -2,7 +2,7 @@
 
 ghost use Rattle.std.specs.Prelude.{◌≡◌, ◌<◌, ◌+◌, ◌^◌, ◌++◌, ◌∷◌, [], IfOk, OnOk, count_by};
 ghost use Rattle.ledger_stats.specs.Stats.{counts, stats_text};
-ghost use Rattle.ledger_stats.specs.Inside.{told};
+ghost use Rattle.ledger_stats.specs.inside.{told};
 ghost use Rattle.ledger_stats.specs.declared.stats.Statistic.{Statistic};
 
 use crate::texts::{append, append_count};

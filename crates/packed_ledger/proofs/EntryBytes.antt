@@ -13,10 +13,10 @@ use Rattle.packed_ledger.specs.declared.stamped.Stamped.{Stamped}
 use Rattle.packed_ledger.specs.declared.rows.Row.{Row}
 use Rattle.bag_ledger.specs.declared.entries.Entry.TheVariants as enters
 use Rattle.packed_ledger.specs.Sizes.{size_of}
-use Rattle.packed_ledger.specs.Inside.Numbers.{groups}
-use Rattle.packed_ledger.specs.Inside.Rows.{row_before}
-use Rattle.packed_ledger.specs.Inside.Told.{row_of}
-use Rattle.packed_ledger.specs.Inside.Codes.{Holds, body_of, codes, entry_before, kind_code, kinds_of, stamped_before}
+use Rattle.packed_ledger.specs.inside.Numbers.{groups}
+use Rattle.packed_ledger.specs.inside.Rows.{row_before}
+use Rattle.packed_ledger.specs.inside.Told.{row_of}
+use Rattle.packed_ledger.specs.inside.Codes.{Holds, body_of, codes, entry_before, kind_code, kinds_of, stamped_before}
 use Rattle.packed_ledger.proofs.RowBytes.{row_with_more}
 
 pub entry_with_more : (e : Entry) (a b : List ℕ) → entry_before e a ++ b ≡ entry_before e (a ++ b)

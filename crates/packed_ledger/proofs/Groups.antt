@@ -4,7 +4,7 @@ use Rattle.std.proofs.Common.{List, [], ◌∷◌, ◌++◌, length, append_asso
 use Rattle.std.proofs.lemmas.Bool.{cases_lt, lt-ltb, le-ltb, cases_eq, eq-eqb, ne_eqb}
 use Rattle.std.proofs.lemmas.List.{append-nil}
 use Rattle.std.proofs.Math.Nat.{pow-suc}
-use Rattle.packed_ledger.specs.Inside.Numbers.{groups, part, mark}
+use Rattle.packed_ledger.specs.inside.Numbers.{groups, part, mark}
 
 -- what holds of one more groups than before
 pub at_most : (P : ℕ → ℕ → Type 0) → ((k : ℕ) → P (suc k) k) → (most : ℕ) → 0 < most → P most (most - 1)

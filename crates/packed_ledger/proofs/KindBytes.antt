@@ -7,8 +7,8 @@ use Rattle.std.proofs.lemmas.List.Concat.{flat_map-append}
 use Rattle.std.proofs.lemmas.List.Elements.{All-get_or}
 use Rattle.std.specs.List.{All, flat_map}
 use Rattle.adlb_unit.specs.declared.names.WorkType.{WorkType}
-use Rattle.packed_ledger.specs.Inside.Numbers.{groups}
-use Rattle.packed_ledger.specs.Inside.Codes.{kind_code, kind_fits, listed}
+use Rattle.packed_ledger.specs.inside.Numbers.{groups}
+use Rattle.packed_ledger.specs.inside.Codes.{kind_code, kind_fits, listed}
 
 abbrev pub no_kind : WorkType
 no_kind = record { 0 = 0 }

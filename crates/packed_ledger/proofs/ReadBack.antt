@@ -9,9 +9,9 @@ use Rattle.adlb_unit.specs.declared.names.WorkType.{WorkType}
 use Rattle.adlb_unit.specs.declared.notes.End.TheVariants as ends
 use Rattle.bag_ledger.specs.declared.entries.Entry.{Entry}
 use Rattle.bag_ledger.specs.declared.entries.Entry.TheVariants as enters
-use Rattle.packed_ledger.specs.Inside.Told.{row_of, put_head, top_head}
-use Rattle.packed_ledger.specs.Inside.Made.{light_at, with_bytes, with_types}
-use Rattle.packed_ledger.specs.Inside.Codes.{body_of, kinds_of}
+use Rattle.packed_ledger.specs.inside.Told.{row_of, put_head, top_head}
+use Rattle.packed_ledger.specs.inside.Made.{light_at, with_bytes, with_types}
+use Rattle.packed_ledger.specs.inside.Codes.{body_of, kinds_of}
 use Rattle.packed_ledger.proofs.Signed.{comes_back}
 
 few_heads : (target : Target) (answer : Option Rank) → put_head target answer < 6

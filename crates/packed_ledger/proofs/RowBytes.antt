@@ -2,8 +2,8 @@
 use Rattle.std.proofs.Common.{ℕ, ◌≡◌, ◌+◌, ◌*◌, ◌/◌, ◌%◌, ◌≤◌, List, [], ◌∷◌, ◌++◌, append_assoc, ap, ◌∙◌, arith}
 use Rattle.std.proofs.lemmas.List.{append-nil}
 use Rattle.packed_ledger.specs.declared.rows.Row.{Row}
-use Rattle.packed_ledger.specs.Inside.Numbers.{part, mark}
-use Rattle.packed_ledger.specs.Inside.Rows.{marks, row_before}
+use Rattle.packed_ledger.specs.inside.Numbers.{part, mark}
+use Rattle.packed_ledger.specs.inside.Rows.{marks, row_before}
 use Rattle.packed_ledger.proofs.Groups.{mark_small}
 
 abbrev AreBits : (a b c d e f g h : ℕ) → Type 0

@@ -5,7 +5,7 @@ use Rattle.std.proofs.lemmas.Bool.{eq-eqb, ne_eqb, ltb-true, true≢false}
 use Rattle.std.proofs.lemmas.Int.{to_z-of_z, to_z_pos}
 use lib.Signed.{lt_z}
 use mir.Val.{SFits, of_z, to_z}
-use Rattle.packed_ledger.specs.Inside.Numbers.{unsigned, signed}
+use Rattle.packed_ledger.specs.inside.Numbers.{unsigned, signed}
 
 signed_even : (n : ℕ) → n % 2 ≡ 0 → signed n ≡ pos (n / 2)
 unfolding signed

@@ -23,7 +23,7 @@ impl Model for Chunk {
     ghost use Rattle.std.specs.Prelude.{◌-◌};
     ghost use Rattle.std.specs.Vec.{vec_capacity, vec_len};
     ghost use Rattle.packed_ledger.specs.Sizes.{KeptModel};
-    ghost use Rattle.packed_ledger.specs.Inside.Codes.{Holds, IsKeptStamped, stamped_before};
+    ghost use Rattle.packed_ledger.specs.inside.Codes.{Holds, IsKeptStamped, stamped_before};
 
     ghost Value = { KeptModel };
 
@@ -111,7 +111,7 @@ pub(crate) struct Rest {
 impl Model for Rest {
     ghost use Rattle.std.specs.Prelude.{List, ◌≤◌, drop, length};
     ghost use Rattle.packed_ledger.specs.declared.stamped.Stamped.{Stamped};
-    ghost use Rattle.packed_ledger.specs.Inside.Codes.{Holds, IsKeptStamped, stamped_before};
+    ghost use Rattle.packed_ledger.specs.inside.Codes.{Holds, IsKeptStamped, stamped_before};
 
     ghost Value = { List Stamped };
 

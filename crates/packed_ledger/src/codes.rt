@@ -5,8 +5,8 @@ ghost use Rattle.std.specs.List.{All, flat_map};
 ghost use Rattle.std.specs.Vec.{vec_capacity, vec_len};
 ghost use Rattle.adlb_unit.specs.declared.names.WorkType.{WorkType};
 ghost use Rattle.bag_ledger.specs.declared.entries.Entry.{Entry};
-ghost use Rattle.packed_ledger.specs.Inside.Codes.{IsKept, IsKeptStamped, entry_before, kind_code, kind_fits, listed, stamped_before};
-ghost use Rattle.packed_ledger.specs.Inside.Made.{with_bytes, with_types};
+ghost use Rattle.packed_ledger.specs.inside.Codes.{IsKept, IsKeptStamped, entry_before, kind_code, kind_fits, listed, stamped_before};
+ghost use Rattle.packed_ledger.specs.inside.Made.{with_bytes, with_types};
 ghost use Rattle.packed_ledger.specs.Sizes.{size_of};
 ghost use Rattle.packed_ledger.specs.declared.stamped.Stamped.{Stamped};
 

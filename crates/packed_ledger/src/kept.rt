@@ -3,7 +3,7 @@
 ghost use Rattle.std.specs.Prelude.{◌≡◌, ◌≤◌, ◌+◌, ◌++◌, ◌∷◌, [], IfOk, OnOk, OnErr, MatchOption};
 ghost use Rattle.std.specs.List.{All};
 ghost use Rattle.packed_ledger.specs.Sizes.{KeptModel, first_stamp, room_for, size_of, stamped};
-ghost use Rattle.packed_ledger.specs.Inside.Chunks.{IsFilled, behind};
+ghost use Rattle.packed_ledger.specs.inside.Chunks.{IsFilled, behind};
 
 use crate::chunks::{Chunk, Rest};
 use crate::rooms::room_of;
@@ -30,7 +30,7 @@ impl Model for Kept {
     ghost use Rattle.std.specs.List.{All};
     ghost use Rattle.std.specs.Prelude.{◌++◌};
     ghost use Rattle.packed_ledger.specs.Sizes.{KeptModel};
-    ghost use Rattle.packed_ledger.specs.Inside.Chunks.{IsFilled, entries_of};
+    ghost use Rattle.packed_ledger.specs.inside.Chunks.{IsFilled, entries_of};
 
     ghost Value = { KeptModel };
 
@@ -123,7 +123,7 @@ impl Model for Unread {
     ghost use Rattle.std.specs.Prelude.{List, ◌≡◌, ◌++◌, []};
     ghost use Rattle.std.specs.List.{All};
     ghost use Rattle.packed_ledger.specs.declared.stamped.Stamped.{Stamped};
-    ghost use Rattle.packed_ledger.specs.Inside.Chunks.{IsFilled, behind};
+    ghost use Rattle.packed_ledger.specs.inside.Chunks.{IsFilled, behind};
 
     ghost Value = { List Stamped };
 

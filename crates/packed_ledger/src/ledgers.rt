@@ -21,7 +21,7 @@ pub struct Ledger {
 impl Model for Ledger {
     ghost use Rattle.std.specs.Prelude.{◌≡◌, List, length};
     ghost use Rattle.bag_ledger.specs.declared.entries.Entry.{Entry};
-    ghost use Rattle.packed_ledger.specs.Inside.Codes.{Holds, IsKept, entry_before};
+    ghost use Rattle.packed_ledger.specs.inside.Codes.{Holds, IsKept, entry_before};
 
     ghost Value = { List Entry };
 
@@ -100,7 +100,7 @@ pub struct Entries<'a> {
 impl<'a> Model for Entries<'a> {
     ghost use Rattle.std.specs.Prelude.{List, ◌≤◌, ◌<◌, ◌^◌, drop, length};
     ghost use Rattle.bag_ledger.specs.declared.entries.Entry.{Entry};
-    ghost use Rattle.packed_ledger.specs.Inside.Codes.{Holds, IsKept, entry_before};
+    ghost use Rattle.packed_ledger.specs.inside.Codes.{Holds, IsKept, entry_before};
 
     ghost Value = { List Entry };
 

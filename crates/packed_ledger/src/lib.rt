@@ -1,6 +1,6 @@
 //! Entries as they are kept: the ledger of a run, and what an actor keeps of its events. They are seen as lists of entries, those of
 //! `bag_ledger`, and read one after the other. They are kept as bytes, some 5 to 12 for an entry besides the bytes that it tells:
-//! `specs/Inside` says which.
+//! `specs/inside` says which.
 //!
 //!     let mut ledger = Ledger::new(alloc);
 //!     ledger.push(Entry::Exhausted)?;

@@ -1,8 +1,8 @@
 //! The entries that rows tell.
 
 ghost use Rattle.std.specs.Prelude.{◌≡◌};
-ghost use Rattle.packed_ledger.specs.Inside.Made.{answer_at, batch_at, put_at, target_at, unit_at};
-ghost use Rattle.packed_ledger.specs.Inside.Made.{call_at, counted_at, given_at, light_at, moved_at, plain_at, taken_at};
+ghost use Rattle.packed_ledger.specs.inside.Made.{answer_at, batch_at, put_at, target_at, unit_at};
+ghost use Rattle.packed_ledger.specs.inside.Made.{call_at, counted_at, given_at, light_at, moved_at, plain_at, taken_at};
 
 use crate::rows::Row;
 use crate::signs::signed;

@@ -3,7 +3,7 @@
 
 ghost use Rattle.std.specs.Prelude.{ℕ, ◌≡◌, ◌≤◌, ◌<◌, ◌+◌, ◌^◌, ◌++◌, ◌∷◌, List};
 ghost use Rattle.std.specs.Vec.{vec_capacity, vec_len};
-ghost use Rattle.packed_ledger.specs.Inside.Numbers.{groups, mark, part};
+ghost use Rattle.packed_ledger.specs.inside.Numbers.{groups, mark, part};
 
 /// A number below 2 ^ 32 has at most this many groups.
 pub(crate) const SHORT: usize = 5;

@@ -3,7 +3,7 @@
 ghost use Rattle.std.specs.Prelude.{ℕ, ◌≡◌, ◌≤◌, ◌+◌, ◌++◌, List, []};
 ghost use Rattle.std.specs.Vec.{vec_capacity, vec_len};
 ghost use Rattle.packed_ledger.specs.declared.rows.Row.{Row};
-ghost use Rattle.packed_ledger.specs.Inside.Rows.{RowFits, marks, row_before};
+ghost use Rattle.packed_ledger.specs.inside.Rows.{RowFits, marks, row_before};
 
 use crate::numbers::{LONG, SHORT, mark, push_part, read_byte, read_long_part, read_short_part};
 

@@ -1,7 +1,7 @@
 //! Priorities as numbers without a sign: twice the number, and one more for a negative one.
 
 ghost use Rattle.std.specs.Prelude.{◌≡◌};
-ghost use Rattle.packed_ledger.specs.Inside.Numbers.{signed, unsigned};
+ghost use Rattle.packed_ledger.specs.inside.Numbers.{signed, unsigned};
 
 /// The number of a priority.
 pub(crate) fn unsigned(prio: i32) -> u32

@@ -1,8 +1,8 @@
 //! What an entry tells: its row.
 
 ghost use Rattle.std.specs.Prelude.{◌≡◌, ◌<◌};
-ghost use Rattle.packed_ledger.specs.Inside.Told.{end_head, put_head, top_head, wanted_head};
-ghost use Rattle.packed_ledger.specs.Inside.Told.{aim, kinds_in, rank_or_0, row_of, small, top_or_0};
+ghost use Rattle.packed_ledger.specs.inside.Told.{end_head, put_head, top_head, wanted_head};
+ghost use Rattle.packed_ledger.specs.inside.Told.{aim, kinds_in, rank_or_0, row_of, small, top_or_0};
 
 use crate::rows::Row;
 use crate::signs::unsigned;

@@ -1,3 +1,3 @@
-pub mod Inside
+pub mod inside
 pub mod Pushes
 pub mod Put

@@ -43,7 +43,7 @@ impl Model for PushState {
 
     ghost Value = { PushModel };
 
-    ghost use Rattle.put_path.specs.Inside.{IsInside, pushes_of};
+    ghost use Rattle.put_path.specs.inside.{IsInside, pushes_of};
 
     ghost view = { pushes_of };
 

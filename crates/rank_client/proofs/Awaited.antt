@@ -22,8 +22,8 @@ use Rattle.adlb_unit.specs.declared.notes.End.{End}
 use Rattle.rank_client.specs.declared.outcomes.Change.{Change}
 use Rattle.rank_client.specs.declared.outcomes.Change.TheVariants as changes
 use Rattle.rank_client.specs.declared.rooms.Room.{Room}
-use Rattle.rank_client.specs.Inside.{HasRoom, IsFit, IsFresh, IsInside, IsPlaced, IsSound, accepted_after, awaited, batch_after}
-use Rattle.rank_client.specs.Inside.{handles_after, state_of}
+use Rattle.rank_client.specs.inside.{HasRoom, IsFit, IsFresh, IsInside, IsPlaced, IsSound, accepted_after, awaited, batch_after}
+use Rattle.rank_client.specs.inside.{handles_after, state_of}
 use Rattle.rank_client.specs.Transcript.{TranscriptModel}
 use Rattle.rank_client.specs.Rules.{ClientResponse, answer_call}
 use Rattle.rank_client.specs.State.{ClientModel}

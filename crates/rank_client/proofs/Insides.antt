@@ -16,7 +16,7 @@ use Rattle.rank_client.specs.Transcript.{TranscriptModel}
 use Rattle.rank_client.specs.declared.pendings.Pending.{Pending}
 use Rattle.rank_client.specs.declared.pendings.Pending.TheVariants as waits_for
 use Rattle.rank_client.specs.declared.rooms.Room.{Room}
-use Rattle.rank_client.specs.Inside.{HasRoom, IsFresh, IsInside, IsPlaced, IsSound, awaited, state_of, unspent}
+use Rattle.rank_client.specs.inside.{HasRoom, IsFresh, IsInside, IsPlaced, IsSound, awaited, state_of, unspent}
 use Rattle.rank_client.specs.Rules.{held, is_free, is_idle}
 use Rattle.rank_client.specs.State.{ClientModel}
 use Rattle.rank_client.specs.Step.{ticked}

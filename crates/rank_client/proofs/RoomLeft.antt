@@ -9,7 +9,7 @@ use Rattle.rank_client.specs.declared.rooms.Room.{Room}
 use Rattle.rank_client.specs.declared.rounds.Errand.{Errand}
 use Rattle.rank_client.specs.declared.rounds.Errand.TheVariants as goes_to
 use Rattle.rank_client.specs.declared.rounds.Round.{Round}
-use Rattle.rank_client.specs.Inside.{HasRoom, HasTries, IsOffer, IsShort, later, pending_at}
+use Rattle.rank_client.specs.inside.{HasRoom, HasTries, IsOffer, IsShort, later, pending_at}
 
 -- the room that is left after one more server was asked
 pub room_left : (config : Config) (before after : Room) (round next : Round) (e : Errand) (pending : Pending)

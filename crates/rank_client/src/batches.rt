@@ -4,7 +4,7 @@ ghost use Rattle.std.specs.Prelude.{◌≡◌, ◌<◌, ◌≤◌, ◌+◌, ◌^
 ghost use Rattle.adlb_unit.specs.Limits.{body_limit, stamp_limit};
 ghost use Rattle.bag_ledger.specs.declared.entries.Answer.{Answer};
 ghost use Rattle.bag_ledger.specs.declared.entries.Call.{Call};
-ghost use Rattle.rank_client.specs.Inside.{Fits, HasRoom, Hears, Opens, opened, response_of};
+ghost use Rattle.rank_client.specs.inside.{Fits, HasRoom, Hears, Opens, opened, response_of};
 ghost use Rattle.rank_client.specs.Rules.{asked, begun_batch, closing, ends, keep};
 ghost use Rattle.rank_client.specs.State.{ClientModel};
 ghost use Rattle.rank_client.specs.declared.pendings.Pending.{Pending};

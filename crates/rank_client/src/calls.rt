@@ -6,7 +6,7 @@ ghost use Rattle.std.specs.List.{range_with_len};
 ghost use Rattle.std.specs.Vec.{vec_capacity, vec_len};
 ghost use Rattle.adlb_unit.specs.declared.notes.Trouble.{Trouble};
 ghost use Rattle.rank_client.specs.Calls.{is_finish};
-ghost use Rattle.rank_client.specs.Inside.{IsFresh, Opens, gives, opened};
+ghost use Rattle.rank_client.specs.inside.{IsFresh, Opens, gives, opened};
 ghost use Rattle.rank_client.specs.Rules.{farewell, finish, held, is_free, open_call, reserve};
 ghost use Rattle.rank_client.specs.State.{ClientModel};
 ghost use Rattle.rank_client.specs.Step.{Made, begin, call_stamp, call_trouble, made, post, ticked};

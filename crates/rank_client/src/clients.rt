@@ -49,7 +49,7 @@ impl Model for ClientCore {
 
     ghost Value = { ClientModel };
 
-    ghost use Rattle.rank_client.specs.Inside.{state_of, IsInside};
+    ghost use Rattle.rank_client.specs.inside.{state_of, IsInside};
 
     ghost view = { state_of };
 

@@ -1,7 +1,7 @@
 //! What a client does to count the free units of a type at its home.
 
 ghost use Rattle.std.specs.Prelude.{◌≡◌};
-ghost use Rattle.rank_client.specs.Inside.{Hears, Opens, opened};
+ghost use Rattle.rank_client.specs.inside.{Hears, Opens, opened};
 ghost use Rattle.rank_client.specs.Rules.{count};
 ghost use Rattle.rank_client.specs.declared.pendings.Pending.{Pending};
 

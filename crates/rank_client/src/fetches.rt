@@ -3,7 +3,7 @@
 ghost use Rattle.std.specs.Prelude.{◌≡◌, ◌≤◌, [], filter, not, Some, IfOk};
 ghost use Rattle.std.specs.Vec.{vec_len, vec_capacity};
 ghost use Rattle.adlb_unit.specs.Ids.{same_unit};
-ghost use Rattle.rank_client.specs.Inside.{Fits, HasRoom, Hears, Opens, opened, response_of, unspent};
+ghost use Rattle.rank_client.specs.inside.{Fits, HasRoom, Hears, Opens, opened, response_of, unspent};
 ghost use Rattle.rank_client.specs.Rules.{fetched, held, own_came};
 ghost use Rattle.rank_client.specs.State.{ClientModel};
 ghost use Rattle.rank_client.specs.declared.pendings.Pending.{Pending};

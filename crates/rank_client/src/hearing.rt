@@ -3,7 +3,7 @@
 ghost use Rattle.std.specs.Prelude.{◌≡◌, ◌⊎◌, ◌<◌, ◌≤◌, ◌+◌, false, None, Some, IsSome, IfOk, IfErr, OnOk};
 ghost use Rattle.std.specs.Option.{option_map};
 ghost use Rattle.adlb_unit.specs.Limits.{stamp_limit};
-ghost use Rattle.rank_client.specs.Inside.{HasRoom, Hears, IsFresh, gives};
+ghost use Rattle.rank_client.specs.inside.{HasRoom, Hears, IsFresh, gives};
 ghost use Rattle.rank_client.specs.Rules.{answer_call};
 ghost use Rattle.rank_client.specs.Step.{hear, letter_stamp, letter_trouble, made, told_trouble};
 

@@ -1,7 +1,7 @@
 //! What a client does to try for a unit.
 
 ghost use Rattle.std.specs.Prelude.{◌≡◌, ◌<◌, IfOk};
-ghost use Rattle.rank_client.specs.Inside.{HasRoom, Hears, Opens, opened};
+ghost use Rattle.rank_client.specs.inside.{HasRoom, Hears, Opens, opened};
 ghost use Rattle.rank_client.specs.Rules.{look};
 ghost use Rattle.rank_client.specs.declared.pendings.Pending.{Pending};
 

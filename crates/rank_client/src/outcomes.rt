@@ -5,7 +5,7 @@ ghost use Rattle.std.specs.Vec.{vec_capacity, vec_len};
 ghost use Rattle.adlb_unit.specs.Limits.{stamp_limit};
 ghost use Rattle.adlb_unit.specs.declared.configs.Config.{Config};
 ghost use Rattle.bag_ledger.specs.declared.entries.Answer.{Answer};
-ghost use Rattle.rank_client.specs.Inside.{Fits, IsPlaced, accepted_after, batch_after, end_after, handles_after, response_of};
+ghost use Rattle.rank_client.specs.inside.{Fits, IsPlaced, accepted_after, batch_after, end_after, handles_after, response_of};
 ghost use Rattle.rank_client.specs.Rules.{ends};
 ghost use Rattle.rank_client.specs.State.{ClientModel};
 ghost use Rattle.rank_client.specs.declared.outcomes.Change.{Change};

@@ -3,7 +3,7 @@
 ghost use Rattle.std.specs.Prelude.{◌≡◌, ◌<◌, ◌+◌, [], All, IfOk};
 ghost use Rattle.std.specs.Vec.{vec_len, vec_capacity};
 ghost use Rattle.adlb_unit.specs.Limits.{stamp_limit};
-ghost use Rattle.rank_client.specs.Inside.{HasRoom, Hears, Opens, opened};
+ghost use Rattle.rank_client.specs.inside.{HasRoom, Hears, Opens, opened};
 ghost use Rattle.rank_client.specs.Rules.{call_of, entry_of, first_server, put, unit_put};
 ghost use Rattle.rank_client.specs.declared.pendings.Pending.{Pending};
 

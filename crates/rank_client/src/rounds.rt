@@ -6,7 +6,7 @@ ghost use Rattle.adlb_unit.specs.Ring.{behind};
 ghost use Rattle.adlb_unit.specs.Targets.{home};
 ghost use Rattle.bag_ledger.specs.declared.entries.Answer.{Answer};
 ghost use Rattle.bag_ledger.specs.declared.entries.Entry.{Entry};
-ghost use Rattle.rank_client.specs.Inside.{Fits, HasFirst, HasRoom, IsOffer, IsShort, Starts, later, message_of, passed, pending_at, response_of, response_to};
+ghost use Rattle.rank_client.specs.inside.{Fits, HasFirst, HasRoom, IsOffer, IsShort, Starts, later, message_of, passed, pending_at, response_of, response_to};
 ghost use Rattle.rank_client.specs.Rules.{asks, ends, looks_at};
 ghost use Rattle.rank_client.specs.State.{ClientModel};
 

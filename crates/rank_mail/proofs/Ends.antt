@@ -6,7 +6,7 @@ use Rattle.std.proofs.lemmas.Option.{slice_get-map, get_or_from_slice_get}
 use Rattle.std.specs.Option.{option_map}
 use mathlib.Core.List.{IsPrefix}
 use Rattle.adlb_unit.specs.declared.letters.Letter.{Letter}
-use Rattle.rank_mail.specs.Inside.{Agrees, LineModel, line_of, with_line, closed_by, all_closed}
+use Rattle.rank_mail.specs.inside.{Agrees, LineModel, line_of, with_line, closed_by, all_closed}
 use Rattle.rank_mail.specs.Mailboxes.{ClosedModel, Place, PostModel, InboxModel, fresh_inbox, got_on, letters_of, places_of, sent_on}
 use Rattle.rank_mail.specs.Mailboxes.{sent_to}
 use Rattle.rank_mail.proofs.Lists.{there}

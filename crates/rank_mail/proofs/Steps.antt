@@ -16,8 +16,8 @@ use Rattle.crossbeam_channel.specs.Fifo.{Pushes, Pops, Forks, Merges, Learns}
 use Rattle.adlb_unit.specs.declared.letters.Letter.{Letter}
 use Rattle.rank_mail.specs.declared.posted.Known.{Known}
 use Rattle.rank_mail.specs.declared.posted.Posted.{Posted}
-use Rattle.rank_mail.specs.Inside.{sender, receiver, spent, after_send, after_receive, after_split, after_join}
-use Rattle.rank_mail.specs.Inside.{Fits, Delivers, Compares}
+use Rattle.rank_mail.specs.inside.{sender, receiver, spent, after_send, after_receive, after_split, after_join}
+use Rattle.rank_mail.specs.inside.{Fits, Delivers, Compares}
 use Rattle.rank_mail.specs.Mailboxes.{letters_of}
 
 abbrev All : (ℕ → Known → Type 0) → List Known → Type 0

@@ -2,7 +2,7 @@
 
 ghost use Rattle.std.specs.Prelude.{◌≡◌, ◌<◌, ℕ, All, [], length, map, vec_len, IfOk, slice_get, Some};
 ghost use mathlib.Core.List.{IsPrefix};
-ghost use Rattle.rank_mail.specs.Inside.{Agrees, all_closed};
+ghost use Rattle.rank_mail.specs.inside.{Agrees, all_closed};
 ghost use Rattle.rank_mail.specs.Mailboxes.{ClosedModel, InboxModel, Place, PostModel, fresh_inbox, fresh_post, got_on, letters_of, places_of, sent_on, sent_to};
 
 use crate::inboxes::Inbox;

@@ -3,7 +3,7 @@
 ghost use Rattle.std.specs.Prelude.{◌≡◌, ◌<◌, ◌++◌, ◌∷◌, [], true, length, IfOk, OnErr};
 ghost use Rattle.crossbeam_channel.specs.Claims.{view as pass_view, IsSeatAt};
 ghost use Rattle.crossbeam_channel.specs.Ends.{receives_on, ruled_capacity, sends_on};
-ghost use Rattle.rank_mail.specs.Inside.{Agrees, line_of, with_line};
+ghost use Rattle.rank_mail.specs.inside.{Agrees, line_of, with_line};
 ghost use Rattle.rank_mail.specs.Mailboxes.{InboxModel, fresh_inbox};
 
 use crate::lines::Line;

@@ -4,7 +4,7 @@
 //! It stands on the letters of `adlb_unit` and on the channels under a rule of `crossbeam_channel`. A mailbox is a bounded
 //! channel whose rule says: the letters that one sender sent are those that were got of it, followed by those of it that
 //! the channel holds. `specs/Mailboxes.antt` says what contracts see of posts, inboxes and mailboxes that are closed,
-//! `specs/Inside.antt` states the rule.
+//! `specs/inside.antt` states the rule.
 #![tactic(auto)]
 
 mod closing;

@@ -3,7 +3,7 @@
 ghost use Rattle.std.specs.Prelude.{◌≡◌, ◌++◌, ◌∷◌, [], true};
 ghost use Rattle.crossbeam_channel.specs.Claims.{view as pass_view, IsSeatAt};
 ghost use Rattle.crossbeam_channel.specs.Ends.{ruled_capacity, sends_on};
-ghost use Rattle.rank_mail.specs.Inside.{LineModel};
+ghost use Rattle.rank_mail.specs.inside.{LineModel};
 
 use crate::posted::Posted;
 use crate::rule::{MailPass, MailSender, send};

@@ -1,7 +1,7 @@
 //! One actor as the sender of each mailbox.
 
 ghost use Rattle.std.specs.Prelude.{◌≡◌, ◌<◌, ◌↔◌, ℕ, length, map, IfOk, IsTrue, OnOk, slice_get, Some};
-ghost use Rattle.rank_mail.specs.Inside.{LineModel, line_of, with_line, closed_by};
+ghost use Rattle.rank_mail.specs.inside.{LineModel, line_of, with_line, closed_by};
 ghost use Rattle.rank_mail.specs.Mailboxes.{InboxModel, PostModel, after_sending, fresh_post, places_of};
 
 use crate::inboxes::Inbox;

@@ -3,7 +3,7 @@
 ghost use Rattle.std.specs.Prelude.{◌≡◌, ◌<◌, ℕ, List, [], true, length, IfOk};
 ghost use Rattle.crossbeam_channel.specs.Claims.{view, IsSeatAt};
 ghost use Rattle.crossbeam_channel.specs.Ends.{receives_on, ruled_capacity, sends_on};
-ghost use Rattle.rank_mail.specs.Inside.{sender, receiver, spent, after_send, after_receive, after_split, after_join, Compares, Delivers};
+ghost use Rattle.rank_mail.specs.inside.{sender, receiver, spent, after_send, after_receive, after_split, after_join, Compares, Delivers};
 
 use crate::posted::{Known, Posted};
 use adlb_unit::Letter;

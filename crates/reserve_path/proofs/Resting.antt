@@ -9,7 +9,7 @@ use Rattle.adlb_unit.specs.declared.names.Rank.{Rank}
 use Rattle.adlb_unit.specs.declared.names.Server.{Server}
 use Rattle.adlb_unit.specs.declared.names.UnitId.{UnitId}
 use Rattle.adlb_unit.specs.declared.names.WorkType.{WorkType}
-use Rattle.adlb_unit.specs.declared.units.Unit.{Unit as Work}
+use Rattle.adlb_unit.specs.declared.units.Unit.{Unit}
 use Rattle.adlb_unit.proofs.Same.{same_unit_from}
 use Rattle.work_queue.specs.Best.{IsBest, IsOffered, best_of}
 use Rattle.work_queue.specs.Queue.{Queue, has_other_id, id_of, pinned_by, with_arrival, with_pin, with_unit}
@@ -105,7 +105,7 @@ none_left q id w none =
     (All-filter (has_other_id id) (NotOffered w) q.units (each_not (IsOffered w.rank w.types) q.units none))
 
 -- One unit more is free, which is not for the wish.
-none_more : (q : Queue) (unit : Work) (w : Wish) → HasNoneFor q w → NotOffered w (record { unit = unit; pin = None })
+none_more : (q : Queue) (unit : Unit) (w : Wish) → HasNoneFor q w → NotOffered w (record { unit = unit; pin = None })
     → HasNoneFor (with_unit q unit) w
 none_more q unit w none fails =
     let p : Placed = record { unit = unit; pin = None } in
@@ -113,7 +113,7 @@ none_more q unit w none fails =
     (All-push (NotOffered w) q.units p (each_not (IsOffered w.rank w.types) q.units none) fails)
 
 -- or was given away
-none_given : (q : Queue) (unit : Work) (rank : Rank) (w : Wish) → HasNoneFor q w → HasNoneFor (with_pin (with_unit q unit) unit.id rank) w
+none_given : (q : Queue) (unit : Unit) (rank : Rank) (w : Wish) → HasNoneFor q w → HasNoneFor (with_pin (with_unit q unit) unit.id rank) w
 none_given q unit rank w none =
     let p : Placed = record { unit = unit; pin = None } in
     let Q : Placed → Type 0 = λ x. NotOffered w (pinned_by unit.id rank x) in
@@ -216,16 +216,16 @@ later None p none = none
 later (Some x) p none = absurd (cc (none))
 
 -- what does not suit is not offered
-not_suited : (unit : Work) (w : Wish) → suits unit.kind unit.target w ≡ false → NotOffered w (record { unit = unit; pin = None })
+not_suited : (unit : Unit) (w : Wish) → suits unit.kind unit.target w ≡ false → NotOffered w (record { unit = unit; pin = None })
 not_suited unit w fails offered =
     let is : suits unit.kind unit.target w ≡ true = is_permitted w.rank w.types unit.kind unit.target offered.1 in
     absurd (cc (fails, is))
 
-not_taken : (unit : Work) (e : Waiting) → takes unit.kind unit.target e ≡ false → e.asked ≡ None
+not_taken : (unit : Unit) (e : Waiting) → takes unit.kind unit.target e ≡ false → e.asked ≡ None
     → suits unit.kind unit.target e.wish ≡ false
 not_taken unit e fails idle = rw idle at fails
 
-pub offer_rests : (q : Queue) (m : ParkedModel) (unit : Work) → NoneFits q m
+pub offer_rests : (q : Queue) (m : ParkedModel) (unit : Unit) → NoneFits q m
     → NoneFits (given (taker_of unit m) (record { unit = unit; pin = None }) (with_unit q unit)) (gone_if m (taker_of unit m))
 offer_rests q m unit rest = by_taker (taker_of unit m) refl
   where
@@ -242,7 +242,7 @@ offer_rests q m unit rest = by_taker (taker_of unit m) refl
         (fits_less q (with_pin (with_unit q unit) unit.id e.wish.rank) m (none_given q unit e.wish.rank) rest)
 
 -- so too if the unit came into room that was promised, for the units are the same
-pub arrival_rests : (q : Queue) (m : ParkedModel) (unit : Work) → NoneFits q m
+pub arrival_rests : (q : Queue) (m : ParkedModel) (unit : Unit) → NoneFits q m
     → NoneFits (given (taker_of unit m) (record { unit = unit; pin = None }) (with_arrival q unit)) (gone_if m (taker_of unit m))
 arrival_rests q m unit rest = by_taker (taker_of unit m) (offer_rests q m unit rest)
   where
@@ -272,7 +272,7 @@ ask_wished q m w rest = by_best (best_for q w.rank w.types) refl
         All-filter (λ v. not (is_by w.rank v)) (HasNoneFor (pinned_to w.rank (Some p) q)) m.parked.wishes
         (wished_less q (pinned_to w.rank (Some p) q) m (none_pinned q w.rank (Some p)) rest)
 
-pub hint_wished : (q : Queue) (m : ParkedModel) (unit : Work) → NoneWished q m
+pub hint_wished : (q : Queue) (m : ParkedModel) (unit : Unit) → NoneWished q m
     → hints_next unit.kind unit.target m.parked.wishes ≡ None → NoneWished (with_unit q unit) m
 hint_wished q m unit rest none k d within =
     let ws = m.parked.wishes in

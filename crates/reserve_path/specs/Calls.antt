@@ -11,7 +11,7 @@ use Rattle.adlb_unit.specs.declared.names.Target.{Target}
 use Rattle.adlb_unit.specs.declared.names.Target.TheVariants.{Soft}
 use Rattle.adlb_unit.specs.declared.names.WorkType.{WorkType}
 use Rattle.adlb_unit.specs.declared.notes.UnitNote.{UnitNote}
-use Rattle.adlb_unit.specs.declared.units.Unit.{Unit as Work}
+use Rattle.adlb_unit.specs.declared.units.Unit.{Unit}
 use Rattle.work_queue.specs.Queue.{Queue}
 use Rattle.work_queue.specs.declared.placing.Placed.{Placed}
 use Rattle.reserve_path.specs.Grants.{note_of, pinned_to}
@@ -119,14 +119,14 @@ takes_first kind target e = takes kind target e && is_soft_for target e.wish.ran
 abbrev pub taker : WorkType → Target → List Waiting → Option Waiting
 taker kind target waiting = or_else (find (takes_first kind target) waiting) (find (takes kind target) waiting)
 
-abbrev pub taker_of : Work → ParkedModel → Option Waiting
+abbrev pub taker_of : Unit → ParkedModel → Option Waiting
 taker_of unit m = taker unit.kind unit.target m.parked.waiting
 
 -- a rank with its request, and with the note of the unit
 abbrev pub call_of : Wish → Rank × ℕ
 call_of w = (w.rank, w.request)
 
-abbrev pub granted : Server → Work → Waiting → Rank × ℕ × UnitNote
+abbrev pub granted : Server → Unit → Waiting → Rank × ℕ × UnitNote
 granted me unit e = (e.wish.rank, e.wish.request, note_of me unit)
 
 -- the rank, if there is one, waits no longer

@@ -5,13 +5,13 @@ use Rattle.adlb_unit.specs.declared.names.Server.{Server}
 use Rattle.adlb_unit.specs.declared.names.UnitId.{UnitId}
 use Rattle.adlb_unit.specs.declared.names.WorkType.{WorkType}
 use Rattle.adlb_unit.specs.declared.notes.UnitNote.{UnitNote}
-use Rattle.adlb_unit.specs.declared.units.Unit.{Unit as Work}
+use Rattle.adlb_unit.specs.declared.units.Unit.{Unit}
 use Rattle.work_queue.specs.Best.{best_of}
 use Rattle.work_queue.specs.Queue.{Queue, id_of, is_unit, with_pin}
 use Rattle.work_queue.specs.declared.placing.Placed.{Placed}
 
 -- the note of a unit at this server
-abbrev pub note_of : Server → Work → UnitNote
+abbrev pub note_of : Server → Unit → UnitNote
 note_of server u = record {
   id = u.id;
   kind = u.kind;

@@ -1,6 +1,6 @@
 pub mod Calls
 pub mod Front
 pub mod Grants
-pub mod Inside
+pub mod inside
 pub mod Parked
 pub mod Rest

@@ -27,7 +27,7 @@ impl Model for Front {
 
     ghost Value = { FrontModel };
 
-    ghost use Rattle.reserve_path.specs.Inside.{IsFront, front_of};
+    ghost use Rattle.reserve_path.specs.inside.{IsFront, front_of};
 
     ghost view = { front_of };
 

@@ -31,7 +31,7 @@ impl Model for Parked {
 
     ghost Value = { ParkedModel };
 
-    ghost use Rattle.reserve_path.specs.Inside.{IsInside, parked_of};
+    ghost use Rattle.reserve_path.specs.inside.{IsInside, parked_of};
 
     ghost view = { parked_of };
 

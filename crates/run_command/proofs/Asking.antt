@@ -3,7 +3,7 @@ use Rattle.std.proofs.Common.{◌≡◌, ℕ, ◌+◌, ◌≤◌, List, length, 
 use Rattle.adlb_io.proofs.Inputs.{read_end, read_whole}
 use Rattle.adlb_io.specs.Whole.{Reads}
 use Rattle.run_command.specs.Ends.{Asks, input_limit}
-use Rattle.run_command.specs.Inside.{IsRefusal, Stops}
+use Rattle.run_command.specs.inside.{IsRefusal, Stops}
 use Rattle.run_command.specs.declared.faults.Fault.{Fault}
 use Rattle.run_command.specs.declared.faults.Fault.TheVariants.{Input, Read, Write, NoThread, Memory, TooLong, TooLarge}
 

@@ -9,7 +9,7 @@ use Rattle.adlb_io.specs.Whole.{TakesPrefix}
 use Rattle.adlb_io.specs.declared.sinks.SinkFault.{SinkFault}
 use Rattle.adlb_io.specs.declared.sinks.SinkFault.TheVariants as sinks
 use Rattle.run_command.specs.Ends.{EndsBy, IsAnswered, IsKeptWhereBegun, Scene}
-use Rattle.run_command.specs.Inside.{Stops, Writes, fault_of, kept_of}
+use Rattle.run_command.specs.inside.{Stops, Writes, fault_of, kept_of}
 use Rattle.run_command.specs.declared.faults.Fault.{Fault}
 use Rattle.run_command.specs.declared.faults.Fault.TheVariants.{Input, Read, Write, NoThread, Memory, TooLong, TooLarge}
 

@@ -19,7 +19,7 @@ use Rattle.core_inline.proofs.Lefts.{nothing_left}
 use Rattle.rank_client.specs.Calls.{plus}
 use Rattle.rank_client.specs.Seat.{Seat}
 use Rattle.server_core.specs.declared.states.LeftUnit.{LeftUnit}
-use Rattle.run_command.specs.Inside.{HasNumbers, IsReportOf, IsTroubleOf, one_report}
+use Rattle.run_command.specs.inside.{HasNumbers, IsReportOf, IsTroubleOf, one_report}
 use Rattle.run_command.specs.Kept.{HasRun, IsKept, IsRunBy, IsWorkedUp, Kept}
 
 -- where all work of a run is done, it is kept

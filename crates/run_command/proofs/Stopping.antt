@@ -7,7 +7,7 @@ use Rattle.adlb_threads.specs.declared.faults.RanFault.TheVariants as runs
 use Rattle.adlb_unit.specs.declared.notes.Trouble.{Trouble}
 use Rattle.adlb_unit.specs.declared.notes.Trouble.TheVariants as troubles
 use Rattle.run_command.specs.Ends.{Asks, HasAsked}
-use Rattle.run_command.specs.Inside.{IsTroubleOf, Stops, fault_by, fault_ran}
+use Rattle.run_command.specs.inside.{IsTroubleOf, Stops, fault_by, fault_ran}
 use Rattle.run_command.specs.declared.faults.Fault.{Fault}
 use Rattle.run_command.specs.declared.faults.Fault.TheVariants.{Memory}
 

@@ -1,4 +1,4 @@
 pub mod Ends
-pub mod Inside
+pub mod inside
 pub mod Kept
 pub mod Reading

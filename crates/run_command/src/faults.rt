@@ -27,7 +27,7 @@ pub enum Fault<W> {
 }
 
 impl<W> Fault<W> {
-    ghost use Rattle.run_command.specs.Inside.{fault_by, fault_of, fault_ran};
+    ghost use Rattle.run_command.specs.inside.{fault_by, fault_of, fault_ran};
 
     /// The fault that a trouble of a run in line is (`fault_by`).
     pub(crate) fn by(trouble: Trouble) -> Fault<W>

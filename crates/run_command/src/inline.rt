@@ -3,7 +3,7 @@
 ghost use Rattle.std.specs.Prelude.{◌≡◌, ◌≤◌, ℕ, IfOk, OnOk, IfErr, IfSome};
 ghost use Rattle.adlb_io.specs.Inputs.{IsAtEnd};
 ghost use Rattle.run_command.specs.Ends.{EndsBy, IsAnswered, scene};
-ghost use Rattle.run_command.specs.Inside.{Stops};
+ghost use Rattle.run_command.specs.inside.{Stops};
 ghost use Rattle.run_command.specs.Kept.{IsKept};
 
 use crate::answers::{Answer, answer_of};

@@ -3,7 +3,7 @@
 ghost use Rattle.std.specs.Prelude.{◌≡◌, [], ◌∷◌, None, true, false, IfOk, OnOk, IfErr};
 ghost use Rattle.core_inline.specs.Inline.{IsEnd, batch_of, zeroth};
 ghost use Rattle.rank_client.specs.Calls.{has_finished};
-ghost use Rattle.run_command.specs.Inside.{HasNumbers, IsReportOf, IsTroubleOf};
+ghost use Rattle.run_command.specs.inside.{HasNumbers, IsReportOf, IsTroubleOf};
 ghost use Rattle.run_command.specs.Kept.{HasRun};
 
 use crate::commands::Command;

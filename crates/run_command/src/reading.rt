@@ -3,7 +3,7 @@
 ghost use Rattle.std.specs.Prelude.{◌≡◌, ◌≤◌, ◌+◌, ℕ, List, Some, length, IfOk, OnOk, IfErr};
 ghost use Rattle.adlb_io.specs.Inputs.{IsAtEnd};
 ghost use Rattle.run_command.specs.Ends.{Asks, input_limit};
-ghost use Rattle.run_command.specs.Inside.{IsRefusal, Stops};
+ghost use Rattle.run_command.specs.inside.{IsRefusal, Stops};
 
 use crate::commands::{Command, ReadFault};
 use crate::faults::Fault;

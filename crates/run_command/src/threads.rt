@@ -5,7 +5,7 @@ ghost use Rattle.adlb_io.specs.Inputs.{IsAtEnd};
 ghost use Rattle.adlb_io.specs.Outside.{Rises};
 ghost use Rattle.adlb_threads.specs.Runs.{IsFaultOf};
 ghost use Rattle.run_command.specs.Ends.{EndsBy, IsAnswered, scene};
-ghost use Rattle.run_command.specs.Inside.{Stops};
+ghost use Rattle.run_command.specs.inside.{Stops};
 ghost use Rattle.run_command.specs.Kept.{HasRun, HasStarted, IsKept};
 
 use crate::answers::{Answer, answer_of};

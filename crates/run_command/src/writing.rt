@@ -1,7 +1,7 @@
 //! The writing of what is told.
 
 ghost use Rattle.std.specs.Prelude.{◌≡◌, ◌≤◌, Some, None};
-ghost use Rattle.run_command.specs.Inside.{Writes, fault_of, kept_of};
+ghost use Rattle.run_command.specs.inside.{Writes, fault_of, kept_of};
 
 use crate::answers::Answer;
 use crate::faults::{Ended, Fault};

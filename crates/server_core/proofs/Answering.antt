@@ -27,7 +27,7 @@ use Rattle.server_law.specs.Plan.{Plan}
 use Rattle.server_law.specs.State.{ServerModel, idle}
 use Rattle.server_law.specs.Waits.{ask_next, asks_on, look_again, look_at, looks_again}
 use Rattle.server_law.proofs.Places.{found_there}
-use Rattle.server_core.specs.Inside.{parked_of}
+use Rattle.server_core.specs.inside.{parked_of}
 use Rattle.server_core.specs.Out.{Out, going_on, made, planned, with_letter}
 use Rattle.server_core.specs.Waits.{looked, over, released, told_ask, told_end, told_note, told_step, with_parked}
 use Rattle.server_core.proofs.Alone.{NonePasses}

@@ -5,7 +5,7 @@ use Rattle.adlb_unit.specs.declared.actors.Actor.TheVariants as by
 use Rattle.adlb_unit.specs.declared.messages.Message.TheVariants as tells
 use Rattle.adlb_unit.specs.declared.names.Server.{Server}
 use Rattle.adlb_unit.specs.declared.names.UnitId.{UnitId}
-use Rattle.adlb_unit.specs.declared.units.Unit.{Unit as Work}
+use Rattle.adlb_unit.specs.declared.units.Unit.{Unit}
 use Rattle.bag_ledger.specs.declared.entries.Entry.{Entry}
 use Rattle.bag_ledger.specs.declared.entries.Entry.TheVariants as enters
 use Rattle.work_queue.specs.Queue.{with_arrival}
@@ -47,7 +47,7 @@ hints_leave test (w ∷ wishes) more leaves = by_test (test w) (hints_leave test
     by_test true rest s owed = ap (λ x. joined (sends (Hints w) s) [] x) (rest (done (Hints w) s) owed)
     by_test false rest s owed = rest s owed
 
-all_leave : (unit : Work) (wishes : List Wish) → LeavesDebts (hint_all unit wishes)
+all_leave : (unit : Unit) (wishes : List Wish) → LeavesDebts (hint_all unit wishes)
 all_leave unit wishes =
     let later = hints_if (is_later_for unit) wishes in
     let last = hints_leave (is_later_for unit) wishes [] (λ s owed. refl) in
@@ -57,7 +57,7 @@ all_leave unit wishes =
 settles_leave : (id : UnitId) (s : ServerModel) → LeavesDebts (settles id s)
 settles_leave id s = by_unit (find (is_free_as id) s.kept.queue.units)
   where
-    by_taker : (unit : Work) (o : Option Place) → LeavesDebts (gives s.kept unit o)
+    by_taker : (unit : Unit) (o : Option Place) → LeavesDebts (gives s.kept unit o)
     by_taker unit None = all_leave unit s.kept.parked.wishes
     by_taker unit (Some p) = λ t owed. refl
 
@@ -68,7 +68,7 @@ settles_leave id s = by_unit (find (is_free_as id) s.kept.queue.units)
 settles_likewise : (id : UnitId) (s : ServerModel) (owed : Option Debt) → settles id (owing s owed) ≡ settles id s
 settles_likewise id s owed = by_unit (find (is_free_as id) s.kept.queue.units)
   where
-    by_taker : (unit : Work) (o : Option Place) → gives (owing s owed).kept unit o ≡ gives s.kept unit o
+    by_taker : (unit : Unit) (o : Option Place) → gives (owing s owed).kept unit o ≡ gives s.kept unit o
     by_taker unit None = refl
     by_taker unit (Some p) = refl
 
@@ -109,7 +109,7 @@ enters_one a s out e nothing one =
     let act : with_act (made s out) a ≡ made (does a s) (with_entry out e) = rw (nothing, one, append-nil out.sends) refl in
     goes_nowhere (with_entry out e) (does a s) ∙ sym (followed_more (made s out) a [] ∙ ap (λ x. followed x []) act)
 
-module _ (s : ServerModel) (out : Out) (from : Server) (unit : Work) (none : s.kept.owed ≡ None) (t : ServerModel) (mid : Out)
+module _ (s : ServerModel) (out : Out) (from : Server) (unit : Unit) (none : s.kept.owed ≡ None) (t : ServerModel) (mid : Out)
     (settled : (let v = moved s (with_arrival s.kept.queue unit) s.kept.pushing in
     made t mid ≡ going_on (with_entry out (enters.Arrived s.me unit.id)) (settles unit.id v) v)) where
   abbrev v : ServerModel

@@ -12,7 +12,7 @@ use Rattle.server_law.specs.Acts.{Declines, to_server}
 use Rattle.server_law.specs.Asks.{answer, answer_now, ask_rule, expects_ask}
 use Rattle.server_law.specs.Plan.{Plan}
 use Rattle.server_law.specs.State.{ServerModel}
-use Rattle.server_core.specs.Inside.{parked_of}
+use Rattle.server_core.specs.inside.{parked_of}
 use Rattle.server_core.specs.Out.{Out, planned}
 use Rattle.server_core.specs.Waits.{asked, offered, offered_by, pinning, told_home}
 use Rattle.server_core.proofs.Going.{plan_if, says_only}

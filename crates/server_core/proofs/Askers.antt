@@ -13,7 +13,7 @@ use Rattle.reserve_path.specs.Calls.{wants}
 use Rattle.reserve_path.specs.Parked.{IsParked, IsWaiting, ParkedModel}
 use Rattle.reserve_path.specs.declared.waits.Waiting.{Waiting}
 use Rattle.server_law.specs.State.{ring_at}
-use Rattle.server_core.specs.Inside.{IsInside, parked_of, state_of}
+use Rattle.server_core.specs.inside.{IsInside, parked_of, state_of}
 use Rattle.server_core.specs.declared.states.ServerState.TheInside.{Inside}
 
 -- each waits at its home, and once

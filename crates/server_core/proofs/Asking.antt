@@ -19,7 +19,7 @@ use Rattle.server_law.specs.State.{ServerModel, is_waiting}
 use Rattle.server_law.specs.Waits.{ask_at, ask_next, asks_on, look_again}
 use Rattle.server_law.proofs.Places.{found_there, nothing_there}
 use Rattle.server_law.proofs.Tests.{found_any}
-use Rattle.server_core.specs.Inside.{parked_of}
+use Rattle.server_core.specs.inside.{parked_of}
 use Rattle.server_core.specs.Waits.{over_by, with_parked}
 use Rattle.server_core.proofs.Alone.{NonePasses, find_there}
 

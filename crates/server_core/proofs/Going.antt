@@ -43,7 +43,7 @@ use Rattle.server_law.proofs.Carrying.{decided_carried, followed, followed_by, f
 use Rattle.server_law.proofs.Expected.{server_rule_awaited}
 use Rattle.server_law.proofs.Found.{pinned_is, pinned_there}
 use Rattle.server_core.specs.Out.{HasRoom, Out, going_on, made, nothing, planned, with_answer, with_letter}
-use Rattle.server_core.specs.Inside.{parked_of}
+use Rattle.server_core.specs.inside.{parked_of}
 use Rattle.server_core.specs.Waits.{asked, heard, looked, offered, pinning, released, sought, told_ask, with_parked}
 
 -- no act

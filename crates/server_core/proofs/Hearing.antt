@@ -19,7 +19,7 @@ use Rattle.server_law.specs.State.{ServerModel, awaiting, idle}
 use Rattle.server_law.specs.Waits.{ask_next, asks_on}
 use Rattle.server_law.proofs.Places.{none_found}
 use Rattle.server_law.proofs.Tests.{expects_hint_says}
-use Rattle.server_core.specs.Inside.{parked_of}
+use Rattle.server_core.specs.inside.{parked_of}
 use Rattle.server_core.specs.Out.{Out, going_on, made, planned}
 use Rattle.server_core.specs.Waits.{heard, told_ask}
 use Rattle.server_core.proofs.Alone.{NonePasses, any_one}

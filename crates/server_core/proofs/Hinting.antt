@@ -12,7 +12,7 @@ use Rattle.std.proofs.lemmas.List.Elements.{All-filter, All-head, All-tail, All-
 use Rattle.adlb_unit.specs.Targets.{home}
 use Rattle.adlb_unit.specs.declared.actors.Actor.TheVariants as by
 use Rattle.adlb_unit.specs.declared.messages.Message.TheVariants as tells
-use Rattle.adlb_unit.specs.declared.units.Unit.{Unit as Work}
+use Rattle.adlb_unit.specs.declared.units.Unit.{Unit}
 use Rattle.work_queue.proofs.Searched.{find_none}
 use Rattle.reserve_path.specs.Calls.{call_of, forgotten_if, hints_next, is_soft_for, or_else, suits, suits_first}
 use Rattle.reserve_path.specs.Parked.{IsParked, is_by}
@@ -22,7 +22,7 @@ use Rattle.server_law.specs.Carried.{counted, posted}
 use Rattle.server_law.specs.Finding.{permits}
 use Rattle.server_law.specs.Hints.{hint_all, hints_if, is_first_for, is_later_for}
 use Rattle.server_law.specs.State.{ServerModel}
-use Rattle.server_core.specs.Inside.{parked_of}
+use Rattle.server_core.specs.inside.{parked_of}
 use Rattle.server_core.specs.Out.{HasRoom, Out, going_on, with_letter}
 use Rattle.server_core.proofs.Going.{room_left, says_one}
 use Rattle.server_core.specs.Waits.{unwished_next, with_parked}
@@ -63,7 +63,7 @@ abbrev pub AreOnce : List Wish → Type 0
 AreOnce wishes = AllPairs (λ (v w : Wish). v.rank.0 ≢ w.rank.0) wishes
 
 -- the wish that is taken off next, and then the others
-pub record HintsNext (unit : Work) (wishes : List Wish) (w : Wish) : Type 0 where
+pub record HintsNext (unit : Unit) (wishes : List Wish) (w : Wish) : Type 0 where
   pub hints : hint_all unit wishes ≡ Hints w ∷ hint_all unit (unwished w.rank wishes)
 
 -- where one stands
@@ -93,7 +93,7 @@ next_left kind target wishes once w is = by_named (find (suits_first kind target
         fewer_left wishes once w (suits_first kind target) (found_split (suits_first kind target) wishes w (found ∙ is))
     by_named None found is = fewer_left wishes once w (suits kind target) (found_split (suits kind target) wishes w is)
 
-module _ (unit : Work) (wishes : List Wish) (once : AreOnce wishes) where
+module _ (unit : Unit) (wishes : List Wish) (once : AreOnce wishes) where
   abbrev first : Wish → Bool
   first = is_first_for unit
 
@@ -172,7 +172,7 @@ without_wish s rank =
 abbrev hint_for : ServerModel → Rank → ℕ → ServerSaying
 hint_for s rank request = to_server (home s.config rank) (tells.Hint rank request)
 
-told_hint : (unit : Work) (s : ServerModel) (out : Out) (w : Wish) → HintsNext unit s.kept.parked.wishes w
+told_hint : (unit : Unit) (s : ServerModel) (out : Out) (w : Wish) → HintsNext unit s.kept.parked.wishes w
     → let v = without_wish s w.rank in
     going_on (with_letter out (posted v (hint_for s w.rank w.request))) (hint_all unit (unwished w.rank s.kept.parked.wishes))
     (counted v (by.Server (home s.config w.rank)))
@@ -185,7 +185,7 @@ told_hint unit s out w next =
 pub record HintTold (s : ServerModel) (kind : WorkType) (target : Target) (u : ServerModel) (rank : Rank) (request : ℕ) : Type 0 where
   pub fewer : length u.kept.parked.wishes < length s.kept.parked.wishes
   pub room : (out : Out) → HasRoom s out 2 → HasRoom u out 3
-  pub goes : (unit : Work) → unit.kind ≡ kind → unit.target ≡ target → (out : Out)
+  pub goes : (unit : Unit) → unit.kind ≡ kind → unit.target ≡ target → (out : Out)
       → going_on (with_letter out (posted u (hint_for u rank request))) (hint_all unit u.kept.parked.wishes)
       (counted u (by.Server (home u.config rank))) ≡ going_on out (hint_all unit s.kept.parked.wishes) s
 
@@ -196,7 +196,7 @@ module _ (s : ServerModel) (sound : IsParked (parked_of s)) (kind : WorkType) (t
   abbrev without : Option Wish → ServerModel
   without o = with_parked s s.kept.queue (forgotten_if (parked_of s) o).parked
 
-  own : (unit : Work) → unit.kind ≡ kind → unit.target ≡ target → hints_next unit.kind unit.target s.kept.parked.wishes ≡ named
+  own : (unit : Unit) → unit.kind ≡ kind → unit.target ≡ target → hints_next unit.kind unit.target s.kept.parked.wishes ≡ named
   own unit same_kind same_target =
       ap (λ k. hints_next k unit.target s.kept.parked.wishes) same_kind ∙ ap (λ a. hints_next kind a s.kept.parked.wishes) same_target
 
@@ -219,7 +219,7 @@ module _ (s : ServerModel) (sound : IsParked (parked_of s)) (kind : WorkType) (t
       subst (λ v. HintTold s kind target v rank request) (sym (made ∙ ap without w.1)) now
 
   -- or there is none
-  pub no_more : {u : ServerModel} → u ≡ unwished_next kind target s → None ≡ option_map call_of named → (unit : Work) → unit.kind ≡ kind
+  pub no_more : {u : ServerModel} → u ≡ unwished_next kind target s → None ≡ option_map call_of named → (unit : Unit) → unit.kind ≡ kind
       → unit.target ≡ target → hint_all unit u.kept.parked.wishes ≡ []
   no_more made told unit same_kind same_target =
       let none = call_none named told in

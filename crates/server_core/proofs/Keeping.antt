@@ -15,7 +15,7 @@ use Rattle.server_law.specs.Batches.{keep_now}
 use Rattle.server_law.specs.Carried.{counted, posted}
 use Rattle.server_law.specs.Finding.{exceeds}
 use Rattle.server_law.specs.State.{ServerModel}
-use Rattle.server_core.specs.Inside.{IsInside, IsSound, bytes_in, state_of}
+use Rattle.server_core.specs.inside.{IsInside, IsSound, bytes_in, state_of}
 use Rattle.server_core.specs.Out.{Out, going_on, made, with_answer}
 use Rattle.server_core.specs.declared.states.ServerState.TheInside.{Inside}
 use Rattle.server_core.proofs.Parts.{changed_within, kept_within}

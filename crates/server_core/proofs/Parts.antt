@@ -16,7 +16,7 @@ use Rattle.work_queue.specs.Queue.{Queue, without_common}
 use Rattle.batch_store.specs.Store.{CanClose, CanFetch, Keeps, Store, by_batch, changed, counts, frees, part_in, released, size_of}
 use Rattle.batch_store.specs.Store.{with_turned, without}
 use Rattle.batch_store.specs.declared.parts.Part.{Part}
-use Rattle.server_core.specs.Inside.{bytes_in, bytes_of}
+use Rattle.server_core.specs.inside.{bytes_in, bytes_of}
 
 -- the first part, and the others
 first_and_others : (e : BatchId × Part) (store : Store) → bytes_in (e ∷ store) ≡ length e.1.bytes + bytes_in store

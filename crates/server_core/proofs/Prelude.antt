@@ -78,7 +78,7 @@ pub use Rattle.server_core.proofs.Telling.{end_told, nobody_idle}
 pub use Rattle.server_core.proofs.Unknown.{has_none, has_room, promised, unpromised}
 pub use Rattle.server_core.proofs.Young.{stays_young}
 pub use Rattle.server_core.specs.Checks.{said, stepped, verdict, with_check}
-pub use Rattle.server_core.specs.Inside.{parked_of, state_of}
+pub use Rattle.server_core.specs.inside.{parked_of, state_of}
 pub use Rattle.server_core.specs.Left.{left_unit}
 pub use Rattle.server_core.specs.Out.{HasRoom, Out, event_letters, going_on, made, with_answer, with_entry}
 pub use Rattle.server_core.specs.Quiet.{all_rest}

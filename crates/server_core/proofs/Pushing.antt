@@ -7,7 +7,7 @@ use Rattle.adlb_unit.specs.declared.messages.Message.TheVariants as tells
 use Rattle.adlb_unit.specs.declared.names.Rank.{Rank}
 use Rattle.adlb_unit.specs.declared.names.Server.{Server}
 use Rattle.adlb_unit.specs.declared.names.UnitId.{UnitId}
-use Rattle.adlb_unit.specs.declared.units.Unit.{Unit as Work}
+use Rattle.adlb_unit.specs.declared.units.Unit.{Unit}
 use Rattle.bag_ledger.specs.declared.entries.Entry.TheVariants as enters
 use Rattle.bag_ledger.proofs.Tests.{some_is}
 use Rattle.work_queue.specs.Queue.{HasFree, Queue, charge_of, id_of, without, without_promise}
@@ -23,7 +23,7 @@ use Rattle.server_law.specs.Pushes.{answer_query, cancel_rule, expects_query, qu
 use Rattle.server_law.specs.Puts.{expects_put, is_taken, put_now, put_rule, settles}
 use Rattle.server_law.specs.State.{ServerModel}
 use Rattle.server_law.proofs.Found.{free_is, free_there, none_free}
-use Rattle.server_core.specs.Inside.{IsInside, IsSound, bytes_in, state_of}
+use Rattle.server_core.specs.inside.{IsInside, IsSound, bytes_in, state_of}
 use Rattle.server_core.specs.Out.{HasRoom, Out, going_on, made, planned, with_answer, with_letter}
 use Rattle.server_core.specs.declared.states.ServerState.TheInside.{Inside}
 use Rattle.server_core.proofs.Going.{answers_only, decides, goes_on, plan_if, says_only}
@@ -38,7 +38,7 @@ pub room_moved : {s : ServerModel} {out : Out} {n : ℕ} (queue : Queue) (pushin
 room_moved queue pushing room = record { tells = room.tells; places = room.places }
 
 -- A put: it is answered, the unit is settled, and a push begins where it may.
-pub puts_goes : (s t u v : ServerModel) (out mid end last : Out) (from : Rank) (unit : Work)
+pub puts_goes : (s t u v : ServerModel) (out mid end last : Out) (from : Rank) (unit : Unit)
     → made t mid ≡ going_on out (put_now s.kept unit ∷ []) s → made u end ≡ going_on mid (settles unit.id t) t
     → made v last ≡ going_on end (presses (is_taken s.kept unit) u) u
     → (p : Plan) → put_rule s from unit ≡ Some p → made v last ≡ planned out p s
@@ -90,7 +90,7 @@ module _ (s : ServerModel) (out : Out) (from : Server) (id : UnitId) (n : ℕ)
       ∙ ap (λ t. cond t (plan (sends_on from id n (find (is_free_as id) s.kept.queue.units)) []) None) (push_from from id n false)
       ∙ ap (λ q. plan (sends_on from id n q) []) found
 
-  pub sends_goes : (unit : Work) {queue : Queue} {pushing : Pushing} → HasFree id s.kept.queue.units
+  pub sends_goes : (unit : Unit) {queue : Queue} {pushing : Pushing} → HasFree id s.kept.queue.units
       → All (λ p. id_of p ≡ id → unit ≡ p.unit) s.kept.queue.units → queue ≡ without s.kept.queue id
       → pushing ≡ with_push s.kept.pushing (Some (has_sent from id n)) → {t : ServerModel} {last : Out}
       → t ≡ counted (moved s queue pushing) (by.Server from)
@@ -101,7 +101,7 @@ module _ (s : ServerModel) (out : Out) (from : Server) (id : UnitId) (n : ℕ)
       let at = free_is id s.kept.queue.units u.0 u.1 in
       let P : Placed → Type 0 = λ q. id_of q ≡ id → unit ≡ q.unit in
       let same : unit ≡ u.0.unit = All-contains P s.kept.queue.units u.0 own at.2 at.0 in
-      let named : unit.id ≡ id = ap (λ (w : Work). w.id) same ∙ at.0 in
+      let named : unit.id ≡ id = ap (λ (w : Unit). w.id) same ∙ at.0 in
       let a = Sends_unit from n unit in
       let x = to_server from (tells.PushUnit unit) in
       let left = enters.Left s.me from unit.id in

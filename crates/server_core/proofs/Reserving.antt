@@ -19,7 +19,7 @@ use Rattle.server_law.specs.Reserves.{reserve, reserve_now, reserve_rule}
 use Rattle.server_law.specs.State.{ServerModel, idle, is_waiting, runs_at_home}
 use Rattle.server_law.specs.Waits.{ask_next, asks_on}
 use Rattle.server_law.proofs.Tests.{waits_not_says}
-use Rattle.server_core.specs.Inside.{parked_of}
+use Rattle.server_core.specs.inside.{parked_of}
 use Rattle.server_core.specs.Out.{Out, going_on, made, planned}
 use Rattle.server_core.specs.Waits.{over, over_by, sought, told_ask, told_end, told_step, with_parked}
 use Rattle.server_core.proofs.Alone.{NonePasses}

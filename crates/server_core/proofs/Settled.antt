@@ -8,7 +8,7 @@ use Rattle.adlb_unit.specs.declared.names.Target.{Target}
 use Rattle.adlb_unit.specs.declared.names.UnitId.{UnitId}
 use Rattle.adlb_unit.specs.declared.names.WorkType.{WorkType}
 use Rattle.adlb_unit.specs.declared.notes.UnitNote.{UnitNote}
-use Rattle.adlb_unit.specs.declared.units.Unit.{Unit as Work}
+use Rattle.adlb_unit.specs.declared.units.Unit.{Unit}
 use Rattle.bag_ledger.proofs.Tests.{some_is}
 use Rattle.work_queue.specs.declared.placing.Placed.{Placed}
 use Rattle.reserve_path.specs.Calls.{given, gone_if, granted, or_else, taker as taker_at, taker_of}
@@ -20,7 +20,7 @@ use Rattle.server_law.specs.Hints.{hint_all}
 use Rattle.server_law.specs.Puts.{gives, settles, settles_as}
 use Rattle.server_law.specs.State.{ServerModel, idle}
 use Rattle.server_law.proofs.Places.{Takes, place, taker_found}
-use Rattle.server_core.specs.Inside.{parked_of}
+use Rattle.server_core.specs.inside.{parked_of}
 use Rattle.server_core.specs.Out.{HasRoom, Out, going_on}
 use Rattle.server_core.specs.Waits.{taken, told_note, with_parked}
 use Rattle.server_core.proofs.Going.{room_left}
@@ -49,7 +49,7 @@ here_first : (a b : Option Place) → here_of (or_else a b) ≡ or_else (here_of
 here_first None b = refl
 here_first (Some p) b = refl
 
-pub taker_here : (unit : Work) (waiting : List Waiting) → here_of (taker unit waiting) ≡ taker_at unit.kind unit.target waiting
+pub taker_here : (unit : Unit) (waiting : List Waiting) → here_of (taker unit waiting) ≡ taker_at unit.kind unit.target waiting
 taker_here unit waiting =
     here_first (place_in (is_idle_first unit) waiting) (place_in (is_idle_for unit) waiting)
     ∙ ap (λ o. or_else o (here_of (place_in (is_idle_for unit) waiting))) (here_found (is_idle_first unit) waiting)

@@ -19,7 +19,7 @@ use Rattle.reserve_path.specs.Calls.{asking}
 use Rattle.adlb_unit.specs.Ring.{others}
 use Rattle.exhaust_ring.specs.Ring.{AreOfOne, RingModel}
 use Rattle.server_law.specs.State.{ServerModel}
-use Rattle.server_core.specs.Inside.{IsInside, IsSound, bytes_in, parked_of, state_of}
+use Rattle.server_core.specs.inside.{IsInside, IsSound, bytes_in, parked_of, state_of}
 use Rattle.server_core.specs.Waits.{with_parked}
 use Rattle.server_core.specs.declared.states.ServerState.TheInside.{Inside}
 

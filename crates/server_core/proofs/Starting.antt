@@ -21,7 +21,7 @@ use Rattle.server_law.specs.Endings.{checks, finds_alone, is_quiet, starts, tell
 use Rattle.server_law.specs.State.{ServerModel, ring_at}
 use Rattle.server_law.proofs.Starting.{may_tested}
 use Rattle.server_core.specs.Checks.{step_enters, step_letters, step_says, step_tells, stepped, with_check}
-use Rattle.server_core.specs.Inside.{IsInside, state_of}
+use Rattle.server_core.specs.inside.{IsInside, state_of}
 use Rattle.server_core.specs.Out.{Out, going_on}
 use Rattle.server_core.specs.declared.states.ServerState.TheInside.{Inside}
 use Rattle.server_core.proofs.Askers.{ring_seen}

@@ -22,7 +22,7 @@ use Rattle.server_law.specs.Acts.{Act, Around, Tells, to_rank}
 use Rattle.server_law.specs.Carried.{counted, posted}
 use Rattle.server_law.specs.Endings.{tells_all, tells_one}
 use Rattle.server_law.specs.State.{ServerModel}
-use Rattle.server_core.specs.Inside.{parked_of}
+use Rattle.server_core.specs.inside.{parked_of}
 use Rattle.server_core.specs.Out.{HasRoom, Out, going_on, with_answer}
 use Rattle.server_core.proofs.Alone.{NonePasses, before_others, behind_others, found_split, gone_one, one_fewer}
 use Rattle.server_core.proofs.Going.{answers_one, room_left}

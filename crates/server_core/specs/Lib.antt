@@ -1,6 +1,6 @@
 pub mod Checks
 pub mod Failing
-pub mod Inside
+pub mod inside
 pub mod Left
 pub mod Out
 pub mod Quiet

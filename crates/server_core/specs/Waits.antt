@@ -19,7 +19,7 @@ use Rattle.reserve_path.specs.Parked.{Parked, ParkedModel}
 use Rattle.reserve_path.specs.declared.steps.ReserveStep.{ReserveStep}
 use Rattle.reserve_path.specs.declared.steps.ReserveStep.TheVariants.{Granted, Ask, Idle}
 use Rattle.reserve_path.specs.declared.wishes.Wish.{Wish}
-use Rattle.server_core.specs.Inside.{parked_of}
+use Rattle.server_core.specs.inside.{parked_of}
 use Rattle.server_core.specs.Out.{Out, made, with_answer, with_letter}
 use Rattle.server_law.specs.Acts.{to_rank, to_server}
 use Rattle.server_law.specs.Carried.{Served, counted, posted}

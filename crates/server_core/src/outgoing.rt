@@ -1,6 +1,6 @@
 //! What an event sends and enters.
 
-ghost use Rattle.std.specs.Prelude.{◌≡◌, ◌<◌, ◌≤◌, IfOk, []};
+ghost use Rattle.std.specs.Prelude.{◌≡◌, ◌<◌, ◌≤◌, IfOk, [], max};
 ghost use Rattle.std.specs.Vec.{vec_capacity};
 ghost use Rattle.server_core.specs.Out.{Out, nothing, with_answer, with_entry, with_letter};
 
@@ -43,8 +43,8 @@ impl Spare {
 
     /// Keeps these lists for the next step, each if it has more room than the one that is kept.
     pub fn keep(&mut self, sends: Vec<Sending>, entries: Vec<Entry>)
-        ensures sends { vec_capacity self.old.sends ≤ vec_capacity self.new.sends }
-        ensures entries { vec_capacity self.old.entries ≤ vec_capacity self.new.entries }
+        ensures sends { vec_capacity self.new.sends ≡ max (vec_capacity self.old.sends) (vec_capacity sends) }
+        ensures entries { vec_capacity self.new.entries ≡ max (vec_capacity self.old.entries) (vec_capacity entries) }
     {
         if self.sends.capacity() < sends.capacity() {
             drop(replace(&mut self.sends, sends));

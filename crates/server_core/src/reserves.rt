@@ -6,7 +6,7 @@ ghost use Rattle.reserve_path.specs.Parked.{entry_of};
 ghost use Rattle.reserve_path.specs.declared.waits.Waiting.{Waiting};
 ghost use Rattle.reserve_path.specs.declared.wishes.Wish.{Wish};
 ghost use Rattle.server_core.specs.Out.{HasPlaces, HasRoom, Out, made, planned, with_answer};
-ghost use Rattle.server_core.specs.Inside.{parked_of};
+ghost use Rattle.server_core.specs.inside.{parked_of};
 ghost use Rattle.server_core.specs.Waits.{told_step};
 ghost use Rattle.server_law.specs.Acts.{to_rank};
 ghost use Rattle.server_law.specs.Carried.{counted, posted};

@@ -59,7 +59,7 @@ impl Model for ServerState {
 
     ghost Value = { ServerModel };
 
-    ghost use Rattle.server_core.specs.Inside.{state_of, IsInside};
+    ghost use Rattle.server_core.specs.inside.{state_of, IsInside};
 
     ghost view = { state_of };
 

@@ -10,7 +10,7 @@ ghost use Rattle.reserve_path.specs.Calls.{call_of, first_idle, granted, hints_n
 ghost use Rattle.reserve_path.specs.Grants.{best_for, note_of};
 ghost use Rattle.reserve_path.specs.Parked.{IsAway, IsHere, IsOther, IsParked, entry_of, is_pending};
 ghost use Rattle.reserve_path.specs.declared.waits.Waiting.{Waiting};
-ghost use Rattle.server_core.specs.Inside.{parked_of};
+ghost use Rattle.server_core.specs.inside.{parked_of};
 ghost use Rattle.server_core.specs.Waits.{asked, heard, looked, offered, over, released, sought, taken, unidle_first, unwished_next};
 ghost use Rattle.server_law.specs.Finding.{is_free_as};
 ghost use Rattle.server_law.specs.State.{Kept, ServerModel, is_waiting};

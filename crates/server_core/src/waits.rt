@@ -5,7 +5,7 @@ ghost use Rattle.std.specs.List.{list_any};
 ghost use Rattle.adlb_unit.specs.Limits.{rank_limit};
 ghost use Rattle.reserve_path.specs.Parked.{entry_of, is_idle, is_of};
 ghost use Rattle.reserve_path.specs.declared.waits.Waiting.{Waiting};
-ghost use Rattle.server_core.specs.Inside.{parked_of};
+ghost use Rattle.server_core.specs.inside.{parked_of};
 ghost use Rattle.server_core.specs.Out.{HasPlaces, HasRoom, Out, with_letter};
 ghost use Rattle.server_law.specs.Acts.{askers, to_server};
 ghost use Rattle.server_law.specs.Carried.{counted, posted};

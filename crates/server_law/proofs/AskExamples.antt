@@ -11,7 +11,7 @@ use Rattle.adlb_unit.specs.declared.messages.Message.{Message}
 use Rattle.adlb_unit.specs.declared.messages.Message.TheVariants as tells
 use Rattle.adlb_unit.specs.declared.names.Target.TheVariants as targets
 use Rattle.adlb_unit.specs.declared.notes.End.TheVariants as ends_by
-use Rattle.adlb_unit.specs.declared.units.Unit.{Unit as Work}
+use Rattle.adlb_unit.specs.declared.units.Unit.{Unit}
 use Rattle.bag_ledger.specs.Runs.{note_of}
 use Rattle.bag_ledger.specs.declared.entries.Entry.{Entry}
 use Rattle.bag_ledger.specs.declared.entries.Entry.TheVariants as enters
@@ -85,7 +85,7 @@ has_none from n request = server_says from (tells.AskNone (rank n) request)
 abbrev hints : ℕ → ℕ → ℕ → Said
 hints from n request = server_says from (tells.Hint (rank n) request)
 
-abbrev for_any : ℕ → Work
+abbrev for_any : ℕ → Unit
 for_any number = unit number targets.Any
 
 -- Server 0 is asked for a rank of another home.
@@ -177,7 +177,7 @@ the_others_are_asked_in_turn :
 the_others_are_asked_in_turn = refl
 
 -- one of them has pinned a unit to it, and the rank hears it
-abbrev elsewhere : Work
+abbrev elsewhere : Unit
 elsewhere = unit 5 (targets.Only (rank 0))
 
 a_grant_is_passed_on :

@@ -8,7 +8,7 @@ use Rattle.adlb_unit.specs.declared.names.Rank.{Rank}
 use Rattle.adlb_unit.specs.declared.names.UnitId.{UnitId}
 use Rattle.adlb_unit.specs.declared.names.WorkType.{WorkType}
 use Rattle.adlb_unit.specs.Permit.{permitted}
-use Rattle.adlb_unit.specs.declared.units.Unit.{Unit as Work}
+use Rattle.adlb_unit.specs.declared.units.Unit.{Unit}
 use Rattle.bag_ledger.proofs.Tests.{some_is}
 use Rattle.work_queue.proofs.Firsts.{best_is, none_offered}
 use Rattle.work_queue.proofs.Named.{find_listed, find_nothing}
@@ -62,7 +62,7 @@ best_is_fit k wish p distinct is = by_id (best_of wish.rank wish.types k.queue.u
         record { found = ap (λ k. unit_with k units) at.1 ∙ is; free = free_is p.pin parts.0; permits = parts.1 }
 
 -- so is one that is given to a rank that waits
-pub given_fits : (k : Kept) (wish : Wish) (unit : Work) → HasDistinctIds k.queue.units
+pub given_fits : (k : Kept) (wish : Wish) (unit : Unit) → HasDistinctIds k.queue.units
     → IsFreeFor k unit wish ⊎ IsFound (best_for k wish) unit
     → (p : Placed) × IsFit wish k.queue.units p × (p.unit ≡ unit)
 given_fits k wish unit distinct (inl free) =
@@ -70,7 +70,7 @@ given_fits k wish unit distinct (inl free) =
     let at = free_is_found k.queue.units unit.id found.0 distinct found.1 in (
       found.0,
       record {
-        found = ap (λ (u : Work). unit_with u.id k.queue.units) found.2 ∙ at.0;
+        found = ap (λ (u : Unit). unit_with u.id k.queue.units) found.2 ∙ at.0;
         free = at.1;
         permits = rw found.2 free.1;
       },

@@ -18,7 +18,7 @@ use Rattle.adlb_unit.specs.declared.names.UnitId.{UnitId}
 use Rattle.adlb_unit.specs.declared.notes.End.TheVariants as ends_by
 use Rattle.adlb_unit.specs.declared.notes.UnitNote.{UnitNote}
 use Rattle.adlb_unit.specs.declared.tokens.Token.{Token}
-use Rattle.adlb_unit.specs.declared.units.Unit.{Unit as Work}
+use Rattle.adlb_unit.specs.declared.units.Unit.{Unit}
 use Rattle.exhaust_ring.specs.Expected.{expects, is_running}
 use Rattle.work_queue.specs.declared.placing.Placed.{Placed}
 use Rattle.server_law.specs.Acts.{Act, Arrives, Drops_hint, Ends_push, Fetches, Hears_done, Hears_exhaust, Hears_failed, Hears_shutdown}
@@ -138,7 +138,7 @@ handled_by s from message first follow is =
     ∙ ap (λ x. Some x) (plan_carried ends_event s (record { first = first; follow = follow }))
 
 -- how a put is handled
-pub put_handled : (s : ServerModel) (from : Rank) (unit : Work) → expects_put s from unit ≡ true
+pub put_handled : (s : ServerModel) (from : Rank) (unit : Unit) → expects_put s from unit ≡ true
     → handled s (by.Rank from) (tells.Put unit)
     ≡ Some (followed_by (performed (put_now s.kept unit) s) (settles unit.id ∷ presses (is_taken s.kept unit) ∷ ends_event))
 put_handled s from unit expected =
@@ -248,7 +248,7 @@ module _ (s : ServerModel) (from : Server) (id : UnitId) (other : (from.0 == s.m
       handled_by s (by.Server from) (tells.PushCancel id) (Withdraws from id) [] (rw (other, expected) refl)
 
 -- how a unit that comes is handled
-pub unit_handled : (s : ServerModel) (from : Server) (unit : Work) → (from.0 == s.me.0) ≡ false → expects_unit s.kept unit ≡ true
+pub unit_handled : (s : ServerModel) (from : Server) (unit : Unit) → (from.0 == s.me.0) ≡ false → expects_unit s.kept unit ≡ true
     → handled s (by.Server from) (tells.PushUnit unit)
     ≡ Some (followed_by (performed (Arrives from unit) s) (settles unit.id ∷ acks ∷ ends_event))
 unit_handled s from unit other expected =

@@ -15,7 +15,7 @@ use Rattle.adlb_unit.specs.declared.names.Target.TheVariants as targets
 use Rattle.adlb_unit.specs.declared.names.UnitId.{UnitId}
 use Rattle.adlb_unit.specs.declared.names.WorkType.{WorkType}
 use Rattle.adlb_unit.specs.declared.notes.End.TheVariants as ends_by
-use Rattle.adlb_unit.specs.declared.units.Unit.{Unit as Work}
+use Rattle.adlb_unit.specs.declared.units.Unit.{Unit}
 use Rattle.bag_ledger.specs.declared.entries.Entry.{Entry}
 use Rattle.bag_ledger.specs.declared.entries.Entry.TheVariants as enters
 use Rattle.exhaust_ring.specs.Ring.{Asker, token}
@@ -129,7 +129,7 @@ waits n = (rank n, threes)
 abbrev number : UnitId
 number = record { rank = rank 1; number = 0 }
 
-abbrev pressing : Work
+abbrev pressing : Unit
 pressing = record (sized_unit 60 0 (pos 0) targets.Any) { id = number }
 
 -- rank 0 waits and is idle, so server 0 is quiet and starts a check; the token is under way as rank 1 goes on

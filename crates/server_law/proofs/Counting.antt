@@ -9,7 +9,7 @@ use Rattle.std.proofs.lemmas.List.Sums.{get_or-le-sum_by, sum_by-cons}
 use Rattle.adlb_unit.specs.Infos.{info_of_prios}
 use Rattle.adlb_unit.specs.declared.names.Server.{Server}
 use Rattle.adlb_unit.specs.declared.names.WorkType.{WorkType}
-use Rattle.adlb_unit.specs.declared.units.Unit.{Unit as Work}
+use Rattle.adlb_unit.specs.declared.units.Unit.{Unit}
 use Rattle.bag_ledger.specs.Bag.{Bag, info_of, is_free_at}
 use Rattle.bag_ledger.specs.declared.states.Placed.{Placed as Lodged}
 use Rattle.bag_ledger.specs.declared.states.UnitPlace.{UnitPlace}
@@ -118,7 +118,7 @@ by_prio kind f unit free = cond (free && (unit.kind.0 == kind.0)) (f unit.prio) 
 abbrev is_of_kind : Server → WorkType → Lodged → Bool
 is_of_kind me kind u = is_free_at me u.place && (u.unit.kind.0 == kind.0)
 
-unit_weighs : (me : Server) (kind : WorkType) (f : ℤ → ℕ) (unit : Work) (place : UnitPlace)
+unit_weighs : (me : Server) (kind : WorkType) (f : ℤ → ℕ) (unit : Unit) (place : UnitPlace)
     → cond (is_of_kind me kind (record { unit = unit; place = place })) (f unit.prio) 0
     ≡ weight_at me (by_prio kind f) (record { unit = unit; place = place })
 unit_weighs me kind f unit (Free at) = by_test (at.0 == me.0) refl

@@ -10,15 +10,15 @@ use Rattle.adlb_unit.specs.Ids.{same_unit}
 use Rattle.adlb_unit.specs.declared.names.Rank.{Rank}
 use Rattle.adlb_unit.specs.declared.names.Server.{Server}
 use Rattle.adlb_unit.specs.declared.names.UnitId.{UnitId}
-use Rattle.adlb_unit.specs.declared.units.Unit.{Unit as Work}
+use Rattle.adlb_unit.specs.declared.units.Unit.{Unit}
 use Rattle.adlb_unit.proofs.Same.{same_unit_is}
 use Rattle.bag_ledger.specs.Bag.{Bag, part_charge, part_of, promise_charge, promise_of, putting, rank_at, unit_of}
 use Rattle.bag_ledger.specs.Steps.{LegalWhere, after, kept, moved, new_part, taken, unpromised, with_part}
 use Rattle.bag_ledger.specs.declared.entries.Entry.{Entry}
 use Rattle.bag_ledger.specs.declared.entries.Entry.TheVariants as enters
 use Rattle.bag_ledger.specs.declared.states.Part.{Part}
-use Rattle.bag_ledger.specs.declared.states.Placed.{Placed as Lodged}
-use Rattle.bag_ledger.specs.declared.states.Promise.{Promise as Room}
+use Rattle.bag_ledger.specs.declared.states.Placed.{Placed}
+use Rattle.bag_ledger.specs.declared.states.Promise.{Promise}
 use Rattle.bag_ledger.specs.declared.states.RankState.{RankState}
 use Rattle.bag_ledger.specs.declared.states.UnitPlace.{UnitPlace}
 use Rattle.bag_ledger.specs.declared.states.UnitPlace.TheVariants.{Free, Travelling, Pinned, Spent}
@@ -59,13 +59,13 @@ pinned_away me other rank place away is = rw (is, away) refl
 
 -- Units.
 
-added : (b : Bag) (s : ServerModel) (u : Lodged) → pin_at s.me u.place ≡ None → ServerAgrees b s
+added : (b : Bag) (s : ServerModel) (u : Placed) → pin_at s.me u.place ≡ None → ServerAgrees b s
     → ServerAgrees (record b { units = b.units ++ u ∷ [] }) s
 added b s u away m =
     units_agree b s (b.units ++ u ∷ []) s.kept.queue.units s.kept.queue.arrivals m
     (holds_beside b.units s.me s.kept.queue.units u m.units away)
 
-passes : (b : Bag) (s : ServerModel) (id : UnitId) (place : UnitPlace) (u : Lodged) → unit_of b id ≡ Some u → pin_at s.me u.place ≡ None
+passes : (b : Bag) (s : ServerModel) (id : UnitId) (place : UnitPlace) (u : Placed) → unit_of b id ≡ Some u → pin_at s.me u.place ≡ None
     → pin_at s.me place ≡ None → ServerAgrees b s → ServerAgrees (moved id place b) s
 passes b s id place u found was is m =
     units_agree b s (moved id place b).units s.kept.queue.units s.kept.queue.arrivals m
@@ -73,13 +73,13 @@ passes b s id place u found was is m =
 
 -- Promises.
 
-no_room : (me : Server) (p : Room) → (p.server.0 == me.0) ≡ false → room_at me p ≡ None
+no_room : (me : Server) (p : Promise) → (p.server.0 == me.0) ≡ false → room_at me p ≡ None
 no_room me p away = rw away refl
 
-no_charge : (me : Server) (p : Room) → (p.server.0 == me.0) ≡ false → promise_charge me p ≡ 0
+no_charge : (me : Server) (p : Promise) → (p.server.0 == me.0) ≡ false → promise_charge me p ≡ 0
 no_charge me p away = rw away refl
 
-promises : (b : Bag) (s : ServerModel) (p : Room) → (p.server.0 == s.me.0) ≡ false → ServerAgrees b s
+promises : (b : Bag) (s : ServerModel) (p : Promise) → (p.server.0 == s.me.0) ≡ false → ServerAgrees b s
     → ServerAgrees (record b { promises = b.promises ++ p ∷ [] }) s
 promises b s p away m =
     let more = sum_by_push (promise_charge s.me) b.promises p in
@@ -89,10 +89,10 @@ promises b s p away m =
     rooms : AreRooms (b.promises ++ p ∷ []) s.me s.kept.queue.promises
     rooms id = rw (find-append test b.promises (p ∷ [])) (by_found (find test b.promises) (m.promises id))
       where
-        test : Room → Bool
+        test : Promise → Bool
         test q = same_unit q.id id
 
-        by_found : (o : Option Room) → room_for id s.kept.queue.promises ≡ option_and_then (room_at s.me) o
+        by_found : (o : Option Promise) → room_for id s.kept.queue.promises ≡ option_and_then (room_at s.me) o
             → room_for id s.kept.queue.promises ≡ option_and_then (room_at s.me) (option_or o (cond (test p) (Some p) None))
         by_found (Some q) is = is
         by_found None is = is ∙ by_test (test p)
@@ -101,7 +101,7 @@ promises b s p away m =
             by_test true = sym (no_room s.me p away)
             by_test false = refl
 
-unpromises : (b : Bag) (s : ServerModel) (id : UnitId) (p : Room) → PromisesAreSingle b.promises → promise_of b id ≡ Some p
+unpromises : (b : Bag) (s : ServerModel) (id : UnitId) (p : Promise) → PromisesAreSingle b.promises → promise_of b id ≡ Some p
     → (p.server.0 == s.me.0) ≡ false → ServerAgrees b s → ServerAgrees (unpromised id b) s
 unpromises b s id p single found away m =
     let off = sum_off (promise_charge s.me) test b.promises in
@@ -109,7 +109,7 @@ unpromises b s id p single found away m =
     let none = no_charge s.me p away in
     promises_agree b s (unpromised id b).promises m rooms (omega arith)
   where
-    test : Room → Bool
+    test : Promise → Bool
     test q = same_unit q.id id
 
     rooms : AreRooms (unpromised id b).promises s.me s.kept.queue.promises
@@ -130,7 +130,7 @@ unpromises b s id p single found away m =
 -- Common parts.
 
 -- a pending put shares an open part, if any
-pub put_shares_open : (b : Bag) → IsSoundBag b → (rank : Rank) (r : RankState) (u : Work) → rank_at b rank ≡ Some r
+pub put_shares_open : (b : Bag) → IsSoundBag b → (rank : Rank) (r : RankState) (u : Unit) → rank_at b rank ≡ Some r
     → r.status ≡ is_at.Putting u
     → IsOpen b u.common
 put_shares_open b sound rank r u there puts = by_common u.common refl
@@ -169,13 +169,13 @@ entry_stays : (found : Bag → Bool) (b : Bag) (e : Entry) (s : ServerModel) →
     → ServerAgrees b s → ServerAgrees (after b e) s
 entry_stays found b (enters.Accepted server id) s sound l differs m =
     let put = unit_put (λ (r : RankState). putting r.status) (rank_at b id.rank) l.0 l.1 l.2 (rw l.3 refl) in
-    let u : Lodged = record { unit = l.1; place = Free server } in
+    let u : Placed = record { unit = l.1; place = Free server } in
     let more : ServerAgrees (record b { units = b.units ++ u ∷ [] }) s =
     added b s u (free_away s.me server (Free server) (elsewhere s.me server differs) refl) m in
     let is_open : IsOpen b l.1.common = put_shares_open b sound id.rank l.0 l.1 l.2 l.3 in
     let all : ServerAgrees (taken server (Some l.1) b) s =
     shared_agrees (record b { units = b.units ++ u ∷ [] }) s l.1.common is_open more in
-    subst (λ (o : Option Work). ServerAgrees (taken server o b) s) (sym put) all
+    subst (λ (o : Option Unit). ServerAgrees (taken server o b) s) (sym put) all
 entry_stays found b (enters.Kept server batch) s sound l differs m =
     let part = new_part server batch l.1 in
     let away = elsewhere s.me server differs in

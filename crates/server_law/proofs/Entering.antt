@@ -4,7 +4,7 @@ use Rattle.std.specs.List.{list_any}
 use Rattle.std.proofs.lemmas.Bool.{or_parts}
 use Rattle.adlb_unit.specs.declared.names.Rank.{Rank}
 use Rattle.adlb_unit.specs.declared.names.Server.{Server}
-use Rattle.adlb_unit.specs.declared.units.Unit.{Unit as Work}
+use Rattle.adlb_unit.specs.declared.units.Unit.{Unit}
 use Rattle.bag_ledger.specs.Bag.{Bag, charge, has_due, unit_charge}
 use Rattle.bag_ledger.specs.Runs.{IsRunWhere}
 use Rattle.bag_ledger.specs.Steps.{StepsWhere, after, change_first}
@@ -32,12 +32,12 @@ is_step found b e now step m rests = (after b e, (after b e, step, refl), m, res
 abbrev bytes : UnitWeight
 bytes unit free = length unit.body
 
-charged_if : (unit : Work) (pin : Option Rank) (t : Bool)
+charged_if : (unit : Unit) (pin : Option Rank) (t : Bool)
     → cond t (length unit.body) 0 ≡ pinned_weight bytes unit (cond t (Some pin) None)
 charged_if unit pin true = refl
 charged_if unit pin false = refl
 
-unit_charged : (me : Server) (unit : Work) (place : UnitPlace)
+unit_charged : (me : Server) (unit : Unit) (place : UnitPlace)
     → unit_charge me (record { unit = unit; place = place }) ≡ weight_at me bytes (record { unit = unit; place = place })
 unit_charged me unit (Free at) = charged_if unit None (at.0 == me.0)
 unit_charged me unit (Pinned at rank) = charged_if unit (Some rank) (at.0 == me.0)

@@ -19,7 +19,7 @@ use Rattle.adlb_unit.specs.declared.names.Target.TheVariants as targets
 use Rattle.adlb_unit.specs.declared.names.UnitId.{UnitId}
 use Rattle.adlb_unit.specs.declared.names.WorkType.{WorkType}
 use Rattle.adlb_unit.specs.declared.notes.End.TheVariants as ends_by
-use Rattle.adlb_unit.specs.declared.units.Unit.{Unit as Work}
+use Rattle.adlb_unit.specs.declared.units.Unit.{Unit}
 use Rattle.bag_ledger.specs.declared.entries.Entry.{Entry}
 use Rattle.bag_ledger.specs.declared.entries.Entry.TheVariants as enters
 use Rattle.bag_ledger.specs.Runs.{note_of}
@@ -80,12 +80,12 @@ abbrev pub id : ℕ → UnitId
 id number = record { rank = rank 0; number = number }
 
 -- a unit of this number, length, priority and target
-abbrev pub sized_unit : ℕ → ℕ → ℤ → Target → Work
+abbrev pub sized_unit : ℕ → ℕ → ℤ → Target → Unit
 sized_unit size number prio target =
     record { id = id number; kind = record { 0 = 2 }; prio = prio; target = target; answer = None; common = None; body = replicate size 7 }
 
 -- a unit of this number and target
-abbrev pub unit : ℕ → Target → Work
+abbrev pub unit : ℕ → Target → Unit
 unit number target = sized_unit 4 number (pos 0) target
 
 -- Letters, and what is seen of the events that handle them.
@@ -105,7 +105,7 @@ abbrev pub says : ℕ → Message → Said
 says from message = record { from = by.Rank (rank from); stamp = 0; message = message }
 
 -- the rank puts the unit
-abbrev pub puts : ℕ → Work → Said
+abbrev pub puts : ℕ → Unit → Said
 puts from unit = says from (tells.Put unit)
 
 -- the rank reserves, in the call of this number
@@ -153,7 +153,7 @@ abbrev pub tells_to : ℕ → ℕ → ℕ → Message → Sending
 tells_to stamp place to message = sending stamp place (by.Rank (rank to)) message
 
 -- the grant of a unit in this call
-abbrev pub grant : ℕ → Work → Message
+abbrev pub grant : ℕ → Unit → Message
 grant request unit = tells.Grant request (note_of (server 0) unit)
 
 abbrev used_up : ℕ → Message
@@ -175,7 +175,7 @@ over from request = enters.Over (rank from) request ends_by.Exhausted
 
 -- One rank and one server. The stamp of an event is one more than the greater of the letter's and the last event's.
 
-abbrev board : Work
+abbrev board : Unit
 board = sized_unit 40 0 (pos 0) targets.Any
 
 a_rank_alone :

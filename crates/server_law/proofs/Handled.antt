@@ -12,7 +12,7 @@ use Rattle.adlb_unit.specs.declared.names.Server.{Server}
 use Rattle.adlb_unit.specs.declared.names.UnitId.{UnitId}
 use Rattle.adlb_unit.specs.declared.notes.End.TheVariants as ends_by
 use Rattle.adlb_unit.specs.declared.notes.UnitNote.{UnitNote}
-use Rattle.adlb_unit.specs.declared.units.Unit.{Unit as Work}
+use Rattle.adlb_unit.specs.declared.units.Unit.{Unit}
 use Rattle.bag_ledger.proofs.Tests.{some_is}
 use Rattle.exhaust_ring.specs.Expected.{is_running}
 use Rattle.work_queue.specs.declared.placing.Placed.{Placed}
@@ -51,7 +51,7 @@ use Rattle.server_law.proofs.Decided.{presses_hints_none}
 -- The rules.
 
 -- the rule of a put is a plan
-pub put_plan : (s : ServerModel) (unit : Work) → expects_put s unit.id.rank unit ≡ true
+pub put_plan : (s : ServerModel) (unit : Unit) → expects_put s unit.id.rank unit ≡ true
     → (is_done over : Bool) → s.kept.done ≡ is_done → is_over s.kept.queue unit ≡ over → (taken : Bool)
     → IsPlan s (by.Rank unit.id.rank) (tells.Put unit)
     (record { first = put is_done over unit; follow = settles unit.id ∷ presses taken ∷ [] })

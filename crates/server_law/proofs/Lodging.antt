@@ -9,7 +9,7 @@ use Rattle.adlb_unit.specs.Ids.{same_unit}
 use Rattle.adlb_unit.specs.declared.names.Rank.{Rank}
 use Rattle.adlb_unit.specs.declared.names.Server.{Server}
 use Rattle.adlb_unit.specs.declared.names.UnitId.{UnitId}
-use Rattle.adlb_unit.specs.declared.units.Unit.{Unit as Work}
+use Rattle.adlb_unit.specs.declared.units.Unit.{Unit}
 use Rattle.adlb_unit.proofs.Same.{same_unit_from, same_unit_is}
 use Rattle.bag_ledger.specs.Steps.{change_first}
 use Rattle.bag_ledger.specs.declared.states.Placed.{Placed as Lodged}
@@ -44,13 +44,13 @@ no_weight me f u away = ap (pinned_weight f u.unit) away
 pub slot_there : (me : Server) (u : Lodged) (p : Placed) → u.unit ≡ p.unit → pin_at me u.place ≡ Some p.pin → slot_of me u ≡ Some p
 slot_there me u p same pin =
     ap (λ o. option_map (λ (pin : Option Rank). record { unit = u.unit; pin = pin }) o) pin
-    ∙ ap (λ (unit : Work). Some (record { unit = unit; pin = p.pin })) same
+    ∙ ap (λ (unit : Unit). Some (record { unit = unit; pin = p.pin })) same
 
 -- a unit that is here weighs what the queue's unit weighs
 pub weight_there : (me : Server) (f : UnitWeight) (u : Lodged) (p : Placed) → u.unit ≡ p.unit → pin_at me u.place ≡ Some p.pin
     → weight_at me f u ≡ weight_in f p
 weight_there me f u p same pin =
-    ap (pinned_weight f u.unit) pin ∙ ap (λ (unit : Work). weight_in f (record { unit = unit; pin = p.pin })) same
+    ap (pinned_weight f u.unit) pin ∙ ap (λ (unit : Unit). weight_in f (record { unit = unit; pin = p.pin })) same
 
 -- a free unit here has no pin
 pub free_here : (me : Server) → pin_at me (Free me) ≡ Some None
@@ -95,7 +95,7 @@ holds_beside all me units u holds away = record {
         by_test false = refl
 
 -- here
-pub holds_added : (all : List Lodged) (me : Server) (units : List Placed) (unit : Work) → HoldsUnits all me units
+pub holds_added : (all : List Lodged) (me : Server) (units : List Placed) (unit : Unit) → HoldsUnits all me units
     → find (of_id unit.id) all ≡ None
     → HoldsUnits (all ++ record { unit = unit; place = Free me } ∷ []) me (units ++ record { unit = unit; pin = None } ∷ [])
 holds_added all me units unit holds new = record {

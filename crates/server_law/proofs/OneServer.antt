@@ -10,8 +10,8 @@ use Rattle.bag_ledger.specs.Runs.{IsRun}
 use Rattle.bag_ledger.specs.Steps.{Legal, after, change_first}
 use Rattle.bag_ledger.specs.declared.entries.Entry.{Entry}
 use Rattle.bag_ledger.specs.declared.entries.Entry.TheVariants as enters
-use Rattle.bag_ledger.specs.declared.states.Placed.{Placed as Lodged}
-use Rattle.bag_ledger.specs.declared.states.Promise.{Promise as Room}
+use Rattle.bag_ledger.specs.declared.states.Placed.{Placed}
+use Rattle.bag_ledger.specs.declared.states.Promise.{Promise}
 use Rattle.bag_ledger.specs.declared.states.UnitPlace.{UnitPlace}
 use Rattle.bag_ledger.specs.declared.states.UnitPlace.TheVariants.{Free, Pinned, Spent}
 use Rattle.bag_ledger.proofs.Fixed.{run_servers}
@@ -22,7 +22,7 @@ use Rattle.bag_law.proofs.Sound.{start_is_sound, step_keeps_sound}
 use Rattle.server_law.specs.Agreement.{room_at, room_for}
 use Rattle.server_law.specs.Rest.{HasAll, IsHereOrSpent, IsKeptAt, NoneIsPromised, OneHasAll}
 
-here_moved : (me : Server) (place : UnitPlace) (test : Lodged → Bool) (units : List Lodged) → IsHereOrSpent me place
+here_moved : (me : Server) (place : UnitPlace) (test : Placed → Bool) (units : List Placed) → IsHereOrSpent me place
     → All (IsKeptAt me) units → All (IsKeptAt me) (change_first (λ u. record u { place = place }) test units)
 here_moved me place test [] here all = all
 here_moved me place test (u ∷ units) here all = by_test (here_moved me place test units here rest) (test u) refl
@@ -46,7 +46,7 @@ entry_has_all : (b : Bag) (e : Entry) (me : Server) → b.servers ≡ 1 → me.0
     → HasAll (after b e) me
 entry_has_all b (enters.Accepted server id) me one zeroth sound l is =
     let n = accepted_is b server id l in
-    let u : Lodged = record { unit = n.u; place = Free server } in
+    let u : Placed = record { unit = n.u; place = Free server } in
     record {
       units = rw n.units (All-push (IsKeptAt me) b.units u is.units (only b me server one zeroth l.5));
       promises = rw n.promises is.promises;
@@ -64,8 +64,8 @@ entry_has_all b (enters.Fetched server rank id) me one zeroth sound l is = recor
 entry_has_all b (enters.Promised server id n) me one zeroth sound l is = record {
   units = is.units;
   promises =
-      let p : Room = record { server = server; id = id; length = n } in
-      All-push (λ (q : Room). q.server ≡ me) b.promises p is.promises (only b me server one zeroth l.3);
+      let p : Promise = record { server = server; id = id; length = n } in
+      All-push (λ (q : Promise). q.server ≡ me) b.promises p is.promises (only b me server one zeroth l.3);
 }
 -- what is promised at the only server is not there, so it does not leave it
 entry_has_all b (enters.Left server to id) me one zeroth sound l is =
@@ -75,11 +75,11 @@ entry_has_all b (enters.Left server to id) me one zeroth sound l is =
     absurd (cc)
 entry_has_all b (enters.Arrived server id) me one zeroth sound l is = record {
   units = here_moved me (Free server) (λ u. same_unit u.unit.id id) b.units (only b me server one zeroth l.2) is.units;
-  promises = All-filter (λ (q : Room). not (same_unit q.id id)) (λ (q : Room). q.server ≡ me) b.promises is.promises;
+  promises = All-filter (λ (q : Promise). not (same_unit q.id id)) (λ (q : Promise). q.server ≡ me) b.promises is.promises;
 }
 entry_has_all b (enters.Withdrawn server id) me one zeroth sound l is = record {
   units = is.units;
-  promises = All-filter (λ (q : Room). not (same_unit q.id id)) (λ (q : Room). q.server ≡ me) b.promises is.promises;
+  promises = All-filter (λ (q : Promise). not (same_unit q.id id)) (λ (q : Promise). q.server ≡ me) b.promises is.promises;
 }
 entry_has_all b _ me one zeroth sound l is = is
 
@@ -96,17 +96,17 @@ run_has_all b last (e ∷ es) me one zeroth sound run is =
 pub one_has_all : OneHasAll
 one_has_all config ledger b me one zeroth run =
     run_has_all (start config) b ledger me one zeroth (start_is_sound config) run
-    (record { units = All-nil (IsKeptAt me); promises = All-nil (λ (p : Room). p.server ≡ me) })
+    (record { units = All-nil (IsKeptAt me); promises = All-nil (λ (p : Promise). p.server ≡ me) })
 
 -- and nothing is promised where the server promised nothing
 pub none_is_promised : NoneIsPromised
 none_is_promised b s m all none = by_promises b.promises refl
   where
-    by_promises : (rooms : List Room) → b.promises ≡ rooms → b.promises ≡ []
+    by_promises : (rooms : List Promise) → b.promises ≡ rooms → b.promises ≡ []
     by_promises [] is = is
     by_promises (p ∷ rooms) is =
-        let test : Room → Bool = λ q. same_unit q.id p.id in
-        let here : p.server ≡ s.me = All-head (λ (q : Room). q.server ≡ s.me) p rooms (rw is at all.promises) in
+        let test : Promise → Bool = λ q. same_unit q.id p.id in
+        let here : p.server ≡ s.me = All-head (λ (q : Promise). q.server ≡ s.me) p rooms (rw is at all.promises) in
         let found : find test (p ∷ rooms) ≡ Some p = rw (same_unit_from p.id p.id refl) refl in
         let room : room_at s.me p ≡ Some (record { id = p.id; length = p.length }) = rw (here, same_number s.me.0) refl in
         let same : room_for p.id s.kept.queue.promises ≡ option_and_then (room_at s.me) (find test (p ∷ rooms)) =

@@ -11,7 +11,7 @@ use Rattle.adlb_unit.specs.declared.names.UnitId.{UnitId}
 use Rattle.adlb_unit.specs.declared.names.WorkType.{WorkType}
 use Rattle.adlb_unit.specs.declared.notes.End.{End}
 use Rattle.adlb_unit.specs.declared.notes.End.TheVariants as ends_by
-use Rattle.adlb_unit.specs.declared.units.Unit.{Unit as Work}
+use Rattle.adlb_unit.specs.declared.units.Unit.{Unit}
 use Rattle.bag_ledger.specs.Bag.{Bag, has_due, has_fit_at, is_due, is_free_at, offer, open_call, putting, rank_at, unit_of, wish}
 use Rattle.bag_ledger.specs.Steps.{has_cause, shared, taken}
 use Rattle.bag_ledger.specs.declared.entries.Entry.{Entry}
@@ -61,7 +61,7 @@ shared_rests b (Some c) is_open rests =
     none_changed is_due (of_batch c.batch) (λ p. record p { accepted = p.accepted + 1 }) b.parts rests
     (λ p found. rw (is_open p found) refl)
 
-accepts : (found : Bag → Bool) (b : Bag) (s : ServerModel) (unit : Work) → ServerAgrees b s → has_due b ≡ false → Offers b s.me unit
+accepts : (found : Bag → Bool) (b : Bag) (s : ServerModel) (unit : Unit) → ServerAgrees b s → has_due b ≡ false → Offers b s.me unit
     → unit_of b unit.id ≡ None → IsOpen b unit.common → is_over s.kept.queue unit ≡ false
     → AreSteps found b (entries (Accepts unit) s) (done (Accepts unit) s)
 accepts found b s unit m rests of new is_open over =
@@ -85,7 +85,7 @@ accepts found b s unit m rests of new is_open over =
         (units_agree b s more (with_unit s.kept.queue unit).units (with_unit s.kept.queue unit).arrivals m
         (holds_added b.units s.me s.kept.queue.units unit m.units new))
 
-refuses : (found : Bag → Bool) (b : Bag) (s : ServerModel) (unit : Work) → ServerAgrees b s → has_due b ≡ false → Offers b s.me unit
+refuses : (found : Bag → Bool) (b : Bag) (s : ServerModel) (unit : Unit) → ServerAgrees b s → has_due b ≡ false → Offers b s.me unit
     → is_over s.kept.queue unit ≡ true → AreSteps found b (entries (Refuses unit) s) (done (Refuses unit) s)
 refuses found b s unit m rests of over =
     let above : s.kept.queue.limit < charge_of s.kept.queue + length unit.body =
@@ -137,7 +137,7 @@ grants found b s w p m rests asks fit =
 -- Looks.
 
 -- a unit is free here and permitted in the bag where it is so in the queue
-counted_at : (me : Server) (rank : Rank) (types : Option (List WorkType)) (unit : Work) (place : UnitPlace)
+counted_at : (me : Server) (rank : Rank) (types : Option (List WorkType)) (unit : Unit) (place : UnitPlace)
     → one (is_free_at me place && permitted rank types unit.kind unit.target)
     ≡ weight_at me (fit rank types) (record { unit = unit; place = place })
 counted_at me rank types unit (Free at) = by_test (at.0 == me.0)
@@ -227,13 +227,13 @@ acts_are_legal found b s (Ends_put unit end) m rests sits sure needs =
 acts_are_legal found b s (Grants wish unit) m rests sits sure needs =
     let best = sure.1 in
     let fit = best_is_fit s.kept wish best.0 m.units.distinct best.1 in
-    subst (λ (u : Work). AreSteps found b (entries (Grants wish u) s) (done (Grants wish u) s)) best.2
+    subst (λ (u : Unit). AreSteps found b (entries (Grants wish u) s) (done (Grants wish u) s)) best.2
     (grants found b s wish best.0 m rests (wants_by_reserve b wish needs) fit)
 acts_are_legal found b s (Ends_reserve wish end) m rests sits sure needs =
     ends found b s wish.rank wish.request end needs.0 m rests needs.1 (ap open_call needs.2) sure.1
 acts_are_legal found b s (Grants_try wish unit) m rests sits sure needs =
     let fit = best_is_fit s.kept wish sure.0 m.units.distinct sure.1 in
-    subst (λ (u : Work). AreSteps found b (entries (Grants_try wish u) s) (done (Grants_try wish u) s)) sure.2
+    subst (λ (u : Unit). AreSteps found b (entries (Grants_try wish u) s) (done (Grants_try wish u) s)) sure.2
     (grants found b s wish sure.0 m rests (wants_by_try b wish needs) fit)
 acts_are_legal found b s (Ends_try wish end) m rests sits sure needs =
     ends found b s wish.rank wish.request end needs.0 m rests needs.1 (ap open_call needs.2) sure
@@ -244,7 +244,7 @@ acts_are_legal found b s (Fetches rank request id unit) m rests sits sure needs 
 acts_are_legal found b s (Counts rank request kind) m rests sits sure needs = counts found b s rank request kind m rests needs sure
 acts_are_legal found b s (Gives at wish rest unit) m rests sits sure needs =
     let fit = given_fits s.kept wish unit m.units.distinct sure in
-    subst (λ (u : Work). AreSteps found b (entries (Gives at wish rest u) s) (done (Gives at wish rest u) s)) fit.2
+    subst (λ (u : Unit). AreSteps found b (entries (Gives at wish rest u) s) (done (Gives at wish rest u) s)) fit.2
     (grants found b s wish fit.0 m rests (wants_by_reserve b wish needs) fit.1)
 acts_are_legal found b s (Tells at wish rest end) m rests sits sure needs =
     ends found b s wish.rank wish.request end needs.0 m rests needs.1 (ap open_call needs.2) sure
@@ -271,13 +271,13 @@ acts_are_legal found b s (Fetches_part rank request batch part) m rests sits sur
 acts_are_legal found b s (Answers from wish unit) m rests sits sure needs =
     let best = sure.1 in
     let fit = best_is_fit s.kept wish best.0 m.units.distinct best.1 in
-    subst (λ (u : Work). AreSteps found b (entries (Answers from wish u) s) (done (Answers from wish u) s)) best.2
+    subst (λ (u : Unit). AreSteps found b (entries (Answers from wish u) s) (done (Answers from wish u) s)) best.2
     (grants found b s wish best.0 m rests (wants_by_reserve b wish needs) fit)
 acts_are_legal found b s (Promises from id length) m rests sits sure needs =
     promises found b s from id length m rests sure.0 sure.1 needs.0 needs.1 needs.2 needs.3
 acts_are_legal found b s (Sends_unit to length unit) m rests sits sure needs =
     let free = sure.1 in
-    let P : Work → Type 0 = λ u. IsPromisedAt b to u.id → find (is_free_as u.id) s.kept.queue.units ≡ Some free.0
+    let P : Unit → Type 0 = λ u. IsPromisedAt b to u.id → find (is_free_as u.id) s.kept.queue.units ≡ Some free.0
     → AreSteps found b (entries (Sends_unit to length u) s) (done (Sends_unit to length u) s) in
     subst P free.2 (λ room there.
     let at = free_is_found s.kept.queue.units free.0.unit.id free.0 m.units.distinct there in

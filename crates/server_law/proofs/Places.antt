@@ -6,7 +6,7 @@ use Rattle.std.specs.Option.{IfSome}
 use Rattle.std.proofs.lemmas.Bool.{and_left, and_parts}
 use Rattle.std.proofs.lemmas.List.Elements.{All-cons, All-head, All-nil, All-tail, All-weaker}
 use Rattle.adlb_unit.specs.declared.names.Server.{Server}
-use Rattle.adlb_unit.specs.declared.units.Unit.{Unit as Work}
+use Rattle.adlb_unit.specs.declared.units.Unit.{Unit}
 use Rattle.reserve_path.specs.Calls.{or_else}
 use Rattle.reserve_path.specs.Parked.{is_idle}
 use Rattle.server_law.specs.Finding.{Place, behind_one, is_idle_first, is_idle_for, permits, place_in, taker}
@@ -97,18 +97,18 @@ idle_is e is = by_asked e.asked refl is
     by_asked (Some t) asked is = absurd (cc)
 
 -- an idle rank that may have the unit stands here
-pub record Takes (unit : Work) (waiting : List Waiting) (p : Place) : Type 0 where
+pub record Takes (unit : Unit) (waiting : List Waiting) (p : Place) : Type 0 where
   pub stands : waiting ≡ p.at.before ++ idle p.here.wish p.here.to_ask ∷ p.at.behind
   pub permitted : permits unit p.here.wish ≡ true
 
-takes_where : (unit : Work) (waiting : List Waiting) (p : Place) → waiting ≡ p.at.before ++ p.here ∷ p.at.behind
+takes_where : (unit : Unit) (waiting : List Waiting) (p : Place) → waiting ≡ p.at.before ++ p.here ∷ p.at.behind
     → is_idle_for unit p.here ≡ true → Takes unit waiting p
 takes_where unit waiting p stands passes =
     let both = and_parts (is_idle p.here) (permits unit p.here.wish) passes in
     record { stands = stands ∙ ap (λ e. p.at.before ++ e ∷ p.at.behind) (idle_is p.here both.0); permitted = both.1 }
 
 -- the rank that takes a unit waits, is idle, and is permitted the unit
-pub taker_found : (unit : Work) (waiting : List Waiting) → IfSome (taker unit waiting) (Takes unit waiting)
+pub taker_found : (unit : Unit) (waiting : List Waiting) → IfSome (taker unit waiting) (Takes unit waiting)
 taker_found unit waiting =
     by_places (place_in (is_idle_first unit) waiting) (place_in (is_idle_for unit) waiting)
     (place_found (is_idle_first unit) waiting) (place_found (is_idle_for unit) waiting)
@@ -120,7 +120,7 @@ taker_found unit waiting =
     by_places None None is there = tt
 
 -- where no idle rank may have it, nobody takes it
-pub none_takes : (unit : Work) (waiting : List Waiting) → All (λ e. is_idle_for unit e ≡ false) waiting → taker unit waiting ≡ None
+pub none_takes : (unit : Unit) (waiting : List Waiting) → All (λ e. is_idle_for unit e ≡ false) waiting → taker unit waiting ≡ None
 none_takes unit waiting fails =
     let first : Waiting → Type 0 = λ e. is_idle_first unit e ≡ false in
     let fails_first = All-weaker (λ e. is_idle_for unit e ≡ false) first (λ e no. and_left (is_idle_for unit e) _ no) waiting fails in

@@ -6,7 +6,7 @@ use Rattle.std.proofs.lemmas.List.Sums.{sum_by_push}
 use Rattle.adlb_unit.specs.Ids.{same_unit}
 use Rattle.adlb_unit.specs.declared.names.Server.{Server}
 use Rattle.adlb_unit.specs.declared.names.UnitId.{UnitId}
-use Rattle.adlb_unit.specs.declared.units.Unit.{Unit as Work}
+use Rattle.adlb_unit.specs.declared.units.Unit.{Unit}
 use Rattle.bag_ledger.specs.Bag.{Bag, has_due, is_placed_at, is_travelling, promise_charge, promise_of, unit_of}
 use Rattle.bag_ledger.specs.Steps.{moved}
 use Rattle.bag_ledger.specs.declared.entries.Entry.TheVariants as enters
@@ -122,7 +122,7 @@ promise_is b s id m has =
     room_is b.promises s.me s.kept.queue.promises id p.0 m.promises p.1
 
 -- the unit arrives
-pub arrives : (found : Bag → Bool) (b : Bag) (s : ServerModel) (from : Server) (unit : Work) → ServerAgrees b s → has_due b ≡ false
+pub arrives : (found : Bag → Bool) (b : Bag) (s : ServerModel) (from : Server) (unit : Unit) → ServerAgrees b s → has_due b ≡ false
     → expects_unit s.kept unit ≡ true → unit_of b unit.id ≡ Some (record { unit = unit; place = Travelling s.me })
     → PromisesAreSingle b.promises → AreSteps found b (entries (Arrives from unit) s) (done (Arrives from unit) s)
 arrives found b s from unit m rests expected travels single =

@@ -7,7 +7,7 @@ use Rattle.adlb_unit.specs.declared.letters.Sending.{Sending}
 use Rattle.adlb_unit.specs.declared.messages.Message.TheVariants as tells
 use Rattle.adlb_unit.specs.declared.names.Target.TheVariants as targets
 use Rattle.adlb_unit.specs.declared.names.UnitId.{UnitId}
-use Rattle.adlb_unit.specs.declared.units.Unit.{Unit as Work}
+use Rattle.adlb_unit.specs.declared.units.Unit.{Unit}
 use Rattle.bag_ledger.specs.Runs.{note_of}
 use Rattle.bag_ledger.specs.declared.entries.Entry.{Entry}
 use Rattle.bag_ledger.specs.declared.entries.Entry.TheVariants as enters
@@ -57,10 +57,10 @@ abbrev is_expected_after : List Said → Said → Option Bool
 is_expected_after letters x = option_map (λ s. is_some (heard s x)) (after fresh letters)
 
 -- units of rank 0 for any rank, of priority 0
-abbrev bytes : ℕ → ℕ → Work
+abbrev bytes : ℕ → ℕ → Unit
 bytes size number = sized_unit size number (pos 0) targets.Any
 
-abbrev pressing : Work
+abbrev pressing : Unit
 pressing = bytes 57 0
 
 -- Where a push begins.
@@ -92,7 +92,7 @@ with_one_server_none_begins = refl
 abbrev query : ℕ → ℕ → ℕ → Said
 query from number size = server_says from (tells.PushQuery (record { rank = rank 4; number = number }) size)
 
-abbrev queries_after : List Said → Work → Option (List Sending)
+abbrev queries_after : List Said → Unit → Option (List Sending)
 queries_after letters unit = option_map (λ (x : Served). x.sends) (option_and_then (λ s. heard s (puts 0 unit)) (after fresh letters))
 
 -- of those for any rank the one of the lowest priority, and of these the one that came last
@@ -210,10 +210,10 @@ they_are_asked_in_turn = refl
 abbrev theirs : ℕ → UnitId
 theirs number = record { rank = rank 4; number = number }
 
-abbrev their_unit : ℕ → ℕ → Work
+abbrev their_unit : ℕ → ℕ → Unit
 their_unit size number = record (bytes size number) { id = theirs number }
 
-abbrev comes : ℕ → Work → Said
+abbrev comes : ℕ → Unit → Said
 comes from unit = server_says from (tells.PushUnit unit)
 
 abbrev cancel : ℕ → ℕ → Said

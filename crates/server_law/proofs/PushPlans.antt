@@ -5,7 +5,7 @@ use Rattle.adlb_unit.specs.declared.actors.Actor.TheVariants as by
 use Rattle.adlb_unit.specs.declared.messages.Message.TheVariants as tells
 use Rattle.adlb_unit.specs.declared.names.Server.{Server}
 use Rattle.adlb_unit.specs.declared.names.UnitId.{UnitId}
-use Rattle.adlb_unit.specs.declared.units.Unit.{Unit as Work}
+use Rattle.adlb_unit.specs.declared.units.Unit.{Unit}
 use Rattle.bag_law.proofs.Turn.{found_passes}
 use Rattle.put_path.specs.Pushes.{is_push_as}
 use Rattle.put_path.specs.declared.standing.StandingPush.{StandingPush}
@@ -77,7 +77,7 @@ ack_plan s from id (Some p) stands = by_test (is_push_as from id true p) refl
 -- Where the unit comes, or is taken back.
 
 -- the rule of a unit that comes is a plan
-pub unit_plan : (s : ServerModel) (from : Server) (unit : Work) → expects_unit s.kept unit ≡ true
+pub unit_plan : (s : ServerModel) (from : Server) (unit : Unit) → expects_unit s.kept unit ≡ true
     → IsPlan s (by.Server from) (tells.PushUnit unit) (record { first = Arrives from unit; follow = settles unit.id ∷ acks ∷ [] })
 unit_plan s from unit expected =
     settled unit.id (Arrives from unit) (acks ∷ []) refl expected refl refl (acks_decides, tt) (acks_hints_none, tt)

@@ -10,10 +10,10 @@ use Rattle.std.proofs.lemmas.Option.{get_or_from_slice_get, slice_get_within}
 use Rattle.adlb_unit.specs.declared.names.Rank.{Rank}
 use Rattle.adlb_unit.specs.declared.names.Server.{Server}
 use Rattle.adlb_unit.specs.declared.names.WorkType.{WorkType}
-use Rattle.adlb_unit.specs.declared.units.Unit.{Unit as Work}
+use Rattle.adlb_unit.specs.declared.units.Unit.{Unit}
 use Rattle.adlb_unit.specs.Permit.{permitted}
 use Rattle.bag_ledger.specs.Bag.{Bag, has_fit, is_asking_or_finished, is_free, is_travelling}
-use Rattle.bag_ledger.specs.declared.states.Placed.{Placed as Lodged}
+use Rattle.bag_ledger.specs.declared.states.Placed.{Placed}
 use Rattle.bag_ledger.specs.declared.states.RankState.{RankState}
 use Rattle.bag_ledger.specs.declared.states.Status.TheVariants as is_at
 use Rattle.bag_ledger.specs.declared.states.UnitPlace.{UnitPlace}
@@ -45,10 +45,10 @@ none_travels me Spent here = refl
 abbrev pub fit : Rank → Option (List WorkType) → UnitWeight
 fit rank types unit free = one (free && permitted rank types unit.kind unit.target)
 
-abbrev fits_rank : Rank → Option (List WorkType) → Lodged → Bool
+abbrev fits_rank : Rank → Option (List WorkType) → Placed → Bool
 fits_rank rank types u = is_free u.place && permitted rank types u.unit.kind u.unit.target
 
-counted_here : (me : Server) (rank : Rank) (types : Option (List WorkType)) (unit : Work) (place : UnitPlace) → IsHereOrSpent me place
+counted_here : (me : Server) (rank : Rank) (types : Option (List WorkType)) (unit : Unit) (place : UnitPlace) → IsHereOrSpent me place
     → one (fits_rank rank types (record { unit = unit; place = place }))
     ≡ weight_at me (fit rank types) (record { unit = unit; place = place })
 counted_here me rank types unit (Free at) here = rw (here, same_number me.0) refl
@@ -57,8 +57,8 @@ counted_here me rank types unit (Travelling to) here = absurd here
 counted_here me rank types unit Spent here = refl
 
 -- no unit passes a test by which as many are counted as fit
-pub none_counted : (all : List Lodged) (me : Server) (k : Kept) (wish : Wish) (test : Lodged → Bool) → HoldsUnits all me k.queue.units
-    → ((i : ℕ) (u : Lodged) → slice_get all i ≡ Some u → one (test u) ≡ weight_at me (fit wish.rank wish.types) u)
+pub none_counted : (all : List Placed) (me : Server) (k : Kept) (wish : Wish) (test : Placed → Bool) → HoldsUnits all me k.queue.units
+    → ((i : ℕ) (u : Placed) → slice_get all i ≡ Some u → one (test u) ≡ weight_at me (fit wish.rank wish.types) u)
     → is_some (best_for k wish) ≡ false → list_any test all ≡ false
 none_counted all me k wish test holds alike none =
     let f = fit wish.rank wish.types in
@@ -71,7 +71,7 @@ none_counted all me k wish test holds alike none =
     let same = holds.weighs f in
     list_any_none test all (find_none test all (none_found test all (omega arith)))
 
-none_fits_rank : (all : List Lodged) (me : Server) (k : Kept) (wish : Wish) → HoldsUnits all me k.queue.units
+none_fits_rank : (all : List Placed) (me : Server) (k : Kept) (wish : Wish) → HoldsUnits all me k.queue.units
     → All (IsKeptAt me) all → is_some (best_for k wish) ≡ false → list_any (fits_rank wish.rank wish.types) all ≡ false
 none_fits_rank all me k wish holds here none =
     none_counted all me k wish (fits_rank wish.rank wish.types) holds
@@ -95,8 +95,8 @@ rest_is_settled b s rests = is_settled b (
   λ rank r at. asks rank r (rests.ranks rank r at),
   (rests.asks.0.rank, rests.asks.1.0, rests.asks.1.1, rw rests.asks.1.2 refl),
   rests.unpromised,
-  list_any_none (λ (u : Lodged). is_travelling u.place) b.units
-      (All-weaker (IsKeptAt s.me) (λ (u : Lodged). is_travelling u.place ≡ false) (λ u here. none_travels s.me u.place here) b.units
+  list_any_none (λ (u : Placed). is_travelling u.place) b.units
+      (All-weaker (IsKeptAt s.me) (λ (u : Placed). is_travelling u.place ≡ false) (λ u here. none_travels s.me u.place here) b.units
       rests.all.units),
   λ rank r at. unfit rank r (rests.ranks rank r at),
 )

@@ -6,7 +6,7 @@ use Rattle.std.proofs.lemmas.List.Folds.{find-append}
 use Rattle.adlb_unit.specs.declared.names.Server.{Server}
 use Rattle.adlb_unit.specs.declared.names.UnitId.{UnitId}
 use Rattle.adlb_unit.specs.declared.notes.End.{End}
-use Rattle.adlb_unit.specs.declared.units.Unit.{Unit as Work}
+use Rattle.adlb_unit.specs.declared.units.Unit.{Unit}
 use Rattle.adlb_unit.proofs.Same.{same_unit_from}
 use Rattle.work_queue.specs.Queue.{HasFree, HasNoUnit, id_of}
 use Rattle.work_queue.specs.declared.placing.Placed.{Placed}
@@ -55,25 +55,25 @@ settles_unwished id s nobody unwished = by_unit (find (is_free_as id) s.kept.que
 -- Where a unit has come, which is the only one of its id.
 
 -- a unit that has come, free
-abbrev pub free : Work → Placed
+abbrev pub free : Unit → Placed
 free unit = record { unit = unit; pin = None }
 
 -- a unit that has come is found free
-pub finds_new : (units : List Placed) (unit : Work) → HasNoUnit unit.id units
+pub finds_new : (units : List Placed) (unit : Unit) → HasNoUnit unit.id units
     → find (is_free_as unit.id) (units ++ free unit ∷ []) ≡ Some (free unit)
 finds_new units unit new =
     find-append (is_free_as unit.id) units (free unit ∷ [])
     ∙ rw (none_free unit.id units (not_free unit.id units new), same_unit_from unit.id unit.id refl) refl
 
 -- it goes to who takes it
-pub settles_new : (t : ServerModel) (units : List Placed) (unit : Work) → HasNoUnit unit.id units
+pub settles_new : (t : ServerModel) (units : List Placed) (unit : Unit) → HasNoUnit unit.id units
     → t.kept.queue.units ≡ units ++ free unit ∷ [] → settles unit.id t ≡ gives t.kept unit (taker unit t.kept.parked.waiting)
 settles_new t units unit new are =
     ap (settles_as t.kept) (ap (λ (l : List Placed). find (is_free_as unit.id) l) are ∙ finds_new units unit new)
 
 -- What follows a put that is expected.
 
-module _ (s : ServerModel) (unit : Work) (expected : expects_put s unit.id.rank unit ≡ true) where
+module _ (s : ServerModel) (unit : Unit) (expected : expects_put s unit.id.rank unit ≡ true) where
   new : HasNoUnit unit.id s.kept.queue.units
   new = ((expects_put_says s unit.id.rank unit).0 expected).new
 
@@ -92,7 +92,7 @@ module _ (s : ServerModel) (unit : Work) (expected : expects_put s unit.id.rank 
 -- Where a unit comes from another server, it goes to who takes it.
 
 -- a unit that has come goes to the rank that takes it
-pub settles_arrived : (s : ServerModel) (from : Server) (unit : Work) → HasNoUnit unit.id s.kept.queue.units
+pub settles_arrived : (s : ServerModel) (from : Server) (unit : Unit) → HasNoUnit unit.id s.kept.queue.units
     → settles unit.id (done (Arrives from unit) s) ≡ gives (done (Arrives from unit) s).kept unit (taker unit s.kept.parked.waiting)
 settles_arrived s from unit new = settles_new (done (Arrives from unit) s) s.kept.queue.units unit new refl
 

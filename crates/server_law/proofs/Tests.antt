@@ -19,7 +19,7 @@ use Rattle.adlb_unit.specs.declared.names.Target.{Target}
 use Rattle.adlb_unit.specs.declared.names.Target.TheVariants.{Any as Anyone, Only, Soft}
 use Rattle.adlb_unit.specs.declared.names.UnitId.{UnitId}
 use Rattle.adlb_unit.specs.declared.tokens.Token.{Token}
-use Rattle.adlb_unit.specs.declared.units.Unit.{Unit as Work}
+use Rattle.adlb_unit.specs.declared.units.Unit.{Unit}
 use Rattle.adlb_unit.proofs.Same.{same_unit_from, same_unit_is}
 use Rattle.bag_ledger.proofs.Tests.{same_rank_is, some_is}
 use Rattle.exhaust_ring.specs.Expected.{IsRunning, is_running}
@@ -27,7 +27,7 @@ use Rattle.exhaust_ring.specs.Ring.{RingModel}
 use Rattle.work_queue.specs.Queue.{HasFree, HasNoPromise, HasNoUnit, HasPinned, HasPromise, HasRoom, Promise, id_of}
 use Rattle.work_queue.specs.declared.placing.Placed.{Placed}
 use Rattle.adlb_unit.specs.declared.names.BatchId.{BatchId}
-use Rattle.batch_store.specs.Store.{CanClose, CanFetch, Keeps as PartKept, part_in}
+use Rattle.batch_store.specs.Store.{CanClose, CanFetch, Keeps, part_in}
 use Rattle.batch_store.specs.declared.parts.Part.{Part}
 use Rattle.reserve_path.specs.Calls.{is_since}
 use Rattle.server_law.specs.Acts.{batch_of}
@@ -176,7 +176,7 @@ query_says k id =
     (not_says (has_promise id k.queue.promises) (has_promise_says id k.queue.promises))
 
 -- the test of a unit that comes: it is not here, its room is promised, and no acknowledgement is owed
-pub unit_comes_says : (k : Kept) (unit : Work) → Says (expects_unit k unit)
+pub unit_comes_says : (k : Kept) (unit : Unit) → Says (expects_unit k unit)
     (HasNoUnit unit.id k.queue.units × HasRoom unit.id (length unit.body) k.queue.promises × (k.owed ≡ None))
 unit_comes_says k unit =
     let room = list_any (is_room_for unit.id (length unit.body)) k.queue.promises in
@@ -226,7 +226,7 @@ keep_says s from request common =
 -- the test of a batch that ends
 pub close_says : (s : ServerModel) (from : Rank) (batch : BatchId) (accepted : ℕ)
     → IsSome (part_if (can_close from batch accepted s.kept.queue.common) (part_in s.kept.parts batch))
-    ↔ ((batch.rank ≡ from) × PartKept s.kept.parts batch s.kept.queue.common (CanClose accepted))
+    ↔ ((batch.rank ≡ from) × Keeps s.kept.parts batch s.kept.queue.common (CanClose accepted))
 close_says s from batch accepted =
     let says = part_says (can_close from batch accepted s.kept.queue.common) (part_in s.kept.parts batch)
     (can_close_says from batch accepted s.kept.queue.common) in (
@@ -237,11 +237,11 @@ close_says s from batch accepted =
 -- the test of common bytes that are fetched
 pub share_says : (s : ServerModel) (batch : BatchId)
     → IsSome (part_if (can_fetch s.kept.queue.common) (part_in s.kept.parts batch))
-    ↔ PartKept s.kept.parts batch s.kept.queue.common CanFetch
+    ↔ Keeps s.kept.parts batch s.kept.queue.common CanFetch
 share_says s batch =
     let says = part_says (can_fetch s.kept.queue.common) (part_in s.kept.parts batch) (can_fetch_says s.kept.queue.common) in (
       λ some. let has = says.0 some in record { part = has.0; here = has.1; charged = has.2.1; holds = has.2.0 },
-      λ (is : PartKept s.kept.parts batch s.kept.queue.common CanFetch). says.1 (is.part, is.here, (is.holds, is.charged)),
+      λ (is : Keeps s.kept.parts batch s.kept.queue.common CanFetch). says.1 (is.part, is.here, (is.holds, is.charged)),
     )
 
 -- Ranks.
@@ -315,7 +315,7 @@ pub runs_at_home_says : (s : ServerModel) (rank : Rank) → Says (runs_at_home s
 runs_at_home_says s rank = both_say (is_home s.config s.me rank) (runs s.kept rank) (is_home_says s rank) (runs_says s rank)
 
 -- the test of a put: the unit is new
-pub expects_put_says : (s : ServerModel) (from : Rank) (unit : Work) → Says (expects_put s from unit) (IsNew s from unit)
+pub expects_put_says : (s : ServerModel) (from : Rank) (unit : Unit) → Says (expects_put s from unit) (IsNew s from unit)
 expects_put_says s from unit =
     let own = rank_says unit.id.rank from in
     let new = not_says (has_unit unit.id s.kept.queue.units) (has_unit_says unit.id s.kept.queue.units) in

@@ -17,7 +17,7 @@ use Rattle.adlb_unit.specs.declared.names.WorkType.{WorkType}
 use Rattle.adlb_unit.specs.declared.notes.End.{End}
 use Rattle.adlb_unit.specs.declared.notes.UnitNote.{UnitNote}
 use Rattle.adlb_unit.specs.declared.tokens.Token.{Token}
-use Rattle.adlb_unit.specs.declared.units.Unit.{Unit as Work}
+use Rattle.adlb_unit.specs.declared.units.Unit.{Unit}
 use Rattle.bag_ledger.specs.declared.entries.Entry.{Entry}
 use Rattle.bag_ledger.specs.declared.entries.Entry.TheVariants as enters
 use Rattle.bag_ledger.specs.Runs.{note_of}
@@ -54,19 +54,19 @@ pub record Around : Type 0 where
 
 pub data Act : Type 0 where
   -- a put: the unit is in the queue, there is no room for it, or the call is ended
-  Accepts : Work → Act
-  Refuses : Work → Act
-  Ends_put : Work → End → Act
+  Accepts : Unit → Act
+  Refuses : Unit → Act
+  Ends_put : Unit → End → Act
   -- a reserve: a unit is pinned to the rank, the call is ended, or the rank waits
-  Grants : Wish → Work → Act
+  Grants : Wish → Unit → Act
   Ends_reserve : Wish → End → Act
   Parks : Wish → Act
   -- a try: a unit is pinned to the rank, the call is ended, or there is no unit
-  Grants_try : Wish → Work → Act
+  Grants_try : Wish → Unit → Act
   Ends_try : Wish → End → Act
   Looks : Wish → Act
   -- a fetch of the unit of this id, in the call of this number
-  Fetches : Rank → ℕ → UnitId → Work → Act
+  Fetches : Rank → ℕ → UnitId → Unit → Act
   -- a count of the free units of a type, in the call of this number
   Counts : Rank → ℕ → WorkType → Act
   Notes_finish : Rank → Act
@@ -78,7 +78,7 @@ pub data Act : Type 0 where
   Closes : ℕ → BatchId → ℕ → Part → Act
   Fetches_part : Rank → ℕ → BatchId → Part → Act
   -- a rank that waits and is idle gets a unit, or is told an end
-  Gives : Around → Wish → List Server → Work → Act
+  Gives : Around → Wish → List Server → Unit → Act
   Tells : Around → Wish → List Server → End → Act
   -- of a rank that waits the next server is asked; that server has pinned a unit to it, which it is told, or had no unit, so that it is
   -- idle; another server has a unit for it by now, and is among those still to be asked; and a hint that comes too late
@@ -88,7 +88,7 @@ pub data Act : Type 0 where
   Is_hinted : Around → Waiting → Server → Act
   Drops_hint : Server → Rank → ℕ → Act
   -- the home of a rank asks for it: a unit is pinned to the rank, or its wish is kept; and its home is told that there is a unit by now
-  Answers : Server → Wish → Work → Act
+  Answers : Server → Wish → Unit → Act
   Declines : Server → Wish → Act
   Hints : Wish → Act
   -- a unit is to move to a server where there is room: that server is asked for room; it promises it, or has no room; the unit goes, or
@@ -96,12 +96,12 @@ pub data Act : Type 0 where
   Queries : Server → UnitId → ℕ → Act
   Promises : Server → UnitId → ℕ → Act
   Refuses_push : Server → UnitId → ℕ → Act
-  Sends_unit : Server → ℕ → Work → Act
+  Sends_unit : Server → ℕ → Unit → Act
   Cancels : Server → UnitId → ℕ → Act
   Stops_push : Server → UnitId → ℕ → Act
   Ends_push : Server → UnitId → ℕ → Act
   -- a unit has come into its room, and its coming is acknowledged; and a promise is taken back
-  Arrives : Server → Work → Act
+  Arrives : Server → Unit → Act
   Acks : Server → UnitId → Act
   Withdraws : Server → UnitId → Act
   -- the problem is done, as a rank says in the call of this number

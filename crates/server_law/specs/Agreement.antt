@@ -8,7 +8,7 @@ use Rattle.adlb_unit.specs.declared.names.BatchId.{BatchId}
 use Rattle.adlb_unit.specs.declared.names.Rank.{Rank}
 use Rattle.adlb_unit.specs.declared.names.Server.{Server}
 use Rattle.adlb_unit.specs.declared.names.UnitId.{UnitId}
-use Rattle.adlb_unit.specs.declared.units.Unit.{Unit as Work}
+use Rattle.adlb_unit.specs.declared.units.Unit.{Unit}
 use Rattle.bag_ledger.specs.Bag.{Bag, part_charge, promise_charge, start as empty_bag}
 use Rattle.bag_ledger.specs.declared.states.Part.{Part}
 use Rattle.bag_ledger.specs.declared.states.Placed.{Placed as Lodged}
@@ -38,9 +38,9 @@ of_id id u = same_unit u.unit.id id
 
 -- a weight of units, which may look at whether the unit is free
 abbrev pub UnitWeight : Type 0
-UnitWeight = Work → Bool → ℕ
+UnitWeight = Unit → Bool → ℕ
 
-abbrev pub pinned_weight : UnitWeight → Work → Option (Option Rank) → ℕ
+abbrev pub pinned_weight : UnitWeight → Unit → Option (Option Rank) → ℕ
 pinned_weight f unit None = 0
 pinned_weight f unit (Some pin) = f unit (is_none pin)
 

@@ -11,7 +11,7 @@ use Rattle.adlb_unit.specs.declared.names.Rank.{Rank}
 use Rattle.adlb_unit.specs.declared.names.Server.{Server}
 use Rattle.adlb_unit.specs.declared.units.Unit.{Unit}
 use Rattle.work_queue.specs.Queue.{HasNoPromise, HasNoUnit, HasPinned, HasPromise, HasRoom}
-use Rattle.batch_store.specs.Store.{CanClose, CanFetch, Keeps as PartKept, part_in}
+use Rattle.batch_store.specs.Store.{CanClose, CanFetch, Keeps, part_in}
 use Rattle.reserve_path.specs.declared.waits.Waiting.{Waiting}
 use Rattle.put_path.specs.Pushes.{Asks, HasSent}
 use Rattle.exhaust_ring.specs.Expected.{Expects, IsRunning}
@@ -50,9 +50,9 @@ IsAwaited s from (tells.Fetch request id) = HasPinned id from s.kept.queue.units
 IsAwaited s from (tells.KeepCommon request common) = (part_in s.kept.parts (batch_of from request) ≡ None) × (length common ≤ body_limit)
 -- the batch is the sender's; its part is here, open, and was fetched at most so often
 IsAwaited s from (tells.CloseBatch request batch accepted) =
-    (batch.rank ≡ from) × PartKept s.kept.parts batch s.kept.queue.common (CanClose accepted)
+    (batch.rank ≡ from) × Keeps s.kept.parts batch s.kept.queue.common (CanClose accepted)
 -- the part is here, and, if closed, was fetched fewer times than units of the batch were accepted
-IsAwaited s from (tells.FetchCommon request batch) = PartKept s.kept.parts batch s.kept.queue.common CanFetch
+IsAwaited s from (tells.FetchCommon request batch) = Keeps s.kept.parts batch s.kept.queue.common CanFetch
 -- the sender's home is here, and it runs
 IsAwaited s from (tells.Count request kind) = IsHome s from × Runs s from
 -- each rank may say to each server that the problem is done

@@ -5,7 +5,7 @@ use Rattle.adlb_unit.specs.Ids.{same_unit}
 use Rattle.adlb_unit.specs.declared.names.Rank.{Rank}
 use Rattle.adlb_unit.specs.declared.names.Server.{Server}
 use Rattle.adlb_unit.specs.declared.names.UnitId.{UnitId}
-use Rattle.adlb_unit.specs.declared.units.Unit.{Unit as Work}
+use Rattle.adlb_unit.specs.declared.units.Unit.{Unit}
 use Rattle.work_queue.specs.Queue.{Promise, Queue, charge_of, id_of}
 use Rattle.work_queue.specs.declared.placing.Placed.{Placed}
 use Rattle.server_law.specs.Acts.{Around}
@@ -42,7 +42,7 @@ best_for k wish = best_at k.queue wish.rank wish.types
 abbrev pub exceeds : Queue → ℕ → Bool
 exceeds queue n = nat_lt queue.limit (charge_of queue + n)
 
-abbrev pub permits : Work → Wish → Bool
+abbrev pub permits : Unit → Wish → Bool
 permits unit wish = suits unit.kind unit.target wish
 
 -- Ranks that wait.
@@ -62,14 +62,14 @@ place_in test [] = None
 place_in test (e ∷ waiting) =
     if test e then Some (record { at = record { before = []; behind = waiting }; here = e }) else behind_one e (place_in test waiting)
 
-abbrev pub is_idle_for : Work → Waiting → Bool
+abbrev pub is_idle_for : Unit → Waiting → Bool
 is_idle_for unit e = is_idle e && permits unit e.wish
 
-abbrev pub is_idle_first : Work → Waiting → Bool
+abbrev pub is_idle_first : Unit → Waiting → Bool
 is_idle_first unit e = is_idle_for unit e && is_soft_for unit.target e.wish.rank
 
 -- the idle rank that gets the unit: the one that its target names before others, else the first of those that it is permitted to
-abbrev pub taker : Work → List Waiting → Option Place
+abbrev pub taker : Unit → List Waiting → Option Place
 taker unit waiting = or_else (place_in (is_idle_first unit) waiting) (place_in (is_idle_for unit) waiting)
 
 -- the server that was asked and has not answered is this one

@@ -2,7 +2,7 @@
 use Rattle.std.specs.Prelude.{ℕ, nat_lt, Bool, ◌&&◌, not, List, [], ◌∷◌, ◌++◌, Option, None, Some, if◌then◌else◌}
 use Rattle.adlb_unit.specs.declared.names.Rank.{Rank}
 use Rattle.adlb_unit.specs.declared.names.Server.{Server}
-use Rattle.adlb_unit.specs.declared.units.Unit.{Unit as Work}
+use Rattle.adlb_unit.specs.declared.units.Unit.{Unit}
 use Rattle.reserve_path.specs.Calls.{is_since, is_soft_for}
 use Rattle.reserve_path.specs.declared.wishes.Wish.{Wish}
 use Rattle.server_law.specs.Acts.{Act, Drops_hint, Hints, Is_hinted}
@@ -18,13 +18,13 @@ abbrev pub hints_if : (Wish → Bool) → List Wish → List Act
 hints_if test [] = []
 hints_if test (w ∷ wishes) = if test w then Hints w ∷ hints_if test wishes else hints_if test wishes
 
-abbrev pub is_first_for : Work → Wish → Bool
+abbrev pub is_first_for : Unit → Wish → Bool
 is_first_for unit w = permits unit w && is_soft_for unit.target w.rank
 
-abbrev pub is_later_for : Work → Wish → Bool
+abbrev pub is_later_for : Unit → Wish → Bool
 is_later_for unit w = permits unit w && not (is_soft_for unit.target w.rank)
 
-abbrev pub hint_all : Work → List Wish → List Act
+abbrev pub hint_all : Unit → List Wish → List Act
 hint_all unit wishes = hints_if (is_first_for unit) wishes ++ hints_if (is_later_for unit) wishes
 
 -- A hint comes.

@@ -5,7 +5,7 @@ use Rattle.std.specs.List.{list_any}
 use Rattle.adlb_unit.specs.Ids.{same_unit}
 use Rattle.adlb_unit.specs.declared.names.Server.{Server}
 use Rattle.adlb_unit.specs.declared.names.UnitId.{UnitId}
-use Rattle.adlb_unit.specs.declared.units.Unit.{Unit as Work}
+use Rattle.adlb_unit.specs.declared.units.Unit.{Unit}
 use Rattle.put_path.specs.Pushes.{is_push_as}
 use Rattle.put_path.specs.declared.standing.StandingPush.{StandingPush}
 use Rattle.work_queue.specs.Queue.{Promise}
@@ -71,11 +71,11 @@ abbrev pub acks : Decider
 acks s = acks_if s.kept.owed
 
 -- no unit of the id is here, room of the unit's length was promised, and no acknowledgement is owed
-abbrev pub expects_unit : Kept → Work → Bool
+abbrev pub expects_unit : Kept → Unit → Bool
 expects_unit k unit =
     not (has_unit unit.id k.queue.units) && (list_any (is_room_for unit.id (length unit.body)) k.queue.promises && is_none k.owed)
 
-abbrev pub unit_rule : ServerModel → Server → Work → Option Plan
+abbrev pub unit_rule : ServerModel → Server → Unit → Option Plan
 unit_rule s from unit = if expects_unit s.kept unit then plan (Arrives from unit) (settles unit.id ∷ acks ∷ []) else None
 
 abbrev pub cancel_rule : ServerModel → Server → UnitId → Option Plan

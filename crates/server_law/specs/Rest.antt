@@ -7,8 +7,8 @@ use Rattle.adlb_unit.specs.declared.names.Server.{Server}
 use Rattle.bag_ledger.specs.Bag.{Bag, rank_at, settled, start as empty_bag}
 use Rattle.bag_ledger.specs.Runs.{IsRun}
 use Rattle.bag_ledger.specs.declared.entries.Entry.{Entry}
-use Rattle.bag_ledger.specs.declared.states.Placed.{Placed as Lodged}
-use Rattle.bag_ledger.specs.declared.states.Promise.{Promise as Room}
+use Rattle.bag_ledger.specs.declared.states.Placed.{Placed}
+use Rattle.bag_ledger.specs.declared.states.Promise.{Promise}
 use Rattle.bag_ledger.specs.declared.states.RankState.{RankState}
 use Rattle.bag_ledger.specs.declared.states.Status.TheVariants as is_at
 use Rattle.bag_ledger.specs.declared.states.UnitPlace.{UnitPlace}
@@ -27,13 +27,13 @@ IsHereOrSpent me (Pinned at rank) = at ≡ me
 IsHereOrSpent me (Travelling to) = ⊥
 IsHereOrSpent me Spent = Unit {0}
 
-abbrev pub IsKeptAt : Server → Lodged → Type 0
+abbrev pub IsKeptAt : Server → Placed → Type 0
 IsKeptAt me u = IsHereOrSpent me u.place
 
 -- each unit of the bag is at the server or spent, and each promise is the server's
-pub record IsAllAt (lodged : List Lodged) (rooms : List Room) (me : Server) : Type 0 where
+pub record IsAllAt (lodged : List Placed) (rooms : List Promise) (me : Server) : Type 0 where
   pub units : All (IsKeptAt me) lodged
-  pub promises : All (λ (p : Room). p.server ≡ me) rooms
+  pub promises : All (λ (p : Promise). p.server ≡ me) rooms
 
 abbrev pub HasAll : Bag → Server → Type 0
 HasAll b me = IsAllAt b.units b.promises me

@@ -11,7 +11,7 @@ use Rattle.sudoku_law.specs.Tree.{both, hands_out, nothing, tree, walk}
 use Rattle.sudoku_law.proofs.Below.{any_gives, none_of, fewest_is_none}
 use Rattle.sudoku_law.proofs.Exact.{fewest_is}
 use Rattle.sudoku_law.proofs.Ranges.{one_counted, two_counted, few_counted, none_counted}
-use Rattle.sudoku_rules.specs.Inside.Boards.{blanks}
+use Rattle.sudoku_rules.specs.inside.Boards.{blanks}
 use Rattle.sudoku_rules.proofs.AnyBelow.{eqb_comm}
 use Rattle.sudoku_rules.proofs.Carried.{put_fine, shares_swap}
 use Rattle.sudoku_rules.proofs.Children.{digit_worked}

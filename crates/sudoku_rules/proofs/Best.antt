@@ -6,7 +6,7 @@ use Rattle.sudoku_law.specs.Grid.{Cells, choices, fewer}
 use Rattle.sudoku_law.proofs.Below.{fewest_more}
 use Rattle.sudoku_rules.specs.declared.look.Choice.{Choice}
 use Rattle.sudoku_rules.proofs.Counted.{options_count}
-use Rattle.sudoku_rules.specs.Inside.Masks.{IsBest, AreOptions}
+use Rattle.sudoku_rules.specs.inside.Masks.{IsBest, AreOptions}
 
 -- a cell that is not blank changes nothing
 pub best_kept : (m : ℕ) (g : Cells) (n : ℕ) (best : Option Choice) → (get_or g n 0 ≡ 0 → ⊥) → IsBest m g n best → IsBest m g (n + 1) best

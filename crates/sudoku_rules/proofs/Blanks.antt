@@ -7,7 +7,7 @@ use Rattle.std.proofs.lemmas.Bool.{cases_eq, eq-eqb, ne_eqb}
 use Rattle.std.proofs.lemmas.Nat.{or_lt, pow_below, one_shl}
 use Rattle.std.proofs.lemmas.Nat.Bits.{bit_at_set_same, bit_at_set_other, bit_at_above}
 use Rattle.sudoku_law.specs.Grid.{Cells, side}
-use Rattle.sudoku_rules.specs.Inside.Marked.{IsBlankRow}
+use Rattle.sudoku_rules.specs.inside.Marked.{IsBlankRow}
 
 grows : (n mask : ℕ) → mask < 2 ^ n → mask < 2 ^ (n + 1)
 grows n mask small = let e : n + 1 ≡ suc n = omega arith in rw e (omega (arith, pow-suc 2 n))

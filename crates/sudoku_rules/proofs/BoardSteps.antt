@@ -15,9 +15,9 @@ use Rattle.sudoku_law.proofs.Exact.{fewest_from, none_exact}
 use Rattle.sudoku_law.proofs.Sound.{set_grid}
 use Rattle.sudoku_rules.specs.declared.boards.Board.{Board}
 use Rattle.sudoku_rules.specs.declared.boards.Seen.{Seen}
-use Rattle.sudoku_rules.specs.Inside.Masks.{AreOptions, IsBest}
-use Rattle.sudoku_rules.specs.Inside.Planes.{AreFewest, has, many}
-use Rattle.sudoku_rules.specs.Inside.Boards.{AreSeen, IsBoard, IsLeft, IsPlaced, can_stand, is_blank}
+use Rattle.sudoku_rules.specs.inside.Masks.{AreOptions, IsBest}
+use Rattle.sudoku_rules.specs.inside.Planes.{AreFewest, has, many}
+use Rattle.sudoku_rules.specs.inside.Boards.{AreSeen, IsBoard, IsLeft, IsPlaced, can_stand, is_blank}
 use Rattle.sudoku_rules.proofs.AnyBelow.{and_true}
 use Rattle.sudoku_rules.proofs.Alone.{choices_are, is_free, used_put}
 use Rattle.sudoku_rules.proofs.Carried.{put_fine}

@@ -11,8 +11,8 @@ use Rattle.sudoku_law.proofs.Below.{any_from}
 use Rattle.sudoku_law.proofs.Sound.{set_grid}
 use Rattle.sudoku_rules.specs.declared.marked.Marked.{Marked}
 use Rattle.sudoku_rules.specs.declared.marked.Marks.{Marks}
-use Rattle.sudoku_rules.specs.Inside.Masks.{seen, IsMarked}
-use Rattle.sudoku_rules.specs.Inside.Marked.{IsBlankRow, AreBlanks, IsCarried, marks_at, put_at, put_back}
+use Rattle.sudoku_rules.specs.inside.Masks.{seen, IsMarked}
+use Rattle.sudoku_rules.specs.inside.Marked.{IsBlankRow, AreBlanks, IsCarried, marks_at, put_at, put_back}
 use Rattle.sudoku_rules.proofs.Sides.{side_few, row_within, column_within, box_place_within, row_is, column_is, cell_is}
 use Rattle.sudoku_rules.proofs.AnyBelow.{eqb_comm, any_same}
 use Rattle.sudoku_rules.proofs.Masks.{marked_at}

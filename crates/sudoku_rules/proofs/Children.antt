@@ -6,9 +6,9 @@ use Rattle.sudoku_law.specs.Tree.{Met, both, hands_out, tree, walk}
 use Rattle.sudoku_rules.specs.declared.marked.Marked.{Marked}
 use Rattle.sudoku_rules.specs.declared.expansion.Expansion.{Expansion}
 use Rattle.sudoku_rules.specs.Expansion.{met_of}
-use Rattle.sudoku_rules.specs.Inside.Pieces.{handed_out}
-use Rattle.sudoku_rules.specs.Inside.Masks.{AreOptions}
-use Rattle.sudoku_rules.specs.Inside.Marked.{IsRest, IsNext}
+use Rattle.sudoku_rules.specs.inside.Pieces.{handed_out}
+use Rattle.sudoku_rules.specs.inside.Masks.{AreOptions}
+use Rattle.sudoku_rules.specs.inside.Marked.{IsRest, IsNext}
 use Rattle.sudoku_rules.proofs.Rest.{rest_all, rest_none}
 use Rattle.sudoku_rules.proofs.Walking.{at_digit, both_assoc, both_nothing, rest_of, from_digit, digit_next, digits_end, digits_skip}
 

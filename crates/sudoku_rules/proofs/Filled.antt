@@ -7,8 +7,8 @@ use Rattle.sudoku_law.specs.Grid.{Cells, side, used}
 use Rattle.sudoku_law.specs.Tree.{tree, walk}
 use Rattle.sudoku_law.proofs.Ranges.{two_counted}
 use Rattle.sudoku_rules.specs.declared.boards.Board.{Board}
-use Rattle.sudoku_rules.specs.Inside.Planes.{has, many}
-use Rattle.sudoku_rules.specs.Inside.Boards.{AreSingle, IsBoard, IsFilled, IsPlaced, blanks}
+use Rattle.sudoku_rules.specs.inside.Planes.{has, many}
+use Rattle.sudoku_rules.specs.inside.Boards.{AreSingle, IsBoard, IsFilled, IsPlaced, blanks}
 use Rattle.sudoku_rules.proofs.Alone.{IsAlone, blanks_put, goes_first}
 use Rattle.sudoku_rules.proofs.PlaneBits.{has_none}
 use Rattle.sudoku_rules.proofs.BoardSteps.{near_itself, none_new, place_board, stands_is, blank_test}

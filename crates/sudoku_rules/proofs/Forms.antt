@@ -1,7 +1,7 @@
 -- The cells of a grid in place are those of a grid.
 use Rattle.std.proofs.Common.{arith}
 use Rattle.sudoku_rules.specs.Sides.{IsSudoku}
-use Rattle.sudoku_rules.specs.Inside.Forms.{IsForm, cells_of}
+use Rattle.sudoku_rules.specs.inside.Forms.{IsForm, cells_of}
 use Rattle.sudoku_rules.specs.declared.grid.Form.{Form}
 use Rattle.sudoku_rules.specs.declared.grid.Form.TheVariants.{Four, Nine, Sixteen}
 use Rattle.sudoku_rules.proofs.Sides.{grid_sudoku}

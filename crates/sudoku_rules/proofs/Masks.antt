@@ -11,7 +11,7 @@ use Rattle.std.proofs.lemmas.Nat.Bits.{bit_at_not, and_pow}
 use Rattle.std.proofs.Math.Bool.{or_comm}
 use Rattle.sudoku_law.specs.Grid.{Cells, any_below, row_of, column_of, box_of, side, size, shares, clash, used}
 use Rattle.sudoku_rules.specs.declared.look.Masks.{Masks}
-use Rattle.sudoku_rules.specs.Inside.Masks.{seen, IsMarked, AreMasks, AreOptions}
+use Rattle.sudoku_rules.specs.inside.Masks.{seen, IsMarked, AreMasks, AreOptions}
 use Rattle.std.proofs.Math.Pow.{pow_mono}
 use Rattle.sudoku_rules.proofs.Sides.{side_few, row_within, column_within, box_place_within, all_digits}
 use Rattle.sudoku_rules.proofs.AnyBelow.{and_true, eqb_comm, any_none, any_same, any_of_three}

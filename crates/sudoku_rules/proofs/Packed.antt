@@ -4,7 +4,7 @@ use Rattle.std.proofs.Common.{length, take, get_or, set, refl, sym, ap, ◌∙�
 use Rattle.std.proofs.lemmas.List.{at_drop_all, at_drop_more, get_or_default, length-set}
 use Rattle.std.proofs.lemmas.Grind.{take-set_at}
 use Rattle.sudoku_law.specs.Grid.{Cells, IsGrid}
-use Rattle.sudoku_rules.specs.Inside.Packed.{halves, pairs}
+use Rattle.sudoku_rules.specs.inside.Packed.{halves, pairs}
 
 -- the halves of a byte of two cells
 lower : (x y : ℕ) → x < 16 → (x + 16 * y) % 16 ≡ x

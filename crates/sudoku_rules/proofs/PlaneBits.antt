@@ -12,7 +12,7 @@ use Rattle.std.proofs.lemmas.Nat.Bits.{bit_at-pow_other, bit_at-trailing_zeros, 
 use Rattle.sudoku_law.specs.Grid.{how_many}
 use Rattle.sudoku_rules.proofs.AnyBelow.{and_true}
 use Rattle.sudoku_rules.specs.declared.planes.Levels.{Levels}
-use Rattle.sudoku_rules.specs.Inside.Planes.{AreFewest, AreLevels, has, many}
+use Rattle.sudoku_rules.specs.inside.Planes.{AreFewest, AreLevels, has, many}
 
 -- bits as tests
 

@@ -7,7 +7,7 @@ use Rattle.std.proofs.lemmas.Bool.{cases_eq, cases_lt, cases_order, and_parts, a
 use Rattle.std.proofs.lemmas.Nat.{and_le_l, pow_below, one_shl}
 use Rattle.std.proofs.lemmas.Nat.Bits.{bit_at_and, bit_at_not, bit_at_above, bit_at-trailing_zeros, bit_at-pow_same, bit_at-pow_other}
 use Rattle.std.proofs.lemmas.Nat.Bits.{bit_at-lt, bit_at-zero}
-use Rattle.sudoku_rules.specs.Inside.Marked.{IsRest, IsNext}
+use Rattle.sudoku_rules.specs.inside.Marked.{IsRest, IsNext}
 
 -- the mask without bit k
 abbrev pub without : ℕ → ℕ → ℕ

@@ -3,8 +3,8 @@ use Rattle.std.proofs.Common.{◌≡◌, ◌≤◌, ℕ, ◌+◌, ◌-◌, ◌*�
 use Rattle.std.proofs.lemmas.Bool.{eqb-false}
 use Rattle.sudoku_law.specs.Grid.{Cells, side}
 use Rattle.sudoku_rules.specs.declared.look.Choice.{Choice}
-use Rattle.sudoku_rules.specs.Inside.Masks.{IsBest}
-use Rattle.sudoku_rules.specs.Inside.Marked.{IsRest, IsNext, IsBlankRow}
+use Rattle.sudoku_rules.specs.inside.Masks.{IsBest}
+use Rattle.sudoku_rules.specs.inside.Marked.{IsRest, IsNext, IsBlankRow}
 use Rattle.sudoku_rules.proofs.Best.{best_skips}
 use Rattle.sudoku_rules.proofs.Rest.{rest_all, rest_none}
 

@@ -5,7 +5,7 @@ use Rattle.std.proofs.lemmas.Bool.{cases_eq, cases_lt, and_parts, and_left, ltb-
 use Rattle.std.proofs.lemmas.Nat.Bits.{bit_at_above}
 use Rattle.sudoku_law.specs.Grid.{shares, size}
 use Rattle.sudoku_rules.specs.declared.planes.TheConstants.{SHARING_FOUR, SHARING_NINE}
-use Rattle.sudoku_rules.specs.Inside.Planes.{has}
+use Rattle.sudoku_rules.specs.inside.Planes.{has}
 
 -- each number below n passes
 unfoldable each_below : ℕ → (ℕ → Bool) → Bool

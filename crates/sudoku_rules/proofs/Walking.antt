@@ -5,7 +5,7 @@ use Rattle.std.proofs.Math.Bool.{or-false}
 use Rattle.sudoku_law.specs.Grid.{Cells, side, conflict, candidates, choices, fewest, used, count_up}
 use Rattle.sudoku_law.specs.Tree.{Tree, end, branches, at_cell, tree, hands_out, Met, nothing, both, walk}
 use Rattle.sudoku_law.proofs.Depth.{tree_is_node, share_falls}
-use Rattle.sudoku_rules.specs.Inside.Pieces.{handed_out, solved}
+use Rattle.sudoku_rules.specs.inside.Pieces.{handed_out, solved}
 
 -- what one digit of a cell gives: nothing if it is used, otherwise a board handed out or a node of this walk
 abbrev pub at_digit : ℕ → Bool → ℕ → ℕ → Cells → ℕ → ℕ → Met

@@ -5,9 +5,9 @@ ghost use Rattle.std.specs.Prelude.{◌≡◌, ◌<◌, ◌≤◌, ◌+◌, ◌-
 ghost use Rattle.std.specs.Int.{bit_at};
 ghost use Rattle.sudoku_law.specs.Grid.{IsGrid, conflict, side, size};
 ghost use Rattle.sudoku_law.specs.Tree.{tree, walk};
-ghost use Rattle.sudoku_rules.specs.Inside.Masks.{IsBest, IsSized};
-ghost use Rattle.sudoku_rules.specs.Inside.Planes.{AreFewest, has};
-ghost use Rattle.sudoku_rules.specs.Inside.Boards.{AreSeen, AreSingle, IsBoard, IsFilled, IsLeft, IsPlaced, blanks};
+ghost use Rattle.sudoku_rules.specs.inside.Masks.{IsBest, IsSized};
+ghost use Rattle.sudoku_rules.specs.inside.Planes.{AreFewest, has};
+ghost use Rattle.sudoku_rules.specs.inside.Boards.{AreSeen, AreSingle, IsBoard, IsFilled, IsLeft, IsPlaced, blanks};
 
 use crate::look::Choice;
 use crate::planes::{Levels, all_levels, first_of, less, sharing};

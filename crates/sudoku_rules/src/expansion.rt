@@ -8,9 +8,9 @@ ghost use Rattle.sudoku_law.specs.Grid.{IsGrid};
 ghost use Rattle.sudoku_law.specs.Solutions.{IsSolutionList};
 ghost use Rattle.sudoku_law.specs.Tree.{both, hands_out, is_over, solutions as solutions_of, tree, walk};
 ghost use Rattle.sudoku_rules.specs.Sides.{IsSudoku, tree_of};
-ghost use Rattle.sudoku_rules.specs.Inside.Masks.{IsSized};
-ghost use Rattle.sudoku_rules.specs.Inside.Marked.{IsCarried};
-ghost use Rattle.sudoku_rules.specs.Inside.Pieces.{handed_out, solved};
+ghost use Rattle.sudoku_rules.specs.inside.Masks.{IsSized};
+ghost use Rattle.sudoku_rules.specs.inside.Marked.{IsCarried};
+ghost use Rattle.sudoku_rules.specs.inside.Pieces.{handed_out, solved};
 ghost use Rattle.sudoku_rules.specs.Expansion.{met_of};
 
 use crate::grid::{Form, Grid};

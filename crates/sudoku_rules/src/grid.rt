@@ -9,8 +9,8 @@ ghost use Rattle.std.specs.Int.{IsBitSet};
 ghost use Rattle.sudoku_law.specs.Grid.{HasConflict, IsBlank, IsGrid, conflict, side, used};
 ghost use Rattle.sudoku_law.specs.Text.{text_of};
 ghost use Rattle.sudoku_rules.specs.Sides.{IsSudoku, box_side};
-ghost use Rattle.sudoku_rules.specs.Inside.Masks.{IsSized};
-ghost use Rattle.sudoku_rules.specs.Inside.Forms.{IsForm, cells_of};
+ghost use Rattle.sudoku_rules.specs.inside.Masks.{IsSized};
+ghost use Rattle.sudoku_rules.specs.inside.Forms.{IsForm, cells_of};
 
 use crate::look::Masks;
 use crate::text::GridText;
@@ -38,7 +38,7 @@ impl Model for Grid {
     ghost Value = { List ℕ };
 
     ghost use Rattle.std.proofs.Common.{ap};
-    ghost use Rattle.sudoku_rules.specs.Inside.Forms.{IsForm, cells_of, form_of, form_back};
+    ghost use Rattle.sudoku_rules.specs.inside.Forms.{IsForm, cells_of, form_of, form_back};
 
     ghost view = { λ g. cells_of g.form };
 

@@ -1,8 +1,8 @@
 //! Grids as they are kept.
 
 ghost use Rattle.std.specs.Prelude.{◌≡◌, ◌≤◌, ◌<◌, ◌+◌, ◌++◌, ◌∷◌, [], All, IfOk, length, take};
-ghost use Rattle.sudoku_rules.specs.Inside.Forms.{IsForm, cells_of};
-ghost use Rattle.sudoku_rules.specs.Inside.Packed.{IsHeld, halves, kept_cells, pairs};
+ghost use Rattle.sudoku_rules.specs.inside.Forms.{IsForm, cells_of};
+ghost use Rattle.sudoku_rules.specs.inside.Packed.{IsHeld, halves, kept_cells, pairs};
 
 use crate::grid::{Form, Grid};
 use adlb_unit::{NoMemory, or_no_memory};
@@ -26,7 +26,7 @@ pub struct KeptGrid {
 
 impl Model for KeptGrid {
     ghost use Rattle.std.specs.Prelude.{List, ℕ};
-    ghost use Rattle.sudoku_rules.specs.Inside.Packed.{IsHeld, kept_cells};
+    ghost use Rattle.sudoku_rules.specs.inside.Packed.{IsHeld, kept_cells};
 
     ghost Value = { List ℕ };
 

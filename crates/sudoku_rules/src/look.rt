@@ -5,7 +5,7 @@
 
 ghost use Rattle.std.specs.Prelude.{◌≡◌, ◌<◌, ◌≤◌, ◌+◌, ◌-◌, ◌*◌, ◌/◌, ◌^◌, ℕ, List, length, slice_index};
 ghost use Rattle.sudoku_law.specs.Grid.{IsGrid, box_of, column_of, row_of, side, size};
-ghost use Rattle.sudoku_rules.specs.Inside.Masks.{AreMasks, AreOptions, IsBest, IsSized};
+ghost use Rattle.sudoku_rules.specs.inside.Masks.{AreMasks, AreOptions, IsBest, IsSized};
 
 /// The digits of each row, column and box: bit `d - 1` of a mask is set where the digit `d` stands there.
 /// `clash` tells that a digit stands twice in one of them.

@@ -3,8 +3,8 @@
 
 ghost use Rattle.std.specs.Prelude.{◌≡◌, ◌<◌, ◌≤◌, ◌+◌, ◌-◌, ◌*◌, ℕ, Bool, true, false, length, MatchOption};
 ghost use Rattle.sudoku_law.specs.Grid.{IsBlank, IsGrid, conflict, side, size, used};
-ghost use Rattle.sudoku_rules.specs.Inside.Masks.{IsBest, IsSized};
-ghost use Rattle.sudoku_rules.specs.Inside.Marked.{AreBlanks, IsBlankRow, IsCarried, IsNext, IsRest, marks_at, put_at, put_back};
+ghost use Rattle.sudoku_rules.specs.inside.Masks.{IsBest, IsSized};
+ghost use Rattle.sudoku_rules.specs.inside.Marked.{AreBlanks, IsBlankRow, IsCarried, IsNext, IsRest, marks_at, put_at, put_back};
 
 use crate::look::{Choice, Masks, around, bit_of};
 

@@ -2,7 +2,7 @@
 
 ghost use Rattle.std.specs.Prelude.{◌≡◌, ◌<◌, ◌≤◌, ◌+◌, ℕ, List, false, true, ◌&&◌, not, length, nat_lt, slice_index, if◌then◌else◌};
 ghost use Rattle.sudoku_law.specs.Grid.{shares, size};
-ghost use Rattle.sudoku_rules.specs.Inside.Planes.{AreLevels, has, many};
+ghost use Rattle.sudoku_rules.specs.inside.Planes.{AreLevels, has, many};
 
 // The cells that share a row, a column or a box with each cell of a grid of side 4.
 static SHARING_FOUR: [u128; 16] = [

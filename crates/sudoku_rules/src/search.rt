@@ -5,8 +5,8 @@ ghost use Rattle.sudoku_law.specs.Grid.{IsGrid};
 ghost use Rattle.sudoku_law.specs.Tree.{both, tree, walk};
 ghost use Rattle.sudoku_rules.specs.Expansion.{met_of};
 ghost use Rattle.sudoku_rules.specs.Sides.{tree_of};
-ghost use Rattle.sudoku_rules.specs.Inside.Boards.{IsBoard};
-ghost use Rattle.sudoku_rules.specs.Inside.Masks.{IsSized};
+ghost use Rattle.sudoku_rules.specs.inside.Boards.{IsBoard};
+ghost use Rattle.sudoku_rules.specs.inside.Masks.{IsSized};
 
 use crate::boards::Board;
 use crate::expansion::{Expansion, is_handing_out, keep_child, keep_solution};

@@ -12,7 +12,7 @@ pub use Rattle.bag_ledger.specs.declared.entries.Call.TheVariants.{Finish}
 pub use Rattle.rank_client.proofs.LinkLaws.{batch_fell, batch_moved, can_call, made_again, made_answered, made_failed, not_begun}
 pub use Rattle.rank_client.proofs.StepsTell.{steps_tell}
 pub use Rattle.rank_client.specs.Calls.{Repeats, has_finished, is_open, plus}
-pub use Rattle.rank_client.specs.Inside.{gives}
+pub use Rattle.rank_client.specs.inside.{gives}
 pub use Rattle.rank_client.specs.Link.{Can, HasGrant, LinkModel}
 pub use Rattle.rank_client.specs.Remembered.{pending_call}
 pub use Rattle.rank_client.specs.Says.{Says, Tells, Waits}

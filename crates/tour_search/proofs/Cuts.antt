@@ -9,7 +9,7 @@ use Rattle.std.proofs.lemmas.List.Splits.{slice_split_first, slice_split_none, l
 use Rattle.std.proofs.lemmas.List.Sums.{position_or_len_is, prefix_len-le-length, fails_before_first}
 use Rattle.std.specs.Borrow.{Bor}
 use Rattle.tour_search.specs.Lines.{without_end}
-use Rattle.tour_search.specs.Inside.Left.{pieces_in}
+use Rattle.tour_search.specs.inside.Left.{pieces_in}
 
 -- that no element passes
 none_chosen : (b : Bool) (i : ℕ) → cond b (Some i) None ≡ None → b ≡ false

@@ -12,7 +12,7 @@ use Rattle.tour_search.specs.Lines.{is_long}
 use Rattle.tour_search.specs.Numbers.{number_to}
 use Rattle.tour_search.specs.Reading.{Read, before, cities_in, count_in, count_of, if_some, named_in, refused, row_in, row_of, rows_in}
 use Rattle.tour_search.specs.Reading.{with_count, with_row, with_rows, words}
-use Rattle.tour_search.specs.Inside.Parts.{RefusedBy, head_read, onto, or_none, or_refused, row_read}
+use Rattle.tour_search.specs.inside.Parts.{RefusedBy, head_read, onto, or_none, or_refused, row_read}
 use Rattle.tour_search.specs.declared.faults.CitiesFault.{CitiesFault}
 use Rattle.tour_search.specs.declared.faults.CitiesFault.TheVariants.{Memory, Refused}
 use Rattle.tour_search.specs.declared.faults.CitiesWhy.{CitiesWhy}

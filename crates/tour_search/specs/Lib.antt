@@ -2,4 +2,4 @@ pub mod Cities
 pub mod Lines
 pub mod Numbers
 pub mod Reading
-pub mod Inside
+pub mod inside

@@ -2,7 +2,7 @@
 
 ghost use Rattle.std.specs.Prelude.{◌≡◌, ◌∷◌, [], true, false, MatchOption};
 ghost use Rattle.std.specs.Str.Lines.{strip_carriage_return};
-ghost use Rattle.tour_search.specs.Inside.Left.{lines_left, pieces_left};
+ghost use Rattle.tour_search.specs.inside.Left.{lines_left, pieces_left};
 ghost use Rattle.tour_search.specs.Lines.{lines};
 
 use crate::pieces::Pieces;

@@ -2,7 +2,7 @@
 
 ghost use Rattle.std.specs.Prelude.{◌≡◌, ◌==◌, ◌∷◌, [], position, true, false, MatchOption};
 ghost use Rattle.std.specs.List.{slice_split};
-ghost use Rattle.tour_search.specs.Inside.Left.{CutsAt, pieces_left};
+ghost use Rattle.tour_search.specs.inside.Left.{CutsAt, pieces_left};
 
 /// The pieces that are still to come: those of the rest, or none if the last piece came.
 #[derive(Clone, Copy, Drop)]

@@ -1,8 +1,8 @@
 //! The cities of an input.
 
 ghost use Rattle.std.specs.Prelude.{◌≡◌, ◌≤◌, ◌+◌, ◌++◌, ◌*◌, ◌^◌, ◌<◌, ℕ, List, Ok, Err, None, Some, MatchBool, IfOk, OnOk, if◌then◌else◌};
-ghost use Rattle.tour_search.specs.Inside.Left.{lines_left};
-ghost use Rattle.tour_search.specs.Inside.Parts.{RefusedBy, Tacks, head_read, row_read};
+ghost use Rattle.tour_search.specs.inside.Left.{lines_left};
+ghost use Rattle.tour_search.specs.inside.Parts.{RefusedBy, Tacks, head_read, row_read};
 ghost use Rattle.tour_search.specs.Lines.{is_long as is_long_line};
 ghost use Rattle.tour_search.specs.Numbers.{number_to};
 ghost use Rattle.tour_search.specs.Reading.{count_of as count_in, if_some, input_cities, named_in, row_of, rows_in};

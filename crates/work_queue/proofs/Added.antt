@@ -14,11 +14,11 @@ use Rattle.slab.specs.Slab.{HasRoomFor, Slab, get, Updates}
 use Rattle.work_queue.proofs.Indexed.{indexed_come}
 use Rattle.work_queue.proofs.Names.{named_come}
 use Rattle.work_queue.proofs.Units.{units_one, units_same}
-use Rattle.work_queue.specs.Inside.{IsSound, queue_of}
+use Rattle.work_queue.specs.inside.{IsSound, queue_of}
 use Rattle.work_queue.specs.Queue.{HasApartPromises, HasDistinctPromises, HasNoPromise, HasNoUnit, IsSmall, id_of, promised, size_of}
-use Rattle.work_queue.specs.Inside.Index.{IsInOrder, entry_of}
-use Rattle.work_queue.specs.Inside.Names.{spare_in, stamp_at}
-use Rattle.work_queue.specs.Inside.Units.{units_at}
+use Rattle.work_queue.specs.inside.Index.{IsInOrder, entry_of}
+use Rattle.work_queue.specs.inside.Names.{spare_in, stamp_at}
+use Rattle.work_queue.specs.inside.Units.{units_at}
 use Rattle.work_queue.specs.declared.placing.Placed.{Placed}
 use Rattle.work_queue.specs.declared.queues.WorkQueue.TheInside.{Inside}
 

@@ -16,8 +16,8 @@ use Rattle.work_queue.proofs.Offers.{is_permitted, permitted_is}
 use Rattle.work_queue.proofs.Orders.{lower_isnt}
 use Rattle.work_queue.proofs.Pushes.{any_is}
 use Rattle.work_queue.specs.Best.{IsBest, IsOffered, Precedes}
-use Rattle.work_queue.specs.Inside.Index.{IsIndexed, IsLeading, by_turn, came_first, entries_of, entry_of, may_have, may_move, may_serve}
-use Rattle.work_queue.specs.Inside.Index.{moves_first, suits_better}
+use Rattle.work_queue.specs.inside.Index.{IsIndexed, IsLeading, by_turn, came_first, entries_of, entry_of, may_have, may_move, may_serve}
+use Rattle.work_queue.specs.inside.Index.{moves_first, suits_better}
 use Rattle.work_queue.specs.Fits.{asked_for, first_fit}
 use Rattle.work_queue.proofs.Searched.{is_found, none_found}
 use Rattle.std.specs.Option.{option_map}

@@ -8,7 +8,7 @@ use Rattle.std.proofs.lemmas.List.Elements.{All-cons, All-head, All-tail, All-we
 use Rattle.std.proofs.lemmas.List.Sums.{fold_push, sum_by-cons, sum_by_push}
 use Rattle.adlb_unit.specs.declared.notes.Info.{Info}
 use Rattle.adlb_unit.specs.Infos.{info_of_prios}
-use Rattle.work_queue.specs.Inside.Counting.{info_with}
+use Rattle.work_queue.specs.inside.Counting.{info_with}
 
 abbrev pub told : ℕ → ℤ → ℕ → Info
 told free top at_top = record { free = free; top = Some top; at_top = at_top }

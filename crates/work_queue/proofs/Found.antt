@@ -14,10 +14,10 @@ use Rattle.adlb_unit.proofs.Same.{same_unit_is}
 use Rattle.work_queue.proofs.Indexed.{IsEntryAt}
 use Rattle.work_queue.proofs.Names.{place_within}
 use Rattle.work_queue.proofs.Units.{length-units, unit_listed, unit_under}
-use Rattle.work_queue.specs.Inside.{IsSound}
+use Rattle.work_queue.specs.inside.{IsSound}
 use Rattle.work_queue.specs.Queue.{HasDistinctIds, HasUnit, IsSmall, id_of, is_unit}
-use Rattle.work_queue.specs.Inside.Names.{IsNamed}
-use Rattle.work_queue.specs.Inside.Units.{units_at}
+use Rattle.work_queue.specs.inside.Names.{IsNamed}
+use Rattle.work_queue.specs.inside.Units.{units_at}
 use Rattle.work_queue.specs.declared.entries.Entry.{Entry}
 use Rattle.work_queue.specs.declared.placing.Placed.{Placed}
 use Rattle.work_queue.specs.declared.queues.WorkQueue.TheInside.{Inside}

@@ -7,10 +7,10 @@ use Rattle.std.proofs.lemmas.List.Kept.{AllPairs-filter}
 use Rattle.std.proofs.lemmas.List.Quantifiers.{all_pairs_push}
 use Rattle.adlb_unit.specs.declared.names.UnitId.{UnitId}
 use Rattle.slab.specs.Slab.{HasRoomFor}
-use Rattle.work_queue.specs.Inside.{IsSound, queue_of}
+use Rattle.work_queue.specs.inside.{IsSound, queue_of}
 use Rattle.work_queue.specs.Queue.{HasApartPromises, HasDistinctPromises, HasNoPromise, HasNoUnit, Promise, is_for_other, promised, size_of}
-use Rattle.work_queue.specs.Inside.Names.{spare_in, stamp_at}
-use Rattle.work_queue.specs.Inside.Units.{units_at}
+use Rattle.work_queue.specs.inside.Names.{spare_in, stamp_at}
+use Rattle.work_queue.specs.inside.Units.{units_at}
 use Rattle.work_queue.specs.declared.placing.Placed.{Placed}
 use Rattle.work_queue.specs.declared.queues.WorkQueue.TheInside.{Inside}
 

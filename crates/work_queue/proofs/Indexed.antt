@@ -13,7 +13,7 @@ use Rattle.slab.proofs.SlabLemmas.{Contains-cons, Contains-cons_cases}
 use Rattle.adlb_unit.specs.declared.names.Rank.{Rank}
 use Rattle.work_queue.proofs.Orders.{before_self}
 use Rattle.work_queue.proofs.Sorted.{both_sides}
-use Rattle.work_queue.specs.Inside.Index.{IsInOrder, IsIndexed, entries_of, entry_of, goes_before}
+use Rattle.work_queue.specs.inside.Index.{IsInOrder, IsIndexed, entries_of, entry_of, goes_before}
 use Rattle.work_queue.specs.declared.entries.Entry.{Entry}
 use Rattle.work_queue.specs.declared.indexing.Index.{Index}
 use Rattle.work_queue.specs.declared.placing.Placed.{Placed}

@@ -17,7 +17,7 @@ use Rattle.adlb_unit.proofs.Same.{same_unit_from, same_unit_is, unit_differs}
 use Rattle.work_queue.proofs.Ids.{others_after, others_before, unit_pinned}
 use Rattle.work_queue.proofs.Sorted.{stands_at}
 use Rattle.work_queue.specs.Queue.{HasDistinctIds, HasNoUnit, HasUnit, id_of, is_unit, pinned_by}
-use Rattle.work_queue.specs.Inside.Names.{IsNamed, stamp_at, stamp_of}
+use Rattle.work_queue.specs.inside.Names.{IsNamed, stamp_at, stamp_of}
 use Rattle.work_queue.specs.declared.naming.Names.{Names}
 use Rattle.work_queue.specs.declared.placing.Placed.{Placed}
 

@@ -6,7 +6,7 @@ use Rattle.std.proofs.lemmas.Int.{ints}
 use Rattle.adlb_unit.specs.declared.names.Target.{Target}
 use Rattle.adlb_unit.specs.declared.names.Target.TheVariants.{Any, Only, Soft}
 use Rattle.adlb_unit.specs.declared.names.WorkType.{WorkType}
-use Rattle.work_queue.specs.Inside.Index.{by_run, by_turn, goes_before, lower_first, named_by, runs_before, sort_of}
+use Rattle.work_queue.specs.inside.Index.{by_run, by_turn, goes_before, lower_first, named_by, runs_before, sort_of}
 use Rattle.work_queue.specs.declared.entries.Entry.{Entry}
 
 pub lower_is : (a b : ℕ) (t : Bool) → lower_first a b t ≡ true → (a < b) ⊎ ((a ≡ b) × (t ≡ true))

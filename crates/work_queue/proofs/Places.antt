@@ -8,9 +8,9 @@ use Rattle.std.proofs.lemmas.Option.{slice_get_cases, slice_get_past}
 use Rattle.slab.specs.Slab.{get}
 use Rattle.work_queue.proofs.Found.{not_within}
 use Rattle.work_queue.proofs.Units.{length-units, unit_under}
-use Rattle.work_queue.specs.Inside.{IsSound}
+use Rattle.work_queue.specs.inside.{IsSound}
 use Rattle.work_queue.specs.Queue.{seen}
-use Rattle.work_queue.specs.Inside.Units.{units_at}
+use Rattle.work_queue.specs.inside.Units.{units_at}
 use Rattle.work_queue.specs.declared.placing.Placed.{Placed}
 use Rattle.work_queue.specs.declared.queues.WorkQueue.TheInside.{Inside}
 

@@ -5,7 +5,7 @@ use Rattle.std.specs.List.Sorted.{IsPartitionPoint, IsPartitionedBy}
 use Rattle.std.proofs.lemmas.Bool.{both_ways, cases_eq, not-false, not-true}
 use Rattle.work_queue.proofs.Orders.{before_other, run_stays}
 use Rattle.work_queue.proofs.Sorted.{added_in_order}
-use Rattle.work_queue.specs.Inside.Index.{IsInOrder, goes_before, runs_before}
+use Rattle.work_queue.specs.inside.Index.{IsInOrder, goes_before, runs_before}
 use Rattle.work_queue.specs.declared.entries.Entry.{Entry}
 
 -- the entries of the run of one, and those of earlier runs, stand before those of later runs

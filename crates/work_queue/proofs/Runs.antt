@@ -7,8 +7,8 @@ use Rattle.std.proofs.lemmas.Bool.Decides.{nat_tests}
 use Rattle.std.proofs.lemmas.Int.{ints}
 use Rattle.std.proofs.lemmas.List.{get_or_default}
 use Rattle.work_queue.proofs.Orders.{IsNext, lower_is, lower_isnt, lower_self, run_of, turn_self}
-use Rattle.work_queue.specs.Inside.Index.{IsInOrder, IsLeading, IsRun, by_turn, came_first, leading, lower_first, may_have, may_move}
-use Rattle.work_queue.specs.Inside.Index.{may_serve, moves_first, named_by, runs_before, sort_of, suits_better}
+use Rattle.work_queue.specs.inside.Index.{IsInOrder, IsLeading, IsRun, by_turn, came_first, leading, lower_first, may_have, may_move}
+use Rattle.work_queue.specs.inside.Index.{may_serve, moves_first, named_by, runs_before, sort_of, suits_better}
 use Rattle.work_queue.specs.declared.indexing.Run.{Run}
 use Rattle.adlb_unit.specs.Permit.{class_for}
 use Rattle.adlb_unit.specs.declared.names.Rank.{Rank}

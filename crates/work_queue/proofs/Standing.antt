@@ -16,11 +16,11 @@ use Rattle.work_queue.proofs.Found.{IsFound, only_found}
 use Rattle.work_queue.proofs.Indexed.{entry_there, indexed_taken, others, others_held, others_pinned}
 use Rattle.work_queue.proofs.Names.{named_taken}
 use Rattle.work_queue.proofs.Units.{Parts, length-units, parts_at, units_parted}
-use Rattle.work_queue.specs.Inside.{IsSound}
+use Rattle.work_queue.specs.inside.{IsSound}
 use Rattle.work_queue.specs.Queue.{HasFree, id_of}
-use Rattle.work_queue.specs.Inside.Index.{IsInOrder, IsIndexed, entry_of}
-use Rattle.work_queue.specs.Inside.Names.{IsNamed, spare_in, stamp_at}
-use Rattle.work_queue.specs.Inside.Units.{units_at}
+use Rattle.work_queue.specs.inside.Index.{IsInOrder, IsIndexed, entry_of}
+use Rattle.work_queue.specs.inside.Names.{IsNamed, spare_in, stamp_at}
+use Rattle.work_queue.specs.inside.Units.{units_at}
 use Rattle.work_queue.specs.declared.naming.Names.{Names}
 use Rattle.work_queue.specs.declared.entries.Entry.{Entry}
 use Rattle.work_queue.specs.declared.indexing.Index.{Index}

@@ -13,10 +13,10 @@ use Rattle.work_queue.proofs.Found.{IsFound}
 use Rattle.work_queue.proofs.Ids.{filter_at}
 use Rattle.work_queue.proofs.Standing.{ForgetsUnit, LosesName, indexed_after_take, named_after_take}
 use Rattle.work_queue.proofs.Units.{Parts, parts_at, units_besides, units_parted}
-use Rattle.work_queue.specs.Inside.{IsSound, queue_of}
+use Rattle.work_queue.specs.inside.{IsSound, queue_of}
 use Rattle.work_queue.specs.Queue.{HasNoUnit, IsSmall, has_other_id, id_of, size_of, without}
-use Rattle.work_queue.specs.Inside.Names.{stamp_at}
-use Rattle.work_queue.specs.Inside.Units.{units_at}
+use Rattle.work_queue.specs.inside.Names.{stamp_at}
+use Rattle.work_queue.specs.inside.Units.{units_at}
 use Rattle.work_queue.specs.declared.placing.Placed.{Placed}
 use Rattle.work_queue.specs.declared.queues.WorkQueue.TheInside.{Inside}
 

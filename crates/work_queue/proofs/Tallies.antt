@@ -22,9 +22,9 @@ use Rattle.work_queue.proofs.Counted.{info_push, same_told, told}
 use Rattle.work_queue.proofs.Members.{same_members}
 use Rattle.work_queue.proofs.Orders.{before_self, run_trans}
 use Rattle.work_queue.specs.Counts.{counts_of, prios_of}
-use Rattle.work_queue.specs.Inside.Counting.{info_above, info_with, run_above, run_with}
-use Rattle.work_queue.specs.Inside.Index.{IsInOrder, IsIndexed, IsRun, as_high, by_turn, entries_of, entry_of, goes_before, lower_first}
-use Rattle.work_queue.specs.Inside.Index.{named_by, prios_in, sort_of}
+use Rattle.work_queue.specs.inside.Counting.{info_above, info_with, run_above, run_with}
+use Rattle.work_queue.specs.inside.Index.{IsInOrder, IsIndexed, IsRun, as_high, by_turn, entries_of, entry_of, goes_before, lower_first}
+use Rattle.work_queue.specs.inside.Index.{named_by, prios_in, sort_of}
 use Rattle.work_queue.specs.declared.entries.Entry.{Entry}
 use Rattle.work_queue.specs.declared.indexing.Index.{Index}
 use Rattle.work_queue.specs.declared.indexing.Run.{Run}

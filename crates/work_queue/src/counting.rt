@@ -3,8 +3,8 @@
 ghost use Rattle.std.specs.Prelude.{◌≡◌, ◌<◌, ◌≤◌, ◌+◌, ◌^◌, length, not, int_lt, true, false};
 ghost use Rattle.std.specs.List.Sorted.{IsPartitionPoint};
 ghost use Rattle.adlb_unit.specs.Infos.{info_of_prios};
-ghost use Rattle.work_queue.specs.Inside.Counting.{run_with};
-ghost use Rattle.work_queue.specs.Inside.Index.{IsInOrder, as_high, prios_in};
+ghost use Rattle.work_queue.specs.inside.Counting.{run_with};
+ghost use Rattle.work_queue.specs.inside.Index.{IsInOrder, as_high, prios_in};
 
 use crate::entries::{Entry, run_comes_first};
 use crate::indexing::run_at;

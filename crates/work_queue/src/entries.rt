@@ -2,7 +2,7 @@
 
 ghost use Rattle.std.specs.Prelude.{◌≡◌, IsSome, None, Some};
 ghost use Rattle.slab.specs.Slab.{get};
-ghost use Rattle.work_queue.specs.Inside.Index.{entry_of, goes_before, lower_first, named_by, runs_before, sort_of, by_run, by_turn};
+ghost use Rattle.work_queue.specs.inside.Index.{entry_of, goes_before, lower_first, named_by, runs_before, sort_of, by_run, by_turn};
 ghost use Rattle.work_queue.specs.declared.placing.Placed.{Placed};
 ghost use Rattle.adlb_unit.specs.declared.names.Rank.{Rank};
 

@@ -4,7 +4,7 @@
 ghost use Rattle.std.specs.Prelude.{◌≡◌, ◌<◌, ◌≤◌, ℕ, length, slice_index_or, true};
 ghost use Rattle.std.specs.List.{list_any};
 ghost use Rattle.adlb_unit.specs.Permit.{permitted};
-ghost use Rattle.work_queue.specs.Inside.Index.{IsInOrder, IsLeading, came_first, leading, may_serve};
+ghost use Rattle.work_queue.specs.inside.Index.{IsInOrder, IsLeading, came_first, leading, may_serve};
 ghost use Rattle.work_queue.specs.declared.entries.Entry.{Entry};
 
 use crate::entries::Entry;

@@ -4,7 +4,7 @@ ghost use Rattle.std.specs.Prelude.{◌≡◌, ◌≤◌, ◌+◌, OnOk, length}
 ghost use Rattle.std.specs.VecDeque.{deque_capacity, deque_len};
 ghost use Rattle.adlb_unit.specs.declared.names.UnitId.{UnitId};
 ghost use Rattle.slab.specs.Slab.{HasRoomFor};
-ghost use Rattle.work_queue.specs.Inside.Names.{spare_in, stamp_at};
+ghost use Rattle.work_queue.specs.inside.Names.{spare_in, stamp_at};
 
 use crate::indexing::Index;
 use crate::naming::Names;

@@ -4,7 +4,7 @@ ghost use Rattle.std.specs.Prelude.{◌≡◌, ◌≢◌, ◌<◌, ◌≤◌, �
 ghost use Rattle.std.specs.List.{AllPairs, remove};
 ghost use Rattle.std.specs.List.Sorted.{IsPermutation, IsPartitionPoint};
 ghost use Rattle.std.specs.VecDeque.{deque_capacity, deque_len};
-ghost use Rattle.work_queue.specs.Inside.Index.{IsInOrder, IsRun, goes_before, runs_before};
+ghost use Rattle.work_queue.specs.inside.Index.{IsInOrder, IsRun, goes_before, runs_before};
 ghost use Rattle.work_queue.specs.declared.entries.Entry.{Entry};
 
 use crate::entries::{Entry, comes_before, is_of_earlier_run};

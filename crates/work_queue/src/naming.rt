@@ -4,7 +4,7 @@ ghost use Rattle.std.specs.Prelude.{◌≡◌, ◌<◌, ◌≤◌, ◌+◌, None
 ghost use Rattle.std.specs.List.{AllPairs, position_or_len};
 ghost use Rattle.adlb_unit.specs.Ids.{same_unit};
 ghost use Rattle.adlb_unit.specs.declared.names.UnitId.{UnitId};
-ghost use Rattle.work_queue.specs.Inside.Names.{IsNamed, spare_in, stamp_at};
+ghost use Rattle.work_queue.specs.inside.Names.{IsNamed, spare_in, stamp_at};
 ghost use Rattle.work_queue.specs.Queue.{HasDistinctIds, is_unit};
 ghost use Rattle.work_queue.specs.declared.placing.Placed.{Placed};
 

@@ -22,7 +22,7 @@ pub struct Parted<T> {
 
 impl<T> Model for Parted<T> {
     ghost use Rattle.std.specs.Prelude.{◌≤◌, ◌+◌, ◌++◌};
-    ghost use Rattle.work_queue.specs.Inside.Parted.{Row};
+    ghost use Rattle.work_queue.specs.inside.Parted.{Row};
     ghost use Rattle.std.specs.VecDeque.{deque_capacity, deque_len};
 
     ghost Value = { Row T };

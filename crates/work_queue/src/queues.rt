@@ -61,7 +61,7 @@ impl Model for WorkQueue {
 
     ghost Value = { Queue };
 
-    ghost use Rattle.work_queue.specs.Inside.{queue_of, IsSound};
+    ghost use Rattle.work_queue.specs.inside.{queue_of, IsSound};
 
     ghost view = { queue_of };
 

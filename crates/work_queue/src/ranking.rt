@@ -2,7 +2,7 @@
 //! side by side, so that each such run is looked at once, and the next is found by binary search.
 
 ghost use Rattle.std.specs.Prelude.{◌≡◌, length, Some, Option};
-ghost use Rattle.work_queue.specs.Inside.Index.{IsInOrder, IsLeading, leading, may_have, may_move, moves_first, suits_better};
+ghost use Rattle.work_queue.specs.inside.Index.{IsInOrder, IsLeading, leading, may_have, may_move, moves_first, suits_better};
 
 use crate::entries::{Entry, turn_comes_first};
 use crate::indexing::run_at;

@@ -19,7 +19,7 @@ impl Model for Room {
 
     ghost Value = { Promise };
 
-    ghost use Rattle.work_queue.specs.Inside.Rooms.{promise_of};
+    ghost use Rattle.work_queue.specs.inside.Rooms.{promise_of};
 
     ghost view = { promise_of };
 }

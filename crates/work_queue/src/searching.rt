@@ -5,7 +5,7 @@ ghost use Rattle.std.specs.List.{AllPairs, slice_get};
 ghost use Rattle.std.specs.Option.{option_map};
 ghost use Rattle.slab.specs.Slab.{get, slab_len, with_value, Updates};
 ghost use Rattle.work_queue.specs.Facts.{facts_of};
-ghost use Rattle.work_queue.specs.Inside.Units.{units_at};
+ghost use Rattle.work_queue.specs.inside.Units.{units_at};
 ghost use Rattle.work_queue.specs.Queue.{IsSmall, seen};
 ghost use Rattle.work_queue.specs.declared.placing.Placed.{Placed};
 

@@ -2,8 +2,8 @@
 //! the words left do not begin with such fields.
 
 ghost use Rattle.std.specs.Prelude.{◌≡◌};
-ghost use Rattle.ledger_file.specs.Inside.Reading.{Gives, length_in, next, pair_in, parts_left, types_in, value, with_call, with_server};
-ghost use Rattle.ledger_file.specs.Inside.Rows.{call_entry, id_entry, way_entry, wish_entry};
+ghost use Rattle.ledger_file.specs.inside.Reading.{Gives, length_in, next, pair_in, parts_left, types_in, value, with_call, with_server};
+ghost use Rattle.ledger_file.specs.inside.Rows.{call_entry, id_entry, way_entry, wish_entry};
 
 use crate::cursor::Parts;
 use crate::faults::LineFault;

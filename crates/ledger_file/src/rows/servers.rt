@@ -1,8 +1,8 @@
 //! Entries of servers: each function reads the fields of the entry that it is named for, which come next.
 //! `Bad` comes exactly if the words left do not begin with such fields.
 
-ghost use Rattle.ledger_file.specs.Inside.Reading.{Gives, parts_left};
-ghost use Rattle.ledger_file.specs.Inside.Rows.{read_row};
+ghost use Rattle.ledger_file.specs.inside.Reading.{Gives, parts_left};
+ghost use Rattle.ledger_file.specs.inside.Rows.{read_row};
 
 use crate::cursor::Parts;
 use crate::faults::LineFault;

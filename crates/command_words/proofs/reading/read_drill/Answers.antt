@@ -3,7 +3,7 @@ use Rattle.std.specs.String.{string_bytes}
 use Rattle.clap.specs.Words.{App, found_of, rows_of}
 use Rattle.command_words.proofs.Holding.{made_holds, run_holds}
 use Rattle.command_words.proofs.Saying.{drill_is, found_says, refused_says_nothing}
-use Rattle.command_words.specs.Inside.{IsFound}
+use Rattle.command_words.specs.inside.{IsFound}
 use Rattle.command_words.specs.Options.{drill_app}
 use Rattle.command_words.specs.Said.{drill_of}
 use Rattle.command_words.proofs.reading.read_drill.Goals as goal

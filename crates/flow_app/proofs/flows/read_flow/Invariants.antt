@@ -1,4 +1,4 @@
-use Rattle.flow_app.specs.Inside.Left.{room_left}
+use Rattle.flow_app.specs.inside.Left.{room_left}
 use Rattle.flow_app.proofs.Steps.{IsReadTo}
 use Rattle.flow_app.proofs.flows.read_flow.Given as goal
 

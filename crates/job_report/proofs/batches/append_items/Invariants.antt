@@ -1,5 +1,5 @@
 use Rattle.std.proofs.Common.{◌≡◌, ◌+◌, ◌++◌, drop}
-use Rattle.job_report.specs.Inside.{lines_told}
+use Rattle.job_report.specs.inside.{lines_told}
 use Rattle.job_report.proofs.batches.append_items.Given as goal
 
 abbrev pub invariant-loop-item : goal.invariant-loop-item

@@ -1,4 +1,4 @@
-use Rattle.job_text.specs.Inside.Left.{ends_left}
+use Rattle.job_text.specs.inside.Left.{ends_left}
 use Rattle.job_text.proofs.Steps.{IsReadTo}
 use Rattle.job_text.proofs.jobs.read_jobs.Given as goal
 

@@ -1,7 +1,7 @@
 use Rattle.std.proofs.Common.{◌∙◌, ap, sym, arith}
 use Rattle.std.proofs.lemmas.Grind.{common_steps}
 use Rattle.std.proofs.lemmas.List.{take_all}
-use Rattle.ledger_file.specs.Inside.Reading.{free}
+use Rattle.ledger_file.specs.inside.Reading.{free}
 use Rattle.ledger_file.proofs.Bytes.{cut_here, free_more}
 use Rattle.ledger_file.proofs.cursor.cut.Goals as goal
 

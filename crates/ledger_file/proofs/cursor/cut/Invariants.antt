@@ -1,5 +1,5 @@
 use Rattle.std.proofs.Common.{◌≡◌, true, take}
-use Rattle.ledger_file.specs.Inside.Reading.{free}
+use Rattle.ledger_file.specs.inside.Reading.{free}
 use Rattle.ledger_file.proofs.cursor.cut.Given as goal
 
 abbrev pub invariant-loop-i : goal.invariant-loop-i

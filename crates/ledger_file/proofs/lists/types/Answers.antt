@@ -3,7 +3,7 @@ use Rattle.std.specs.Prelude.{codes}
 use Rattle.std.proofs.lemmas.Result.{err_from_is_err_and}
 use Rattle.adlb_unit.specs.declared.names.WorkType.{WorkType}
 use Rattle.ledger_file.specs.Fields.{wanted, word as spelt, IsWithin}
-use Rattle.ledger_file.specs.Inside.Reading.{parts_left}
+use Rattle.ledger_file.specs.inside.Reading.{parts_left}
 use Rattle.ledger_file.proofs.TypeLists.{part_misses, too_many, types_found, sizes_read, never_refused}
 use Rattle.ledger_file.proofs.lists.types.Goals as goal
 

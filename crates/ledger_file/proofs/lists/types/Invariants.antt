@@ -1,5 +1,5 @@
 use Rattle.std.proofs.Common.{length}
-use Rattle.ledger_file.specs.Inside.Reading.{parts_left}
+use Rattle.ledger_file.specs.inside.Reading.{parts_left}
 use Rattle.ledger_file.proofs.TypeLists.{IsReadUpTo}
 use Rattle.ledger_file.proofs.lists.types.Given as goal
 

@@ -1,5 +1,5 @@
 use Rattle.std.proofs.Common.{◌≡◌, drop}
-use Rattle.ledger_file.specs.Inside.Names.{name_in}
+use Rattle.ledger_file.specs.inside.Names.{name_in}
 use Rattle.ledger_file.proofs.names.name_in.Given as goal
 
 abbrev pub invariant-loop-name : goal.invariant-loop-name

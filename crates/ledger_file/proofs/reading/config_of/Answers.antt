@@ -1,6 +1,6 @@
 use Rattle.std.proofs.Common.{refl}
 use Rattle.std.proofs.lemmas.Result.{err_from_is_err_and}
-use Rattle.ledger_file.specs.Inside.Reading.{parts_of}
+use Rattle.ledger_file.specs.inside.Reading.{parts_of}
 use Rattle.ledger_file.proofs.LinesRead.{config_found, no_sizes, none_is_config}
 use Rattle.ledger_file.proofs.reading.config_of.Goals as goal
 

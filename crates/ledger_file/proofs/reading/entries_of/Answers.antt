@@ -1,7 +1,7 @@
 use Rattle.std.proofs.Common.{◌≡◌, ◌+◌, sym, ap, subst, length, rules}
 use Rattle.std.proofs.lemmas.Bool.{eqb-false}
 use Rattle.ledger_file.specs.declared.faults.LineFault.TheVariants as fault
-use Rattle.ledger_file.specs.Inside.Next.{IsNoLine}
+use Rattle.ledger_file.specs.inside.Next.{IsNoLine}
 use Rattle.ledger_file.proofs.LinesRead.{bad_next, bad_after_last}
 use Rattle.ledger_file.proofs.reading.entries_of.Goals as goal
 

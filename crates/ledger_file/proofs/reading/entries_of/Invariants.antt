@@ -1,5 +1,5 @@
 use Rattle.std.proofs.Common.{length}
-use Rattle.ledger_file.specs.Inside.Next.{HasRead}
+use Rattle.ledger_file.specs.inside.Next.{HasRead}
 use Rattle.ledger_file.proofs.reading.entries_of.Given as goal
 
 abbrev pub invariant-lines : goal.invariant-lines

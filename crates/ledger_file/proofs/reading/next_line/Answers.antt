@@ -2,7 +2,7 @@ use Rattle.std.proofs.lemmas.Result.{err_from_is_err_and}
 use Rattle.std.proofs.Common.{◌≡◌, ◌∙◌, sym}
 use Rattle.std.proofs.lemmas.Bool.{false≢true}
 use Rattle.ledger_file.specs.Lines.{last_row, words}
-use Rattle.ledger_file.specs.Inside.Reading.{parts_of}
+use Rattle.ledger_file.specs.inside.Reading.{parts_of}
 use Rattle.ledger_file.proofs.LinesRead.{none_begins, line_found, none_is_next, entry_next}
 use Rattle.ledger_file.proofs.reading.next_line.Goals as goal
 

@@ -3,7 +3,7 @@ use Rattle.std.proofs.lemmas.List.Elements.{All-map, All-more, All-same, recursi
 use Rattle.std.proofs.Common.{arith, get_or, rules, sym}
 use Rattle.std.proofs.lemmas.Grind.{common_steps}
 use Rattle.ledger_file.specs.Fields.{IsWithin}
-use Rattle.ledger_file.specs.Inside.Given.{field_of, fields_of}
+use Rattle.ledger_file.specs.inside.Given.{field_of, fields_of}
 use Rattle.ledger_file.proofs.Written.{fields_written}
 use Rattle.ledger_file.proofs.writing.append_fields.Goals as goal
 

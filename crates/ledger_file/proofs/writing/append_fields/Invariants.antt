@@ -1,7 +1,7 @@
 use Rattle.std.proofs.Common.{◌≡◌, ◌++◌, ◌∷◌, take}
 use Rattle.std.specs.List.{All, flat_map}
 use Rattle.ledger_file.specs.Fields.{IsWithin, word}
-use Rattle.ledger_file.specs.Inside.Given.{field_of}
+use Rattle.ledger_file.specs.inside.Given.{field_of}
 use Rattle.ledger_file.proofs.writing.append_fields.Given as goal
 
 abbrev pub invariant-loop-field : goal.invariant-loop-field

@@ -1,5 +1,5 @@
 use Rattle.std.proofs.lemmas.Result.{on_ok_weaker}
-use Rattle.ledger_file.specs.Inside.Given.{fields_of}
+use Rattle.ledger_file.specs.inside.Given.{fields_of}
 use Rattle.ledger_file.proofs.Written.{line_written}
 use Rattle.ledger_file.proofs.writing.append_line.Goals as goal
 

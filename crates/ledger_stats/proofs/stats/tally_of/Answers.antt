@@ -1,6 +1,6 @@
 use Rattle.std.proofs.Common.{◌≡◌, [], length, count_by, ap, arith}
 use Rattle.std.proofs.lemmas.List.{nil_from_length}
-use Rattle.ledger_stats.specs.Inside.{told}
+use Rattle.ledger_stats.specs.inside.{told}
 use Rattle.ledger_stats.specs.Stats.{counts}
 use Rattle.ledger_stats.proofs.Tallying.{counted_few, counted_more, none_told}
 use Rattle.ledger_stats.proofs.stats.tally_of.Goals as goal

@@ -1,5 +1,5 @@
 use Rattle.std.proofs.Common.{◌≡◌, ◌+◌, count_by, length}
-use Rattle.ledger_stats.specs.Inside.{told}
+use Rattle.ledger_stats.specs.inside.{told}
 use Rattle.ledger_stats.specs.Stats.{counts}
 use Rattle.ledger_stats.specs.declared.stats.Statistic.{Statistic}
 use Rattle.ledger_stats.proofs.stats.tally_of.Given as goal

@@ -3,8 +3,8 @@ use Rattle.std.specs.List.{All, flat_map}
 use Rattle.std.proofs.lemmas.List.Elements.{All-nil}
 use Rattle.adlb_unit.specs.declared.names.WorkType.{WorkType}
 use Rattle.packed_ledger.specs.declared.rows.Row.{Row}
-use Rattle.packed_ledger.specs.Inside.Rows.{RowFits, row_before}
-use Rattle.packed_ledger.specs.Inside.Codes.{body_of, kind_code, kind_fits, kinds_of}
+use Rattle.packed_ledger.specs.inside.Rows.{RowFits, row_before}
+use Rattle.packed_ledger.specs.inside.Codes.{body_of, kind_code, kind_fits, kinds_of}
 use Rattle.packed_ledger.proofs.EntryBytes.{body_pushed, kinds_pushed, plain, row_pushed}
 use Rattle.packed_ledger.proofs.codes.push_entry.Goals as goal
 

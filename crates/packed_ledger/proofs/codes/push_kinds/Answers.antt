@@ -1,6 +1,6 @@
 use Rattle.std.proofs.Common.{◌<◌, ◌^◌, get_or, ◌∙◌, rules, arith}
 use Rattle.std.proofs.lemmas.List.Elements.{All-more}
-use Rattle.packed_ledger.specs.Inside.Codes.{kind_fits}
+use Rattle.packed_ledger.specs.inside.Codes.{kind_fits}
 use Rattle.packed_ledger.proofs.KindBytes.{kind_written, no_kind}
 use Rattle.packed_ledger.proofs.codes.push_kinds.Goals as goal
 

@@ -1,7 +1,7 @@
 use Rattle.std.proofs.Common.{◌≡◌, ◌+◌, ◌*◌, ◌≤◌, ◌++◌, take}
 use Rattle.std.specs.List.{All, flat_map}
 use Rattle.std.specs.Vec.{vec_capacity, vec_len}
-use Rattle.packed_ledger.specs.Inside.Codes.{kind_code, kind_fits}
+use Rattle.packed_ledger.specs.inside.Codes.{kind_code, kind_fits}
 use Rattle.packed_ledger.proofs.codes.push_kinds.Given as goal
 
 abbrev pub invariant-loop-kind : goal.invariant-loop-kind

@@ -1,7 +1,7 @@
 use Rattle.std.proofs.Common.{List, ◌++◌, ap, ◌∙◌, subst}
 use Rattle.std.specs.List.{All, flat_map}
 use Rattle.adlb_unit.specs.declared.names.WorkType.{WorkType}
-use Rattle.packed_ledger.specs.Inside.Codes.{kind_code, kind_fits}
+use Rattle.packed_ledger.specs.inside.Codes.{kind_code, kind_fits}
 use Rattle.packed_ledger.proofs.KindBytes.{are_listed}
 use Rattle.packed_ledger.proofs.codes.push_types.Goals as goal
 

@@ -3,9 +3,9 @@ use Rattle.std.specs.List.{All, flat_map}
 use Rattle.adlb_unit.specs.declared.names.WorkType.{WorkType}
 use Rattle.bag_ledger.specs.declared.entries.Entry.{Entry}
 use Rattle.packed_ledger.specs.declared.rows.Row.{Row}
-use Rattle.packed_ledger.specs.Inside.Told.{row_of}
-use Rattle.packed_ledger.specs.Inside.Made.{light_at, with_bytes, with_types}
-use Rattle.packed_ledger.specs.Inside.Codes.{body_of, entry_before, kind_code, kind_fits, kinds_of}
+use Rattle.packed_ledger.specs.inside.Told.{row_of}
+use Rattle.packed_ledger.specs.inside.Made.{light_at, with_bytes, with_types}
+use Rattle.packed_ledger.specs.inside.Codes.{body_of, entry_before, kind_code, kind_fits, kinds_of}
 use Rattle.packed_ledger.proofs.ReadBack.{has_bytes, is_light, lists_types}
 use Rattle.packed_ledger.proofs.codes.read_entry.Goals as goal
 use Rattle.packed_ledger.proofs.codes.read_entry.Goals.{then-row-eq8-via-then-row-eq8, then-row-eq8-via-else-row-eq8+then-row-eq10}

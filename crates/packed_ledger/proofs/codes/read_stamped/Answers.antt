@@ -1,5 +1,5 @@
 use Rattle.std.proofs.Common.{length, ap, arith}
-use Rattle.packed_ledger.specs.Inside.Codes.{entry_before, stamped_before}
+use Rattle.packed_ledger.specs.inside.Codes.{entry_before, stamped_before}
 use Rattle.packed_ledger.proofs.EntryBytes.{stamped_long}
 use Rattle.packed_ledger.proofs.codes.read_stamped.Goals as goal
 

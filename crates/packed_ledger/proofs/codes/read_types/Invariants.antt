@@ -1,7 +1,7 @@
 use Rattle.std.proofs.Common.{ℕ, ◌≡◌, ◌++◌, List, length, take, drop}
 use Rattle.std.specs.List.{All, flat_map}
 use Rattle.adlb_unit.specs.declared.names.WorkType.{WorkType}
-use Rattle.packed_ledger.specs.Inside.Codes.{kind_code, kind_fits}
+use Rattle.packed_ledger.specs.inside.Codes.{kind_code, kind_fits}
 use Rattle.packed_ledger.proofs.codes.read_types.Given as goal
 
 abbrev pub invariant-loop-i : goal.invariant-loop-i

@@ -1,5 +1,5 @@
 use Rattle.std.proofs.lemmas.List.Elements.{All-rest}
-use Rattle.packed_ledger.specs.Inside.Chunks.{IsFilled}
+use Rattle.packed_ledger.specs.inside.Chunks.{IsFilled}
 use Rattle.packed_ledger.proofs.kept.turn.Goals as goal
 
 pub returns-in-Some-clause-filled : goal.returns-in-Some-clause-filled

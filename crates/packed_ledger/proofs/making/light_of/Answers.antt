@@ -1,5 +1,5 @@
 use Rattle.std.proofs.lemmas.Bool.{lt-ltb, le-ltb}
-use Rattle.packed_ledger.specs.Inside.Made.{light_at}
+use Rattle.packed_ledger.specs.inside.Made.{light_at}
 use Rattle.packed_ledger.proofs.making.light_of.Goals as goal
 
 pub returns-then-row-lt16 : goal.returns-then-row-lt16

@@ -1,5 +1,5 @@
 use Rattle.std.proofs.lemmas.Bool.{eq-eqb, ne_eqb}
-use Rattle.packed_ledger.specs.Inside.Numbers.{mark}
+use Rattle.packed_ledger.specs.inside.Numbers.{mark}
 use Rattle.packed_ledger.proofs.numbers.mark.Goals as goal
 
 pub returns-then-number-eq0-clause-is : goal.returns-then-number-eq0-clause-is

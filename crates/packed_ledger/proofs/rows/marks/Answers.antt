@@ -1,5 +1,5 @@
 use Rattle.std.proofs.Common.{arith}
-use Rattle.packed_ledger.specs.Inside.Rows.{marks}
+use Rattle.packed_ledger.specs.inside.Rows.{marks}
 use Rattle.packed_ledger.proofs.rows.marks.Goals as goal
 
 pub returns-clause-marks : goal.returns-clause-marks

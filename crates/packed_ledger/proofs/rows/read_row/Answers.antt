@@ -1,6 +1,6 @@
 use Rattle.std.proofs.Common.{ℕ, List, ◌∷◌, ◌++◌}
-use Rattle.packed_ledger.specs.Inside.Numbers.{part}
-use Rattle.packed_ledger.specs.Inside.Rows.{marks, row_before}
+use Rattle.packed_ledger.specs.inside.Numbers.{part}
+use Rattle.packed_ledger.specs.inside.Rows.{marks, row_before}
 use Rattle.packed_ledger.proofs.RowBytes.{are_marks}
 use Rattle.packed_ledger.proofs.rows.read_row.Goals as goal
 

@@ -1,7 +1,7 @@
 use Rattle.std.proofs.Common.{◌∙◌, ap, ℤ, w32}
 use Rattle.std.proofs.lemmas.Int.{to_z-of_z}
 use mir.Val.{of_z, to_z}
-use Rattle.packed_ledger.specs.Inside.Numbers.{unsigned}
+use Rattle.packed_ledger.specs.inside.Numbers.{unsigned}
 use Rattle.packed_ledger.proofs.Signed.{up_is, down_is}
 use Rattle.packed_ledger.proofs.signs.unsigned.Goals as goal
 

@@ -1,6 +1,6 @@
 use Rattle.std.proofs.Common.{◌≡◌, ℕ, List, slice_get, Some, map, ap, sym, subst, ◌∙◌}
 use mathlib.Core.List.{IsPrefix}
-use Rattle.rank_mail.specs.Inside.{Agrees, all_closed}
+use Rattle.rank_mail.specs.inside.{Agrees, all_closed}
 use Rattle.rank_mail.specs.Mailboxes.{ClosedModel, InboxModel, got_on, sent_on}
 use Rattle.rank_mail.proofs.Ends.{got_is, sent_is, prefix_is}
 use Rattle.rank_mail.proofs.closing.close.Goals as goal

@@ -1,6 +1,6 @@
 use Rattle.std.proofs.Common.{◌≡◌, ◌+◌, ◌∷◌, drop, slice_get, ap, sym, ◌∙◌, arith, add-one}
 use Rattle.std.specs.Vec.Iter.{into_iter_items}
-use Rattle.rank_mail.specs.Inside.{closed_by, all_closed}
+use Rattle.rank_mail.specs.inside.{closed_by, all_closed}
 use Rattle.rank_mail.specs.Mailboxes.{places_of}
 use Rattle.rank_mail.proofs.Lists.{get_of_drop, rest_of_drop}
 use Rattle.rank_mail.proofs.Ends.{places_closed, closed_longer}

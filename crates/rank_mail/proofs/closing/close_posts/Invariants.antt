@@ -1,6 +1,6 @@
 use Rattle.std.proofs.Common.{◌≡◌, ◌+◌, ℕ, length, drop, slice_get, Some}
 use Rattle.std.specs.Vec.Iter.{into_iter_items, into_iter_len}
-use Rattle.rank_mail.specs.Inside.{all_closed}
+use Rattle.rank_mail.specs.inside.{all_closed}
 use Rattle.rank_mail.specs.Mailboxes.{InboxModel, places_of}
 use Rattle.rank_mail.proofs.closing.close_posts.Given as goal
 

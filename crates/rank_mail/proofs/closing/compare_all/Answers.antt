@@ -1,6 +1,6 @@
 use Rattle.std.proofs.Common.{◌≡◌, length, set, get_or, slice_get, Some, vec_len, ap, sym, subst, ◌∙◌, rules, arith, below_more}
 use Rattle.std.proofs.lemmas.Option.{slice_get_within, get_or_from_slice_get}
-use Rattle.rank_mail.specs.Inside.{Agrees}
+use Rattle.rank_mail.specs.inside.{Agrees}
 use Rattle.rank_mail.specs.Mailboxes.{InboxModel}
 use Rattle.rank_mail.proofs.Lists.{set_same}
 use Rattle.rank_mail.proofs.closing.compare_all.Goals as goal

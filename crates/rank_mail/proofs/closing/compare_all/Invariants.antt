@@ -1,5 +1,5 @@
 use Rattle.std.proofs.Common.{◌≡◌, ◌<◌, ℕ, vec_len, slice_get, Some}
-use Rattle.rank_mail.specs.Inside.{Agrees}
+use Rattle.rank_mail.specs.inside.{Agrees}
 use Rattle.rank_mail.specs.Mailboxes.{InboxModel}
 use Rattle.rank_mail.proofs.closing.compare_all.Given as goal
 

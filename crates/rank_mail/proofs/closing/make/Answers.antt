@@ -1,7 +1,7 @@
 use Rattle.std.proofs.Common.{◌≡◌, ◌+◌, All, length, map, subst, slice_get, vec_len, inl, inr, ap, sym, ◌∙◌, rules}
 use Rattle.std.proofs.lemmas.List.{length-map}
 use Rattle.std.proofs.lemmas.List.Elements.{All-map}
-use Rattle.rank_mail.specs.Inside.{with_line}
+use Rattle.rank_mail.specs.inside.{with_line}
 use Rattle.rank_mail.specs.Mailboxes.{InboxModel, Place, fresh_inbox, fresh_post, places_of}
 use Rattle.rank_mail.proofs.Lists.{get_snoc}
 use Rattle.rank_mail.proofs.Ends.{senders_fresh, more_fresh, places_fresh}

@@ -4,7 +4,7 @@ use Rattle.std.specs.Option.{option_map}
 use Rattle.std.proofs.lemmas.List.{length-map}
 use Rattle.std.proofs.lemmas.Option.{slice_get_within, slice_get-map}
 use Rattle.adlb_unit.specs.declared.letters.Letter.{Letter}
-use Rattle.rank_mail.specs.Inside.{LineModel}
+use Rattle.rank_mail.specs.inside.{LineModel}
 use Rattle.rank_mail.specs.Mailboxes.{InboxModel}
 use Rattle.rank_mail.proofs.Lists.{get_of_drop, rest_of_drop, get_there, take_whole}
 use Rattle.rank_mail.proofs.Ends.{front_closed, front_at, front_next, front_whole, place_at, same_length}

@@ -1,5 +1,5 @@
 use Rattle.std.proofs.Common.{◌≡◌, ◌<◌, ◌++◌, ◌∷◌, [], length, map, set, get_or, vec_len, ap, sym, ◌∙◌, rules, arith, add-one}
-use Rattle.rank_mail.specs.Inside.{line_of, with_line}
+use Rattle.rank_mail.specs.inside.{line_of, with_line}
 use Rattle.rank_mail.proofs.Lists.{upto_none, upto_at, upto_next, upto_all, map_take_next, take_whole}
 use Rattle.rank_mail.proofs.posts.new_lines.Goals as goal
 

@@ -1,5 +1,5 @@
 use Rattle.std.proofs.Common.{◌≡◌, map, take, length, vec_len}
-use Rattle.rank_mail.specs.Inside.{line_of, with_line}
+use Rattle.rank_mail.specs.inside.{line_of, with_line}
 use Rattle.rank_mail.proofs.Lists.{upto}
 use Rattle.rank_mail.proofs.posts.new_lines.Given as goal
 

@@ -1,6 +1,6 @@
 use Rattle.std.proofs.Common.{sym, subst}
 use Rattle.std.proofs.lemmas.Result.{IfOk-weaker}
-use Rattle.run_command.specs.Inside.{Stops}
+use Rattle.run_command.specs.inside.{Stops}
 use Rattle.run_command.proofs.Stopping.{memory_stops, told_asked, trouble_stops}
 use Rattle.run_command.proofs.inline.answer_inline.Goals as goal
 

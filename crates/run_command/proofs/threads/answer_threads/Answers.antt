@@ -1,6 +1,6 @@
 use Rattle.std.proofs.Common.{ap, Err, ◌∙◌, sym, subst}
 use Rattle.std.proofs.lemmas.Result.{IfOk-weaker}
-use Rattle.run_command.specs.Inside.{Stops}
+use Rattle.run_command.specs.inside.{Stops}
 use Rattle.run_command.proofs.Stopping.{memory_stops, ran_stops, told_asked}
 use Rattle.run_command.proofs.threads.answer_threads.Goals as goal
 

@@ -6,8 +6,8 @@ use Rattle.sudoku_law.proofs.Below.{fewest_is_blank}
 use Rattle.sudoku_rules.specs.declared.marked.Marked.{Marked}
 use Rattle.sudoku_rules.specs.declared.expansion.Expansion.{Expansion}
 use Rattle.sudoku_rules.specs.Expansion.{met_of}
-use Rattle.sudoku_rules.specs.Inside.Pieces.{handed_out}
-use Rattle.sudoku_rules.specs.Inside.Marked.{IsCarried, IsRest, put_at}
+use Rattle.sudoku_rules.specs.inside.Pieces.{handed_out}
+use Rattle.sudoku_rules.specs.inside.Marked.{IsCarried, IsRest, put_at}
 use Rattle.sudoku_rules.proofs.Walking.{at_digit, both_nothing, both_spent, node_full, node_over, node_open, no_candidates}
 use Rattle.sudoku_rules.proofs.Sides.{grid_sudoku, side_few}
 use Rattle.sudoku_rules.proofs.Carried.{back_same}

@@ -1,6 +1,6 @@
 use Rattle.std.proofs.Common.{◌≡◌, ◌≤◌, ◌+◌, ◌*◌, ◌/◌, ◌%◌, ℕ, ap, ◌∙◌, subst}
 use Rattle.sudoku_law.specs.Grid.{Cells, side}
-use Rattle.sudoku_rules.specs.Inside.Masks.{AreOptions}
+use Rattle.sudoku_rules.specs.inside.Masks.{AreOptions}
 use Rattle.sudoku_rules.proofs.Sides.{box_is, cell_is}
 use Rattle.sudoku_rules.proofs.Masks.{option_bits}
 use Rattle.sudoku_rules.proofs.grid.candidates_of.Goals as goal

@@ -1,7 +1,7 @@
 use Rattle.std.proofs.Common.{◌≡◌, ◌<◌, ◌≤◌, ◌+◌, ◌%◌, ◌/◌, [], ◌∷◌, ◌++◌, append_assoc, append-nil, arith, ap, drop, get_or, length, set}
 use Rattle.std.proofs.Common.{sym, take, ◌∙◌}
 use Rattle.std.proofs.lemmas.List.{length-set, take-set, take_more_set}
-use Rattle.sudoku_rules.specs.Inside.Packed.{halves}
+use Rattle.sudoku_rules.specs.inside.Packed.{halves}
 use Rattle.sudoku_rules.proofs.Packed.{halves_next, halves_none, two_more}
 use Rattle.sudoku_rules.proofs.kept.apart.Goals as goal
 use Rattle.sudoku_rules.proofs.kept.apart.Goals.{After-loop-byte}

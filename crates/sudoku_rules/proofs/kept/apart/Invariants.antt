@@ -1,5 +1,5 @@
 use Rattle.std.proofs.Common.{◌≡◌, ◌+◌, ◌++◌, drop, length, take}
-use Rattle.sudoku_rules.specs.Inside.Packed.{halves}
+use Rattle.sudoku_rules.specs.inside.Packed.{halves}
 use Rattle.sudoku_rules.proofs.kept.apart.Given as goal
 
 abbrev pub invariant-loop-byte : goal.invariant-loop-byte

@@ -1,7 +1,7 @@
 use Rattle.std.proofs.Common.{◌≡◌, ◌++◌, ◌∷◌, [], List, ℕ, arith, ap, get_or, length, subst, sym, ◌∙◌}
 use Rattle.sudoku_law.specs.Grid.{IsGrid}
-use Rattle.sudoku_rules.specs.Inside.Forms.{cells_of}
-use Rattle.sudoku_rules.specs.Inside.Packed.{halves, pairs}
+use Rattle.sudoku_rules.specs.inside.Forms.{cells_of}
+use Rattle.sudoku_rules.specs.inside.Packed.{halves, pairs}
 use Rattle.sudoku_rules.proofs.Packed.{kept_four, kept_nine, pairs_long}
 use Rattle.sudoku_rules.proofs.kept.hold.Goals as goal
 use Rattle.sudoku_rules.proofs.kept.hold.Goals.{In_ok-or_no_memory-in-Four, In_ok-or_no_memory-in-Nine}

@@ -2,7 +2,7 @@ use Rattle.std.proofs.Common.{◌≡◌, ◌+◌, ◌*◌, ◌++◌, ◌∷◌, 
 use Rattle.std.proofs.Common.{◌∙◌}
 use Rattle.std.proofs.lemmas.List.{length-set}
 use Rattle.std.proofs.lemmas.Grind.{take-set_at}
-use Rattle.sudoku_rules.specs.Inside.Packed.{pairs}
+use Rattle.sudoku_rules.specs.inside.Packed.{pairs}
 use Rattle.sudoku_rules.proofs.Packed.{pairs_at, pairs_over}
 use Rattle.sudoku_rules.proofs.kept.in_pairs.Goals as goal
 

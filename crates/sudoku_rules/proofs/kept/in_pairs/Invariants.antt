@@ -1,5 +1,5 @@
 use Rattle.std.proofs.Common.{◌≡◌, ◌+◌, ◌++◌, drop, length, take}
-use Rattle.sudoku_rules.specs.Inside.Packed.{pairs}
+use Rattle.sudoku_rules.specs.inside.Packed.{pairs}
 use Rattle.sudoku_rules.proofs.kept.in_pairs.Given as goal
 
 abbrev pub invariant-loop-at : goal.invariant-loop-at

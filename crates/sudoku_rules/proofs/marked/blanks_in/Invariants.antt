@@ -1,4 +1,4 @@
-use Rattle.sudoku_rules.specs.Inside.Marked.{IsBlankRow}
+use Rattle.sudoku_rules.specs.inside.Marked.{IsBlankRow}
 use Rattle.sudoku_rules.proofs.marked.blanks_in.Given as goal
 
 abbrev pub invariant-loop-column : goal.invariant-loop-column

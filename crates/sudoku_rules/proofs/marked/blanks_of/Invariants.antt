@@ -1,6 +1,6 @@
 use Rattle.std.proofs.Common.{◌≡◌, ◌<◌, ℕ, length, get_or}
 use Rattle.sudoku_law.specs.Grid.{side}
-use Rattle.sudoku_rules.specs.Inside.Marked.{IsBlankRow}
+use Rattle.sudoku_rules.specs.inside.Marked.{IsBlankRow}
 use Rattle.sudoku_rules.proofs.marked.blanks_of.Given as goal
 
 abbrev pub invariant-loop-row : goal.invariant-loop-row

@@ -2,7 +2,7 @@ use Rattle.std.proofs.Common.{◌≡◌, ◌<◌, ◌+◌, ◌&&◌, ◌||◌, �
 use Rattle.std.specs.Int.Bits.{bit_or}
 use Rattle.std.proofs.lemmas.Bool.{cases_eq, le-leb}
 use Rattle.std.proofs.lemmas.List.{length-set, get_or-set_same, get_or-set_other}
-use Rattle.sudoku_rules.specs.Inside.Planes.{has}
+use Rattle.sudoku_rules.specs.inside.Planes.{has}
 use Rattle.sudoku_rules.proofs.PlaneBits.{has_and, has_or, level_next, carried_on}
 use Rattle.sudoku_rules.proofs.planes.add_plane.Goals as goal
 

@@ -1,5 +1,5 @@
 use Rattle.std.proofs.Common.{◌≡◌, ◌<◌, ◌≤◌, ◌+◌, ◌&&◌, ℕ, cond, length, get_or, ltb, leb}
-use Rattle.sudoku_rules.specs.Inside.Planes.{has}
+use Rattle.sudoku_rules.specs.inside.Planes.{has}
 use Rattle.sudoku_rules.proofs.planes.add_plane.Given as goal
 
 -- of the levels below n the plane is in, the others are as they were, and what carries on is in all of those below and in the plane

@@ -1,7 +1,7 @@
 use Rattle.std.proofs.Common.{sym, ap, ◌∙◌, arith, ltb}
 use Rattle.std.proofs.lemmas.Bool.{le-ltb}
 use Rattle.std.proofs.lemmas.List.{get_or-replicate}
-use Rattle.sudoku_rules.specs.Inside.Planes.{has, many}
+use Rattle.sudoku_rules.specs.inside.Planes.{has, many}
 use Rattle.sudoku_rules.proofs.PlaneBits.{has_none, many_none, many_more}
 use Rattle.sudoku_rules.proofs.planes.all_levels.Goals as goal
 

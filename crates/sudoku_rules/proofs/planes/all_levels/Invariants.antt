@@ -1,5 +1,5 @@
 use Rattle.std.proofs.Common.{◌≡◌, ◌<◌, ℕ, get_or, ltb}
-use Rattle.sudoku_rules.specs.Inside.Planes.{has, many}
+use Rattle.sudoku_rules.specs.inside.Planes.{has, many}
 use Rattle.sudoku_rules.proofs.planes.all_levels.Given as goal
 
 abbrev pub invariant-loop-plane : goal.invariant-loop-plane

@@ -5,9 +5,9 @@ use Rattle.sudoku_law.specs.Tree.{Met, both, hands_out, tree, walk}
 use Rattle.sudoku_law.proofs.Below.{fewest_is_blank}
 use Rattle.sudoku_law.proofs.Sound.{set_grid}
 use Rattle.sudoku_rules.specs.Expansion.{met_of}
-use Rattle.sudoku_rules.specs.Inside.Planes.{has}
-use Rattle.sudoku_rules.specs.Inside.Pieces.{handed_out}
-use Rattle.sudoku_rules.specs.Inside.Marked.{IsRest}
+use Rattle.sudoku_rules.specs.inside.Planes.{has}
+use Rattle.sudoku_rules.specs.inside.Pieces.{handed_out}
+use Rattle.sudoku_rules.specs.inside.Marked.{IsRest}
 use Rattle.sudoku_rules.proofs.Walking.{at_digit, both_nothing, both_spent, node_full, node_over, node_open, no_candidates}
 use Rattle.sudoku_rules.proofs.Sides.{grid_sudoku, side_few}
 use Rattle.sudoku_rules.proofs.BoardSteps.{stands_test}

@@ -1,6 +1,6 @@
 use Rattle.std.proofs.Common.{◌≡◌, ◌∙◌, refl, sym, arith, ap, subst, List, ℕ, Ok, Err}
-use Rattle.tour_search.specs.Inside.Left.{lines_left}
-use Rattle.tour_search.specs.Inside.Parts.{head_read}
+use Rattle.tour_search.specs.inside.Left.{lines_left}
+use Rattle.tour_search.specs.inside.Parts.{head_read}
 use Rattle.tour_search.specs.Reading.{cities_in, rows_in, with_rows}
 use Rattle.tour_search.specs.declared.faults.CitiesFault.{CitiesFault}
 use Rattle.tour_search.specs.declared.faults.CitiesFault.TheVariants.{Refused}

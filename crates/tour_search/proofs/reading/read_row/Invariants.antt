@@ -1,4 +1,4 @@
-use Rattle.tour_search.specs.Inside.Left.{pieces_left}
+use Rattle.tour_search.specs.inside.Left.{pieces_left}
 use Rattle.tour_search.specs.Reading.{words}
 use Rattle.tour_search.proofs.Rows.{RowSoFar}
 use Rattle.tour_search.proofs.reading.read_row.Given as goal

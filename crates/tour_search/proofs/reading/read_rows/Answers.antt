@@ -1,6 +1,6 @@
 use Rattle.std.proofs.Common.{◌≡◌, ◌+◌, ◌∙◌, [], refl, sym, arith, ap, subst, List, ℕ, Err, Ok, Result}
-use Rattle.tour_search.specs.Inside.Left.{lines_left}
-use Rattle.tour_search.specs.Inside.Parts.{RefusedBy, row_read}
+use Rattle.tour_search.specs.inside.Left.{lines_left}
+use Rattle.tour_search.specs.inside.Parts.{RefusedBy, row_read}
 use Rattle.tour_search.specs.Reading.{Read, rows_in}
 use Rattle.tour_search.specs.declared.faults.CitiesFault.{CitiesFault}
 use Rattle.tour_search.specs.declared.faults.CitiesFault.TheVariants.{Memory, Refused}

@@ -1,5 +1,5 @@
 use Rattle.std.proofs.Common.{◌≡◌, ◌+◌}
-use Rattle.tour_search.specs.Inside.Left.{lines_left}
+use Rattle.tour_search.specs.inside.Left.{lines_left}
 use Rattle.tour_search.proofs.Rows.{RowsSoFar}
 use Rattle.tour_search.proofs.reading.read_rows.Given as goal
 

@@ -1,7 +1,7 @@
 use Rattle.std.proofs.Common.{◌≤◌, ◌-◌, arith, sym, ◌∙◌, ap, inl, inr}
 use Rattle.std.proofs.lemmas.Bool.{cases_lt}
 use Rattle.adlb_unit.specs.declared.notes.Info.{Info}
-use Rattle.work_queue.specs.Inside.Counting.{run_with}
+use Rattle.work_queue.specs.inside.Counting.{run_with}
 use Rattle.work_queue.proofs.Tallies.{run_bounds, run_counted_to, run_not_counted}
 use Rattle.work_queue.proofs.counting.count_kind.Goals as goal
 

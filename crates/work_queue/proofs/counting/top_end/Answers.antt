@@ -1,7 +1,7 @@
 use Rattle.std.proofs.Common.{rules}
 use Rattle.std.proofs.lemmas.List.Sorted.{IsPartitionPoint-from_clause}
 use Rattle.work_queue.proofs.Tallies.{parted_high}
-use Rattle.work_queue.specs.Inside.Index.{as_high}
+use Rattle.work_queue.specs.inside.Index.{as_high}
 use Rattle.work_queue.specs.declared.entries.Entry.{Entry}
 use Rattle.work_queue.proofs.counting.top_end.Goals as goal
 

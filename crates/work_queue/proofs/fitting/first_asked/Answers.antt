@@ -1,6 +1,6 @@
 use Rattle.std.proofs.Common.{sym, ◌∙◌}
 use Rattle.work_queue.proofs.Runs.{run_passed, run_serves}
-use Rattle.work_queue.specs.Inside.Index.{came_first, may_serve}
+use Rattle.work_queue.specs.inside.Index.{came_first, may_serve}
 use Rattle.work_queue.proofs.fitting.first_asked.Goals as goal
 
 pub loop-place-preserved : goal.loop-place-preserved

@@ -1,5 +1,5 @@
 use Rattle.std.proofs.Common.{◌≤◌, ◌-◌, length}
-use Rattle.work_queue.specs.Inside.Index.{IsLeading, came_first, may_serve}
+use Rattle.work_queue.specs.inside.Index.{IsLeading, came_first, may_serve}
 use Rattle.work_queue.proofs.fitting.first_asked.Given as goal
 
 abbrev pub invariant-loop-place : goal.invariant-loop-place

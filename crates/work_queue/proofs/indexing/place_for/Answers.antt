@@ -2,7 +2,7 @@ use Rattle.std.proofs.Common.{rules}
 use Rattle.std.proofs.lemmas.List.Sorted.{IsPartitionPoint-from_clause}
 use Rattle.work_queue.proofs.Orders.{before_trans}
 use Rattle.work_queue.proofs.Sorted.{parted_at}
-use Rattle.work_queue.specs.Inside.Index.{goes_before}
+use Rattle.work_queue.specs.inside.Index.{goes_before}
 use Rattle.work_queue.specs.declared.entries.Entry.{Entry}
 use Rattle.work_queue.proofs.indexing.place_for.Goals as goal
 

@@ -1,7 +1,7 @@
 use Rattle.std.proofs.Common.{not, rules}
 use Rattle.std.proofs.lemmas.List.Sorted.{IsPartitionPoint-from_clause}
 use Rattle.work_queue.proofs.Points.{parted_runs, run_point}
-use Rattle.work_queue.specs.Inside.Index.{runs_before}
+use Rattle.work_queue.specs.inside.Index.{runs_before}
 use Rattle.work_queue.specs.declared.entries.Entry.{Entry}
 use Rattle.work_queue.proofs.indexing.run_end.Goals as goal
 

@@ -1,6 +1,6 @@
 use Rattle.std.proofs.Common.{arith, sym, ◌∙◌}
 use Rattle.work_queue.proofs.Runs.{first_listed, passed_by, run_suits, suits_ranks, taken_up}
-use Rattle.work_queue.specs.Inside.Index.{may_have, suits_better}
+use Rattle.work_queue.specs.inside.Index.{may_have, suits_better}
 use Rattle.work_queue.proofs.ranking.best_entry.Goals as goal
 
 pub loop-place-preserved-then-permits : goal.loop-place-preserved-then-permits

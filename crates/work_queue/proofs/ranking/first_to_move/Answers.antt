@@ -1,6 +1,6 @@
 use Rattle.std.proofs.Common.{arith, sym, ◌∙◌}
 use Rattle.work_queue.proofs.Runs.{last_listed, moves_ranks, passed_by, run_moves, taken_up}
-use Rattle.work_queue.specs.Inside.Index.{may_move, moves_first}
+use Rattle.work_queue.specs.inside.Index.{may_move, moves_first}
 use Rattle.work_queue.proofs.ranking.first_to_move.Goals as goal
 
 pub loop-place-preserved-then-is_for_any : goal.loop-place-preserved-then-is_for_any

@@ -1,5 +1,5 @@
 use Rattle.std.proofs.Common.{◌≤◌, ◌-◌, length}
-use Rattle.work_queue.specs.Inside.Index.{IsLeading, may_move, moves_first}
+use Rattle.work_queue.specs.inside.Index.{IsLeading, may_move, moves_first}
 use Rattle.work_queue.proofs.ranking.first_to_move.Given as goal
 
 abbrev pub invariant-loop-place : goal.invariant-loop-place

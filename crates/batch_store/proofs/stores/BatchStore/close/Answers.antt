@@ -1,6 +1,6 @@
 use Rattle.std.proofs.Common.{sym, subst}
 use Rattle.batch_store.proofs.Small.{small_turned}
-use Rattle.batch_store.specs.Inside.{IsSmall}
+use Rattle.batch_store.specs.inside.{IsSmall}
 use Rattle.batch_store.specs.Store.{closed}
 use Rattle.batch_store.proofs.stores.BatchStore.close.Goals as goal
 

@@ -1,6 +1,6 @@
 use Rattle.std.proofs.Common.{sym, subst}
 use Rattle.batch_store.proofs.Small.{either_way, small_inserted}
-use Rattle.batch_store.specs.Inside.{IsSmall}
+use Rattle.batch_store.specs.inside.{IsSmall}
 use Rattle.batch_store.specs.Store.{fresh}
 use Rattle.batch_store.proofs.stores.BatchStore.put.Goals as goal
 

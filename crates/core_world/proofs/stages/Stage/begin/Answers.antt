@@ -1,6 +1,6 @@
 use Rattle.std.proofs.Common.{◌≡◌, None, ap, ◌∙◌}
 use Rattle.std.proofs.lemmas.Result.{err_from_is_err_and}
-use Rattle.rank_client.specs.Inside.{gives}
+use Rattle.rank_client.specs.inside.{gives}
 use Rattle.core_run.specs.World.{World, client_of}
 use Rattle.core_world.proofs.Stopping.{call_stops}
 use Rattle.core_bound_law.proofs.Clocks.{begin_leaves}

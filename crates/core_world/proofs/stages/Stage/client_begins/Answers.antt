@@ -1,7 +1,7 @@
 use Rattle.std.proofs.Common.{◌≡◌, Some, ap, sym, ◌∙◌}
 use Rattle.std.proofs.lemmas.Result.{IfOk-weaker}
 use Rattle.rank_client.specs.declared.steps.ClientStep.{ClientStep}
-use Rattle.rank_client.specs.Inside.{gives}
+use Rattle.rank_client.specs.inside.{gives}
 use Rattle.rank_client.specs.State.{ClientModel}
 use Rattle.rank_client.specs.Step.{begin}
 use Rattle.core_run.specs.World.{World, client_of}

@@ -3,7 +3,7 @@ use Rattle.std.specs.Prelude.{IsSome}
 use Rattle.std.proofs.lemmas.Result.{IfErr-weaker, IfOk-weaker, on_ok_weaker}
 use Rattle.adlb_unit.specs.declared.notes.Trouble.{Trouble}
 use Rattle.rank_client.specs.declared.steps.ClientStep.{ClientStep}
-use Rattle.rank_client.specs.Inside.{gives}
+use Rattle.rank_client.specs.inside.{gives}
 use Rattle.rank_client.specs.State.{ClientModel}
 use Rattle.rank_client.specs.Step.{hear, letter_stamp, letter_trouble}
 use Rattle.core_run.specs.World.{World, client_of}

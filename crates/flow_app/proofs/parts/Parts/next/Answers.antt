@@ -1,6 +1,6 @@
 use Rattle.std.proofs.Common.{ap, sym, ◌∙◌}
 use Rattle.flow_app.specs.Kinds.{is_mark}
-use Rattle.flow_app.specs.Inside.Left.{parts_in}
+use Rattle.flow_app.specs.inside.Left.{parts_in}
 use Rattle.flow_app.proofs.Cuts.{cut_first, last_part}
 use Rattle.flow_app.proofs.parts.Parts.next.Goals as goal
 

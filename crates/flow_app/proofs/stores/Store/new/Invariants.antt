@@ -1,5 +1,5 @@
 use Rattle.std.proofs.Common.{[]}
-use Rattle.flow_app.specs.Inside.Stored.{HasLetsTo, Stores}
+use Rattle.flow_app.specs.inside.Stored.{HasLetsTo, Stores}
 use Rattle.flow_app.proofs.stores.Store.new.Given as goal
 
 abbrev pub invariant-loop-place : goal.invariant-loop-place

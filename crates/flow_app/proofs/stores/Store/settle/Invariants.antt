@@ -1,5 +1,5 @@
 use Rattle.std.proofs.Common.{◌≡◌, drop}
-use Rattle.flow_app.specs.Inside.Stored.{Grows, Stores, to_take}
+use Rattle.flow_app.specs.inside.Stored.{Grows, Stores, to_take}
 use Rattle.flow_app.proofs.stores.Store.settle.Given as goal
 
 abbrev pub invariant-loop-rule : goal.invariant-loop-rule

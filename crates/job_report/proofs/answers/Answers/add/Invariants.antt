@@ -1,6 +1,6 @@
 use Rattle.std.proofs.Common.{◌≡◌, ℕ, drop}
 use Rattle.job_report.specs.Whole.{answers_in}
-use Rattle.job_report.specs.Inside.{latest, value_at}
+use Rattle.job_report.specs.inside.{latest, value_at}
 use Rattle.job_report.proofs.answers.Answers.add.Given as goal
 
 abbrev pub invariant-loop-answer : goal.invariant-loop-answer

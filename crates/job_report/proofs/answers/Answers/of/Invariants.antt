@@ -1,6 +1,6 @@
 use Rattle.std.proofs.Common.{◌≡◌, ℕ, drop}
 use Rattle.job_report.specs.Whole.{answers_of}
-use Rattle.job_report.specs.Inside.{latest, value_at}
+use Rattle.job_report.specs.inside.{latest, value_at}
 use Rattle.job_report.proofs.answers.Answers.of.Given as goal
 
 abbrev pub invariant-loop-outcome : goal.invariant-loop-outcome

@@ -1,6 +1,6 @@
 use Rattle.std.proofs.Common.{◌∷◌, [], ap, sym, ◌∙◌}
 use Rattle.job_text.specs.Lines.{lines}
-use Rattle.job_text.specs.Inside.Left.{lines_in}
+use Rattle.job_text.specs.inside.Left.{lines_in}
 use Rattle.job_text.proofs.Cuts.{first_line, last_line}
 use Rattle.job_text.proofs.lines.Lines.next.Goals as goal
 

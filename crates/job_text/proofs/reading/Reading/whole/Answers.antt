@@ -1,6 +1,6 @@
 use Rattle.std.proofs.Common.{◌≡◌, ◌∷◌, ◌++◌, [], sym, ap, ◌∙◌, rules}
 use Rattle.job_text.specs.declared.jobs.Job.TheVariants.{Batch}
-use Rattle.job_text.specs.Inside.Read.{jobs_behind}
+use Rattle.job_text.specs.inside.Read.{jobs_behind}
 use Rattle.job_text.proofs.SoFar.{nothing_more, batch_ends}
 use Rattle.job_text.proofs.reading.Reading.whole.Goals as goal
 use Rattle.job_text.proofs.reading.Reading.whole.Goals.{in-Some+in_ok-items+in_ok-or_no_memory, in_default}

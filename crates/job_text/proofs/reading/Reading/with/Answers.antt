@@ -1,5 +1,5 @@
 use Rattle.std.proofs.Common.{subst}
-use Rattle.job_text.specs.Inside.Read.{Extends}
+use Rattle.job_text.specs.inside.Read.{Extends}
 use Rattle.job_text.proofs.SoFar.{skips}
 use Rattle.job_text.proofs.reading.Reading.with.Goals as goal
 

@@ -1,5 +1,5 @@
 use Rattle.ledger_file.specs.Fields.{rank_or_none}
-use Rattle.ledger_file.specs.Inside.Reading.{parts_left, answer_in}
+use Rattle.ledger_file.specs.inside.Reading.{parts_left, answer_in}
 use Rattle.ledger_file.proofs.Parsing.{first_gives}
 use Rattle.ledger_file.proofs.Readers.{answer_reads}
 use Rattle.ledger_file.proofs.cursor.Parts.answer.Goals as goal

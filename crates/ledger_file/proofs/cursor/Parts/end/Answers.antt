@@ -1,5 +1,5 @@
 use Rattle.ledger_file.specs.Fields.{told}
-use Rattle.ledger_file.specs.Inside.Reading.{parts_left, end_in}
+use Rattle.ledger_file.specs.inside.Reading.{parts_left, end_in}
 use Rattle.ledger_file.proofs.Parsing.{first_gives}
 use Rattle.ledger_file.proofs.Readers.{end_reads}
 use Rattle.ledger_file.proofs.cursor.Parts.end.Goals as goal

@@ -1,4 +1,4 @@
-use Rattle.ledger_file.specs.Inside.Reading.{parts_left, pair_in}
+use Rattle.ledger_file.specs.inside.Reading.{parts_left, pair_in}
 use Rattle.ledger_file.proofs.Parsing.{first_gives}
 use Rattle.ledger_file.proofs.Readers.{pair_field, pair_reads}
 use Rattle.ledger_file.proofs.cursor.Parts.id.Goals as goal

@@ -1,5 +1,5 @@
 use Rattle.ledger_file.specs.Fields.{u32}
-use Rattle.ledger_file.specs.Inside.Reading.{parts_left, length_in}
+use Rattle.ledger_file.specs.inside.Reading.{parts_left, length_in}
 use Rattle.ledger_file.proofs.Parsing.{first_gives}
 use Rattle.ledger_file.proofs.Readers.{length_reads}
 use Rattle.ledger_file.proofs.cursor.Parts.length.Goals as goal

@@ -1,5 +1,5 @@
 use Rattle.std.proofs.Common.{◌∙◌, ap}
-use Rattle.ledger_file.specs.Inside.Reading.{parts_in}
+use Rattle.ledger_file.specs.inside.Reading.{parts_in}
 use Rattle.ledger_file.proofs.Bytes.{parts_cut, split_nowhere}
 use Rattle.ledger_file.proofs.cursor.Parts.next.Goals as goal
 

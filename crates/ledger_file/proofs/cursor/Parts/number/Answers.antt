@@ -1,5 +1,5 @@
 use Rattle.ledger_file.specs.Fields.{u64}
-use Rattle.ledger_file.specs.Inside.Reading.{parts_left, number_in}
+use Rattle.ledger_file.specs.inside.Reading.{parts_left, number_in}
 use Rattle.ledger_file.proofs.Parsing.{first_gives}
 use Rattle.ledger_file.proofs.Readers.{number_reads}
 use Rattle.ledger_file.proofs.cursor.Parts.number.Goals as goal

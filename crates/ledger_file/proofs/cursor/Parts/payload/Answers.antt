@@ -1,5 +1,5 @@
 use Rattle.ledger_file.specs.Fields.{body}
-use Rattle.ledger_file.specs.Inside.Reading.{parts_left, bytes_in}
+use Rattle.ledger_file.specs.inside.Reading.{parts_left, bytes_in}
 use Rattle.ledger_file.proofs.Parsing.{first_gives}
 use Rattle.ledger_file.proofs.Readers.{bytes_reads}
 use Rattle.ledger_file.proofs.cursor.Parts.payload.Goals as goal

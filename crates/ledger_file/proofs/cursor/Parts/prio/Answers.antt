@@ -1,5 +1,5 @@
 use Rattle.ledger_file.specs.Fields.{i32}
-use Rattle.ledger_file.specs.Inside.Reading.{parts_left, prio_in}
+use Rattle.ledger_file.specs.inside.Reading.{parts_left, prio_in}
 use Rattle.ledger_file.proofs.Parsing.{first_gives}
 use Rattle.ledger_file.proofs.Readers.{prio_reads}
 use Rattle.ledger_file.proofs.cursor.Parts.prio.Goals as goal

@@ -1,5 +1,5 @@
 use Rattle.ledger_file.specs.Fields.{aim}
-use Rattle.ledger_file.specs.Inside.Reading.{parts_left, target_in}
+use Rattle.ledger_file.specs.inside.Reading.{parts_left, target_in}
 use Rattle.ledger_file.proofs.Parsing.{first_gives}
 use Rattle.ledger_file.proofs.Readers.{target_reads}
 use Rattle.ledger_file.proofs.cursor.Parts.target.Goals as goal

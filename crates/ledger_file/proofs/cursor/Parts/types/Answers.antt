@@ -1,5 +1,5 @@
 use Rattle.ledger_file.specs.Fields.{wanted}
-use Rattle.ledger_file.specs.Inside.Reading.{parts_left, types_in}
+use Rattle.ledger_file.specs.inside.Reading.{parts_left, types_in}
 use Rattle.ledger_file.proofs.Parsing.{first_gives}
 use Rattle.ledger_file.proofs.Readers.{types_reads}
 use Rattle.ledger_file.proofs.cursor.Parts.types.Goals as goal

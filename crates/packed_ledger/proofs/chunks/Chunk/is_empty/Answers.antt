@@ -2,7 +2,7 @@ use Rattle.std.proofs.Common.{sym, ap, ◌∙◌, arith}
 use Rattle.std.proofs.lemmas.Bool.Decides.{Decides-at, Decides-eqb, Decides-like}
 use Rattle.std.specs.Vec.{vec_len}
 use Rattle.packed_ledger.specs.Sizes.{KeptModel}
-use Rattle.packed_ledger.specs.Inside.Codes.{IsKeptStamped, stamped_before}
+use Rattle.packed_ledger.specs.inside.Codes.{IsKeptStamped, stamped_before}
 use Rattle.packed_ledger.proofs.EntryBytes.{nothing, nothing_back, stamped_long, stamped_with_more}
 use Rattle.packed_ledger.proofs.chunks.Chunk.is_empty.Goals as goal
 

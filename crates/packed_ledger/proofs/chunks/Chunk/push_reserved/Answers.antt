@@ -1,4 +1,4 @@
-use Rattle.packed_ledger.specs.Inside.Codes.{IsKeptStamped, stamped_before}
+use Rattle.packed_ledger.specs.inside.Codes.{IsKeptStamped, stamped_before}
 use Rattle.packed_ledger.proofs.EntryBytes.{holds_push, stamped_long, stamped_with_more}
 use Rattle.packed_ledger.proofs.chunks.Chunk.push_reserved.Goals as goal
 

@@ -1,6 +1,6 @@
 use Rattle.std.proofs.Common.{Some, length-drop, drop, sym, ap, ◌∙◌, arith}
 use Rattle.packed_ledger.specs.Sizes.{first_stamp}
-use Rattle.packed_ledger.specs.Inside.Codes.{IsKeptStamped, codes, stamped_before}
+use Rattle.packed_ledger.specs.inside.Codes.{IsKeptStamped, codes, stamped_before}
 use Rattle.packed_ledger.proofs.EntryBytes.{front, nothing, stamped_long, stamped_with_more}
 use Rattle.packed_ledger.proofs.chunks.Rest.first_stamp.Goals as goal
 

@@ -1,6 +1,6 @@
 use Rattle.std.proofs.Common.{eqb, drop, length-drop, sym, ◌∙◌, arith}
 use Rattle.std.proofs.lemmas.Bool.Decides.{Decides-eqb, Decides-like}
-use Rattle.packed_ledger.specs.Inside.Codes.{IsKeptStamped, stamped_before}
+use Rattle.packed_ledger.specs.inside.Codes.{IsKeptStamped, stamped_before}
 use Rattle.packed_ledger.proofs.EntryBytes.{nothing, nothing_back, stamped_long, stamped_with_more}
 use Rattle.packed_ledger.proofs.chunks.Rest.is_done.Goals as goal
 

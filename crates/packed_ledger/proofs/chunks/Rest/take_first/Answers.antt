@@ -1,5 +1,5 @@
 use Rattle.std.proofs.Common.{length, length-drop, drop, sym, ap, ◌∙◌, arith}
-use Rattle.packed_ledger.specs.Inside.Codes.{IsKeptStamped, stamped_before}
+use Rattle.packed_ledger.specs.inside.Codes.{IsKeptStamped, stamped_before}
 use Rattle.packed_ledger.proofs.EntryBytes.{nothing, stamped_long, stamped_with_more, taken}
 use Rattle.packed_ledger.proofs.chunks.Rest.take_first.Goals as goal
 

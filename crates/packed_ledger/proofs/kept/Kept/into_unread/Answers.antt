@@ -2,7 +2,7 @@ use Rattle.std.proofs.Common.{◌≡◌, ◌∷◌, List, sym, ◌∙◌, subst}
 use Rattle.std.specs.List.{All}
 use Rattle.std.proofs.lemmas.List.Elements.{All-head, All-rest}
 use Rattle.packed_ledger.specs.Sizes.{KeptModel}
-use Rattle.packed_ledger.specs.Inside.Chunks.{IsFilled}
+use Rattle.packed_ledger.specs.inside.Chunks.{IsFilled}
 use Rattle.packed_ledger.proofs.kept.Kept.into_unread.Goals as goal
 
 pub invariant_of-t-8 : goal.invariant_of-t-8

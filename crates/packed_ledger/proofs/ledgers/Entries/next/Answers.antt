@@ -1,6 +1,6 @@
 use Rattle.std.proofs.Common.{length, drop, sym, ◌∙◌, arith}
 use Rattle.std.proofs.lemmas.Bool.{eqb-true, eqb-false}
-use Rattle.packed_ledger.specs.Inside.Codes.{IsKept, entry_before}
+use Rattle.packed_ledger.specs.inside.Codes.{IsKept, entry_before}
 use Rattle.packed_ledger.proofs.EntryBytes.{entry_long, entry_with_more, next, nothing}
 use Rattle.packed_ledger.proofs.ledgers.Entries.next.Goals as goal
 

@@ -1,5 +1,5 @@
 use Rattle.std.proofs.Common.{length, ap, arith}
-use Rattle.packed_ledger.specs.Inside.Codes.{IsKept, entry_before}
+use Rattle.packed_ledger.specs.inside.Codes.{IsKept, entry_before}
 use Rattle.packed_ledger.proofs.EntryBytes.{codes_long, entry_long, entry_with_more}
 use Rattle.packed_ledger.proofs.ledgers.Ledger.entries.Goals as goal
 

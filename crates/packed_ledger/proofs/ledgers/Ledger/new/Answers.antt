@@ -1,5 +1,5 @@
 use Rattle.std.proofs.Common.{length, sym, ap}
-use Rattle.packed_ledger.specs.Inside.Codes.{IsKept, entry_before}
+use Rattle.packed_ledger.specs.inside.Codes.{IsKept, entry_before}
 use Rattle.packed_ledger.proofs.EntryBytes.{entry_long, entry_with_more, holds_none}
 use Rattle.packed_ledger.proofs.ledgers.Ledger.new.Goals as goal
 

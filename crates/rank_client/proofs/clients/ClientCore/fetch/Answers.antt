@@ -1,5 +1,5 @@
 use Rattle.std.proofs.Common.{rules, subst}
-use Rattle.rank_client.specs.Inside.{IsSound}
+use Rattle.rank_client.specs.inside.{IsSound}
 use Rattle.rank_client.proofs.Insides.{held_server}
 use Rattle.rank_client.proofs.clients.ClientCore.fetch.Goals as goal
 

@@ -3,7 +3,7 @@ use Rattle.std.specs.Vec.{vec_capacity, vec_len}
 use Rattle.rank_client.specs.declared.openings.First.{First}
 use Rattle.rank_client.specs.declared.pendings.Pending.{Pending}
 use Rattle.rank_client.specs.declared.rooms.Room.{Room}
-use Rattle.rank_client.specs.Inside.{HasFirst, HasRoom, IsFresh, Opens, state_of}
+use Rattle.rank_client.specs.inside.{HasFirst, HasRoom, IsFresh, Opens, state_of}
 use Rattle.rank_client.specs.Rules.{is_free}
 use Rattle.rank_client.specs.State.{ClientModel}
 use Rattle.rank_client.proofs.Insides.{asks_inside, first_letter, over_inside}

@@ -1,7 +1,7 @@
 use Rattle.std.proofs.Common.{rules, ◌≡◌, Some, subst, sym}
 use Rattle.std.specs.Prelude.{IsSome}
 use Rattle.bag_ledger.specs.declared.entries.Call.{Call}
-use Rattle.rank_client.specs.Inside.{opened}
+use Rattle.rank_client.specs.inside.{opened}
 use Rattle.rank_client.specs.Rules.{open_call}
 use Rattle.rank_client.proofs.Calling.{put_opens}
 use Rattle.rank_client.proofs.clients.ClientCore.opening.Goals as goal

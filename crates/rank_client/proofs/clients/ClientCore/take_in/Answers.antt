@@ -2,7 +2,7 @@ use Rattle.std.proofs.Common.{refl, sym, subst}
 use Rattle.std.specs.Prelude.{IsSome}
 use Rattle.rank_client.specs.declared.outcomes.Outcome.{Outcome}
 use Rattle.rank_client.specs.declared.pendings.Pending.{Pending}
-use Rattle.rank_client.specs.Inside.{Fits, HasRoom, IsFresh, state_of}
+use Rattle.rank_client.specs.inside.{Fits, HasRoom, IsFresh, state_of}
 use Rattle.rank_client.specs.Rules.{answer_call}
 use Rattle.rank_client.specs.State.{ClientModel}
 use Rattle.rank_client.proofs.Awaited.{busy, ended_inside, waiting_inside}

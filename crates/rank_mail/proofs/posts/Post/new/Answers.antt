@@ -1,5 +1,5 @@
 use Rattle.std.proofs.Common.{map, slice_get, ap, sym, ◌∙◌}
-use Rattle.rank_mail.specs.Inside.{LineModel}
+use Rattle.rank_mail.specs.inside.{LineModel}
 use Rattle.rank_mail.proofs.Ends.{line_places, line_lists, line_numbers}
 use Rattle.rank_mail.proofs.posts.Post.new.Goals as goal
 

@@ -1,6 +1,6 @@
 use Rattle.std.proofs.Common.{◌<◌, set, length, map, ap, ◌∙◌, arith}
 use Rattle.std.proofs.lemmas.List.{length-map}
-use Rattle.rank_mail.specs.Inside.{LineModel}
+use Rattle.rank_mail.specs.inside.{LineModel}
 use Rattle.rank_mail.proofs.Ends.{places_sent, lists_sent}
 use Rattle.rank_mail.proofs.posts.Post.send.Goals as goal
 

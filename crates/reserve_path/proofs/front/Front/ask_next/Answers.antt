@@ -10,7 +10,7 @@ use Rattle.indexmap.specs.IndexMap.{with_value_at}
 use Rattle.reserve_path.proofs.Fronts.{front_at, front_is, has_same, keyed_written, keys_written, size_written, values_written}
 use Rattle.reserve_path.specs.Calls.{asks_next, step_of}
 use Rattle.reserve_path.specs.Front.{FrontModel, front_with}
-use Rattle.reserve_path.specs.Inside.{front_of}
+use Rattle.reserve_path.specs.inside.{front_of}
 use Rattle.reserve_path.specs.declared.waits.Waiting.{Waiting}
 use Rattle.reserve_path.proofs.front.Front.ask_next.Goals as goal
 

@@ -14,7 +14,7 @@ use Rattle.reserve_path.specs.Calls.{hears_of}
 use Rattle.reserve_path.specs.Parked.{is_idle}
 use Rattle.reserve_path.specs.declared.wishes.Wish.{Wish}
 use Rattle.reserve_path.specs.Front.{FrontModel, front_with}
-use Rattle.reserve_path.specs.Inside.{front_of}
+use Rattle.reserve_path.specs.inside.{front_of}
 use Rattle.reserve_path.specs.declared.waits.Waiting.{Waiting}
 use Rattle.reserve_path.proofs.front.Front.hear_of.Goals as goal
 

@@ -10,7 +10,7 @@ use Rattle.adlb_unit.specs.declared.names.Rank.{Rank}
 use Rattle.reserve_path.proofs.Fronts.{IsKeyed, front_is, leaves}
 use Rattle.reserve_path.proofs.Places.{nobody}
 use Rattle.reserve_path.specs.Front.{FrontModel, front_with}
-use Rattle.reserve_path.specs.Inside.{front_of}
+use Rattle.reserve_path.specs.inside.{front_of}
 use Rattle.reserve_path.specs.declared.waits.Waiting.{Waiting}
 use Rattle.reserve_path.proofs.front.Front.leave.Goals as goal
 

@@ -8,7 +8,7 @@ use Rattle.indexmap.specs.Layout.{set_value_at}
 use Rattle.reserve_path.proofs.Fronts.{IsKeyed, front_is, has_same, keyed_written, keys_written, parks, place_behind, place_rank}
 use Rattle.reserve_path.proofs.Fronts.{place_within, size_written}
 use Rattle.reserve_path.specs.Front.{FrontModel, front_with}
-use Rattle.reserve_path.specs.Inside.{front_of}
+use Rattle.reserve_path.specs.inside.{front_of}
 use Rattle.reserve_path.specs.Parked.{is_of}
 use Rattle.reserve_path.proofs.front.Front.park.Goals as goal
 

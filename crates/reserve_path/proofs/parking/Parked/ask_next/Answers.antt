@@ -7,7 +7,7 @@ use Rattle.reserve_path.proofs.Places.{nobody}
 use Rattle.reserve_path.proofs.Sound.{next_waits, write_sound}
 use Rattle.reserve_path.specs.Calls.{asks_next, step_of}
 use Rattle.reserve_path.specs.Front.{FrontModel}
-use Rattle.reserve_path.specs.Inside.{parked_of}
+use Rattle.reserve_path.specs.inside.{parked_of}
 use Rattle.reserve_path.specs.Parked.{IsParked, ParkedModel, with_waiting}
 use Rattle.reserve_path.specs.declared.waits.Waiting.{Waiting}
 use Rattle.reserve_path.proofs.parking.Parked.ask_next.Goals as goal

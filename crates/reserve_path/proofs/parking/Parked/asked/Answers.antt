@@ -5,7 +5,7 @@ use Rattle.std.specs.Prelude.{Option}
 use Rattle.reserve_path.proofs.Rooms.{fills_more}
 use Rattle.reserve_path.proofs.Sound.{waiting_few}
 use Rattle.reserve_path.specs.Calls.{wants}
-use Rattle.reserve_path.specs.Inside.{parked_of}
+use Rattle.reserve_path.specs.inside.{parked_of}
 use Rattle.reserve_path.specs.Parked.{ParkedModel}
 use Rattle.reserve_path.specs.declared.waits.Waiting.{Waiting}
 use Rattle.reserve_path.proofs.parking.Parked.asked.Goals as goal

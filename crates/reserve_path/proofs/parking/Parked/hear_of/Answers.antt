@@ -7,7 +7,7 @@ use Rattle.reserve_path.proofs.Places.{nobody}
 use Rattle.reserve_path.proofs.Sound.{heard_waits, heard_wish, write_sound}
 use Rattle.reserve_path.specs.Calls.{hears_of}
 use Rattle.reserve_path.specs.Front.{FrontModel}
-use Rattle.reserve_path.specs.Inside.{parked_of}
+use Rattle.reserve_path.specs.inside.{parked_of}
 use Rattle.reserve_path.specs.Parked.{IsOther, IsParked, IsWaiting, ParkedModel, with_waiting}
 use Rattle.reserve_path.specs.declared.waits.Waiting.{Waiting}
 use Rattle.reserve_path.proofs.parking.Parked.hear_of.Goals as goal

@@ -2,7 +2,7 @@ use Rattle.std.proofs.Common.{◌≡◌, ◌++◌, ◌∷◌, [], List, filter, 
 use Rattle.std.proofs.lemmas.Fn.{filter_same}
 use Rattle.reserve_path.proofs.Sound.{wish_left, wished_sound}
 use Rattle.reserve_path.specs.Calls.{wished}
-use Rattle.reserve_path.specs.Inside.{parked_of}
+use Rattle.reserve_path.specs.inside.{parked_of}
 use Rattle.reserve_path.specs.Parked.{IsAway, IsParked, ParkedModel, is_by, with_wishes}
 use Rattle.reserve_path.specs.declared.wishes.Wish.{Wish}
 use Rattle.reserve_path.proofs.parking.Parked.keep.Goals as goal

@@ -6,7 +6,7 @@ use Rattle.reserve_path.proofs.Places.{at_place, nobody, none_at, of_tells}
 use Rattle.reserve_path.proofs.Sound.{gone_sound}
 use Rattle.reserve_path.specs.Calls.{gone}
 use Rattle.reserve_path.specs.Front.{FrontModel}
-use Rattle.reserve_path.specs.Inside.{parked_of}
+use Rattle.reserve_path.specs.inside.{parked_of}
 use Rattle.reserve_path.specs.Parked.{IsParked, ParkedModel, is_of, with_waiting}
 use Rattle.reserve_path.specs.declared.waits.Waiting.{Waiting}
 use Rattle.reserve_path.proofs.parking.Parked.leave.Goals as goal

@@ -1,7 +1,7 @@
 use Rattle.std.proofs.Common.{◌≡◌, List, false, ap, sym, subst, ◌∙◌, arith}
 use Rattle.reserve_path.proofs.Sound.{parked_sound}
 use Rattle.reserve_path.specs.Front.{FrontModel}
-use Rattle.reserve_path.specs.Inside.{parked_of}
+use Rattle.reserve_path.specs.inside.{parked_of}
 use Rattle.reserve_path.specs.Parked.{IsParked, IsWaiting, ParkedModel, is_parked, with_waiting}
 use Rattle.reserve_path.specs.declared.waits.Waiting.{Waiting}
 use Rattle.reserve_path.proofs.parking.Parked.park.Goals as goal

@@ -7,7 +7,7 @@ use Rattle.reserve_path.proofs.Places.{AreApart, at_place, nobody, of_tells, set
 use Rattle.reserve_path.proofs.Sound.{first_other}
 use Rattle.reserve_path.specs.Calls.{after_none, asks_next, step_for}
 use Rattle.reserve_path.specs.Grants.{best_for, with_grant}
-use Rattle.reserve_path.specs.Inside.{parked_of}
+use Rattle.reserve_path.specs.inside.{parked_of}
 use Rattle.reserve_path.specs.Parked.{IsParked, ParkedModel, is_asked, is_of, with_waiting}
 use Rattle.reserve_path.specs.declared.waits.Waiting.{Waiting}
 use Rattle.reserve_path.proofs.parking.Parked.remote_none.Goals as goal

@@ -1,4 +1,4 @@
-use Rattle.sudoku_rules.specs.Inside.Boards.{AreSingle, IsFilled}
+use Rattle.sudoku_rules.specs.inside.Boards.{AreSingle, IsFilled}
 use Rattle.sudoku_rules.proofs.boards.Board.fill.Given as goal
 
 abbrev pub invariant-loop-x : goal.invariant-loop-x

@@ -1,7 +1,7 @@
 use Rattle.std.proofs.Common.{◌<◌, ◌∙◌, ℕ, get_or, sym, arith, rules}
 use Rattle.std.proofs.lemmas.Bool.{and_parts}
 use Rattle.sudoku_law.specs.Grid.{size}
-use Rattle.sudoku_rules.specs.Inside.Planes.{has}
+use Rattle.sudoku_rules.specs.inside.Planes.{has}
 use Rattle.sudoku_rules.proofs.PlaneBits.{has_and}
 use Rattle.sudoku_rules.proofs.BoardSteps.{fewer_cells, own_gone, stands_is}
 use Rattle.sudoku_rules.proofs.Filled.{fill_step, filled_none, single_after}

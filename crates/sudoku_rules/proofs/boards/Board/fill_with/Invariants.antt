@@ -1,6 +1,6 @@
 use Rattle.std.proofs.Common.{◌≡◌, ℕ, true, get_or}
-use Rattle.sudoku_rules.specs.Inside.Planes.{has}
-use Rattle.sudoku_rules.specs.Inside.Boards.{AreSingle, IsFilled}
+use Rattle.sudoku_rules.specs.inside.Planes.{has}
+use Rattle.sudoku_rules.specs.inside.Boards.{AreSingle, IsFilled}
 use Rattle.sudoku_rules.proofs.boards.Board.fill_with.Given as goal
 
 abbrev pub decreases-loop-cells : goal.decreases-loop-cells

@@ -2,7 +2,7 @@ use Rattle.std.proofs.Common.{◌≡◌, ◌<◌, ◌*◌, ◌%◌, ◌^◌, ◌
 use Rattle.std.proofs.lemmas.Bool.{cases_eq, cases_lt}
 use Rattle.std.proofs.lemmas.List.{length-set, get_or-set_same, get_or-set_other, get_or_past}
 use Rattle.std.proofs.lemmas.Nat.{one_shl}
-use Rattle.sudoku_rules.specs.Inside.Planes.{has}
+use Rattle.sudoku_rules.specs.inside.Planes.{has}
 use Rattle.sudoku_rules.proofs.PlaneBits.{has_none, has_one}
 use Rattle.sudoku_rules.proofs.boards.Board.leave.Goals as goal
 

@@ -1,7 +1,7 @@
 use Rattle.std.proofs.Common.{◌≡◌, ◌<◌, ◌^◌, ℕ, Bool, get_or, sym, ap, ◌∙◌, arith, subst}
 use Rattle.std.specs.Int.Bits.{bit_and}
 use Rattle.std.proofs.lemmas.Nat.{one_shl}
-use Rattle.sudoku_rules.specs.Inside.Planes.{has}
+use Rattle.sudoku_rules.specs.inside.Planes.{has}
 use Rattle.sudoku_rules.proofs.PlaneBits.{mask_more, mask_kept, test_off, test_on}
 use Rattle.sudoku_rules.proofs.boards.Board.options_at.Goals as goal
 use Rattle.sudoku_rules.proofs.boards.Board.options_at.Goals.{then-self-x-ne0, else-self-x-ne0}

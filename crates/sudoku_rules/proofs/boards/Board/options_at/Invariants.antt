@@ -1,6 +1,6 @@
 use Rattle.std.proofs.Common.{◌≡◌, ◌<◌, ◌^◌, ℕ, cond, get_or}
 use Rattle.std.specs.Int.{bit_at}
-use Rattle.sudoku_rules.specs.Inside.Planes.{has}
+use Rattle.sudoku_rules.specs.inside.Planes.{has}
 use Rattle.sudoku_rules.proofs.boards.Board.options_at.Given as goal
 
 abbrev pub invariant-loop-x : goal.invariant-loop-x

@@ -1,4 +1,4 @@
-use Rattle.sudoku_rules.specs.Inside.Boards.{IsFilled}
+use Rattle.sudoku_rules.specs.inside.Boards.{IsFilled}
 use Rattle.sudoku_rules.proofs.boards.Board.settle.Given as goal
 
 abbrev pub invariant-loop-round : goal.invariant-loop-round

@@ -1,6 +1,6 @@
 use Rattle.std.proofs.Common.{◌≡◌, ◌≤◌, ◌&&◌, length, get_or, sym, ap, ◌∙◌, arith, ltb}
 use Rattle.std.proofs.lemmas.Bool.{le-leb}
-use Rattle.sudoku_rules.specs.Inside.Planes.{has, many}
+use Rattle.sudoku_rules.specs.inside.Planes.{has, many}
 use Rattle.sudoku_rules.proofs.AnyBelow.{and_true}
 use Rattle.sudoku_rules.proofs.PlaneBits.{few_are, many_at_most, more_each}
 use Rattle.sudoku_rules.proofs.boards.Board.with_fewest_of_many.Goals as goal

@@ -1,4 +1,4 @@
-use Rattle.sudoku_rules.specs.Inside.Boards.{AreSeen}
+use Rattle.sudoku_rules.specs.inside.Boards.{AreSeen}
 use Rattle.sudoku_rules.proofs.boards.Seen.of.Given as goal
 
 abbrev pub invariant-loop-cell : goal.invariant-loop-cell

@@ -1,7 +1,7 @@
 use Rattle.std.proofs.Common.{◌&&◌, not, ℕ, get_or, set, sym, ap, ◌∙◌, inl, inr, arith}
 use Rattle.std.proofs.lemmas.Bool.{cases_eq}
 use Rattle.std.proofs.lemmas.List.{length-set, length-replicate, get_or-set_same, get_or-set_other}
-use Rattle.sudoku_rules.specs.Inside.Planes.{has}
+use Rattle.sudoku_rules.specs.inside.Planes.{has}
 use Rattle.sudoku_rules.proofs.boards.Seen.options.Goals as goal
 
 pub loop-x-init : goal.loop-x-init

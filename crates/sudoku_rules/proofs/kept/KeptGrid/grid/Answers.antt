@@ -1,7 +1,7 @@
 use Rattle.std.proofs.Common.{◌≡◌, ◌+◌, ◌++◌, ◌∷◌, [], ap, length, subst, sym, take, ◌∙◌}
 use Rattle.sudoku_rules.specs.declared.grid.Form.TheVariants as side
 use Rattle.sudoku_rules.specs.Sides.{IsSudoku}
-use Rattle.sudoku_rules.specs.Inside.Packed.{halves}
+use Rattle.sudoku_rules.specs.inside.Packed.{halves}
 use Rattle.sudoku_rules.proofs.Forms.{form_sudoku}
 use Rattle.sudoku_rules.proofs.kept.KeptGrid.grid.Goals as goal
 

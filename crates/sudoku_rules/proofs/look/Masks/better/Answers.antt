@@ -1,7 +1,7 @@
 use Rattle.std.proofs.Common.{◌≡◌, ap, ◌+◌, ◌*◌, ℕ, subst, Option}
 use Rattle.sudoku_law.specs.Grid.{side}
 use Rattle.sudoku_rules.specs.declared.look.Choice.{Choice}
-use Rattle.sudoku_rules.specs.Inside.Masks.{IsBest}
+use Rattle.sudoku_rules.specs.inside.Masks.{IsBest}
 use Rattle.sudoku_rules.proofs.Counted.{options_count}
 use Rattle.sudoku_rules.proofs.Best.{best_stays, best_first, best_wins}
 use Rattle.sudoku_rules.proofs.look.Masks.better.Goals as goal

@@ -1,6 +1,6 @@
 use Rattle.std.proofs.Common.{◌*◌}
 use Rattle.sudoku_law.specs.Grid.{side}
-use Rattle.sudoku_rules.specs.Inside.Masks.{IsBest}
+use Rattle.sudoku_rules.specs.inside.Masks.{IsBest}
 use Rattle.sudoku_rules.proofs.marked.Marked.fewest.Given as goal
 
 abbrev pub invariant-loop-row : goal.invariant-loop-row

@@ -1,4 +1,4 @@
-use Rattle.sudoku_rules.specs.Inside.Planes.{AreLevels}
+use Rattle.sudoku_rules.specs.inside.Planes.{AreLevels}
 use Rattle.sudoku_rules.proofs.planes.Levels.of.Given as goal
 
 abbrev pub invariant-loop-plane : goal.invariant-loop-plane

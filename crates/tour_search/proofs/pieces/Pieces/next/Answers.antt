@@ -1,5 +1,5 @@
 use Rattle.std.proofs.Common.{ap, ◌∙◌, ◌==◌}
-use Rattle.tour_search.specs.Inside.Left.{pieces_in}
+use Rattle.tour_search.specs.inside.Left.{pieces_in}
 use Rattle.tour_search.proofs.Cuts.{first_piece, last_piece}
 use Rattle.tour_search.proofs.pieces.Pieces.next.Goals as goal
 

@@ -4,7 +4,7 @@ use Rattle.std.proofs.lemmas.List.Quantifiers.{all_pairs_remove}
 use Rattle.std.proofs.lemmas.List.Sorted.{IsPermutation-remove}
 use Rattle.work_queue.proofs.Orders.{before_self}
 use Rattle.work_queue.proofs.Sorted.{stands_at, stands_once}
-use Rattle.work_queue.specs.Inside.Index.{goes_before}
+use Rattle.work_queue.specs.inside.Index.{goes_before}
 use Rattle.work_queue.specs.declared.entries.Entry.{Entry}
 use Rattle.work_queue.proofs.indexing.Index.leave.Goals as goal
 

@@ -2,7 +2,7 @@ use Rattle.std.proofs.Common.{◌<◌, ℕ, arith, length, refl, subst, sym}
 use Rattle.std.specs.List.{AllPairs}
 use Rattle.std.specs.VecDeque.{deque_len}
 use Rattle.work_queue.proofs.Parting.{back_rises, last_read, stands_ahead, stands_behind}
-use Rattle.work_queue.specs.Inside.Parted.{Row}
+use Rattle.work_queue.specs.inside.Parted.{Row}
 use Rattle.work_queue.proofs.parted.Parted+u64.place_of.Goals as goal
 
 abbrev Rises : Row ℕ → Type 0

@@ -1,7 +1,7 @@
 use Rattle.std.proofs.Common.{◌≡◌, ◌+◌, ◌++◌, ◌∷◌, [], None, refl, ap, ◌∙◌, sym, subst, arith, length}
 use Rattle.std.specs.List.{filter}
 use Rattle.work_queue.specs.Queue.{HasRoom, Queue, is_for_other, with_unit}
-use Rattle.work_queue.specs.Inside.Units.{units_at}
+use Rattle.work_queue.specs.inside.Units.{units_at}
 use Rattle.work_queue.specs.declared.queues.WorkQueue.TheInside.{Inside}
 use Rattle.work_queue.specs.declared.entries.Entry.{Entry}
 use Rattle.work_queue.proofs.Indexed.{stamps_below}

@@ -5,7 +5,7 @@ use Rattle.work_queue.proofs.Found.{as_long_as_order, leading_unit}
 use Rattle.work_queue.proofs.Lists.{free_from_best}
 use Rattle.work_queue.proofs.Walks.{best_offered, best_walk, no_best}
 use Rattle.work_queue.specs.Best.{IsBest, IsOffered}
-use Rattle.work_queue.specs.Inside.Index.{IsLeading, may_have, suits_better}
+use Rattle.work_queue.specs.inside.Index.{IsLeading, may_have, suits_better}
 use Rattle.work_queue.specs.Queue.{Queue}
 use Rattle.work_queue.proofs.queues.WorkQueue.best.Goals as goal
 

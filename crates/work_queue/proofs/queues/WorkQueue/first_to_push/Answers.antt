@@ -4,7 +4,7 @@ use Rattle.work_queue.proofs.Bridges.{none_moves, push_leads, leads_in, stamp_kn
 use Rattle.work_queue.proofs.Found.{as_long_as_order, leading_unit, small_at}
 use Rattle.work_queue.proofs.Pushes.{free_from_push}
 use Rattle.work_queue.proofs.Walks.{no_push, push_movable, push_walk}
-use Rattle.work_queue.specs.Inside.Index.{IsLeading, may_move, moves_first}
+use Rattle.work_queue.specs.inside.Index.{IsLeading, may_move, moves_first}
 use Rattle.work_queue.specs.Push.{IsFirstToPush, IsMovable, told}
 use Rattle.work_queue.specs.Queue.{IsSmall, Queue}
 use Rattle.work_queue.proofs.queues.WorkQueue.first_to_push.Goals as goal

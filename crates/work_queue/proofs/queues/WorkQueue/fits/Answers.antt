@@ -4,7 +4,7 @@ use Rattle.work_queue.proofs.Bridges.{fit_leads, leads_in, none_fits, stamp_know
 use Rattle.work_queue.proofs.FirstFits.{fit_is, fit_is_free, none_asked, some_asked}
 use Rattle.work_queue.proofs.Found.{as_long_as_order, leading_unit}
 use Rattle.work_queue.specs.Fits.{first_fit}
-use Rattle.work_queue.specs.Inside.Index.{IsLeading, came_first, may_serve}
+use Rattle.work_queue.specs.inside.Index.{IsLeading, came_first, may_serve}
 use Rattle.work_queue.specs.Queue.{id_of}
 use Rattle.work_queue.specs.declared.placing.Placed.{Placed}
 use Rattle.work_queue.proofs.queues.WorkQueue.fits.Goals as goal

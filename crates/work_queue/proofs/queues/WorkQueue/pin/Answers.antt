@@ -5,8 +5,8 @@ use Rattle.work_queue.proofs.Standing.{LeavesIndex, entry_is, entry_listed, free
 use Rattle.work_queue.proofs.Pinned.{sound_pinned, view_pinned}
 use Rattle.work_queue.specs.Facts.{facts_of}
 use Rattle.adlb_unit.specs.declared.names.UnitId.{UnitId}
-use Rattle.work_queue.specs.Inside.{queue_of}
-use Rattle.work_queue.specs.Inside.Units.{units_at}
+use Rattle.work_queue.specs.inside.{queue_of}
+use Rattle.work_queue.specs.inside.Units.{units_at}
 use Rattle.work_queue.specs.Queue.{HasFree, HasPinned, HasUnit, Queue, id_of, with_pin}
 use Rattle.work_queue.specs.declared.queues.WorkQueue.TheInside.{Inside}
 use Rattle.work_queue.proofs.queues.WorkQueue.pin.Goals as goal

@@ -4,8 +4,8 @@ use Rattle.std.proofs.lemmas.List.{length-append}
 use Rattle.std.proofs.lemmas.List.Sums.{sum_by_push}
 use Rattle.slab.specs.Slab.{HasRoomFor, slab_len}
 use Rattle.work_queue.specs.Queue.{HasNoPromise, HasNoUnit, Promise, Queue, promised}
-use Rattle.work_queue.specs.Inside.Names.{spare_in}
-use Rattle.work_queue.specs.Inside.Units.{units_at}
+use Rattle.work_queue.specs.inside.Names.{spare_in}
+use Rattle.work_queue.specs.inside.Units.{units_at}
 use Rattle.work_queue.proofs.Grown.{apart_more, once_more, sound_grown, sound_rooms}
 use Rattle.work_queue.proofs.queues.WorkQueue.promise.Goals as goal
 

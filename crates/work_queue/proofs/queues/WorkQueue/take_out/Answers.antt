@@ -4,8 +4,8 @@ use Rattle.work_queue.proofs.Standing.{ForgetsUnit, LosesName, entry_if_free, st
 use Rattle.work_queue.proofs.Taken.{size_within, sound_taken, view_taken}
 use Rattle.std.proofs.lemmas.Bool.{false≢true}
 use Rattle.adlb_unit.specs.declared.names.UnitId.{UnitId}
-use Rattle.work_queue.specs.Inside.{queue_of}
-use Rattle.work_queue.specs.Inside.Units.{units_at}
+use Rattle.work_queue.specs.inside.{queue_of}
+use Rattle.work_queue.specs.inside.Units.{units_at}
 use Rattle.work_queue.specs.Queue.{HasUnit, Queue, id_of, without}
 use Rattle.work_queue.specs.declared.queues.WorkQueue.TheInside.{Inside}
 use Rattle.work_queue.proofs.queues.WorkQueue.take_out.Goals as goal

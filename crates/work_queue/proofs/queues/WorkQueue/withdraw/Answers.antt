@@ -1,5 +1,5 @@
 use Rattle.std.proofs.Common.{refl, arith}
-use Rattle.work_queue.specs.Inside.Units.{units_at}
+use Rattle.work_queue.specs.inside.Units.{units_at}
 use Rattle.work_queue.proofs.Grown.{apart_left, once_left, sound_rooms}
 use Rattle.work_queue.proofs.queues.WorkQueue.withdraw.Goals as goal
 

@@ -7,7 +7,7 @@ use Rattle.flow_law.specs.declared.Definition.TheVariants.{Let, Rule}
 use Rattle.flow_law.specs.declared.Op.{Op}
 use Rattle.flow_app.specs.declared.links.Inputs.{Inputs}
 use Rattle.flow_app.specs.declared.stores.Store.{Store}
-use Rattle.flow_app.specs.Inside.Linked.{are_below, has, number_of}
+use Rattle.flow_app.specs.inside.Linked.{are_below, has, number_of}
 
 -- the value of a number
 abbrev pub value_at : List (Option ℕ) → ℕ → Option ℕ

@@ -1,7 +1,7 @@
 -- Rows as bytes.
 use Rattle.std.specs.Prelude.{ℕ, ◌+◌, ◌*◌, ◌^◌, ◌<◌, List, ◌∷◌, ◌++◌}
 use Rattle.packed_ledger.specs.declared.rows.Row.{Row}
-use Rattle.packed_ledger.specs.Inside.Numbers.{part, mark}
+use Rattle.packed_ledger.specs.inside.Numbers.{part, mark}
 
 -- which numbers of the row are not 0, the first in the lowest bit
 unfoldable pub marks : Row → ℕ

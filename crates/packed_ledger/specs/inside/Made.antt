@@ -11,7 +11,7 @@ use Rattle.adlb_unit.specs.declared.notes.End.TheVariants as ends
 use Rattle.bag_ledger.specs.declared.entries.Entry.{Entry}
 use Rattle.bag_ledger.specs.declared.entries.Entry.TheVariants as enters
 use Rattle.packed_ledger.specs.declared.rows.Row.{Row}
-use Rattle.packed_ledger.specs.Inside.Numbers.{signed}
+use Rattle.packed_ledger.specs.inside.Numbers.{signed}
 
 abbrev pub rank_at : ℕ → Rank
 rank_at n = record { 0 = n }

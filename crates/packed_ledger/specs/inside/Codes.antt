@@ -5,9 +5,9 @@ use Rattle.adlb_unit.specs.declared.names.WorkType.{WorkType}
 use Rattle.bag_ledger.specs.declared.entries.Entry.{Entry}
 use Rattle.bag_ledger.specs.declared.entries.Entry.TheVariants as enters
 use Rattle.packed_ledger.specs.declared.stamped.Stamped.{Stamped}
-use Rattle.packed_ledger.specs.Inside.Numbers.{groups}
-use Rattle.packed_ledger.specs.Inside.Rows.{row_before, RowFits}
-use Rattle.packed_ledger.specs.Inside.Told.{row_of}
+use Rattle.packed_ledger.specs.inside.Numbers.{groups}
+use Rattle.packed_ledger.specs.inside.Rows.{row_before, RowFits}
+use Rattle.packed_ledger.specs.inside.Told.{row_of}
 
 -- the types that it lists: the first 16, which are all
 abbrev pub listed : Option (List WorkType) → List WorkType

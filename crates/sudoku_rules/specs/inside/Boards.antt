@@ -5,7 +5,7 @@ use Rattle.sudoku_law.specs.Grid.{Cells, IsGrid, any_below, clash, conflict, sha
 use Rattle.sudoku_law.specs.Tree.{tree, walk}
 use Rattle.sudoku_rules.specs.declared.boards.Board.{Board}
 use Rattle.sudoku_rules.specs.declared.boards.Seen.{Seen}
-use Rattle.sudoku_rules.specs.Inside.Planes.{has}
+use Rattle.sudoku_rules.specs.inside.Planes.{has}
 
 -- the cell is one of the grid, and blank
 abbrev pub is_blank : Cells → ℕ → Bool

@@ -5,7 +5,7 @@ use Rattle.std.specs.Int.{bit_at}
 use Rattle.sudoku_law.specs.Grid.{Cells, IsGrid, row_of, column_of, box_of, side}
 use Rattle.sudoku_rules.specs.declared.marked.Marked.{Marked}
 use Rattle.sudoku_rules.specs.declared.marked.Marks.{Marks}
-use Rattle.sudoku_rules.specs.Inside.Masks.{AreMasks}
+use Rattle.sudoku_rules.specs.inside.Masks.{AreMasks}
 
 -- bit k of a row's mask is set exactly where its cell in column k is blank, for the first n columns
 pub record IsBlankRow (m : ℕ) (g : Cells) (row n mask : ℕ) : Type 0 where

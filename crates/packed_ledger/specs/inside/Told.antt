@@ -9,7 +9,7 @@ use Rattle.adlb_unit.specs.declared.notes.End.TheVariants as ends
 use Rattle.bag_ledger.specs.declared.entries.Entry.{Entry}
 use Rattle.bag_ledger.specs.declared.entries.Entry.TheVariants as enters
 use Rattle.packed_ledger.specs.declared.rows.Row.{Row}
-use Rattle.packed_ledger.specs.Inside.Numbers.{unsigned}
+use Rattle.packed_ledger.specs.inside.Numbers.{unsigned}
 
 abbrev pub small : ℕ → ℕ → ℕ → ℕ → ℕ → ℕ → Row
 small head first second third call number = record {

@@ -5,13 +5,13 @@ use Rattle.bag_ledger.specs.declared.entries.Entry.{Entry}
 use Rattle.bag_ledger.specs.declared.entries.Entry.TheVariants as of
 use Rattle.ledger_file.specs.declared.names.Name.{Name}
 use Rattle.ledger_file.specs.declared.names.Name.TheVariants as name
-use Rattle.ledger_file.specs.Inside.Names.{name_of}
+use Rattle.ledger_file.specs.inside.Names.{name_of}
 use Rattle.adlb_unit.specs.declared.names.Rank.{Rank}
 use Rattle.adlb_unit.specs.declared.names.Server.{Server}
 use Rattle.adlb_unit.specs.declared.names.WorkType.{WorkType}
-use Rattle.ledger_file.specs.Inside.Reading.{onward, next, value, whole, with_call, with_server, with_unit, rank_of, server_of, kind_of}
-use Rattle.ledger_file.specs.Inside.Reading.{unit_of, batch_of, length_in, number_in, pair_in, prio_in, target_in, answer_in, top_in}
-use Rattle.ledger_file.specs.Inside.Reading.{types_in, bytes_in, end_in}
+use Rattle.ledger_file.specs.inside.Reading.{onward, next, value, whole, with_call, with_server, with_unit, rank_of, server_of, kind_of}
+use Rattle.ledger_file.specs.inside.Reading.{unit_of, batch_of, length_in, number_in, pair_in, prio_in, target_in, answer_in, top_in}
+use Rattle.ledger_file.specs.inside.Reading.{types_in, bytes_in, end_in}
 
 -- the entries of names with fields of the same kinds: a call; a call and the wanted types; a server and an id; a server, whom it gives
 -- to, and an id
