@@ -6,9 +6,9 @@ use Rattle.sudoku_law.specs.Grid.{Cells}
 use Rattle.job_text.specs.declared.items.Item.{Item}
 use Rattle.job_text.specs.declared.jobs.Job.{Job}
 use Rattle.job_text.specs.declared.jobs.Job.TheVariants.{Puzzle, Batch}
-use Rattle.job_report.specs.inside.{batch_told, grids_at, is_over_at}
+use Rattle.job_report.specs.inside.{batch_head, batch_told, grids_at, is_over_at}
 use Rattle.job_report.specs.Jobs.{all_boards, all_items, all_solutions}
-use Rattle.job_report.specs.Report.{AreParts, IsPuzzlePart, IsReport, batch_head, batch_part, totals}
+use Rattle.job_report.specs.Report.{AreParts, IsPuzzlePart, IsReport, batch_part, totals}
 use Rattle.job_report.specs.Whole.{AreHeld, AreWhole, IsHeld, found, made_in, told_over}
 use Rattle.job_report.specs.declared.answers.Answers.{Answers}
 use Rattle.job_report.specs.declared.found.Found.{Found}

@@ -8,9 +8,9 @@ use Rattle.std.specs.Option.{unwrap_or}
 use Rattle.std.specs.Prelude.{if◌then◌else◌}
 use Rattle.job_text.specs.declared.items.Item.{Item}
 use Rattle.job_units.specs.Items.{answer_to}
-use Rattle.job_report.specs.Report.{item_line, item_lines}
+use Rattle.job_report.specs.Report.{item_lines}
 use Rattle.job_report.specs.Whole.{AreAnswered, answers_in, answers_of}
-use Rattle.job_report.specs.inside.{by_item, latest, lines_told, value_at}
+use Rattle.job_report.specs.inside.{by_item, latest, lines_told, value_at, item_line}
 use Rattle.job_report.specs.declared.answers.Answers.{Answers}
 use Rattle.job_report.specs.declared.outcomes.Outcome.{Outcome}
 

@@ -8,7 +8,8 @@ use Rattle.sudoku_rules.specs.Sides.{box_side, tree_of}
 use Rattle.job_text.specs.declared.jobs.Job.{Job}
 use Rattle.job_text.specs.declared.jobs.Job.TheVariants.{Puzzle, Batch}
 use Rattle.job_report.specs.Jobs.{all_boards, all_items, all_solutions}
-use Rattle.job_report.specs.Report.{AreParts, IsPuzzlePart, IsReport, batch_part, over_part, solutions_part, totals}
+use Rattle.job_report.specs.Report.{AreParts, IsPuzzlePart, IsReport, batch_part, solutions_part, totals}
+use Rattle.job_report.specs.inside.{over_part}
 
 -- a puzzle has one part
 pub puzzle_part_unique : (budget n : ℕ) (g : Cells) (one other : List ℕ) → IsPuzzlePart budget n g one → IsPuzzlePart budget n g other →

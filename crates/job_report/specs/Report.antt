@@ -24,40 +24,32 @@ abbrev pub grid_lines : List Cells → List ℕ
 grid_lines [] = []
 grid_lines (s ∷ rest) = line (text_of s) ++ grid_lines rest
 
--- the solutions of puzzle n, or that it is over
+-- the solutions of puzzle n
 abbrev pub solutions_part : ℕ → List Cells → List ℕ
 solutions_part n xs = counted (codes "puzzle " ++ decimal n ++ codes " solutions") (length xs) ++ grid_lines xs
-
-abbrev pub over_part : ℕ → List ℕ
-over_part n = line (codes "puzzle " ++ decimal n ++ codes " over")
 
 -- the part of puzzle n: all its solutions in text order, or that it is over if some node of its tree is
 abbrev pub IsPuzzlePart : ℕ → ℕ → Cells → List ℕ → Type 0
 IsPuzzlePart budget n g part =
-    MatchBool (is_over (tree_of budget g)) (part ≡ over_part n)
+    MatchBool (is_over (tree_of budget g)) (part ≡ line (codes "puzzle " ++ decimal n ++ codes " over"))
     ((xs : List Cells) × IsSolutionList (box_side g) g xs × (part ≡ solutions_part n xs))
 
--- the first line of batch n: how many bytes and items it has
-abbrev pub batch_head : ℕ → ℕ → ℕ → List ℕ
-batch_head n bytes items = counted (codes "batch " ++ decimal n ++ codes " bytes " ++ decimal bytes ++ codes " items") items
-
--- an item as it was asked, and its line
+-- an item as it was asked
 abbrev pub item_text : Item → List ℕ
 item_text (Count lo hi) = codes "count " ++ decimal lo ++ codes " " ++ decimal hi
 item_text Sum = codes "sum"
 item_text Max = codes "max"
 
-abbrev pub item_line : Item → ℕ → List ℕ
-item_line item answer = counted (item_text item ++ codes " =") answer
-
 -- a line for each item, with the answer to it
 abbrev pub item_lines : List ℕ → List Item → List ℕ
 item_lines common [] = []
-item_lines common (item ∷ items) = item_line item (answer_to item common) ++ item_lines common items
+item_lines common (item ∷ items) = counted (item_text item ++ codes " =") (answer_to item common) ++ item_lines common items
 
--- the part of batch n
+-- the part of batch n: how many bytes and items it has, and a line for each item
 abbrev pub batch_part : ℕ → List ℕ → List Item → List ℕ
-batch_part n common items = batch_head n (length common) (length items) ++ item_lines common items
+batch_part n common items =
+    counted (codes "batch " ++ decimal n ++ codes " bytes " ++ decimal (length common) ++ codes " items") (length items)
+    ++ item_lines common items
 
 -- the parts of the jobs in input order, one after the other, where the next puzzle has the number p and the next batch the
 -- number b

@@ -1,17 +1,27 @@
 -- For the crate itself. What was looked up, and the lines with it.
-use Rattle.std.specs.Prelude.{ℕ, ◌+◌, ◌<◌, ◌≤◌, ◌^◌, Bool, List, [], ◌∷◌, ◌++◌, length, if◌then◌else◌}
+use Rattle.std.specs.Prelude.{ℕ, ◌+◌, ◌<◌, ◌≤◌, ◌^◌, Bool, List, [], ◌∷◌, ◌++◌, length, codes, decimal, if◌then◌else◌}
 use Rattle.std.specs.declared.cmp.Ordering.{Ordering}
 use Rattle.std.specs.BTreeMap.{get}
 use Rattle.std.specs.BTreeSet.{contains}
 use Rattle.std.specs.Option.{unwrap_or}
 use Rattle.std.specs.Ordering.{nat_cmp, ordering_then}
 use Rattle.job_text.specs.declared.items.Item.{Item}
-use Rattle.job_report.specs.Report.{batch_head, item_line}
+use Rattle.job_report.specs.Report.{counted, item_text, line}
 use Rattle.job_report.specs.Whole.{found_in}
 use Rattle.job_report.specs.declared.answers.Answers.{Answers}
 use Rattle.job_report.specs.declared.found.Found.{Found}
 use Rattle.job_report.specs.declared.summaries.Counts.{Counts}
 use Rattle.sudoku_law.specs.Grid.{Cells}
+
+-- that puzzle n is over; the first line of batch n: how many bytes and items it has; and the line of an item
+abbrev pub over_part : ℕ → List ℕ
+over_part n = line (codes "puzzle " ++ decimal n ++ codes " over")
+
+abbrev pub batch_head : ℕ → ℕ → ℕ → List ℕ
+batch_head n bytes items = counted (codes "batch " ++ decimal n ++ codes " bytes " ++ decimal bytes ++ codes " items") items
+
+abbrev pub item_line : Item → ℕ → List ℕ
+item_line item answer = counted (item_text item ++ codes " =") answer
 
 -- the solutions of puzzle n as they are told, and whether it is told to be over
 abbrev pub grids_at : Found → ℕ → List Cells

@@ -1,8 +1,7 @@
 //! The part of a batch.
 
 ghost use Rattle.std.specs.Prelude.{◌≡◌, ◌++◌, ◌≤◌, ◌^◌, length, OnOk};
-ghost use Rattle.job_report.specs.Report.{batch_head, item_line as line_of_item};
-ghost use Rattle.job_report.specs.inside.{batch_told, lines_told};
+ghost use Rattle.job_report.specs.inside.{batch_head, batch_told, item_line as line_of_item, lines_told};
 
 use crate::answers::Answers;
 use crate::texts::{append, append_count, append_number};

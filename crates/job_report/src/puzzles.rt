@@ -2,8 +2,8 @@
 
 ghost use Rattle.std.specs.Prelude.{◌≡◌, ◌++◌, ℕ, List, length, OnOk};
 ghost use Rattle.sudoku_law.specs.Grid.{Cells};
-ghost use Rattle.job_report.specs.inside.{grids_at, is_over_at};
-ghost use Rattle.job_report.specs.Report.{IsPuzzlePart, grid_lines, over_part, solutions_part};
+ghost use Rattle.job_report.specs.inside.{grids_at, is_over_at, over_part};
+ghost use Rattle.job_report.specs.Report.{IsPuzzlePart, grid_lines, solutions_part};
 ghost use Rattle.job_report.specs.Whole.{IsHeld, found as found_of, told_over};
 ghost use Rattle.job_report.specs.declared.outcomes.Outcome.{Outcome};
 

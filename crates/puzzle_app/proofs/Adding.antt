@@ -19,9 +19,10 @@ use Rattle.job_units.specs.declared.units.Made.TheVariants as made
 use Rattle.job_units.specs.Puts.{put_of}
 use Rattle.job_units.specs.Reading.{common_bytes, fetched as unit_fetched}
 use Rattle.puzzle_app.specs.Arrivals.{Arrival, arrival, bytes_on, makes}
-use Rattle.puzzle_app.specs.Books.{Books, Goes, Moves, going, holding, shut, received, brought, in_batch, without_batch, over_bytes}
+use Rattle.puzzle_app.specs.Books.{Books, Goes, Moves, going, holding, shut, received, brought, without_batch, over_bytes}
+use Rattle.puzzle_app.specs.Working.{in_batch, all_made, tasks_of}
 use Rattle.puzzle_app.specs.Books.{said_of}
-use Rattle.puzzle_app.specs.Follows.{all_made, start_of, tasks_of}
+use Rattle.puzzle_app.specs.Follows.{start_of}
 use Rattle.puzzle_app.specs.Tasks.{Task, Put, Begin, End, all_units, as_units, put_all}
 use Rattle.puzzle_app.specs.Transcripts.{all_come, all_refused, batches_after, batches_in, calls_of, came_calls, comes, note_of, put_call}
 use Rattle.puzzle_app.specs.Transcripts.{puts, refused, units_in}

@@ -21,7 +21,8 @@ use Rattle.job_units.specs.Reading.{common_bytes, fetched as unit_fetched}
 use Rattle.rank_client.specs.Calls.{end_of, end_told, goes_on, has_finished, is_finish, is_open, open_after}
 use Rattle.puzzle_app.specs.Arrivals.{Arrival, arrival, bytes_on}
 use Rattle.puzzle_app.specs.Books.{Books, Goes, Moves, accepted, rejected, stopped, begun, refused as refused_by, stopped_before, closed}
-use Rattle.puzzle_app.specs.Books.{closed_behind, granted, told, fetched, going, holding, shut, received, brought, in_batch, without_batch}
+use Rattle.puzzle_app.specs.Working.{in_batch}
+use Rattle.puzzle_app.specs.Books.{closed_behind, granted, told, fetched, going, holding, shut, received, brought, without_batch}
 use Rattle.puzzle_app.specs.Books.{said_of}
 use Rattle.puzzle_app.specs.Follows.{IsSoFar, start_of}
 use Rattle.puzzle_app.specs.Tasks.{Task, Put, Begin, End, as_units, put_all}

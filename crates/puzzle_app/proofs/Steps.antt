@@ -24,9 +24,9 @@ use Rattle.puzzle_app.specs.Books.{granted, told, going, holding, shut, received
 use Rattle.puzzle_app.specs.Calls.{answer_of, grant}
 use Rattle.puzzle_app.specs.declared.calls.Reply.{Reply}
 use Rattle.puzzle_app.specs.Desk.{Answers, Brings, HasRoom, Receives, answers_to}
-use Rattle.puzzle_app.specs.Follows.{Follows, IsSoFar, all_made, start_of, tasks_of}
+use Rattle.puzzle_app.specs.Follows.{Follows, IsSoFar, start_of}
 use Rattle.puzzle_app.specs.Tasks.{Task, Put, Begin, End, all_units, as_units, jobs_from, put_all, tasks, tasks_from}
-use Rattle.puzzle_app.specs.Working.{HasPut, IsGoing, IsStopped, IsTally, Passes}
+use Rattle.puzzle_app.specs.Working.{all_made, HasPut, IsGoing, IsStopped, IsTally, Passes, tasks_of}
 use Rattle.puzzle_app.specs.declared.desk.Desk.{Desk}
 use Rattle.puzzle_app.specs.declared.program.PuzzleProgram.{PuzzleProgram}
 use Rattle.puzzle_app.proofs.Fetching.{fetch_moves}

@@ -20,9 +20,9 @@ use Rattle.job_units.proofs.Counts.{no_jobs_by}
 use Rattle.puzzle_app.specs.Arrivals.{Arrival, answer_in, answers_in, is_over_at, makes, makes_of, over_in, solution_in, solutions_in}
 use Rattle.puzzle_app.specs.Books.{over_bytes}
 use Rattle.puzzle_app.specs.Desk.{Answers, Receives, answers_to, overs_with}
-use Rattle.puzzle_app.specs.Follows.{AreOvers, all_made, tasks_of}
+use Rattle.puzzle_app.specs.Follows.{AreOvers}
 use Rattle.puzzle_app.specs.Tasks.{all_units, as_units, jobs_from, tasks_from}
-use Rattle.puzzle_app.specs.Working.{IsTally}
+use Rattle.puzzle_app.specs.Working.{all_made, IsTally, tasks_of}
 use Rattle.puzzle_app.specs.declared.desk.Desk.{Desk}
 use Rattle.puzzle_app.specs.declared.program.PuzzleProgram.{PuzzleProgram}
 

@@ -1,6 +1,7 @@
 -- What comes to a rank, and what its work makes.
 use Rattle.std.specs.Prelude.{ℕ, ◌==◌, ◌&&◌, Bool, false, List, [], ◌∷◌, Option, Some, None}
 use Rattle.std.specs.List.{flat_map}
+use Rattle.std.specs.Option.{unwrap_or}
 use Rattle.sudoku_law.specs.Grid.{Cells}
 use Rattle.job_units.specs.declared.units.Made.{Made}
 use Rattle.job_units.specs.declared.units.Made.TheVariants as made
@@ -22,8 +23,7 @@ arrival common unit = record { unit = unit; common = common_for unit common }
 
 -- the common bytes of a batch, if one is going on
 abbrev pub bytes_on : Option (List ℕ) → List ℕ
-bytes_on None = []
-bytes_on (Some common) = common
+bytes_on on = unwrap_or on []
 
 -- what the work on a unit makes: on a board its boards and solutions, on a job its answer; the others stay with the rank
 abbrev pub makes_of : ℕ → List ℕ → Made → List Made

@@ -53,10 +53,6 @@ abbrev pub brought : ℕ → List ℕ → Option Made → List Arrival → Books
 brought grain common None came = going [] None came
 brought grain common (Some unit) came = received grain (arrival common unit) [] None came
 
--- a batch is going on: its jobs are put, and it is ended
-abbrev pub in_batch : List ℕ → List Job → List Task → List Arrival → Books
-in_batch common jobs tasks came = going (put_all (as_units jobs) ++ End ∷ tasks) (Some common) came
-
 -- no server takes the batch: its jobs come to the rank
 abbrev pub over_bytes : List ℕ → List Job → List Arrival
 over_bytes common jobs = map (arrival common) (as_units jobs)
@@ -80,10 +76,10 @@ pub data Moves (grain : ℕ) (b : Books) (s : Said) (next : Books) : Type 0 wher
   -- it is told an end at the put
   stopped : (unit : Made) (rest : List Task) (on : Option (List ℕ)) (came : List Arrival) (end : told_end.End) →
       b ≡ going (Put unit ∷ rest) on came → s ≡ said_of (put_of unit) (Ended end) → next ≡ shut rest on came → Moves grain b s next
-  -- it begins a batch, and a server keeps the common bytes
+  -- it begins a batch, and a server keeps the common bytes: its jobs are put, and it is ended
   begun : (common : List ℕ) (jobs : List Job) (rest : List Task) (came : List Arrival) →
-      b ≡ going (Begin common jobs ∷ rest) None came → s ≡ said_of (BeginBatch common) Fine → next ≡ in_batch common jobs rest came →
-      Moves grain b s next
+      b ≡ going (Begin common jobs ∷ rest) None came → s ≡ said_of (BeginBatch common) Fine →
+      next ≡ going (put_all (as_units jobs) ++ End ∷ rest) (Some common) came → Moves grain b s next
   -- no server keeps them
   refused : (common : List ℕ) (jobs : List Job) (rest : List Task) (came : List Arrival) →
       b ≡ going (Begin common jobs ∷ rest) None came → s ≡ said_of (BeginBatch common) Rejected →

@@ -12,16 +12,9 @@ use Rattle.puzzle_app.specs.Books.{Books, Goes, going, said_of, shut}
 use Rattle.puzzle_app.specs.Tasks.{Task, all_units, tasks}
 use Rattle.puzzle_app.specs.declared.program.PuzzleProgram.{PuzzleProgram}
 
--- what a program is to do, and its books at the start
-abbrev pub tasks_of : PuzzleProgram → List Task
-tasks_of p = tasks p.settings.budget p.jobs
-
+-- the books of a program at the start: it is to do the tasks of its jobs
 abbrev pub start_of : PuzzleProgram → Books
-start_of p = going (tasks_of p) None []
-
--- all that a program makes, put or not, if these units come to it
-abbrev pub all_made : PuzzleProgram → List Arrival → List Made
-all_made p came = all_units (tasks_of p) ++ flat_map (makes p.settings.grain) came
+start_of p = going (tasks p.settings.budget p.jobs) None []
 
 -- the numbers are those of the puzzles of which a worked board met an over node, each once
 pub record AreOvers (grain : ℕ) (came : List Arrival) (overs : List ℕ) : Type 0 where
@@ -47,5 +40,5 @@ pub record Follows (p : PuzzleProgram) (said : List Said) (outcome : Outcome) : 
   pub overs : AreOvers p.settings.grain came outcome.overs.items
   pub solutions : outcome.solutions.items ≡ solutions_in came
   pub answers : outcome.answers.items ≡ answers_in came
-  pub made : outcome.made ≡ counts (all_made p came)
+  pub made : outcome.made ≡ counts (all_units (tasks p.settings.budget p.jobs) ++ flat_map (makes p.settings.grain) came)
   pub few : (k : ℕ) → slice_index outcome.made k < 2 ^ 113

@@ -1,23 +1,38 @@
 -- A rank while it works: its calls so far and its desk agree.
 use Rattle.std.specs.Prelude.{◌≡◌, ℕ, ◌+◌, ◌*◌, ◌^◌, ◌≤◌, ◌<◌, Bool, List, [], ◌∷◌, ◌++◌, length, count_by, Option, Some, None, Result, Err}
 use Rattle.std.specs.Prelude.{MatchBool, IfOk, OnOk}
+use Rattle.std.specs.List.{flat_map}
 use Rattle.adlb_unit.specs.declared.notes.Trouble.{Trouble}
 use Rattle.adlb_unit.specs.declared.notes.Trouble.TheVariants.{TooLong}
 use Rattle.bag_ledger.specs.declared.entries.Said.{Said}
 use Rattle.job_text.specs.declared.items.Item.{Item}
 use Rattle.job_text.specs.declared.jobs.Job.{Job}
 use Rattle.job_text.specs.declared.jobs.Job.TheVariants.{Puzzle, Batch}
+use Rattle.job_units.specs.declared.jobs.Job as units
+use Rattle.job_units.specs.declared.units.Made.{Made}
 use Rattle.job_units.specs.Puts.{is_kind}
 use Rattle.job_units.specs.Works.{child_of}
-use Rattle.puzzle_app.specs.Arrivals.{Arrival, answers_in, bytes_on, solutions_in}
-use Rattle.puzzle_app.specs.Books.{Goes, going, shut}
-use Rattle.puzzle_app.specs.Follows.{AreOvers, IsUnderWay, all_made, start_of}
-use Rattle.puzzle_app.specs.Tasks.{Task, Put, Begin, as_units, jobs_from, put_all}
+use Rattle.puzzle_app.specs.Arrivals.{Arrival, answers_in, bytes_on, makes, solutions_in}
+use Rattle.puzzle_app.specs.Books.{Books, Goes, going, shut}
+use Rattle.puzzle_app.specs.Follows.{AreOvers, IsUnderWay, start_of}
+use Rattle.puzzle_app.specs.Tasks.{Task, Put, Begin, End, all_units, as_units, jobs_from, put_all, tasks}
 use Rattle.puzzle_app.specs.declared.desk.Desk.{Desk}
 use Rattle.puzzle_app.specs.declared.places.Place.{Place}
 use Rattle.puzzle_app.specs.declared.program.PuzzleProgram.{PuzzleProgram}
 use Rattle.rank_client.specs.Calls.{unanswered}
 use Rattle.rank_client.specs.Link.{LinkModel}
+
+-- what a program is to do
+abbrev pub tasks_of : PuzzleProgram → List Task
+tasks_of p = tasks p.settings.budget p.jobs
+
+-- all that a program makes, put or not, if these units come to it
+abbrev pub all_made : PuzzleProgram → List Arrival → List Made
+all_made p came = all_units (tasks_of p) ++ flat_map (makes p.settings.grain) came
+
+-- a batch is going on: its jobs are put, and it is ended
+abbrev pub in_batch : List ℕ → List units.Job → List Task → List Arrival → Books
+in_batch common jobs tasks came = going (put_all (as_units jobs) ++ End ∷ tasks) (Some common) came
 
 -- the items of a batch as jobs that are put
 abbrev pub job_tasks : ℕ → List Item → List Task

@@ -1,8 +1,8 @@
 //! The puzzle program of a rank.
 
 ghost use Rattle.std.specs.Prelude.{◌≡◌, [], ℕ, List, Option, None, false, IfOk, OnOk};
-ghost use Rattle.puzzle_app.specs.Follows.{Follows, IsUnderWay, tasks_of};
-ghost use Rattle.puzzle_app.specs.Working.{HasPut, IsGoing, IsOnWay, IsReady, IsStopped, Keeps, Passes};
+ghost use Rattle.puzzle_app.specs.Follows.{Follows, IsUnderWay};
+ghost use Rattle.puzzle_app.specs.Working.{HasPut, IsGoing, IsOnWay, IsReady, IsStopped, Keeps, Passes, tasks_of};
 
 use crate::calls::{Taken, take};
 use crate::desk::Desk;

@@ -21,7 +21,8 @@ use Rattle.job_units.specs.Puts.{counts, is_kind}
 use Rattle.job_units.specs.declared.units.Made.{Made}
 use Rattle.puzzle_app.specs.Arrivals.{Arrival, answers_in, arrival, bytes_on, is_over_at, makes, solutions_in}
 use Rattle.puzzle_app.specs.Books.{Goes, going, shut}
-use Rattle.puzzle_app.specs.Follows.{AreOvers, tasks_of as tasks_in}
+use Rattle.puzzle_app.specs.Follows.{AreOvers}
+use Rattle.puzzle_app.specs.Working.{tasks_of as tasks_in}
 use Rattle.puzzle_app.specs.Tasks.{Task, Put, Begin, End, all_units, as_units, tasks, tasks_from, units_of}
 use Rattle.puzzle_app.specs.declared.outcomes.Settings.{Settings}
 use Rattle.puzzle_app.specs.declared.program.PuzzleProgram.{PuzzleProgram}

@@ -2,7 +2,8 @@
 use Rattle.std.proofs.Common.{◌≡◌, Bool, true, false, Option, Some, None, IsSome, IfSome, refl, sym, ◌∙◌, subst}
 use Rattle.adlb_unit.specs.declared.configs.Config.{Config}
 use Rattle.run_command.specs.Ends.{Scene, StartsNone}
-use Rattle.run_command.specs.Kept.{HasStarted, IsRunWith, Kept}
+use Rattle.run_command.specs.Kept.{IsRunWith, Kept}
+use Rattle.run_command.specs.inside.{HasStarted}
 
 module _ {O : Type 0} (config : Config) (before after : Scene) where
   started_as : (kept : Option (Kept O)) → IfSome kept (λ k. k.report.config ≡ config) → IfSome kept (λ k. k.threaded ≡ true) →

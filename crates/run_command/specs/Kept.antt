@@ -55,13 +55,11 @@ pub record IsKept {A P O : Type 0} (are_programs : ℕ → A → List P → Type
   pub worked_up : IsWorkedUp k.report
   pub left : k.report.left ≡ []
 
--- a thread for each rank and for each server was started, or the count stands at its last value
-abbrev pub HasStarted : Config → ℕ → ℕ → Type 0
-HasStarted config before now = RisesBy (config.ranks + config.servers) before now
-
 -- a run in line or with threads: what it keeps has such numbers. With threads, what is kept is of a run in threads, which is one run of
--- all actors (`Kept::one_run`). A thread for each rank and for each server was started. A run in line leaves the spawner alone.
+-- all actors (`Kept::one_run`). A thread for each rank and for each server was started, or the count stands at its last value. A run in
+-- line leaves the spawner alone.
 pub record IsRunWith {O : Type 0} (IsOf : Config → Type 0) (inline : Bool) (before after : Scene) (kept : Option (Kept O)) : Type 0 where
   pub numbers : IfSome kept (λ k. IsOf k.report.config)
-  pub threaded : inline ≡ false → IfSome kept (λ k. (k.threaded ≡ true) × HasStarted k.report.config before.started after.started)
+  pub threaded : inline ≡ false →
+      IfSome kept (λ k. (k.threaded ≡ true) × RisesBy (k.report.config.ranks + k.report.config.servers) before.started after.started)
   pub untouched : inline ≡ true → StartsNone before after

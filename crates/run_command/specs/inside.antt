@@ -8,6 +8,7 @@ use Rattle.adlb_io.specs.declared.sinks.SinkFault.{SinkFault}
 use Rattle.adlb_io.specs.declared.sinks.SinkFault.TheVariants as sinks
 use Rattle.adlb_io.specs.declared.whole.Unwritten.{Unwritten}
 use Rattle.adlb_threads.specs.Reports.{Reported}
+use Rattle.adlb_threads.specs.Runs.{RisesBy}
 use Rattle.adlb_threads.specs.declared.faults.RanFault.{RanFault}
 use Rattle.adlb_threads.specs.declared.faults.RanFault.TheVariants as runs
 use Rattle.adlb_unit.specs.declared.configs.Config.{Config}
@@ -20,6 +21,10 @@ use Rattle.server_core.specs.declared.states.LeftUnit.{LeftUnit}
 use Rattle.run_command.specs.Ends.{HasAsked, IsRefusedAt, input_limit}
 use Rattle.run_command.specs.declared.faults.Fault.{Fault}
 use Rattle.run_command.specs.declared.faults.Fault.TheVariants.{Input, Read, Write, NoThread, Memory, TooLong, TooLarge}
+
+-- a thread for each rank and for each server was started, or the count stands at its last value
+abbrev pub HasStarted : Config → ℕ → ℕ → Type 0
+HasStarted config before now = RisesBy (config.ranks + config.servers) before now
 
 -- Why there was no answer.
 

@@ -5,8 +5,8 @@ ghost use Rattle.adlb_io.specs.Inputs.{IsAtEnd};
 ghost use Rattle.adlb_io.specs.Outside.{Rises};
 ghost use Rattle.adlb_threads.specs.Runs.{IsFaultOf};
 ghost use Rattle.run_command.specs.Ends.{EndsBy, IsAnswered, scene};
-ghost use Rattle.run_command.specs.inside.{Stops};
-ghost use Rattle.run_command.specs.Kept.{HasRun, HasStarted, IsKept};
+ghost use Rattle.run_command.specs.inside.{HasStarted, Stops};
+ghost use Rattle.run_command.specs.Kept.{HasRun, IsKept};
 
 use crate::answers::{Answer, answer_of};
 use crate::commands::Command;

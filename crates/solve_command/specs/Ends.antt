@@ -1,23 +1,26 @@
 -- How `solve` and `drill` end.
-use Rattle.std.specs.Prelude.{ℕ, Bool, List, Option, Some}
+use Rattle.std.specs.Prelude.{◌≡◌, ℕ, Bool, List, Option, Some}
 use Rattle.adlb_threads.specs.Reports.{Reported}
 use Rattle.adlb_unit.specs.declared.configs.Config.{Config}
 use Rattle.job_report.specs.declared.outcomes.Outcome.{Outcome}
 use Rattle.job_text.specs.declared.faults.LineWhy.{LineWhy}
 use Rattle.job_text.specs.declared.jobs.Job.{Job}
+use Rattle.job_text.specs.Jobs.{input_refused}
 use Rattle.made_jobs.specs.Made.{made_text}
 use Rattle.puzzle_app.specs.declared.outcomes.Settings.{Settings}
+use Rattle.puzzle_app.specs.Follows.{Follows}
 use Rattle.run_command.specs.Ends.{EndsBy, ReadsNothing, Scene, scene}
 use Rattle.run_command.specs.Kept.{IsKept, IsRunWith, Kept}
 use Rattle.run_command.specs.declared.faults.Fault.{Fault}
-use Rattle.solve_command.specs.Puzzles.{AreJobs, ArePrograms, FollowsPuzzles, RefusesLine}
+use Rattle.solve_command.specs.Puzzles.{AreJobs, ArePrograms}
 use Rattle.solve_command.specs.Told.{IsReported, IsSummed}
 
 -- the ends of a run over puzzles and batches with these settings, of which this is told
 abbrev pub EndsWith : Settings → (List Job → Reported Outcome → List ℕ → Type 0) → Scene → Scene → Option (Fault LineWhy) →
     Option (Kept Outcome) → Type 0
 EndsWith settings tells before after fault kept =
-    EndsBy AreJobs RefusesLine (IsKept (λ ranks. ArePrograms settings) FollowsPuzzles) (λ jobs k told. tells jobs k.report told)
+    EndsBy AreJobs (λ bytes line why. input_refused bytes ≡ Some (line, why))
+    (IsKept (λ ranks. ArePrograms settings) (λ program rank. Follows program)) (λ jobs k told. tells jobs k.report told)
     before after fault kept
 
 -- the ends of `solve`: the report is told, and after it this tail; what is kept has such numbers

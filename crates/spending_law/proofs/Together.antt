@@ -21,7 +21,8 @@ use Rattle.job_text.specs.declared.jobs.Job.{Job}
 use Rattle.job_units.specs.Puts.{put_of}
 use Rattle.job_units.specs.declared.units.Made.{Made}
 use Rattle.puzzle_app.specs.Books.{Books, Goes, going}
-use Rattle.puzzle_app.specs.Follows.{IsSoFar, start_of, tasks_of}
+use Rattle.puzzle_app.specs.Follows.{IsSoFar, start_of}
+use Rattle.puzzle_app.specs.Working.{tasks_of}
 use Rattle.puzzle_app.specs.Tasks.{Task, tasks}
 use Rattle.puzzle_app.specs.declared.outcomes.Settings.{Settings}
 use Rattle.puzzle_app.specs.declared.program.PuzzleProgram.{PuzzleProgram}
