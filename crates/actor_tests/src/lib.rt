@@ -5,14 +5,24 @@
 #![tactic(auto)]
 
 #[cfg(test)]
+mod asking;
+#[cfg(test)]
 mod driven;
 #[cfg(test)]
+mod ending;
+#[cfg(test)]
 mod handled;
+#[cfg(test)]
+mod keeping;
+#[cfg(test)]
+mod moving;
 #[cfg(test)]
 mod parts;
 #[cfg(test)]
 mod pushes;
 #[cfg(test)]
 mod queue;
+#[cfg(test)]
+mod serving;
 #[cfg(test)]
 mod waits;

@@ -28,13 +28,14 @@ use made_law::made_is_accepted;
 ///
 /// It ends in the same ways whether or not its progress is to be said (`told`, `drill_told`).
 ///
-/// What follows of a source that tells its bytes, if no read failed. `solve`: an accepted input is answered, if no write failed and no
-/// start was refused either (`complete`), a refused one is refused at its first such line (`refused`), and one that is too long is told as
-/// such (`overlong`), unless memory fails; besides, only the stamps can end.
-/// `check`: a text of a ledger is told (`checked`), any other input is refused at its first line that is not what is due (`bad`), and one
-/// that is too long is told as such (`long`), unless memory fails; and so of `draw` (`drawn`, `undrawn`, `longer`). `make`: if no write failed, the whole text was written, unless memory
-/// fails (`made`). `drill`: if no write failed and no start was refused, the summary was written, but for the ends that `complete` leaves
-/// (`drilled`).
+/// What follows of a source that tells its bytes, if no read failed. `solve`: an accepted input is answered, if no
+/// write failed and no start was refused either (`complete`). A refused one is refused at its first such line
+/// (`refused`), and one that is too long is told as such (`overlong`). In each case memory may fail, and in the first
+/// the stamps may end. `check`: a text of a ledger is told (`checked`), and any other input is refused at its first
+/// line that is not what is due (`bad`). One that is too long is told as such (`long`). In each case memory may fail.
+/// So it is of `draw` (`drawn`, `undrawn`, `longer`). `make`: if no write failed, the whole text was written, unless
+/// memory fails (`made`). `drill`: if no write failed and no start was refused, the summary was written, but for the
+/// ends that `complete` leaves (`drilled`).
 pub fn end_laws()
     ensures usage { (said : Option Command) (before after : Scene) (kept : Option AnyKept) →
         EndsAs said before after (Some RunFault.Usage) kept → said ≡ None }

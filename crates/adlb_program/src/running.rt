@@ -15,9 +15,9 @@ use std::env::Env;
 use std::sync::Wait;
 use std::time::Clock;
 
-/// Carries out the command that the words of the command line say (`run_adlb`), complains on standard error of the fault, if there is
-/// one, and answers the exit status, which is that of a fault or of none. If the words ask for that, it says on standard error how far
-/// the run is, each second while it goes on.
+/// Carries out the command that the words of the command line say (`run_adlb`). If there is a fault it complains of it
+/// on standard error. It answers the exit status, which is that of the fault or of none. If the words ask for that, it
+/// says on standard error how far the run is, each second while it goes on.
 pub fn run_program<R, S, K, T>(rt: &R, input: &mut S, output: &mut K, threads: &mut T) -> u8
 where
     R: Env + AllocGlobal + Eprint + Clock + Wait + Send + Copy + 'static,

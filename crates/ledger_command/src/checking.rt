@@ -20,8 +20,8 @@ use ledger_rules::Complaint;
 use std::alloc::Global;
 
 /// Reads the input, which is to be the text of a configuration and a ledger, and writes a line of it. That has `legal`
-/// and the number of its entries if it is a legal run, and otherwise `illegal` and the place of the first entry that is
-/// no step, from 0. It takes at most 2^26 + 1 bytes of the input.
+/// and the number of its entries if it is a legal run. Otherwise it has `illegal` and the place of the first entry that
+/// is no step, from 0. It takes at most 2^26 + 1 bytes of the input.
 ///
 /// `ChecksTo` says of each end what was read and written and why it came. `Ok`: the input was read to its end, and the
 /// sink took exactly the line of the verdict, and flushed. `Entry`: no configuration and ledger have this text

@@ -37,8 +37,8 @@ use Does::{
     Across, Down, Fetches, Finishes, Puts, PutsLong, Reserves, ReservesOf, SetsDone, Tries, Up,
 };
 
-// What happens in a run with these numbers of ranks and servers, the ledger that it leaves, each entry as `row` has it, and how many
-// letters are under way at its end.
+// What happens in a run with these numbers of ranks and servers, and the ledger that it leaves, each entry as `row` has
+// it. The number says how many letters are under way at its end.
 struct Scene {
     ranks: u32,
     servers: u32,

@@ -1,10 +1,11 @@
 //! Ranks and servers in threads, by example, and journals and their merge.
 //!
-//! It holds tests alone, of `rank_mail`, `actor_desk`, `thread_client`, `thread_server` and `adlb_threads`. They show that letters
-//! arrive in order, what a desk enters and sends, what a rank's calls are told if its server said this or that beforehand, what a
-//! rank's thread leaves, how a server ends that hears what it does not expect, and runs that end well and runs that do not. Of
-//! `merge_history`, what a client and a server that are stepped by hand keep merges to a legal ledger. What many actors keep of
-//! events of pseudo-random numbers and stamps merges to what a sort makes of it.
+//! It holds tests alone, of `rank_mail`, `actor_desk`, `thread_client`, `thread_server` and `adlb_threads`. They show
+//! that letters arrive in order, and what a desk enters and sends. A rank's calls are told what its server said
+//! beforehand, and its thread leaves what they came to. A server that hears what it does not expect ends. Whole runs
+//! end well, or with what went wrong. Of `merge_history`, what a client and a server that are stepped by hand keep
+//! merges to a legal ledger. What many actors keep of events of pseudo-random numbers and stamps merges to what a sort
+//! makes of it.
 #![tactic(auto)]
 
 #[cfg(test)]

@@ -31,8 +31,8 @@ fn tells(alloc: Global, bytes: Vec<u8>, wanted: Told, line: &str) -> Result<bool
     Ok(told == wanted && output.taken() == line.as_bytes())
 }
 
-// The check of the legal ledger answers and writes this, with a source and a sink that move at most 50 and 4 bytes at a time, of
-// which the calls of the numbers `read` and `write` fail.
+// The check of the legal ledger answers and writes this. The source and the sink move at most 50 and 4 bytes at a time,
+// and their calls of the numbers `read` and `write` fail.
 fn tells_failing(
     alloc: Global,
     (read, write): (u64, u64),

@@ -1,10 +1,10 @@
 //! Units, letters, bytes, threads, words, and ledgers as text, checked and counted, by example.
 //!
 //! It holds tests alone, of `adlb_unit`, `adlb_io`, `bag_ledger`, `command_words`, `ledger_file`, `ledger_rules`,
-//! `ledger_command`, `ledger_stats` and `draw_command`. They show which numbers and targets are taken, what is permitted, that what is
-//! heavy has a twin, how bytes are read and written and threads started, which words are accepted, which lines of a text
-//! are refused, what is said of each rule that an entry breaks, and how a check and a
-//! drawing of a ledger end.
+//! `ledger_command`, `ledger_stats` and `draw_command`. They show which numbers and targets are taken, what is
+//! permitted, and that what is heavy has a twin. Bytes are read and written, and threads are started. Words are
+//! accepted or not, lines of a text are refused, and of each rule that an entry breaks something is said. A check and a
+//! drawing of a ledger end in each way.
 #![tactic(auto)]
 
 #[cfg(test)]
