@@ -29,7 +29,7 @@ use Rattle.puzzle_app.specs.declared.program.PuzzleProgram.{PuzzleProgram}
 use Rattle.puzzle_law.specs.Joined.{IsPuzzleRun, IsRankRun, jobs_of}
 use Rattle.puzzle_law.proofs.Pieces.{Test, all_by, waits}
 use Rattle.puzzle_law.proofs.Sums.{one_if}
-use Rattle.puzzle_law.proofs.Workers.{goes_by, is_work, tasks_of, works}
+use Rattle.puzzle_law.proofs.Workers.{goes_by, is_work, same_bytes, tasks_of, works}
 use Rattle.work_law.specs.Books.{Task as WorkTask}
 use Rattle.work_law.specs.Together.{IsWorker, all_came, all_first, waits as work_waits}
 use Rattle.work_law.proofs.Together.{together, workers_orderly}
@@ -209,7 +209,9 @@ firsts_are budget jobs (suc n) =
 waits_same : (grain : ℕ) (on : Option (List ℕ)) (first : List Task) → work_waits (works grain) on (tasks_of first) ≡ waits on first
 unfolding work_waits waits
 waits_same grain on [] = refl
-waits_same grain on (Put unit ∷ first) = ap (λ l. arrival (bytes_on on) unit ∷ l) (waits_same grain on first)
+waits_same grain on (Put unit ∷ first) =
+    ap (λ common. arrival common unit ∷ work_waits (works grain) on (tasks_of first)) (sym (same_bytes on))
+    ∙ ap (λ l. arrival (bytes_on on) unit ∷ l) (waits_same grain on first)
 waits_same grain on (Begin common jobs ∷ first) = ap (λ l. map (arrival common) (as_units jobs) ++ l) (waits_same grain on first)
 waits_same grain on (End ∷ first) = waits_same grain None first
 

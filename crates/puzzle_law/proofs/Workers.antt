@@ -28,6 +28,7 @@ use Rattle.puzzle_app.specs.Tasks.{as_units}
 use Rattle.puzzle_app.proofs.Calling.{OfEach, of_move}
 use Rattle.work_law.specs.Books as work
 use Rattle.work_law.specs.Work.{Form, IsWork, Work}
+use Rattle.work_law.specs.Work.{arrival as arrival_by}
 use Rattle.work_law.specs.Work.{put_of as put_by}
 
 -- The work.
@@ -178,6 +179,11 @@ brought_same grain common (Some unit) came =
     let new : List Made = makes grain (arrival common unit) in
     (work.put_all new ++ [], refl, λ live. puts_same new [])
 
+-- the common bytes of a batch that is going on, in both books
+pub same_bytes : (on : Option (List ℕ)) → bytes_on on ≡ work.bytes_on on
+same_bytes None = refl
+same_bytes (Some common) = refl
+
 each_moves : (grain : ℕ) → OfEach grain (IsMove grain)
 each_moves grain = record {
   at_accepted = λ unit rest on came is tasks agree. (
@@ -190,7 +196,8 @@ each_moves grain = record {
       let new : List Made = makes grain (arrival (bytes_on on) unit) in (
         work.put_all new ++ tasks_of rest,
         work.rejected unit (tasks_of rest) on came (ap (λ l. work.going l on came) (agree refl))
-            (said_same unit grain answers.Rejected) refl,
+            (said_same unit grain answers.Rejected)
+            (ap (λ common. work.received (works grain) (arrival_by (works grain) common unit) (tasks_of rest) on came) (same_bytes on)),
         λ live. puts_same new rest,
       );
   at_stopped = λ unit rest on came end tasks agree. (
