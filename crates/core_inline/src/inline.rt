@@ -66,7 +66,8 @@ impl InlineWorld {
 
     /// What stands at the end: the ledger, the calls of the rank with their answers, of which nothing is held, and the units that
     /// are left, in arrival order, after `finish_inline` was called. It answers `TooLong` exactly if a call of this world,
-    /// `finish_inline` among them, met it. It answers `Memory` if a call met that, or if the list of what is left has no memory.
+    /// `finish_inline` among them, met it, which none does before 2^35 calls were answered (`many`): each takes five of the 2^48
+    /// stamps at most. It answers `Memory` if a call met that, or if the list of what is left has no memory.
     pub fn end(self) -> Result<(Ledger, Trace<Said>, Vec<LeftUnit>), Trouble>
         requires finished { self.run.finished ≡ true }
         ensures whole { OnOk result (self.run.failed ≡ None) }
@@ -81,6 +82,7 @@ impl InlineWorld {
         // When it fails.
         ensures too_long { (n : ℕ) → (result ≡ Err (Trouble.TooLong n)) ↔ (self.run.failed ≡ Some (Trouble.TooLong n)) }
         ensures memory { self.run.failed ≡ Some Trouble.Memory → result ≡ Err Trouble.Memory }
+        ensures many { (n : ℕ) → result ≡ Err (Trouble.TooLong n) → 2 ^ 35 ≤ length self.run.transcript }
     {
         self.run.end()
     }

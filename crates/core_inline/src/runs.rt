@@ -1,6 +1,6 @@
 //! A run of one rank and one server, call by call.
 
-ghost use Rattle.std.specs.Prelude.{◌≡◌, ◌≤◌, ◌^◌, ◌↔◌, ◌||◌, ℕ, None, Some, Err, true, IfOk, OnOk};
+ghost use Rattle.std.specs.Prelude.{◌≡◌, ◌≤◌, ◌^◌, ◌↔◌, ◌||◌, ℕ, length, None, Some, Err, true, IfOk, OnOk};
 ghost use Rattle.adlb_unit.specs.declared.notes.Trouble.{Trouble};
 ghost use Rattle.bag_ledger.specs.declared.entries.Call.{Call};
 ghost use Rattle.rank_client.specs.Answers.{answers_call};
@@ -94,6 +94,7 @@ impl InlineRun {
         ensures has_finish { IfOk result (λ parts. has_finished parts.1.items ≡ true) }
         ensures too_long { (n : ℕ) → (result ≡ Err (Trouble.TooLong n)) ↔ (self.failed ≡ Some (Trouble.TooLong n)) }
         ensures memory { self.failed ≡ Some Trouble.Memory → result ≡ Err Trouble.Memory }
+        ensures many { (n : ℕ) → result ≡ Err (Trouble.TooLong n) → 2 ^ 35 ≤ length self.transcript }
     {
         if let Some(trouble) = self.world.trouble() {
             return Err(trouble);

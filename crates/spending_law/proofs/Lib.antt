@@ -2,4 +2,6 @@ pub mod Waiting
 pub mod Spending
 pub mod Worths
 pub mod Together
+pub mod Fronts
+pub mod Heard
 mod Worked
