@@ -17,9 +17,22 @@ fine_ended (Some runs.Memory) is = tt
 fine_ended (Some (runs.TooLong stamp)) is = tt
 fine_ended (Some (runs.TooLarge taken)) is = absurd is
 
+ended_fine : (met : Option (Fault of_jobs.LineWhy)) → IsFine (fault_ended met) → IsFineRun met
+ended_fine None is = tt
+ended_fine (Some (runs.Input line why)) is = absurd is
+ended_fine (Some runs.Read) is = absurd is
+ended_fine (Some runs.Write) is = absurd is
+ended_fine (Some runs.NoThread) is = absurd is
+ended_fine (Some runs.Memory) is = tt
+ended_fine (Some (runs.TooLong stamp)) is = tt
+ended_fine (Some (runs.TooLarge taken)) is = absurd is
+
 module _ (fault : Option RunFault) (met : Option (Fault of_jobs.LineWhy)) (same : fault ≡ fault_ended met) where
   pub fine_told : IsFineRun met → IsFine fault
   fine_told is = subst IsFine (sym same) (fine_ended met is)
+
+  pub fine_met : IsFine fault → IsFineRun met
+  fine_met is = ended_fine met (subst IsFine same is)
 
   pub either_told : (a b : Option (Fault of_jobs.LineWhy)) → (met ≡ a) ⊎ (met ≡ b) → (fault ≡ fault_ended a) ⊎ (fault ≡ fault_ended b)
   either_told a b (inl is) = inl (same ∙ ap fault_ended is)

@@ -1,6 +1,6 @@
 //! What follows from how a command ends.
 
-ghost use Rattle.std.specs.Prelude.{◌≡◌, ◌⊎◌, ◌≤◌, ◌<◌, ◌+◌, ℕ, Bool, List, Option, Some, None, length};
+ghost use Rattle.std.specs.Prelude.{◌≡◌, ◌⊎◌, ◌≤◌, ◌<◌, ◌+◌, ◌^◌, ℕ, Bool, true, List, Option, Some, None, length};
 ghost use Rattle.adlb_io.specs.Outside.{Rises};
 ghost use Rattle.adlb_unit.specs.declared.configs.Config.{Config};
 ghost use Rattle.bag_ledger.specs.declared.entries.Entry.{Entry};
@@ -8,10 +8,12 @@ ghost use Rattle.command_words.specs.declared.commands.Command.{Command};
 ghost use Rattle.command_words.specs.declared.commands.RunOptions.{RunOptions};
 ghost use Rattle.command_words.specs.declared.commands.SolveWords.{SolveWords};
 ghost use Rattle.job_text.specs.declared.faults.LineWhy as of_jobs;
-ghost use Rattle.job_text.specs.Jobs.{input_refused};
+ghost use Rattle.job_text.specs.Jobs.{input_jobs, input_refused};
 ghost use Rattle.ledger_command.specs.Input.{input_limit as ledger_limit};
 ghost use Rattle.ledger_file.specs.Lines.{IsFirstBad, IsText};
+ghost use Rattle.made_jobs.specs.Made.{made_text};
 ghost use Rattle.run_command.specs.Ends.{Scene, input_limit};
+ghost use Rattle.spending_law.specs.Most.{most_calls};
 ghost use Rattle.adlb_command.specs.declared.ends.AnyKept.{AnyKept};
 ghost use Rattle.adlb_command.specs.declared.ends.LineWhy.{LineWhy};
 ghost use Rattle.adlb_command.specs.declared.ends.RunFault.{RunFault};
@@ -31,7 +33,10 @@ use made_law::made_is_accepted;
 /// What follows of a source that tells its bytes, if no read failed. `solve`: an accepted input is answered, if no
 /// write failed and no start was refused either (`complete`). A refused one is refused at its first such line
 /// (`refused`), and one that is too long is told as such (`overlong`). In each case memory may fail, and in the first
-/// the stamps may end. `check`: a text of a ledger is told (`checked`), and any other input is refused at its first
+/// the stamps may end. With `--inline` they do so only if one rank may make 2^34 calls for the jobs of the input
+/// (`in_line`), or for those that are made (`drilled_in_line`).
+///
+/// `check`: a text of a ledger is told (`checked`), and any other input is refused at its first
 /// line that is not what is due (`bad`). One that is too long is told as such (`long`). In each case memory may fail.
 /// So it is of `draw` (`drawn`, `undrawn`, `longer`). `make`: if no write failed, the whole text was written, unless
 /// memory fails (`made`). `drill`: if no write failed and no start was refused, the summary was written, but for the
@@ -83,6 +88,14 @@ pub fn end_laws()
     ensures drilled { (count seed : ℕ) (options : RunOptions) (before after : Scene) (fault : Option RunFault) (kept : Option AnyKept) →
         EndsAs (Some (Command.Drill count seed options)) before after fault kept → count ≤ 100000 →
         (Rises before.writes after.writes → ⊥) → (Rises before.refused after.refused → ⊥) → IsFine fault }
+    ensures in_line { (words : SolveWords) (before after : Scene) (fault : Option RunFault) (kept : Option AnyKept) (bytes : List ℕ) →
+        EndsAs (Some (Command.Solve words)) before after fault kept → before.left ≡ Some bytes → words.options.inline ≡ true →
+        most_calls words.options.budget words.options.grain 1 (input_jobs bytes) < 2 ^ 34 →
+        IsFine fault → (fault ≡ None) ⊎ (fault ≡ Some RunFault.Memory) }
+    ensures drilled_in_line { (count seed : ℕ) (options : RunOptions) (before after : Scene) (fault : Option RunFault) (kept : Option AnyKept) →
+        EndsAs (Some (Command.Drill count seed options)) before after fault kept → options.inline ≡ true →
+        most_calls options.budget options.grain 1 (input_jobs (made_text count seed)) < 2 ^ 34 →
+        IsFine fault → (fault ≡ None) ⊎ (fault ≡ Some RunFault.Memory) }
     ensures made { (count seed : ℕ) (before after : Scene) (fault : Option RunFault) (kept : Option AnyKept) →
         EndsAs (Some (Command.Make count seed)) before after fault kept → (Rises before.writes after.writes → ⊥) →
         (fault ≡ None) ⊎ (fault ≡ Some RunFault.Memory) }

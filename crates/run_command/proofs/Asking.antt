@@ -18,19 +18,19 @@ module _ (before after : Option (List ℕ)) (read : List ℕ) (reads : Reads bef
         record { short = omega (arith, short, ap length same); asked_is = subst (λ l. asks l asked) same is }
 
     -- and why they ask nothing is why it has no answer
-    pub read_stops : {A W : Type 0} (asks : List ℕ → A → Type 0) (refuses : List ℕ → ℕ → W → Type 0) (faults now refused refused' : ℕ) →
-        now ≡ faults → (fault : Fault W) → IsRefusal (refuses read) fault
-        → Stops asks refuses before after faults now refused refused' fault
-    read_stops asks refuses faults now refused refused' same (Input line why) is = (
+    pub read_stops : {A W : Type 0} (asks : List ℕ → A → Type 0) (refuses : List ℕ → ℕ → W → Type 0) (long : A → Type 0)
+        (faults now refused refused' : ℕ) → now ≡ faults → (fault : Fault W) → IsRefusal (refuses read) fault
+        → Stops asks refuses long before after faults now refused refused' fault
+    read_stops asks refuses long faults now refused refused' same (Input line why) is = (
       λ all told.
           let bytes : read ≡ all = read_whole input_limit before after read reads all short told in
           (omega (arith, short, ap length bytes), subst (λ l. refuses l line why) bytes is),
       read_end input_limit before after read reads short,
       same,
     )
-    read_stops asks refuses faults now refused refused' same Memory is = tt
-    read_stops asks refuses faults now refused refused' same Read is = absurd is
-    read_stops asks refuses faults now refused refused' same Write is = absurd is
-    read_stops asks refuses faults now refused refused' same NoThread is = absurd is
-    read_stops asks refuses faults now refused refused' same (TooLong stamp) is = absurd is
-    read_stops asks refuses faults now refused refused' same (TooLarge taken) is = absurd is
+    read_stops asks refuses long faults now refused refused' same Memory is = tt
+    read_stops asks refuses long faults now refused refused' same Read is = absurd is
+    read_stops asks refuses long faults now refused refused' same Write is = absurd is
+    read_stops asks refuses long faults now refused refused' same NoThread is = absurd is
+    read_stops asks refuses long faults now refused refused' same (TooLong stamp) is = absurd is
+    read_stops asks refuses long faults now refused refused' same (TooLarge taken) is = absurd is

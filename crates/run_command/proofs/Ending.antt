@@ -41,12 +41,12 @@ took_long (Some before) after text b a n part took was is =
     ap length same ∙ omega (arith, length-append before (take n text), count, ap length first)
 
 module _ {A W K : Type 0} (asks : List ℕ → A → Type 0) (refuses : List ℕ → ℕ → W → Type 0) (keeps : A → K → Type 0)
-    (tells : A → K → List ℕ → Type 0) (before after : Scene)
+    (tells : A → K → List ℕ → Type 0) (long : A → Type 0) (before after : Scene)
   where
     -- a run that has no answer ends by the fault for which it has none
     pub ends_early : (fault : Fault W)
-        → Stops asks refuses before.left after.left before.reads after.reads before.refused after.refused fault →
-        after.taken ≡ before.taken → EndsBy asks refuses keeps tells before after (Some fault) None
+        → Stops asks refuses long before.left after.left before.reads after.reads before.refused after.refused fault →
+        after.taken ≡ before.taken → EndsBy asks refuses keeps tells long before after (Some fault) None
     ends_early (Input line why) is same = (is.0, is.1, is.2, record { nothing = same; none_kept = refl })
     ends_early Read is same = (is, record { nothing = same; none_kept = refl })
     ends_early Write is same = absurd is
@@ -57,46 +57,65 @@ module _ {A W K : Type 0} (asks : List ℕ → A → Type 0) (refuses : List ℕ
     ends_early (TooLarge taken) is same = (is.0, is.1, is.2, is.3, record { nothing = same; none_kept = refl })
 
     pub ends_as_stopped : (fault : Fault W) (told : Option (Fault W)) (kept : Option K) → told ≡ Some fault → kept ≡ None →
-        Stops asks refuses before.left after.left before.reads after.reads before.refused after.refused fault →
-        after.taken ≡ before.taken → EndsBy asks refuses keeps tells before after told kept
+        Stops asks refuses long before.left after.left before.reads after.reads before.refused after.refused fault →
+        after.taken ≡ before.taken → EndsBy asks refuses keeps tells long before after told kept
     ends_as_stopped fault told kept is none stops same = rw (is, none) (ends_early fault stops same)
 
     -- there was an answer, to an input that was read to its end
     module _ (kept : K) (text : List ℕ) (answers : IsAnswered asks refuses keeps tells before.left kept text) (at_end : IsAtEnd after.left)
       where
         cut_memory : (n : ℕ) → n ≤ length text → Takes before.taken after.taken (take n text) →
-            EndsBy asks refuses keeps tells before after (Some Memory) (kept_of sinks.Memory n kept)
+            EndsBy asks refuses keeps tells long before after (Some Memory) (kept_of sinks.Memory n kept)
         cut_memory n part took = elim (cases_eq n 0) [
           | inl e ↦
               let keeps_none : kept_of sinks.Memory n kept ≡ None = rw e refl in
               let same : after.taken ≡ before.taken =
               took_none before.taken after.taken text (subst (λ k. Takes before.taken after.taken (take k text)) e took) in
-              let none : EndsBy asks refuses keeps tells before after (Some Memory) None = ends_early Memory tt same in
-              subst (λ k. EndsBy asks refuses keeps tells before after (Some Memory) k) (sym keeps_none) none
+              let none : EndsBy asks refuses keeps tells long before after (Some Memory) None = ends_early Memory tt same in
+              subst (λ k. EndsBy asks refuses keeps tells long before after (Some Memory) k) (sym keeps_none) none
           | inr differs ↦
               let keeps_some : kept_of sinks.Memory n kept ≡ Some kept = cond-false (n == 0) None (Some kept) (ne_eqb n 0 differs) in
-              let some : EndsBy asks refuses keeps tells before after (Some Memory) (Some kept) = record {
+              let some : EndsBy asks refuses keeps tells long before after (Some Memory) (Some kept) = record {
                 nothing = λ e. absurd (cc);
                 front = λ is. (text, answers, prefix_of before.taken after.taken text n part took);
                 begun = λ b a was is.
                     let long : length a ≡ length b + n = took_long before.taken after.taken text b a n part took was is in
                     (λ is. omega (arith, long, differs), λ more. refl);
               } in
-              subst (λ k. EndsBy asks refuses keeps tells before after (Some Memory) k) (sym keeps_some) some
+              subst (λ k. EndsBy asks refuses keeps tells long before after (Some Memory) k) (sym keeps_some) some
         ]
 
         cut_off : (met : SinkFault) (n : ℕ) → n ≤ length text → Takes before.taken after.taken (take n text) →
             (met ≡ sinks.Failed → Rises before.writes after.writes) →
-            EndsBy asks refuses keeps tells before after (Some (fault_of met)) (kept_of met n kept)
+            EndsBy asks refuses keeps tells long before after (Some (fault_of met)) (kept_of met n kept)
         cut_off sinks.Failed n part took cause = (cause refl, (text, answers, prefix_of before.taken after.taken text n part took))
         cut_off sinks.Memory n part took cause = cut_memory n part took
 
         -- the run ends as its writing did
         pub ends_answered : (fault : Option (Fault W)) (keeps_it : Option K) →
             Writes kept text before.taken after.taken before.writes after.writes after.flushed fault keeps_it →
-            EndsBy asks refuses keeps tells before after fault keeps_it
+            EndsBy asks refuses keeps tells long before after fault keeps_it
         ends_answered fault keeps_it (inl w) = rw (w.fine, w.keeps_it) (at_end, (text, answers, w.taken), w.flush)
         ends_answered fault keeps_it (inr w) = rw (w.fails, w.keeps_it) (cut_off w.unwritten.fault w.unwritten.taken w.part w.taken w.cause)
+
+-- the ends, if what is asked may be so long in a wider sense
+pub ends_wider : {A W K : Type 0} (asks : List ℕ → A → Type 0) (refuses : List ℕ → ℕ → W → Type 0) (keeps : A → K → Type 0)
+    (tells : A → K → List ℕ → Type 0) (long wider : A → Type 0) → ((asked : A) → long asked → wider asked) → (before after : Scene)
+    (fault : Option (Fault W)) (kept : Option K) → EndsBy asks refuses keeps tells long before after fault kept →
+    EndsBy asks refuses keeps tells wider before after fault kept
+ends_wider asks refuses keeps tells long wider each before after (Some (TooLong stamp)) kept ends = (
+  ends.0,
+  λ bytes told.
+      let a = ends.1 bytes told in (a.0, record { short = a.1.short; asked_is = (a.1.asked_is.0, each a.0 a.1.asked_is.1) }),
+  ends.2,
+)
+ends_wider asks refuses keeps tells long wider each before after None kept ends = ends
+ends_wider asks refuses keeps tells long wider each before after (Some (Input line why)) kept ends = ends
+ends_wider asks refuses keeps tells long wider each before after (Some Read) kept ends = ends
+ends_wider asks refuses keeps tells long wider each before after (Some Write) kept ends = ends
+ends_wider asks refuses keeps tells long wider each before after (Some NoThread) kept ends = ends
+ends_wider asks refuses keeps tells long wider each before after (Some Memory) kept ends = ends
+ends_wider asks refuses keeps tells long wider each before after (Some (TooLarge taken)) kept ends = ends
 
 -- what is so of an answer is so of what is kept
 module _ {K : Type 0} (P : K → Type 0) (kept : K) (is : P kept) where

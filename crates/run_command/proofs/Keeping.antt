@@ -112,9 +112,10 @@ reported {V} {O} config ledger left seen_as transcripts transcript outcomes outc
 
 -- the trouble of a run is one that a world which failed tells
 pub trouble_told : (trouble : Trouble) (run : Run) → ((stamp : ℕ) → run.failed ≡ Some (TooLong stamp) → 2 ^ 48 ≤ stamp) →
-    ((n : ℕ) → trouble ≡ TooLong n → run.failed ≡ Some (TooLong n)) → IsTroubleOf trouble
+    ((n : ℕ) → trouble ≡ TooLong n → (run.failed ≡ Some (TooLong n)) × (2 ^ 35 ≤ length run.transcript)) →
+    IsTroubleOf (2 ^ 35 ≤ length run.transcript) trouble
 trouble_told troubles.Memory run late told = tt
-trouble_told (troubles.TooLong stamp) run late told = late stamp (told stamp refl)
+trouble_told (troubles.TooLong stamp) run late told = let is = told stamp refl in (late stamp is.0, is.1)
 
 -- the numbers stay from the start of the world to its end
 pub numbers_of : (config : Config) (limit : ℕ) (first mid last : Run) → config.ranks ≡ 1 → config.servers ≡ 1 → limit ≡ config.limit

@@ -1,5 +1,6 @@
 pub mod Asking
 pub mod Ending
+pub mod Hearing
 pub mod Keeping
 pub mod Laws
 pub mod RunKept

@@ -87,19 +87,20 @@ module _ {A W K : Type 0} (asks : List ℕ → A → Type 0) (refuses : List ℕ
       pub front : IsSome kept → Keeps before.left (λ text. TakesPrefix before.taken after.taken text) kept
       pub begun : IsKeptWhereBegun before.taken after.taken kept
 
-    -- the ends of a run, by its fault
-    abbrev pub EndsBy : Scene → Scene → Option (Fault W) → Option K → Type 0
-    EndsBy before after None kept =
+    -- the ends of a run, by its fault; one whose stamps ran out is over what may be so long
+    abbrev pub EndsBy : (A → Type 0) → Scene → Scene → Option (Fault W) → Option K → Type 0
+    EndsBy long before after None kept =
         IsAtEnd after.left × Keeps before.left (λ text. Takes before.taken after.taken text) kept × (after.flushed ≡ true)
-    EndsBy before after (Some (Input line why)) kept =
+    EndsBy long before after (Some (Input line why)) kept =
         IsRefusedAt refuses before.left line why × IsAtEnd after.left × (after.reads ≡ before.reads) × IsSilent before after kept
-    EndsBy before after (Some Read) kept = Rises before.reads after.reads × IsSilent before after kept
-    EndsBy before after (Some Write) kept =
+    EndsBy long before after (Some Read) kept = Rises before.reads after.reads × IsSilent before after kept
+    EndsBy long before after (Some Write) kept =
         Rises before.writes after.writes × Keeps before.left (λ text. TakesPrefix before.taken after.taken text) kept
-    EndsBy before after (Some NoThread) kept =
+    EndsBy long before after (Some NoThread) kept =
         Rises before.refused after.refused × HasAsked asks before.left × IsSilent before after kept
-    EndsBy before after (Some Memory) kept = IsCutOff before after kept
-    EndsBy before after (Some (TooLong stamp)) kept = (2 ^ 48 ≤ stamp) × HasAsked asks before.left × IsSilent before after kept
-    EndsBy before after (Some (TooLarge taken)) kept =
+    EndsBy long before after (Some Memory) kept = IsCutOff before after kept
+    EndsBy long before after (Some (TooLong stamp)) kept =
+        (2 ^ 48 ≤ stamp) × HasAsked (λ bytes asked. asks bytes asked × long asked) before.left × IsSilent before after kept
+    EndsBy long before after (Some (TooLarge taken)) kept =
         (taken ≡ input_limit + 1) × HasMore input_limit before.left × ((read : List ℕ) × Reads before.left after.left taken read)
         × (after.reads ≡ before.reads) × IsSilent before after kept

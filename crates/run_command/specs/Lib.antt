@@ -1,4 +1,5 @@
 pub mod Ends
+pub mod Heard
 pub mod inside
 pub mod Kept
 pub mod Reading

@@ -1,5 +1,5 @@
 -- For the crate itself. Why an input has no answer, what the world of a run in line was, and how the writing ended.
-use Rattle.std.specs.Prelude.{◌≡◌, ◌≤◌, ◌+◌, ◌^◌, ◌⊎◌, ◌==◌, ℕ, Bool, true, List, [], ◌∷◌, length, take}
+use Rattle.std.specs.Prelude.{◌≡◌, ◌≤◌, ◌+◌, ◌^◌, ◌⊎◌, ◌==◌, ℕ, Bool, true, List, [], ◌∷◌, ◌++◌, length, take}
 use Rattle.std.specs.Prelude.{Option, Some, None, Result, Ok, if◌then◌else◌}
 use Rattle.adlb_io.specs.Inputs.{HasMore, IsAtEnd}
 use Rattle.adlb_io.specs.Outside.{Rises, Takes}
@@ -14,6 +14,7 @@ use Rattle.adlb_threads.specs.declared.faults.RanFault.TheVariants as runs
 use Rattle.adlb_unit.specs.declared.configs.Config.{Config}
 use Rattle.adlb_unit.specs.declared.notes.Trouble.{Trouble}
 use Rattle.adlb_unit.specs.declared.notes.Trouble.TheVariants as troubles
+use Rattle.bag_ledger.specs.declared.entries.Call.{Call}
 use Rattle.bag_ledger.specs.declared.entries.Entry.{Entry}
 use Rattle.bag_ledger.specs.declared.entries.Said.{Said}
 use Rattle.core_inline.specs.Inline.{Run}
@@ -34,23 +35,25 @@ IsRefusal refuses (Input line why) = refuses line why
 IsRefusal refuses Memory = Unit {0}
 IsRefusal refuses fault = ⊥
 
--- why an input has no answer, with what its source has left, the counts of its faults and those of refused starts, before and after
-abbrev pub Stops : {A W : Type 0} → (List ℕ → A → Type 0) → (List ℕ → ℕ → W → Type 0) → Option (List ℕ) → Option (List ℕ) → ℕ → ℕ → ℕ → ℕ
-    → Fault W → Type 0
-Stops asks refuses left left' reads reads' refused refused' (Input line why) =
+-- why an input has no answer, with what its source has left, the counts of its faults and those of refused starts, before and after; what
+-- it asks may be so long if the stamps ran out
+abbrev pub Stops : {A W : Type 0} → (List ℕ → A → Type 0) → (List ℕ → ℕ → W → Type 0) → (A → Type 0) → Option (List ℕ) → Option (List ℕ)
+    → ℕ → ℕ → ℕ → ℕ → Fault W → Type 0
+Stops asks refuses long left left' reads reads' refused refused' (Input line why) =
     IsRefusedAt refuses left line why × IsAtEnd left' × (reads' ≡ reads)
-Stops asks refuses left left' reads reads' refused refused' Read = Rises reads reads'
-Stops asks refuses left left' reads reads' refused refused' Write = ⊥
-Stops asks refuses left left' reads reads' refused refused' NoThread = Rises refused refused' × HasAsked asks left
-Stops asks refuses left left' reads reads' refused refused' Memory = Unit {0}
-Stops asks refuses left left' reads reads' refused refused' (TooLong stamp) = (2 ^ 48 ≤ stamp) × HasAsked asks left
-Stops asks refuses left left' reads reads' refused refused' (TooLarge taken) =
+Stops asks refuses long left left' reads reads' refused refused' Read = Rises reads reads'
+Stops asks refuses long left left' reads reads' refused refused' Write = ⊥
+Stops asks refuses long left left' reads reads' refused refused' NoThread = Rises refused refused' × HasAsked asks left
+Stops asks refuses long left left' reads reads' refused refused' Memory = Unit {0}
+Stops asks refuses long left left' reads reads' refused refused' (TooLong stamp) =
+    (2 ^ 48 ≤ stamp) × HasAsked (λ bytes asked. asks bytes asked × long asked) left
+Stops asks refuses long left left' reads reads' refused refused' (TooLarge taken) =
     (taken ≡ input_limit + 1) × HasMore input_limit left × ((read : List ℕ) × Reads left left' taken read) × (reads' ≡ reads)
 
--- why a run in line had no report
-abbrev pub IsTroubleOf : Trouble → Type 0
-IsTroubleOf troubles.Memory = Unit {0}
-IsTroubleOf (troubles.TooLong stamp) = 2 ^ 48 ≤ stamp
+-- why a run in line had no report: this is so if the stamps ran out
+abbrev pub IsTroubleOf : Type 0 → Trouble → Type 0
+IsTroubleOf long troubles.Memory = Unit {0}
+IsTroubleOf long (troubles.TooLong stamp) = (2 ^ 48 ≤ stamp) × long
 
 -- Which fault one of a run is.
 
@@ -75,6 +78,17 @@ pub record HasNumbers (config : Config) (run : Run) : Type 0 where
   pub ranks : run.config.ranks ≡ config.ranks
   pub servers : run.config.servers ≡ config.servers
   pub limit : run.config.limit ≡ config.limit
+
+-- this transcript is the other with one call more at most
+abbrev pub IsOneMore : List Said → List Said → Type 0
+IsOneMore said now = (more : List Said) × (now ≡ said ++ more) × (length more ≤ 1)
+
+-- what the rank said is what its program can have said so far, with one call more at most
+pub record HasWorked (so_far : List Said → Option Call → Type 0) (transcript : List Said) : Type 0 where
+  pub said : List Said
+  pub begun : Option Call
+  pub so : so_far said begun
+  pub now : IsOneMore said transcript
 
 -- the report of a run with one rank
 abbrev pub one_report : {O : Type 0} → Config → List Entry → List Said → List LeftUnit → O → Reported O

@@ -1,9 +1,9 @@
 //! The program of one rank over one server, from what is asked to its report.
 
-ghost use Rattle.std.specs.Prelude.{◌≡◌, [], ◌∷◌, None, true, false, IfOk, OnOk, IfErr};
+ghost use Rattle.std.specs.Prelude.{◌≡◌, ◌≤◌, ◌^◌, ℕ, [], ◌∷◌, length, None, Some, Err, true, false, IfOk, OnOk, IfErr};
 ghost use Rattle.core_inline.specs.Inline.{IsEnd, batch_of, zeroth};
-ghost use Rattle.rank_client.specs.Calls.{has_finished};
-ghost use Rattle.run_command.specs.inside.{HasNumbers, IsReportOf, IsTroubleOf};
+ghost use Rattle.rank_client.specs.Calls.{Repeats, has_finished};
+ghost use Rattle.run_command.specs.inside.{HasNumbers, HasWorked, IsOneMore, IsReportOf, IsTroubleOf};
 ghost use Rattle.run_command.specs.Kept.{HasRun};
 
 use crate::commands::Command;
@@ -19,7 +19,7 @@ use server_core::LeftUnit;
 use std::alloc::Global;
 
 /// Runs what is asked by the program of one rank over one server of its own, and finishes it. It fails if an allocation fails, or if a
-/// stamp would be past the last one.
+/// stamp would be past the last one, and then what is asked may take 2^34 calls of the rank.
 pub(crate) fn run_in_line<C>(
     alloc: Global,
     command: &C,
@@ -34,7 +34,7 @@ where
     requires one_server { config.servers ≡ 1 }
     ensures run { IfOk result (λ k. HasRun (C.are_programs command.now) C.Program.follows asked.now k.report) }
     ensures config { IfOk result (λ k. k.report.config ≡ config) }
-    ensures faults { IfErr result IsTroubleOf }
+    ensures faults { IfErr result (IsTroubleOf (C.may_take command.now asked.now (2 ^ 34))) }
 {
     let Ok(programs) = command.programs(alloc, config.ranks, asked) else {
         return Err(Trouble::Memory);
@@ -48,7 +48,7 @@ where
     report_of(alloc, config, parts, outcome)
 }
 
-// The calls of the program, in a world at its start.
+// The calls of the program, in a world at its start. After them the rank may end a batch.
 fn work<P>(program: &P, world: &mut InlineWorld) -> Result<P::Outcome, Trouble>
 where
     P: RankProgram,
@@ -61,7 +61,8 @@ where
     ensures closed { batch_of world.new.run ≡ false }
     ensures open { has_finished world.new.run.transcript ≡ false }
     ensures config { HasNumbers world.old.run.config world.new.run }
-    ensures faults { IfErr result IsTroubleOf }
+    ensures heard { HasWorked (P.so_far program.now zeroth) world.new.run.transcript }
+    ensures too_long { (stamp : ℕ) → result ≡ Err (Trouble.TooLong stamp) → world.new.run.failed ≡ Some (Trouble.TooLong stamp) }
 {
     match program.run(Rank(0), world) {
         Ok(outcome) => Ok(outcome),
@@ -78,6 +79,8 @@ fn close(world: &mut InlineWorld)
     ensures closed { batch_of world.new.run ≡ false }
     ensures open { has_finished world.new.run.transcript ≡ false }
     ensures config { HasNumbers world.old.run.config world.new.run }
+    ensures one_more { IsOneMore world.old.run.transcript world.new.run.transcript }
+    ensures repeats { Repeats world.old.run.failed world.new.run.failed }
 {
     if world.batch_open() {
         let _ = world.end_batch();
@@ -90,7 +93,7 @@ fn end(world: InlineWorld) -> Result<(Ledger, Trace<Said>, Vec<LeftUnit>), Troub
     ensures ended { IfOk result (λ parts. IsEnd world.run parts.0 parts.1.items parts.2.items) }
     ensures transcript { IfOk result (λ parts. parts.1.items ≡ world.run.transcript) }
     ensures whole { OnOk result (world.run.failed ≡ None) }
-    ensures faults { IfErr result IsTroubleOf }
+    ensures faults { IfErr result (IsTroubleOf (2 ^ 35 ≤ length world.run.transcript)) }
 {
     match world.end() {
         Ok(parts) => Ok(parts),
@@ -98,16 +101,16 @@ fn end(world: InlineWorld) -> Result<(Ledger, Trace<Said>, Vec<LeftUnit>), Troub
     }
 }
 
-// The report of a run with one rank, if the rank has an outcome.
+// The report of a run with one rank, if the rank has an outcome. Its only error is `Memory`.
 fn report_of<O: Drop>(
     alloc: Global,
     config: Config,
     parts: (Ledger, Trace<Said>, Vec<LeftUnit>),
     outcome: Result<O, Trouble>,
 ) -> Result<Kept<O>, Trouble>
-    requires { IfErr outcome IsTroubleOf }
+    requires { IfErr outcome (λ trouble. trouble ≡ Trouble.Memory) }
     ensures report { IfOk result (λ k. IsReportOf config parts.0 parts.1.items parts.2.items outcome k.report) }
-    ensures faults { IfErr result IsTroubleOf }
+    ensures fault { IfErr result (λ trouble. trouble ≡ Trouble.Memory) }
 {
     let (ledger, transcript, left) = parts;
     let outcomes = one(alloc, outcome?)?;

@@ -29,7 +29,7 @@ where
     ensures asked { IfOk result (λ asked. (bytes : List ℕ) → S.left input.old ≡ Some bytes → Asks (C.asks command.now) bytes asked) }
     ensures end { OnOk result (IsAtEnd (S.left input.new)) }
     ensures stopped { (refused refused' : ℕ) → IfErr result (Stops (C.asks command.now) (C.refuses command.now)
-        (S.left input.old) (S.left input.new) (S.faults input.old) (S.faults input.new) refused refused') }
+        (λ asked. ⊥) (S.left input.old) (S.left input.new) (S.faults input.old) (S.faults input.new) refused refused') }
     ensures later { S.faults input.old ≤ S.faults input.new }
 {
     let mut bytes = match read_up_to(alloc, input, INPUT_LIMIT + 1) {

@@ -24,8 +24,8 @@ use std::alloc::Global;
 /// writes what is told. It waits for its threads.
 ///
 /// `EndsBy` says of each end what was written and kept and why it came, as of a run in line, and one end besides. `NoThread`: the
-/// spawner's count of faults rose (or stands at its last value). What is kept is of a run in threads, which is one run of all actors
-/// (`Kept::one_run`).
+/// spawner's count of faults rose (or stands at its last value). Of `TooLong` it says no more than that a stamp would be past the last
+/// one. What is kept is of a run in threads, which is one run of all actors (`Kept::one_run`).
 pub fn run_threads<C, S, K, T, G>(
     alloc: Global,
     command: &C,
@@ -45,7 +45,7 @@ where
     K: Sink,
     T: Spawner,
     G: Gate + Send + Drop + 'static,
-    ensures ends { EndsBy (C.asks command.now) (C.refuses command.now) (IsKept (C.are_programs command.now) C.Program.follows) (C.tells command.now)
+    ensures ends { EndsBy (C.asks command.now) (C.refuses command.now) (IsKept (C.are_programs command.now) C.Program.follows) (C.tells command.now) (λ asked. Unit {0})
         (scene (S.left input.old) (S.faults input.old) (K.taken output.old) (K.faults output.old) (K.all_flushed output.old)
         (T.faults threads.old) (T.starts threads.old))
         (scene (S.left input.new) (S.faults input.new) (K.taken output.new) (K.faults output.new) (K.all_flushed output.new)
@@ -87,7 +87,7 @@ where
     ensures config { IfOk result (λ a. a.kept.report.config ≡ config) }
     ensures threaded { IfOk result (λ a. a.kept.threaded ≡ true) }
     ensures end { OnOk result (IsAtEnd (S.left input.new)) }
-    ensures stopped { IfErr result (Stops (C.asks command.now) (C.refuses command.now)
+    ensures stopped { IfErr result (Stops (C.asks command.now) (C.refuses command.now) (λ asked. Unit {0})
         (S.left input.old) (S.left input.new) (S.faults input.old) (S.faults input.new) (T.faults threads.old) (T.faults threads.new)) }
     ensures started { OnOk result (HasStarted config (T.starts threads.old) (T.starts threads.new)) }
     ensures source { S.faults input.old ≤ S.faults input.new }

@@ -1,5 +1,5 @@
 -- The ends of a run for which an allocation failed before anything was done.
-use Rattle.std.proofs.Common.{◌≡◌, ℕ, Bool, List, Some, None}
+use Rattle.std.proofs.Common.{◌≡◌, ◌≤◌, ◌^◌, ℕ, Bool, true, List, Some, None}
 use Rattle.adlb_threads.specs.Reports.{Reported}
 use Rattle.adlb_unit.specs.declared.configs.Config.{Config}
 use Rattle.job_report.specs.declared.outcomes.Outcome.{Outcome}
@@ -12,6 +12,7 @@ use Rattle.run_command.proofs.Ending.{ends_early}
 use Rattle.solve_command.specs.Ends.{Drills, Solves}
 use Rattle.solve_command.specs.Puzzles.{AreJobs, ArePrograms, FollowsPuzzles, RefusesLine}
 use Rattle.solve_command.specs.Told.{IsReported, IsSummed}
+use Rattle.spending_law.specs.Most.{most_calls}
 
 module _ (settings : Settings) (IsOf : Config → Type 0) (inline : Bool) (before after : Scene) (same : after.taken ≡ before.taken)
     (none : StartsNone before after)
@@ -22,7 +23,8 @@ module _ (settings : Settings) (IsOf : Config → Type 0) (inline : Bool) (befor
     pub solved_early : (tail : Reported Outcome → List ℕ) → Solves settings tail IsOf inline before after (Some Memory) None
     solved_early tail = record {
       ends = ends_early AreJobs RefusesLine (IsKept (λ ranks. ArePrograms settings) FollowsPuzzles)
-          (λ jobs k told. IsReported settings tail jobs k.report told) before after Memory tt same;
+          (λ jobs k told. IsReported settings tail jobs k.report told)
+          (λ jobs. inline ≡ true → 2 ^ 34 ≤ most_calls settings.budget settings.grain 1 jobs) before after Memory tt same;
       run = none_run;
     }
 
@@ -32,6 +34,7 @@ module _ (settings : Settings) (IsOf : Config → Type 0) (inline : Bool) (befor
       rest = made_text count seed;
       ends = ends_early AreJobs RefusesLine (IsKept (λ ranks. ArePrograms settings) FollowsPuzzles)
           (λ jobs k told. IsSummed settings count seed jobs k.report told)
+          (λ jobs. inline ≡ true → 2 ^ 34 ≤ most_calls settings.budget settings.grain 1 jobs)
           (scene (Some (made_text count seed)) 0 before.taken before.writes before.flushed before.refused before.started)
           (scene (Some (made_text count seed)) 0 after.taken after.writes after.flushed after.refused after.started) Memory tt same;
       run = none_run;

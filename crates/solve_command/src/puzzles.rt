@@ -1,9 +1,12 @@
 //! Runs over puzzles and batches, as a command.
 
 ghost use Rattle.std.specs.Prelude.{◌≡◌, ◌≤◌, ◌<◌, ◌^◌, [], IfOk, OnOk, IfErr, length, vec_capacity};
+ghost use Rattle.puzzle_app.proofs.UnderWay.{way_so};
 ghost use Rattle.run_command.specs.Reading.{RefusesBy};
 ghost use Rattle.solve_command.specs.Puzzles.{AreJobs, ArePrograms, RefusesLine};
 ghost use Rattle.solve_command.specs.Told.{IsTold};
+ghost use Rattle.spending_law.proofs.Heard.{heard_most};
+ghost use Rattle.spending_law.specs.Most.{most_calls};
 
 use crate::extras::Tail;
 use crate::telling::tell_run;
@@ -69,6 +72,8 @@ impl<E: Tail + Copy> Command for Puzzles<E> {
 
     ghost tells = { λ puzzles jobs kept told. IsTold E.tail puzzles.settings puzzles.wanted jobs kept.report told };
 
+    ghost may_take = { λ puzzles jobs many. many ≤ most_calls puzzles.settings.budget puzzles.settings.grain 1 jobs };
+
     fn read(&self, alloc: Global, bytes: &[u8]) -> Result<PuzzleJobs, ReadFault<LineWhy>> {
         read_puzzles(alloc, bytes)
     }
@@ -90,6 +95,11 @@ impl<E: Tail + Copy> Command for Puzzles<E> {
     ) -> Result<Vec<u8>, NoMemory> {
         tell_run(alloc, self.settings, self.wanted, asked, kept)
     }
+
+    ghost takes = { λ puzzles jobs many h.
+        let is = h.are 0 h.program h.program_is in
+        heard_most h.config h.ledger h.last h.program jobs h.said h.more h.legal h.one_rank is.1
+        (way_so h.program h.said h.begun h.so) h.calls_are puzzles.settings is.0 many h.enough };
 }
 
 // The jobs of an input of these bytes.

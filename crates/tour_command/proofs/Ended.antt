@@ -30,19 +30,20 @@ module _ (before after : Scene) (fault : Option (Fault CitiesWhy)) (kept : Optio
     pub accepted_fine : (cities : CitiesModel) → length bytes ≤ input_limit → input_cities bytes ≡ Ok cities →
         (Rises before.writes after.writes → ⊥) → (Rises before.refused after.refused → ⊥) → IsFine fault
     accepted_fine cities short is no_write no_refusal =
-        ends.asked_fine HasCities RefusesLine (IsKept (λ ranks. ArePrograms) FollowsTours) (λ c k t. TellsLeast c t) before after kept bytes
-        told no_read (λ line why at. not_both (input_cities bytes) cities (line, why) is at) short no_write no_refusal fault ended
+        ends.asked_fine HasCities RefusesLine (IsKept (λ ranks. ArePrograms) FollowsTours) (λ c k t. TellsLeast c t) (λ c. Unit {0})
+        before after kept bytes told no_read (λ line why at. not_both (input_cities bytes) cities (line, why) is at) short no_write
+        no_refusal fault ended
 
     -- a refused one is refused at its line
     pub refused_at_line : (line : ℕ) (why : CitiesWhy) → length bytes ≤ input_limit → input_cities bytes ≡ Err (line, why) →
         (fault ≡ Some (Input line why)) ⊎ (fault ≡ Some Memory)
     refused_at_line line why short is =
-        ends.refused_there HasCities RefusesLine (IsKept (λ ranks. ArePrograms) FollowsTours) (λ c k t. TellsLeast c t) before after kept
-        bytes told no_read (λ cities ok. not_both (input_cities bytes) cities (line, why) ok is) short line why
+        ends.refused_there HasCities RefusesLine (IsKept (λ ranks. ArePrograms) FollowsTours) (λ c k t. TellsLeast c t) (λ c. Unit {0})
+        before after kept bytes told no_read (λ cities ok. not_both (input_cities bytes) cities (line, why) ok is) short line why
         (λ l w at. ap fault_with (sym at ∙ is)) fault ended
 
     -- one that is too long is told as such
     pub overlong_told : input_limit < length bytes → (fault ≡ Some (TooLarge (input_limit + 1))) ⊎ (fault ≡ Some Memory)
     overlong_told long =
-        ends.overlong_told HasCities RefusesLine (IsKept (λ ranks. ArePrograms) FollowsTours) (λ c k t. TellsLeast c t) before after kept
-        bytes told no_read long fault ended
+        ends.overlong_told HasCities RefusesLine (IsKept (λ ranks. ArePrograms) FollowsTours) (λ c k t. TellsLeast c t) (λ c. Unit {0})
+        before after kept bytes told no_read long fault ended

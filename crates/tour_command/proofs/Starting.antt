@@ -13,6 +13,7 @@ pub toured_early : (IsOf : Config → Type 0) (before after : Scene) → after.t
     FindsTour IsOf before after (Some Memory) None
 toured_early IsOf before after same none = record {
   ends =
-      ends_early HasCities RefusesLine (IsKept (λ ranks. ArePrograms) FollowsTours) (λ c k t. TellsLeast c t) before after Memory tt same;
+      ends_early HasCities RefusesLine (IsKept (λ ranks. ArePrograms) FollowsTours) (λ c k t. TellsLeast c t) (λ c. Unit {0})
+      before after Memory tt same;
   run = record { numbers = tt; threaded = λ e. tt; untouched = λ e. none };
 }

@@ -12,7 +12,7 @@ use Rattle.tour_search.specs.declared.faults.CitiesWhy.{CitiesWhy}
 abbrev pub EndsWith : Scene → Scene → Option (Fault CitiesWhy) → Option (Kept TourOutcome) → Type 0
 EndsWith before after fault kept =
     EndsBy HasCities RefusesLine (IsKept (λ ranks. ArePrograms) FollowsTours) (λ cities k told. TellsLeast cities told)
-    before after fault kept
+    (λ cities. Unit {0}) before after fault kept
 
 -- the ends of `tour`: it runs in threads, and what is kept has such numbers
 pub record FindsTour (IsOf : Config → Type 0) (before after : Scene) (fault : Option (Fault CitiesWhy)) (kept : Option (Kept TourOutcome))

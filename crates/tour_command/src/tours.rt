@@ -31,6 +31,8 @@ impl Command for Tours {
 
     ghost tells = { λ tours cities kept told. TellsLeast cities told };
 
+    ghost may_take = { λ tours cities many. Unit {0} };
+
     fn read(&self, alloc: Global, bytes: &[u8]) -> Result<Cities, ReadFault<CitiesWhy>> {
         read_tours(alloc, bytes)
     }
@@ -52,6 +54,8 @@ impl Command for Tours {
     ) -> Result<Vec<u8>, NoMemory> {
         tell_run(alloc, asked, kept)
     }
+
+    ghost takes = { λ tours cities many heard. tt };
 }
 
 // The cities of an input of these bytes.

@@ -1,15 +1,15 @@
-use Rattle.std.proofs.Common.{◌+◌, Some}
+use Rattle.std.proofs.Common.{◌+◌, None, Some}
 use Rattle.run_command.specs.Ends.{input_limit}
 use Rattle.run_command.specs.declared.faults.Fault.TheVariants as runs
-use Rattle.solve_command.proofs.Drilled.{drilled_fine}
-use Rattle.solve_command.proofs.Ended.{accepted_fine, overlong_told, refused_at_line}
+use Rattle.solve_command.proofs.Drilled.{drilled_fine, drilled_in_line}
+use Rattle.solve_command.proofs.Ended.{accepted_fine, overlong_told, refused_at_line, short_in_line}
 use Rattle.solve_command.specs.Told.{IsReported, behind}
 use Rattle.adlb_command.specs.Words.{IsConfigOf, extras_of, settings_of}
 use Rattle.adlb_command.proofs.Checked.{bad_checked, long_checked, text_checked}
 use Rattle.adlb_command.proofs.Drawn.{bad_drawn, long_drawn, text_drawn}
 use Rattle.adlb_command.proofs.Ending.{usage_unsaid}
 use Rattle.adlb_command.proofs.Made.{made_whole}
-use Rattle.adlb_command.proofs.Solved.{either_told, fine_told}
+use Rattle.adlb_command.proofs.Solved.{either_told, fine_met, fine_told}
 use Rattle.adlb_command.proofs.laws.end_laws.Goals as goal
 
 pub returns-clause-usage : goal.returns-clause-usage
@@ -21,21 +21,21 @@ returns-clause-unsaid c = λ before after fault kept ends. ends.cause
 pub returns-clause-complete : goal.returns-clause-complete
 returns-clause-complete c = λ words before after fault kept bytes ends told no_read short fine no_write no_refusal.
     fine_told fault ends.met ends.fault_is
-    (accepted_fine (settings_of words.options)
+    (accepted_fine (settings_of words.options) words.options.inline
     (IsReported (settings_of words.options) (behind (extras_of words))) before after ends.met ends.own bytes ends.ended.ends told no_read
     short fine no_write no_refusal)
 
 pub returns-clause-refused : goal.returns-clause-refused
 returns-clause-refused c = λ words before after fault kept bytes ends told no_read line why short is.
     either_told fault ends.met ends.fault_is (Some (runs.Input line why)) (Some runs.Memory)
-    (refused_at_line (settings_of words.options)
+    (refused_at_line (settings_of words.options) words.options.inline
     (IsReported (settings_of words.options) (behind (extras_of words))) before after ends.met ends.own bytes ends.ended.ends told no_read
     line why short is)
 
 pub returns-clause-overlong : goal.returns-clause-overlong
 returns-clause-overlong c = λ words before after fault kept bytes ends told no_read long.
     either_told fault ends.met ends.fault_is (Some (runs.TooLarge (input_limit + 1))) (Some runs.Memory)
-    (overlong_told (settings_of words.options)
+    (overlong_told (settings_of words.options) words.options.inline
     (IsReported (settings_of words.options) (behind (extras_of words))) before after ends.met ends.own bytes ends.ended.ends
     told no_read long)
 
@@ -82,3 +82,15 @@ returns-clause-drilled c = λ count seed options before after fault kept ends fe
     (drilled_fine count seed (settings_of options) (IsConfigOf options.sizes options.inline) options.inline before after ends.met ends.own
     ends.ended (c.made_laws.ensures.short count seed few)
     (c.made_is_accepted.ensures.accepted count seed) no_write no_refusal)
+
+pub returns-clause-in_line : goal.returns-clause-in_line
+returns-clause-in_line c = λ words before after fault kept bytes ends told on few fine.
+    either_told fault ends.met ends.fault_is None (Some runs.Memory)
+    (short_in_line (settings_of words.options) words.options.inline (IsReported (settings_of words.options) (behind (extras_of words)))
+    before after ends.met ends.own bytes ends.ended.ends told on few (fine_met fault ends.met ends.fault_is fine))
+
+pub returns-clause-drilled_in_line : goal.returns-clause-drilled_in_line
+returns-clause-drilled_in_line c = λ count seed options before after fault kept ends on few fine.
+    either_told fault ends.met ends.fault_is None (Some runs.Memory)
+    (drilled_in_line count seed (settings_of options) (IsConfigOf options.sizes options.inline) options.inline before after ends.met
+    ends.own ends.ended on few (fine_met fault ends.met ends.fault_is fine))

@@ -5,4 +5,4 @@ use Rattle.run_command.proofs.programs.end.Goals as goal
 pub returns-in-Err-clause-faults : goal.returns-in-Err-clause-faults
 returns-in-Err-clause-faults c =
     trouble_told c.in-Err.trouble c.args.world.run c.args.world.late
-    (λ n e. (c.end.ensures.too_long n).0 (c.in-Err.is ∙ ap Err e))
+    (λ n e. let is = c.in-Err.is ∙ ap Err e in ((c.end.ensures.too_long n).0 is, c.end.ensures.many n is))

@@ -1,5 +1,7 @@
 use Rattle.std.proofs.Common.{◌∙◌, refl, sym, subst}
+use Rattle.std.proofs.lemmas.Result.{IfErr-weaker, err_from_is_err_and}
 use Rattle.core_inline.proofs.Batches.{start_closed}
+use Rattle.run_command.proofs.Hearing.{has_heard, memory_alone, memory_is, one_plus, trouble_wider}
 use Rattle.run_command.proofs.Keeping.{finishes, first_at, numbers_of, reports_run}
 use Rattle.run_command.proofs.programs.run_in_line.Goals as goal
 
@@ -24,3 +26,27 @@ returns-clause-run g c =
     (finishes c.work-outcome.new.world.run c.finish_inline.new.self.run c.in_ok-parts.parts.1.items c.finish_inline.ensures.says
     c.in_ok-parts.ensures.whole c.in_ok-parts.ensures.transcript)
     c.in_ok-parts.ensures.ended c.work-outcome.result c.report_of.result c.work-outcome.ensures.follows c.report_of.ensures.report
+
+-- the stamps ran out
+pub returns-in_err-parts-clause-faults : goal.returns-in_err-parts-clause-faults
+returns-in_err-parts-clause-faults g c =
+    let asked = c.args.asked.now in
+    let are = g.C.Command.are_programs c.args.command.now in
+    let p = err_from_is_err_and c.from_residual.result c.from_residual.ensures.1 in
+    rw (p.1, p.2)
+    (trouble_wider _ _ _
+    (λ enough. g.met.C.Command.takes c.args.command.now asked _
+    (has_heard are g.C.Program.RankProgram.so_far asked c.in-Ok.programs.items c.index.result.now
+    (subst (λ n. are n asked c.in-Ok.programs.items) c.requires.one_rank c.in-Ok.ensures.programs)
+    (first_at c.in-Ok.programs.items c.index.result.now (c.in-Ok.ensures.all ∙ c.requires.one_rank) c.index.ensures)
+    c.work-outcome.new.world.run.transcript c.work-outcome.ensures.heard c.finish_inline.new.self.run
+    (one_plus _ _ _ _ c.finish_inline.ensures.says) c.finish_inline.ensures.holds enough))
+    c.in_err-parts.ensures.faults)
+
+pub report_of-requires : goal.report_of-requires
+report_of-requires g c =
+    memory_alone c.work-outcome.result c.work-outcome.new.world.run.failed c.finish_inline.new.self.run.failed
+    c.work-outcome.ensures.too_long c.finish_inline.ensures.repeats c.in_ok-parts.ensures.whole
+
+pub returns-clause-faults : goal.returns-clause-faults
+returns-clause-faults g c = IfErr-weaker c.report_of.result _ _ (memory_is _) c.report_of.ensures.fault

@@ -47,5 +47,5 @@ returns-clause-stopped g c = λ refused refused'.
     omega (arith, ap length c.deref.ensures.value, c.len.ensures, c.if-len-gt-INPUT_LIMIT.false) in
     IfErr-weaker c.read_bytes-asked.result _ _
     (read_stops _ _ c.deref.result.now reads short (g.C.Command.asks c.args.command.now) (g.C.Command.refuses c.args.command.now)
-    _ _ refused refused' c.in-Ok.ensures.counted)
+    (λ asked. ⊥) _ _ refused refused' c.in-Ok.ensures.counted)
     c.read_bytes-asked.ensures.refused

@@ -8,6 +8,7 @@ pub returns-in-Ok-clause-ends : goal.returns-in-Ok-clause-ends
 returns-in-Ok-clause-ends g c =
     ends_answered (g.C.Command.asks c.args.command.now) (g.C.Command.refuses c.args.command.now)
     (IsKept (g.C.Command.are_programs c.args.command.now) g.C.Program.RankProgram.follows) (g.C.Command.tells c.args.command.now)
+    (λ asked. Unit {0})
     (scene (g.S.Source.left c.args.input.now) (g.S.Source.faults c.args.input.now) (g.K.Sink.taken c.args.output.now)
     (g.K.Sink.faults c.args.output.now) (g.K.Sink.all_flushed c.args.output.now) (g.T.Spawner.faults c.args.threads.now)
     (g.T.Spawner.starts c.args.threads.now))
@@ -21,6 +22,7 @@ pub returns-in-Err-clause-ends : goal.returns-in-Err-clause-ends
 returns-in-Err-clause-ends g c =
     ends_as_stopped (g.C.Command.asks c.args.command.now) (g.C.Command.refuses c.args.command.now)
     (IsKept (g.C.Command.are_programs c.args.command.now) g.C.Program.RankProgram.follows) (g.C.Command.tells c.args.command.now)
+    (λ asked. Unit {0})
     (scene (g.S.Source.left c.args.input.now) (g.S.Source.faults c.args.input.now) (g.K.Sink.taken c.args.output.now)
     (g.K.Sink.faults c.args.output.now) (g.K.Sink.all_flushed c.args.output.now) (g.T.Spawner.faults c.args.threads.now)
     (g.T.Spawner.starts c.args.threads.now))

@@ -28,7 +28,8 @@ returns-clause-drills g c = λ left reads.
     record {
       rest = rest;
       ends = subst
-          (λ (l : List ℕ). EndsWith settings (IsSummed settings count seed) (made l) after c.run.result.fault c.run.result.kept)
+          (λ (l : List ℕ). EndsWith settings c.args.inline (IsSummed settings count seed) (made l) after c.run.result.fault
+          c.run.result.kept)
           (c.new-source.ensures ∙ c.in-Ok.ensures) c.run.ensures.ends;
       run = ran_apart (λ (x : Config). x ≡ c.args.config) c.args.inline before after here there c.run.result.kept refl refl refl refl
           c.run.ensures.ran;
